@@ -1,0 +1,18 @@
+//! The numbers that a report descriptor carries, each as a type of its own.
+#![tactic(auto)]
+
+mod exponent;
+mod global;
+mod local;
+mod unit;
+
+pub use exponent::UnitExponent;
+pub use global::{
+    LogicalMaximum, LogicalMinimum, PhysicalMaximum, PhysicalMinimum, ReportCount, ReportId,
+    ReportSize, UsagePage,
+};
+pub use local::{
+    Delimiter, DesignatorIndex, DesignatorMaximum, DesignatorMinimum, StringIndex, StringMaximum,
+    StringMinimum, UsageId, UsageMaximum, UsageMinimum,
+};
+pub use unit::Unit;
