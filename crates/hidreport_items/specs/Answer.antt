@@ -1,0 +1,26 @@
+-- What a reader's answer says, want of memory apart.
+use Rattle.std.specs.Prelude.{◌≡◌, ℕ, List, Result, Ok, Err, string_bytes}
+use Rattle.hidreport_items.specs.declared.error.HidError.{HidError}
+use Rattle.hidreport_items.specs.declared.error.HidError.TheVariants as errors
+
+-- why bytes are no item: they are wrong, for the reason that the message gives, or too few
+pub data Fault : Type 0 where
+  Invalid : List ℕ → Fault
+  Insufficient : Fault
+
+-- the error is this fault; want of memory says nothing
+abbrev pub Fails : {A : Type 0} → HidError → Result A Fault → Type 0
+Fails (errors.InvalidData message) read = read ≡ Err (Invalid (string_bytes message))
+Fails errors.InsufficientData read = read ≡ Err Insufficient
+Fails errors.OutOfMemory read = Unit {0}
+
+-- the answer is what reading gives
+abbrev pub Gives : {A : Type 0} → Result A HidError → Result A Fault → Type 0
+Gives (Ok x) read = read ≡ Ok x
+Gives (Err e) read = Fails e read
+
+-- the error is data refused with this message, or want of memory
+abbrev pub IsFault : HidError → List ℕ → Type 0
+IsFault (errors.InvalidData message) text = string_bytes message ≡ text
+IsFault errors.InsufficientData text = ⊥
+IsFault errors.OutOfMemory text = Unit {0}

@@ -1,0 +1,6 @@
+pub mod Answer
+pub mod FirstPath
+pub mod Flags
+pub mod Messages
+pub mod Numbers
+pub mod Spelling

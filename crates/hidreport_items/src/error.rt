@@ -1,0 +1,40 @@
+ghost use Rattle.std.specs.Prelude.{◌≡◌};
+ghost use Rattle.hidreport_items.specs.declared.error.HidError.TheVariants.{OutOfMemory};
+
+use std::alloc::{AllocError, AllocFailed};
+use thiserror::Error;
+
+/// Why bytes are no item.
+#[derive(Debug, Drop, Error)]
+pub enum HidError {
+    /// The bytes are there and spell no item; the message says why.
+    #[error("not an item: {message}")]
+    InvalidData {
+        /// What is wrong with the bytes.
+        message: String,
+    },
+
+    /// There are fewer bytes than the item needs.
+    #[error("the item needs more bytes")]
+    InsufficientData,
+
+    /// A growth was refused; nothing is said of the bytes.
+    #[error("out of memory")]
+    OutOfMemory,
+}
+
+impl From<AllocError> for HidError {
+    ghost from_gives = { λ _ error. error ≡ OutOfMemory };
+
+    fn from(_refused: AllocError) -> HidError {
+        HidError::OutOfMemory
+    }
+}
+
+impl<T: Drop> From<AllocFailed<T>> for HidError {
+    ghost from_gives = { λ _ error. error ≡ OutOfMemory };
+
+    fn from(_refused: AllocFailed<T>) -> HidError {
+        HidError::OutOfMemory
+    }
+}

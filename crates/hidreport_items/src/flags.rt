@@ -1,0 +1,98 @@
+ghost use Rattle.std.specs.Prelude.{◌≡◌, not};
+ghost use Rattle.hidreport_items.specs.Flags.{Flags};
+
+/// The flags that Input, Output and Feature items share (Section 6.2.2.5).
+///
+/// Each flag has two calls, one for each of its states: exactly one of them answers true.
+pub trait MainDataItem {
+    /// The flags of the item.
+    ghost flags: { Self → Flags };
+
+    /// The fields are padding: nothing is to be read from them or written to them.
+    fn is_constant(&self) -> bool
+        ensures { result ≡ (flags self.now).constant };
+
+    /// Each element is a field with a usage of its own.
+    fn is_variable(&self) -> bool
+        ensures { result ≡ (flags self.now).variable };
+
+    /// A value is a change since the last report.
+    fn is_relative(&self) -> bool
+        ensures { result ≡ (flags self.now).relative };
+
+    /// A value past one logical bound goes on at the other.
+    fn wraps(&self) -> bool
+        ensures { result ≡ (flags self.now).wrap };
+
+    /// Values were processed: they aren't linear in what was measured.
+    fn is_nonlinear(&self) -> bool
+        ensures { result ≡ (flags self.now).nonlinear };
+
+    /// The control doesn't come back to a state when it is let go.
+    fn has_no_preferred_state(&self) -> bool
+        ensures { result ≡ (flags self.now).no_preferred_state };
+
+    /// The control has a state in which it sends no meaningful data.
+    fn has_null_state(&self) -> bool
+        ensures { result ≡ (flags self.now).null_state };
+
+    /// The field is a stream of bytes.
+    fn is_buffered_bytes(&self) -> bool
+        ensures { result ≡ (flags self.now).buffered_bytes };
+
+    /// The fields carry data: not `is_constant`.
+    fn is_data(&self) -> bool
+        ensures { result ≡ not (flags self.now).constant }
+    {
+        !self.is_constant()
+    }
+
+    /// The elements are indexes into the usages: not `is_variable`.
+    fn is_array(&self) -> bool
+        ensures { result ≡ not (flags self.now).variable }
+    {
+        !self.is_variable()
+    }
+
+    /// A value is counted from a fixed origin: not `is_relative`.
+    fn is_absolute(&self) -> bool
+        ensures { result ≡ not (flags self.now).relative }
+    {
+        !self.is_relative()
+    }
+
+    /// A value stays within its logical bounds: not `wraps`.
+    fn does_not_wrap(&self) -> bool
+        ensures { result ≡ not (flags self.now).wrap }
+    {
+        !self.wraps()
+    }
+
+    /// Values are linear in what was measured: not `is_nonlinear`.
+    fn is_linear(&self) -> bool
+        ensures { result ≡ not (flags self.now).nonlinear }
+    {
+        !self.is_nonlinear()
+    }
+
+    /// The control comes back to a state when it is let go: not `has_no_preferred_state`.
+    fn has_preferred_state(&self) -> bool
+        ensures { result ≡ not (flags self.now).no_preferred_state }
+    {
+        !self.has_no_preferred_state()
+    }
+
+    /// The control always sends meaningful data: not `has_null_state`.
+    fn has_no_null_state(&self) -> bool
+        ensures { result ≡ not (flags self.now).null_state }
+    {
+        !self.has_null_state()
+    }
+
+    /// The field is a number of bits: not `is_buffered_bytes`.
+    fn is_bitfield(&self) -> bool
+        ensures { result ≡ not (flags self.now).buffered_bytes }
+    {
+        !self.is_buffered_bytes()
+    }
+}
