@@ -1,0 +1,41 @@
+use Rattle.std.proofs.Common.{◌≡◌, ◌≢◌, ◌+◌, ◌∙◌, [], ◌∷◌, ap, sym, length, length-drop, drop, arith}
+use Rattle.hidreport_items.specs.FirstPath.{first_path_item}
+use Rattle.hidreport_lists.specs.Itemising.{items_from}
+use Rattle.hidreport_lists.proofs.Items.{items_from-item, refuses-fault, with_front, with_front-more, at_offset}
+use Rattle.hidreport_lists.proofs.list.ReportDescriptorItems.try_from.Goals as goal
+
+pub split_at-requires : goal.split_at-requires
+split_at-requires c =
+    let step = items_from-item c.loop-rest.offset c.loop-rest.rest.now c.in-Ok.item c.in-Ok.ensures in
+    omega (arith, step.0, c.size-size.ensures)
+
+pub loop-rest-smaller : goal.loop-rest-smaller
+loop-rest-smaller c =
+    let step = items_from-item c.loop-rest.offset c.loop-rest.rest.now c.in-Ok.item c.in-Ok.ensures in
+    rw c.split_at.ensures.back (simp length-drop (omega (arith, step.0, step.1, c.size-size.ensures)))
+
+pub loop-rest-preserved : goal.loop-rest-preserved
+loop-rest-preserved c =
+    let offset = c.loop-rest.offset in
+    let rest = c.loop-rest.rest.now in
+    let item = c.in-Ok.item in
+    let step = items_from-item offset rest item c.in-Ok.ensures in
+    let after : items_from first_path_item (offset + c.size-size.result) 0 c.split_at.result.1.now ≡ items_from first_path_item (offset + length item.bytes) 0 (drop (length item.bytes) rest) =
+    ap (items_from first_path_item (offset + c.size-size.result) 0) c.split_at.ensures.back ∙ ap (λ k. items_from first_path_item (offset + k) 0 (drop k rest)) c.size-size.ensures in
+    record {
+      place = rw c.split_at.ensures.back (simp length-drop (omega (arith, step.0, c.size-size.ensures, c.loop-rest.invariant.place)));
+      items =
+          ap (λ l. with_front l (items_from first_path_item (offset + c.size-size.result) 0 c.split_at.result.1.now)) c.in_ok-push-in-Ok.ensures.items
+          ∙ with_front-more c.loop-rest.items.items (at_offset offset item) (items_from first_path_item (offset + c.size-size.result) 0 c.split_at.result.1.now)
+          ∙ ap (with_front c.loop-rest.items.items) (ap (with_front (at_offset offset item ∷ [])) after ∙ sym step.2)
+          ∙ c.loop-rest.invariant.items;
+    }
+
+pub returns-in-Err : goal.returns-in-Err
+returns-in-Err c =
+    let some : c.args.bytes.now ≢ [] = λ e. let l : length c.args.bytes.now ≡ 0 = ap length e in grind (arith, c.is_empty.ensures) in
+    let more : c.loop-rest.rest.now ≢ [] = λ e. let l : length c.loop-rest.rest.now ≡ 0 = ap length e in grind (arith, c.is_empty-in-loop-rest.ensures) in
+    record {
+      exact = refuses-fault c.args.bytes.now c.loop-rest.rest.now c.loop-rest.items.items c.loop-rest.offset c.in-Err.fault c.fault_at-in-Err.result some more
+          c.loop-rest.invariant.items c.in-Err.ensures c.fault_at-in-Err.ensures.named c.fault_at-in-Err.ensures.memory;
+    }

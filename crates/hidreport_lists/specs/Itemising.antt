@@ -1,0 +1,84 @@
+-- A descriptor's bytes as a list of items (Section 6.2.2.1): each item begins where the one before it ends.
+-- `read` gives the item of a header and its data, or why they are none.
+use Rattle.std.specs.Prelude.{◌≡◌, ◌≢◌, ℕ, ◌+◌, zero, suc, nat_lt, if◌then◌else◌, List, [], ◌∷◌, ◌++◌, length, take, flat_map, Result, Ok, Err}
+use Rattle.hidreport_items.specs.Answer.{Fault, Insufficient}
+use Rattle.hidreport_items.specs.Spelling.{announced, AreBytes, read_as}
+use Rattle.hidreport_items.specs.declared.item.ItemType.{ItemType}
+use Rattle.hidreport_lists.specs.Answer.{Refusal, InvalidAt}
+use Rattle.hidreport_lists.specs.Entry.{Spelled, Entry}
+use Rattle.hidreport_lists.specs.Messages.{grammar_message}
+
+-- how an item is read from its header and its data
+abbrev pub Reader : Type 0
+Reader = ℕ → List ℕ → Result ItemType Fault
+
+-- the bytes are a header and the data that it announces, and are read as the item
+abbrev pub Reads : Reader → List ℕ → ItemType → Type 0
+Reads read [] x = ⊥
+Reads read (h ∷ bs) x = AreBytes (h ∷ bs) × (length bs ≡ announced h) × (read h bs ≡ Ok x)
+
+-- the bytes of all these items, joined
+abbrev pub joined : List Entry → List ℕ
+joined entries = flat_map (λ e. e.bytes) entries
+
+-- each item stands behind all bytes of those before it
+abbrev pub AreInPlace : ℕ → List Entry → Type 0
+AreInPlace offset [] = Unit {0}
+AreInPlace offset (e ∷ entries) = (e.offset ≡ offset) × AreInPlace (offset + length e.bytes) entries
+
+-- each item's bytes spell it
+abbrev pub AreRead : Reader → List Entry → Type 0
+AreRead read [] = Unit {0}
+AreRead read (e ∷ entries) = Reads read e.bytes e.item × AreRead read entries
+
+-- the bytes are these items, and there are some
+pub record Itemises (read : Reader) (bytes : List ℕ) (entries : List Entry) : Type 0 where
+  pub some : bytes ≢ []
+  pub whole : joined entries ≡ bytes
+  pub each : AreRead read entries
+  pub places : AreInPlace 0 entries
+
+-- what the first item of h and the bytes after it is, or why there is none
+abbrev pub item_at : Reader → ℕ → List ℕ → Result ItemType Fault
+item_at read h bs = if nat_lt (length bs) (announced h) then Err Insufficient else read h (take (announced h) bs)
+
+-- The bytes before the offset are items, or none; no beginning of the rest, which isn't empty, is one, and
+-- this is why.
+pub record IsFaultAt (read : Reader) (bytes : List ℕ) (offset : ℕ) (fault : Fault) : Type 0 where
+  pub entries : List Entry
+  pub header : ℕ
+  pub after : List ℕ
+  pub whole : joined entries ++ header ∷ after ≡ bytes
+  pub each : AreRead read entries
+  pub place : length (joined entries) ≡ offset
+  pub none : (n : ℕ) (x : ItemType) → Reads read (take n (header ∷ after)) x → ⊥
+  pub why : item_at read header after ≡ Err fault
+
+-- an item before others, unless it or they can't be read
+abbrev pub with_entry : ℕ → List ℕ → Result ItemType Fault → Result (List Entry) (ℕ × Fault) → Result (List Entry) (ℕ × Fault)
+with_entry offset bytes (Err fault) rest = Err (offset, fault)
+with_entry offset bytes (Ok x) (Err fault) = Err fault
+with_entry offset bytes (Ok x) (Ok entries) = Ok (record { offset = offset; bytes = bytes; item = x } ∷ entries)
+
+-- The items of the bytes, of which the first stands at the offset; a count of them still belongs to the item
+-- before. What can't be read comes with its offset.
+abbrev pub items_from : Reader → ℕ → ℕ → List ℕ → Result (List Entry) (ℕ × Fault)
+items_from read offset inside [] = Ok []
+items_from read offset zero (h ∷ bs) =
+    with_entry offset (h ∷ take (announced h) bs) (item_at read h bs) (items_from read (offset + 1) (announced h) bs)
+items_from read offset (suc inside) (b ∷ bs) = items_from read (offset + 1) inside bs
+
+-- the items of a descriptor, or its grammar fault
+abbrev pub itemise : Reader → List ℕ → Result (List Entry) (ℕ × Fault)
+itemise read [] = Err (0, Insufficient)
+itemise read (b ∷ bs) = items_from read 0 0 (b ∷ bs)
+
+-- a grammar fault as a parser says it
+abbrev pub as_refusal : {A : Type 0} → Result A (ℕ × Fault) → Result A Refusal
+as_refusal (Ok x) = Ok x
+as_refusal (Err fault) = Err (InvalidAt fault.0 (grammar_message fault.1))
+
+-- the item at the front of the bytes, with the bytes that spell it
+abbrev pub short_item : Reader → List ℕ → Result Spelled Fault
+short_item read [] = Err Insufficient
+short_item read (h ∷ bs) = read_as (λ x. record { bytes = h ∷ take (announced h) bs; item = x }) (item_at read h bs)

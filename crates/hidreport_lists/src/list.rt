@@ -1,0 +1,95 @@
+ghost use Rattle.std.specs.Prelude.{◌≡◌, List};
+ghost use Rattle.hidreport_items.specs.FirstPath.{first_path_item};
+ghost use Rattle.hidreport_lists.specs.Answer.{Answers};
+ghost use Rattle.hidreport_lists.specs.Entry.{Entry};
+ghost use Rattle.hidreport_lists.specs.Itemising.{as_refusal, itemise};
+
+use crate::error::ParserError;
+use crate::fault::fault_at;
+use crate::short_item::{Item, ShortItem};
+use hidreport_items::HidError;
+use std::alloc::Global;
+use std::marker::Model;
+
+/// An item of a descriptor, and where it stands.
+#[derive(Debug, Drop)]
+pub struct ReportDescriptorItem {
+    offset: usize,
+    item: ShortItem,
+}
+
+impl Model for ReportDescriptorItem {
+    ghost use Rattle.hidreport_lists.specs.Entry.{Entry};
+
+    ghost Value = { Entry };
+
+    ghost view = { λ i. record { offset = i.offset; bytes = i.item.bytes; item = i.item.item } };
+}
+
+impl ReportDescriptorItem {
+    /// The place of the item's first byte in the descriptor, counted in bytes from 0.
+    pub fn offset(&self) -> usize
+        ensures { result ≡ self.now.offset }
+    {
+        self.offset
+    }
+
+    /// The item.
+    pub fn item(&self) -> &ShortItem
+        ensures { result.now ≡ record { bytes = self.now.bytes; item = self.now.item } }
+    {
+        &self.item
+    }
+}
+
+/// The items of a descriptor, in order (Section 6.2.2.1).
+#[derive(Debug, Drop)]
+pub struct ReportDescriptorItems {
+    items: Vec<ReportDescriptorItem>,
+}
+
+impl Model for ReportDescriptorItems {
+    ghost use Rattle.std.specs.Prelude.{List};
+    ghost use Rattle.hidreport_lists.specs.Entry.{Entry};
+
+    ghost Value = { List Entry };
+
+    ghost view = { λ l. l.items.items };
+}
+
+impl ReportDescriptorItems {
+    /// The items that the bytes are cut into, from the first byte to the last.
+    ///
+    /// The first item that can't be read is `InvalidData` at its offset, with the message
+    /// `Insufficient data`, or `Invalid data: ` and the reader's message. No bytes at all are
+    /// `InvalidData` at 0, `Insufficient data`. `OutOfMemory` comes only where a growth is refused.
+    pub fn try_from(alloc: Global, bytes: &[u8]) -> Result<ReportDescriptorItems, ParserError>
+        ensures exact { Answers result (as_refusal (itemise first_path_item bytes.now)) }
+    {
+        if bytes.is_empty() {
+            return Err(fault_at(alloc, 0, HidError::InsufficientData));
+        }
+        let mut items = Vec::new(alloc);
+        let mut offset = 0;
+        let mut rest = bytes;
+        while !rest.is_empty() {
+            match ShortItem::try_from(alloc, rest) {
+                Ok(item) => {
+                    let size = item.size();
+                    items.push(ReportDescriptorItem { offset, item })?;
+                    offset += size;
+                    rest = rest.split_at(size).1;
+                }
+                Err(fault) => return Err(fault_at(alloc, offset, fault)),
+            }
+        }
+        Ok(ReportDescriptorItems { items })
+    }
+
+    /// The items as a slice.
+    pub fn as_slice(&self) -> &[ReportDescriptorItem]
+        ensures { result.now ≡ self.now }
+    {
+        &self.items
+    }
+}
