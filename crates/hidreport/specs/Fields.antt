@@ -1,0 +1,118 @@
+-- Fields (Sections 6.2.2.4, 6.2.2.5 and 5.8): what a data item that makes fields adds to its report.
+use Rattle.std.specs.Prelude.{ℕ, ℤ, pos, ◌+◌, ◌*◌, zero, suc, Bool, false, if◌then◌else◌, List, [], ◌∷◌, map, sum_by, unwrap_or, Option, None, Some, Result, Ok, Err}
+use Rattle.hidreport_items.specs.Flags.{Flags}
+use Rattle.hidreport_items.specs.declared.main_item.CollectionItem.{CollectionItem}
+use Rattle.hidreport_items.specs.declared.main_item.CollectionItem.TheVariants as kind
+use Rattle.hidreport_items.specs.declared.item.ItemType.{ItemType}
+use Rattle.hidreport.specs.InForce.{Force, force, first_of}
+use Rattle.hidreport.specs.Kinds.{Placed, Direction, Input, Output, Feature, data_of, collection_of}
+use Rattle.hidreport.specs.Making.{extent, makers}
+use Rattle.hidreport.specs.OpenCollections.{open_at, collections_before}
+use Rattle.hidreport.specs.Places.{start}
+use Rattle.hidreport.specs.Records.{CollectionRecord, FieldPlace, Attributes, FieldRecord, VariableRecord, ArrayRecord, ConstantRecord}
+use Rattle.hidreport.specs.Usages.{UsageList, usages_of, make_usage}
+use Rattle.hidreport.specs.declared.usage.Usage.{Usage}
+
+-- one field for a constant item or an array, `count` for a variable item
+abbrev pub field_count : Flags → ℕ → ℕ
+field_count flags count = if flags.constant then 1 else (if flags.variable then count else 1)
+
+-- how many fields an item with these flags, size and count makes
+abbrev pub fields_made : Option (Direction × Flags) → Option (ℕ × ℕ) → ℕ
+fields_made (Some x) (Some e) = field_count x.1 e.1
+fields_made (Some x) None = 0
+fields_made None e = 0
+
+-- how many fields the items before k made, in all directions
+abbrev pub fields_before : List ItemType → ℕ → ℕ
+fields_before items k =
+    sum_by (λ p. fields_made (data_of p.1) (extent (force items p.0))) (makers Input items k)
+    + (sum_by (λ p. fields_made (data_of p.1) (extent (force items p.0))) (makers Output items k)
+    + sum_by (λ p. fields_made (data_of p.1) (extent (force items p.0))) (makers Feature items k))
+
+-- the usages of a list, none for a fault
+abbrev pub usages_or_none : Result UsageList (List ℕ) → List Usage
+usages_or_none (Ok us) = us.usages
+usages_or_none (Err message) = []
+
+-- a Collection as the fields inside it carry it
+abbrev pub collection_record : List ItemType → Placed → CollectionRecord
+collection_record items p = record {
+  id = collections_before items p.0;
+  kind = unwrap_or (collection_of p.1) kind.Physical;
+  usages = usages_or_none (usages_of (force items p.0));
+}
+
+-- the collections that a field made at k lies in, outermost first
+abbrev pub collections_at : List ItemType → ℕ → List CollectionRecord
+collections_at items k = map (collection_record items) (open_at items k)
+
+-- where just one physical bound is set the other is 0
+abbrev pub physical_bound : Option ℤ → Option ℤ → Option ℤ
+physical_bound (Some own) other = Some own
+physical_bound None (Some other) = Some (pos 0)
+physical_bound None None = None
+
+-- an input report's fields say nothing of volatility
+abbrev pub volatile_in : Direction → Bool → Option Bool
+volatile_in Input flag = None
+volatile_in Output flag = Some flag
+volatile_in Feature flag = Some flag
+
+-- what the fields of one item share
+abbrev pub attributes : Force → List CollectionRecord → Direction → Flags → Attributes
+attributes f collections d flags = record {
+  logical_minimum = unwrap_or f.logical_minimum (pos 0);
+  logical_maximum = unwrap_or f.logical_maximum (pos 0);
+  physical_minimum = physical_bound f.physical_minimum f.physical_maximum;
+  physical_maximum = physical_bound f.physical_maximum f.physical_minimum;
+  unit = f.unit;
+  unit_exponent = f.unit_exponent;
+  collections = collections;
+  relative = flags.relative;
+  wrap = flags.wrap;
+  nonlinear = flags.nonlinear;
+  no_preferred_state = flags.no_preferred_state;
+  null_state = flags.null_state;
+  buffered_bytes = flags.buffered_bytes;
+  volatile = volatile_in d flags.volatile;
+}
+
+-- usage c of a list, or the last one where there are fewer
+abbrev pub usage_at : List Usage → ℕ → Usage
+usage_at [] c = make_usage 0 0
+usage_at (u ∷ []) c = u
+usage_at (u ∷ v ∷ us) zero = u
+usage_at (u ∷ v ∷ us) (suc c) = usage_at (v ∷ us) c
+
+-- the values of f at c, c + 1 and so on, so many
+abbrev pub each_from : {A : Type 0} → (ℕ → A) → ℕ → ℕ → List A
+each_from f c zero = []
+each_from f c (suc more) = f c ∷ each_from f (c + 1) more
+
+abbrev pub make_place : ℕ → Option ℕ → ℕ → ℕ → FieldPlace
+make_place id report_id first size = record { id = id; report_id = report_id; first = first; «end» = first + size }
+
+-- the fields of an item with these usages, the first with number `id` and from bit `first` on
+abbrev pub make_fields : Option ℕ → ℕ → ℕ → ℕ × ℕ → Flags → UsageList → Attributes → List FieldRecord
+make_fields report_id id first e flags us shared =
+    if flags.constant then ConstantRecord (make_place id report_id first (e.0 * e.1)) ∷ []
+    else (if flags.variable then each_from (λ c. VariableRecord (make_place (id + c) report_id (first + c * e.0) e.0) (usage_at us.usages c) shared) 0 e.1
+    else ArrayRecord (make_place id report_id first (e.0 * e.1)) us.usages us.is_range e.1 shared ∷ [])
+
+-- the usages, none for a fault
+abbrev pub list_or_none : Result UsageList (List ℕ) → UsageList
+list_or_none (Ok us) = us
+list_or_none (Err message) = record { usages = []; is_range = false }
+
+-- the same where the item makes fields
+abbrev pub fields_of : Force → List CollectionRecord → ℕ → ℕ → Option (Direction × Flags) → Option (ℕ × ℕ) → List FieldRecord
+fields_of f collections id first (Some x) (Some e) =
+    make_fields f.report_id id first e x.1 (list_or_none (usages_of f)) (attributes f collections x.0 x.1)
+fields_of f collections id first (Some x) None = []
+fields_of f collections id first None e = []
+
+-- the fields that the item x of direction d at k makes
+abbrev pub fields_at : Direction → List ItemType → Placed → List FieldRecord
+fields_at d items p =
+    fields_of (force items p.0) (collections_at items p.0) (fields_before items p.0) (start d items p.0) (data_of p.1) (extent (force items p.0))

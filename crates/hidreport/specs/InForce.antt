@@ -1,0 +1,64 @@
+-- Values in force (Sections 6.2.2.7 and 6.2.2.8): globals stay until they are set again, locals end with the next
+-- main item; both only as far as they are visible.
+use Rattle.std.specs.Prelude.{ℕ, ℤ, nat_lt, Bool, ◌&&◌, not, List, [], ◌∷◌, filter, filter_map, Option, None, Some}
+use Rattle.std.specs.List.{list_any}
+use Rattle.hidreport_items.specs.declared.item.ItemType.{ItemType}
+use Rattle.hidreport_items.specs.declared.local.LocalItem.{LocalItem}
+use Rattle.hidreport.specs.Kinds.{Placed, is_main, local_of, usage_page_of, logical_minimum_of, logical_maximum_of, physical_minimum_of, physical_maximum_of, unit_exponent_of, unit_of, report_size_of, report_id_of, report_count_of}
+use Rattle.hidreport.specs.Visibility.{visible}
+
+-- the first of two values that is there
+abbrev pub first_of : {A : Type 0} → Option A → Option A → Option A
+first_of (Some x) second = Some x
+first_of None second = second
+
+-- the value that the last item with this tag sets
+abbrev pub last_value : {A : Type 0} → (ItemType → Option A) → List Placed → Option A
+last_value tag [] = None
+last_value tag (p ∷ ps) = first_of (last_value tag ps) (tag p.1)
+
+-- the local items behind the last main item
+abbrev pub unended_locals : List Placed → List LocalItem
+unended_locals ps = filter_map (λ p. local_of p.1) (filter (λ p. not (list_any (λ q. is_main q.1 && nat_lt p.0 q.0) ps)) ps)
+
+-- the value of a global item at k
+abbrev pub global : {A : Type 0} → (ItemType → Option A) → List ItemType → ℕ → Option A
+global tag items k = last_value tag (visible items k)
+
+-- the local items at k: no visible main item stands between them and k
+abbrev pub locals : List ItemType → ℕ → List LocalItem
+locals items k = unended_locals (visible items k)
+
+-- all that is in force at a place
+pub record Force : Type 0 where
+  pub usage_page : Option ℕ
+  pub logical_minimum : Option ℤ
+  pub logical_maximum : Option ℤ
+  pub physical_minimum : Option ℤ
+  pub physical_maximum : Option ℤ
+  pub unit_exponent : Option ℤ
+  pub unit : Option ℕ
+  pub report_size : Option ℕ
+  pub report_id : Option ℕ
+  pub report_count : Option ℕ
+  pub locals : List LocalItem
+
+-- what is in force behind these visible items
+abbrev pub in_force : List Placed → Force
+in_force ps = record {
+  usage_page = last_value usage_page_of ps;
+  logical_minimum = last_value logical_minimum_of ps;
+  logical_maximum = last_value logical_maximum_of ps;
+  physical_minimum = last_value physical_minimum_of ps;
+  physical_maximum = last_value physical_maximum_of ps;
+  unit_exponent = last_value unit_exponent_of ps;
+  unit = last_value unit_of ps;
+  report_size = last_value report_size_of ps;
+  report_id = last_value report_id_of ps;
+  report_count = last_value report_count_of ps;
+  locals = unended_locals ps;
+}
+
+-- what is in force at k: each value is that of `global`, the locals are `locals`
+abbrev pub force : List ItemType → ℕ → Force
+force items k = in_force (visible items k)

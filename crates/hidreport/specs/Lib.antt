@@ -1,0 +1,14 @@
+pub mod BitValue
+pub mod Faults
+pub mod Fields
+pub mod InForce
+pub mod Kinds
+pub mod Lookup
+pub mod Making
+pub mod Meaning
+pub mod OpenCollections
+pub mod Places
+pub mod Reading
+pub mod Records
+pub mod Usages
+pub mod Visibility

@@ -1,0 +1,54 @@
+-- Reports, fields and collections as plain data (Sections 5.6, 6.2.2.4 to 6.2.2.8).
+use Rattle.std.specs.Prelude.{ℕ, ℤ, Bool, List, Option}
+use Rattle.hidreport_items.specs.declared.main_item.CollectionItem.{CollectionItem}
+use Rattle.hidreport.specs.declared.usage.Usage.{Usage}
+
+-- a collection that a field lies in: its number over the descriptor, its kind and its usages
+pub record CollectionRecord : Type 0 where
+  pub id : ℕ
+  pub kind : CollectionItem
+  pub usages : List Usage
+
+-- what a field of any kind has: its number over the descriptor, the id of its report, and its bits, from
+-- `first` up to `end`, which is no longer part of it
+pub record FieldPlace : Type 0 where
+  pub id : ℕ
+  pub report_id : Option ℕ
+  pub first : ℕ
+  pub «end» : ℕ
+
+-- what a field with data also has; `volatile` is none in an input report
+pub record Attributes : Type 0 where
+  pub logical_minimum : ℤ
+  pub logical_maximum : ℤ
+  pub physical_minimum : Option ℤ
+  pub physical_maximum : Option ℤ
+  pub unit : Option ℕ
+  pub unit_exponent : Option ℤ
+  pub collections : List CollectionRecord
+  pub relative : Bool
+  pub wrap : Bool
+  pub nonlinear : Bool
+  pub no_preferred_state : Bool
+  pub null_state : Bool
+  pub buffered_bytes : Bool
+  pub volatile : Option Bool
+
+-- a field: one value with a usage, several values that choose among usages (whether those are a range, and how
+-- many values), or padding
+pub data FieldRecord : Type 0 where
+  VariableRecord : FieldPlace → Usage → Attributes → FieldRecord
+  ArrayRecord : FieldPlace → List Usage → Bool → ℕ → Attributes → FieldRecord
+  ConstantRecord : FieldPlace → FieldRecord
+
+-- a report: its id, where it has one, its size in bits and its fields in order
+pub record ReportRecord : Type 0 where
+  pub id : Option ℕ
+  pub size : ℕ
+  pub fields : List FieldRecord
+
+-- a descriptor: the reports of each direction
+pub record DescriptorRecord : Type 0 where
+  pub input : List ReportRecord
+  pub output : List ReportRecord
+  pub feature : List ReportRecord
