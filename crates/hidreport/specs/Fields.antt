@@ -91,7 +91,7 @@ each_from f c zero = []
 each_from f c (suc more) = f c ∷ each_from f (c + 1) more
 
 abbrev pub make_place : ℕ → Option ℕ → ℕ → ℕ → FieldPlace
-make_place id report_id first size = record { id = id; report_id = report_id; first = first; «end» = first + size }
+make_place id report_id first size = record { id = id; report_id = report_id; first = first; end = first + size }
 
 -- the fields of an item with these usages, the first with number `id` and from bit `first` on
 abbrev pub make_fields : Option ℕ → ℕ → ℕ → ℕ × ℕ → Flags → UsageList → Attributes → List FieldRecord

@@ -11,4 +11,6 @@ pub mod Places
 pub mod Reading
 pub mod Records
 pub mod Usages
+pub mod UsageNumber
 pub mod Visibility
+pub mod Views

@@ -15,7 +15,7 @@ pub record FieldPlace : Type 0 where
   pub id : ℕ
   pub report_id : Option ℕ
   pub first : ℕ
-  pub «end» : ℕ
+  pub end : ℕ
 
 -- what a field with data also has; `volatile` is none in an input report
 pub record Attributes : Type 0 where

@@ -1,6 +1,44 @@
-//! HID report descriptors, parsed, and reports read by them.
+//! HID report descriptors parsed into reports and fields, and values read from reports.
 #![tactic(auto)]
 
+mod collection;
+mod descriptor;
+mod field;
+mod lookup;
+mod report;
 mod usage;
+mod value;
 
+/// The numbers that items carry, each as a type of its own.
+pub mod types {
+    pub use hidreport_types::{
+        Delimiter, DesignatorIndex, DesignatorMaximum, DesignatorMinimum, LogicalMaximum,
+        LogicalMinimum, PhysicalMaximum, PhysicalMinimum, ReportCount, ReportId, ReportSize,
+        StringIndex, StringMaximum, StringMinimum, Unit, UnitExponent, UsageId, UsageMaximum,
+        UsageMinimum, UsagePage,
+    };
+}
+
+/// The items of a report descriptor, and lists of them.
+pub mod hid {
+    pub use hidreport_items::{
+        CollectionItem, FeatureItem, GlobalItem, HidError, InputItem, ItemType, LocalItem,
+        MainDataItem, MainItem, OutputItem,
+    };
+    pub use hidreport_lists::{Item, ReportDescriptorItem, ReportDescriptorItems, ShortItem};
+}
+
+pub use collection::{Collection, CollectionId};
+pub use descriptor::ReportDescriptor;
+pub use field::{Field, FieldId, VariableField};
+pub use hid::CollectionItem as CollectionType;
+pub use hidreport_lists::ParserError;
+pub use report::{RDescReport, Report};
+pub use types::{
+    Delimiter, DesignatorIndex, DesignatorMaximum, DesignatorMinimum, LogicalMaximum,
+    LogicalMinimum, PhysicalMaximum, PhysicalMinimum, ReportCount, ReportId, ReportSize,
+    StringIndex, StringMaximum, StringMinimum, Unit, UnitExponent, UsageId, UsageMaximum,
+    UsageMinimum, UsagePage,
+};
 pub use usage::Usage;
+pub use value::FieldValue;

@@ -1,0 +1,10 @@
+-- A usage as one number (Section 5.5): the page is the upper 16 of its 32 bits.
+use Rattle.std.specs.Prelude.{ℕ, ◌+◌, ◌*◌, ◌/◌, ◌%◌}
+use Rattle.hidreport.specs.declared.usage.Usage.{Usage}
+
+abbrev pub usage_number : Usage → ℕ
+usage_number u = u.usage_page * 65536 + u.usage_id
+
+-- the usage with this number
+abbrev pub numbered_usage : ℕ → Usage
+numbered_usage n = record { usage_page = n / 65536; usage_id = n % 65536 }

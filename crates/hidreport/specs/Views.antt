@@ -1,0 +1,42 @@
+-- A field of the library as plain data.
+use Rattle.std.specs.Prelude.{ℕ, List}
+use Rattle.std.specs.Arc.{arc_slice_items}
+use Rattle.std.specs.declared.ops.Range.{Range}
+use Rattle.hidreport.specs.Records.{CollectionRecord, FieldPlace, Attributes, FieldRecord, VariableRecord}
+use Rattle.hidreport.specs.declared.field.Field.{Field}
+use Rattle.hidreport.specs.declared.field.Field.TheVariants as fields
+use Rattle.hidreport.specs.declared.field.VariableField.{VariableField}
+
+abbrev pub variable_place : VariableField → FieldPlace
+variable_place f = record { id = f.id; report_id = f.report_id; first = f.bits.start; end = f.bits.end }
+
+abbrev pub variable_attributes : VariableField → Attributes
+variable_attributes f = record {
+  logical_minimum = f.logical_minimum;
+  logical_maximum = f.logical_maximum;
+  physical_minimum = f.physical_minimum;
+  physical_maximum = f.physical_maximum;
+  unit = f.unit;
+  unit_exponent = f.unit_exponent;
+  collections = arc_slice_items f.collections;
+  relative = f.is_relative;
+  wrap = f.wraps;
+  nonlinear = f.is_nonlinear;
+  no_preferred_state = f.has_no_preferred_state;
+  null_state = f.has_null_state;
+  buffered_bytes = f.is_buffered_bytes;
+  volatile = f.is_volatile;
+}
+
+-- all parts of a field
+abbrev pub field_record : Field → FieldRecord
+field_record (fields.Variable f) = VariableRecord (variable_place f) f.usage (variable_attributes f)
+
+abbrev pub field_id : Field → ℕ
+field_id (fields.Variable f) = f.id
+
+abbrev pub field_bits : Field → Range ℕ
+field_bits (fields.Variable f) = f.bits
+
+abbrev pub field_collections : Field → List CollectionRecord
+field_collections (fields.Variable f) = arc_slice_items f.collections

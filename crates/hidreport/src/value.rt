@@ -1,0 +1,144 @@
+ghost use Rattle.std.specs.Prelude.{◌≡◌, true, Ok, ◌+◌, ◌*◌, ◌<◌, ◌≤◌, ◌/◌, ◌^◌, length};
+ghost use Rattle.std.specs.Int.{w32, cast_signed};
+ghost use Rattle.hidreport_lists.specs.Answer.{Answers};
+ghost use Rattle.hidreport.specs.BitValue.{bit, sum_of_bits, value, as_word};
+ghost use Rattle.hidreport.specs.Reading.{read_bits, with_id};
+
+use hidreport_lists::ParserError;
+use hidreport_types::ReportId;
+use std::marker::Model;
+use std::ops::Range;
+
+/// A value that was read from a report: 32 bits, and whether they are signed.
+///
+/// The numbers of other types are its low bits.
+#[derive(Clone, Copy, Debug)]
+pub struct FieldValue {
+    is_signed: bool,
+    value: u32,
+}
+
+impl Model for FieldValue {
+    ghost use Rattle.hidreport.specs.Reading.{ValueRecord};
+
+    ghost Value = { ValueRecord };
+
+    ghost view = { λ v. record { word = v.value; is_signed = v.is_signed } };
+
+    ghost inverse = { λ v. record { is_signed = v.is_signed; value = v.word } };
+}
+
+impl FieldValue {
+    /// Whether the field could be below 0 when the value was read.
+    pub fn is_signed(&self) -> bool
+        ensures { result ≡ self.now.is_signed }
+    {
+        self.is_signed
+    }
+}
+
+impl From<&FieldValue> for u32 {
+    ghost from_gives = { λ value number. number ≡ value.now.word };
+
+    fn from(field_value: &FieldValue) -> u32 {
+        field_value.value
+    }
+}
+
+impl From<FieldValue> for u32 {
+    ghost from_gives = { λ value number. number ≡ value.word };
+
+    fn from(value: FieldValue) -> u32 {
+        u32::from(&value)
+    }
+}
+
+impl From<&FieldValue> for i32 {
+    ghost from_gives = { λ value number. number ≡ cast_signed w32 value.now.word };
+
+    fn from(field_value: &FieldValue) -> i32 {
+        field_value.value.cast_signed()
+    }
+}
+
+impl From<FieldValue> for i32 {
+    ghost from_gives = { λ value number. number ≡ cast_signed w32 value.word };
+
+    fn from(value: FieldValue) -> i32 {
+        i32::from(&value)
+    }
+}
+
+/// A bit of a report, counted from the lowest of byte 0 on.
+fn bit(bytes: &[u8], n: usize) -> u32
+    requires { n < 8 * length bytes.now }
+    ensures value { result ≡ bit bytes.now n }
+    ensures small { result < 2 }
+{
+    u32::from(bytes[n / 8] >> (n % 8) & 1)
+}
+
+/// The bits from `first` on as one number, the first as the lowest.
+fn sum_of_bits(bytes: &[u8], first: usize, width: usize) -> u32
+    requires narrow { width ≤ 32 }
+    requires within { first + width ≤ 8 * length bytes.now }
+    requires counted { first + width < 2 ^ 64 }
+    ensures value { result ≡ sum_of_bits bytes.now first width }
+    ensures small { result < 2 ^ width }
+{
+    let mut sum = 0u64;
+    for i in 0..width {
+        sum += u64::from(bit(bytes, first + i)) << i;
+    }
+    sum as u32
+}
+
+/// The same with the sign of its top bit, as 32 bits.
+fn signed_bits(bytes: &[u8], first: usize, width: usize) -> u32
+    requires some { 0 < width }
+    requires narrow { width ≤ 32 }
+    requires within { first + width ≤ 8 * length bytes.now }
+    requires counted { first + width < 2 ^ 64 }
+    ensures { result ≡ as_word (value bytes.now first width true) }
+{
+    let sum = sum_of_bits(bytes, first, width - 1);
+    if bit(bytes, first + width - 1) == 0 {
+        sum
+    } else {
+        u32::MAX - ((1u64 << (width - 1)) - 1 - u64::from(sum)) as u32
+    }
+}
+
+/// The value of a range of bits: at least one, at most 32, all of them in the bytes.
+pub(crate) fn read_bits(
+    bytes: &[u8],
+    bits: &Range<usize>,
+    is_signed: bool,
+) -> Result<FieldValue, ParserError>
+    ensures { Answers result (read_bits bits.now.start bits.now.end is_signed bytes.now) }
+{
+    let first = bits.start;
+    let end = bits.end;
+    if end <= first || end - first > 32 || end.div_ceil(8) > bytes.len() {
+        return Err(ParserError::OutOfBounds);
+    }
+    let width = end - first;
+    let value = if is_signed {
+        signed_bits(bytes, first, width)
+    } else {
+        sum_of_bits(bytes, first, width)
+    };
+    Ok(FieldValue { is_signed, value })
+}
+
+/// Bytes are read by a field with an id only where they begin with it.
+pub(crate) fn check_id(report_id: Option<ReportId>, bytes: &[u8]) -> Result<(), ParserError>
+    ensures { Answers result (with_id report_id bytes.now (Ok tt)) }
+{
+    match (report_id, bytes.first()) {
+        (None, _) => Ok(()),
+        (Some(_), None) => Err(ParserError::OutOfBounds),
+        (Some(report_id), Some(first)) if report_id == ReportId::from(*first) => Ok(()),
+        (Some(_), Some(_)) => Err(ParserError::MismatchingReportId),
+    }
+}
