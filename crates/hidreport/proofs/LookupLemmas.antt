@@ -1,5 +1,5 @@
 -- Lookup by the first report and the first byte.
-use Rattle.std.proofs.Common.{◌≡◌, ℕ, List, [], ◌∷◌, Option, None, Some, refl, sym, ap, ◌∙◌}
+use Rattle.std.proofs.Common.{◌≡◌, ℕ, List, [], ◌∷◌, Some, sym, ap, ◌∙◌}
 use Rattle.std.specs.Prelude.{slice_get}
 use Rattle.hidreport.specs.Lookup.{find_report, find_by}
 use Rattle.hidreport.specs.Records.{ReportRecord}

@@ -7,7 +7,7 @@ use Rattle.hidreport_items.specs.declared.item.ItemType.{ItemType}
 use Rattle.hidreport_items.specs.declared.item.ItemType.TheVariants as item
 use Rattle.hidreport.specs.Fields.{field_count, fields_before}
 use Rattle.hidreport.specs.InForce.{Force, force, first_of}
-use Rattle.hidreport.specs.Kinds.{Direction, Input, data_of}
+use Rattle.hidreport.specs.Kinds.{Direction, data_of}
 use Rattle.hidreport.specs.Making.{extent}
 use Rattle.hidreport.specs.OpenCollections.{depth, collections_before}
 use Rattle.hidreport.specs.Places.{start}

@@ -1,10 +1,9 @@
 -- Fields (Sections 6.2.2.4, 6.2.2.5 and 5.8): what a data item that makes fields adds to its report.
 use Rattle.std.specs.Prelude.{ℕ, ℤ, pos, ◌+◌, ◌*◌, zero, suc, Bool, false, if◌then◌else◌, List, [], ◌∷◌, map, sum_by, unwrap_or, Option, None, Some, Result, Ok, Err}
 use Rattle.hidreport_items.specs.Flags.{Flags}
-use Rattle.hidreport_items.specs.declared.main_item.CollectionItem.{CollectionItem}
 use Rattle.hidreport_items.specs.declared.main_item.CollectionItem.TheVariants as kind
 use Rattle.hidreport_items.specs.declared.item.ItemType.{ItemType}
-use Rattle.hidreport.specs.InForce.{Force, force, first_of}
+use Rattle.hidreport.specs.InForce.{Force, force}
 use Rattle.hidreport.specs.Kinds.{Placed, Direction, Input, Output, Feature, data_of, collection_of}
 use Rattle.hidreport.specs.Making.{extent, makers}
 use Rattle.hidreport.specs.OpenCollections.{open_at, collections_before}

@@ -1,6 +1,6 @@
 -- Values in force (Sections 6.2.2.7 and 6.2.2.8): globals stay until they are set again, locals end with the next
 -- main item; both only as far as they are visible.
-use Rattle.std.specs.Prelude.{ℕ, ℤ, nat_lt, Bool, ◌&&◌, not, List, [], ◌∷◌, filter, filter_map, Option, None, Some}
+use Rattle.std.specs.Prelude.{ℕ, ℤ, nat_lt, ◌&&◌, not, List, [], ◌∷◌, filter, filter_map, Option, None, Some}
 use Rattle.std.specs.List.{list_any}
 use Rattle.hidreport_items.specs.declared.item.ItemType.{ItemType}
 use Rattle.hidreport_items.specs.declared.local.LocalItem.{LocalItem}

@@ -1,6 +1,5 @@
 -- Making items and their keys (Sections 6.2.2.4 and 6.2.2.7): which data items make fields, and in which report.
-use Rattle.std.specs.Prelude.{ℕ, ◌==◌, ◌||◌, ◌&&◌, Bool, true, false, if◌then◌else◌, List, [], ◌∷◌, filter, is_some, Option, Some, None, option_and_then}
-use Rattle.hidreport_items.specs.Flags.{Flags}
+use Rattle.std.specs.Prelude.{ℕ, ◌==◌, ◌||◌, ◌&&◌, Bool, true, false, if◌then◌else◌, List, [], ◌∷◌, filter, is_some, Option, Some, None}
 use Rattle.hidreport_items.specs.declared.item.ItemType.{ItemType}
 use Rattle.hidreport.specs.InForce.{Force, force, first_of}
 use Rattle.hidreport.specs.Kinds.{Placed, Direction, data_of, goes}

@@ -1,5 +1,5 @@
 -- Meaning: the reports that a list of items announces, or its first fault.
-use Rattle.std.specs.Prelude.{ℕ, Bool, true, false, ◌||◌, if◌then◌else◌, List, [], ◌∷◌, length, map, filter, flat_map, slice_get, unwrap_or, Option, None, Some, Result, Ok, Err, codes, option_map}
+use Rattle.std.specs.Prelude.{ℕ, if◌then◌else◌, List, [], ◌∷◌, length, map, flat_map, slice_get, unwrap_or, Option, None, Some, Result, Ok, Err, codes, option_map}
 use Rattle.std.specs.List.{enumerate_from, list_any}
 use Rattle.hidreport_items.specs.Answer.{Fault}
 use Rattle.hidreport_items.specs.FirstPath.{first_path_item}

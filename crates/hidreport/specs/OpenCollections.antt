@@ -1,5 +1,5 @@
 -- Open collections (Section 6.2.2.6): opened before and not yet closed, whatever Push and Pop do.
-use Rattle.std.specs.Prelude.{ℕ, ◌+◌, ◌-◌, ◌<◌, ◌≤◌, zero, suc, nat_lt, Bool, true, ◌&&◌, List, take, filter, count_by, IsTrue}
+use Rattle.std.specs.Prelude.{ℕ, ◌+◌, ◌-◌, ◌<◌, ◌≤◌, zero, suc, nat_lt, Bool, true, ◌&&◌, List, take, filter, count_by}
 use Rattle.hidreport_items.specs.declared.item.ItemType.{ItemType}
 use Rattle.hidreport.specs.Kinds.{Placed, is_collection, is_end_collection}
 use Rattle.hidreport.specs.Visibility.{before}

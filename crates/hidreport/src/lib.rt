@@ -4,8 +4,11 @@
 mod collection;
 mod descriptor;
 mod field;
+mod layout;
 mod lookup;
+mod parse;
 mod report;
+mod state;
 mod usage;
 mod value;
 

@@ -1,4 +1,4 @@
-use Rattle.std.proofs.Common.{◌≡◌, ◌∙◌, ap, sym, Option, ℕ}
+use Rattle.std.proofs.Common.{◌∙◌, ap, sym, Option, ℕ}
 use Rattle.hidreport.specs.Lookup.{find_by}
 use Rattle.hidreport.specs.Records.{ReportRecord}
 use Rattle.hidreport.proofs.LookupLemmas.{find_report-first}

@@ -1,4 +1,4 @@
-use Rattle.std.proofs.Common.{◌≡◌, ◌<◌, ◌≤◌, ◌*◌, ◌+◌, ◌%◌, ◌^◌, ℕ, refl, sym, ap, ◌∙◌, add-one, arith}
+use Rattle.std.proofs.Common.{◌<◌, ◌*◌, ◌+◌, ◌^◌, ap, ◌∙◌, add-one, arith}
 use Rattle.hidreport.proofs.BitLemmas.{bit_shifted, bit_added}
 use Rattle.hidreport.specs.BitValue.{sum_of_bits}
 use Rattle.hidreport.proofs.value.sum_of_bits.Goals as goal

@@ -1,0 +1,29 @@
+use crate::descriptor::ReportDescriptor;
+use crate::state::{Fault, State};
+use hidreport_lists::{Item, ParserError, ReportDescriptorItems};
+use std::alloc::Global;
+
+impl ReportDescriptor {
+    /// The reports that the bytes of a report descriptor announce (Section 6.2.2).
+    ///
+    /// Refused are, the first of these that there is: no bytes at all, `InvalidData` at 0,
+    /// `Empty report descriptor`; an item that can't be read, as `ReportDescriptorItems::try_from`
+    /// says; then the first item that has no meaning where it stands: an Input that makes fields
+    /// and has a usage without a page, `InvalidData` at the item's offset, `Missing UsagePage in
+    /// globals`, or has no usage, `Missing Usages for main item`; where its report would end past
+    /// `usize::MAX` bits, or more than 2^32 fields would be numbered, `OutOfBounds`.
+    /// `OutOfMemory` comes only where a growth is refused.
+    pub fn try_from(alloc: Global, bytes: &[u8]) -> Result<ReportDescriptor, ParserError> {
+        if bytes.is_empty() {
+            return Err(Fault::EmptyDescriptor.at(alloc, 0));
+        }
+        let items = ReportDescriptorItems::try_from(alloc, bytes)?;
+        let mut state = State::new(alloc);
+        for entry in items.as_slice() {
+            if let Err(fault) = state.take(alloc, entry.item().item_type()) {
+                return Err(fault.at(alloc, entry.offset()));
+            }
+        }
+        Ok(state.descriptor)
+    }
+}
