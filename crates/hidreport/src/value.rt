@@ -57,7 +57,7 @@ impl From<&FieldValue> for i32 {
     ghost from_gives = { λ value number. number ≡ cast_signed w32 value.now.word };
 
     fn from(field_value: &FieldValue) -> i32 {
-        field_value.value.cast_signed()
+        u32::from(field_value).cast_signed()
     }
 }
 

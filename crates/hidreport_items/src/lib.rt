@@ -2,18 +2,24 @@
 #![tactic(auto)]
 
 mod error;
+mod feature;
 mod first_path;
 mod flags;
 mod global;
+mod input;
 mod item;
 mod local;
 mod main_item;
 mod message;
 mod number;
+mod output;
 
 pub use error::HidError;
+pub use feature::FeatureItem;
 pub use flags::MainDataItem;
 pub use global::GlobalItem;
+pub use input::InputItem;
 pub use item::ItemType;
 pub use local::LocalItem;
-pub use main_item::{CollectionItem, FeatureItem, InputItem, MainItem, OutputItem};
+pub use main_item::{CollectionItem, MainItem};
+pub use output::OutputItem;

@@ -1,0 +1,115 @@
+ghost use Rattle.hidreport_items.specs.Answer.{Gives};
+ghost use Rattle.hidreport_items.specs.Spelling.{output_item};
+
+use crate::error::HidError;
+use crate::flags::MainDataItem;
+use crate::message::size_fault;
+use crate::number::{is_flag_set, is_short_length, word};
+use std::alloc::Global;
+use std::marker::Model;
+
+/// An Output item: a field that the host sends (Section 6.2.2.4).
+#[derive(Clone, Copy, Debug, Default, PartialEq)]
+pub struct OutputItem {
+    is_constant: bool,
+    is_variable: bool,
+    is_relative: bool,
+    wraps: bool,
+    is_nonlinear: bool,
+    has_no_preferred_state: bool,
+    has_null_state: bool,
+    is_volatile: bool,
+    is_buffered_bytes: bool,
+}
+
+impl Model for OutputItem {
+    ghost use Rattle.hidreport_items.specs.Flags.{Flags};
+
+    ghost Value = { Flags };
+
+    ghost view = { λ i. record {
+      constant = i.is_constant;
+      variable = i.is_variable;
+      relative = i.is_relative;
+      wrap = i.wraps;
+      nonlinear = i.is_nonlinear;
+      no_preferred_state = i.has_no_preferred_state;
+      null_state = i.has_null_state;
+      volatile = i.is_volatile;
+      buffered_bytes = i.is_buffered_bytes;
+    } };
+
+    ghost inverse = { λ f. record {
+      is_constant = f.constant;
+      is_variable = f.variable;
+      is_relative = f.relative;
+      wraps = f.wrap;
+      is_nonlinear = f.nonlinear;
+      has_no_preferred_state = f.no_preferred_state;
+      has_null_state = f.null_state;
+      is_volatile = f.volatile;
+      is_buffered_bytes = f.buffered_bytes;
+    } };
+}
+
+impl OutputItem {
+    /// The item that these data bytes spell, whatever the header.
+    pub(crate) fn from_data(alloc: Global, bytes: &[u8]) -> Result<OutputItem, HidError>
+        ensures { Gives result (output_item bytes.now) }
+    {
+        if bytes.is_empty() {
+            return Err(HidError::InsufficientData);
+        }
+        if !is_short_length(bytes.len()) {
+            return Err(size_fault(alloc, bytes.len()));
+        }
+        let flags = word(bytes);
+        Ok(OutputItem {
+            is_constant: is_flag_set(flags, 0),
+            is_variable: is_flag_set(flags, 1),
+            is_relative: is_flag_set(flags, 2),
+            wraps: is_flag_set(flags, 3),
+            is_nonlinear: is_flag_set(flags, 4),
+            has_no_preferred_state: is_flag_set(flags, 5),
+            has_null_state: is_flag_set(flags, 6),
+            is_volatile: is_flag_set(flags, 7),
+            is_buffered_bytes: is_flag_set(flags, 8),
+        })
+    }
+}
+
+impl MainDataItem for OutputItem {
+    ghost flags = { λ flags. flags };
+
+    fn is_constant(&self) -> bool {
+        self.is_constant
+    }
+
+    fn is_variable(&self) -> bool {
+        self.is_variable
+    }
+
+    fn is_relative(&self) -> bool {
+        self.is_relative
+    }
+
+    fn wraps(&self) -> bool {
+        self.wraps
+    }
+
+    fn is_nonlinear(&self) -> bool {
+        self.is_nonlinear
+    }
+
+    fn has_no_preferred_state(&self) -> bool {
+        self.has_no_preferred_state
+    }
+
+    fn has_null_state(&self) -> bool {
+        self.has_null_state
+    }
+
+    fn is_buffered_bytes(&self) -> bool {
+        self.is_buffered_bytes
+    }
+}
