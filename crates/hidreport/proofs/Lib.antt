@@ -1,2 +1,11 @@
 pub mod LookupLemmas
 pub mod BitLemmas
+pub mod Walk
+pub mod Reports
+pub mod WalkLemmas
+pub mod UsageLemmas
+pub mod ReportList
+pub mod FieldLemmas
+pub mod InputLemmas
+pub mod Carried
+pub mod ParseLemmas

@@ -14,3 +14,6 @@ pub mod Usages
 pub mod UsageNumber
 pub mod Visibility
 pub mod Views
+pub mod Machine
+pub mod State
+pub mod Layout

@@ -72,9 +72,12 @@ abbrev pub parse_items : Result (List Entry) (ℕ × Fault) → Result Descripto
 parse_items (Err fault) = Err (InvalidAt fault.0 (grammar_message fault.1))
 parse_items (Ok entries) = placed entries (meaning (map (λ e. e.item) entries))
 
+abbrev pub empty_descriptor : List ℕ
+empty_descriptor = codes "Empty report descriptor"
+
 -- the reports that the bytes of a descriptor announce, or their first fault, grammar before meaning
 abbrev pub parse_by : Reader → List ℕ → Result DescriptorRecord Refusal
-parse_by read [] = Err (InvalidAt 0 (codes "Empty report descriptor"))
+parse_by read [] = Err (InvalidAt 0 empty_descriptor)
 parse_by read (b ∷ bs) = parse_items (itemise read (b ∷ bs))
 
 -- the same of the items that are carried so far

@@ -1,6 +1,12 @@
+ghost use Rattle.std.specs.Prelude.{map};
+ghost use Rattle.hidreport_lists.specs.Answer.{Answers};
+ghost use Rattle.hidreport_lists.specs.Entry.{Entry};
+ghost use Rattle.hidreport.specs.Meaning.{meaning, parse, placed};
+ghost use Rattle.hidreport.specs.State.{AllCarried};
+
 use crate::descriptor::ReportDescriptor;
 use crate::state::{Fault, State};
-use hidreport_lists::{Item, ParserError, ReportDescriptorItems};
+use hidreport_lists::{Item, ParserError, ReportDescriptorItem, ReportDescriptorItems};
 use std::alloc::Global;
 
 impl ReportDescriptor {
@@ -13,17 +19,31 @@ impl ReportDescriptor {
     /// globals`, or has no usage, `Missing Usages for main item`; where its report would end past
     /// `usize::MAX` bits, or more than 2^32 fields would be numbered, `OutOfBounds`.
     /// `OutOfMemory` comes only where a growth is refused.
-    pub fn try_from(alloc: Global, bytes: &[u8]) -> Result<ReportDescriptor, ParserError> {
+    pub fn try_from(alloc: Global, bytes: &[u8]) -> Result<ReportDescriptor, ParserError>
+        ensures exact { Answers result (parse bytes.now) }
+    {
         if bytes.is_empty() {
             return Err(Fault::EmptyDescriptor.at(alloc, 0));
         }
         let items = ReportDescriptorItems::try_from(alloc, bytes)?;
-        let mut state = State::new(alloc);
-        for entry in items.as_slice() {
-            if let Err(fault) = state.take(alloc, entry.item().item_type()) {
-                return Err(fault.at(alloc, entry.offset()));
-            }
-        }
-        Ok(state.descriptor)
+        reports_of(alloc, items.as_slice())
     }
+}
+
+/// The reports that the items announce: one walk over them.
+fn reports_of(
+    alloc: Global,
+    items: &[ReportDescriptorItem],
+) -> Result<ReportDescriptor, ParserError>
+    requires { AllCarried items.now }
+    ensures exact { Answers result (placed items.now (meaning (map (λ (e : Entry). e.item) items.now))) }
+{
+    let mut state = State::new(alloc);
+    for entry in items {
+        match state.take(alloc, entry.item().item_type()) {
+            Ok(()) => {}
+            Err(fault) => return Err(fault.at(alloc, entry.offset())),
+        }
+    }
+    Ok(state.into_descriptor())
 }

@@ -1,4 +1,8 @@
+ghost use Rattle.std.specs.Prelude.{◌≡◌};
+ghost use Rattle.hidreport.specs.declared.state.Fault.TheVariants.{OutOfMemory};
+
 use crate::descriptor::ReportDescriptor;
+use crate::report::RDescReport;
 use hidreport_items::{GlobalItem, ItemType, LocalItem, MainItem};
 use hidreport_lists::ParserError;
 use hidreport_types::{
@@ -27,20 +31,30 @@ pub(crate) enum Fault {
 }
 
 impl From<AllocError> for Fault {
+    ghost from_gives = { λ _ fault. fault ≡ OutOfMemory };
+
     fn from(_refused: AllocError) -> Fault {
         Fault::OutOfMemory
     }
 }
 
 impl<T: Drop> From<AllocFailed<T>> for Fault {
+    ghost from_gives = { λ _ fault. fault ≡ OutOfMemory };
+
     fn from(_refused: AllocFailed<T>) -> Fault {
         Fault::OutOfMemory
     }
 }
 
 impl Fault {
+    ghost use Rattle.std.specs.Prelude.{◌≡◌, IfSome, None};
+    ghost use Rattle.hidreport.specs.State.{IsRefusal, refusal_of};
+
     /// The refusal of the item at this offset.
-    pub(crate) fn at(self, alloc: Global, offset: usize) -> ParserError {
+    pub(crate) fn at(self, alloc: Global, offset: usize) -> ParserError
+        ensures named { IfSome (refusal_of self offset) (IsRefusal result) }
+        ensures memory { refusal_of self offset ≡ None → result ≡ ParserError.OutOfMemory }
+    {
         let text = match self {
             Fault::EmptyDescriptor => "Empty report descriptor",
             Fault::MissingUsagePage => "Missing UsagePage in globals",
@@ -71,8 +85,15 @@ pub(crate) struct Globals {
 }
 
 impl Globals {
+    ghost use Rattle.std.specs.Prelude.{◌≡◌, List, []};
+    ghost use Rattle.hidreport_items.specs.declared.local.LocalItem.{LocalItem};
+    ghost use Rattle.hidreport.specs.Machine.{next_force, nothing_held};
+    ghost use Rattle.hidreport.specs.State.{force_of};
+
     /// Nothing is set.
-    fn new() -> Globals {
+    fn new() -> Globals
+        ensures { force_of result [] ≡ nothing_held.force }
+    {
         Globals {
             usage_page: None,
             logical_minimum: None,
@@ -87,7 +108,9 @@ impl Globals {
         }
     }
 
-    fn set(&mut self, item: GlobalItem) {
+    fn set(&mut self, item: GlobalItem)
+        ensures { (locals : List LocalItem) → force_of self.new locals ≡ record (next_force (force_of self.old locals) (ItemType.Global item)) { locals = locals } }
+    {
         match item {
             GlobalItem::UsagePage(page) => self.usage_page = Some(page),
             GlobalItem::LogicalMinimum(bound) => self.logical_minimum = Some(bound),
@@ -109,23 +132,40 @@ impl Globals {
 pub(crate) struct State {
     pub(crate) globals: Globals,
     pub(crate) locals: Vec<LocalItem>,
-    pub(crate) descriptor: ReportDescriptor,
+    pub(crate) input_reports: Vec<RDescReport>,
+    pub(crate) output_reports: Vec<RDescReport>,
+    pub(crate) feature_reports: Vec<RDescReport>,
     pub(crate) field_count: u64,
 }
 
 impl State {
+    ghost use Rattle.std.specs.Prelude.{◌≡◌, Ok, true, IfErr, OnOk};
+    ghost use Rattle.hidreport.specs.Faults.{fault_of};
+    ghost use Rattle.hidreport.specs.Machine.{counts_in, nothing_held, step};
+    ghost use Rattle.hidreport.specs.State.{HasNoRange, IsFaultOf, held_of, is_carried};
+
     /// Before the first item.
-    pub(crate) fn new(alloc: Global) -> State {
+    pub(crate) fn new(alloc: Global) -> State
+        ensures { held_of result ≡ nothing_held }
+    {
         State {
             globals: Globals::new(),
             locals: Vec::new(alloc),
-            descriptor: ReportDescriptor::empty(alloc),
+            input_reports: Vec::new(alloc),
+            output_reports: Vec::new(alloc),
+            feature_reports: Vec::new(alloc),
             field_count: 0,
         }
     }
 
     /// Goes on by one item.
-    pub(crate) fn take(&mut self, alloc: Global, item: ItemType) -> Result<(), Fault> {
+    pub(crate) fn take(&mut self, alloc: Global, item: ItemType) -> Result<(), Fault>
+        requires carried { is_carried item ≡ true }
+        requires single { HasNoRange self.old.locals.items }
+        ensures ok { OnOk result (step (held_of self.old) item ≡ Ok (held_of self.new)) }
+        ensures single { OnOk result (HasNoRange self.new.locals.items) }
+        ensures err { IfErr result (λ e. IsFaultOf e (fault_of (counts_in (held_of self.old) item) (held_of self.old).force item)) }
+    {
         match item {
             ItemType::Global(item) => self.globals.set(item),
             ItemType::Local(item) => self.locals.push(item)?,
@@ -136,11 +176,28 @@ impl State {
     }
 
     /// The locals end with the item.
-    fn take_main(&mut self, alloc: Global, item: MainItem) -> Result<(), Fault> {
+    fn take_main(&mut self, alloc: Global, item: MainItem) -> Result<(), Fault>
+        requires carried { is_carried (ItemType.Main item) ≡ true }
+        requires single { HasNoRange self.old.locals.items }
+        ensures ok { OnOk result (step (held_of self.old) (ItemType.Main item) ≡ Ok (held_of self.new)) }
+        ensures single { OnOk result (HasNoRange self.new.locals.items) }
+        ensures err { IfErr result (λ e. IsFaultOf e (fault_of (counts_in (held_of self.old) (ItemType.Main item)) (held_of self.old).force (ItemType.Main item))) }
+    {
         if let MainItem::Input(item) = item {
             self.add_input(alloc, item)?;
         }
         self.locals.clear();
         Ok(())
+    }
+
+    /// The reports that the items made.
+    pub(crate) fn into_descriptor(self) -> ReportDescriptor
+        ensures { result ≡ (held_of self).descriptor }
+    {
+        ReportDescriptor {
+            input_reports: self.input_reports,
+            output_reports: self.output_reports,
+            feature_reports: self.feature_reports,
+        }
     }
 }

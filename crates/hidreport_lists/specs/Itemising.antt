@@ -1,12 +1,14 @@
 -- A descriptor's bytes as a list of items (Section 6.2.2.1): each item begins where the one before it ends.
 -- `read` gives the item of a header and its data, or why they are none.
-use Rattle.std.specs.Prelude.{◌≡◌, ◌≢◌, ℕ, ◌+◌, zero, suc, nat_lt, if◌then◌else◌, List, [], ◌∷◌, ◌++◌, length, take, flat_map, Result, Ok, Err}
+use Rattle.std.specs.Prelude.{◌≡◌, ◌≢◌, ℕ, ◌+◌, zero, suc, nat_lt, if◌then◌else◌, List, [], ◌∷◌, ◌++◌, length, take, flat_map, Result, Ok, Err, string_bytes}
 use Rattle.hidreport_items.specs.Answer.{Fault, Insufficient}
 use Rattle.hidreport_items.specs.Spelling.{announced, AreBytes, read_as}
 use Rattle.hidreport_items.specs.declared.item.ItemType.{ItemType}
 use Rattle.hidreport_lists.specs.Answer.{Refusal, InvalidAt}
 use Rattle.hidreport_lists.specs.Entry.{Spelled, Entry}
 use Rattle.hidreport_lists.specs.Messages.{grammar_message}
+use Rattle.hidreport_lists.specs.declared.error.ParserError.{ParserError}
+use Rattle.hidreport_lists.specs.declared.error.ParserError.TheVariants as errors
 
 -- how an item is read from its header and its data
 abbrev pub Reader : Type 0
@@ -53,6 +55,14 @@ pub record IsFaultAt (read : Reader) (bytes : List ℕ) (offset : ℕ) (fault : 
   pub place : length (joined entries) ≡ offset
   pub none : (n : ℕ) (x : ItemType) → Reads read (take n (header ∷ after)) x → ⊥
   pub why : item_at read header after ≡ Err fault
+
+-- the error is data that can't be read, where the bytes have this fault, and says why; want of memory says nothing
+abbrev pub IsGrammarFault : Reader → List ℕ → ParserError → Type 0
+IsGrammarFault read bytes (errors.InvalidData offset message) =
+    (fault : Fault) × IsFaultAt read bytes offset fault × (string_bytes message ≡ grammar_message fault)
+IsGrammarFault read bytes errors.OutOfBounds = ⊥
+IsGrammarFault read bytes errors.MismatchingReportId = ⊥
+IsGrammarFault read bytes errors.OutOfMemory = Unit {0}
 
 -- an item before others, unless it or they can't be read
 abbrev pub with_entry : ℕ → List ℕ → Result ItemType Fault → Result (List Entry) (ℕ × Fault) → Result (List Entry) (ℕ × Fault)

@@ -3,9 +3,11 @@
 
 mod error;
 mod fault;
+mod laws;
 mod list;
 mod short_item;
 
 pub use error::ParserError;
+pub use laws::bytes_are_items_or_have_a_fault;
 pub use list::{ReportDescriptorItem, ReportDescriptorItems};
 pub use short_item::{Item, ShortItem};

@@ -1,8 +1,10 @@
-ghost use Rattle.std.specs.Prelude.{◌≡◌, List};
+ghost use Rattle.std.specs.Prelude.{◌≡◌, ◌≢◌, ℕ, List, [], IfErr, IfOk};
+ghost use Rattle.hidreport_items.specs.Answer.{Fault};
 ghost use Rattle.hidreport_items.specs.FirstPath.{first_path_item};
-ghost use Rattle.hidreport_lists.specs.Answer.{Answers};
+ghost use Rattle.hidreport_lists.specs.Answer.{Answers, InvalidAt};
 ghost use Rattle.hidreport_lists.specs.Entry.{Entry};
-ghost use Rattle.hidreport_lists.specs.Itemising.{as_refusal, itemise};
+ghost use Rattle.hidreport_lists.specs.Itemising.{as_refusal, itemise, Itemises, IsFaultAt, IsGrammarFault};
+ghost use Rattle.hidreport_lists.specs.Messages.{grammar_message};
 
 use crate::error::ParserError;
 use crate::fault::fault_at;
@@ -65,6 +67,10 @@ impl ReportDescriptorItems {
     /// `InvalidData` at 0, `Insufficient data`. `OutOfMemory` comes only where a growth is refused.
     pub fn try_from(alloc: Global, bytes: &[u8]) -> Result<ReportDescriptorItems, ParserError>
         ensures exact { Answers result (as_refusal (itemise first_path_item bytes.now)) }
+        ensures items { IfOk result (λ items. Itemises first_path_item bytes.now items) }
+        ensures only_items { (entries : List Entry) → Itemises first_path_item bytes.now entries → Answers result (Ok entries) }
+        ensures fault { bytes.now ≢ [] → IfErr result (λ error. IsGrammarFault first_path_item bytes.now error) }
+        ensures only_fault { (offset : ℕ) (fault : Fault) → IsFaultAt first_path_item bytes.now offset fault → Answers result (Err (InvalidAt offset (grammar_message fault))) }
     {
         if bytes.is_empty() {
             return Err(fault_at(alloc, 0, HidError::InsufficientData));
@@ -90,6 +96,6 @@ impl ReportDescriptorItems {
     pub fn as_slice(&self) -> &[ReportDescriptorItem]
         ensures { result.now ≡ self.now }
     {
-        &self.items
+        self.items.as_slice()
     }
 }

@@ -1,6 +1,8 @@
-use Rattle.std.proofs.Common.{◌≡◌, ◌≢◌, ◌+◌, ◌∙◌, [], ◌∷◌, ap, sym, length, length-drop, drop, arith}
+use Rattle.std.proofs.Common.{◌≡◌, ◌≢◌, ◌+◌, ◌∙◌, [], ◌∷◌, ap, sym, length, length-drop, drop, Ok, Err, arith}
+use Rattle.std.proofs.lemmas.Grind.{common_steps}
 use Rattle.hidreport_items.specs.FirstPath.{first_path_item}
 use Rattle.hidreport_lists.specs.Itemising.{items_from}
+use Rattle.hidreport_lists.proofs.Cuts.{are_bytes, answer-done, answer-items, answer-only, answer-fault, answer-only_fault}
 use Rattle.hidreport_lists.proofs.Items.{items_from-item, refuses-fault, with_front, with_front-more, at_offset}
 use Rattle.hidreport_lists.proofs.list.ReportDescriptorItems.try_from.Goals as goal
 
@@ -31,11 +33,39 @@ loop-rest-preserved c =
           ∙ c.loop-rest.invariant.items;
     }
 
-pub returns-in-Err : goal.returns-in-Err
-returns-in-Err c =
+pub returns-in-Err-clause-exact : goal.returns-in-Err-clause-exact
+returns-in-Err-clause-exact c =
     let some : c.args.bytes.now ≢ [] = λ e. let l : length c.args.bytes.now ≡ 0 = ap length e in grind (arith, c.is_empty.ensures) in
     let more : c.loop-rest.rest.now ≢ [] = λ e. let l : length c.loop-rest.rest.now ≡ 0 = ap length e in grind (arith, c.is_empty-in-loop-rest.ensures) in
-    record {
-      exact = refuses-fault c.args.bytes.now c.loop-rest.rest.now c.loop-rest.items.items c.loop-rest.offset c.in-Err.fault c.fault_at-in-Err.result some more
-          c.loop-rest.invariant.items c.in-Err.ensures c.fault_at-in-Err.ensures.named c.fault_at-in-Err.ensures.memory;
-    }
+    refuses-fault c.args.bytes.now c.loop-rest.rest.now c.loop-rest.items.items c.loop-rest.offset c.in-Err.fault c.fault_at-in-Err.result some more
+    c.loop-rest.invariant.items c.in-Err.ensures c.fault_at-in-Err.ensures.named c.fault_at-in-Err.ensures.memory
+
+pub returns-in-Err-clause-only_items : goal.returns-in-Err-clause-only_items
+returns-in-Err-clause-only_items c =
+    answer-only first_path_item c.args.bytes.now (Err c.fault_at-in-Err.result) (returns-in-Err-clause-exact c)
+
+pub returns-in-Err-clause-fault : goal.returns-in-Err-clause-fault
+returns-in-Err-clause-fault c =
+    answer-fault first_path_item c.args.bytes.now (Err c.fault_at-in-Err.result) (are_bytes c.args.bytes.now (λ i. omega (arith, c.type_inv.bytes i))) (returns-in-Err-clause-exact c)
+
+pub returns-in-Err-clause-only_fault : goal.returns-in-Err-clause-only_fault
+returns-in-Err-clause-only_fault c =
+    answer-only_fault first_path_item c.args.bytes.now (Err c.fault_at-in-Err.result) (returns-in-Err-clause-exact c)
+
+pub returns-clause-exact : goal.returns-clause-exact
+returns-clause-exact c =
+    let some : c.args.bytes.now ≢ [] = λ e. let l : length c.args.bytes.now ≡ 0 = ap length e in grind (arith, c.is_empty.ensures) in
+    let none : length c.loop-rest.rest.now ≡ 0 = grind (arith, common_steps, c.is_empty-in-loop-rest.ensures, c.loop-rest-test.false) in
+    answer-done first_path_item c.args.bytes.now c.loop-rest.rest.now c.loop-rest.items.items c.loop-rest.offset some none c.loop-rest.invariant.items
+
+pub returns-clause-items : goal.returns-clause-items
+returns-clause-items c =
+    answer-items first_path_item c.args.bytes.now (Ok c.loop-rest.items.items) (are_bytes c.args.bytes.now (λ i. omega (arith, c.type_inv.bytes i))) (returns-clause-exact c)
+
+pub returns-clause-only_items : goal.returns-clause-only_items
+returns-clause-only_items c =
+    answer-only first_path_item c.args.bytes.now (Ok c.loop-rest.items.items) (returns-clause-exact c)
+
+pub returns-clause-only_fault : goal.returns-clause-only_fault
+returns-clause-only_fault c =
+    answer-only_fault first_path_item c.args.bytes.now (Ok c.loop-rest.items.items) (returns-clause-exact c)

@@ -1,0 +1,208 @@
+-- What is in force goes on item by item.
+use Rattle.std.proofs.Common.{◌≡◌, ℕ, zero, suc, ◌+◌, ◌-◌, ◌<◌, ◌≤◌, Bool, true, false, cond, not, ◌&&◌, ◌||◌, nat_lt, nat_le, List, [], ◌∷◌, ◌++◌, length, take, Option, None, Some, option_to_list, filter, filter_map, count_by, refl, sym, ap, ◌∙◌, subst, append_assoc, arith, add-zero, zero-add, length-take}
+use Rattle.std.specs.List.{enumerate_from, list_any}
+use Rattle.std.proofs.Math.Seq.{take-append_seam}
+use Rattle.std.proofs.lemmas.Grind.{common_steps}
+use Rattle.std.proofs.lemmas.List.Elements.{filter-append, filter_map-append}
+use Rattle.std.proofs.lemmas.List.Folds.{list_any-append}
+use Rattle.hidreport_items.specs.declared.item.ItemType.{ItemType}
+use Rattle.hidreport_items.specs.declared.item.ItemType.TheVariants as item
+use Rattle.hidreport_items.specs.declared.local.LocalItem.{LocalItem}
+use Rattle.hidreport.specs.InForce.{in_force, force, last_value, unended_locals, first_of}
+use Rattle.hidreport.specs.Kinds.{Placed, is_main, is_push, local_of, usage_page_of, logical_minimum_of, logical_maximum_of, physical_minimum_of, physical_maximum_of, unit_exponent_of, unit_of, report_size_of, report_id_of, report_count_of}
+use Rattle.hidreport.specs.Machine.{NoneOf, next_force}
+use Rattle.hidreport.specs.Visibility.{before, level, stays_up, is_visible, visible}
+
+pub count_by-none : {A : Type 0} (p : A → Bool) (xs : List A) → NoneOf p xs → count_by p xs ≡ 0
+count_by-none p [] h = refl
+count_by-none p (x ∷ xs) h = rw h.0 (count_by-none p xs h.1)
+
+pub none-take : {A : Type 0} (p : A → Bool) (k : ℕ) (xs : List A) → NoneOf p xs → NoneOf p (take k xs)
+none-take p zero xs h = tt
+none-take p (suc k) [] h = tt
+none-take p (suc k) (x ∷ xs) h = (h.0, none-take p k xs h.1)
+
+pub enumerate_from-append : {A : Type 0} (n : ℕ) (xs ys : List A) → enumerate_from n (xs ++ ys) ≡ enumerate_from n xs ++ enumerate_from (n + length xs) ys
+enumerate_from-append n [] ys = ap (λ m. enumerate_from m ys) (sym (add-zero n))
+enumerate_from-append n (x ∷ xs) ys = ap (λ l. (n, x) ∷ l) (enumerate_from-append (n + 1) xs ys ∙ ap (λ m. enumerate_from (n + 1) xs ++ enumerate_from m ys) (let e : n + 1 + length xs ≡ n + suc (length xs) = omega arith in e))
+
+-- the items before the one behind a front
+pub before-front : (items front rest : List ItemType) → items ≡ front ++ rest → before items (length front) ≡ enumerate_from 0 front
+before-front items front rest e = ap (enumerate_from 0) (ap (take (length front)) e ∙ take-append_seam front rest)
+
+-- and one item further
+pub before-next : (items front rest : List ItemType) (x : ItemType) → items ≡ front ++ x ∷ rest
+    → before items (suc (length front)) ≡ before items (length front) ++ (length front, x) ∷ []
+before-next items front rest x e =
+    let longer : items ≡ (front ++ x ∷ []) ++ rest = e ∙ sym (append_assoc front (x ∷ []) rest) in
+    let size : length (front ++ x ∷ []) ≡ suc (length front) = grind (arith, common_steps) in
+    ap (before items) (sym size) ∙ before-front items (front ++ x ∷ []) rest longer
+    ∙ enumerate_from-append 0 front (x ∷ []) ∙ ap (λ m. enumerate_from 0 front ++ (m, x) ∷ []) (zero-add (length front))
+    ∙ ap (λ l. l ++ (length front, x) ∷ []) (sym (before-front items front (x ∷ rest) e))
+
+-- without Pushes every level is 0
+pub level-none : (items : List ItemType) (k : ℕ) → NoneOf is_push items → level items k ≡ 0
+level-none items k h = rw (count_by-none is_push (take k items) (none-take is_push k items h)) (omega arith)
+
+stays_up-zero : (items : List ItemType) (j n : ℕ) → stays_up items 0 j n ≡ true
+stays_up-zero items j zero = refl
+stays_up-zero items j (suc n) = let low : nat_le 0 (level items (j + suc n)) ≡ true = grind (arith, common_steps) in ap (λ b. b && stays_up items 0 j n) low ∙ stays_up-zero items j n
+
+and_true : (b : Bool) → (b && true) ≡ b
+and_true true = refl
+and_true false = refl
+
+is_visible-none : (items : List ItemType) (j k : ℕ) → NoneOf is_push items → is_visible items j k ≡ nat_lt j k
+is_visible-none items j k h =
+    let all : stays_up items (level items j) j (k - j) ≡ true = ap (λ n. stays_up items n j (k - j)) (level-none items j h) ∙ stays_up-zero items j (k - j) in
+    ap (λ b. nat_lt j k && b) all ∙ and_true (nat_lt j k)
+
+filter-same : {A : Type 0} (p q : A → Bool) → ((x : A) → p x ≡ q x) → (xs : List A) → filter p xs ≡ filter q xs
+filter-same p q h [] = refl
+filter-same p q h (x ∷ xs) = ap (λ b. cond b (x ∷ filter p xs) (filter p xs)) (h x) ∙ ap (λ l. cond (q x) (x ∷ l) l) (filter-same p q h xs)
+
+-- the places of a list from n on are below m
+filter-below : (n m : ℕ) (xs : List ItemType) → n + length xs ≤ m → filter (λ (p : Placed). nat_lt p.0 m) (enumerate_from n xs) ≡ enumerate_from n xs
+filter-below n m [] h = refl
+filter-below n m (x ∷ xs) h =
+    let here : nat_lt n m ≡ true = grind (arith, common_steps) in
+    let more : n + 1 + length xs ≤ m = omega arith in
+    ap (λ b. cond b ((n, x) ∷ filter (λ (p : Placed). nat_lt p.0 m) (enumerate_from (n + 1) xs)) (filter (λ (p : Placed). nat_lt p.0 m) (enumerate_from (n + 1) xs))) here
+    ∙ ap (λ l. (n, x) ∷ l) (filter-below (n + 1) m xs more)
+
+length-take-le : {A : Type 0} (k : ℕ) (xs : List A) → length (take k xs) ≤ k
+length-take-le k xs = simp length-take (omega arith)
+
+-- without Pushes every item before k is visible at k
+pub visible-none : (items : List ItemType) (k : ℕ) → NoneOf is_push items → visible items k ≡ before items k
+visible-none items k h =
+    filter-same (λ (p : Placed). is_visible items p.0 k) (λ (p : Placed). nat_lt p.0 k) (λ p. is_visible-none items p.0 k h) (before items k)
+    ∙ filter-below 0 k (take k items) (let le : 0 + length (take k items) ≤ k = omega (arith, length-take-le k items) in le)
+
+-- the last item's value counts
+first_of-none : {A : Type 0} (o : Option A) → first_of o None ≡ o
+first_of-none None = refl
+first_of-none (Some x) = refl
+
+first_of-assoc : {A : Type 0} (a b c : Option A) → first_of (first_of a b) c ≡ first_of a (first_of b c)
+first_of-assoc None b c = refl
+first_of-assoc (Some x) b c = refl
+
+last_value-next : {A : Type 0} (tag : ItemType → Option A) (ps : List Placed) (p : Placed) → last_value tag (ps ++ p ∷ []) ≡ first_of (tag p.1) (last_value tag ps)
+last_value-next tag [] p = sym (first_of-none (tag p.1))
+last_value-next tag (q ∷ ps) p = ap (λ o. first_of o (tag q.1)) (last_value-next tag ps p) ∙ first_of-assoc (tag p.1) (last_value tag ps) (tag q.1)
+
+-- all places of the list are below k
+abbrev pub AreBelow : ℕ → List Placed → Type 0
+AreBelow k [] = Unit {0}
+AreBelow k (p ∷ ps) = (p.0 < k) × AreBelow k ps
+
+enumerated-below : (n m : ℕ) (xs : List ItemType) → n + length xs ≤ m → AreBelow m (enumerate_from n xs)
+enumerated-below n m [] h = tt
+enumerated-below n m (x ∷ xs) h = (omega arith, enumerated-below (n + 1) m xs (omega arith))
+
+-- a main item stands behind p
+abbrev pub is_ended : List Placed → Placed → Bool
+is_ended ps p = list_any (λ (q : Placed). is_main q.1 && nat_lt p.0 q.0) ps
+
+and_false : (b : Bool) → (b && false) ≡ false
+and_false true = refl
+and_false false = refl
+
+not_behind : (k : ℕ) (x : ItemType) (ps : List Placed) → AreBelow k ps → is_ended ps (k, x) ≡ false
+not_behind k x [] h = refl
+not_behind k x (q ∷ ps) h =
+    let here : nat_lt k q.0 ≡ false = grind (arith, common_steps) in
+    ap (λ b. (is_main q.1 && b) || is_ended ps (k, x)) here ∙ ap (λ b. b || is_ended ps (k, x)) (and_false (is_main q.1)) ∙ not_behind k x ps h.1
+
+
+or_false : (b : Bool) → (b || false) ≡ b
+or_false true = refl
+or_false false = refl
+
+-- the locals behind one more item that is no main item
+is_ended-plain : (ps : List Placed) (k : ℕ) (x : ItemType) (p : Placed) → is_main x ≡ false → is_ended (ps ++ (k, x) ∷ []) p ≡ is_ended ps p
+is_ended-plain ps k x p plain =
+    list_any-append (λ (q : Placed). is_main q.1 && nat_lt p.0 q.0) ps ((k, x) ∷ [])
+    ∙ ap (λ b. is_ended ps p || ((b && nat_lt p.0 k) || false)) plain ∙ or_false (is_ended ps p)
+
+-- the items that no main item of the list stands behind
+abbrev pub unended : List Placed → List Placed → List Placed
+unended qs ps = filter (λ (p : Placed). not (is_ended qs p)) ps
+
+one_local : (o : Option LocalItem) → filter_map (λ (q : Option LocalItem). q) (o ∷ []) ≡ option_to_list o
+one_local None = refl
+one_local (Some y) = refl
+
+unended_locals-plain : (ps : List Placed) (k : ℕ) (x : ItemType) → AreBelow k ps → is_main x ≡ false
+    → unended_locals (ps ++ (k, x) ∷ []) ≡ unended_locals ps ++ option_to_list (local_of x)
+unended_locals-plain ps k x below plain =
+    let qs = ps ++ (k, x) ∷ [] in
+    let same : unended qs ps ≡ unended ps ps = filter-same (λ (p : Placed). not (is_ended qs p)) (λ (p : Placed). not (is_ended ps p)) (λ p. ap not (is_ended-plain ps k x p plain)) ps in
+    let last : unended qs ((k, x) ∷ []) ≡ (k, x) ∷ [] =
+        ap (λ b. cond (not b) ((k, x) ∷ []) []) (is_ended-plain ps k x (k, x) plain ∙ not_behind k x ps below) in
+    ap (filter_map (λ (p : Placed). local_of p.1)) (filter-append (λ (p : Placed). not (is_ended qs p)) ps ((k, x) ∷ []) ∙ ap (λ l. l ++ unended qs ((k, x) ∷ [])) same ∙ ap (λ l. unended ps ps ++ l) last)
+    ∙ filter_map-append (λ (p : Placed). local_of p.1) (unended ps ps) ((k, x) ∷ [])
+    ∙ ap (λ l. unended_locals ps ++ l) (one_local (local_of x))
+
+or_true : (b : Bool) → (b || true) ≡ true
+or_true true = refl
+or_true false = refl
+
+-- no local outlives a main item
+ended-all : (qs ps : List Placed) (k : ℕ) (x : ItemType) → AreBelow k ps → is_main x ≡ true → unended (qs ++ (k, x) ∷ []) ps ≡ []
+ended-all qs [] k x below main = refl
+ended-all qs (p ∷ ps) k x below main =
+    let here : nat_lt p.0 k ≡ true = grind (arith, common_steps) in
+    let ended : is_ended (qs ++ (k, x) ∷ []) p ≡ true =
+        list_any-append (λ (q : Placed). is_main q.1 && nat_lt p.0 q.0) qs ((k, x) ∷ [])
+        ∙ ap (λ b. is_ended qs p || ((b && nat_lt p.0 k) || false)) main ∙ ap (λ b. is_ended qs p || (b || false)) here ∙ or_true (is_ended qs p) in
+    ap (λ b. cond (not b) (p ∷ unended (qs ++ (k, x) ∷ []) ps) (unended (qs ++ (k, x) ∷ []) ps)) ended ∙ ended-all qs ps k x below.1 main
+
+main_is_no_local : (x : ItemType) → is_main x ≡ true → local_of x ≡ None
+main_is_no_local (item.Main y) h = refl
+main_is_no_local (item.Global y) h = cc
+main_is_no_local (item.Local y) h = cc
+main_is_no_local item.Long h = cc
+main_is_no_local item.Reserved h = cc
+
+last_no_local : (b : Bool) (k : ℕ) (x : ItemType) → local_of x ≡ None → filter_map (λ (p : Placed). local_of p.1) (cond b ((k, x) ∷ []) []) ≡ []
+last_no_local true k x none = rw none refl
+last_no_local false k x none = refl
+
+unended_locals-main : (ps : List Placed) (k : ℕ) (x : ItemType) → AreBelow k ps → is_main x ≡ true → unended_locals (ps ++ (k, x) ∷ []) ≡ []
+unended_locals-main ps k x below main =
+    let qs = ps ++ (k, x) ∷ [] in
+    ap (filter_map (λ (p : Placed). local_of p.1)) (filter-append (λ (p : Placed). not (is_ended qs p)) ps ((k, x) ∷ []) ∙ ap (λ l. l ++ unended qs ((k, x) ∷ [])) (ended-all ps ps k x below main))
+    ∙ last_no_local (not (is_ended qs (k, x))) k x (main_is_no_local x main)
+
+unended_locals-next : (b : Bool) (ps : List Placed) (k : ℕ) (x : ItemType) → AreBelow k ps → is_main x ≡ b
+    → unended_locals (ps ++ (k, x) ∷ []) ≡ (cond b [] (unended_locals ps ++ option_to_list (local_of x)))
+unended_locals-next true ps k x below main = unended_locals-main ps k x below main
+unended_locals-next false ps k x below main = unended_locals-plain ps k x below main
+
+in_force-next : (ps : List Placed) (k : ℕ) (x : ItemType) → AreBelow k ps → in_force (ps ++ (k, x) ∷ []) ≡ next_force (in_force ps) x
+in_force-next ps k x below =
+    let p : Placed = (k, x) in
+    let page = last_value-next usage_page_of ps p in
+    let low = last_value-next logical_minimum_of ps p in
+    let high = last_value-next logical_maximum_of ps p in
+    let plow = last_value-next physical_minimum_of ps p in
+    let phigh = last_value-next physical_maximum_of ps p in
+    let exponent = last_value-next unit_exponent_of ps p in
+    let unit = last_value-next unit_of ps p in
+    let size = last_value-next report_size_of ps p in
+    let id = last_value-next report_id_of ps p in
+    let count = last_value-next report_count_of ps p in
+    let locals = unended_locals-next (is_main x) ps k x below refl in
+    cc
+
+-- what is in force goes on by one item
+pub force-next : (items front rest : List ItemType) (x : ItemType) → NoneOf is_push items → items ≡ front ++ x ∷ rest
+    → force items (suc (length front)) ≡ next_force (force items (length front)) x
+force-next items front rest x none e =
+    let k = length front in
+    let below : AreBelow k (before items k) = subst (AreBelow k) (sym (before-front items front (x ∷ rest) e)) (enumerated-below 0 k front (omega arith)) in
+    ap in_force (visible-none items (suc k) none ∙ before-next items front rest x e)
+    ∙ in_force-next (before items k) k x below
+    ∙ ap (λ ps. next_force (in_force ps) x) (sym (visible-none items k none))

@@ -1,0 +1,150 @@
+-- The same meaning by one walk forward: what is held between two items, and what an item changes.
+use Rattle.std.specs.Prelude.{◌≡◌, ℕ, suc, ◌&&◌, is_some, ◌+◌, Bool, true, false, if◌then◌else◌, List, [], ◌∷◌, ◌++◌, map, filter, flat_map, sum_by, Option, None, Some, option_to_list, Result, Ok, Err}
+use Rattle.hidreport_items.specs.Flags.{Flags}
+use Rattle.hidreport_items.specs.declared.item.ItemType.{ItemType}
+use Rattle.hidreport_items.specs.declared.local.LocalItem.{LocalItem}
+use Rattle.hidreport.specs.Faults.{MeaningFault, Counts, fault_of}
+use Rattle.hidreport.specs.Fields.{fields_of, fields_made}
+use Rattle.hidreport.specs.InForce.{Force, first_of}
+use Rattle.hidreport.specs.Making.{extent, same_key}
+use Rattle.hidreport.specs.Meaning.{firsts_after}
+use Rattle.hidreport.specs.Places.{id_bits, bits_of}
+use Rattle.hidreport.specs.Records.{FieldRecord, ReportRecord, DescriptorRecord}
+use Rattle.hidreport.specs.Kinds.{Placed, Direction, Input, Output, Feature, data_of, goes, is_main, is_push, is_pop, is_collection, is_end_collection, local_of, usage_page_of, logical_minimum_of, logical_maximum_of, physical_minimum_of, physical_maximum_of, unit_exponent_of, unit_of, report_size_of, report_id_of, report_count_of}
+
+-- neither Push, Pop, Collection nor EndCollection
+abbrev pub is_plain : ItemType → Bool
+is_plain x = if is_push x then false else (if is_pop x then false else (if is_collection x then false else (if is_end_collection x then false else true)))
+
+-- a main item ends the locals, a local item is added to them
+abbrev pub next_locals : List LocalItem → ItemType → List LocalItem
+next_locals xs x = if is_main x then [] else xs ++ option_to_list (local_of x)
+
+-- what is in force behind one more item
+abbrev pub next_force : Force → ItemType → Force
+next_force f x = record {
+  usage_page = first_of (usage_page_of x) f.usage_page;
+  logical_minimum = first_of (logical_minimum_of x) f.logical_minimum;
+  logical_maximum = first_of (logical_maximum_of x) f.logical_maximum;
+  physical_minimum = first_of (physical_minimum_of x) f.physical_minimum;
+  physical_maximum = first_of (physical_maximum_of x) f.physical_maximum;
+  unit_exponent = first_of (unit_exponent_of x) f.unit_exponent;
+  unit = first_of (unit_of x) f.unit;
+  report_size = first_of (report_size_of x) f.report_size;
+  report_id = first_of (report_id_of x) f.report_id;
+  report_count = first_of (report_count_of x) f.report_count;
+  locals = next_locals f.locals x;
+}
+
+-- no element passes the test
+abbrev pub NoneOf : {A : Type 0} → (A → Bool) → List A → Type 0
+NoneOf p [] = Unit {0}
+NoneOf p (x ∷ xs) = (p x ≡ false) × NoneOf p xs
+
+-- the report with this id that these items make, each adding bits and fields to the report of its key
+abbrev pub report_of : (Placed → Option ℕ) → (Placed → ℕ) → (Placed → List FieldRecord) → List Placed → Option ℕ → ReportRecord
+report_of key bits fields ms id = record {
+  id = id;
+  size = id_bits id + sum_by bits (filter (λ p. same_key (key p) id) ms);
+  fields = flat_map fields (filter (λ p. same_key (key p) id) ms);
+}
+
+-- the reports that these items make
+abbrev pub reports_of : (Placed → Option ℕ) → (Placed → ℕ) → (Placed → List FieldRecord) → List Placed → List ReportRecord
+reports_of key bits fields ms = map (report_of key bits fields ms) (firsts_after [] (map key ms))
+
+-- where the report with this id ends so far
+abbrev pub size_in : Option ℕ → List ReportRecord → ℕ
+size_in id [] = id_bits id
+size_in id (r ∷ rs) = if same_key r.id id then r.size else size_in id rs
+
+-- the id of the first report
+abbrev pub first_id : List ReportRecord → Option ℕ
+first_id [] = None
+first_id (r ∷ rs) = r.id
+
+-- the place of the report with this id, or the length where there is none
+abbrev pub index_in : Option ℕ → List ReportRecord → ℕ
+index_in id [] = 0
+index_in id (r ∷ rs) = if same_key r.id id then 0 else suc (index_in id rs)
+
+-- the reports with these bits and fields added to the one with this id, which is made at need
+abbrev pub added_to : Option ℕ → ℕ → List FieldRecord → List ReportRecord → List ReportRecord
+added_to id bits fields [] = record { id = id; size = id_bits id + bits; fields = fields } ∷ []
+added_to id bits fields (r ∷ rs) =
+    if same_key r.id id then record { id = r.id; size = r.size + bits; fields = r.fields ++ fields } ∷ rs
+    else r ∷ added_to id bits fields rs
+
+-- what is held between two items
+pub record Held : Type 0 where
+  pub force : Force
+  pub descriptor : DescriptorRecord
+  pub fields : ℕ
+
+-- the reports of a direction
+abbrev pub reports_in : Direction → DescriptorRecord → List ReportRecord
+reports_in Input r = r.input
+reports_in Output r = r.output
+reports_in Feature r = r.feature
+
+-- the id of the report that a data item of a direction adds to
+abbrev pub key_in : Direction → Held → Option ℕ
+key_in d h = first_of h.force.report_id (first_id (reports_in d h.descriptor))
+
+-- where its fields begin
+abbrev pub start_in : Direction → Held → ℕ
+start_in d h = size_in (key_in d h) (reports_in d h.descriptor)
+
+abbrev pub start_for : Option (Direction × Flags) → Held → ℕ
+start_for None h = 0
+start_for (Some x) h = start_in x.0 h
+
+-- the counts before an item
+abbrev pub counts_in : Held → ItemType → Counts
+counts_in h x = record { level = 0; depth = 0; collections = 0; fields = h.fields; start = start_for (data_of x) h }
+
+-- the item makes fields in this direction
+abbrev pub adds : Direction → Held → ItemType → Bool
+adds d h x = goes d (data_of x) && is_some (extent h.force)
+
+-- the reports of a direction behind the item
+abbrev pub next_reports : Direction → Held → ItemType → List ReportRecord
+next_reports d h x =
+    if adds d h x then added_to (key_in d h) (bits_of (extent h.force)) (fields_of h.force [] h.fields (start_in d h) (data_of x) (extent h.force)) (reports_in d h.descriptor)
+    else reports_in d h.descriptor
+
+-- what is held behind an item without a fault
+abbrev pub next_held : Held → ItemType → Held
+next_held h x = record {
+  force = next_force h.force x;
+  descriptor = record { input = next_reports Input h x; output = next_reports Output h x; feature = next_reports Feature h x };
+  fields = h.fields + fields_made (data_of x) (extent h.force);
+}
+
+abbrev pub unless_fault : Option MeaningFault → Held → Result Held MeaningFault
+unless_fault None h = Ok h
+unless_fault (Some f) h = Err f
+
+-- one item further, or its fault
+abbrev pub step : Held → ItemType → Result Held MeaningFault
+step h x = unless_fault (fault_of (counts_in h x) h.force x) (next_held h x)
+
+-- before the first item
+abbrev pub nothing_held : Held
+nothing_held = record {
+  force = record {
+    usage_page = None; logical_minimum = None; logical_maximum = None; physical_minimum = None; physical_maximum = None;
+    unit_exponent = None; unit = None; report_size = None; report_id = None; report_count = None; locals = [];
+  };
+  descriptor = record { input = []; output = []; feature = [] };
+  fields = 0;
+}
+
+abbrev pub go_on : Result Held MeaningFault → ℕ → (Held → Result DescriptorRecord (ℕ × MeaningFault)) → Result DescriptorRecord (ℕ × MeaningFault)
+go_on (Ok h) k rest = rest h
+go_on (Err f) k rest = Err (k, f)
+
+-- the walk over the items from place k on
+abbrev pub walk : Held → ℕ → List ItemType → Result DescriptorRecord (ℕ × MeaningFault)
+walk h k [] = Ok h.descriptor
+walk h k (x ∷ xs) = go_on (step h x) k (λ next. walk next (k + 1) xs)

@@ -1,0 +1,107 @@
+-- What the parser's state holds, as plain data.
+use Rattle.std.specs.Prelude.{◌≡◌, ℕ, Bool, true, false, not, ◌&&◌, is_none, List, [], ◌∷◌, Option, None, Some, Result, Ok, Err}
+use Rattle.hidreport_items.specs.Flags.{Flags}
+use Rattle.hidreport_items.specs.declared.main_item.MainItem.TheVariants as main
+use Rattle.hidreport_items.specs.declared.global.GlobalItem.TheVariants as global
+use Rattle.hidreport_items.specs.declared.item.ItemType.{ItemType}
+use Rattle.hidreport_items.specs.declared.item.ItemType.TheVariants as item
+use Rattle.hidreport_items.specs.declared.local.LocalItem.{LocalItem}
+use Rattle.hidreport_items.specs.declared.local.LocalItem.TheVariants as local
+use Rattle.hidreport_lists.specs.Answer.{Refusal, InvalidAt, Bounds, Refuses}
+use Rattle.hidreport_lists.specs.Entry.{Entry}
+use Rattle.hidreport_lists.specs.declared.error.ParserError.{ParserError}
+use Rattle.hidreport.specs.Faults.{MeaningFault, fault_of, Says, PastBounds, missing_usages}
+use Rattle.hidreport.specs.InForce.{Force}
+use Rattle.hidreport.specs.Meaning.{empty_descriptor}
+use Rattle.hidreport.specs.Machine.{Held, counts_in}
+use Rattle.hidreport.specs.Usages.{missing_page, make_usage, minimum_of, last_local}
+use Rattle.hidreport.specs.declared.state.Fault.{Fault}
+use Rattle.hidreport.specs.declared.state.Fault.TheVariants as faults
+use Rattle.hidreport.specs.declared.state.Globals.{Globals}
+use Rattle.hidreport.specs.declared.state.State.{State}
+use Rattle.hidreport.specs.declared.usage.Usage.{Usage}
+
+-- the globals and these locals as what is in force
+abbrev pub force_of : Globals → List LocalItem → Force
+force_of g locals = record {
+  usage_page = g.usage_page;
+  logical_minimum = g.logical_minimum;
+  logical_maximum = g.logical_maximum;
+  physical_minimum = g.physical_minimum;
+  physical_maximum = g.physical_maximum;
+  unit_exponent = g.unit_exponent;
+  unit = g.unit;
+  report_size = g.report_size;
+  report_id = g.report_id;
+  report_count = g.report_count;
+  locals = locals;
+}
+
+abbrev pub held_of : State → Held
+held_of s = record { force = force_of s.globals s.locals.items; descriptor = record { input = s.input_reports.items; output = s.output_reports.items; feature = s.feature_reports.items }; fields = s.field_count }
+
+-- the fault of an item is this one; want of memory says nothing
+abbrev pub IsFaultOf : Fault → Option MeaningFault → Type 0
+IsFaultOf faults.EmptyDescriptor f = ⊥
+IsFaultOf faults.MissingUsagePage f = f ≡ Some (Says missing_page)
+IsFaultOf faults.MissingUsages f = f ≡ Some (Says missing_usages)
+IsFaultOf faults.OutOfBounds f = f ≡ Some PastBounds
+IsFaultOf faults.OutOfMemory f = Unit {0}
+
+-- the answer, seen by `view`, is this one, or the fault is of a missing page; want of memory says nothing
+abbrev pub Gives : {A B : Type 0} → (A → B) → Result A Fault → Result B (List ℕ) → Type 0
+Gives view (Ok x) answer = answer ≡ Ok (view x)
+Gives view (Err faults.MissingUsagePage) answer = answer ≡ Err missing_page
+Gives view (Err faults.OutOfMemory) answer = Unit {0}
+Gives view (Err faults.EmptyDescriptor) answer = ⊥
+Gives view (Err faults.MissingUsages) answer = ⊥
+Gives view (Err faults.OutOfBounds) answer = ⊥
+
+abbrev pub usage_on : Option ℕ → ℕ → Result (Option Usage) (List ℕ)
+usage_on None id = Err missing_page
+usage_on (Some page) id = Ok (Some (make_usage page id))
+
+-- the usage that a local item gives, if it gives one
+abbrev pub one_usage : Option ℕ → LocalItem → Result (Option Usage) (List ℕ)
+one_usage page (local.Usage own id) = Ok (Some (make_usage own id))
+one_usage page (local.UsageId id) = usage_on page id
+one_usage page _ = Ok None
+
+-- the items that the first path needs: no Push, Pop or range, and of main items a variable Input with data
+abbrev pub is_carried : ItemType → Bool
+is_carried (item.Global global.Push) = false
+is_carried (item.Global global.Pop) = false
+is_carried (item.Global _) = true
+is_carried (item.Local x) = is_none (minimum_of x)
+is_carried (item.Main (main.Input flags)) = not flags.constant && flags.variable
+is_carried (item.Main _) = false
+is_carried item.Long = true
+is_carried item.Reserved = true
+
+-- no range is among the locals
+abbrev pub HasNoRange : List LocalItem → Type 0
+HasNoRange locals = last_local minimum_of locals ≡ None
+
+abbrev pub input : Flags → ItemType
+input flags = item.Main (main.Input flags)
+
+-- the fault of a variable Input
+abbrev pub input_fault : Held → Flags → Option MeaningFault
+input_fault h flags = fault_of (counts_in h (input flags)) h.force (input flags)
+
+-- each item of these entries is carried
+abbrev pub AllCarried : List Entry → Type 0
+AllCarried [] = Unit {0}
+AllCarried (e ∷ entries) = (is_carried e.item ≡ true) × AllCarried entries
+
+-- what a fault is at an offset, as a parser says it; want of memory is nothing
+abbrev pub refusal_of : Fault → ℕ → Option Refusal
+refusal_of faults.EmptyDescriptor offset = Some (InvalidAt offset empty_descriptor)
+refusal_of faults.MissingUsagePage offset = Some (InvalidAt offset missing_page)
+refusal_of faults.MissingUsages offset = Some (InvalidAt offset missing_usages)
+refusal_of faults.OutOfBounds offset = Some Bounds
+refusal_of faults.OutOfMemory offset = None
+
+-- the error says this refusal, or want of memory
+abbrev pub IsRefusal : ParserError → Refusal → Type 0
+IsRefusal e r = Refuses {A = Unit {0}} e (Err r)

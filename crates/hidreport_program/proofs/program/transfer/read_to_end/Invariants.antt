@@ -1,0 +1,10 @@
+use Rattle.std.proofs.Common.{◌-◌, ◌^◌, length}
+use Rattle.std.specs.Io.KnownBytes.{Consumes}
+use Rattle.hidreport_program.proofs.program.transfer.read_to_end.Given as goal
+
+-- what was read so far is what the source has lost
+abbrev pub invariant-loop-count : goal.invariant-loop-count
+invariant-loop-count g l = Consumes (g.S.Source.left l.initial.source) (g.S.Source.left l.source) l.bytes.items
+
+abbrev pub decreases-loop-count : goal.decreases-loop-count
+decreases-loop-count g l = 2 ^ 63 - length l.bytes.items

@@ -1,0 +1,71 @@
+-- The lines that the program writes. Each ends with a newline, which is the byte 10.
+use Rattle.std.specs.Prelude.{ℕ, ℤ, Bool, pos, ◌-◌, int_lt, if◌then◌else◌, List, [], ◌∷◌, ◌++◌, flat_map, Option, Some, None, Result, Ok, Err, length, replicate, codes, decimal, false}
+use Rattle.std.specs.Fmt.{radix_digits, signed_decimal}
+use Rattle.std.specs.Int.{w32, cast_signed}
+use Rattle.hidreport_lists.specs.Answer.{Refusal, InvalidAt, Bounds, Mismatch}
+use Rattle.hidreport.specs.Reading.{ValueRecord, read_variable, read_array}
+use Rattle.hidreport.specs.Records.{FieldPlace, Attributes, FieldRecord, VariableRecord, ArrayRecord, ConstantRecord}
+use Rattle.hidreport.specs.UsageNumber.{usage_number}
+
+abbrev pub newline : List ℕ
+newline = 10 ∷ []
+
+-- a number in lower-case hexadecimal, with zeros before it up to so many digits
+abbrev pub hex_digits : ℕ → ℕ → List ℕ
+hex_digits count n = replicate (count - length (radix_digits 16 false n)) 48 ++ radix_digits 16 false n
+
+-- the number that a value's 32 bits are: below 0 only where the value is signed
+abbrev pub value_number : ValueRecord → ℤ
+value_number v = if v.is_signed then cast_signed w32 v.word else pos v.word
+
+-- the number that was read; none for any refusal of reading
+abbrev pub number_read : Result ValueRecord Refusal → Option ℤ
+number_read (Ok v) = Some (value_number v)
+number_read (Err refusal) = None
+
+-- a number in decimal, or that its bits lie outside the report
+abbrev pub number_text : Option ℤ → List ℕ
+number_text (Some n) = signed_decimal n
+number_text None = codes "out of bounds"
+
+-- the values of an array, each after a space
+abbrev pub numbers_text : Result (List ValueRecord) Refusal → List ℕ
+numbers_text (Ok vs) = flat_map (λ v. 32 ∷ signed_decimal (value_number v)) vs
+numbers_text (Err refusal) = codes " out of bounds"
+
+abbrev pub is_signed : Attributes → Bool
+is_signed shared = int_lt shared.logical_minimum (pos 0)
+
+-- a field's bits in its report: the first, and the one behind the last
+abbrev pub bits_text : FieldPlace → List ℕ → List ℕ
+bits_text place rest = decimal place.first ++ (codes ".." ++ (decimal place.end ++ rest))
+
+-- a field and what the report's bytes give it
+abbrev pub line_of_field : List ℕ → FieldRecord → List ℕ
+line_of_field bytes (VariableRecord place usage shared) =
+    bits_text place (codes " variable " ++ (hex_digits 8 (usage_number usage) ++ (codes " "
+    ++ (number_text (number_read (read_variable place.report_id place.first place.end (is_signed shared) bytes)) ++ newline))))
+line_of_field bytes (ArrayRecord place usages is_range count shared) =
+    bits_text place (codes " array"
+    ++ (numbers_text (read_array place.report_id place.first place.end count (is_signed shared) bytes) ++ newline))
+line_of_field bytes (ConstantRecord place) = bits_text place (codes " constant" ++ newline)
+
+-- a report's id, or two dashes
+abbrev pub id_text : Option ℕ → List ℕ
+id_text (Some id) = hex_digits 2 id
+id_text None = codes "--"
+
+-- a report's id and its size in bits
+abbrev pub report_line : Option ℕ → ℕ → List ℕ
+report_line id size = codes "report " ++ (id_text id ++ (codes " " ++ (decimal size ++ newline)))
+
+-- why the descriptor is refused; parsing never refuses bytes as another report's
+abbrev pub refusal_line : Refusal → List ℕ
+refusal_line (InvalidAt offset message) =
+    codes "refused: invalid data at offset " ++ (decimal offset ++ (codes ": " ++ (message ++ newline)))
+refusal_line Bounds = codes "refused: out of bounds" ++ newline
+refusal_line Mismatch = codes "refused: out of bounds" ++ newline
+
+-- no report has bytes like these
+abbrev pub no_report_line : List ℕ
+no_report_line = codes "refused: no report" ++ newline

@@ -1,0 +1,42 @@
+-- What a command writes of the bytes that it read, and how it ends.
+use Rattle.std.specs.Prelude.{ℕ, List, ◌++◌, flat_map, Option, Some, None, Result, Ok, Err, string_bytes}
+use Rattle.hidreport_lists.specs.Answer.{Refusal, InvalidAt, Bounds, Mismatch}
+use Rattle.hidreport_lists.specs.declared.error.ParserError.{ParserError}
+use Rattle.hidreport_lists.specs.declared.error.ParserError.TheVariants as errors
+use Rattle.hidreport.specs.Lookup.{find_report}
+use Rattle.hidreport.specs.Meaning.{parse}
+use Rattle.hidreport.specs.Records.{ReportRecord, DescriptorRecord}
+use Rattle.hidreport_program.specs.Lines.{line_of_field, report_line, refusal_line, no_report_line}
+use Rattle.hidreport_program.specs.declared.program.commands.Command.{Command}
+use Rattle.hidreport_program.specs.declared.program.commands.Command.TheVariants.{Values}
+use Rattle.hidreport_program.specs.declared.program.ending.Outcome.{Outcome}
+use Rattle.hidreport_program.specs.declared.program.ending.Outcome.TheVariants.{Done, Refused}
+
+-- a whole text, and whether it is the command's or a refusal
+pub record Output : Type 0 where
+  pub text : List ℕ
+  pub outcome : Outcome
+
+-- a report's line, and one for each of its fields
+abbrev pub report_text : ReportRecord → List ℕ → List ℕ
+report_text report bytes = report_line report.id report.size ++ flat_map (line_of_field bytes) report.fields
+
+abbrev pub found_output : Option ReportRecord → List ℕ → Output
+found_output (Some report) bytes = record { text = report_text report bytes; outcome = Done }
+found_output None bytes = record { text = no_report_line; outcome = Refused }
+
+-- the values of the input report that the bytes are of, or why there are none
+abbrev pub values_output : Result DescriptorRecord Refusal → List ℕ → Output
+values_output (Ok descriptor) bytes = found_output (find_report descriptor.input bytes) bytes
+values_output (Err refusal) bytes = record { text = refusal_line refusal; outcome = Refused }
+
+-- the output of a command for the bytes of a descriptor and of a report
+abbrev pub output : Command → List ℕ → List ℕ → Output
+output Values descriptor bytes = values_output (parse descriptor) bytes
+
+-- what an error says of a descriptor; want of memory says nothing
+abbrev pub refusal_of : ParserError → Option Refusal
+refusal_of (errors.InvalidData offset message) = Some (InvalidAt offset (string_bytes message))
+refusal_of errors.OutOfBounds = Some Bounds
+refusal_of errors.MismatchingReportId = Some Mismatch
+refusal_of errors.OutOfMemory = None

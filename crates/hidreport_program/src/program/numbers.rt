@@ -1,0 +1,60 @@
+//! Numbers as the lines show them.
+ghost use Rattle.std.specs.Prelude.{◌≡◌, Some};
+ghost use Rattle.hidreport_program.specs.Lines.{hex_digits, number_text, value_number};
+
+use hidreport::FieldValue;
+use std::fmt;
+
+/// A number of two hexadecimal digits.
+#[derive(Clone, Copy)]
+pub struct TwoDigits(pub u8);
+
+#[tactic(auto, using(crate::proofs::Texts::padded_with_zeros))]
+impl fmt::Display for TwoDigits {
+    ghost output = { λ number. Some (hex_digits 2 number.0) };
+
+    fn fmt<W: fmt::Write>(&self, f: &mut fmt::Formatter<W>) -> fmt::Result {
+        let number = self.0;
+        write!(f, "{number:02x}")
+    }
+}
+
+/// A number of eight hexadecimal digits.
+#[derive(Clone, Copy)]
+pub struct EightDigits(pub u32);
+
+#[tactic(auto, using(crate::proofs::Texts::padded_with_zeros))]
+impl fmt::Display for EightDigits {
+    ghost output = { λ number. Some (hex_digits 8 number.0) };
+
+    fn fmt<W: fmt::Write>(&self, f: &mut fmt::Formatter<W>) -> fmt::Result {
+        let number = self.0;
+        write!(f, "{number:08x}")
+    }
+}
+
+/// A number that was read, or none where its bits lie outside the report.
+#[derive(Clone, Copy)]
+pub struct NumberRead(pub Option<i64>);
+
+impl fmt::Display for NumberRead {
+    ghost output = { λ number. Some (number_text number.0) };
+
+    fn fmt<W: fmt::Write>(&self, f: &mut fmt::Formatter<W>) -> fmt::Result {
+        match self.0 {
+            Some(number) => write!(f, "{number}"),
+            None => write!(f, "out of bounds"),
+        }
+    }
+}
+
+/// The number that a value is: below 0 only where its field was signed.
+pub fn number_of(value: FieldValue) -> i64
+    ensures { result ≡ value_number value }
+{
+    if value.is_signed() {
+        i64::from(i32::from(value))
+    } else {
+        i64::from(u32::from(value))
+    }
+}

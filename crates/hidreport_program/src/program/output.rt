@@ -1,0 +1,101 @@
+//! The whole text of a command.
+ghost use Rattle.std.specs.Prelude.{◌≡◌, ◌<◌, IfOk, IsSomeAnd, string_bytes, string_len};
+ghost use Rattle.hidreport.specs.Lookup.{find_report};
+ghost use Rattle.hidreport_program.specs.Lines.{refusal_line};
+ghost use Rattle.hidreport_program.specs.Output.{output, found_output, refusal_of};
+
+use super::commands::Command;
+use super::ending::Outcome;
+use super::fields::add_report;
+use hidreport::{ParserError, ReportDescriptor};
+use std::alloc::{AllocError, Global};
+
+/// A whole text, and whether it is the command's or a refusal.
+#[derive(Debug, Drop)]
+pub struct Written {
+    /// The text, never empty.
+    pub text: String,
+    /// What it is.
+    pub outcome: Outcome,
+}
+
+/// What `command` writes of a descriptor's and a report's bytes.
+///
+/// The text isn't empty. Refuses only where memory runs out.
+pub fn text_of(
+    alloc: Global,
+    command: Command,
+    descriptor: &[u8],
+    report: &[u8],
+) -> Result<Written, AllocError>
+    ensures some { IfOk result (λ w. 0 < string_len w.text) }
+    ensures text { IfOk result (λ w.
+        string_bytes w.text ≡ (output command descriptor.now report.now).text) }
+    ensures outcome { IfOk result (λ w.
+        w.outcome ≡ (output command descriptor.now report.now).outcome) }
+{
+    match command {
+        Command::Values => values(alloc, descriptor, report),
+    }
+}
+
+/// What `values` writes of a descriptor's and a report's bytes.
+fn values(alloc: Global, descriptor: &[u8], report: &[u8]) -> Result<Written, AllocError>
+    ensures text { IfOk result (λ w.
+        string_bytes w.text ≡ (output Command.Values descriptor.now report.now).text) }
+    ensures outcome { IfOk result (λ w.
+        w.outcome ≡ (output Command.Values descriptor.now report.now).outcome) }
+{
+    match ReportDescriptor::try_from(alloc, descriptor) {
+        Ok(descriptor) => found(alloc, &descriptor, report),
+        Err(error) => refused(alloc, &error),
+    }
+}
+
+/// The values of the input report that `bytes` are of, or that there is none.
+fn found(alloc: Global, descriptor: &ReportDescriptor, bytes: &[u8]) -> Result<Written, AllocError>
+    ensures text { IfOk result (λ w.
+        string_bytes w.text ≡ (found_output (find_report descriptor.now.input bytes.now) bytes.now).text) }
+    ensures outcome { IfOk result (λ w.
+        w.outcome ≡ (found_output (find_report descriptor.now.input bytes.now) bytes.now).outcome) }
+{
+    match descriptor.find_input_report(bytes) {
+        Some(report) => {
+            let mut text = String::new(alloc);
+            add_report(&mut text, report, bytes)?;
+            let outcome = Outcome::Done;
+            Ok(Written { text, outcome })
+        }
+        None => {
+            let text = String::from_str(alloc, "refused: no report\n")?;
+            let outcome = Outcome::Refused;
+            Ok(Written { text, outcome })
+        }
+    }
+}
+
+/// The line that says why a descriptor is refused.
+fn refused(alloc: Global, error: &ParserError) -> Result<Written, AllocError>
+    ensures text { IfOk result (λ w. IsSomeAnd (refusal_of error.now) (λ refusal.
+        string_bytes w.text ≡ refusal_line refusal)) }
+    ensures outcome { IfOk result (λ w. w.outcome ≡ Outcome.Refused) }
+{
+    let text = refusal_text(alloc, error)?;
+    let outcome = Outcome::Refused;
+    Ok(Written { text, outcome })
+}
+
+fn refusal_text(alloc: Global, error: &ParserError) -> Result<String, AllocError>
+    ensures { IfOk result (λ text. IsSomeAnd (refusal_of error.now) (λ refusal.
+        string_bytes text ≡ refusal_line refusal)) }
+{
+    match error {
+        ParserError::InvalidData { offset, message } => {
+            format!(in alloc; "refused: invalid data at offset {offset}: {message}\n")
+        }
+        ParserError::OutOfBounds | ParserError::MismatchingReportId => {
+            String::from_str(alloc, "refused: out of bounds\n")
+        }
+        ParserError::OutOfMemory => Err(AllocError),
+    }
+}
