@@ -33,7 +33,6 @@ global-needing true [] g message h = tt
 global-needing true (d ∷ bs) g message h = h
 global-needing false bs g message h = tt
 
-
 global-04 : (h : ℕ) (bs : List ℕ) → prefix h ≡ 0x04 → GivesCarried (item_of h bs)
 global-04 h bs e = let t : type_of h ≡ 1 = omega arith in rw (t, e) (global-guarded _ (global.UsagePage (word bs % 65536)) _ refl)
 
@@ -91,14 +90,35 @@ is-equal a b h = grind (arith, common_steps)
 needed : (h : ℕ) (bs : List ℕ) → is_needed (prefix h) ≡ true → (prefix h ≡ 0x80 → is_variable_data bs ≡ true) → GivesCarried (item_of h bs)
 needed h bs n v =
     let p = prefix h in
-    elim (split (eqb p 0x80) _ n) [ inl a ↦ main-80 h bs (is-equal p 0x80 a) (v (is-equal p 0x80 a)) | inr n1 ↦
-    elim (split (eqb p 0x08) _ n1) [ inl a ↦ local-08 h bs (is-equal p 0x08 a) | inr n2 ↦
-    elim (split (eqb p 0x04) _ n2) [ inl a ↦ global-04 h bs (is-equal p 0x04 a) | inr n3 ↦
-    elim (split (eqb p 0x14) _ n3) [ inl a ↦ global-14 h bs (is-equal p 0x14 a) | inr n4 ↦
-    elim (split (eqb p 0x24) _ n4) [ inl a ↦ global-24 h bs (is-equal p 0x24 a) | inr n5 ↦
-    elim (split (eqb p 0x74) _ n5) [ inl a ↦ global-74 h bs (is-equal p 0x74 a) | inr n6 ↦
-    elim (split (eqb p 0x84) _ n6) [ inl a ↦ global-84 h bs (is-equal p 0x84 a) | inr n7 ↦
-    elim (split (eqb p 0x94) _ n7) [ inl a ↦ global-94 h bs (is-equal p 0x94 a) | inr n8 ↦ absurd (cc) ] ] ] ] ] ] ] ]
+    elim (split (eqb p 0x80) _ n) [
+      | inl a ↦ main-80 h bs (is-equal p 0x80 a) (v (is-equal p 0x80 a))
+      | inr n1 ↦
+          elim (split (eqb p 0x08) _ n1) [
+            | inl a ↦ local-08 h bs (is-equal p 0x08 a)
+            | inr n2 ↦
+                elim (split (eqb p 0x04) _ n2) [
+                  | inl a ↦ global-04 h bs (is-equal p 0x04 a)
+                  | inr n3 ↦
+                      elim (split (eqb p 0x14) _ n3) [
+                        | inl a ↦ global-14 h bs (is-equal p 0x14 a)
+                        | inr n4 ↦
+                            elim (split (eqb p 0x24) _ n4) [
+                              | inl a ↦ global-24 h bs (is-equal p 0x24 a)
+                              | inr n5 ↦
+                                  elim (split (eqb p 0x74) _ n5) [
+                                    | inl a ↦ global-74 h bs (is-equal p 0x74 a)
+                                    | inr n6 ↦
+                                        elim (split (eqb p 0x84) _ n6) [
+                                          | inl a ↦ global-84 h bs (is-equal p 0x84 a)
+                                          | inr n7 ↦
+                                              elim (split (eqb p 0x94) _ n7) [ inl a ↦ global-94 h bs (is-equal p 0x94 a) | inr n8 ↦ absurd (cc) ]
+                                        ]
+                                  ]
+                            ]
+                      ]
+                ]
+          ]
+    ]
 
 inside : (b n v : Bool) (h : ℕ) (bs : List ℕ) → is_needed (prefix h) ≡ n → is_variable_data bs ≡ v → (not n || (eqb (prefix h) 0x80 && not v)) ≡ b
     → GivesCarried (cond b (Err (Invalid [])) (item_of h bs))

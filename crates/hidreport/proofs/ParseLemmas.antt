@@ -63,7 +63,7 @@ pub meaning-fault : (entries : List Entry) (i : ℕ) (e : Entry) (h : Held) (f :
     → fault_of (counts_in h e.item) h.force e.item ≡ Some f → placed entries (meaning (items_of entries)) ≡ Err (refusal_at e.offset f)
 meaning-fault entries i e h f all lt here walked fault =
     ap (placed entries) (meaning-walked entries i h all walked ∙ ap (walk h i) (drop-item entries i e lt here)
-        ∙ ap (λ o. go_on (unless_fault o (next_held h e.item)) i (λ n. walk n (i + 1) (drop (suc i) (items_of entries)))) fault)
+    ∙ ap (λ o. go_on (unless_fault o (next_held h e.item)) i (λ n. walk n (i + 1) (drop (suc i) (items_of entries)))) fault)
     ∙ ap (λ o. Err (refusal_at o f)) (offset-at entries i e lt here)
 
 -- at the end the meaning is what is held

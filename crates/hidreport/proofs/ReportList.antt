@@ -33,9 +33,10 @@ new-by : (b : Bool) (key : Option ℕ) (bits : ℕ) (fields : List FieldRecord) 
 new-by true key bits fields r rs s le rest = absurd (omega arith)
 new-by false key bits fields r rs s le rest =
     let below : length rs ≤ index_in key rs = omega arith in
-    let both = rest below in
-    (ap (λ b. cond b (extended r bits fields ∷ rs) (r ∷ added_to key bits fields rs)) s ∙ ap (λ l. r ∷ l) both.0,
-     ap (λ b. cond b r.size (size_in key rs)) s ∙ both.1)
+    let both = rest below in (
+      ap (λ b. cond b (extended r bits fields ∷ rs) (r ∷ added_to key bits fields rs)) s ∙ ap (λ l. r ∷ l) both.0,
+      ap (λ b. cond b r.size (size_in key rs)) s ∙ both.1,
+    )
 
 -- where it isn't, it is made behind the others
 pub added_to-new : (key : Option ℕ) (bits : ℕ) (fields : List FieldRecord) (rs : List ReportRecord) → length rs ≤ index_in key rs

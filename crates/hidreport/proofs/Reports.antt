@@ -123,7 +123,7 @@ firsts-next-by : (b : Bool) (y x : Option ℕ) (seen xs : List (Option ℕ)) →
     → firsts_after seen (xs ++ y ∷ []) ≡ firsts_after seen xs ++ cond (is_among y seen || is_among y xs) [] (y ∷ [])
     → firsts_after (x ∷ seen) (xs ++ y ∷ []) ≡ firsts_after (x ∷ seen) xs ++ cond (is_among y (x ∷ seen) || is_among y xs) [] (y ∷ [])
     → cond b (firsts_after seen (xs ++ y ∷ [])) (x ∷ firsts_after (x ∷ seen) (xs ++ y ∷ []))
-      ≡ cond b (firsts_after seen xs) (x ∷ firsts_after (x ∷ seen) xs) ++ cond (is_among y seen || is_among y (x ∷ xs)) [] (y ∷ [])
+    ≡ cond b (firsts_after seen xs) (x ∷ firsts_after (x ∷ seen) xs) ++ cond (is_among y seen || is_among y (x ∷ xs)) [] (y ∷ [])
 firsts-next-by true y x seen xs e old new =
     old ∙ ap (λ d. firsts_after seen xs ++ cond d [] (y ∷ [])) (or_known (same_key y x) (is_among y seen) (is_among y xs) (λ s. subst (λ z. is_among z seen ≡ true) (sym (same_key-equal y x s)) e))
 firsts-next-by false y x seen xs e old new =
@@ -144,14 +144,14 @@ sum_by-one bits m = grind (arith, common_steps)
 report-extended : (key : Placed → Option ℕ) (bits : Placed → ℕ) (fields : Placed → List FieldRecord) (ms : List Placed) (m : Placed) (id : Option ℕ)
     → same_key (key m) id ≡ true
     → report_of key bits fields (ms ++ m ∷ []) id
-      ≡ record { id = id; size = (report_of key bits fields ms id).size + bits m; fields = (report_of key bits fields ms id).fields ++ fields m }
+    ≡ record { id = id; size = (report_of key bits fields ms id).size + bits m; fields = (report_of key bits fields ms id).fields ++ fields m }
 report-extended key bits fields ms m id same =
     let all : adding key id (ms ++ m ∷ []) ≡ adding key id ms ++ m ∷ [] =
-        filter-append (λ p. same_key (key p) id) ms (m ∷ []) ∙ ap (λ b. adding key id ms ++ cond b (m ∷ []) []) same in
+    filter-append (λ p. same_key (key p) id) ms (m ∷ []) ∙ ap (λ b. adding key id ms ++ cond b (m ∷ []) []) same in
     let size : id_bits id + sum_by bits (adding key id (ms ++ m ∷ [])) ≡ (id_bits id + sum_by bits (adding key id ms)) + bits m =
-        ap (λ l. id_bits id + sum_by bits l) all ∙ ap (λ n. id_bits id + n) (sum_by-append bits (adding key id ms) (m ∷ [])) ∙ ap (λ n. id_bits id + (sum_by bits (adding key id ms) + n)) (sum_by-one bits m) ∙ (let e : id_bits id + (sum_by bits (adding key id ms) + bits m) ≡ id_bits id + sum_by bits (adding key id ms) + bits m = omega arith in e) in
+    ap (λ l. id_bits id + sum_by bits l) all ∙ ap (λ n. id_bits id + n) (sum_by-append bits (adding key id ms) (m ∷ [])) ∙ ap (λ n. id_bits id + (sum_by bits (adding key id ms) + n)) (sum_by-one bits m) ∙ (let e : id_bits id + (sum_by bits (adding key id ms) + bits m) ≡ id_bits id + sum_by bits (adding key id ms) + bits m = omega arith in e) in
     let parts : flat_map fields (adding key id (ms ++ m ∷ [])) ≡ flat_map fields (adding key id ms) ++ fields m =
-        ap (flat_map fields) all ∙ flat_map-append fields (adding key id ms) (m ∷ []) ∙ ap (λ l. flat_map fields (adding key id ms) ++ l) (append-nil (fields m)) in
+    ap (flat_map fields) all ∙ flat_map-append fields (adding key id ms) (m ∷ []) ∙ ap (λ l. flat_map fields (adding key id ms) ++ l) (append-nil (fields m)) in
     ap (λ n. record { id = id; size = n; fields = flat_map fields (adding key id (ms ++ m ∷ [])) }) size
     ∙ ap (λ l. record { id = id; size = (id_bits id + sum_by bits (adding key id ms)) + bits m; fields = l }) parts
 
@@ -160,7 +160,7 @@ report-other : (key : Placed → Option ℕ) (bits : Placed → ℕ) (fields : P
     → same_key (key m) id ≡ false → report_of key bits fields (ms ++ m ∷ []) id ≡ report_of key bits fields ms id
 report-other key bits fields ms m id other =
     let all : adding key id (ms ++ m ∷ []) ≡ adding key id ms =
-        filter-append (λ p. same_key (key p) id) ms (m ∷ []) ∙ ap (λ b. adding key id ms ++ cond b (m ∷ []) []) other ∙ append-nil (adding key id ms) in
+    filter-append (λ p. same_key (key p) id) ms (m ∷ []) ∙ ap (λ b. adding key id ms ++ cond b (m ∷ []) []) other ∙ append-nil (adding key id ms) in
     ap (λ l. record { id = id; size = id_bits id + sum_by bits l; fields = flat_map fields l }) all
 
 -- no item adds to a report that isn't there
@@ -174,7 +174,7 @@ adding-none key id (m ∷ ms) n =
 absent : (key : Placed → Option ℕ) (bits : Placed → ℕ) (fields : Placed → List FieldRecord) (ms : List Placed) (m : Placed) (ks : List (Option ℕ))
     → is_among (key m) ks ≡ false
     → map (report_of key bits fields (ms ++ m ∷ [])) ks ++ record { id = key m; size = id_bits (key m) + bits m; fields = fields m } ∷ []
-      ≡ added_to (key m) (bits m) (fields m) (map (report_of key bits fields ms) ks)
+    ≡ added_to (key m) (bits m) (fields m) (map (report_of key bits fields ms) ks)
 absent key bits fields ms m [] n = refl
 absent key bits fields ms m (k ∷ ks) n =
     let both = or_cases (same_key (key m) k) (is_among (key m) ks) n in
@@ -183,8 +183,8 @@ absent key bits fields ms m (k ∷ ks) n =
     ap (λ (r : ReportRecord). r ∷ (map (report_of key bits fields (ms ++ m ∷ [])) ks ++ record { id = key m; size = id_bits (key m) + bits m; fields = fields m } ∷ [])) here
     ∙ ap (λ l. report_of key bits fields ms k ∷ l) rest
     ∙ ap (λ b. cond b (record { id = k; size = (report_of key bits fields ms k).size + bits m; fields = (report_of key bits fields ms k).fields ++ fields m } ∷ map (report_of key bits fields ms) ks)
-                      (report_of key bits fields ms k ∷ added_to (key m) (bits m) (fields m) (map (report_of key bits fields ms) ks)))
-         (sym (same_key-sym k (key m) ∙ both.0))
+    (report_of key bits fields ms k ∷ added_to (key m) (bits m) (fields m) (map (report_of key bits fields ms) ks)))
+    (sym (same_key-sym k (key m) ∙ both.0))
 
 -- reports of other keys stay
 others : (key : Placed → Option ℕ) (bits : Placed → ℕ) (fields : Placed → List FieldRecord) (ms : List Placed) (m : Placed) (ks : List (Option ℕ))
@@ -205,14 +205,14 @@ present-by true key bits fields ms m k ks s d n rest =
     ap (λ (r : ReportRecord). r ∷ map (report_of key bits fields (ms ++ m ∷ [])) ks) (report-extended key bits fields ms m k s)
     ∙ ap (λ l. record { id = k; size = (report_of key bits fields ms k).size + bits m; fields = (report_of key bits fields ms k).fields ++ fields m } ∷ l) (others key bits fields ms m ks none)
     ∙ ap (λ b. cond b (record { id = k; size = (report_of key bits fields ms k).size + bits m; fields = (report_of key bits fields ms k).fields ++ fields m } ∷ map (report_of key bits fields ms) ks)
-                      (report_of key bits fields ms k ∷ added_to (key m) (bits m) (fields m) (map (report_of key bits fields ms) ks)))
-         (sym (same_key-sym k (key m) ∙ s))
+    (report_of key bits fields ms k ∷ added_to (key m) (bits m) (fields m) (map (report_of key bits fields ms) ks)))
+    (sym (same_key-sym k (key m) ∙ s))
 present-by false key bits fields ms m k ks s d n rest =
     ap (λ (r : ReportRecord). r ∷ map (report_of key bits fields (ms ++ m ∷ [])) ks) (report-other key bits fields ms m k s)
     ∙ ap (λ l. report_of key bits fields ms k ∷ l) (rest n)
     ∙ ap (λ b. cond b (record { id = k; size = (report_of key bits fields ms k).size + bits m; fields = (report_of key bits fields ms k).fields ++ fields m } ∷ map (report_of key bits fields ms) ks)
-                      (report_of key bits fields ms k ∷ added_to (key m) (bits m) (fields m) (map (report_of key bits fields ms) ks)))
-         (sym (same_key-sym k (key m) ∙ s))
+    (report_of key bits fields ms k ∷ added_to (key m) (bits m) (fields m) (map (report_of key bits fields ms) ks)))
+    (sym (same_key-sym k (key m) ∙ s))
 
 -- where it is among them, just its report is extended
 present : (key : Placed → Option ℕ) (bits : Placed → ℕ) (fields : Placed → List FieldRecord) (ms : List Placed) (m : Placed) (ks : List (Option ℕ))
@@ -233,9 +233,9 @@ reports-next-by false key bits fields ms m e =
     let ks = firsts_after [] (map key ms) in
     let none : adding key (key m) ms ≡ [] = adding-none key (key m) ms e in
     let new : report_of key bits fields (ms ++ m ∷ []) (key m) ≡ record { id = key m; size = id_bits (key m) + bits m; fields = fields m } =
-        report-extended key bits fields ms m (key m) (same_key-refl (key m))
-        ∙ ap (λ l. record { id = key m; size = (id_bits (key m) + sum_by bits l) + bits m; fields = flat_map fields l ++ fields m }) none
-        ∙ ap (λ n. record { id = key m; size = n + bits m; fields = fields m }) (add-zero (id_bits (key m))) in
+    report-extended key bits fields ms m (key m) (same_key-refl (key m))
+    ∙ ap (λ l. record { id = key m; size = (id_bits (key m) + sum_by bits l) + bits m; fields = flat_map fields l ++ fields m }) none
+    ∙ ap (λ n. record { id = key m; size = n + bits m; fields = fields m }) (add-zero (id_bits (key m))) in
     map-append (report_of key bits fields (ms ++ m ∷ [])) ks (key m ∷ [])
     ∙ ap (λ (r : ReportRecord). map (report_of key bits fields (ms ++ m ∷ [])) ks ++ r ∷ []) new
     ∙ absent key bits fields ms m ks (listed (key m) [] (map key ms) refl ∙ e)

@@ -115,7 +115,6 @@ not_behind k x (q ∷ ps) h =
     let here : nat_lt k q.0 ≡ false = grind (arith, common_steps) in
     ap (λ b. (is_main q.1 && b) || is_ended ps (k, x)) here ∙ ap (λ b. b || is_ended ps (k, x)) (and_false (is_main q.1)) ∙ not_behind k x ps h.1
 
-
 or_false : (b : Bool) → (b || false) ≡ b
 or_false true = refl
 or_false false = refl
@@ -140,7 +139,7 @@ unended_locals-plain ps k x below plain =
     let qs = ps ++ (k, x) ∷ [] in
     let same : unended qs ps ≡ unended ps ps = filter-same (λ (p : Placed). not (is_ended qs p)) (λ (p : Placed). not (is_ended ps p)) (λ p. ap not (is_ended-plain ps k x p plain)) ps in
     let last : unended qs ((k, x) ∷ []) ≡ (k, x) ∷ [] =
-        ap (λ b. cond (not b) ((k, x) ∷ []) []) (is_ended-plain ps k x (k, x) plain ∙ not_behind k x ps below) in
+    ap (λ b. cond (not b) ((k, x) ∷ []) []) (is_ended-plain ps k x (k, x) plain ∙ not_behind k x ps below) in
     ap (filter_map (λ (p : Placed). local_of p.1)) (filter-append (λ (p : Placed). not (is_ended qs p)) ps ((k, x) ∷ []) ∙ ap (λ l. l ++ unended qs ((k, x) ∷ [])) same ∙ ap (λ l. unended ps ps ++ l) last)
     ∙ filter_map-append (λ (p : Placed). local_of p.1) (unended ps ps) ((k, x) ∷ [])
     ∙ ap (λ l. unended_locals ps ++ l) (one_local (local_of x))
@@ -155,8 +154,8 @@ ended-all qs [] k x below main = refl
 ended-all qs (p ∷ ps) k x below main =
     let here : nat_lt p.0 k ≡ true = grind (arith, common_steps) in
     let ended : is_ended (qs ++ (k, x) ∷ []) p ≡ true =
-        list_any-append (λ (q : Placed). is_main q.1 && nat_lt p.0 q.0) qs ((k, x) ∷ [])
-        ∙ ap (λ b. is_ended qs p || ((b && nat_lt p.0 k) || false)) main ∙ ap (λ b. is_ended qs p || (b || false)) here ∙ or_true (is_ended qs p) in
+    list_any-append (λ (q : Placed). is_main q.1 && nat_lt p.0 q.0) qs ((k, x) ∷ [])
+    ∙ ap (λ b. is_ended qs p || ((b && nat_lt p.0 k) || false)) main ∙ ap (λ b. is_ended qs p || (b || false)) here ∙ or_true (is_ended qs p) in
     ap (λ b. cond (not b) (p ∷ unended (qs ++ (k, x) ∷ []) ps) (unended (qs ++ (k, x) ∷ []) ps)) ended ∙ ended-all qs ps k x below.1 main
 
 main_is_no_local : (x : ItemType) → is_main x ≡ true → local_of x ≡ None

@@ -89,7 +89,7 @@ makers-next items front rest x d e =
 listed-by : (b : Bool) (items front rest : List ItemType) (h : Held) (x : ItemType) (d : Direction) → NoneOf is_collection items → items ≡ front ++ x ∷ rest → Holds items (length front) h
     → (goes d (data_of x) && is_some (extent (force items (length front)))) ≡ b
     → reports_before d items (suc (length front))
-      ≡ cond b (added_to (key_in d h) (bits_of (extent h.force)) (fields_of h.force [] h.fields (start_in d h) (data_of x) (extent h.force)) (reports_in d h.descriptor)) (reports_in d h.descriptor)
+    ≡ cond b (added_to (key_in d h) (bits_of (extent h.force)) (fields_of h.force [] h.fields (start_in d h) (data_of x) (extent h.force)) (reports_in d h.descriptor)) (reports_in d h.descriptor)
 listed-by true items front rest h x d none e held t =
     let k = length front in
     let key_of = λ (p : Placed). key d items p.0 in
@@ -128,23 +128,30 @@ first-by : (b : Bool) (items front rest : List ItemType) (h : Held) (x : ItemTyp
     → (goes d (data_of x) && is_some (extent (force items (length front)))) ≡ b
     → first_report_id items (makers d items (suc (length front))) ≡ first_id (reports_before d items (suc (length front)))
 first-by b items front rest h x d e held t = first-at b refl where
-    k : ℕ
-    k = length front
-    key_of : Placed → Option ℕ
-    key_of p = key d items p.0
-    bits : Placed → ℕ
-    bits p = bits_of (extent (force items p.0))
-    ms : List Placed
-    ms = makers d items k
-    old : first_report_id items ms ≡ first_id (reports_of key_of bits (fields_at d items) ms)
-    old = held.first d ∙ ap first_id (held.listed d)
-    all : (c : Bool) → b ≡ c → makers d items (suc k) ≡ ms ++ cond c ((k, x) ∷ []) []
-    all c s = makers-next items front rest x d e ∙ ap (λ b. ms ++ cond b ((k, x) ∷ []) []) (t ∙ s)
-    both : List Placed → Type 0
-    both l = first_report_id items l ≡ first_id (reports_of key_of bits (fields_at d items) l)
-    first-at : (c : Bool) → b ≡ c → both (makers d items (suc k))
-    first-at true s = subst both (sym (all true s)) (first-more items ms key_of bits (fields_at d items) (k, x) (λ n. sym (ap (λ l. first_of (force items k).report_id (first_report_id items l)) n ∙ first_of-none (force items k).report_id)) old)
-    first-at false s = subst both (sym (all false s ∙ append-nil ms)) old
+  k : ℕ
+  k = length front
+
+  key_of : Placed → Option ℕ
+  key_of p = key d items p.0
+
+  bits : Placed → ℕ
+  bits p = bits_of (extent (force items p.0))
+
+  ms : List Placed
+  ms = makers d items k
+
+  old : first_report_id items ms ≡ first_id (reports_of key_of bits (fields_at d items) ms)
+  old = held.first d ∙ ap first_id (held.listed d)
+
+  all : (c : Bool) → b ≡ c → makers d items (suc k) ≡ ms ++ cond c ((k, x) ∷ []) []
+  all c s = makers-next items front rest x d e ∙ ap (λ b. ms ++ cond b ((k, x) ∷ []) []) (t ∙ s)
+
+  both : List Placed → Type 0
+  both l = first_report_id items l ≡ first_id (reports_of key_of bits (fields_at d items) l)
+
+  first-at : (c : Bool) → b ≡ c → both (makers d items (suc k))
+  first-at true s = subst both (sym (all true s)) (first-more items ms key_of bits (fields_at d items) (k, x) (λ n. sym (ap (λ l. first_of (force items k).report_id (first_report_id items l)) n ∙ first_of-none (force items k).report_id)) old)
+  first-at false s = subst both (sym (all false s ∙ append-nil ms)) old
 
 -- the number of fields, with one more item
 sum-next : (b : Bool) (f : Placed → ℕ) (ms : List Placed) (m : Placed) → sum_by f (ms ++ cond b (m ∷ []) []) ≡ sum_by f ms + cond b (f m) 0
@@ -224,7 +231,7 @@ walk-from items front (x ∷ xs) h no_push no_collection e held =
     let next : Holds items (length (front ++ x ∷ [])) (next_held h x) = subst (λ n. Holds items n (next_held h x)) (sym size) (holds-next items front xs h x no_push no_collection e held) in
     let all : DescriptorRecord = record { input = reports Input items; output = reports Output items; feature = reports Feature items } in
     let rest : walk (next_held h x) (k + 1) xs ≡ meaning_by (first_fault items (enumerate_from (k + 1) xs)) all =
-        subst (λ n. walk (next_held h x) n xs ≡ meaning_by (first_fault items (enumerate_from n xs)) all) size_one (walk-from items (front ++ x ∷ []) xs (next_held h x) no_push no_collection more next) in
+    subst (λ n. walk (next_held h x) n xs ≡ meaning_by (first_fault items (enumerate_from n xs)) all) size_one (walk-from items (front ++ x ∷ []) xs (next_held h x) no_push no_collection more next) in
     walked-by (fault_of (counts_in h x) h.force x) items k h x xs all (fault-held items k h x no_push no_collection held) refl rest
 
 holds-nothing : (items : List ItemType) → Holds items 0 nothing_held

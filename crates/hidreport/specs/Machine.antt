@@ -133,8 +133,17 @@ step h x = unless_fault (fault_of (counts_in h x) h.force x) (next_held h x)
 abbrev pub nothing_held : Held
 nothing_held = record {
   force = record {
-    usage_page = None; logical_minimum = None; logical_maximum = None; physical_minimum = None; physical_maximum = None;
-    unit_exponent = None; unit = None; report_size = None; report_id = None; report_count = None; locals = [];
+    usage_page = None;
+    logical_minimum = None;
+    logical_maximum = None;
+    physical_minimum = None;
+    physical_maximum = None;
+    unit_exponent = None;
+    unit = None;
+    report_size = None;
+    report_id = None;
+    report_count = None;
+    locals = [];
   };
   descriptor = record { input = []; output = []; feature = [] };
   fields = 0;

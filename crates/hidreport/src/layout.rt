@@ -8,18 +8,16 @@ ghost use Rattle.hidreport.specs.Usages.{single_usages};
 ghost use Rattle.hidreport.specs.Fields.{physical_bound};
 ghost use Rattle.hidreport.specs.Views.{field_record};
 
-use std::alloc::{AllocError, Global};
-use std::ops::Range;
-use std::sync::ArcSlice;
-
-use hidreport_items::{InputItem, LocalItem, MainDataItem};
-use hidreport_types::{LogicalMaximum, LogicalMinimum, PhysicalMaximum, PhysicalMinimum, ReportId};
-
 use crate::collection::Collection;
 use crate::field::{Field, FieldId, VariableField};
 use crate::report::RDescReport;
 use crate::state::{Fault, Globals, State};
 use crate::usage::Usage;
+use hidreport_items::{InputItem, LocalItem, MainDataItem};
+use hidreport_types::{LogicalMaximum, LogicalMinimum, PhysicalMaximum, PhysicalMinimum, ReportId};
+use std::alloc::{AllocError, Global};
+use std::ops::Range;
+use std::sync::ArcSlice;
 
 /// How many fields can be numbered.
 const FIELD_NUMBERS: u64 = 1 << 32;

@@ -18,11 +18,11 @@ returns-in-Err c =
     let same = c.item_type.ensures ∙ ap (λ (s : Spelled). s.item) c.item.ensures in
     let h = held_of c.loop-entry.state in
     let fault : IsFaultOf c.in-Err.fault (fault_of (counts_in h c.entry-item.result.item) h.force c.entry-item.result.item) =
-        subst (λ (x : ItemType). IsFaultOf c.in-Err.fault (fault_of (counts_in h x) h.force x)) same c.in-Err.ensures.err in
+    subst (λ (x : ItemType). IsFaultOf c.in-Err.fault (fault_of (counts_in h x) h.force x)) same c.in-Err.ensures.err in
     record {
       exact = refuses-fault c.in-Err.fault c.offset.result c.at.result (fault_of (counts_in h c.entry-item.result.item) h.force c.entry-item.result.item) _ fault c.at.ensures.named c.at.ensures.memory
           (λ f e. meaning-fault c.args.items.now c.loop-entry.entry-index c.entry-item.result h f c.requires c.loop-entry-test.true c.entry-item.is c.loop-entry.invariant.walked e
-              ∙ ap (λ o. Err (refusal_at o f)) (sym c.offset.ensures));
+          ∙ ap (λ o. Err (refusal_at o f)) (sym c.offset.ensures));
     }
 
 pub loop-entry-preserved : goal.loop-entry-preserved

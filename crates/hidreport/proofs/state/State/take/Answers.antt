@@ -14,7 +14,7 @@ returns-in-Global-clause-ok c =
     ap (step h) c.in-Global.is
     ∙ step-global h c.in-Global.item (ap is_carried (sym c.in-Global.is) ∙ c.requires.carried)
     ∙ ap (λ (f : Force). held_result (record { force = f; descriptor = h.descriptor; fields = h.fields }))
-        (ap (λ (l : List LocalItem). record (next_force h.force x) { locals = l }) (append-nil h.force.locals) ∙ sym (c.set.ensures h.force.locals))
+    (ap (λ (l : List LocalItem). record (next_force h.force x) { locals = l }) (append-nil h.force.locals) ∙ sym (c.set.ensures h.force.locals))
 
 pub returns-in_ok-push-in-Local-clause-single : goal.returns-in_ok-push-in-Local-clause-single
 returns-in_ok-push-in-Local-clause-single c =
