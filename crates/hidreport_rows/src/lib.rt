@@ -2,4 +2,7 @@
 #![tactic(auto)]
 
 pub mod definitions;
+pub mod example;
 pub mod laws;
+#[cfg(test)]
+mod tests;
