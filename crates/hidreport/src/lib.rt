@@ -17,8 +17,8 @@ pub mod types {
     pub use hidreport_types::{
         Delimiter, DesignatorIndex, DesignatorMaximum, DesignatorMinimum, LogicalMaximum,
         LogicalMinimum, PhysicalMaximum, PhysicalMinimum, ReportCount, ReportId, ReportSize,
-        StringIndex, StringMaximum, StringMinimum, Unit, UnitExponent, UsageId, UsageMaximum,
-        UsageMinimum, UsagePage,
+        StringIndex, StringMaximum, StringMinimum, Unit, UnitExponent, UnitSystem, Units, UsageId,
+        UsageMaximum, UsageMinimum, UsagePage,
     };
 }
 
@@ -40,8 +40,8 @@ pub use report::{RDescReport, Report};
 pub use types::{
     Delimiter, DesignatorIndex, DesignatorMaximum, DesignatorMinimum, LogicalMaximum,
     LogicalMinimum, PhysicalMaximum, PhysicalMinimum, ReportCount, ReportId, ReportSize,
-    StringIndex, StringMaximum, StringMinimum, Unit, UnitExponent, UsageId, UsageMaximum,
-    UsageMinimum, UsagePage,
+    StringIndex, StringMaximum, StringMinimum, Unit, UnitExponent, UnitSystem, Units, UsageId,
+    UsageMaximum, UsageMinimum, UsagePage,
 };
 pub use usage::Usage;
 pub use value::FieldValue;

@@ -1,5 +1,5 @@
-ghost use Rattle.std.specs.Prelude.{◌≡◌, true, Ok, ◌+◌, ◌*◌, ◌<◌, ◌≤◌, ◌/◌, ◌^◌, length};
-ghost use Rattle.std.specs.Int.{w32, cast_signed};
+ghost use Rattle.std.specs.Prelude.{◌≡◌, true, Ok, ◌+◌, ◌*◌, ◌<◌, ◌≤◌, ◌/◌, ◌%◌, ◌^◌, length};
+ghost use Rattle.std.specs.Int.{w8, w16, w32, cast_signed};
 ghost use Rattle.hidreport_lists.specs.Answer.{Answers};
 ghost use Rattle.hidreport.specs.BitValue.{bit, sum_of_bits, value, as_word};
 ghost use Rattle.hidreport.specs.Reading.{read_bits, with_id};
@@ -53,6 +53,40 @@ impl From<FieldValue> for u32 {
     }
 }
 
+/// The low 16 bits.
+impl From<&FieldValue> for u16 {
+    ghost from_gives = { λ value number. number ≡ value.now.word % 65536 };
+
+    fn from(field_value: &FieldValue) -> u16 {
+        (u32::from(field_value) & 0xffff) as u16
+    }
+}
+
+impl From<FieldValue> for u16 {
+    ghost from_gives = { λ value number. number ≡ value.word % 65536 };
+
+    fn from(value: FieldValue) -> u16 {
+        u16::from(&value)
+    }
+}
+
+/// The low 8 bits.
+impl From<&FieldValue> for u8 {
+    ghost from_gives = { λ value number. number ≡ value.now.word % 256 };
+
+    fn from(field_value: &FieldValue) -> u8 {
+        (u32::from(field_value) & 0xff) as u8
+    }
+}
+
+impl From<FieldValue> for u8 {
+    ghost from_gives = { λ value number. number ≡ value.word % 256 };
+
+    fn from(value: FieldValue) -> u8 {
+        u8::from(&value)
+    }
+}
+
 impl From<&FieldValue> for i32 {
     ghost from_gives = { λ value number. number ≡ cast_signed w32 value.now.word };
 
@@ -66,6 +100,40 @@ impl From<FieldValue> for i32 {
 
     fn from(value: FieldValue) -> i32 {
         i32::from(&value)
+    }
+}
+
+/// The low 16 bits, signed.
+impl From<&FieldValue> for i16 {
+    ghost from_gives = { λ value number. number ≡ cast_signed w16 (value.now.word % 65536) };
+
+    fn from(field_value: &FieldValue) -> i16 {
+        u16::from(field_value).cast_signed()
+    }
+}
+
+impl From<FieldValue> for i16 {
+    ghost from_gives = { λ value number. number ≡ cast_signed w16 (value.word % 65536) };
+
+    fn from(value: FieldValue) -> i16 {
+        i16::from(&value)
+    }
+}
+
+/// The low 8 bits, signed.
+impl From<&FieldValue> for i8 {
+    ghost from_gives = { λ value number. number ≡ cast_signed w8 (value.now.word % 256) };
+
+    fn from(field_value: &FieldValue) -> i8 {
+        u8::from(field_value).cast_signed()
+    }
+}
+
+impl From<FieldValue> for i8 {
+    ghost from_gives = { λ value number. number ≡ cast_signed w8 (value.word % 256) };
+
+    fn from(value: FieldValue) -> i8 {
+        i8::from(&value)
     }
 }
 

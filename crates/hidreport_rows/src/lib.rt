@@ -6,3 +6,5 @@ pub mod example;
 pub mod laws;
 #[cfg(test)]
 mod tests;
+#[cfg(test)]
+mod units;

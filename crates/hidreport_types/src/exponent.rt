@@ -1,6 +1,7 @@
 //! Powers of ten for units.
 ghost use Rattle.std.specs.Prelude.{◌≡◌, ℤ, Some};
 ghost use Rattle.std.specs.Fmt.{signed_decimal};
+ghost use Rattle.hidreport_types.specs.UnitTable.{exponent_of};
 
 use std::fmt;
 use std::marker::Model;
@@ -15,6 +16,23 @@ impl Model for UnitExponent {
     ghost view = { λ w. w.0 };
 
     ghost inverse = { λ n. record { 0 = n } };
+}
+
+impl UnitExponent {
+    /// The power of ten, from -128 to 127 (Section 6.2.2.7).
+    ///
+    /// The standard writes a nibble, so 8 to 15 stand for -8 to -1: a device with a newton's
+    /// g·cm/s² (unit `0xE111`) sends 5, and one with milliseconds (unit `0x1001`) `0xD`, which is
+    /// -3. Of any other number, which real devices send too, it is the low 8 bits, signed.
+    pub fn exponent(&self) -> i8
+        ensures { result ≡ exponent_of self.now }
+    {
+        match self.0 {
+            nibble @ 0..=7 => nibble as i8,
+            nibble @ 8..=15 => (nibble - 16) as i8,
+            number => ((number.cast_unsigned() & 0xff) as u8).cast_signed(),
+        }
+    }
 }
 
 impl From<i32> for UnitExponent {

@@ -5,6 +5,8 @@ mod exponent;
 mod global;
 mod local;
 mod unit;
+mod unit_system;
+mod units;
 
 pub use exponent::UnitExponent;
 pub use global::{
@@ -16,3 +18,5 @@ pub use local::{
     StringMinimum, UsageId, UsageMaximum, UsageMinimum,
 };
 pub use unit::Unit;
+pub use unit_system::UnitSystem;
+pub use units::Units;

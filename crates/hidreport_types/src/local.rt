@@ -1,6 +1,7 @@
 //! The numbers of local items: they end with the next main item.
-ghost use Rattle.std.specs.Prelude.{◌≡◌, ℕ, Some, decimal};
+ghost use Rattle.std.specs.Prelude.{◌≡◌, ℕ, ◌/◌, ◌%◌, Some, decimal};
 
+use crate::global::UsagePage;
 use std::fmt;
 use std::marker::Model;
 
@@ -62,6 +63,24 @@ impl Model for UsageMinimum {
     ghost inverse = { λ n. record { 0 = n } };
 }
 
+impl UsageMinimum {
+    /// The first usage within its page: the low 16 bits (Section 6.2.2.8).
+    pub fn usage_id(&self) -> UsageId
+        ensures { result ≡ self.now % 65536 }
+    {
+        let minimum = self.0;
+        UsageId((minimum & 0xffff) as u16)
+    }
+
+    /// The page that was written with it, or 0: the high 16 bits (Section 6.2.2.8).
+    pub fn usage_page(&self) -> UsagePage
+        ensures { result ≡ self.now / 65536 }
+    {
+        let minimum = self.0;
+        UsagePage::from((minimum >> 16) as u16)
+    }
+}
+
 impl From<u32> for UsageMinimum {
     ghost from_gives = { λ number wrapper. wrapper ≡ number };
 
@@ -106,6 +125,24 @@ impl Model for UsageMaximum {
     ghost view = { λ w. w.0 };
 
     ghost inverse = { λ n. record { 0 = n } };
+}
+
+impl UsageMaximum {
+    /// The last usage within its page: the low 16 bits (Section 6.2.2.8).
+    pub fn usage_id(&self) -> UsageId
+        ensures { result ≡ self.now % 65536 }
+    {
+        let maximum = self.0;
+        UsageId((maximum & 0xffff) as u16)
+    }
+
+    /// The page that was written with it, or 0: the high 16 bits (Section 6.2.2.8).
+    pub fn usage_page(&self) -> UsagePage
+        ensures { result ≡ self.now / 65536 }
+    {
+        let maximum = self.0;
+        UsagePage::from((maximum >> 16) as u16)
+    }
 }
 
 impl From<u32> for UsageMaximum {

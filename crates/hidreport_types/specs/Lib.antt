@@ -1,0 +1,2 @@
+pub mod UnitTable
+pub mod UnitText
