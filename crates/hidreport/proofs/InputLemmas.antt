@@ -1,19 +1,21 @@
 -- A variable Input: its fault, and what it makes.
-use Rattle.std.proofs.Common.{◌≡◌, ℕ, ◌+◌, ◌*◌, ◌<◌, true, false, cond, ◌||◌, nat_lt, List, [], ◌∷◌, ◌++◌, is_none, length, Option, None, Some, Result, Ok, Err, refl, sym, ap, ◌∙◌, add-zero, arith}
+use Rattle.std.proofs.Common.{◌≡◌, ℕ, ◌+◌, ◌*◌, ◌<◌, true, false, cond, ◌||◌, nat_lt, List, [], ◌∷◌, ◌++◌, length, Option, None, Some, Result, Ok, Err, refl, sym, ap, ◌∙◌, add-zero, arith}
 use Rattle.hidreport_items.specs.Flags.{Flags}
 use Rattle.hidreport_items.specs.declared.global.GlobalItem.{GlobalItem}
 use Rattle.hidreport_items.specs.declared.global.GlobalItem.TheVariants as global
 use Rattle.hidreport_items.specs.declared.local.LocalItem.{LocalItem}
+use Rattle.hidreport_items.specs.declared.local.LocalItem.TheVariants as local
 use Rattle.hidreport_items.specs.declared.item.ItemType.{ItemType}
 use Rattle.hidreport_items.specs.declared.item.ItemType.TheVariants as item
 use Rattle.hidreport.specs.Faults.{MeaningFault, Says, PastBounds, data_fault, limit_fault, needed_usages_fault, missing_usages, greatest_place, numbers}
 use Rattle.hidreport.specs.Fields.{each_from, make_place, usage_at, attributes, field_count}
+use Rattle.hidreport.specs.FirstPath.{is_carried}
 use Rattle.hidreport.specs.InForce.{Force, first_of}
 use Rattle.hidreport.specs.Kinds.{Input}
-use Rattle.hidreport.specs.Machine.{Held, step, next_force, counts_in, next_held, key_in, start_in, size_in, added_to}
+use Rattle.hidreport.specs.Machine.{Held, whole_step, next_force, counts_in, next_held, key_in, start_in, size_in, added_to}
 use Rattle.hidreport.specs.Making.{extent}
 use Rattle.hidreport.specs.Records.{FieldRecord, VariableRecord, ReportRecord, DescriptorRecord}
-use Rattle.hidreport.specs.State.{input, input_fault, is_carried, HasNoRange}
+use Rattle.hidreport.specs.State.{input, input_fault, HasNoRange}
 use Rattle.hidreport.specs.Usages.{usages_of, usages_by, single_usages, as_single, last_local, minimum_of}
 use Rattle.hidreport.specs.declared.usage.Usage.{Usage}
 
@@ -104,14 +106,14 @@ quiet : (h : Held) (x : ItemType) → held_result (record { force = next_force h
 quiet h x = ap (λ n. held_result (record { force = next_force h.force x; descriptor = h.descriptor; fields = n })) (add-zero h.fields)
 
 -- a global item is set
-pub step-global : (h : Held) (g : GlobalItem) → is_carried (item.Global g) ≡ true → step h (item.Global g) ≡ Ok (quietly h (item.Global g))
+pub step-global : (h : Held) (g : GlobalItem) → is_carried (item.Global g) ≡ true → whole_step h (item.Global g) ≡ Ok (quietly h (item.Global g))
 step-global h global.Push n = cc
 step-global h global.Pop n = cc
 step-global h g n = quiet h (item.Global g)
 
-none-is : (o : Option ℕ) → is_none o ≡ true → o ≡ None
-none-is None h = refl
-none-is (Some n) h = cc
+carried-local : (x : LocalItem) → is_carried (item.Local x) ≡ true → minimum_of x ≡ None
+carried-local (local.UsageMinimum n) h = cc
+carried-local x h = refl
 
 both-none : (a b : Option ℕ) → first_of a b ≡ None → (a ≡ None) × (b ≡ None)
 both-none None b h = (refl, h)
@@ -128,4 +130,4 @@ last_local-next (y ∷ xs) x none new =
 
 -- a local item that is no minimum is added
 pub no_range-next : (xs : List LocalItem) (x : LocalItem) → HasNoRange xs → is_carried (item.Local x) ≡ true → HasNoRange (xs ++ x ∷ [])
-no_range-next xs x none carried = last_local-next xs x none (none-is (minimum_of x) carried)
+no_range-next xs x none carried = last_local-next xs x none (carried-local x carried)

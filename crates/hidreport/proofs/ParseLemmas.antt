@@ -1,7 +1,7 @@
 -- From the walk over the entries to the answer.
-use Rattle.std.proofs.Common.{◌≡◌, ◌≢◌, ℕ, true, zero, suc, ◌+◌, ◌<◌, ◌≤◌, List, [], ◌∷◌, length, get_or, drop, map, Option, None, Some, IfSome, Result, Ok, Err, refl, sym, ap, ◌∙◌, subst, arith, add-one}
+use Rattle.std.proofs.Common.{◌≡◌, ◌≢◌, ℕ, true, false, zero, suc, ◌+◌, ◌<◌, ◌≤◌, List, [], ◌∷◌, length, get_or, drop, map, Option, None, Some, IfSome, Result, Ok, Err, refl, sym, ap, ◌∙◌, subst, arith, add-one}
 use Rattle.hidreport_items.specs.Answer.{Fault as ReadFault}
-use Rattle.hidreport_items.specs.FirstPath.{first_path_item}
+use Rattle.hidreport_items.specs.Spelling.{item_of}
 use Rattle.hidreport_items.specs.declared.item.ItemType.{ItemType}
 use Rattle.hidreport_lists.specs.Answer.{Refusal, InvalidAt, Bounds, Refuses}
 use Rattle.hidreport_lists.specs.Entry.{Entry}
@@ -10,14 +10,15 @@ use Rattle.hidreport_lists.specs.Messages.{grammar_message}
 use Rattle.hidreport_lists.specs.declared.error.ParserError.{ParserError}
 use Rattle.hidreport_lists.specs.declared.error.ParserError.TheVariants as errors
 use Rattle.hidreport.specs.Faults.{MeaningFault, Says, PastBounds, fault_of, missing_usages}
-use Rattle.hidreport.specs.Machine.{Held, counts_in, next_held, unless_fault, step, go_on, nothing_held, walk}
+use Rattle.hidreport.specs.FirstPath.{is_carried, stage_fault, uncarried_fault, not_in_the_first_path}
+use Rattle.hidreport.specs.InForce.{first_of}
+use Rattle.hidreport.specs.Machine.{Held, fault_in, counts_in, whole_step, next_held, unless_fault, step, go_on, nothing_held, walk}
 use Rattle.hidreport.specs.Meaning.{meaning, parse, parse_items, placed, offset_at, refusal_at}
 use Rattle.hidreport.specs.Records.{DescriptorRecord}
-use Rattle.hidreport.specs.State.{is_carried, AllCarried, IsFaultOf, IsRefusal, refusal_of}
+use Rattle.hidreport.specs.State.{IsFaultOf, IsRefusal, refusal_of}
 use Rattle.hidreport.specs.Usages.{missing_page}
 use Rattle.hidreport.specs.declared.state.Fault.{Fault}
 use Rattle.hidreport.specs.declared.state.Fault.TheVariants as faults
-use Rattle.hidreport.proofs.Carried.{none-push, none-collection}
 use Rattle.hidreport.proofs.WalkLemmas.{walk-meaning}
 
 -- the items of the entries
@@ -28,11 +29,6 @@ pub drop-item : (entries : List Entry) (i : ℕ) (e : Entry) → i < length entr
 drop-item [] i e lt here = absurd (omega arith)
 drop-item (x ∷ xs) zero e lt here = ap (λ (y : Entry). y.item ∷ items_of xs) (sym here)
 drop-item (x ∷ xs) (suc i) e lt here = let less : i < length xs = omega arith in drop-item xs i e less here
-
-pub carried-at : (entries : List Entry) (i : ℕ) (e : Entry) → AllCarried entries → i < length entries → e ≡ get_or entries i e → is_carried e.item ≡ true
-carried-at [] i e all lt here = absurd (omega arith)
-carried-at (x ∷ xs) zero e all lt here = ap (λ (y : Entry). is_carried y.item) here ∙ all.0
-carried-at (x ∷ xs) (suc i) e all lt here = let less : i < length xs = omega arith in carried-at xs i e all.1 less here
 
 pub offset-at : (entries : List Entry) (i : ℕ) (e : Entry) → i < length entries → e ≡ get_or entries i e → offset_at entries i ≡ e.offset
 offset-at [] i e lt here = absurd (omega arith)
@@ -46,9 +42,9 @@ drop-end (x ∷ xs) zero le = absurd (omega arith)
 drop-end (x ∷ xs) (suc i) le = let less : length xs ≤ i = omega arith in drop-end xs i less
 
 -- the meaning is what the walk over the rest gives
-meaning-walked : (entries : List Entry) (i : ℕ) (h : Held) → AllCarried entries
-    → walk h i (drop i (items_of entries)) ≡ walk nothing_held 0 (items_of entries) → meaning (items_of entries) ≡ walk h i (drop i (items_of entries))
-meaning-walked entries i h all walked = sym (walk-meaning (items_of entries) (none-push entries all) (none-collection entries all)) ∙ sym walked
+meaning-walked : (entries : List Entry) (i : ℕ) (h : Held)
+    → walk h i (drop i (items_of entries)) ≡ walk nothing_held 0 (items_of entries) → meaning stage_fault (items_of entries) ≡ walk h i (drop i (items_of entries))
+meaning-walked entries i h walked = sym (walk-meaning (items_of entries)) ∙ sym walked
 
 -- one item further
 pub walked-on : (entries : List Entry) (i : ℕ) (e : Entry) (h next : Held) → i < length entries → e ≡ get_or entries i e → step h e.item ≡ Ok next
@@ -58,18 +54,18 @@ walked-on entries i e h next lt here stepped =
     ∙ ap (λ k. walk next (i + 1) (drop k (items_of entries))) (sym (add-one i))
 
 -- a fault of an item is the meaning
-pub meaning-fault : (entries : List Entry) (i : ℕ) (e : Entry) (h : Held) (f : MeaningFault) → AllCarried entries → i < length entries → e ≡ get_or entries i e
+pub meaning-fault : (entries : List Entry) (i : ℕ) (e : Entry) (h : Held) (f : MeaningFault) → i < length entries → e ≡ get_or entries i e
     → walk h i (drop i (items_of entries)) ≡ walk nothing_held 0 (items_of entries)
-    → fault_of (counts_in h e.item) h.force e.item ≡ Some f → placed entries (meaning (items_of entries)) ≡ Err (refusal_at e.offset f)
-meaning-fault entries i e h f all lt here walked fault =
-    ap (placed entries) (meaning-walked entries i h all walked ∙ ap (walk h i) (drop-item entries i e lt here)
+    → fault_in h e.item ≡ Some f → placed entries (meaning stage_fault (items_of entries)) ≡ Err (refusal_at e.offset f)
+meaning-fault entries i e h f lt here walked fault =
+    ap (placed entries) (meaning-walked entries i h walked ∙ ap (walk h i) (drop-item entries i e lt here)
     ∙ ap (λ o. go_on (unless_fault o (next_held h e.item)) i (λ n. walk n (i + 1) (drop (suc i) (items_of entries)))) fault)
     ∙ ap (λ o. Err (refusal_at o f)) (offset-at entries i e lt here)
 
 -- at the end the meaning is what is held
-pub meaning-end : (entries : List Entry) (i : ℕ) (h : Held) → AllCarried entries → length entries ≤ i
-    → walk h i (drop i (items_of entries)) ≡ walk nothing_held 0 (items_of entries) → placed entries (meaning (items_of entries)) ≡ Ok h.descriptor
-meaning-end entries i h all end walked = ap (placed entries) (meaning-walked entries i h all walked ∙ ap (walk h i) (drop-end entries i end))
+pub meaning-end : (entries : List Entry) (i : ℕ) (h : Held) → length entries ≤ i
+    → walk h i (drop i (items_of entries)) ≡ walk nothing_held 0 (items_of entries) → placed entries (meaning stage_fault (items_of entries)) ≡ Ok h.descriptor
+meaning-end entries i h end walked = ap (placed entries) (meaning-walked entries i h walked ∙ ap (walk h i) (drop-end entries i end))
 
 -- an error that says a refusal is every answer that is this refusal
 pub refuses-as : {A : Type 0} (e : ParserError) (r : Refusal) (answer : Result A Refusal) → IsRefusal e r → answer ≡ Err r → Refuses e answer
@@ -83,12 +79,13 @@ pub refuses-fault : {A : Type 0} (fault : Fault) (offset : ℕ) (e : ParserError
     → IsFaultOf fault o → IfSome (refusal_of fault offset) (IsRefusal e) → (refusal_of fault offset ≡ None → e ≡ errors.OutOfMemory)
     → ((f : MeaningFault) → o ≡ Some f → answer ≡ Err (refusal_at offset f)) → Refuses e answer
 refuses-fault faults.EmptyDescriptor offset e o answer is named memory given = absurd is
+refuses-fault faults.NotInFirstPath offset e o answer is named memory given = refuses-as e (InvalidAt offset not_in_the_first_path) answer named (given (Says not_in_the_first_path) is)
 refuses-fault faults.MissingUsagePage offset e o answer is named memory given = refuses-as e (InvalidAt offset missing_page) answer named (given (Says missing_page) is)
 refuses-fault faults.MissingUsages offset e o answer is named memory given = refuses-as e (InvalidAt offset missing_usages) answer named (given (Says missing_usages) is)
 refuses-fault faults.OutOfBounds offset e o answer is named memory given = refuses-as e Bounds answer named (given PastBounds is)
 refuses-fault {A} faults.OutOfMemory offset e o answer is named memory given = subst (λ (x : ParserError). Refuses {A = A} x answer) (sym (memory refl)) tt
 
-parse-some : (bytes : List ℕ) → bytes ≢ [] → parse bytes ≡ parse_items (itemise first_path_item bytes)
+parse-some : (bytes : List ℕ) → bytes ≢ [] → parse bytes ≡ parse_items stage_fault (itemise item_of bytes)
 parse-some [] some = absurd (some refl)
 parse-some (b ∷ bs) some = refl
 
@@ -104,19 +101,30 @@ err_refuses errors.OutOfBounds r h = let same : r ≡ Bounds = cc in ap Err same
 err_refuses errors.MismatchingReportId r h = let same : r ≡ _ = cc in ap Err same
 err_refuses errors.OutOfMemory r h = tt
 
-grammar-refuses : (e : ParserError) (r : Result (List Entry) (ℕ × ReadFault)) → Refuses e (as_refusal r) → Refuses e (parse_items r)
-grammar-refuses e (Ok entries) h = ok_refuses e entries (parse_items (Ok entries)) h
+grammar-refuses : (e : ParserError) (r : Result (List Entry) (ℕ × ReadFault)) → Refuses e (as_refusal r) → Refuses e (parse_items stage_fault r)
+grammar-refuses e (Ok entries) h = ok_refuses e entries (parse_items stage_fault (Ok entries)) h
 grammar-refuses e (Err fault) h = err_refuses e (InvalidAt fault.0 (grammar_message fault.1)) h
 
 -- a grammar fault is the answer
-pub parse-grammar : (bytes : List ℕ) (e : ParserError) → bytes ≢ [] → Refuses e (as_refusal (itemise first_path_item bytes)) → Refuses e (parse bytes)
-parse-grammar bytes e some h = subst (λ (r : Result DescriptorRecord Refusal). Refuses e r) (sym (parse-some bytes some)) (grammar-refuses e (itemise first_path_item bytes) h)
+pub parse-grammar : (bytes : List ℕ) (e : ParserError) → bytes ≢ [] → Refuses e (as_refusal (itemise item_of bytes)) → Refuses e (parse bytes)
+parse-grammar bytes e some h = subst (λ (r : Result DescriptorRecord Refusal). Refuses e r) (sym (parse-some bytes some)) (grammar-refuses e (itemise item_of bytes) h)
 
 items_ok : (r : Result (List Entry) (ℕ × ReadFault)) (entries : List Entry) → as_refusal r ≡ Ok entries → r ≡ Ok entries
 items_ok (Ok xs) entries h = let same : xs ≡ entries = cc in ap Ok same
 items_ok (Err fault) entries h = cc
 
 -- else the meaning of the items is
-pub parse-meaning : (bytes : List ℕ) (entries : List Entry) → bytes ≢ [] → as_refusal (itemise first_path_item bytes) ≡ Ok entries
-    → parse bytes ≡ placed entries (meaning (items_of entries))
-parse-meaning bytes entries some h = parse-some bytes some ∙ ap parse_items (items_ok (itemise first_path_item bytes) entries h)
+pub parse-meaning : (bytes : List ℕ) (entries : List Entry) → bytes ≢ [] → as_refusal (itemise item_of bytes) ≡ Ok entries
+    → parse bytes ≡ placed entries (meaning stage_fault (items_of entries))
+parse-meaning bytes entries some h = parse-some bytes some ∙ ap (parse_items stage_fault) (items_ok (itemise item_of bytes) entries h)
+
+-- an item that is carried has the fault that it has by itself
+pub carried-fault : (h : Held) (x : ItemType) → is_carried x ≡ true → fault_in h x ≡ fault_of (counts_in h x) h.force x
+carried-fault h x e = ap (λ b. first_of (uncarried_fault b) (fault_of (counts_in h x) h.force x)) e
+
+pub carried-step : (h : Held) (x : ItemType) → is_carried x ≡ true → step h x ≡ whole_step h x
+carried-step h x e = ap (λ f. unless_fault f (next_held h x)) (carried-fault h x e)
+
+-- an item that isn't carried has just that fault
+pub uncarried-fault : (h : Held) (x : ItemType) → is_carried x ≡ false → fault_in h x ≡ Some (Says not_in_the_first_path)
+uncarried-fault h x e = ap (λ b. first_of (uncarried_fault b) (fault_of (counts_in h x) h.force x)) e

@@ -2,6 +2,7 @@
 use Rattle.std.proofs.Common.{◌≡◌, ℕ, zero, suc, ◌+◌, ◌-◌, ◌<◌, ◌≤◌, Bool, true, false, cond, not, ◌&&◌, ◌||◌, nat_lt, nat_le, List, [], ◌∷◌, ◌++◌, length, take, Option, None, Some, option_to_list, filter, filter_map, count_by, refl, sym, ap, ◌∙◌, subst, append_assoc, arith, add-zero, zero-add, length-take}
 use Rattle.std.specs.List.{enumerate_from, list_any}
 use Rattle.std.proofs.Math.Seq.{take-append_seam}
+use Rattle.std.proofs.lemmas.Bool.{ltb-true}
 use Rattle.std.proofs.lemmas.Grind.{common_steps}
 use Rattle.std.proofs.lemmas.List.Elements.{filter-append, filter_map-append}
 use Rattle.std.proofs.lemmas.List.Folds.{list_any-append}
@@ -40,22 +41,29 @@ before-next items front rest x e =
     ∙ enumerate_from-append 0 front (x ∷ []) ∙ ap (λ m. enumerate_from 0 front ++ (m, x) ∷ []) (zero-add (length front))
     ∙ ap (λ l. l ++ (length front, x) ∷ []) (sym (before-front items front (x ∷ rest) e))
 
--- without Pushes every level is 0
-pub level-none : (items : List ItemType) (k : ℕ) → NoneOf is_push items → level items k ≡ 0
-level-none items k h = rw (count_by-none is_push (take k items) (none-take is_push k items h)) (omega arith)
+-- without Pushes before k the level at k is 0
+pub level-none : (items : List ItemType) (k : ℕ) → NoneOf is_push (take k items) → level items k ≡ 0
+level-none items k h = rw (count_by-none is_push (take k items) h) (omega arith)
+
+-- and so is every level before it
+none-earlier : {A : Type 0} (p : A → Bool) (j k : ℕ) (xs : List A) → j ≤ k → NoneOf p (take k xs) → NoneOf p (take j xs)
+none-earlier p zero k xs le h = tt
+none-earlier p (suc j) zero xs le h = absurd (omega arith)
+none-earlier p (suc j) (suc k) [] le h = tt
+none-earlier p (suc j) (suc k) (x ∷ xs) le h = (h.0, none-earlier p j k xs (omega arith) h.1)
 
 stays_up-zero : (items : List ItemType) (j n : ℕ) → stays_up items 0 j n ≡ true
 stays_up-zero items j zero = refl
 stays_up-zero items j (suc n) = let low : nat_le 0 (level items (j + suc n)) ≡ true = grind (arith, common_steps) in ap (λ b. b && stays_up items 0 j n) low ∙ stays_up-zero items j n
 
-and_true : (b : Bool) → (b && true) ≡ b
-and_true true = refl
-and_true false = refl
+is_visible-by : (b : Bool) (items : List ItemType) (j k : ℕ) → nat_lt j k ≡ b → NoneOf is_push (take k items) → (b && stays_up items (level items j) j (k - j)) ≡ b
+is_visible-by false items j k e h = refl
+is_visible-by true items j k e h =
+    let le : j ≤ k = let lt : j < k = ltb-true j k e in omega arith in
+    ap (λ n. stays_up items n j (k - j)) (level-none items j (none-earlier is_push j k items le h)) ∙ stays_up-zero items j (k - j)
 
-is_visible-none : (items : List ItemType) (j k : ℕ) → NoneOf is_push items → is_visible items j k ≡ nat_lt j k
-is_visible-none items j k h =
-    let all : stays_up items (level items j) j (k - j) ≡ true = ap (λ n. stays_up items n j (k - j)) (level-none items j h) ∙ stays_up-zero items j (k - j) in
-    ap (λ b. nat_lt j k && b) all ∙ and_true (nat_lt j k)
+is_visible-none : (items : List ItemType) (j k : ℕ) → NoneOf is_push (take k items) → is_visible items j k ≡ nat_lt j k
+is_visible-none items j k h = is_visible-by (nat_lt j k) items j k refl h
 
 filter-same : {A : Type 0} (p q : A → Bool) → ((x : A) → p x ≡ q x) → (xs : List A) → filter p xs ≡ filter q xs
 filter-same p q h [] = refl
@@ -73,8 +81,8 @@ filter-below n m (x ∷ xs) h =
 length-take-le : {A : Type 0} (k : ℕ) (xs : List A) → length (take k xs) ≤ k
 length-take-le k xs = simp length-take (omega arith)
 
--- without Pushes every item before k is visible at k
-pub visible-none : (items : List ItemType) (k : ℕ) → NoneOf is_push items → visible items k ≡ before items k
+-- without Pushes before k every item before k is visible at k
+pub visible-none : (items : List ItemType) (k : ℕ) → NoneOf is_push (take k items) → visible items k ≡ before items k
 visible-none items k h =
     filter-same (λ (p : Placed). is_visible items p.0 k) (λ (p : Placed). nat_lt p.0 k) (λ p. is_visible-none items p.0 k h) (before items k)
     ∙ filter-below 0 k (take k items) (let le : 0 + length (take k items) ≤ k = omega (arith, length-take-le k items) in le)
@@ -197,11 +205,11 @@ in_force-next ps k x below =
     cc
 
 -- what is in force goes on by one item
-pub force-next : (items front rest : List ItemType) (x : ItemType) → NoneOf is_push items → items ≡ front ++ x ∷ rest
+pub force-next : (items front rest : List ItemType) (x : ItemType) → NoneOf is_push (take (suc (length front)) items) → items ≡ front ++ x ∷ rest
     → force items (suc (length front)) ≡ next_force (force items (length front)) x
 force-next items front rest x none e =
     let k = length front in
     let below : AreBelow k (before items k) = subst (AreBelow k) (sym (before-front items front (x ∷ rest) e)) (enumerated-below 0 k front (omega arith)) in
     ap in_force (visible-none items (suc k) none ∙ before-next items front rest x e)
     ∙ in_force-next (before items k) k x below
-    ∙ ap (λ ps. next_force (in_force ps) x) (sym (visible-none items k none))
+    ∙ ap (λ ps. next_force (in_force ps) x) (sym (visible-none items k (none-earlier is_push k (suc k) items (omega arith) none)))

@@ -1,7 +1,8 @@
--- The walk forward gives the meaning that looks back, where no item is a Push or opens a collection.
+-- The walk forward gives the meaning that looks back; no item that is carried is a Push or opens a collection.
 use Rattle.std.proofs.Common.{◌≡◌, ℕ, suc, ◌+◌, Bool, true, false, cond, ◌&&◌, List, [], ◌∷◌, ◌++◌, length, take, map, Option, None, Some, is_some, filter, Ok, refl, sym, ap, ◌∙◌, subst, append-nil, append_assoc, add-zero, add-one, arith}
 use Rattle.std.specs.Prelude.{sum_by}
 use Rattle.std.specs.List.{enumerate_from}
+use Rattle.std.proofs.Math.Seq.{take-append_seam}
 use Rattle.std.proofs.lemmas.Grind.{common_steps}
 use Rattle.std.proofs.lemmas.List.Elements.{filter-append}
 use Rattle.std.proofs.lemmas.List.Sums.{sum_by-append}
@@ -9,16 +10,18 @@ use Rattle.hidreport_items.specs.Flags.{Flags}
 use Rattle.hidreport_items.specs.declared.item.ItemType.{ItemType}
 use Rattle.hidreport.specs.Faults.{MeaningFault, fault_of, fault, counts, start_of}
 use Rattle.hidreport.specs.Fields.{fields_at, fields_of, fields_made, fields_before, collections_at, collection_record}
+use Rattle.hidreport.specs.FirstPath.{is_carried, stage_fault, uncarried_fault}
 use Rattle.hidreport.specs.InForce.{Force, force, first_of}
 use Rattle.hidreport.specs.Kinds.{Placed, Direction, Input, Output, Feature, data_of, goes, is_push, is_collection}
-use Rattle.hidreport.specs.Machine.{NoneOf, Held, reports_of, size_in, first_id, added_to, reports_in, key_in, start_in, start_for, counts_in, adds, next_force, next_reports, next_held, unless_fault, nothing_held, go_on, walk}
+use Rattle.hidreport.specs.Machine.{NoneOf, Held, reports_of, size_in, first_id, added_to, reports_in, key_in, start_in, start_for, counts_in, fault_in, adds, next_force, next_reports, next_held, unless_fault, nothing_held, go_on, walk}
 use Rattle.hidreport.specs.Making.{extent, key, makers, first_report_id}
 use Rattle.hidreport.specs.Meaning.{meaning, meaning_by, first_fault, fault_here, reports}
 use Rattle.hidreport.specs.OpenCollections.{depth, collections_before, is_open}
 use Rattle.hidreport.specs.Places.{start, bits_of}
 use Rattle.hidreport.specs.Records.{FieldRecord, ReportRecord, DescriptorRecord}
 use Rattle.hidreport.specs.Visibility.{before, level}
-use Rattle.hidreport.proofs.Walk.{count_by-none, none-take, before-next, force-next, level-none}
+use Rattle.hidreport.proofs.Walk.{count_by-none, before-next, force-next, level-none}
+use Rattle.hidreport.proofs.Carried.{no-push, no-collection}
 use Rattle.hidreport.proofs.Reports.{reports-next, size-in_reports}
 
 -- the reports of a direction that the items before k make
@@ -45,19 +48,19 @@ start-for : (items : List ItemType) (k : ℕ) (h : Held) (o : Option (Direction 
 start-for items k h None held = refl
 start-for items k h (Some x) held = start-held items k h x.0 held
 
-depth-none : (items : List ItemType) (k : ℕ) → NoneOf is_collection items → depth items k ≡ 0
-depth-none items k n = rw (count_by-none is_collection (take k items) (none-take is_collection k items n)) (omega arith)
+depth-none : (items : List ItemType) (k : ℕ) → NoneOf is_collection (take k items) → depth items k ≡ 0
+depth-none items k n = rw (count_by-none is_collection (take k items) n) (omega arith)
 
-counts-held : (items : List ItemType) (k : ℕ) (h : Held) (x : ItemType) → NoneOf is_push items → NoneOf is_collection items → Holds items k h → counts items k x ≡ counts_in h x
+counts-held : (items : List ItemType) (k : ℕ) (h : Held) (x : ItemType) → NoneOf is_push (take k items) → NoneOf is_collection (take k items) → Holds items k h → counts items k x ≡ counts_in h x
 counts-held items k h x no_push no_collection held =
     let l : level items k ≡ 0 = level-none items k no_push in
     let d : depth items k ≡ 0 = depth-none items k no_collection in
-    let c : collections_before items k ≡ 0 = count_by-none is_collection (take k items) (none-take is_collection k items no_collection) in
+    let c : collections_before items k ≡ 0 = count_by-none is_collection (take k items) no_collection in
     let f : fields_before items k ≡ h.fields = sym held.numbered in
     let s : start_of (data_of x) items k ≡ start_for (data_of x) h = start-for items k h (data_of x) held in
     cc
 
-fault-held : (items : List ItemType) (k : ℕ) (h : Held) (x : ItemType) → NoneOf is_push items → NoneOf is_collection items → Holds items k h → fault items k x ≡ fault_of (counts_in h x) h.force x
+fault-held : (items : List ItemType) (k : ℕ) (h : Held) (x : ItemType) → NoneOf is_push (take k items) → NoneOf is_collection (take k items) → Holds items k h → fault items k x ≡ fault_of (counts_in h x) h.force x
 fault-held items k h x no_push no_collection held =
     ap (λ n. fault_of n (force items k) x) (counts-held items k h x no_push no_collection held) ∙ ap (λ f. fault_of (counts_in h x) f x) (sym held.in_force)
 
@@ -68,10 +71,10 @@ filter-none items (x ∷ xs) n k h =
     let l = filter (λ (p : Placed). is_collection p.1 && is_open items p.0 k) (enumerate_from (n + 1) xs) in
     ap (λ b. cond (b && is_open items n k) ((n, x) ∷ l) l) h.0 ∙ rest
 
-no-collections : (items : List ItemType) (k : ℕ) → NoneOf is_collection items → collections_at items k ≡ []
-no-collections items k h = ap (map (collection_record items)) (filter-none items (take k items) 0 k (none-take is_collection k items h))
+no-collections : (items : List ItemType) (k : ℕ) → NoneOf is_collection (take k items) → collections_at items k ≡ []
+no-collections items k h = ap (map (collection_record items)) (filter-none items (take k items) 0 k h)
 
-fields-held : (items : List ItemType) (k : ℕ) (h : Held) (d : Direction) (x : ItemType) → NoneOf is_collection items → Holds items k h
+fields-held : (items : List ItemType) (k : ℕ) (h : Held) (d : Direction) (x : ItemType) → NoneOf is_collection (take k items) → Holds items k h
     → fields_at d items (k, x) ≡ fields_of h.force [] h.fields (start_in d h) (data_of x) (extent h.force)
 fields-held items k h d x none held =
     ap (λ cs. fields_of (force items k) cs (fields_before items k) (start d items k) (data_of x) (extent (force items k))) (no-collections items k none)
@@ -86,7 +89,7 @@ makers-next items front rest x d e =
     let test = λ (p : Placed). goes d (data_of p.1) && is_some (extent (force items p.0)) in
     ap (filter test) (before-next items front rest x e) ∙ filter-append test (before items (length front)) ((length front, x) ∷ [])
 
-listed-by : (b : Bool) (items front rest : List ItemType) (h : Held) (x : ItemType) (d : Direction) → NoneOf is_collection items → items ≡ front ++ x ∷ rest → Holds items (length front) h
+listed-by : (b : Bool) (items front rest : List ItemType) (h : Held) (x : ItemType) (d : Direction) → NoneOf is_collection (take (length front) items) → items ≡ front ++ x ∷ rest → Holds items (length front) h
     → (goes d (data_of x) && is_some (extent (force items (length front)))) ≡ b
     → reports_before d items (suc (length front))
     ≡ cond b (added_to (key_in d h) (bits_of (extent h.force)) (fields_of h.force [] h.fields (start_in d h) (data_of x) (extent h.force)) (reports_in d h.descriptor)) (reports_in d h.descriptor)
@@ -108,7 +111,7 @@ listed-by false items front rest h x d none e held t =
     ap (reports_of (λ p. key d items p.0) (λ p. bits_of (extent (force items p.0))) (fields_at d items)) (makers-next items front rest x d e ∙ ap (λ b. ms ++ cond b ((k, x) ∷ []) []) t ∙ append-nil ms)
     ∙ sym (held.listed d)
 
-listed-next : (items front rest : List ItemType) (h : Held) (x : ItemType) (d : Direction) → NoneOf is_collection items → items ≡ front ++ x ∷ rest → Holds items (length front) h
+listed-next : (items front rest : List ItemType) (h : Held) (x : ItemType) (d : Direction) → NoneOf is_collection (take (length front) items) → items ≡ front ++ x ∷ rest → Holds items (length front) h
     → reports_before d items (suc (length front)) ≡ next_reports d h x
 listed-next items front rest h x d none e held =
     listed-by (adds d h x) items front rest h x d none e held (ap (λ f. goes d (data_of x) && is_some (extent f)) (sym held.in_force))
@@ -189,7 +192,7 @@ in_direction Output h x = refl
 in_direction Feature h x = refl
 
 -- what is held goes on by one item
-holds-next : (items front rest : List ItemType) (h : Held) (x : ItemType) → NoneOf is_push items → NoneOf is_collection items → items ≡ front ++ x ∷ rest → Holds items (length front) h
+holds-next : (items front rest : List ItemType) (h : Held) (x : ItemType) → NoneOf is_push (take (suc (length front)) items) → NoneOf is_collection (take (length front) items) → items ≡ front ++ x ∷ rest → Holds items (length front) h
     → Holds items (suc (length front)) (next_held h x)
 holds-next items front rest h x no_push no_collection e held = record {
   in_force = ap (λ f. next_force f x) held.in_force ∙ sym (force-next items front rest x no_push e);
@@ -199,16 +202,26 @@ holds-next items front rest h x no_push no_collection e held = record {
   numbered = sym (numbered-next items front rest h x e held);
 }
 
+-- the fault of the item, and what the rest gives where it has none
 walked-by : (o : Option MeaningFault) (items : List ItemType) (k : ℕ) (h : Held) (x : ItemType) (xs : List ItemType) (all : DescriptorRecord)
-    → fault items k x ≡ fault_of (counts_in h x) h.force x → fault_of (counts_in h x) h.force x ≡ o
-    → walk (next_held h x) (k + 1) xs ≡ meaning_by (first_fault items (enumerate_from (k + 1) xs)) all
-    → walk h k (x ∷ xs) ≡ meaning_by (first_fault items (enumerate_from k (x ∷ xs))) all
+    → first_of (stage_fault x) (fault items k x) ≡ fault_in h x → fault_in h x ≡ o
+    → (fault_in h x ≡ None → walk (next_held h x) (k + 1) xs ≡ meaning_by (first_fault stage_fault items (enumerate_from (k + 1) xs)) all)
+    → walk h k (x ∷ xs) ≡ meaning_by (first_fault stage_fault items (enumerate_from k (x ∷ xs))) all
 walked-by None items k h x xs all same e rest =
-    ap (λ f. go_on (unless_fault f (next_held h x)) k (λ next. walk next (k + 1) xs)) e ∙ rest
-    ∙ sym (ap (λ f. meaning_by (fault_here f k (first_fault items (enumerate_from (k + 1) xs))) all) (same ∙ e))
+    ap (λ f. go_on (unless_fault f (next_held h x)) k (λ next. walk next (k + 1) xs)) e ∙ rest e
+    ∙ sym (ap (λ f. meaning_by (fault_here f k (first_fault stage_fault items (enumerate_from (k + 1) xs))) all) (same ∙ e))
 walked-by (Some f) items k h x xs all same e rest =
     ap (λ f. go_on (unless_fault f (next_held h x)) k (λ next. walk next (k + 1) xs)) e
-    ∙ sym (ap (λ f. meaning_by (fault_here f k (first_fault items (enumerate_from (k + 1) xs))) all) (same ∙ e))
+    ∙ sym (ap (λ f. meaning_by (fault_here f k (first_fault stage_fault items (enumerate_from (k + 1) xs))) all) (same ∙ e))
+
+-- an item without a fault is carried
+carried-by : (b : Bool) (f : Option MeaningFault) → first_of (uncarried_fault b) f ≡ None → b ≡ true
+carried-by true f e = refl
+carried-by false f e = cc
+
+none-more : {A : Type 0} (p : A → Bool) (xs : List A) (x : A) → NoneOf p xs → p x ≡ false → NoneOf p (xs ++ x ∷ [])
+none-more p [] x h e = (e, tt)
+none-more p (y ∷ ys) x h e = (h.0, none-more p ys x h.1 e)
 
 descriptor-of : (r : DescriptorRecord) (i o f : List ReportRecord) → r.input ≡ i → r.output ≡ o → r.feature ≡ f → r ≡ record { input = i; output = o; feature = f }
 descriptor-of r i o f p q s =
@@ -218,8 +231,8 @@ descriptor-of r i o f p q s =
 at-end : (items : List ItemType) (h : Held) → Holds items (length items) h → h.descriptor ≡ record { input = reports Input items; output = reports Output items; feature = reports Feature items }
 at-end items h held = descriptor-of h.descriptor (reports Input items) (reports Output items) (reports Feature items) (held.listed Input) (held.listed Output) (held.listed Feature)
 
-walk-from : (items front rest : List ItemType) (h : Held) → NoneOf is_push items → NoneOf is_collection items → items ≡ front ++ rest → Holds items (length front) h
-    → walk h (length front) rest ≡ meaning_by (first_fault items (enumerate_from (length front) rest)) (record { input = reports Input items; output = reports Output items; feature = reports Feature items })
+walk-from : (items front rest : List ItemType) (h : Held) → NoneOf is_push front → NoneOf is_collection front → items ≡ front ++ rest → Holds items (length front) h
+    → walk h (length front) rest ≡ meaning_by (first_fault stage_fault items (enumerate_from (length front) rest)) (record { input = reports Input items; output = reports Output items; feature = reports Feature items })
 walk-from items front [] h no_push no_collection e held =
     let whole : items ≡ front = e ∙ append-nil front in
     ap Ok (at-end items h (subst (λ n. Holds items n h) (ap length (sym whole)) held))
@@ -228,11 +241,21 @@ walk-from items front (x ∷ xs) h no_push no_collection e held =
     let more : items ≡ (front ++ x ∷ []) ++ xs = e ∙ sym (append_assoc front (x ∷ []) xs) in
     let size : length (front ++ x ∷ []) ≡ suc k = grind (arith, common_steps) in
     let size_one : length (front ++ x ∷ []) ≡ k + 1 = size ∙ sym (add-one k) in
-    let next : Holds items (length (front ++ x ∷ [])) (next_held h x) = subst (λ n. Holds items n (next_held h x)) (sym size) (holds-next items front xs h x no_push no_collection e held) in
+    let before_k : front ≡ take k items = sym (ap (take k) e ∙ take-append_seam front (x ∷ xs)) in
+    let before_next : front ++ x ∷ [] ≡ take (suc k) items =
+    sym (ap (λ n. take n items) (sym size) ∙ ap (take (length (front ++ x ∷ []))) more ∙ take-append_seam (front ++ x ∷ []) xs) in
+    let no_push_k : NoneOf is_push (take k items) = subst (λ (l : List ItemType). NoneOf is_push l) before_k no_push in
+    let no_collection_k : NoneOf is_collection (take k items) = subst (λ (l : List ItemType). NoneOf is_collection l) before_k no_collection in
     let all : DescriptorRecord = record { input = reports Input items; output = reports Output items; feature = reports Feature items } in
-    let rest : walk (next_held h x) (k + 1) xs ≡ meaning_by (first_fault items (enumerate_from (k + 1) xs)) all =
-    subst (λ n. walk (next_held h x) n xs ≡ meaning_by (first_fault items (enumerate_from n xs)) all) size_one (walk-from items (front ++ x ∷ []) xs (next_held h x) no_push no_collection more next) in
-    walked-by (fault_of (counts_in h x) h.force x) items k h x xs all (fault-held items k h x no_push no_collection held) refl rest
+    walked-by (fault_in h x) items k h x xs all (ap (first_of (stage_fault x)) (fault-held items k h x no_push_k no_collection_k held)) refl
+    (λ faultless.
+    let carried : is_carried x ≡ true = carried-by (is_carried x) (fault_of (counts_in h x) h.force x) faultless in
+    let pushes : NoneOf is_push (front ++ x ∷ []) = none-more is_push front x no_push (no-push x carried) in
+    let collections : NoneOf is_collection (front ++ x ∷ []) = none-more is_collection front x no_collection (no-collection x carried) in
+    let no_push_next : NoneOf is_push (take (suc k) items) = subst (λ (l : List ItemType). NoneOf is_push l) before_next pushes in
+    let next : Holds items (length (front ++ x ∷ [])) (next_held h x) = subst (λ n. Holds items n (next_held h x)) (sym size) (holds-next items front xs h x no_push_next no_collection_k e held) in
+    subst (λ n. walk (next_held h x) n xs ≡ meaning_by (first_fault stage_fault items (enumerate_from n xs)) all) size_one
+    (walk-from items (front ++ x ∷ []) xs (next_held h x) pushes collections more next))
 
 holds-nothing : (items : List ItemType) → Holds items 0 nothing_held
 holds-nothing items = record {
@@ -243,5 +266,5 @@ holds-nothing items = record {
 }
 
 -- the walk gives the meaning
-pub walk-meaning : (items : List ItemType) → NoneOf is_push items → NoneOf is_collection items → walk nothing_held 0 items ≡ meaning items
-walk-meaning items no_push no_collection = walk-from items [] items nothing_held no_push no_collection refl (holds-nothing items)
+pub walk-meaning : (items : List ItemType) → walk nothing_held 0 items ≡ meaning stage_fault items
+walk-meaning items = walk-from items [] items nothing_held tt tt refl (holds-nothing items)

@@ -1,6 +1,7 @@
 pub mod BitValue
 pub mod Faults
 pub mod Fields
+pub mod FirstPath
 pub mod InForce
 pub mod Kinds
 pub mod Lookup

@@ -5,6 +5,7 @@ use Rattle.hidreport_items.specs.declared.item.ItemType.{ItemType}
 use Rattle.hidreport_items.specs.declared.local.LocalItem.{LocalItem}
 use Rattle.hidreport.specs.Faults.{MeaningFault, Counts, fault_of}
 use Rattle.hidreport.specs.Fields.{fields_of, fields_made}
+use Rattle.hidreport.specs.FirstPath.{stage_fault}
 use Rattle.hidreport.specs.InForce.{Force, first_of}
 use Rattle.hidreport.specs.Making.{extent, same_key}
 use Rattle.hidreport.specs.Meaning.{firsts_after}
@@ -125,9 +126,17 @@ abbrev pub unless_fault : Option MeaningFault → Held → Result Held MeaningFa
 unless_fault None h = Ok h
 unless_fault (Some f) h = Err f
 
+-- the fault of an item where this is held
+abbrev pub fault_in : Held → ItemType → Option MeaningFault
+fault_in h x = first_of (stage_fault x) (fault_of (counts_in h x) h.force x)
+
+-- one item further, or its fault, whether or not it is carried
+abbrev pub whole_step : Held → ItemType → Result Held MeaningFault
+whole_step h x = unless_fault (fault_of (counts_in h x) h.force x) (next_held h x)
+
 -- one item further, or its fault
 abbrev pub step : Held → ItemType → Result Held MeaningFault
-step h x = unless_fault (fault_of (counts_in h x) h.force x) (next_held h x)
+step h x = unless_fault (fault_in h x) (next_held h x)
 
 -- before the first item
 abbrev pub nothing_held : Held

@@ -8,9 +8,9 @@ use Rattle.hidreport_items.specs.declared.item.ItemType.TheVariants as item
 use Rattle.hidreport_items.specs.declared.local.LocalItem.{LocalItem}
 use Rattle.hidreport_items.specs.declared.local.LocalItem.TheVariants as local
 use Rattle.hidreport_lists.specs.Answer.{Refusal, InvalidAt, Bounds, Refuses}
-use Rattle.hidreport_lists.specs.Entry.{Entry}
 use Rattle.hidreport_lists.specs.declared.error.ParserError.{ParserError}
 use Rattle.hidreport.specs.Faults.{MeaningFault, fault_of, Says, PastBounds, missing_usages}
+use Rattle.hidreport.specs.FirstPath.{is_carried, not_in_the_first_path}
 use Rattle.hidreport.specs.InForce.{Force}
 use Rattle.hidreport.specs.Meaning.{empty_descriptor}
 use Rattle.hidreport.specs.Machine.{Held, counts_in}
@@ -43,6 +43,7 @@ held_of s = record { force = force_of s.globals s.locals.items; descriptor = rec
 -- the fault of an item is this one; want of memory says nothing
 abbrev pub IsFaultOf : Fault → Option MeaningFault → Type 0
 IsFaultOf faults.EmptyDescriptor f = ⊥
+IsFaultOf faults.NotInFirstPath f = f ≡ Some (Says not_in_the_first_path)
 IsFaultOf faults.MissingUsagePage f = f ≡ Some (Says missing_page)
 IsFaultOf faults.MissingUsages f = f ≡ Some (Says missing_usages)
 IsFaultOf faults.OutOfBounds f = f ≡ Some PastBounds
@@ -54,6 +55,7 @@ Gives view (Ok x) answer = answer ≡ Ok (view x)
 Gives view (Err faults.MissingUsagePage) answer = answer ≡ Err missing_page
 Gives view (Err faults.OutOfMemory) answer = Unit {0}
 Gives view (Err faults.EmptyDescriptor) answer = ⊥
+Gives view (Err faults.NotInFirstPath) answer = ⊥
 Gives view (Err faults.MissingUsages) answer = ⊥
 Gives view (Err faults.OutOfBounds) answer = ⊥
 
@@ -67,17 +69,6 @@ one_usage page (local.Usage own id) = Ok (Some (make_usage own id))
 one_usage page (local.UsageId id) = usage_on page id
 one_usage page _ = Ok None
 
--- the items that the first path needs: no Push, Pop or range, and of main items a variable Input with data
-abbrev pub is_carried : ItemType → Bool
-is_carried (item.Global global.Push) = false
-is_carried (item.Global global.Pop) = false
-is_carried (item.Global _) = true
-is_carried (item.Local x) = is_none (minimum_of x)
-is_carried (item.Main (main.Input flags)) = not flags.constant && flags.variable
-is_carried (item.Main _) = false
-is_carried item.Long = true
-is_carried item.Reserved = true
-
 -- no range is among the locals
 abbrev pub HasNoRange : List LocalItem → Type 0
 HasNoRange locals = last_local minimum_of locals ≡ None
@@ -89,14 +80,10 @@ input flags = item.Main (main.Input flags)
 abbrev pub input_fault : Held → Flags → Option MeaningFault
 input_fault h flags = fault_of (counts_in h (input flags)) h.force (input flags)
 
--- each item of these entries is carried
-abbrev pub AllCarried : List Entry → Type 0
-AllCarried [] = Unit {0}
-AllCarried (e ∷ entries) = (is_carried e.item ≡ true) × AllCarried entries
-
 -- what a fault is at an offset, as a parser says it; want of memory is nothing
 abbrev pub refusal_of : Fault → ℕ → Option Refusal
 refusal_of faults.EmptyDescriptor offset = Some (InvalidAt offset empty_descriptor)
+refusal_of faults.NotInFirstPath offset = Some (InvalidAt offset not_in_the_first_path)
 refusal_of faults.MissingUsagePage offset = Some (InvalidAt offset missing_page)
 refusal_of faults.MissingUsages offset = Some (InvalidAt offset missing_usages)
 refusal_of faults.OutOfBounds offset = Some Bounds

@@ -4,6 +4,7 @@
 mod collection;
 mod descriptor;
 mod field;
+mod first_path;
 mod layout;
 mod lookup;
 mod parse;
@@ -28,7 +29,9 @@ pub mod hid {
         CollectionItem, FeatureItem, GlobalItem, HidError, InputItem, ItemType, LocalItem,
         MainDataItem, MainItem, OutputItem,
     };
-    pub use hidreport_lists::{Item, ReportDescriptorItem, ReportDescriptorItems, ShortItem};
+    pub use hidreport_lists::{
+        Item, ItemData, ReportDescriptorItem, ReportDescriptorItems, ShortItem,
+    };
 }
 
 pub use collection::{Collection, CollectionId};

@@ -1,8 +1,8 @@
 ghost use Rattle.std.specs.Prelude.{map};
 ghost use Rattle.hidreport_lists.specs.Answer.{Answers};
 ghost use Rattle.hidreport_lists.specs.Entry.{Entry};
+ghost use Rattle.hidreport.specs.FirstPath.{stage_fault};
 ghost use Rattle.hidreport.specs.Meaning.{meaning, parse, placed};
-ghost use Rattle.hidreport.specs.State.{AllCarried};
 
 use crate::descriptor::ReportDescriptor;
 use crate::state::{Fault, State};
@@ -14,8 +14,9 @@ impl ReportDescriptor {
     ///
     /// Refused are, the first of these that there is: no bytes at all, `InvalidData` at 0,
     /// `Empty report descriptor`; an item that can't be read, as `ReportDescriptorItems::try_from`
-    /// says; then the first item that has no meaning where it stands: an Input that makes fields
-    /// and has a usage without a page, `InvalidData` at the item's offset, `Missing UsagePage in
+    /// says; then the first item that has no meaning where it stands: an item whose meaning isn't
+    /// carried yet, `InvalidData` at the item's offset, `Not in the first path`; an Input that
+    /// makes fields and has a usage without a page, `InvalidData` at the item's offset, `Missing UsagePage in
     /// globals`, or has no usage, `Missing Usages for main item`; where its report would end past
     /// `usize::MAX` bits, or more than 2^32 fields would be numbered, `OutOfBounds`.
     /// `OutOfMemory` comes only where a growth is refused.
@@ -35,8 +36,7 @@ fn reports_of(
     alloc: Global,
     items: &[ReportDescriptorItem],
 ) -> Result<ReportDescriptor, ParserError>
-    requires { AllCarried items.now }
-    ensures exact { Answers result (placed items.now (meaning (map (λ (e : Entry). e.item) items.now))) }
+    ensures exact { Answers result (placed items.now (meaning stage_fault (map (λ (e : Entry). e.item) items.now))) }
 {
     let mut state = State::new(alloc);
     for entry in items {

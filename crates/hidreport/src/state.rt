@@ -2,6 +2,7 @@ ghost use Rattle.std.specs.Prelude.{◌≡◌};
 ghost use Rattle.hidreport.specs.declared.state.Fault.TheVariants.{OutOfMemory};
 
 use crate::descriptor::ReportDescriptor;
+use crate::first_path::is_carried;
 use crate::report::RDescReport;
 use hidreport_items::{GlobalItem, ItemType, LocalItem, MainItem};
 use hidreport_lists::ParserError;
@@ -16,6 +17,9 @@ use std::alloc::{AllocError, AllocFailed, Global};
 pub(crate) enum Fault {
     /// There are no bytes.
     EmptyDescriptor,
+
+    /// The meaning of the item isn't carried yet.
+    NotInFirstPath,
 
     /// A usage has no page of its own, and none is in force.
     MissingUsagePage,
@@ -57,6 +61,7 @@ impl Fault {
     {
         let text = match self {
             Fault::EmptyDescriptor => "Empty report descriptor",
+            Fault::NotInFirstPath => "Not in the first path",
             Fault::MissingUsagePage => "Missing UsagePage in globals",
             Fault::MissingUsages => "Missing Usages for main item",
             Fault::OutOfBounds => return ParserError::OutOfBounds,
@@ -141,8 +146,9 @@ pub(crate) struct State {
 impl State {
     ghost use Rattle.std.specs.Prelude.{◌≡◌, Ok, true, IfErr, OnOk};
     ghost use Rattle.hidreport.specs.Faults.{fault_of};
-    ghost use Rattle.hidreport.specs.Machine.{counts_in, nothing_held, step};
-    ghost use Rattle.hidreport.specs.State.{HasNoRange, IsFaultOf, held_of, is_carried};
+    ghost use Rattle.hidreport.specs.FirstPath.{is_carried};
+    ghost use Rattle.hidreport.specs.Machine.{counts_in, fault_in, nothing_held, step, whole_step};
+    ghost use Rattle.hidreport.specs.State.{HasNoRange, IsFaultOf, held_of};
 
     /// Before the first item.
     pub(crate) fn new(alloc: Global) -> State
@@ -160,9 +166,22 @@ impl State {
 
     /// Goes on by one item.
     pub(crate) fn take(&mut self, alloc: Global, item: ItemType) -> Result<(), Fault>
+        requires { HasNoRange self.old.locals.items }
+        ensures ok { OnOk result (step (held_of self.old) item ≡ Ok (held_of self.new)) }
+        ensures single { OnOk result (HasNoRange self.new.locals.items) }
+        ensures err { IfErr result (λ e. IsFaultOf e (fault_in (held_of self.old) item)) }
+    {
+        if !is_carried(&item) {
+            return Err(Fault::NotInFirstPath);
+        }
+        self.take_carried(alloc, item)
+    }
+
+    /// Goes on by an item that is carried.
+    fn take_carried(&mut self, alloc: Global, item: ItemType) -> Result<(), Fault>
         requires carried { is_carried item ≡ true }
         requires single { HasNoRange self.old.locals.items }
-        ensures ok { OnOk result (step (held_of self.old) item ≡ Ok (held_of self.new)) }
+        ensures ok { OnOk result (whole_step (held_of self.old) item ≡ Ok (held_of self.new)) }
         ensures single { OnOk result (HasNoRange self.new.locals.items) }
         ensures err { IfErr result (λ e. IsFaultOf e (fault_of (counts_in (held_of self.old) item) (held_of self.old).force item)) }
     {
@@ -179,7 +198,7 @@ impl State {
     fn take_main(&mut self, alloc: Global, item: MainItem) -> Result<(), Fault>
         requires carried { is_carried (ItemType.Main item) ≡ true }
         requires single { HasNoRange self.old.locals.items }
-        ensures ok { OnOk result (step (held_of self.old) (ItemType.Main item) ≡ Ok (held_of self.new)) }
+        ensures ok { OnOk result (whole_step (held_of self.old) (ItemType.Main item) ≡ Ok (held_of self.new)) }
         ensures single { OnOk result (HasNoRange self.new.locals.items) }
         ensures err { IfErr result (λ e. IsFaultOf e (fault_of (counts_in (held_of self.old) (ItemType.Main item)) (held_of self.old).force (ItemType.Main item))) }
     {

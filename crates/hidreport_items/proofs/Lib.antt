@@ -1,2 +1,5 @@
 pub mod Reading
 pub mod Texts
+pub mod Words
+pub mod FlagWords
+pub mod CanonicalLemmas

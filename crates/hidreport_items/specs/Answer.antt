@@ -1,5 +1,6 @@
 -- What a reader's answer says, want of memory apart.
-use Rattle.std.specs.Prelude.{◌≡◌, ℕ, List, Result, Ok, Err, string_bytes}
+use Rattle.std.specs.Prelude.{◌≡◌, ℕ, List, Result, Ok, Err, string_bytes, Vec}
+use Rattle.std.specs.Global.{Global}
 use Rattle.hidreport_items.specs.declared.error.HidError.{HidError}
 use Rattle.hidreport_items.specs.declared.error.HidError.TheVariants as errors
 
@@ -18,6 +19,16 @@ Fails errors.OutOfMemory read = Unit {0}
 abbrev pub Gives : {A : Type 0} → Result A HidError → Result A Fault → Type 0
 Gives (Ok x) read = read ≡ Ok x
 Gives (Err e) read = Fails e read
+
+-- the same for a list of bytes
+abbrev pub GivesList : Result (Vec ℕ Global) HidError → Result (List ℕ) Fault → Type 0
+GivesList (Ok xs) read = read ≡ Ok xs.items
+GivesList (Err e) read = Fails e read
+
+-- the answer is these bytes; only want of memory refuses it
+abbrev pub Writes : Result (Vec ℕ Global) HidError → List ℕ → Type 0
+Writes (Ok written) bytes = written.items ≡ bytes
+Writes (Err e) bytes = e ≡ errors.OutOfMemory
 
 -- the error is data refused with this message, or want of memory
 abbrev pub IsFault : HidError → List ℕ → Type 0

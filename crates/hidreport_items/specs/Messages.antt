@@ -13,7 +13,3 @@ six_digits n = replicate (6 - length (radix_digits 2 false n)) 48 ++ radix_digit
 -- the main item's header, without its size code, is none of the five
 abbrev pub tag_message : ℕ → List ℕ
 tag_message prefix = codes "Invalid item tag 0b" ++ six_digits prefix
-
--- the first path doesn't need the item
-abbrev pub first_path_message : List ℕ
-first_path_message = codes "Not in the first path"

@@ -66,17 +66,33 @@ collection_item n =
     else (if nat_le n 127 then kind.Reserved n
     else kind.VendorDefined n)))))))
 
+-- the number of a kind
+abbrev pub kind_number : CollectionItem → ℕ
+kind_number kind.Physical = 0
+kind_number kind.Application = 1
+kind_number kind.Logical = 2
+kind_number kind.Report = 3
+kind_number kind.NamedArray = 4
+kind_number kind.UsageSwitch = 5
+kind_number kind.UsageModifier = 6
+kind_number (kind.Reserved n) = n
+kind_number (kind.VendorDefined n) = n
+
 -- the first data byte, or 0 where there is none
 abbrev pub first_or_zero : List ℕ → ℕ
 first_or_zero [] = 0
 first_or_zero (b ∷ bs) = b
+
+-- a Collection by its first data byte
+abbrev pub collection_of : List ℕ → Result CollectionItem Fault
+collection_of bs = Ok (collection_item (first_or_zero bs))
 
 -- main items (Section 6.2.2.4)
 abbrev pub main_item : ℕ → List ℕ → Result MainItem Fault
 main_item h bs =
     if prefix h == 0x80 then read_as main.Input (input_item bs)
     else (if prefix h == 0x90 then read_as main.Output (output_item bs)
-    else (if prefix h == 0xa0 then Ok (main.Collection (collection_item (first_or_zero bs)))
+    else (if prefix h == 0xa0 then read_as main.Collection (collection_of bs)
     else (if prefix h == 0xb0 then read_as main.Feature (feature_item bs)
     else (if prefix h == 0xc0 then Ok main.EndCollection
     else Err (Invalid (tag_message (prefix h)))))))
@@ -125,6 +141,11 @@ item_of h bs =
     else (if type_of h == 1 then read_as item.Global (global_item h bs)
     else (if type_of h == 2 then read_as item.Local (local_item h bs)
     else Ok item.Reserved))
+
+-- what is read of a header and of all bytes behind it, as many as there are
+abbrev pub read_with : {A : Type 0} → (ℕ → List ℕ → Result A Fault) → List ℕ → Result A Fault
+read_with read [] = Err Insufficient
+read_with read (h ∷ bs) = read h bs
 
 -- each number is a byte
 abbrev pub AreBytes : List ℕ → Type 0

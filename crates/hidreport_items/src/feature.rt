@@ -1,10 +1,13 @@
-ghost use Rattle.hidreport_items.specs.Answer.{Gives};
-ghost use Rattle.hidreport_items.specs.Spelling.{feature_item};
+ghost use Rattle.hidreport_items.specs.Answer.{Gives, Writes};
+ghost use Rattle.hidreport_items.specs.Spelling.{feature_item, read_with};
+ghost use Rattle.hidreport_items.specs.Writing.{main_bytes};
+ghost use Rattle.hidreport_items.specs.declared.main_item.MainItem.TheVariants.{Feature};
 
 use crate::error::HidError;
 use crate::flags::MainDataItem;
 use crate::message::size_fault;
 use crate::number::{is_flag_set, is_short_length, word};
+use crate::writing::flags;
 use std::alloc::Global;
 use std::marker::Model;
 
@@ -53,7 +56,32 @@ impl Model for FeatureItem {
 }
 
 impl FeatureItem {
-    /// The item that these data bytes spell, whatever the header.
+    /// The item with the data bytes behind the first byte, the header, which isn't looked at
+    /// (Section 6.2.2.5).
+    ///
+    /// Bits 0 to 8 of the data are its flags. No bytes and no data are `InsufficientData`;
+    /// another length `n` of the data than 1, 2 and 4 is `InvalidData`, `Size {n} cannot happen`.
+    /// `OutOfMemory` comes only where there is no memory for the message.
+    pub fn try_from(alloc: Global, bytes: &[u8]) -> Result<FeatureItem, HidError>
+        ensures { Gives result (read_with (λ _. feature_item) bytes.now) }
+    {
+        let Some((_header, data_bytes)) = bytes.split_first() else {
+            return Err(HidError::InsufficientData);
+        };
+        FeatureItem::from_data(alloc, data_bytes)
+    }
+
+    /// The item's bytes: the header, and the flags in one byte, or in two where it is of buffered
+    /// bytes (Section 6.2.2.5).
+    ///
+    /// `OutOfMemory` comes only where a growth is refused.
+    pub fn as_bytes(&self, alloc: Global) -> Result<Vec<u8>, HidError>
+        ensures { Writes result (main_bytes (Feature self.now)) }
+    {
+        flags(alloc, 0xb0, self, self.is_volatile)
+    }
+
+    /// The item that these data bytes spell.
     pub(crate) fn from_data(alloc: Global, bytes: &[u8]) -> Result<FeatureItem, HidError>
         ensures { Gives result (feature_item bytes.now) }
     {

@@ -1,9 +1,12 @@
-ghost use Rattle.hidreport_items.specs.Answer.{Gives};
-ghost use Rattle.hidreport_items.specs.Spelling.{global_item};
+ghost use Rattle.hidreport_items.specs.Answer.{Gives, Writes};
+ghost use Rattle.std.specs.Prelude.{◌≡◌};
+ghost use Rattle.hidreport_items.specs.Spelling.{global_item, read_with};
+ghost use Rattle.hidreport_items.specs.Writing.{global_bytes, global_prefix};
 
 use crate::error::HidError;
 use crate::message::size_fault;
 use crate::number::{is_short_length, signed, word};
+use crate::writing::{count, signed_item, unsigned, with_header};
 use hidreport_types::{
     LogicalMaximum, LogicalMinimum, PhysicalMaximum, PhysicalMinimum, ReportCount, ReportId,
     ReportSize, Unit, UnitExponent, UsagePage,
@@ -54,6 +57,70 @@ pub enum GlobalItem {
 }
 
 impl GlobalItem {
+    /// The global item with the header that comes first and the data bytes behind it, all that
+    /// there are (Section 6.2.2.7).
+    ///
+    /// No bytes are `InsufficientData`. 3 data bytes or more than 4 are `InvalidData`, `Size {n}
+    /// cannot happen`, for every header. ReportSize, ReportId and ReportCount without data are
+    /// `InsufficientData`; Push and Pop ignore their data; the others are 0 without data. A header
+    /// of no global item is `Reserved`. `OutOfMemory` comes only where there is no memory for a
+    /// message.
+    pub fn try_from(alloc: Global, bytes: &[u8]) -> Result<GlobalItem, HidError>
+        ensures { Gives result (read_with global_item bytes.now) }
+    {
+        let Some((header, data_bytes)) = bytes.split_first() else {
+            return Err(HidError::InsufficientData);
+        };
+        GlobalItem::from_parts(alloc, *header, data_bytes)
+    }
+
+    /// The header without its size code (Section 6.2.2.7); `0xC4` for `Reserved`.
+    pub fn prefix(&self) -> u8
+        ensures { result ≡ global_prefix self.now }
+    {
+        match self {
+            GlobalItem::UsagePage(_) => 0x04,
+            GlobalItem::LogicalMinimum(_) => 0x14,
+            GlobalItem::LogicalMaximum(_) => 0x24,
+            GlobalItem::PhysicalMinimum(_) => 0x34,
+            GlobalItem::PhysicalMaximum(_) => 0x44,
+            GlobalItem::UnitExponent(_) => 0x54,
+            GlobalItem::Unit(_) => 0x64,
+            GlobalItem::ReportSize(_) => 0x74,
+            GlobalItem::ReportId(_) => 0x84,
+            GlobalItem::ReportCount(_) => 0x94,
+            GlobalItem::Push => 0xa4,
+            GlobalItem::Pop => 0xb4,
+            GlobalItem::Reserved => 0xc4,
+        }
+    }
+
+    /// The item's bytes: the header, and the shortest data that holds its number
+    /// (Section 6.2.2.7).
+    ///
+    /// Bounds and the unit's exponent are written with their sign. Of a size or a count past 32
+    /// bits the low 32 bits are written. Push, Pop and `Reserved` have no data. `OutOfMemory` comes
+    /// only where a growth is refused.
+    pub fn as_bytes(&self, alloc: Global) -> Result<Vec<u8>, HidError>
+        ensures { Writes result (global_bytes self.now) }
+    {
+        match self {
+            GlobalItem::UsagePage(page) => unsigned(alloc, 0x04, u32::from(u16::from(page))),
+            GlobalItem::LogicalMinimum(bound) => signed_item(alloc, 0x14, i32::from(bound)),
+            GlobalItem::LogicalMaximum(bound) => signed_item(alloc, 0x24, i32::from(bound)),
+            GlobalItem::PhysicalMinimum(bound) => signed_item(alloc, 0x34, i32::from(bound)),
+            GlobalItem::PhysicalMaximum(bound) => signed_item(alloc, 0x44, i32::from(bound)),
+            GlobalItem::UnitExponent(exponent) => signed_item(alloc, 0x54, i32::from(exponent)),
+            GlobalItem::Unit(unit) => unsigned(alloc, 0x64, u32::from(unit)),
+            GlobalItem::ReportSize(size) => count(alloc, 0x74, usize::from(size)),
+            GlobalItem::ReportId(id) => with_header(alloc, 0x84, &[u8::from(id)]),
+            GlobalItem::ReportCount(number) => count(alloc, 0x94, usize::from(number)),
+            GlobalItem::Push => with_header(alloc, 0xa4, &[]),
+            GlobalItem::Pop => with_header(alloc, 0xb4, &[]),
+            GlobalItem::Reserved => with_header(alloc, 0xc4, &[]),
+        }
+    }
+
     /// The global item with this header and data.
     pub(crate) fn from_parts(
         alloc: Global,

@@ -1,9 +1,9 @@
 //! The items of a report descriptor, and how they are read.
 #![tactic(auto)]
 
+mod conversions;
 mod error;
 mod feature;
-mod first_path;
 mod flags;
 mod global;
 mod input;
@@ -13,6 +13,7 @@ mod main_item;
 mod message;
 mod number;
 mod output;
+mod writing;
 
 pub use error::HidError;
 pub use feature::FeatureItem;

@@ -1,10 +1,12 @@
-ghost use Rattle.std.specs.Prelude.{◌≡◌};
-ghost use Rattle.hidreport_items.specs.Answer.{Gives};
-ghost use Rattle.hidreport_items.specs.Spelling.{local_item, usage_item};
+ghost use Rattle.std.specs.Prelude.{◌≡◌, ◌+◌, ◌*◌};
+ghost use Rattle.hidreport_items.specs.Answer.{Gives, Writes};
+ghost use Rattle.hidreport_items.specs.Writing.{local_bytes, local_prefix};
+ghost use Rattle.hidreport_items.specs.Spelling.{local_item, usage_item, read_with};
 
 use crate::error::HidError;
 use crate::message::size_fault;
 use crate::number::{is_short_length, word};
+use crate::writing::{four_bytes, unsigned, with_header};
 use hidreport_types::{
     Delimiter, DesignatorIndex, DesignatorMaximum, DesignatorMinimum, StringIndex, StringMaximum,
     StringMinimum, UsageId, UsageMaximum, UsageMinimum, UsagePage,
@@ -55,6 +57,66 @@ pub enum LocalItem {
 }
 
 impl LocalItem {
+    /// The local item with the header that comes first and the data bytes behind it, all that
+    /// there are (Section 6.2.2.8).
+    ///
+    /// No bytes and no data are `InsufficientData`; 3 data bytes or more than 4 are `InvalidData`,
+    /// `Size {n} cannot happen`. A usage in four data bytes has a page of its own. A header of no
+    /// local item is `Reserved`, with the header without its size code. `OutOfMemory` comes only
+    /// where there is no memory for a message.
+    pub fn try_from(alloc: Global, bytes: &[u8]) -> Result<LocalItem, HidError>
+        ensures { Gives result (read_with local_item bytes.now) }
+    {
+        let Some((header, data_bytes)) = bytes.split_first() else {
+            return Err(HidError::InsufficientData);
+        };
+        LocalItem::from_parts(alloc, *header, data_bytes)
+    }
+
+    /// The header without its size code (Section 6.2.2.8); `0xF8` for every `Reserved`.
+    pub fn prefix(&self) -> u8
+        ensures { result ≡ local_prefix self.now }
+    {
+        match self {
+            LocalItem::Usage(..) | LocalItem::UsageId(_) => 0x08,
+            LocalItem::UsageMinimum(_) => 0x18,
+            LocalItem::UsageMaximum(_) => 0x28,
+            LocalItem::DesignatorIndex(_) => 0x38,
+            LocalItem::DesignatorMinimum(_) => 0x48,
+            LocalItem::DesignatorMaximum(_) => 0x58,
+            LocalItem::StringIndex(_) => 0x78,
+            LocalItem::StringMinimum(_) => 0x88,
+            LocalItem::StringMaximum(_) => 0x98,
+            LocalItem::Delimiter(_) => 0xa8,
+            LocalItem::Reserved { .. } => 0xf8,
+        }
+    }
+
+    /// The item's bytes: the header, and the shortest data that holds its number
+    /// (Section 6.2.2.8).
+    ///
+    /// A usage with a page of its own always takes four bytes, also where the page is 0: in fewer
+    /// it would take the page in force. `Reserved` is written as `0xF9` and its value.
+    /// `OutOfMemory` comes only where a growth is refused.
+    pub fn as_bytes(&self, alloc: Global) -> Result<Vec<u8>, HidError>
+        ensures { Writes result (local_bytes self.now) }
+    {
+        match self {
+            LocalItem::Usage(page, id) => four_bytes(alloc, 0x08, usage_number(*page, *id)),
+            LocalItem::UsageId(id) => unsigned(alloc, 0x08, u32::from(u16::from(id))),
+            LocalItem::UsageMinimum(usage) => unsigned(alloc, 0x18, u32::from(usage)),
+            LocalItem::UsageMaximum(usage) => unsigned(alloc, 0x28, u32::from(usage)),
+            LocalItem::DesignatorIndex(index) => unsigned(alloc, 0x38, u32::from(index)),
+            LocalItem::DesignatorMinimum(index) => unsigned(alloc, 0x48, u32::from(index)),
+            LocalItem::DesignatorMaximum(index) => unsigned(alloc, 0x58, u32::from(index)),
+            LocalItem::StringIndex(index) => unsigned(alloc, 0x78, u32::from(index)),
+            LocalItem::StringMinimum(index) => unsigned(alloc, 0x88, u32::from(index)),
+            LocalItem::StringMaximum(index) => unsigned(alloc, 0x98, u32::from(index)),
+            LocalItem::Delimiter(delimiter) => unsigned(alloc, 0xa8, u32::from(delimiter)),
+            LocalItem::Reserved { value } => with_header(alloc, 0xf8, &[*value]),
+        }
+    }
+
     /// The local item with this header and data.
     pub(crate) fn from_parts(alloc: Global, header: u8, bytes: &[u8]) -> Result<LocalItem, HidError>
         ensures { Gives result (local_item header bytes.now) }
@@ -92,4 +154,11 @@ fn usage(number: u32, length: usize) -> LocalItem
     } else {
         LocalItem::UsageId(id)
     }
+}
+
+/// A usage as one number: its page is the upper half.
+fn usage_number(page: UsagePage, id: UsageId) -> u32
+    ensures { result ≡ page * 65536 + id }
+{
+    u32::from(u16::from(page)) << 16 | u32::from(u16::from(id))
 }

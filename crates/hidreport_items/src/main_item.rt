@@ -1,12 +1,14 @@
 ghost use Rattle.std.specs.Prelude.{◌≡◌};
-ghost use Rattle.hidreport_items.specs.Answer.{Gives};
-ghost use Rattle.hidreport_items.specs.Spelling.{main_item, collection_item, first_or_zero};
+ghost use Rattle.hidreport_items.specs.Answer.{Gives, Writes};
+ghost use Rattle.hidreport_items.specs.Writing.{main_bytes};
+ghost use Rattle.hidreport_items.specs.Spelling.{main_item, collection_item, collection_of, kind_number, first_or_zero, read_with};
 
 use crate::error::HidError;
 use crate::feature::FeatureItem;
 use crate::input::InputItem;
 use crate::message::tag_fault;
 use crate::output::OutputItem;
+use crate::writing::with_header;
 use std::alloc::Global;
 
 /// An Input, Output, Feature, Collection or EndCollection item (Section 6.2.2.4).
@@ -65,11 +67,11 @@ pub enum CollectionItem {
     },
 }
 
-impl CollectionItem {
-    /// The kind of collection with this number.
-    pub(crate) fn from_number(number: u8) -> CollectionItem
-        ensures { result ≡ collection_item number }
-    {
+/// The kind of collection with this number (Section 6.2.2.6).
+impl From<u8> for CollectionItem {
+    ghost from_gives = { λ number kind. kind ≡ collection_item number };
+
+    fn from(number: u8) -> CollectionItem {
         match number {
             0x00 => CollectionItem::Physical,
             0x01 => CollectionItem::Application,
@@ -84,19 +86,104 @@ impl CollectionItem {
     }
 }
 
+/// The number of the kind; `Reserved` and `VendorDefined` give their value.
+impl From<&CollectionItem> for u8 {
+    ghost from_gives = { λ kind number. number ≡ kind_number kind.now };
+
+    fn from(kind: &CollectionItem) -> u8 {
+        match kind {
+            CollectionItem::Physical => 0x00,
+            CollectionItem::Application => 0x01,
+            CollectionItem::Logical => 0x02,
+            CollectionItem::Report => 0x03,
+            CollectionItem::NamedArray => 0x04,
+            CollectionItem::UsageSwitch => 0x05,
+            CollectionItem::UsageModifier => 0x06,
+            CollectionItem::Reserved { value } => *value,
+            CollectionItem::VendorDefined { value } => *value,
+        }
+    }
+}
+
+impl From<CollectionItem> for u8 {
+    ghost from_gives = { λ kind number. number ≡ kind_number kind };
+
+    fn from(kind: CollectionItem) -> u8 {
+        u8::from(&kind)
+    }
+}
+
+/// The kind of the first data byte behind the header, which isn't looked at; without data it is
+/// physical (Section 6.2.2.6). No bytes are `InsufficientData`.
+impl TryFrom<&[u8]> for CollectionItem {
+    type Error = HidError;
+
+    ghost try_from_gives = { λ bytes kind. Gives kind (read_with (λ _. collection_of) bytes.now) };
+
+    fn try_from(bytes: &[u8]) -> Result<CollectionItem, HidError> {
+        match bytes.split_first() {
+            Some((_header, data_bytes)) => Ok(CollectionItem::from_data(data_bytes)),
+            None => Err(HidError::InsufficientData),
+        }
+    }
+}
+
 impl CollectionItem {
+    /// The item's bytes: the header, and the number of the kind in one byte (Section 6.2.2.4).
+    ///
+    /// `OutOfMemory` comes only where a growth is refused.
+    pub fn as_bytes(&self, alloc: Global) -> Result<Vec<u8>, HidError>
+        ensures { Writes result (main_bytes (MainItem.Collection self.now)) }
+    {
+        with_header(alloc, 0xa0, &[u8::from(self)])
+    }
+
     /// The kind of the first data byte; a collection without data is physical.
     fn from_data(bytes: &[u8]) -> CollectionItem
         ensures { result ≡ collection_item (first_or_zero bytes.now) }
     {
         match bytes {
             [] => CollectionItem::Physical,
-            [number, ..] => CollectionItem::from_number(*number),
+            [number, ..] => CollectionItem::from(*number),
         }
     }
 }
 
 impl MainItem {
+    /// The main item with the header that comes first and the data bytes behind it, all that there
+    /// are (Section 6.2.2.4).
+    ///
+    /// No bytes are `InsufficientData`. A header with another tag than the five, whatever its type,
+    /// is `InvalidData`, `Invalid item tag 0b` and the header without its size code in binary.
+    /// Input, Output and Feature need data of 1, 2 or 4 bytes: none is `InsufficientData`, another
+    /// length `n` is `InvalidData`, `Size {n} cannot happen`. A collection without data is
+    /// physical; EndCollection ignores its data. `OutOfMemory` comes only where there is no memory
+    /// for a message.
+    pub fn try_from(alloc: Global, bytes: &[u8]) -> Result<MainItem, HidError>
+        ensures { Gives result (read_with main_item bytes.now) }
+    {
+        let Some((header, data_bytes)) = bytes.split_first() else {
+            return Err(HidError::InsufficientData);
+        };
+        MainItem::from_parts(alloc, *header, data_bytes)
+    }
+
+    /// The item's bytes, those of the item that it is; EndCollection is its header alone
+    /// (Section 6.2.2.4).
+    ///
+    /// `OutOfMemory` comes only where a growth is refused.
+    pub fn as_bytes(&self, alloc: Global) -> Result<Vec<u8>, HidError>
+        ensures { Writes result (main_bytes self.now) }
+    {
+        match self {
+            MainItem::Input(item) => item.as_bytes(alloc),
+            MainItem::Output(item) => item.as_bytes(alloc),
+            MainItem::Feature(item) => item.as_bytes(alloc),
+            MainItem::Collection(item) => item.as_bytes(alloc),
+            MainItem::EndCollection => with_header(alloc, 0xc0, &[]),
+        }
+    }
+
     /// The main item with this header and data.
     pub(crate) fn from_parts(alloc: Global, header: u8, bytes: &[u8]) -> Result<MainItem, HidError>
         ensures { Gives result (main_item header bytes.now) }

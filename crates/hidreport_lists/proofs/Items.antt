@@ -4,7 +4,7 @@ use Rattle.std.proofs.lemmas.Grind.{common_steps}
 use Rattle.hidreport_items.specs.Answer.{Fault, Invalid, Insufficient, Fails}
 use Rattle.hidreport_items.specs.declared.error.HidError.{HidError}
 use Rattle.hidreport_items.specs.declared.error.HidError.TheVariants as errors
-use Rattle.hidreport_items.specs.FirstPath.{read_item, first_path_item}
+use Rattle.hidreport_items.specs.Spelling.{item_of, read_with}
 use Rattle.hidreport_items.specs.Spelling.{announced, read_as}
 use Rattle.hidreport_items.specs.declared.item.ItemType.{ItemType}
 use Rattle.hidreport_lists.specs.Entry.{Spelled, Entry}
@@ -52,28 +52,28 @@ item_at-enough read h bs le = ap (λ b. cond b (Err Insufficient) (read h (take 
 
 -- what is read of a header and its data is what is read of the first bytes
 pub item_at-first : (bytes : List ℕ) (h : ℕ) (after : List ℕ) (a : ℕ) → bytes ≡ h ∷ after → a ≡ announced h → a ≤ length after
-    → item_at first_path_item h after ≡ read_item (take (1 + a) bytes)
+    → item_at item_of h after ≡ read_with item_of (take (1 + a) bytes)
 item_at-first bytes h after a e ea le =
     let enough_bytes : announced h ≤ length after = subst (λ n. n ≤ length after) ea le in
-    item_at-enough first_path_item h after enough_bytes ∙ ap (λ n. first_path_item h (take n after)) (sym ea) ∙ ap read_item (sym (take-header bytes h after a e))
+    item_at-enough item_of h after enough_bytes ∙ ap (λ n. item_of h (take n after)) (sym ea) ∙ ap (read_with item_of) (sym (take-header bytes h after a e))
 
 -- the item and its bytes, where the header and its data are read as it
 pub short_item-ok : (bytes : List ℕ) (h : ℕ) (after : List ℕ) (a : ℕ) (x : ItemType) → bytes ≡ h ∷ after → a ≡ announced h → a ≤ length after
-    → read_item (take (1 + a) bytes) ≡ Ok x → short_item first_path_item bytes ≡ Ok (record { bytes = take (1 + a) bytes; item = x })
+    → read_with item_of (take (1 + a) bytes) ≡ Ok x → short_item item_of bytes ≡ Ok (record { bytes = take (1 + a) bytes; item = x })
 short_item-ok bytes h after a x e ea le r =
     let spelled : ItemType → Spelled = λ y. record { bytes = h ∷ take (announced h) after; item = y } in
-    ap (short_item first_path_item) e
+    ap (short_item item_of) e
     ∙ ap (read_as spelled) (item_at-first bytes h after a e ea le ∙ r)
     ∙ ap (λ (l : List ℕ). Ok (record { bytes = l; item = x })) (ap (λ n. h ∷ take n after) (sym ea) ∙ sym (take-header bytes h after a e))
 
 -- a fault of the header and its data is the item's
 pub short_item-fails : (bytes : List ℕ) (h : ℕ) (after : List ℕ) (a : ℕ) (e : HidError) → bytes ≡ h ∷ after → a ≡ announced h → a ≤ length after
-    → Fails e (read_item (take (1 + a) bytes)) → Fails e (short_item first_path_item bytes)
+    → Fails e (read_with item_of (take (1 + a) bytes)) → Fails e (short_item item_of bytes)
 short_item-fails bytes h after a error e ea le f =
     let spelled : ItemType → Spelled = λ y. record { bytes = h ∷ take (announced h) after; item = y } in
-    let same : item_at first_path_item h after ≡ read_item (take (1 + a) bytes) = item_at-first bytes h after a e ea le in
-    let part : Fails error (item_at first_path_item h after) = subst (λ (r : Result ItemType Fault). Fails error r) (sym same) f in
-    subst (λ (l : List ℕ). Fails error (short_item first_path_item l)) (sym e) (fails_read_as spelled (item_at first_path_item h after) error part)
+    let same : item_at item_of h after ≡ read_with item_of (take (1 + a) bytes) = item_at-first bytes h after a e ea le in
+    let part : Fails error (item_at item_of h after) = subst (λ (r : Result ItemType Fault). Fails error r) (sym same) f in
+    subst (λ (l : List ℕ). Fails error (short_item item_of l)) (sym e) (fails_read_as spelled (item_at item_of h after) error part)
 
 -- the items before, and then those of the rest
 abbrev pub with_front : List Entry → Result (List Entry) (ℕ × Fault) → Result (List Entry) (ℕ × Fault)
@@ -107,31 +107,31 @@ items_from-inside read offset (suc inside) (b ∷ bs) le =
     items_from-inside read (offset + 1) inside bs rest ∙ ap (λ n. items_from read n 0 (drop inside bs)) (omega arith)
 
 -- an item that can't be read is the fault
-pub items_from-fault : (offset : ℕ) (bytes : List ℕ) (fault : Fault) → bytes ≢ [] → short_item first_path_item bytes ≡ Err fault
-    → items_from first_path_item offset 0 bytes ≡ Err (offset, fault)
+pub items_from-fault : (offset : ℕ) (bytes : List ℕ) (fault : Fault) → bytes ≢ [] → short_item item_of bytes ≡ Err fault
+    → items_from item_of offset 0 bytes ≡ Err (offset, fault)
 items_from-fault offset [] fault ne e = absurd (ne refl)
 items_from-fault offset (h ∷ bs) fault ne e =
-    ap (λ (r : Result ItemType Fault). with_entry offset (h ∷ take (announced h) bs) r (items_from first_path_item (offset + 1) (announced h) bs))
-    (read_as_err (λ x. record { bytes = h ∷ take (announced h) bs; item = x }) (item_at first_path_item h bs) fault e)
+    ap (λ (r : Result ItemType Fault). with_entry offset (h ∷ take (announced h) bs) r (items_from item_of (offset + 1) (announced h) bs))
+    (read_as_err (λ x. record { bytes = h ∷ take (announced h) bs; item = x }) (item_at item_of h bs) fault e)
 
 -- an item that is read stands before the items of the rest
-pub items_from-item : (offset : ℕ) (bytes : List ℕ) (s : Spelled) → short_item first_path_item bytes ≡ Ok s
+pub items_from-item : (offset : ℕ) (bytes : List ℕ) (s : Spelled) → short_item item_of bytes ≡ Ok s
     → (length s.bytes ≤ length bytes) × (0 < length s.bytes)
-    × (items_from first_path_item offset 0 bytes ≡ with_front (at_offset offset s ∷ []) (items_from first_path_item (offset + length s.bytes) 0 (drop (length s.bytes) bytes)))
+    × (items_from item_of offset 0 bytes ≡ with_front (at_offset offset s ∷ []) (items_from item_of (offset + length s.bytes) 0 (drop (length s.bytes) bytes)))
 items_from-item offset [] s e = cc
 items_from-item offset (h ∷ bs) s e =
     let n = announced h in
-    let got = read_as_ok (λ x. record { bytes = h ∷ take n bs; item = x }) (item_at first_path_item h bs) s e in
-    let room : n ≤ length bs = enough (length bs) n (chosen_ok (nat_lt (length bs) n) Insufficient (first_path_item h (take n bs)) got.0 got.1).0 in
+    let got = read_as_ok (λ x. record { bytes = h ∷ take n bs; item = x }) (item_at item_of h bs) s e in
+    let room : n ≤ length bs = enough (length bs) n (chosen_ok (nat_lt (length bs) n) Insufficient (item_of h (take n bs)) got.0 got.1).0 in
     let size : length s.bytes ≡ suc n = ap (λ (y : Spelled). length y.bytes) (sym got.2) ∙ (let e1 : length (h ∷ take n bs) ≡ suc n = simp length-take (omega arith) in e1) in
-    let first : items_from first_path_item offset 0 (h ∷ bs) ≡ with_front (at_offset offset s ∷ []) (items_from first_path_item (offset + 1) n bs) =
-    ap (λ (r : Result ItemType Fault). with_entry offset (h ∷ take n bs) r (items_from first_path_item (offset + 1) n bs)) got.1
-    ∙ with_entry-ok offset (h ∷ take n bs) got.0 (items_from first_path_item (offset + 1) n bs)
-    ∙ ap (λ (y : Spelled). with_front (at_offset offset y ∷ []) (items_from first_path_item (offset + 1) n bs)) got.2 in
-    let rest : items_from first_path_item (offset + 1) n bs ≡ items_from first_path_item (offset + length s.bytes) 0 (drop (length s.bytes) (h ∷ bs)) =
-    items_from-inside first_path_item (offset + 1) n bs room
-    ∙ ap (λ k. items_from first_path_item k 0 (drop n bs)) (let e2 : offset + 1 + n ≡ offset + length s.bytes = omega arith in e2)
-    ∙ ap (λ k. items_from first_path_item (offset + length s.bytes) 0 (drop k (h ∷ bs))) (sym size) in
+    let first : items_from item_of offset 0 (h ∷ bs) ≡ with_front (at_offset offset s ∷ []) (items_from item_of (offset + 1) n bs) =
+    ap (λ (r : Result ItemType Fault). with_entry offset (h ∷ take n bs) r (items_from item_of (offset + 1) n bs)) got.1
+    ∙ with_entry-ok offset (h ∷ take n bs) got.0 (items_from item_of (offset + 1) n bs)
+    ∙ ap (λ (y : Spelled). with_front (at_offset offset y ∷ []) (items_from item_of (offset + 1) n bs)) got.2 in
+    let rest : items_from item_of (offset + 1) n bs ≡ items_from item_of (offset + length s.bytes) 0 (drop (length s.bytes) (h ∷ bs)) =
+    items_from-inside item_of (offset + 1) n bs room
+    ∙ ap (λ k. items_from item_of k 0 (drop n bs)) (let e2 : offset + 1 + n ≡ offset + length s.bytes = omega arith in e2)
+    ∙ ap (λ k. items_from item_of (offset + length s.bytes) 0 (drop k (h ∷ bs))) (sym size) in
     (let le : suc n ≤ length (h ∷ bs) = omega arith in subst (λ k. k ≤ length (h ∷ bs)) (sym size) le, omega arith, first ∙ ap (with_front (at_offset offset s ∷ [])) rest)
 
 -- an error that names the offset and the message is this answer
@@ -143,26 +143,26 @@ refuses-invalid parser.MismatchingReportId offset message answer named e = absur
 refuses-invalid parser.OutOfMemory offset message answer named e = tt
 
 -- bytes of which the first stands at 0
-itemise-some : (bytes : List ℕ) → bytes ≢ [] → itemise first_path_item bytes ≡ items_from first_path_item 0 0 bytes
+itemise-some : (bytes : List ℕ) → bytes ≢ [] → itemise item_of bytes ≡ items_from item_of 0 0 bytes
 itemise-some [] ne = absurd (ne refl)
 itemise-some (b ∷ bs) ne = refl
 
 -- the fault of the rest is that of all the bytes
 fault-whole : (bytes rest : List ℕ) (front : List Entry) (offset : ℕ) (fault : Fault) → bytes ≢ [] → rest ≢ []
-    → with_front front (items_from first_path_item offset 0 rest) ≡ items_from first_path_item 0 0 bytes
-    → short_item first_path_item rest ≡ Err fault → as_refusal (itemise first_path_item bytes) ≡ Err (InvalidAt offset (grammar_message fault))
+    → with_front front (items_from item_of offset 0 rest) ≡ items_from item_of 0 0 bytes
+    → short_item item_of rest ≡ Err fault → as_refusal (itemise item_of bytes) ≡ Err (InvalidAt offset (grammar_message fault))
 fault-whole bytes rest front offset fault some more same e =
     ap as_refusal (itemise-some bytes some ∙ sym same ∙ ap (with_front front) (items_from-fault offset rest fault more e))
 
 -- the reader's error, placed, is the answer
 pub refuses-fault : (bytes rest : List ℕ) (front : List Entry) (offset : ℕ) (fault : HidError) (error : ParserError) → bytes ≢ [] → rest ≢ []
-    → with_front front (items_from first_path_item offset 0 rest) ≡ items_from first_path_item 0 0 bytes
-    → Fails fault (short_item first_path_item rest)
+    → with_front front (items_from item_of offset 0 rest) ≡ items_from item_of 0 0 bytes
+    → Fails fault (short_item item_of rest)
     → IfSome (fault_of fault) (λ f. IsInvalidAt error offset (grammar_message f)) → (fault_of fault ≡ None → error ≡ parser.OutOfMemory)
-    → Refuses error (as_refusal (itemise first_path_item bytes))
+    → Refuses error (as_refusal (itemise item_of bytes))
 refuses-fault bytes rest front offset (errors.InvalidData message) error some more same e named memory =
     refuses-invalid error offset _ _ named (fault-whole bytes rest front offset (Invalid (string_bytes message)) some more same e)
 refuses-fault bytes rest front offset errors.InsufficientData error some more same e named memory =
     refuses-invalid error offset _ _ named (fault-whole bytes rest front offset Insufficient some more same e)
 refuses-fault bytes rest front offset errors.OutOfMemory error some more same e named memory =
-    subst (λ (x : ParserError). Refuses x (as_refusal (itemise first_path_item bytes))) (sym (memory refl)) tt
+    subst (λ (x : ParserError). Refuses x (as_refusal (itemise item_of bytes))) (sym (memory refl)) tt

@@ -1,4 +1,5 @@
 pub mod Answer
+pub mod Data
 pub mod Entry
 pub mod Itemising
 pub mod Messages

@@ -1,6 +1,6 @@
 ghost use Rattle.std.specs.Prelude.{◌≡◌, ◌≢◌, ℕ, List, [], IfErr, IfOk};
 ghost use Rattle.hidreport_items.specs.Answer.{Fault};
-ghost use Rattle.hidreport_items.specs.FirstPath.{first_path_item};
+ghost use Rattle.hidreport_items.specs.Spelling.{item_of};
 ghost use Rattle.hidreport_lists.specs.Answer.{Answers, InvalidAt};
 ghost use Rattle.hidreport_lists.specs.Entry.{Entry};
 ghost use Rattle.hidreport_lists.specs.Itemising.{as_refusal, itemise, Itemises, IsFaultAt, IsGrammarFault};
@@ -66,11 +66,11 @@ impl ReportDescriptorItems {
     /// `Insufficient data`, or `Invalid data: ` and the reader's message. No bytes at all are
     /// `InvalidData` at 0, `Insufficient data`. `OutOfMemory` comes only where a growth is refused.
     pub fn try_from(alloc: Global, bytes: &[u8]) -> Result<ReportDescriptorItems, ParserError>
-        ensures exact { Answers result (as_refusal (itemise first_path_item bytes.now)) }
-        ensures items { IfOk result (λ items. Itemises first_path_item bytes.now items) }
-        ensures only_items { (entries : List Entry) → Itemises first_path_item bytes.now entries → Answers result (Ok entries) }
-        ensures fault { bytes.now ≢ [] → IfErr result (λ error. IsGrammarFault first_path_item bytes.now error) }
-        ensures only_fault { (offset : ℕ) (fault : Fault) → IsFaultAt first_path_item bytes.now offset fault → Answers result (Err (InvalidAt offset (grammar_message fault))) }
+        ensures exact { Answers result (as_refusal (itemise item_of bytes.now)) }
+        ensures items { IfOk result (λ items. Itemises item_of bytes.now items) }
+        ensures only_items { (entries : List Entry) → Itemises item_of bytes.now entries → Answers result (Ok entries) }
+        ensures fault { bytes.now ≢ [] → IfErr result (λ error. IsGrammarFault item_of bytes.now error) }
+        ensures only_fault { (offset : ℕ) (fault : Fault) → IsFaultAt item_of bytes.now offset fault → Answers result (Err (InvalidAt offset (grammar_message fault))) }
     {
         if bytes.is_empty() {
             return Err(fault_at(alloc, 0, HidError::InsufficientData));

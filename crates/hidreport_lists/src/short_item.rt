@@ -1,10 +1,13 @@
-ghost use Rattle.std.specs.Prelude.{◌≡◌, ◌≤◌, ◌/◌, ◌%◌, Bool, false, List, ℕ, length, take};
+ghost use Rattle.std.specs.Prelude.{◌≡◌, ◌≤◌, ◌/◌, ◌%◌, Bool, false, List, ℕ, drop, length, take};
 ghost use Rattle.hidreport_items.specs.Answer.{Gives};
-ghost use Rattle.hidreport_items.specs.FirstPath.{first_path_item};
-ghost use Rattle.hidreport_items.specs.Spelling.{announced};
+ghost use Rattle.hidreport_items.specs.Spelling.{item_of};
+ghost use Rattle.hidreport_items.specs.Spelling.{announced, first_or_zero};
+ghost use Rattle.hidreport_items.specs.Writing.{item_bytes};
 ghost use Rattle.hidreport_items.specs.declared.item.ItemType.{ItemType};
+ghost use Rattle.hidreport_lists.specs.Data.{some_data};
 ghost use Rattle.hidreport_lists.specs.Itemising.{short_item};
 
+use crate::data::ItemData;
 use hidreport_items::{HidError, ItemType};
 use std::alloc::Global;
 use std::marker::Model;
@@ -17,6 +20,15 @@ pub trait Item {
     /// The item that they spell.
     ghost item_meaning: { Self → ItemType };
 
+    /// The tag: of a short item the upper four bits of its header.
+    ghost item_tag: { Self → ℕ };
+
+    /// The data bytes among them.
+    ghost item_data: { Self → List ℕ };
+
+    /// The item is a long one (Section 6.2.2.3).
+    ghost is_long: { Self → Bool };
+
     /// How many bytes the item has, its header among them.
     fn size(&self) -> usize
         ensures { result ≡ length (item_bytes self.now) };
@@ -25,9 +37,25 @@ pub trait Item {
     fn item_type(&self) -> ItemType
         ensures { result ≡ item_meaning self.now };
 
+    /// The item's tag, of a short item 0 to 15: the upper four bits of the header.
+    fn tag(&self) -> u8
+        ensures { result ≡ item_tag self.now };
+
+    /// The item's first byte.
+    fn header(&self) -> u8
+        ensures { result ≡ first_or_zero (item_bytes self.now) };
+
+    /// Whether the item is a long one (Section 6.2.2.3).
+    fn is_long_item(&self) -> bool
+        ensures { result ≡ is_long self.now };
+
     /// The item's bytes, its header first.
     fn bytes(&self) -> &[u8]
         ensures { result.now ≡ item_bytes self.now };
+
+    /// The item's data, borrowed from it; `None` where it has none.
+    fn data(&self) -> Option<ItemData<'_>>
+        ensures { result ≡ some_data (item_data self.now) };
 }
 
 /// An item of at most five bytes: a header, and 0, 1, 2 or 4 bytes of data (Section 6.2.2.2).
@@ -55,7 +83,7 @@ impl ShortItem {
     /// No bytes, or fewer than the header announces, are `InsufficientData`; else the refusals are
     /// those of `ItemType::try_from` of just the announced bytes.
     pub fn try_from(alloc: Global, bytes: &[u8]) -> Result<ShortItem, HidError>
-        ensures { Gives result (short_item first_path_item bytes.now) }
+        ensures { Gives result (short_item item_of bytes.now) }
     {
         let Some((header, after)) = bytes.split_first() else {
             return Err(HidError::InsufficientData);
@@ -74,10 +102,29 @@ impl ShortItem {
     }
 }
 
+impl ShortItem {
+    /// The short item that `as_bytes` of this item spells.
+    ///
+    /// `Long` and `Reserved` spell none: `InsufficientData`. `OutOfMemory` comes only where a
+    /// growth is refused.
+    pub fn from_item_type(alloc: Global, item: &ItemType) -> Result<ShortItem, HidError>
+        ensures { Gives result (short_item item_of (item_bytes item.now)) }
+    {
+        let bytes = item.as_bytes(alloc)?;
+        ShortItem::try_from(alloc, &bytes)
+    }
+}
+
 impl Item for ShortItem {
     ghost item_bytes = { λ s. s.bytes };
 
     ghost item_meaning = { λ s. s.item };
+
+    ghost item_tag = { λ s. first_or_zero s.bytes / 16 };
+
+    ghost item_data = { λ s. drop 1 s.bytes };
+
+    ghost is_long = { λ s. false };
 
     fn size(&self) -> usize {
         self.size
@@ -87,8 +134,30 @@ impl Item for ShortItem {
         self.item
     }
 
+    fn tag(&self) -> u8 {
+        self.header() >> 4
+    }
+
+    fn header(&self) -> u8 {
+        match self.bytes() {
+            [] => 0,
+            [header, ..] => *header,
+        }
+    }
+
+    fn is_long_item(&self) -> bool {
+        false
+    }
+
     fn bytes(&self) -> &[u8] {
         &self.bytes[..self.size]
+    }
+
+    fn data(&self) -> Option<ItemData<'_>> {
+        match self.bytes() {
+            [] | [_] => None,
+            [_, data_bytes @ ..] => Some(ItemData::new(data_bytes)),
+        }
     }
 }
 

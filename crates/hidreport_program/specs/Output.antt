@@ -31,7 +31,7 @@ values_output (Ok descriptor) bytes = found_output (find_report descriptor.input
 values_output (Err refusal) bytes = record { text = refusal_line refusal; outcome = Refused }
 
 -- the output of a command for the bytes of a descriptor and of a report
-abbrev pub output : Command → List ℕ → List ℕ → Output
+unfoldable pub output : Command → List ℕ → List ℕ → Output
 output Values descriptor bytes = values_output (parse descriptor) bytes
 
 -- what an error says of a descriptor; want of memory says nothing

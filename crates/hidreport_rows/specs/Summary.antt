@@ -1,9 +1,8 @@
 -- What a descriptor announces, in short, for the rows.
 use Rattle.std.specs.Prelude.{ℕ, ℤ, pos, negsuc, ◌+◌, ◌*◌, Bool, true, false, List, [], ◌∷◌, map, flat_map, Option, None, option_map, Result, Ok, Err}
-use Rattle.hidreport_items.specs.Spelling.{item_of}
 use Rattle.hidreport_lists.specs.Answer.{Refusal}
 use Rattle.hidreport.specs.Lookup.{find_report}
-use Rattle.hidreport.specs.Meaning.{parse_by}
+use Rattle.hidreport.specs.Meaning.{no_early_fault, parse_by}
 use Rattle.hidreport.specs.Reading.{ValueRecord, read_variable, read_array}
 use Rattle.hidreport.specs.Records.{Attributes, FieldRecord, VariableRecord, ArrayRecord, ConstantRecord, ReportRecord, DescriptorRecord}
 use Rattle.hidreport.specs.declared.usage.Usage.{Usage}
@@ -43,7 +42,7 @@ in_short (Err refusal) = Err refusal
 
 -- what the bytes of a text announce, every item carried
 abbrev pub announced_by : List ℕ → Result DescriptorRecord Refusal
-announced_by text = parse_by item_of (hex text)
+announced_by text = parse_by no_early_fault (hex text)
 
 -- the same in short
 abbrev pub summary : List ℕ → Result DescriptorSummary Refusal

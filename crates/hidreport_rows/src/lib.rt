@@ -3,6 +3,8 @@
 
 pub mod definitions;
 pub mod example;
+#[cfg(test)]
+mod items;
 pub mod laws;
 #[cfg(test)]
 mod tests;

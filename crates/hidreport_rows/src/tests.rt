@@ -57,10 +57,16 @@ fn items_with_their_places(rt: HostRuntime) -> Result<(), Fail> {
 
 #[test]
 fn refusals_name_their_offset(rt: HostRuntime) {
-    let rows: [(&[u8], usize, &str); 6] = [
+    let rows: [(&[u8], usize, &str); 12] = [
         (b"", 0, "Empty report descriptor"),
         (b"\x03", 0, "Insufficient data"),
-        (b"\x18", 0, "Invalid data: Not in the first path"),
+        (b"\x00", 0, "Invalid data: Invalid item tag 0b000000"),
+        (b"\x40", 0, "Invalid data: Invalid item tag 0b1000000"),
+        (b"\xb4\x80", 1, "Insufficient data"),
+        (b"\xa4\x80", 1, "Insufficient data"),
+        (b"\x05\x01\xa4", 2, "Not in the first path"),
+        (b"\x05\x01\xa1\x01\x05", 4, "Insufficient data"),
+        (b"\x18", 0, "Insufficient data"),
         (b"\x08", 0, "Insufficient data"),
         (
             b"\x05\x01\x75\x08\x95\x01\x81\x02\x05",

@@ -22,6 +22,7 @@ pub struct Written {
 /// What `command` writes of a descriptor's and a report's bytes.
 ///
 /// The text isn't empty. Refuses only where memory runs out.
+#[tactic(auto, unfolding(crate::specs::Output::output))]
 pub fn text_of(
     alloc: Global,
     command: Command,
@@ -40,6 +41,7 @@ pub fn text_of(
 }
 
 /// What `values` writes of a descriptor's and a report's bytes.
+#[tactic(auto, unfolding(crate::specs::Output::output))]
 fn values(alloc: Global, descriptor: &[u8], report: &[u8]) -> Result<Written, AllocError>
     ensures text { IfOk result (λ w.
         string_bytes w.text ≡ (output Command.Values descriptor.now report.now).text) }

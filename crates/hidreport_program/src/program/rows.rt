@@ -93,7 +93,7 @@ fn missing_usage_page(rt: HostRuntime) {
 #[test]
 fn item_that_is_not_read_yet(rt: HostRuntime) {
     let descriptor = b"\x05\x01\xa1\x01";
-    let text = b"refused: invalid data at offset 2: Invalid data: Not in the first path\n";
+    let text = b"refused: invalid data at offset 2: Not in the first path\n";
     shows(&rt, descriptor, b"\x00", Outcome::Refused, text);
 }
 

@@ -1,27 +1,20 @@
 use Rattle.std.proofs.Common.{◌∙◌, ap, sym, subst, Ok, Err}
 use Rattle.hidreport_lists.specs.Entry.{Spelled}
-use Rattle.hidreport.specs.Faults.{fault_of}
-use Rattle.hidreport.specs.Machine.{step, counts_in}
+use Rattle.hidreport.specs.Machine.{step, fault_in}
 use Rattle.hidreport.specs.Meaning.{refusal_at}
-use Rattle.hidreport.specs.State.{held_of, is_carried, IsFaultOf}
+use Rattle.hidreport.specs.State.{held_of, IsFaultOf}
 use Rattle.hidreport_items.specs.declared.item.ItemType.{ItemType}
-use Rattle.hidreport.proofs.ParseLemmas.{carried-at, walked-on, meaning-fault, meaning-end, refuses-fault}
+use Rattle.hidreport.proofs.ParseLemmas.{walked-on, meaning-fault, meaning-end, refuses-fault}
 use Rattle.hidreport.proofs.parse.reports_of.Goals as goal
-
-pub take-requires-clause-carried : goal.take-requires-clause-carried
-take-requires-clause-carried c =
-    let same = c.item_type.ensures ∙ ap (λ (s : Spelled). s.item) c.item.ensures in
-    ap is_carried same ∙ carried-at c.args.items.now c.loop-entry.entry-index c.entry-item.result c.requires c.loop-entry-test.true c.entry-item.is
 
 pub returns-in-Err : goal.returns-in-Err
 returns-in-Err c =
     let same = c.item_type.ensures ∙ ap (λ (s : Spelled). s.item) c.item.ensures in
     let h = held_of c.loop-entry.state in
-    let fault : IsFaultOf c.in-Err.fault (fault_of (counts_in h c.entry-item.result.item) h.force c.entry-item.result.item) =
-    subst (λ (x : ItemType). IsFaultOf c.in-Err.fault (fault_of (counts_in h x) h.force x)) same c.in-Err.ensures.err in
+    let fault : IsFaultOf c.in-Err.fault (fault_in h c.entry-item.result.item) = subst (λ (x : ItemType). IsFaultOf c.in-Err.fault (fault_in h x)) same c.in-Err.ensures.err in
     record {
-      exact = refuses-fault c.in-Err.fault c.offset.result c.at.result (fault_of (counts_in h c.entry-item.result.item) h.force c.entry-item.result.item) _ fault c.at.ensures.named c.at.ensures.memory
-          (λ f e. meaning-fault c.args.items.now c.loop-entry.entry-index c.entry-item.result h f c.requires c.loop-entry-test.true c.entry-item.is c.loop-entry.invariant.walked e
+      exact = refuses-fault c.in-Err.fault c.offset.result c.at.result (fault_in h c.entry-item.result.item) _ fault c.at.ensures.named c.at.ensures.memory
+          (λ f e. meaning-fault c.args.items.now c.loop-entry.entry-index c.entry-item.result h f c.loop-entry-test.true c.entry-item.is c.loop-entry.invariant.walked e
           ∙ ap (λ o. Err (refusal_at o f)) (sym c.offset.ensures));
     }
 
@@ -36,4 +29,4 @@ loop-entry-preserved c =
     }
 
 pub returns : goal.returns
-returns c = record { exact = meaning-end c.args.items.now c.loop-entry.entry-index (held_of c.loop-entry.state) c.requires c.loop-entry-test.false c.loop-entry.invariant.walked ∙ ap Ok (sym c.into_descriptor.ensures) }
+returns c = record { exact = meaning-end c.args.items.now c.loop-entry.entry-index (held_of c.loop-entry.state) c.loop-entry-test.false c.loop-entry.invariant.walked ∙ ap Ok (sym c.into_descriptor.ensures) }

@@ -2,8 +2,6 @@ use Rattle.std.proofs.Common.{◌≡◌, ◌≢◌, ◌∙◌, [], ap, sym, subs
 use Rattle.std.proofs.lemmas.Result.{err_from_is_err_and}
 use Rattle.hidreport_lists.specs.Answer.{Answers, Refusal}
 use Rattle.hidreport.specs.Records.{DescriptorRecord}
-use Rattle.hidreport.specs.State.{AllCarried}
-use Rattle.hidreport.proofs.Carried.{all-carried}
 use Rattle.hidreport.proofs.ParseLemmas.{parse-grammar, parse-meaning}
 use Rattle.hidreport.proofs.descriptor.ReportDescriptor.try_from.Goals as goal
 
@@ -12,9 +10,6 @@ returns-in_err-items c =
     let some : c.args.bytes.now ≢ [] = λ e. let l : length c.args.bytes.now ≡ 0 = ap length e in grind (arith, c.is_empty.ensures) in
     let p = err_from_is_err_and c.from_residual.result c.from_residual.ensures.1 in
     record { exact = rw (p.1, p.2) (parse-grammar c.args.bytes.now c.in_err-items.field-0.0 some c.in_err-items.ensures.exact) }
-
-pub reports_of-requires : goal.reports_of-requires
-reports_of-requires c = subst AllCarried (sym c.as_slice.ensures) (all-carried c.in_ok-items.items c.in_ok-items.ensures.items.each)
 
 pub returns : goal.returns
 returns c =

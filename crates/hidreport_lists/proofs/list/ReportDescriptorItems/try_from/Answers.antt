@@ -1,6 +1,6 @@
 use Rattle.std.proofs.Common.{◌≡◌, ◌≢◌, ◌+◌, ◌∙◌, [], ◌∷◌, ap, sym, length, length-drop, drop, Ok, Err, arith}
 use Rattle.std.proofs.lemmas.Grind.{common_steps}
-use Rattle.hidreport_items.specs.FirstPath.{first_path_item}
+use Rattle.hidreport_items.specs.Spelling.{item_of}
 use Rattle.hidreport_lists.specs.Itemising.{items_from}
 use Rattle.hidreport_lists.proofs.Cuts.{are_bytes, answer-done, answer-items, answer-only, answer-fault, answer-only_fault}
 use Rattle.hidreport_lists.proofs.Items.{items_from-item, refuses-fault, with_front, with_front-more, at_offset}
@@ -22,13 +22,13 @@ loop-rest-preserved c =
     let rest = c.loop-rest.rest.now in
     let item = c.in-Ok.item in
     let step = items_from-item offset rest item c.in-Ok.ensures in
-    let after : items_from first_path_item (offset + c.size-size.result) 0 c.split_at.result.1.now ≡ items_from first_path_item (offset + length item.bytes) 0 (drop (length item.bytes) rest) =
-    ap (items_from first_path_item (offset + c.size-size.result) 0) c.split_at.ensures.back ∙ ap (λ k. items_from first_path_item (offset + k) 0 (drop k rest)) c.size-size.ensures in
+    let after : items_from item_of (offset + c.size-size.result) 0 c.split_at.result.1.now ≡ items_from item_of (offset + length item.bytes) 0 (drop (length item.bytes) rest) =
+    ap (items_from item_of (offset + c.size-size.result) 0) c.split_at.ensures.back ∙ ap (λ k. items_from item_of (offset + k) 0 (drop k rest)) c.size-size.ensures in
     record {
       place = rw c.split_at.ensures.back (simp length-drop (omega (arith, step.0, c.size-size.ensures, c.loop-rest.invariant.place)));
       items =
-          ap (λ l. with_front l (items_from first_path_item (offset + c.size-size.result) 0 c.split_at.result.1.now)) c.in_ok-push-in-Ok.ensures.items
-          ∙ with_front-more c.loop-rest.items.items (at_offset offset item) (items_from first_path_item (offset + c.size-size.result) 0 c.split_at.result.1.now)
+          ap (λ l. with_front l (items_from item_of (offset + c.size-size.result) 0 c.split_at.result.1.now)) c.in_ok-push-in-Ok.ensures.items
+          ∙ with_front-more c.loop-rest.items.items (at_offset offset item) (items_from item_of (offset + c.size-size.result) 0 c.split_at.result.1.now)
           ∙ ap (with_front c.loop-rest.items.items) (ap (with_front (at_offset offset item ∷ [])) after ∙ sym step.2)
           ∙ c.loop-rest.invariant.items;
     }
@@ -42,30 +42,30 @@ returns-in-Err-clause-exact c =
 
 pub returns-in-Err-clause-only_items : goal.returns-in-Err-clause-only_items
 returns-in-Err-clause-only_items c =
-    answer-only first_path_item c.args.bytes.now (Err c.fault_at-in-Err.result) (returns-in-Err-clause-exact c)
+    answer-only item_of c.args.bytes.now (Err c.fault_at-in-Err.result) (returns-in-Err-clause-exact c)
 
 pub returns-in-Err-clause-fault : goal.returns-in-Err-clause-fault
 returns-in-Err-clause-fault c =
-    answer-fault first_path_item c.args.bytes.now (Err c.fault_at-in-Err.result) (are_bytes c.args.bytes.now (λ i. omega (arith, c.type_inv.bytes i))) (returns-in-Err-clause-exact c)
+    answer-fault item_of c.args.bytes.now (Err c.fault_at-in-Err.result) (are_bytes c.args.bytes.now (λ i. omega (arith, c.type_inv.bytes i))) (returns-in-Err-clause-exact c)
 
 pub returns-in-Err-clause-only_fault : goal.returns-in-Err-clause-only_fault
 returns-in-Err-clause-only_fault c =
-    answer-only_fault first_path_item c.args.bytes.now (Err c.fault_at-in-Err.result) (returns-in-Err-clause-exact c)
+    answer-only_fault item_of c.args.bytes.now (Err c.fault_at-in-Err.result) (returns-in-Err-clause-exact c)
 
 pub returns-clause-exact : goal.returns-clause-exact
 returns-clause-exact c =
     let some : c.args.bytes.now ≢ [] = λ e. let l : length c.args.bytes.now ≡ 0 = ap length e in grind (arith, c.is_empty.ensures) in
     let none : length c.loop-rest.rest.now ≡ 0 = grind (arith, common_steps, c.is_empty-in-loop-rest.ensures, c.loop-rest-test.false) in
-    answer-done first_path_item c.args.bytes.now c.loop-rest.rest.now c.loop-rest.items.items c.loop-rest.offset some none c.loop-rest.invariant.items
+    answer-done item_of c.args.bytes.now c.loop-rest.rest.now c.loop-rest.items.items c.loop-rest.offset some none c.loop-rest.invariant.items
 
 pub returns-clause-items : goal.returns-clause-items
 returns-clause-items c =
-    answer-items first_path_item c.args.bytes.now (Ok c.loop-rest.items.items) (are_bytes c.args.bytes.now (λ i. omega (arith, c.type_inv.bytes i))) (returns-clause-exact c)
+    answer-items item_of c.args.bytes.now (Ok c.loop-rest.items.items) (are_bytes c.args.bytes.now (λ i. omega (arith, c.type_inv.bytes i))) (returns-clause-exact c)
 
 pub returns-clause-only_items : goal.returns-clause-only_items
 returns-clause-only_items c =
-    answer-only first_path_item c.args.bytes.now (Ok c.loop-rest.items.items) (returns-clause-exact c)
+    answer-only item_of c.args.bytes.now (Ok c.loop-rest.items.items) (returns-clause-exact c)
 
 pub returns-clause-only_fault : goal.returns-clause-only_fault
 returns-clause-only_fault c =
-    answer-only_fault first_path_item c.args.bytes.now (Ok c.loop-rest.items.items) (returns-clause-exact c)
+    answer-only_fault item_of c.args.bytes.now (Ok c.loop-rest.items.items) (returns-clause-exact c)

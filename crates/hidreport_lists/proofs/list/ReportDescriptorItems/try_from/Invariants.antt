@@ -1,5 +1,5 @@
 use Rattle.std.proofs.Common.{◌≡◌, ◌+◌, length}
-use Rattle.hidreport_items.specs.FirstPath.{first_path_item}
+use Rattle.hidreport_items.specs.Spelling.{item_of}
 use Rattle.hidreport_lists.specs.Itemising.{items_from}
 use Rattle.hidreport_lists.proofs.Items.{with_front}
 use Rattle.hidreport_lists.proofs.list.ReportDescriptorItems.try_from.Given as goal
@@ -8,7 +8,7 @@ use Rattle.hidreport_lists.proofs.list.ReportDescriptorItems.try_from.Given as g
 abbrev pub invariant-loop-rest : goal.invariant-loop-rest
 invariant-loop-rest l = record {
   place : l.offset + length l.rest ≡ length l.bytes;
-  items : with_front l.items.items (items_from first_path_item l.offset 0 l.rest) ≡ items_from first_path_item 0 0 l.bytes;
+  items : with_front l.items.items (items_from item_of l.offset 0 l.rest) ≡ items_from item_of 0 0 l.bytes;
 }
 
 abbrev pub decreases-loop-rest : goal.decreases-loop-rest

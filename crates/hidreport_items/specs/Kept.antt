@@ -1,0 +1,15 @@
+-- Items that a standard of today gives a meaning: all but those of kinds that it keeps for later.
+use Rattle.std.specs.Prelude.{Bool, true, false}
+use Rattle.hidreport_items.specs.declared.global.GlobalItem.TheVariants as global
+use Rattle.hidreport_items.specs.declared.local.LocalItem.TheVariants as local
+use Rattle.hidreport_items.specs.declared.item.ItemType.{ItemType}
+use Rattle.hidreport_items.specs.declared.item.ItemType.TheVariants as item
+
+abbrev pub is_kept : ItemType → Bool
+is_kept (item.Main x) = true
+is_kept (item.Global global.Reserved) = false
+is_kept (item.Global x) = true
+is_kept (item.Local (local.Reserved value)) = false
+is_kept (item.Local x) = true
+is_kept item.Long = true
+is_kept item.Reserved = false

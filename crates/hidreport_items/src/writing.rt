@@ -1,0 +1,112 @@
+//! Items as bytes.
+ghost use Rattle.std.specs.Prelude.{◌≡◌, ◌≤◌, ◌<◌, ◌^◌, length, pos};
+ghost use Rattle.hidreport_items.specs.Answer.{Writes};
+ghost use Rattle.hidreport_items.specs.Writing.{count_data, flag_bit, flags_data, four_bytes, signed_data, size_code};
+ghost use Rattle.hidreport_items.specs.Writing.{unsigned_data, with_header};
+
+use crate::error::HidError;
+use crate::flags::MainDataItem;
+use std::alloc::Global;
+
+/// A header without its size code, and the data that gives it one.
+pub(crate) fn with_header(alloc: Global, prefix: u8, data_bytes: &[u8]) -> Result<Vec<u8>, HidError>
+    requires room { prefix ≤ 252 }
+    requires short { length data_bytes.now ≤ 4 }
+    requires known { length data_bytes.now ≡ 3 → ⊥ }
+    ensures { Writes result (with_header prefix data_bytes.now) }
+{
+    let mut bytes = Vec::with_capacity(alloc, 1 + data_bytes.len())?;
+    bytes.push(prefix + size_code(data_bytes.len()))?;
+    bytes.extend_from_slice(data_bytes)?;
+    Ok(bytes)
+}
+
+/// The size code of so many data bytes: 3 stands for four of them.
+fn size_code(length: usize) -> u8
+    requires short { length ≤ 4 }
+    ensures value { result ≡ size_code length }
+    ensures small { result ≤ 3 }
+{
+    if length == 4 { 3 } else { length as u8 }
+}
+
+/// An item with an unsigned number in the shortest data that holds it.
+pub(crate) fn unsigned(alloc: Global, prefix: u8, number: u32) -> Result<Vec<u8>, HidError>
+    requires { prefix ≤ 252 }
+    ensures { Writes result (with_header prefix (unsigned_data number)) }
+{
+    match number {
+        0..=0xff => with_header(alloc, prefix, &[number as u8]),
+        0x100..=0xffff => with_header(alloc, prefix, &(number as u16).to_le_bytes()),
+        _ => with_header(alloc, prefix, &number.to_le_bytes()),
+    }
+}
+
+/// An item with a signed number in the shortest data that holds it.
+pub(crate) fn signed_item(alloc: Global, prefix: u8, number: i32) -> Result<Vec<u8>, HidError>
+    requires { prefix ≤ 252 }
+    ensures { Writes result (with_header prefix (signed_data number)) }
+{
+    match number {
+        -0x80..=0x7f => with_header(alloc, prefix, &[(number as i8).cast_unsigned()]),
+        -0x8000..=0x7fff => {
+            let number = (number as i16).cast_unsigned();
+            with_header(alloc, prefix, &number.to_le_bytes())
+        }
+        _ => with_header(alloc, prefix, &number.cast_unsigned().to_le_bytes()),
+    }
+}
+
+/// An item with a size or a count; past 32 bits it is the low 32 bits.
+pub(crate) fn count(alloc: Global, prefix: u8, number: usize) -> Result<Vec<u8>, HidError>
+    requires { prefix ≤ 252 }
+    ensures { Writes result (with_header prefix (count_data number)) }
+{
+    if number <= 0xffff_ffff {
+        unsigned(alloc, prefix, number as u32)
+    } else {
+        four_bytes(alloc, prefix, (number & 0xffff_ffff) as u32)
+    }
+}
+
+/// An item with a number in four bytes, however small it is.
+pub(crate) fn four_bytes(alloc: Global, prefix: u8, number: u32) -> Result<Vec<u8>, HidError>
+    requires { prefix ≤ 252 }
+    ensures { Writes result (with_header prefix (four_bytes number)) }
+{
+    with_header(alloc, prefix, &number.to_le_bytes())
+}
+
+/// A data item with its flags, in two bytes where it is of buffered bytes, else in one.
+pub(crate) fn flags<M: MainDataItem>(
+    alloc: Global,
+    prefix: u8,
+    item: &M,
+    is_volatile: bool,
+) -> Result<Vec<u8>, HidError>
+    requires { prefix ≤ 252 }
+    ensures { Writes result (with_header prefix (flags_data (record (M.flags item.now) { volatile = is_volatile }))) }
+{
+    let low = flag(item.is_constant(), 0)
+        + flag(item.is_variable(), 1)
+        + flag(item.is_relative(), 2)
+        + flag(item.wraps(), 3)
+        + flag(item.is_nonlinear(), 4)
+        + flag(item.has_no_preferred_state(), 5)
+        + flag(item.has_null_state(), 6)
+        + flag(is_volatile, 7);
+    if item.is_buffered_bytes() {
+        with_header(alloc, prefix, &[low, 1])
+    } else {
+        with_header(alloc, prefix, &[low])
+    }
+}
+
+/// A flag as its bit of the first byte.
+fn flag(flag: bool, bit: u32) -> u8
+    requires { bit < 8 }
+    ensures value { result ≡ flag_bit flag bit }
+    ensures small { result ≤ 2 ^ bit }
+{
+    if flag { 1 << bit } else { 0 }
+}
