@@ -15,8 +15,10 @@ use std::marker::{Model, PhantomData};
 
 /// Makes an Input, an Output or a Feature from its flags (Section 6.2.2.5).
 ///
-/// A flag of which nothing is said is off. Each parameter is what has been said of one flag, so that a flag is set at most once: a second setting doesn't
-/// compile.
+/// A flag of which nothing is said is off. Each parameter is what has been said of one flag, so that a
+/// flag is set at most once: a second setting doesn't compile.
+///
+/// `ItemBuilder::new().variable().relative().input()` is the Input of a mouse's axes.
 #[derive(Drop)]
 pub struct ItemBuilder<A, B, C, D, E, F, G, H, I>
 where
@@ -72,10 +74,7 @@ impl ItemBuilder<
     pub fn new() -> Self
         ensures { result ≡ no_flags }
     {
-        ItemBuilder {
-            flags: ItemFlags::default(),
-            states: PhantomData,
-        }
+        ItemBuilder::with_flags(ItemFlags::default())
     }
 }
 
@@ -91,6 +90,17 @@ where
     H: IBSBit,
     I: IBSVol,
 {
+    /// The builder with these flags, which are those that its states say.
+    fn with_flags(flags: ItemFlags) -> Self
+        requires { flags ≡ flags_said A.said B.said C.said D.said E.said F.said G.said H.said I.said }
+        ensures { result ≡ flags }
+    {
+        ItemBuilder {
+            flags,
+            states: PhantomData,
+        }
+    }
+
     /// The Input with these flags; it has no flag 7.
     pub fn input(self) -> InputItem
         ensures flags { result ≡ record self { volatile = false } }
@@ -122,13 +132,10 @@ where
         ensures unsaid { A.said ≡ None }
         ensures flags { result ≡ record self { constant = true } }
     {
-        ItemBuilder {
-            flags: ItemFlags {
-                is_constant: true,
-                ..self.flags
-            },
-            states: PhantomData,
-        }
+        ItemBuilder::with_flags(ItemFlags {
+            is_constant: true,
+            ..self.flags
+        })
     }
 
     /// The fields carry data: leaves flag 0 off.
@@ -138,13 +145,10 @@ where
         ensures unsaid { A.said ≡ None }
         ensures flags { result ≡ record self { constant = false } }
     {
-        ItemBuilder {
-            flags: ItemFlags {
-                is_constant: false,
-                ..self.flags
-            },
-            states: PhantomData,
-        }
+        ItemBuilder::with_flags(ItemFlags {
+            is_constant: false,
+            ..self.flags
+        })
     }
 
     /// Each element is a field with a usage of its own: sets flag 1.
@@ -154,13 +158,10 @@ where
         ensures unsaid { B.said ≡ None }
         ensures flags { result ≡ record self { variable = true } }
     {
-        ItemBuilder {
-            flags: ItemFlags {
-                is_variable: true,
-                ..self.flags
-            },
-            states: PhantomData,
-        }
+        ItemBuilder::with_flags(ItemFlags {
+            is_variable: true,
+            ..self.flags
+        })
     }
 
     /// The elements are indexes into the usages: leaves flag 1 off.
@@ -170,13 +171,10 @@ where
         ensures unsaid { B.said ≡ None }
         ensures flags { result ≡ record self { variable = false } }
     {
-        ItemBuilder {
-            flags: ItemFlags {
-                is_variable: false,
-                ..self.flags
-            },
-            states: PhantomData,
-        }
+        ItemBuilder::with_flags(ItemFlags {
+            is_variable: false,
+            ..self.flags
+        })
     }
 
     /// A value is a change since the last report: sets flag 2.
@@ -186,13 +184,10 @@ where
         ensures unsaid { C.said ≡ None }
         ensures flags { result ≡ record self { relative = true } }
     {
-        ItemBuilder {
-            flags: ItemFlags {
-                is_relative: true,
-                ..self.flags
-            },
-            states: PhantomData,
-        }
+        ItemBuilder::with_flags(ItemFlags {
+            is_relative: true,
+            ..self.flags
+        })
     }
 
     /// A value is counted from a fixed origin: leaves flag 2 off.
@@ -202,13 +197,10 @@ where
         ensures unsaid { C.said ≡ None }
         ensures flags { result ≡ record self { relative = false } }
     {
-        ItemBuilder {
-            flags: ItemFlags {
-                is_relative: false,
-                ..self.flags
-            },
-            states: PhantomData,
-        }
+        ItemBuilder::with_flags(ItemFlags {
+            is_relative: false,
+            ..self.flags
+        })
     }
 
     /// A value past one logical bound goes on at the other: sets flag 3.
@@ -218,13 +210,10 @@ where
         ensures unsaid { D.said ≡ None }
         ensures flags { result ≡ record self { wrap = true } }
     {
-        ItemBuilder {
-            flags: ItemFlags {
-                wraps: true,
-                ..self.flags
-            },
-            states: PhantomData,
-        }
+        ItemBuilder::with_flags(ItemFlags {
+            wraps: true,
+            ..self.flags
+        })
     }
 
     /// A value stays within its logical bounds: leaves flag 3 off.
@@ -234,13 +223,10 @@ where
         ensures unsaid { D.said ≡ None }
         ensures flags { result ≡ record self { wrap = false } }
     {
-        ItemBuilder {
-            flags: ItemFlags {
-                wraps: false,
-                ..self.flags
-            },
-            states: PhantomData,
-        }
+        ItemBuilder::with_flags(ItemFlags {
+            wraps: false,
+            ..self.flags
+        })
     }
 
     /// Values aren't linear in what was measured: sets flag 4.
@@ -250,13 +236,10 @@ where
         ensures unsaid { E.said ≡ None }
         ensures flags { result ≡ record self { nonlinear = true } }
     {
-        ItemBuilder {
-            flags: ItemFlags {
-                is_nonlinear: true,
-                ..self.flags
-            },
-            states: PhantomData,
-        }
+        ItemBuilder::with_flags(ItemFlags {
+            is_nonlinear: true,
+            ..self.flags
+        })
     }
 
     /// Values are linear in what was measured: leaves flag 4 off.
@@ -266,13 +249,10 @@ where
         ensures unsaid { E.said ≡ None }
         ensures flags { result ≡ record self { nonlinear = false } }
     {
-        ItemBuilder {
-            flags: ItemFlags {
-                is_nonlinear: false,
-                ..self.flags
-            },
-            states: PhantomData,
-        }
+        ItemBuilder::with_flags(ItemFlags {
+            is_nonlinear: false,
+            ..self.flags
+        })
     }
 
     /// The control stays as it was left: sets flag 5.
@@ -282,13 +262,10 @@ where
         ensures unsaid { F.said ≡ None }
         ensures flags { result ≡ record self { no_preferred_state = true } }
     {
-        ItemBuilder {
-            flags: ItemFlags {
-                has_no_preferred_state: true,
-                ..self.flags
-            },
-            states: PhantomData,
-        }
+        ItemBuilder::with_flags(ItemFlags {
+            has_no_preferred_state: true,
+            ..self.flags
+        })
     }
 
     /// The control comes back to a state when it is let go: leaves flag 5 off.
@@ -298,13 +275,10 @@ where
         ensures unsaid { F.said ≡ None }
         ensures flags { result ≡ record self { no_preferred_state = false } }
     {
-        ItemBuilder {
-            flags: ItemFlags {
-                has_no_preferred_state: false,
-                ..self.flags
-            },
-            states: PhantomData,
-        }
+        ItemBuilder::with_flags(ItemFlags {
+            has_no_preferred_state: false,
+            ..self.flags
+        })
     }
 
     /// The control has a state in which it sends no meaningful data: sets flag 6.
@@ -314,13 +288,10 @@ where
         ensures unsaid { G.said ≡ None }
         ensures flags { result ≡ record self { null_state = true } }
     {
-        ItemBuilder {
-            flags: ItemFlags {
-                has_null_state: true,
-                ..self.flags
-            },
-            states: PhantomData,
-        }
+        ItemBuilder::with_flags(ItemFlags {
+            has_null_state: true,
+            ..self.flags
+        })
     }
 
     /// The control always sends meaningful data: leaves flag 6 off.
@@ -330,13 +301,10 @@ where
         ensures unsaid { G.said ≡ None }
         ensures flags { result ≡ record self { null_state = false } }
     {
-        ItemBuilder {
-            flags: ItemFlags {
-                has_null_state: false,
-                ..self.flags
-            },
-            states: PhantomData,
-        }
+        ItemBuilder::with_flags(ItemFlags {
+            has_null_state: false,
+            ..self.flags
+        })
     }
 
     /// The field is a stream of bytes: sets flag 8.
@@ -346,13 +314,10 @@ where
         ensures unsaid { H.said ≡ None }
         ensures flags { result ≡ record self { buffered_bytes = true } }
     {
-        ItemBuilder {
-            flags: ItemFlags {
-                is_buffered_bytes: true,
-                ..self.flags
-            },
-            states: PhantomData,
-        }
+        ItemBuilder::with_flags(ItemFlags {
+            is_buffered_bytes: true,
+            ..self.flags
+        })
     }
 
     /// The field is a number of bits: leaves flag 8 off.
@@ -362,13 +327,10 @@ where
         ensures unsaid { H.said ≡ None }
         ensures flags { result ≡ record self { buffered_bytes = false } }
     {
-        ItemBuilder {
-            flags: ItemFlags {
-                is_buffered_bytes: false,
-                ..self.flags
-            },
-            states: PhantomData,
-        }
+        ItemBuilder::with_flags(ItemFlags {
+            is_buffered_bytes: false,
+            ..self.flags
+        })
     }
 
     /// The value may change without the host: sets flag 7, which an Input doesn't have.
@@ -378,13 +340,10 @@ where
         ensures unsaid { I.said ≡ None }
         ensures flags { result ≡ record self { volatile = true } }
     {
-        ItemBuilder {
-            flags: ItemFlags {
-                is_volatile: true,
-                ..self.flags
-            },
-            states: PhantomData,
-        }
+        ItemBuilder::with_flags(ItemFlags {
+            is_volatile: true,
+            ..self.flags
+        })
     }
 
     /// The value changes by the host alone: leaves flag 7 off.
@@ -394,12 +353,9 @@ where
         ensures unsaid { I.said ≡ None }
         ensures flags { result ≡ record self { volatile = false } }
     {
-        ItemBuilder {
-            flags: ItemFlags {
-                is_volatile: false,
-                ..self.flags
-            },
-            states: PhantomData,
-        }
+        ItemBuilder::with_flags(ItemFlags {
+            is_volatile: false,
+            ..self.flags
+        })
     }
 }
