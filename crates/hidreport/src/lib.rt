@@ -26,8 +26,11 @@ pub mod types {
 /// The items of a report descriptor, and lists of them.
 pub mod hid {
     pub use hidreport_items::{
-        CollectionItem, FeatureItem, GlobalItem, HidError, InputItem, ItemType, LocalItem,
-        MainDataItem, MainItem, OutputItem,
+        CollectionItem, FeatureItem, GlobalItem, HidError, IBAbsolute, IBArray, IBBitfield,
+        IBBuffered, IBConstant, IBData, IBLinear, IBNoNull, IBNoPreferred, IBNoWrap, IBNonLinear,
+        IBNonVolatile, IBNull, IBPreferred, IBRelative, IBSAbs, IBSArr, IBSBit, IBSData, IBSLin,
+        IBSNull, IBSPref, IBSVol, IBSWrap, IBState, IBUndefined, IBUnsaid, IBVariable, IBVolatile,
+        IBWrap, InputItem, ItemBuilder, ItemType, LocalItem, MainDataItem, MainItem, OutputItem,
     };
     pub use hidreport_lists::{
         Item, ItemData, ReportDescriptorItem, ReportDescriptorItems, ShortItem,

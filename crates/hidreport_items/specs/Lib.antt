@@ -4,5 +4,6 @@ pub mod Flags
 pub mod Kept
 pub mod Messages
 pub mod Numbers
+pub mod Said
 pub mod Spelling
 pub mod Writing

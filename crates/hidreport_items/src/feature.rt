@@ -1,10 +1,11 @@
+ghost use Rattle.std.specs.Prelude.{◌≡◌, not};
 ghost use Rattle.hidreport_items.specs.Answer.{Gives, Writes};
 ghost use Rattle.hidreport_items.specs.Spelling.{feature_item, read_with};
 ghost use Rattle.hidreport_items.specs.Writing.{main_bytes};
 ghost use Rattle.hidreport_items.specs.declared.main_item.MainItem.TheVariants.{Feature};
 
 use crate::error::HidError;
-use crate::flags::MainDataItem;
+use crate::flags::{ItemFlags, MainDataItem};
 use crate::message::size_fault;
 use crate::number::{is_flag_set, is_short_length, word};
 use crate::writing::flags;
@@ -103,6 +104,39 @@ impl FeatureItem {
             is_volatile: is_flag_set(flags, 7),
             is_buffered_bytes: is_flag_set(flags, 8),
         })
+    }
+
+    /// The item with these flags.
+    pub(crate) fn from_flags(flags: ItemFlags) -> FeatureItem
+        ensures { result ≡ flags }
+    {
+        FeatureItem {
+            is_constant: flags.is_constant,
+            is_variable: flags.is_variable,
+            is_relative: flags.is_relative,
+            wraps: flags.wraps,
+            is_nonlinear: flags.is_nonlinear,
+            has_no_preferred_state: flags.has_no_preferred_state,
+            has_null_state: flags.has_null_state,
+            is_volatile: flags.is_volatile,
+            is_buffered_bytes: flags.is_buffered_bytes,
+        }
+    }
+}
+
+impl FeatureItem {
+    /// The value may change without the host: flag 7 (Section 6.2.2.5).
+    pub fn is_volatile(&self) -> bool
+        ensures { result ≡ self.now.volatile }
+    {
+        self.is_volatile
+    }
+
+    /// The value changes by the host alone: not `is_volatile`.
+    pub fn is_nonvolatile(&self) -> bool
+        ensures { result ≡ not self.now.volatile }
+    {
+        !self.is_volatile
     }
 }
 

@@ -1,6 +1,8 @@
 ghost use Rattle.std.specs.Prelude.{◌≡◌, not};
 ghost use Rattle.hidreport_items.specs.Flags.{Flags};
 
+use std::marker::Model;
+
 /// The flags that Input, Output and Feature items share (Section 6.2.2.5).
 ///
 /// Each flag has two calls, one for each of its states: exactly one of them answers true.
@@ -95,4 +97,48 @@ pub trait MainDataItem {
     {
         !self.is_buffered_bytes()
     }
+}
+
+/// All nine flags (Section 6.2.2.5). An Input has no flag 7.
+#[derive(Clone, Copy, Default)]
+pub(crate) struct ItemFlags {
+    pub(crate) is_constant: bool,
+    pub(crate) is_variable: bool,
+    pub(crate) is_relative: bool,
+    pub(crate) wraps: bool,
+    pub(crate) is_nonlinear: bool,
+    pub(crate) has_no_preferred_state: bool,
+    pub(crate) has_null_state: bool,
+    pub(crate) is_volatile: bool,
+    pub(crate) is_buffered_bytes: bool,
+}
+
+impl Model for ItemFlags {
+    ghost use Rattle.hidreport_items.specs.Flags.{Flags};
+
+    ghost Value = { Flags };
+
+    ghost view = { λ f. record {
+      constant = f.is_constant;
+      variable = f.is_variable;
+      relative = f.is_relative;
+      wrap = f.wraps;
+      nonlinear = f.is_nonlinear;
+      no_preferred_state = f.has_no_preferred_state;
+      null_state = f.has_null_state;
+      volatile = f.is_volatile;
+      buffered_bytes = f.is_buffered_bytes;
+    } };
+
+    ghost inverse = { λ f. record {
+      is_constant = f.constant;
+      is_variable = f.variable;
+      is_relative = f.relative;
+      wraps = f.wrap;
+      is_nonlinear = f.nonlinear;
+      has_no_preferred_state = f.no_preferred_state;
+      has_null_state = f.null_state;
+      is_volatile = f.volatile;
+      is_buffered_bytes = f.buffered_bytes;
+    } };
 }

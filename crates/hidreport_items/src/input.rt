@@ -1,10 +1,11 @@
+ghost use Rattle.std.specs.Prelude.{◌≡◌, false};
 ghost use Rattle.hidreport_items.specs.Answer.{Gives, Writes};
 ghost use Rattle.hidreport_items.specs.Spelling.{input_item, read_with};
 ghost use Rattle.hidreport_items.specs.Writing.{main_bytes};
 ghost use Rattle.hidreport_items.specs.declared.main_item.MainItem.TheVariants.{Input};
 
 use crate::error::HidError;
-use crate::flags::MainDataItem;
+use crate::flags::{ItemFlags, MainDataItem};
 use crate::message::size_fault;
 use crate::number::{is_flag_set, is_short_length, word};
 use crate::writing::flags;
@@ -101,6 +102,22 @@ impl InputItem {
             has_null_state: is_flag_set(flags, 6),
             is_buffered_bytes: is_flag_set(flags, 8),
         })
+    }
+
+    /// The item with these flags; it has no flag 7.
+    pub(crate) fn from_flags(flags: ItemFlags) -> InputItem
+        ensures { result ≡ record flags { volatile = false } }
+    {
+        InputItem {
+            is_constant: flags.is_constant,
+            is_variable: flags.is_variable,
+            is_relative: flags.is_relative,
+            wraps: flags.wraps,
+            is_nonlinear: flags.is_nonlinear,
+            has_no_preferred_state: flags.has_no_preferred_state,
+            has_null_state: flags.has_null_state,
+            is_buffered_bytes: flags.is_buffered_bytes,
+        }
     }
 }
 

@@ -1,6 +1,7 @@
 //! The items of a report descriptor, and how they are read.
 #![tactic(auto)]
 
+mod builder_state;
 mod conversions;
 mod error;
 mod feature;
@@ -8,6 +9,7 @@ mod flags;
 mod global;
 mod input;
 mod item;
+mod item_builder;
 mod local;
 mod main_item;
 mod message;
@@ -15,12 +17,19 @@ mod number;
 mod output;
 mod writing;
 
+pub use builder_state::{
+    IBAbsolute, IBArray, IBBitfield, IBBuffered, IBConstant, IBData, IBLinear, IBNoNull,
+    IBNoPreferred, IBNoWrap, IBNonLinear, IBNonVolatile, IBNull, IBPreferred, IBRelative, IBSAbs,
+    IBSArr, IBSBit, IBSData, IBSLin, IBSNull, IBSPref, IBSVol, IBSWrap, IBState, IBUndefined,
+    IBUnsaid, IBVariable, IBVolatile, IBWrap,
+};
 pub use error::HidError;
 pub use feature::FeatureItem;
 pub use flags::MainDataItem;
 pub use global::GlobalItem;
 pub use input::InputItem;
 pub use item::ItemType;
+pub use item_builder::ItemBuilder;
 pub use local::LocalItem;
 pub use main_item::{CollectionItem, MainItem};
 pub use output::OutputItem;

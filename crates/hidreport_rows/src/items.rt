@@ -3,7 +3,7 @@ mod table;
 
 use hidreport::hid::{
     CollectionItem, FeatureItem, GlobalItem, HidError, InputItem, Item, ItemType, LocalItem,
-    MainDataItem, MainItem, OutputItem, ShortItem,
+    MainItem, OutputItem, ShortItem,
 };
 use hidreport::types::{LogicalMaximum, LogicalMinimum, ReportId, ReportSize, UsageId, UsagePage};
 use std::alloc::Global;
@@ -253,14 +253,5 @@ fn parts_of_a_short_item(rt: HostRuntime) -> Result<(), Fail> {
     let id = ShortItem::from_item_type(alloc, &ItemType::from(ReportId::from(0x1a)))?;
     assert_eq!(rt; id.bytes(), b"\x85\x1a".as_slice());
     assert_eq!(rt; id.data().ok_or("no data")?.to_u8(alloc)?, 0x1a);
-    Ok(())
-}
-
-#[test]
-fn flags_of_an_output(rt: HostRuntime) -> Result<(), Fail> {
-    let output = OutputItem::try_from(rt.alloc(), b"\x93\xaa\x01\x00\x00")?;
-    assert!(rt; output.is_variable() && output.wraps() && output.has_no_preferred_state());
-    assert!(rt; output.is_buffered_bytes() && output.is_data() && output.is_absolute());
-    assert!(rt; output.is_linear() && output.has_no_null_state());
     Ok(())
 }

@@ -1,8 +1,11 @@
 //! Worked descriptors: what the definitions say of them, and what the library answers.
 #![tactic(auto)]
 
+#[cfg(test)]
+mod builder;
 pub mod definitions;
 pub mod example;
+pub mod generic;
 #[cfg(test)]
 mod items;
 pub mod laws;
