@@ -12,6 +12,7 @@ pub mod Reading
 pub mod Records
 pub mod Usages
 pub mod UsageNumber
+pub mod UsageRange
 pub mod Visibility
 pub mod Views
 pub mod Machine

@@ -1,15 +1,19 @@
 //! HID report descriptors parsed into reports and fields, and values read from reports.
 #![tactic(auto)]
 
+mod array_field;
 mod collection;
+mod constant_field;
 mod descriptor;
 mod field;
+mod field_attributes;
 mod layout;
 mod lookup;
 mod parse;
 mod report;
 mod state;
 mod usage;
+mod usage_range;
 mod value;
 
 /// The numbers that items carry, each as a type of its own.
@@ -31,9 +35,12 @@ pub mod hid {
     pub use hidreport_lists::{Item, ReportDescriptorItem, ReportDescriptorItems, ShortItem};
 }
 
+pub use array_field::ArrayField;
 pub use collection::{Collection, CollectionId};
+pub use constant_field::ConstantField;
 pub use descriptor::ReportDescriptor;
 pub use field::{Field, FieldId, VariableField};
+pub use field_attributes::FieldAttributes;
 pub use hid::CollectionItem as CollectionType;
 pub use hidreport_lists::ParserError;
 pub use report::{RDescReport, Report};
@@ -44,4 +51,5 @@ pub use types::{
     UsageMaximum, UsageMinimum, UsagePage,
 };
 pub use usage::Usage;
+pub use usage_range::UsageRange;
 pub use value::FieldValue;

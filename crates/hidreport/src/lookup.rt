@@ -16,6 +16,22 @@ impl ReportDescriptor {
     {
         find_report(&self.input_reports, bytes)
     }
+
+    /// The output report that these bytes are of, by the same rule over the output reports
+    /// (Section 5.6).
+    pub fn find_output_report(&self, bytes: &[u8]) -> Option<&RDescReport>
+        ensures { option_copied result ≡ find_report self.now.output bytes.now }
+    {
+        find_report(&self.output_reports, bytes)
+    }
+
+    /// The feature report that these bytes are of, by the same rule over the feature reports
+    /// (Section 5.6).
+    pub fn find_feature_report(&self, bytes: &[u8]) -> Option<&RDescReport>
+        ensures { option_copied result ≡ find_report self.now.feature bytes.now }
+    {
+        find_report(&self.feature_reports, bytes)
+    }
 }
 
 fn find_report<'a>(reports: &'a [RDescReport], bytes: &[u8]) -> Option<&'a RDescReport>

@@ -1,0 +1,89 @@
+-- The elements of an array, one after the other.
+use Rattle.std.proofs.Common.{◌≡◌, ℕ, zero, suc, ◌+◌, ◌<◌, Bool, true, false, cond, List, [], ◌∷◌, ◌++◌, Result, Ok, Err, refl, ap, sym, ◌∙◌, arith}
+use Rattle.hidreport_lists.specs.Answer.{Refusal, Bounds, Refuses}
+use Rattle.hidreport_lists.specs.declared.error.ParserError.{ParserError}
+use Rattle.hidreport_lists.specs.declared.error.ParserError.TheVariants as errors
+use Rattle.hidreport.specs.Reading.{ValueRecord, before_values, element, elements_from}
+
+-- an element is refused as out of bounds alone
+test_refusal : {A : Type 0} (b : Bool) (x : A) (r : Refusal) → cond b (Err Bounds) (Ok x) ≡ Err r → r ≡ Bounds
+test_refusal true x r h = cc
+test_refusal false x r h = cc
+
+element_refusal : (first end count : ℕ) (s : Bool) (bytes : List ℕ) (i : ℕ) (r : Refusal) → element first end count s bytes i ≡ Err r → r ≡ Bounds
+element_refusal first end count s bytes i r h = test_refusal _ _ r h
+
+before_refused : (a : Result ValueRecord Refusal) (rest : Result (List ValueRecord) Refusal) → ((r : Refusal) → a ≡ Err r → r ≡ Bounds) → rest ≡ Err Bounds → before_values a rest ≡ Err Bounds
+before_refused (Err e) rest only h = ap (λ (r : Refusal). Err r) (only e refl)
+before_refused (Ok x) (Err e) only h = h
+before_refused (Ok x) (Ok xs) only h = cc
+
+refused_first : (a : Result ValueRecord Refusal) (rest : Result (List ValueRecord) Refusal) → a ≡ Err Bounds → before_values a rest ≡ Err Bounds
+refused_first (Err e) rest h = let same : e ≡ Bounds = cc in ap (λ (r : Refusal). Err r) same
+refused_first (Ok x) rest h = cc
+
+-- where one element is refused, so are all
+pub elements_from-refused : (first end count : ℕ) (s : Bool) (bytes : List ℕ) (index more j : ℕ) → j < more
+    → element first end count s bytes (index + j) ≡ Err Bounds → elements_from first end count s bytes index more ≡ Err Bounds
+elements_from-refused first end count s bytes index zero j within h = absurd (omega arith)
+elements_from-refused first end count s bytes index (suc more) zero within h =
+    let here : index + 0 ≡ index = omega arith in
+    let e = ap (λ i. element first end count s bytes i) here in
+    refused_first (element first end count s bytes index) (elements_from first end count s bytes (index + 1) more) (sym e ∙ h)
+elements_from-refused first end count s bytes index (suc more) (suc j) within h =
+    let here : index + 1 + j ≡ index + suc j = omega arith in
+    let fewer : j < more = omega arith in
+    let e = ap (λ i. element first end count s bytes i) here in
+    before_refused (element first end count s bytes index) (elements_from first end count s bytes (index + 1) more) (element_refusal first end count s bytes index)
+    (elements_from-refused first end count s bytes (index + 1) more j fewer (e ∙ h))
+
+-- an error that refuses an element refuses all
+pub elements_from-error : (first end count : ℕ) (s : Bool) (bytes : List ℕ) (more j : ℕ) (e : ParserError) → j < more
+    → Refuses e (element first end count s bytes j) → Refuses e (elements_from first end count s bytes 0 more)
+elements_from-error first end count s bytes more j (errors.InvalidData offset message) within h =
+    let other = element_refusal first end count s bytes j _ h in cc
+elements_from-error first end count s bytes more j errors.OutOfBounds within h =
+    let here : 0 + j ≡ j = omega arith in
+    let e = ap (λ i. element first end count s bytes i) here in
+    elements_from-refused first end count s bytes 0 more j within (e ∙ h)
+elements_from-error first end count s bytes more j errors.MismatchingReportId within h =
+    let other = element_refusal first end count s bytes j _ h in cc
+elements_from-error first end count s bytes more j errors.OutOfMemory within h = tt
+
+-- one more at the end
+before_values-next : (a : Result ValueRecord Refusal) (b c : Result (List ValueRecord) Refusal) (xs : List ValueRecord) (x : ValueRecord) → before_values a b ≡ Ok xs
+    → ((ys : List ValueRecord) → b ≡ Ok ys → c ≡ Ok (ys ++ x ∷ [])) → before_values a c ≡ Ok (xs ++ x ∷ [])
+before_values-next (Err e) b c xs x h more = cc
+before_values-next (Ok y) (Err e) c xs x h more = cc
+before_values-next (Ok y) (Ok ys) c xs x h more =
+    let rest = more ys refl in
+    let whole : y ∷ ys ≡ xs = cc in
+    rw (rest, sym whole) refl
+
+last_of_one : (a : Result ValueRecord Refusal) (xs : List ValueRecord) (x : ValueRecord) → [] ≡ xs → a ≡ Ok x → before_values a (Ok []) ≡ Ok (xs ++ x ∷ [])
+last_of_one (Err e) xs x none found = cc
+last_of_one (Ok y) xs x none found = let same : y ≡ x = cc in rw (sym none, same) refl
+
+elements_from-next : (first end count : ℕ) (s : Bool) (bytes : List ℕ) (index more : ℕ) (xs : List ValueRecord) (x : ValueRecord)
+    → elements_from first end count s bytes index more ≡ Ok xs → element first end count s bytes (index + more) ≡ Ok x
+    → elements_from first end count s bytes index (suc more) ≡ Ok (xs ++ x ∷ [])
+elements_from-next first end count s bytes index zero xs x h found =
+    let here : index + 0 ≡ index = omega arith in
+    let e = ap (λ i. element first end count s bytes i) here in
+    let none : [] ≡ xs = cc in
+    last_of_one (element first end count s bytes index) xs x none (sym e ∙ found)
+elements_from-next first end count s bytes index (suc more) xs x h found =
+    let here : index + 1 + more ≡ index + suc more = omega arith in
+    let e = ap (λ i. element first end count s bytes i) here in
+    before_values-next (element first end count s bytes index) (elements_from first end count s bytes (index + 1) more) (elements_from first end count s bytes (index + 1) (suc more)) xs x h
+    (λ ys rest. elements_from-next first end count s bytes (index + 1) more ys x rest (e ∙ found))
+
+-- the same for the elements from the first on
+pub elements_from-more : (first end count : ℕ) (s : Bool) (bytes : List ℕ) (n : ℕ) (xs : List ValueRecord) (x : ValueRecord)
+    → elements_from first end count s bytes 0 n ≡ Ok xs → element first end count s bytes n ≡ Ok x
+    → elements_from first end count s bytes 0 (n + 1) ≡ Ok (xs ++ x ∷ [])
+elements_from-more first end count s bytes n xs x h found =
+    let here : 0 + n ≡ n = omega arith in
+    let more : n + 1 ≡ suc n = omega arith in
+    let at = ap (λ i. element first end count s bytes i) here in
+    ap (λ k. elements_from first end count s bytes 0 k) more ∙ elements_from-next first end count s bytes 0 n xs x h (at ∙ found)
