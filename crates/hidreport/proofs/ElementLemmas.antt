@@ -1,9 +1,11 @@
 -- The elements of an array, one after the other.
-use Rattle.std.proofs.Common.{◌≡◌, ℕ, zero, suc, ◌+◌, ◌<◌, Bool, true, false, cond, List, [], ◌∷◌, ◌++◌, Result, Ok, Err, refl, ap, sym, ◌∙◌, arith}
+use Rattle.std.proofs.Common.{◌≡◌, ℕ, zero, suc, ◌+◌, ◌-◌, ◌*◌, ◌<◌, ◌≤◌, Bool, true, false, cond, ◌||◌, nat_le, nat_lt, IsOk, is_ok, List, [], ◌∷◌, ◌++◌, length, Result, Ok, Err, refl, ap, sym, ◌∙◌, arith}
+use Rattle.std.proofs.Math.Nat.{mul-le-mul_left}
+use Rattle.std.proofs.lemmas.Bool.Decides.{nat_tests}
 use Rattle.hidreport_lists.specs.Answer.{Refusal, Bounds, Refuses}
 use Rattle.hidreport_lists.specs.declared.error.ParserError.{ParserError}
 use Rattle.hidreport_lists.specs.declared.error.ParserError.TheVariants as errors
-use Rattle.hidreport.specs.Reading.{ValueRecord, before_values, element, elements_from}
+use Rattle.hidreport.specs.Reading.{ValueRecord, before_values, element, elements_from, element_width}
 
 -- an element is refused as out of bounds alone
 test_refusal : {A : Type 0} (b : Bool) (x : A) (r : Refusal) → cond b (Err Bounds) (Ok x) ≡ Err r → r ≡ Bounds
@@ -87,3 +89,38 @@ elements_from-more first end count s bytes n xs x h found =
     let more : n + 1 ≡ suc n = omega arith in
     let at = ap (λ i. element first end count s bytes i) here in
     ap (λ k. elements_from first end count s bytes 0 k) more ∙ elements_from-next first end count s bytes 0 n xs x h (at ∙ found)
+
+-- bits that lie before readable bits of the same number are readable
+refused_before : (a w x y n : ℕ) → x ≤ y
+    → (nat_le (a + x + w) (a + x) || (nat_lt 32 (a + x + w - (a + x)) || nat_lt n (a + x + w))) ≡ true
+    → (nat_le (a + y + w) (a + y) || (nat_lt 32 (a + y + w - (a + y)) || nat_lt n (a + y + w))) ≡ true
+refused_before a w x y n le h = grind (arith, nat_tests)
+
+is_ok_unless : {A : Type 0} (b c : Bool) (x y : A) → (b ≡ true → c ≡ true) → IsOk (cond c (Err Bounds) (Ok y)) → IsOk (cond b (Err Bounds) (Ok x))
+is_ok_unless true true x y h ok = ok
+is_ok_unless true false x y h ok = let no : false ≡ true = h refl in cc
+is_ok_unless false c x y h ok = refl
+
+element-before : (first end count : ℕ) (s : Bool) (bytes : List ℕ) (i j : ℕ) → i ≤ j → IsOk (element first end count s bytes j) → IsOk (element first end count s bytes i)
+element-before first end count s bytes i j le ok =
+    let w = element_width first end count in
+    is_ok_unless _ _ _ _ (refused_before first w (w * i) (w * j) (8 * length bytes) (mul-le-mul_left w le)) ok
+
+before_readable : (a : Result ValueRecord Refusal) (rest : Result (List ValueRecord) Refusal) → IsOk a → IsOk rest → IsOk (before_values a rest)
+before_readable (Err e) rest here more = here
+before_readable (Ok x) (Err e) here more = more
+before_readable (Ok x) (Ok xs) here more = refl
+
+elements_from-readable : (first end count : ℕ) (s : Bool) (bytes : List ℕ) (index more : ℕ) → ((k : ℕ) → k < index + more → IsOk (element first end count s bytes k))
+    → IsOk (elements_from first end count s bytes index more)
+elements_from-readable first end count s bytes index zero each = refl
+elements_from-readable first end count s bytes index (suc more) each =
+    before_readable (element first end count s bytes index) (elements_from first end count s bytes (index + 1) more) (each index (omega arith))
+    (elements_from-readable first end count s bytes (index + 1) more (λ k below. each k (omega arith)))
+
+-- where the last element is readable, so are all
+pub elements_from-last : (first end count : ℕ) (s : Bool) (bytes : List ℕ) (n last : ℕ) (x : ValueRecord) → n ≡ last + 1 → element first end count s bytes last ≡ Ok x
+    → IsOk (elements_from first end count s bytes 0 n)
+elements_from-last first end count s bytes n last x e found =
+    let readable : IsOk (element first end count s bytes last) = ap is_ok found in
+    elements_from-readable first end count s bytes 0 n (λ k below. element-before first end count s bytes k last (omega arith) readable)

@@ -1,6 +1,7 @@
-ghost use Rattle.std.specs.Prelude.{◌≡◌, ◌<◌, pos, ◌<ℤ◌, int_lt, IfOk};
-ghost use Rattle.hidreport_lists.specs.Answer.{Answers};
-ghost use Rattle.hidreport.specs.Reading.{element, elements_from, read_array, read_element, AnswersBy};
+ghost use Rattle.std.specs.Prelude.{◌≡◌, ◌≢◌, ◌<◌, pos, ◌<ℤ◌, int_lt, IfErr, IfOk, IsOk, OnOk};
+ghost use Rattle.hidreport_lists.specs.Answer.{Answers, Refuses};
+ghost use Rattle.hidreport.specs.Elements.{element_of, elements_of};
+ghost use Rattle.hidreport.specs.Reading.{read_array, read_element, AnswersBy};
 ghost use Rattle.hidreport.specs.UsageRange.{range_of};
 ghost use Rattle.hidreport.specs.Views.{array_attributes, array_record};
 
@@ -111,7 +112,8 @@ impl ArrayField {
     /// values alone, once they are known to be there; where it is refused the answer is
     /// `OutOfMemory`.
     pub fn extract(&self, bytes: &[u8]) -> Result<Vec<FieldValue>, ParserError>
-        ensures { AnswersBy (λ values. values.items) result (read_array self.now.report_id self.now.bits.start self.now.bits.end self.now.report_count (int_lt self.now.logical_minimum (pos 0)) bytes.now) }
+        ensures answer { AnswersBy (λ values. values.items) result (read_array self.now.report_id self.now.bits.start self.now.bits.end self.now.report_count (int_lt self.now.logical_minimum (pos 0)) bytes.now) }
+        ensures memory { result ≡ Err ParserError.OutOfMemory → IsOk (read_array self.now.report_id self.now.bits.start self.now.bits.end self.now.report_count (int_lt self.now.logical_minimum (pos 0)) bytes.now) }
     {
         check_id(self.report_id, bytes)?;
         self.elements(bytes)
@@ -124,7 +126,8 @@ impl ArrayField {
     /// 0 bits, one of more than 32 and one that ends behind the bytes are `OutOfBounds`. It takes
     /// no memory.
     pub fn extract_one(&self, bytes: &[u8], idx: usize) -> Result<FieldValue, ParserError>
-        ensures { Answers result (read_element self.now.report_id self.now.bits.start self.now.bits.end self.now.report_count (int_lt self.now.logical_minimum (pos 0)) bytes.now idx) }
+        ensures answer { Answers result (read_element self.now.report_id self.now.bits.start self.now.bits.end self.now.report_count (int_lt self.now.logical_minimum (pos 0)) bytes.now idx) }
+        ensures memory { result ≢ Err ParserError.OutOfMemory }
     {
         if idx >= usize::from(self.report_count) {
             return Err(ParserError::OutOfBounds);
@@ -164,24 +167,37 @@ impl ArrayField {
 
     /// The values of all elements, whatever the report's id.
     fn elements(&self, bytes: &[u8]) -> Result<Vec<FieldValue>, ParserError>
-        ensures { AnswersBy (λ values. values.items) result (elements_from self.now.bits.start self.now.bits.end self.now.report_count (int_lt self.now.logical_minimum (pos 0)) bytes.now 0 self.now.report_count) }
+        ensures answer { AnswersBy (λ values. values.items) result (elements_of self.now bytes.now) }
+        ensures memory { result ≡ Err ParserError.OutOfMemory → IsOk (elements_of self.now bytes.now) }
     {
+        self.check_elements(bytes)?;
         let count = usize::from(self.report_count);
-        let mut values = Vec::new(*self.usages.allocator());
-        if count > 0 {
-            // Where the last element can be read, so can those before it.
-            self.element(bytes, count - 1)?;
-        }
+        let mut values = Vec::with_capacity(*self.usages.allocator(), count)?;
         for idx in 0..count {
             values.push(self.element(bytes, idx)?)?;
         }
         Ok(values)
     }
 
+    /// Refuses where some element can't be read: where the last one can, so can those before it.
+    fn check_elements(&self, bytes: &[u8]) -> Result<(), ParserError>
+        ensures readable { OnOk result (IsOk (elements_of self.now bytes.now)) }
+        ensures refused { IfErr result (λ e. Refuses e (elements_of self.now bytes.now)) }
+        ensures memory { result ≢ Err ParserError.OutOfMemory }
+    {
+        let count = usize::from(self.report_count);
+        if count == 0 {
+            return Ok(());
+        }
+        self.element(bytes, count - 1)?;
+        Ok(())
+    }
+
     /// The value of an element that is there, whatever the report's id.
     fn element(&self, bytes: &[u8], idx: usize) -> Result<FieldValue, ParserError>
         requires { idx < self.now.report_count }
-        ensures { Answers result (element self.now.bits.start self.now.bits.end self.now.report_count (int_lt self.now.logical_minimum (pos 0)) bytes.now idx) }
+        ensures answer { Answers result (element_of self.now bytes.now idx) }
+        ensures memory { result ≢ Err ParserError.OutOfMemory }
     {
         let width = self.bits.end.saturating_sub(self.bits.start) / usize::from(self.report_count);
         let first = self.bits.start + width * idx;

@@ -1,4 +1,4 @@
-ghost use Rattle.std.specs.Prelude.{◌≡◌, pos, ◌<ℤ◌, int_lt, IfOk};
+ghost use Rattle.std.specs.Prelude.{◌≡◌, ◌≢◌, pos, ◌<ℤ◌, int_lt, IfOk};
 ghost use Rattle.hidreport_lists.specs.Answer.{Answers};
 ghost use Rattle.hidreport.specs.Reading.{read_variable};
 ghost use Rattle.hidreport.specs.Views.{field_id, field_bits, field_collections, variable_attributes, variable_record};
@@ -149,7 +149,8 @@ impl VariableField {
     /// `MismatchingReportId`. Then an empty or reversed range of bits, one of more than 32 bits
     /// and one that ends behind the bytes are `OutOfBounds`. It takes no memory.
     pub fn extract(&self, bytes: &[u8]) -> Result<FieldValue, ParserError>
-        ensures { Answers result (read_variable self.now.report_id self.now.bits.start self.now.bits.end (int_lt self.now.logical_minimum (pos 0)) bytes.now) }
+        ensures answer { Answers result (read_variable self.now.report_id self.now.bits.start self.now.bits.end (int_lt self.now.logical_minimum (pos 0)) bytes.now) }
+        ensures memory { result ≢ Err ParserError.OutOfMemory }
     {
         check_id(self.report_id, bytes)?;
         read_bits(bytes, &self.bits, self.is_signed())
