@@ -1,8 +1,8 @@
-ghost use Rattle.std.specs.Prelude.{◌≡◌, ◌≢◌, ◌<◌, pos, ◌<ℤ◌, int_lt, IfErr, IfOk, IsOk, OnOk};
+ghost use Rattle.std.specs.Prelude.{◌≡◌, ◌≢◌, ◌<◌, pos, ◌<ℤ◌, int_lt, IfErr, IfOk, IfSome, IsOk, OnOk};
 ghost use Rattle.hidreport_lists.specs.Answer.{Answers, Refuses};
 ghost use Rattle.hidreport.specs.Elements.{element_of, elements_of};
 ghost use Rattle.hidreport.specs.Reading.{read_array, read_element, AnswersBy};
-ghost use Rattle.hidreport.specs.UsageRange.{range_of};
+ghost use Rattle.hidreport.specs.UsageRange.{range_of, HasExactly};
 ghost use Rattle.hidreport.specs.Views.{array_attributes, array_record};
 
 use crate::collection::Collection;
@@ -79,8 +79,12 @@ impl ArrayField {
 
     /// The range of the usages, from the first to the last, where a minimum and a maximum gave
     /// them (Section 6.2.2.8). `None` where they were given one by one.
+    ///
+    /// Where the last id less the first is one less than the number of usages, the range has
+    /// exactly these usages.
     pub fn usage_range(&self) -> Option<UsageRange>
-        ensures { result ≡ range_of self.now.is_usage_range self.now.usages.items }
+        ensures range { result ≡ range_of self.now.is_usage_range self.now.usages.items }
+        ensures listed { IfSome result (λ range. HasExactly range self.now.usages.items) }
     {
         if !self.is_usage_range {
             return None;
@@ -115,8 +119,7 @@ impl ArrayField {
         ensures answer { AnswersBy (λ values. values.items) result (read_array self.now.report_id self.now.bits.start self.now.bits.end self.now.report_count (int_lt self.now.logical_minimum (pos 0)) bytes.now) }
         ensures memory { result ≡ Err ParserError.OutOfMemory → IsOk (read_array self.now.report_id self.now.bits.start self.now.bits.end self.now.report_count (int_lt self.now.logical_minimum (pos 0)) bytes.now) }
     {
-        check_id(self.report_id, bytes)?;
-        self.elements(bytes)
+        check_id(self.report_id, bytes).and_then(|()| self.elements(bytes))
     }
 
     /// The value of element `idx`, counted from 0, in a report that has these bytes (Section 5.8).
