@@ -140,7 +140,8 @@ impl ArrayField {
     }
 
     /// The same field once more, with a list of usages of its own; both share the list of
-    /// collections. An `AllocError` comes only where memory for the usages is refused.
+    /// collections. An `AllocError` comes where memory for the usages is refused, or where that
+    /// list would have 2^63 owners.
     pub fn clone(&self) -> Result<ArrayField, AllocError>
         ensures { IfOk result (λ copy. array_record copy ≡ array_record self.now) }
     {

@@ -156,7 +156,8 @@ impl VariableField {
         read_bits(bytes, &self.bits, self.is_signed())
     }
 
-    /// The same field once more; both share the list of collections. It takes no memory.
+    /// The same field once more; both share the list of collections. It takes no memory; an
+    /// `AllocError` comes only where that list would have 2^63 owners.
     pub fn clone(&self) -> Result<VariableField, AllocError>
         ensures { IfOk result (λ copy. variable_record copy ≡ variable_record self.now) }
     {
