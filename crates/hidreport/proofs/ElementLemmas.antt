@@ -15,17 +15,19 @@ test_refusal false x r h = cc
 element_refusal : (first end count : ℕ) (s : Bool) (bytes : List ℕ) (i : ℕ) (r : Refusal) → element first end count s bytes i ≡ Err r → r ≡ Bounds
 element_refusal first end count s bytes i r h = test_refusal _ _ r h
 
+-- a refusal of the elements behind one refuses all, whatever that one is
 before_refused : (a : Result ValueRecord Refusal) (rest : Result (List ValueRecord) Refusal) → ((r : Refusal) → a ≡ Err r → r ≡ Bounds) → rest ≡ Err Bounds → before_values a rest ≡ Err Bounds
 before_refused (Err e) rest only h = ap (λ (r : Refusal). Err r) (only e refl)
 before_refused (Ok x) (Err e) only h = h
 before_refused (Ok x) (Ok xs) only h = cc
 
+-- so does a refusal of the first
 refused_first : (a : Result ValueRecord Refusal) (rest : Result (List ValueRecord) Refusal) → a ≡ Err Bounds → before_values a rest ≡ Err Bounds
 refused_first (Err e) rest h = let same : e ≡ Bounds = cc in ap (λ (r : Refusal). Err r) same
 refused_first (Ok x) rest h = cc
 
 -- where one element is refused, so are all
-pub elements_from-refused : (first end count : ℕ) (s : Bool) (bytes : List ℕ) (index more j : ℕ) → j < more
+elements_from-refused : (first end count : ℕ) (s : Bool) (bytes : List ℕ) (index more j : ℕ) → j < more
     → element first end count s bytes (index + j) ≡ Err Bounds → elements_from first end count s bytes index more ≡ Err Bounds
 elements_from-refused first end count s bytes index zero j within h = absurd (omega arith)
 elements_from-refused first end count s bytes index (suc more) zero within h =
@@ -62,6 +64,7 @@ before_values-next (Ok y) (Ok ys) c xs x h more =
     let whole : y ∷ ys ≡ xs = cc in
     rw (rest, sym whole) refl
 
+-- one element alone
 last_of_one : (a : Result ValueRecord Refusal) (xs : List ValueRecord) (x : ValueRecord) → [] ≡ xs → a ≡ Ok x → before_values a (Ok []) ≡ Ok (xs ++ x ∷ [])
 last_of_one (Err e) xs x none found = cc
 last_of_one (Ok y) xs x none found = let same : y ≡ x = cc in rw (sym none, same) refl
@@ -96,21 +99,25 @@ refused_before : (a w x y n : ℕ) → x ≤ y
     → (nat_le (a + y + w) (a + y) || (nat_lt 32 (a + y + w - (a + y)) || nat_lt n (a + y + w))) ≡ true
 refused_before a w x y n le h = grind (arith, nat_tests)
 
+-- what is refused under a stronger test only is given where the weaker test lets it through
 is_ok_unless : {A : Type 0} (b c : Bool) (x y : A) → (b ≡ true → c ≡ true) → IsOk (cond c (Err Bounds) (Ok y)) → IsOk (cond b (Err Bounds) (Ok x))
 is_ok_unless true true x y h ok = ok
 is_ok_unless true false x y h ok = let no : false ≡ true = h refl in cc
 is_ok_unless false c x y h ok = refl
 
+-- an element before a readable one is readable
 element-before : (first end count : ℕ) (s : Bool) (bytes : List ℕ) (i j : ℕ) → i ≤ j → IsOk (element first end count s bytes j) → IsOk (element first end count s bytes i)
 element-before first end count s bytes i j le ok =
     let w = element_width first end count in
     is_ok_unless _ _ _ _ (refused_before first w (w * i) (w * j) (8 * length bytes) (mul-le-mul_left w le)) ok
 
+-- a readable element before readable ones
 before_readable : (a : Result ValueRecord Refusal) (rest : Result (List ValueRecord) Refusal) → IsOk a → IsOk rest → IsOk (before_values a rest)
 before_readable (Err e) rest here more = here
 before_readable (Ok x) (Err e) here more = more
 before_readable (Ok x) (Ok xs) here more = refl
 
+-- where each element is readable, so are all
 elements_from-readable : (first end count : ℕ) (s : Bool) (bytes : List ℕ) (index more : ℕ) → ((k : ℕ) → k < index + more → IsOk (element first end count s bytes k))
     → IsOk (elements_from first end count s bytes index more)
 elements_from-readable first end count s bytes index zero each = refl

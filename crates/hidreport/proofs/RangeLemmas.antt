@@ -6,10 +6,12 @@ use Rattle.hidreport.specs.Usages.{make_usage, range_from}
 use Rattle.hidreport.specs.UsageRange.{RangeRecord, HasExactly, last_usage, range_of, usage_within}
 use Rattle.hidreport.specs.declared.usage.Usage.{Usage}
 
+-- the last of a list
 slice_get-last : (x : Usage) (us : List Usage) → slice_get (x ∷ us) (length us) ≡ Some (last_usage x us)
 slice_get-last x [] = refl
 slice_get-last x (y ∷ us) = slice_get-last y us
 
+-- a range by what reading the list's two ends gives
 pub range_of-ends : (us : List Usage) (u v : Usage) → Some u ≡ slice_get us 0 → Some v ≡ slice_get us (length us - 1)
     → range_of true us ≡ Some (record { first = u; last = v })
 range_of-ends [] u v f l = cc
@@ -25,6 +27,7 @@ range_of-ends (x ∷ us) u v f l =
 id_counts : (low k : ℕ) → low % 65536 + k < 65536 → (low + k) % 65536 ≡ low % 65536 + k
 id_counts low k small = omega arith
 
+-- usage number k of a minimum and a maximum
 range_from-at : (page low n k : ℕ) (d : Usage) → k < n → get_or (range_from page low n) k d ≡ make_usage page ((low + k) % 65536)
 range_from-at page low zero k d h = absurd (omega arith)
 range_from-at page low (suc n) zero d h = let e : low ≡ low + 0 = omega arith in ap (λ m. make_usage page (m % 65536)) e
@@ -36,10 +39,12 @@ length-range_from : (page low n : ℕ) → length (range_from page low n) ≡ n
 length-range_from page low zero = refl
 length-range_from page low (suc n) = let e = length-range_from page (low + 1) n in omega arith
 
+-- the last of a list by its number
 last_usage-at : (x : Usage) (us : List Usage) (d : Usage) → last_usage x us ≡ get_or (x ∷ us) (length us) d
 last_usage-at x [] d = refl
 last_usage-at x (y ∷ us) d = last_usage-at y us d
 
+-- an answer under a test is there exactly where the test is true
 is_some-test : {A : Type 0} (b : Bool) (x : A) → IsSome (cond b (Some x) None) → b ≡ true
 is_some-test true x h = refl
 is_some-test false x h = cc
@@ -48,6 +53,7 @@ test-is_some : {A : Type 0} (b : Bool) (x : A) → b ≡ true → IsSome (cond b
 test-is_some true x h = refl
 test-is_some false x h = cc
 
+-- what the test of a range says
 test_within : (p q i j k : ℕ) → ((p == q) && (nat_le i k && nat_le k j)) ≡ true → (p ≡ q) × (i ≤ k) × (k ≤ j)
 test_within p q i j k h = (grind (arith, nat_tests), grind (arith, nat_tests), grind (arith, nat_tests))
 
