@@ -9,3 +9,5 @@ pub mod FieldLemmas
 pub mod InputLemmas
 pub mod Carried
 pub mod ParseLemmas
+pub mod RangeLemmas
+pub mod ElementLemmas

@@ -1,4 +1,5 @@
 pub mod BitValue
+pub mod Elements
 pub mod Faults
 pub mod Fields
 pub mod FirstPath
@@ -13,6 +14,7 @@ pub mod Reading
 pub mod Records
 pub mod Usages
 pub mod UsageNumber
+pub mod UsageRange
 pub mod Visibility
 pub mod Views
 pub mod Machine

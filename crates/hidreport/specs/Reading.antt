@@ -1,6 +1,7 @@
 -- Reading a field (Sections 5.6 and 5.8): the value that a report's bytes give it, or why they give none.
-use Rattle.std.specs.Prelude.{ℕ, ◌+◌, ◌-◌, ◌*◌, ◌/◌, ◌==◌, nat_lt, nat_le, ◌||◌, zero, suc, Bool, if◌then◌else◌, List, [], ◌∷◌, length, Option, None, Some, Result, Ok, Err}
-use Rattle.hidreport_lists.specs.Answer.{Refusal, Bounds, Mismatch}
+use Rattle.std.specs.Prelude.{◌≡◌, ℕ, ◌+◌, ◌-◌, ◌*◌, ◌/◌, ◌==◌, nat_lt, nat_le, ◌||◌, zero, suc, Bool, if◌then◌else◌, List, [], ◌∷◌, length, Option, None, Some, Result, Ok, Err}
+use Rattle.hidreport_lists.specs.Answer.{Refusal, Bounds, Mismatch, Refuses}
+use Rattle.hidreport_lists.specs.declared.error.ParserError.{ParserError}
 use Rattle.hidreport.specs.BitValue.{value, as_word}
 
 -- a value as 32 bits, and whether it is signed
@@ -52,3 +53,8 @@ elements_from first end count is_signed bytes index (suc more) =
 -- the values of all elements of an array field, in order
 abbrev pub read_array : Option ℕ → ℕ → ℕ → ℕ → Bool → List ℕ → Result (List ValueRecord) Refusal
 read_array report_id first end count is_signed bytes = with_id report_id bytes (elements_from first end count is_signed bytes 0 count)
+
+-- the answer, seen by `view`, is what the definition gives; want of memory says nothing
+abbrev pub AnswersBy : {A B : Type 0} → (A → B) → Result A ParserError → Result B Refusal → Type 0
+AnswersBy view (Ok x) answer = answer ≡ Ok (view x)
+AnswersBy view (Err e) answer = Refuses e answer

@@ -2,7 +2,9 @@
 use Rattle.std.specs.Prelude.{ℕ, List}
 use Rattle.std.specs.Arc.{arc_slice_items}
 use Rattle.std.specs.declared.ops.Range.{Range}
-use Rattle.hidreport.specs.Records.{CollectionRecord, FieldPlace, Attributes, FieldRecord, VariableRecord}
+use Rattle.hidreport.specs.Records.{CollectionRecord, FieldPlace, Attributes, FieldRecord, VariableRecord, ArrayRecord, ConstantRecord}
+use Rattle.hidreport.specs.declared.array_field.ArrayField.{ArrayField}
+use Rattle.hidreport.specs.declared.constant_field.ConstantField.{ConstantField}
 use Rattle.hidreport.specs.declared.field.Field.{Field}
 use Rattle.hidreport.specs.declared.field.Field.TheVariants as fields
 use Rattle.hidreport.specs.declared.field.VariableField.{VariableField}
@@ -40,3 +42,39 @@ field_bits (fields.Variable f) = f.bits
 
 abbrev pub field_collections : Field → List CollectionRecord
 field_collections (fields.Variable f) = arc_slice_items f.collections
+
+-- all parts of a variable field
+abbrev pub variable_record : VariableField → FieldRecord
+variable_record f = VariableRecord (variable_place f) f.usage (variable_attributes f)
+
+abbrev pub array_place : ArrayField → FieldPlace
+array_place f = record { id = f.id; report_id = f.report_id; first = f.bits.start; end = f.bits.end }
+
+abbrev pub array_attributes : ArrayField → Attributes
+array_attributes f = record {
+  logical_minimum = f.logical_minimum;
+  logical_maximum = f.logical_maximum;
+  physical_minimum = f.physical_minimum;
+  physical_maximum = f.physical_maximum;
+  unit = f.unit;
+  unit_exponent = f.unit_exponent;
+  collections = arc_slice_items f.collections;
+  relative = f.is_relative;
+  wrap = f.wraps;
+  nonlinear = f.is_nonlinear;
+  no_preferred_state = f.has_no_preferred_state;
+  null_state = f.has_null_state;
+  buffered_bytes = f.is_buffered_bytes;
+  volatile = f.is_volatile;
+}
+
+-- all parts of an array field
+abbrev pub array_record : ArrayField → FieldRecord
+array_record f = ArrayRecord (array_place f) f.usages.items f.is_usage_range f.report_count (array_attributes f)
+
+abbrev pub constant_place : ConstantField → FieldPlace
+constant_place f = record { id = f.id; report_id = f.report_id; first = f.bits.start; end = f.bits.end }
+
+-- all parts of a constant field
+abbrev pub constant_record : ConstantField → FieldRecord
+constant_record f = ConstantRecord (constant_place f)

@@ -1,15 +1,17 @@
-ghost use Rattle.std.specs.Prelude.{◌≡◌, pos, ◌<ℤ◌, int_lt};
+ghost use Rattle.std.specs.Prelude.{◌≡◌, ◌≢◌, pos, ◌<ℤ◌, int_lt, IfOk};
 ghost use Rattle.hidreport_lists.specs.Answer.{Answers};
 ghost use Rattle.hidreport.specs.Reading.{read_variable};
-ghost use Rattle.hidreport.specs.Views.{field_id, field_bits, field_collections};
+ghost use Rattle.hidreport.specs.Views.{field_id, field_bits, field_collections, variable_attributes, variable_record};
 
 use crate::collection::Collection;
+use crate::field_attributes::FieldAttributes;
 use crate::usage::Usage;
 use crate::value::{FieldValue, check_id, read_bits};
 use hidreport_lists::ParserError;
 use hidreport_types::{
     LogicalMaximum, LogicalMinimum, PhysicalMaximum, PhysicalMinimum, ReportId, Unit, UnitExponent,
 };
+use std::alloc::AllocError;
 use std::marker::Model;
 use std::ops::Range;
 use std::sync::ArcSlice;
@@ -147,9 +149,69 @@ impl VariableField {
     /// `MismatchingReportId`. Then an empty or reversed range of bits, one of more than 32 bits
     /// and one that ends behind the bytes are `OutOfBounds`. It takes no memory.
     pub fn extract(&self, bytes: &[u8]) -> Result<FieldValue, ParserError>
-        ensures { Answers result (read_variable self.now.report_id self.now.bits.start self.now.bits.end (int_lt self.now.logical_minimum (pos 0)) bytes.now) }
+        ensures answer { Answers result (read_variable self.now.report_id self.now.bits.start self.now.bits.end (int_lt self.now.logical_minimum (pos 0)) bytes.now) }
+        ensures memory { result ≢ Err ParserError.OutOfMemory }
     {
         check_id(self.report_id, bytes)?;
         read_bits(bytes, &self.bits, self.is_signed())
+    }
+
+    /// The same field once more; both share the list of collections. It takes no memory; an
+    /// `AllocError` comes only where that list would have 2^63 owners.
+    pub fn clone(&self) -> Result<VariableField, AllocError>
+        ensures { IfOk result (λ copy. variable_record copy ≡ variable_record self.now) }
+    {
+        Ok(VariableField {
+            id: self.id,
+            report_id: self.report_id,
+            bits: self.bits.start..self.bits.end,
+            usage: self.usage,
+            logical_minimum: self.logical_minimum,
+            logical_maximum: self.logical_maximum,
+            physical_minimum: self.physical_minimum,
+            physical_maximum: self.physical_maximum,
+            unit: self.unit,
+            unit_exponent: self.unit_exponent,
+            collections: self.collections.clone()?,
+            is_relative: self.is_relative,
+            wraps: self.wraps,
+            is_nonlinear: self.is_nonlinear,
+            has_no_preferred_state: self.has_no_preferred_state,
+            has_null_state: self.has_null_state,
+            is_buffered_bytes: self.is_buffered_bytes,
+            is_volatile: self.is_volatile,
+        })
+    }
+}
+
+impl FieldAttributes for VariableField {
+    ghost attributes = { variable_attributes };
+
+    fn is_relative(&self) -> bool {
+        self.is_relative
+    }
+
+    fn wraps(&self) -> bool {
+        self.wraps
+    }
+
+    fn is_nonlinear(&self) -> bool {
+        self.is_nonlinear
+    }
+
+    fn has_no_preferred_state(&self) -> bool {
+        self.has_no_preferred_state
+    }
+
+    fn has_null_state(&self) -> bool {
+        self.has_null_state
+    }
+
+    fn is_buffered_bytes(&self) -> bool {
+        self.is_buffered_bytes
+    }
+
+    fn is_volatile(&self) -> Option<bool> {
+        self.is_volatile
     }
 }

@@ -1,9 +1,12 @@
 //! HID report descriptors parsed into reports and fields, and values read from reports.
 #![tactic(auto)]
 
+mod array_field;
 mod collection;
+mod constant_field;
 mod descriptor;
 mod field;
+mod field_attributes;
 mod first_path;
 mod layout;
 mod lookup;
@@ -11,6 +14,7 @@ mod parse;
 mod report;
 mod state;
 mod usage;
+mod usage_range;
 mod value;
 
 /// The numbers that items carry, each as a type of its own.
@@ -37,9 +41,12 @@ pub mod hid {
     };
 }
 
+pub use array_field::ArrayField;
 pub use collection::{Collection, CollectionId};
+pub use constant_field::ConstantField;
 pub use descriptor::ReportDescriptor;
 pub use field::{Field, FieldId, VariableField};
+pub use field_attributes::FieldAttributes;
 pub use hid::CollectionItem as CollectionType;
 pub use hidreport_lists::ParserError;
 pub use report::{RDescReport, Report};
@@ -50,4 +57,5 @@ pub use types::{
     UsageMaximum, UsageMinimum, UsagePage,
 };
 pub use usage::Usage;
+pub use usage_range::UsageRange;
 pub use value::FieldValue;

@@ -16,6 +16,26 @@ impl ReportDescriptor {
     {
         find_report(&self.input_reports, bytes)
     }
+
+    /// The output report that these bytes are of (Section 5.6).
+    ///
+    /// Where the first output report has no id it is the answer for every first byte; else the
+    /// report whose id is the first byte. `None` where there is none, no output report or no byte.
+    pub fn find_output_report(&self, bytes: &[u8]) -> Option<&RDescReport>
+        ensures { option_copied result ≡ find_report self.now.output bytes.now }
+    {
+        find_report(&self.output_reports, bytes)
+    }
+
+    /// The feature report that these bytes are of (Section 5.6).
+    ///
+    /// Where the first feature report has no id it is the answer for every first byte; else the
+    /// report whose id is the first byte. `None` where there is none, no feature report or no byte.
+    pub fn find_feature_report(&self, bytes: &[u8]) -> Option<&RDescReport>
+        ensures { option_copied result ≡ find_report self.now.feature bytes.now }
+    {
+        find_report(&self.feature_reports, bytes)
+    }
 }
 
 fn find_report<'a>(reports: &'a [RDescReport], bytes: &[u8]) -> Option<&'a RDescReport>

@@ -1,4 +1,4 @@
-ghost use Rattle.std.specs.Prelude.{◌≡◌, true, Ok, ◌+◌, ◌*◌, ◌<◌, ◌≤◌, ◌/◌, ◌%◌, ◌^◌, length};
+ghost use Rattle.std.specs.Prelude.{◌≡◌, ◌≢◌, true, Ok, ◌+◌, ◌*◌, ◌<◌, ◌≤◌, ◌/◌, ◌%◌, ◌^◌, length};
 ghost use Rattle.std.specs.Int.{w8, w16, w32, cast_signed};
 ghost use Rattle.hidreport_lists.specs.Answer.{Answers};
 ghost use Rattle.hidreport.specs.BitValue.{bit, sum_of_bits, value, as_word};
@@ -183,7 +183,8 @@ pub(crate) fn read_bits(
     bits: &Range<usize>,
     is_signed: bool,
 ) -> Result<FieldValue, ParserError>
-    ensures { Answers result (read_bits bits.now.start bits.now.end is_signed bytes.now) }
+    ensures answer { Answers result (read_bits bits.now.start bits.now.end is_signed bytes.now) }
+    ensures memory { result ≢ Err ParserError.OutOfMemory }
 {
     let first = bits.start;
     let end = bits.end;
@@ -201,7 +202,8 @@ pub(crate) fn read_bits(
 
 /// Bytes are read by a field with an id only where they begin with it.
 pub(crate) fn check_id(report_id: Option<ReportId>, bytes: &[u8]) -> Result<(), ParserError>
-    ensures { Answers result (with_id report_id bytes.now (Ok tt)) }
+    ensures answer { Answers result (with_id report_id bytes.now (Ok tt)) }
+    ensures memory { result ≢ Err ParserError.OutOfMemory }
 {
     match (report_id, bytes.first()) {
         (None, _) => Ok(()),

@@ -1,0 +1,36 @@
+-- The range of an array's usages (Section 6.2.2.8): from its first usage to its last, all on the page of the first.
+use Rattle.std.specs.Prelude.{◌≡◌, ℕ, ◌+◌, Bool, true, false, ◌&&◌, ◌==◌, nat_le, if◌then◌else◌, List, [], ◌∷◌, length, Contains, Option, None, Some, IsSome, ◌↔◌}
+use Rattle.hidreport.specs.Usages.{make_usage, range_from}
+use Rattle.hidreport.specs.declared.usage.Usage.{Usage}
+
+pub record RangeRecord : Type 0 where
+  pub first : Usage
+  pub last : Usage
+
+-- the id lies from that of the first usage to that of the last
+abbrev pub is_id_within : RangeRecord → ℕ → Bool
+is_id_within r id = nat_le r.first.usage_id id && nat_le id r.last.usage_id
+
+-- the usage, where it is on the range's page and its id lies in the range
+abbrev pub usage_within : RangeRecord → Usage → Option Usage
+usage_within r u = if (u.usage_page == r.first.usage_page) && is_id_within r u.usage_id then Some u else None
+
+-- the usage with this id on the range's page, where the id lies in the range
+abbrev pub usage_with_id : RangeRecord → ℕ → Option Usage
+usage_with_id r id = if is_id_within r id then Some (make_usage r.first.usage_page id) else None
+
+-- the last of a usage and those behind it
+abbrev pub last_usage : Usage → List Usage → Usage
+last_usage u [] = u
+last_usage u (v ∷ us) = last_usage v us
+
+-- usages that are those of a range have one, unless there are none
+abbrev pub range_of : Bool → List Usage → Option RangeRecord
+range_of false us = None
+range_of true [] = None
+range_of true (u ∷ us) = Some (record { first = u; last = last_usage u us })
+
+-- usages of a minimum and a maximum that are as many as the ids from the first to the last: the range has just these
+abbrev pub HasExactly : RangeRecord → List Usage → Type 0
+HasExactly r us = (page low count : ℕ) → us ≡ range_from page low count → r.first.usage_id + length us ≡ r.last.usage_id + 1
+    → (u : Usage) → IsSome (usage_within r u) ↔ Contains us u
