@@ -85,7 +85,7 @@ fn refusals_name_their_offset(rt: HostRuntime) {
                 assert_eq!(rt; offset, place);
                 assert_eq!(rt; message.as_str(), text);
             }
-            _ => panic!(rt; "{text}"),
+            _ => panic!(rt; "no refusal at {place}"),
         }
     }
 }

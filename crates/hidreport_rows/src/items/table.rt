@@ -5,7 +5,7 @@
 //! `as_bytes` writes for the item that it read, `-` for none; `few` for too few bytes; the message
 //! of invalid data; or `panic`.
 
-pub const ANSWERS: [(u8, [&str; 6]); 64] = [
+pub static ANSWERS: [(u8, [&str; 6]); 64] = [
     (
         0x00,
         [
