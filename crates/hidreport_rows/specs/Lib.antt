@@ -1,3 +1,4 @@
 pub mod Hex
 pub mod Mouse
 pub mod Summary
+pub mod Values

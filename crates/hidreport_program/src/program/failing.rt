@@ -14,7 +14,9 @@ pub struct FailingSource<S> {
 
 impl<S: Source> FailingSource<S> {
     /// A source that gives what `source` has left, as long as it doesn't fail.
-    pub fn new(source: S, good_reads: usize) -> Self {
+    pub fn new(source: S, good_reads: usize) -> Self
+        ensures { result ≡ record { source = source; good_reads = good_reads; has_failed = false } }
+    {
         FailingSource {
             source,
             good_reads,
@@ -51,7 +53,9 @@ pub struct FailingSink<K> {
 
 impl<K: Sink> FailingSink<K> {
     /// A sink that writes to `sink`, as long as it doesn't fail.
-    pub fn new(sink: K, good_writes: usize) -> Self {
+    pub fn new(sink: K, good_writes: usize) -> Self
+        ensures { result ≡ record { sink = sink; good_writes = good_writes; has_failed = false } }
+    {
         FailingSink {
             sink,
             good_writes,
