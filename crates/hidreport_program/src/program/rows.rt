@@ -121,6 +121,67 @@ fn four_bytes_unsigned_and_signed(rt: HostRuntime) {
     shows(&rt, signed, b"\x00\x00\x00\x80", Outcome::Done, text);
 }
 
+// The four below are what the Rust crate answers for random descriptors and reports.
+#[test]
+fn elements_across_bytes(rt: HostRuntime) {
+    let descriptor = b"\x75\x03\x25\x7f\x95\x01\x15\x81\x09\x01\x0b\x01\x00\x09\x00\x06\x00\xff\
+        \x81\x06\x0a\x03\x00\x09\x38\x17\xff\xff\xff\xff\x95\x04\x81\x06";
+    let report = b"\x02\x7d\xb2\x68\x7c\xde\x4f\xd9\x86\xbe\xce\x73\xf4\x03\x6c\xf7\xfc\x36\
+        \xd7\x73\xa8\x86";
+    let text = b"report -- 15\n\
+        0..3 variable ff000001 2\n\
+        3..6 variable ff000003 0\n\
+        6..9 variable ff000038 -4\n\
+        9..12 variable ff000038 -2\n\
+        12..15 variable ff000038 -1\n";
+    shows(&rt, descriptor, report, Outcome::Done, text);
+}
+
+#[test]
+fn elements_of_32_bits_at_odd_places(rt: HostRuntime) {
+    let descriptor = b"\x05\x0c\x75\x01\x95\x01\x15\xff\x25\x7f\x09\x30\x0b\x01\x00\x09\x00\x06\
+        \x00\xff\x81\x42\x09\x01\x09\x03\x09\x02\x75\x20\x81\x06\x09\x03\x81\x22\
+        \x09\x02\x09\x31\x82\x06\x00";
+    let report = b"\x02\x0b\x5a\x1f\x8b\x14\x5a\x90\x86\x48\x70\x55\xa4\x08\xcc\x3c\x35\x1f\
+        \x7a\x68\xb7\x82\xd4\x6f\x68";
+    let text = b"report -- 97\n\
+        0..1 variable ff000030 0\n\
+        1..33 variable ff000001 -1884486271\n\
+        33..65 variable ff000003 1210911301\n\
+        65..97 variable ff000002 716710979\n";
+    shows(&rt, descriptor, report, Outcome::Done, text);
+}
+
+#[test]
+fn bits_behind_a_report_id(rt: HostRuntime) {
+    let descriptor = b"\x15\xff\x75\x05\x85\x02\x25\x7f\x95\x03\x05\x09\x09\x03\x81\x02\x09\x31\
+        \x0b\x30\x00\x01\x00\x09\x01\x95\x01\x81\x42";
+    let report = b"\x02\x35\xf8\x9e\x83\x1d\x99\x80\xef\x31\x31\xa9\xdb\x86\xcc\x68\x2d\xf1\
+        \xfd\xe0";
+    let text = b"report 02 28\n\
+        8..13 variable 00090003 -11\n\
+        13..18 variable 00090003 1\n\
+        18..23 variable 00090003 -2\n\
+        23..28 variable 00090031 -3\n";
+    shows(&rt, descriptor, report, Outcome::Done, text);
+}
+
+#[test]
+fn usages_with_pages_of_their_own(rt: HostRuntime) {
+    let descriptor = b"\x75\x08\x05\x01\x95\x03\x25\x7f\x15\x81\x09\x30\x0b\x30\x00\x01\x00\x0b\
+        \x01\x00\x09\x00\x06\x09\x00\x81\x12\x0b\x38\x02\x0c\x00\x09\x38\x95\x02\
+        \x81\x0a";
+    let report = b"\x01\x5f\x90\x8b\x52\xd3\x8a\xd1\x9e\x65\x06\x42\xed\xe3\xa7\x4c\xe5\x1b\
+        \x03\x7f\x70\xf9\xe7\xf2\x66";
+    let text = b"report -- 40\n\
+        0..8 variable 00090030 1\n\
+        8..16 variable 00010030 95\n\
+        16..24 variable 00090001 -112\n\
+        24..32 variable 000c0238 -117\n\
+        32..40 variable 00090038 82\n";
+    shows(&rt, descriptor, report, Outcome::Done, text);
+}
+
 // Six reads give the descriptor, three bytes a read, and a seventh its end.
 #[test]
 fn failed_read_writes_nothing(rt: HostRuntime) -> Result<(), Fail> {
