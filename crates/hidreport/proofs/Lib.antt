@@ -6,7 +6,7 @@ pub mod WalkLemmas
 pub mod UsageLemmas
 pub mod ReportList
 pub mod FieldLemmas
-pub mod InputLemmas
+pub mod DataLemmas
 pub mod Carried
 pub mod ParseLemmas
 pub mod RangeLemmas

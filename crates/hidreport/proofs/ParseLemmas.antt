@@ -16,7 +16,7 @@ use Rattle.hidreport.specs.Machine.{Held, fault_in, counts_in, whole_step, next_
 use Rattle.hidreport.specs.Meaning.{meaning, parse, parse_items, placed, offset_at, refusal_at}
 use Rattle.hidreport.specs.Records.{DescriptorRecord}
 use Rattle.hidreport.specs.State.{IsFaultOf, IsRefusal, refusal_of}
-use Rattle.hidreport.specs.Usages.{missing_page}
+use Rattle.hidreport.specs.Usages.{missing_page, missing_maximum}
 use Rattle.hidreport.specs.declared.state.Fault.{Fault}
 use Rattle.hidreport.specs.declared.state.Fault.TheVariants as faults
 use Rattle.hidreport.proofs.WalkLemmas.{walk-meaning}
@@ -80,6 +80,7 @@ pub refuses-fault : {A : Type 0} (fault : Fault) (offset : ℕ) (e : ParserError
     → ((f : MeaningFault) → o ≡ Some f → answer ≡ Err (refusal_at offset f)) → Refuses e answer
 refuses-fault faults.EmptyDescriptor offset e o answer is named memory given = absurd is
 refuses-fault faults.NotInFirstPath offset e o answer is named memory given = refuses-as e (InvalidAt offset not_in_the_first_path) answer named (given (Says not_in_the_first_path) is)
+refuses-fault faults.MissingUsageMaximum offset e o answer is named memory given = refuses-as e (InvalidAt offset missing_maximum) answer named (given (Says missing_maximum) is)
 refuses-fault faults.MissingUsagePage offset e o answer is named memory given = refuses-as e (InvalidAt offset missing_page) answer named (given (Says missing_page) is)
 refuses-fault faults.MissingUsages offset e o answer is named memory given = refuses-as e (InvalidAt offset missing_usages) answer named (given (Says missing_usages) is)
 refuses-fault faults.OutOfBounds offset e o answer is named memory given = refuses-as e Bounds answer named (given PastBounds is)

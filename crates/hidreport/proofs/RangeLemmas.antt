@@ -35,7 +35,7 @@ range_from-at page low (suc n) (suc k) d h =
     let e : low + 1 + k ≡ low + suc k = omega arith in
     range_from-at page (low + 1) n k d (omega arith) ∙ ap (λ m. make_usage page (m % 65536)) e
 
-length-range_from : (page low n : ℕ) → length (range_from page low n) ≡ n
+pub length-range_from : (page low n : ℕ) → length (range_from page low n) ≡ n
 length-range_from page low zero = refl
 length-range_from page low (suc n) = let e = length-range_from page (low + 1) n in omega arith
 

@@ -1,10 +1,13 @@
 -- The usages of a list of locals, one after the other.
-use Rattle.std.proofs.Common.{◌≡◌, ℕ, List, [], ◌∷◌, ◌++◌, Option, None, Some, Result, Ok, Err, refl, ap, sym, ◌∙◌, append_assoc, option_to_list}
+use Rattle.std.proofs.Common.{◌≡◌, ℕ, zero, suc, ◌+◌, ◌-◌, ◌%◌, ◌<◌, min, List, [], ◌∷◌, ◌++◌, length, Option, None, Some, Result, Ok, Err, refl, ap, sym, ◌∙◌, append_assoc, option_to_list, arith}
 use Rattle.hidreport_items.specs.declared.local.LocalItem.{LocalItem}
 use Rattle.hidreport_items.specs.declared.local.LocalItem.TheVariants as local
+use Rattle.hidreport.specs.Fields.{usage_at}
+use Rattle.hidreport.specs.InForce.{first_of}
 use Rattle.hidreport.specs.State.{one_usage, usage_on}
-use Rattle.hidreport.specs.Usages.{single_usages, before_usages, on_page, make_usage}
+use Rattle.hidreport.specs.Usages.{single_usages, before_usages, on_page, make_usage, range_from}
 use Rattle.hidreport.specs.declared.usage.Usage.{Usage}
+use Rattle.hidreport.proofs.RangeLemmas.{length-range_from}
 
 -- these usages, and then the others
 abbrev pub usages_with : List Usage → Result (List Usage) (List ℕ) → Result (List Usage) (List ℕ)
@@ -37,3 +40,28 @@ single_usages-one page (local.Usage own id) o xs h =
     before_is_with (make_usage own id) (single_usages page xs) ∙ ap (λ z. usages_with (option_to_list z) (single_usages page xs)) same
 single_usages-one page (local.UsageId id) o xs h = on_page_ok page id o (single_usages page xs) h
 single_usages-one page x o xs h = let same : None ≡ o = cc in sym (usages_with-none (single_usages page xs)) ∙ ap (λ z. usages_with (option_to_list z) (single_usages page xs)) same
+
+-- usage c of a minimum and a maximum, or the last one
+pub usage_at-range : (page low n c : ℕ) → usage_at (range_from page low (suc n)) c ≡ make_usage page ((low + min c n) % 65536)
+usage_at-range page low zero c = ap (λ k. make_usage page (k % 65536)) (let e : low ≡ low + min c 0 = omega arith in e)
+usage_at-range page low (suc n) zero = ap (λ k. make_usage page (k % 65536)) (let e : low ≡ low + min 0 (suc n) = omega arith in e)
+usage_at-range page low (suc n) (suc c) =
+    usage_at-range page (low + 1) n c ∙ ap (λ k. make_usage page (k % 65536)) (let e : low + 1 + min c n ≡ low + min (suc c) (suc n) = omega arith in e)
+
+-- one more number
+pub range_from-next : (page low n : ℕ) → range_from page low (suc n) ≡ range_from page low n ++ make_usage page ((low + n) % 65536) ∷ []
+range_from-next page low zero = ap (λ k. make_usage page (k % 65536) ∷ []) (let e : low ≡ low + 0 = omega arith in e)
+range_from-next page low (suc n) =
+    ap (λ l. make_usage page (low % 65536) ∷ l) (range_from-next page (low + 1) n)
+    ∙ ap (λ k. make_usage page (low % 65536) ∷ (range_from page (low + 1) n ++ make_usage page (k % 65536) ∷ [])) (let e : low + 1 + n ≡ low + suc n = omega arith in e)
+
+pub first_of-assoc : {A : Type 0} (a b c : Option A) → first_of (first_of a b) c ≡ first_of a (first_of b c)
+first_of-assoc None b c = refl
+first_of-assoc (Some x) b c = refl
+
+-- usage c of those from a minimum to a maximum, where there are some
+pub usage_at-list : (page low high c : ℕ) → 0 < length (range_from page low (high + 1 - low))
+    → usage_at (range_from page low (high + 1 - low)) c ≡ make_usage page ((low + min c (high - low)) % 65536)
+usage_at-list page low high c some =
+    let n : high + 1 - low ≡ suc (high - low) = omega (arith, some, length-range_from page low (high + 1 - low)) in
+    ap (λ k. usage_at (range_from page low k) c) n ∙ usage_at-range page low (high - low) c

@@ -1,27 +1,21 @@
 -- Items whose meaning isn't carried yet are refused, each before every other fault that it has. This is the one place that
 -- says which items those are; it shrinks until no item is refused so.
-use Rattle.std.specs.Prelude.{ℕ, Bool, true, false, ◌&&◌, not, if◌then◌else◌, List, Option, None, Some, codes}
+use Rattle.std.specs.Prelude.{ℕ, Bool, true, false, List, Option, None, Some, codes}
 use Rattle.hidreport_items.specs.declared.main_item.MainItem.TheVariants as main
 use Rattle.hidreport_items.specs.declared.global.GlobalItem.TheVariants as global
-use Rattle.hidreport_items.specs.declared.local.LocalItem.TheVariants as local
 use Rattle.hidreport_items.specs.declared.item.ItemType.{ItemType}
 use Rattle.hidreport_items.specs.declared.item.ItemType.TheVariants as item
 use Rattle.hidreport.specs.Faults.{MeaningFault, Says}
 
--- of main items a variable Input with data; every other item but physical bounds, units, Push, Pop and ranges of usages
+-- every item but Collection, EndCollection, Push and Pop
 abbrev pub is_carried : ItemType → Bool
-is_carried (item.Main (main.Input flags)) = not flags.constant && flags.variable
-is_carried (item.Main _) = false
-is_carried (item.Global (global.PhysicalMinimum z)) = false
-is_carried (item.Global (global.PhysicalMaximum z)) = false
-is_carried (item.Global (global.UnitExponent z)) = false
-is_carried (item.Global (global.Unit n)) = false
+is_carried (item.Main (main.Collection kind)) = false
+is_carried (item.Main main.EndCollection) = false
+is_carried (item.Main _) = true
 is_carried (item.Global global.Push) = false
 is_carried (item.Global global.Pop) = false
 is_carried (item.Global _) = true
-is_carried (item.Local (local.UsageMinimum n)) = false
-is_carried (item.Local (local.UsageMaximum n)) = false
-is_carried (item.Local _) = true
+is_carried (item.Local x) = true
 is_carried item.Long = true
 is_carried item.Reserved = true
 

@@ -1,12 +1,23 @@
 -- The fields of one item as the parser lays them out.
-use Rattle.std.specs.Prelude.{ℕ, ◌+◌, ◌*◌, []}
-use Rattle.hidreport.specs.Fields.{make_place, usage_at, attributes}
-use Rattle.hidreport.specs.Kinds.{Input}
-use Rattle.hidreport.specs.Records.{FieldRecord, VariableRecord}
+use Rattle.std.specs.Prelude.{ℕ, ◌+◌, ◌*◌, ◌-◌, [], List}
+use Rattle.std.specs.Arc.{arc_slice_items}
+use Rattle.hidreport.specs.DataItem.{direction_of, flags_of}
+use Rattle.hidreport.specs.Fields.{make_place, make_fields, usage_at, attributes}
+use Rattle.hidreport.specs.Records.{Attributes, FieldRecord, VariableRecord}
 use Rattle.hidreport.specs.State.{force_of}
+use Rattle.hidreport.specs.Usages.{UsageList, range_from}
 use Rattle.hidreport.specs.declared.layout.Layout.{Layout}
+use Rattle.hidreport.specs.declared.usages.Usages.{Usages}
+use Rattle.hidreport.specs.declared.usages.Usages.TheVariants as usages
 
--- field number c
-abbrev pub variable_of : Layout → ℕ → FieldRecord
-variable_of l c = VariableRecord (make_place (l.first_id + c) l.globals.report_id (l.first_bit + c * l.size) l.size) (usage_at l.usages.now c)
-    (attributes (force_of l.globals []) [] Input l.item)
+-- what the item's fields share
+abbrev pub shared_of : Layout → Attributes
+shared_of l = attributes (force_of l.globals []) (arc_slice_items l.collections) (direction_of l.item) (flags_of l.item)
+
+-- the fields, with these usages
+abbrev pub fields_of : Layout → UsageList → List FieldRecord
+fields_of l us = make_fields l.globals.report_id l.first_id l.first_bit (l.size, l.count) (flags_of l.item) us (shared_of l)
+
+-- field number c of a variable item
+abbrev pub variable_of : Layout → UsageList → ℕ → FieldRecord
+variable_of l us c = VariableRecord (make_place (l.first_id + c) l.globals.report_id (l.first_bit + c * l.size) l.size) (usage_at us.usages c) (shared_of l)

@@ -1,4 +1,5 @@
 pub mod BitValue
+pub mod DataItem
 pub mod Elements
 pub mod Faults
 pub mod Fields

@@ -88,6 +88,12 @@ reports_in Input r = r.input
 reports_in Output r = r.output
 reports_in Feature r = r.feature
 
+-- the descriptor with other reports of a direction
+abbrev pub with_reports : Direction → List ReportRecord → DescriptorRecord → DescriptorRecord
+with_reports Input rs r = record { input = rs; output = r.output; feature = r.feature }
+with_reports Output rs r = record { input = r.input; output = rs; feature = r.feature }
+with_reports Feature rs r = record { input = r.input; output = r.output; feature = rs }
+
 -- the id of the report that a data item of a direction adds to
 abbrev pub key_in : Direction → Held → Option ℕ
 key_in d h = first_of h.force.report_id (first_id (reports_in d h.descriptor))

@@ -1,25 +1,25 @@
 -- What the parser's state holds, as plain data.
-use Rattle.std.specs.Prelude.{◌≡◌, ℕ, Bool, true, false, not, ◌&&◌, is_none, List, [], ◌∷◌, Option, None, Some, Result, Ok, Err}
+use Rattle.std.specs.Prelude.{◌≡◌, ◌<◌, ℕ, ◌+◌, ◌-◌, true, false, if◌then◌else◌, List, [], length, Option, None, Some, Result, Ok, Err}
 use Rattle.hidreport_items.specs.Flags.{Flags}
-use Rattle.hidreport_items.specs.declared.main_item.MainItem.TheVariants as main
-use Rattle.hidreport_items.specs.declared.global.GlobalItem.TheVariants as global
-use Rattle.hidreport_items.specs.declared.item.ItemType.{ItemType}
-use Rattle.hidreport_items.specs.declared.item.ItemType.TheVariants as item
 use Rattle.hidreport_items.specs.declared.local.LocalItem.{LocalItem}
 use Rattle.hidreport_items.specs.declared.local.LocalItem.TheVariants as local
 use Rattle.hidreport_lists.specs.Answer.{Refusal, InvalidAt, Bounds, Refuses}
 use Rattle.hidreport_lists.specs.declared.error.ParserError.{ParserError}
-use Rattle.hidreport.specs.Faults.{MeaningFault, fault_of, Says, PastBounds, missing_usages}
-use Rattle.hidreport.specs.FirstPath.{is_carried, not_in_the_first_path}
+use Rattle.hidreport.specs.DataItem.{item_of}
+use Rattle.hidreport.specs.Faults.{MeaningFault, fault_of, needed_usages_fault, Says, PastBounds, missing_usages}
+use Rattle.hidreport.specs.FirstPath.{not_in_the_first_path}
 use Rattle.hidreport.specs.InForce.{Force}
 use Rattle.hidreport.specs.Meaning.{empty_descriptor}
 use Rattle.hidreport.specs.Machine.{Held, counts_in}
-use Rattle.hidreport.specs.Usages.{missing_page, make_usage, minimum_of, last_local}
+use Rattle.hidreport.specs.Usages.{UsageList, missing_page, missing_maximum, make_usage, range_from, usages_of}
+use Rattle.hidreport.specs.declared.data_item.DataItem.{DataItem}
 use Rattle.hidreport.specs.declared.state.Fault.{Fault}
 use Rattle.hidreport.specs.declared.state.Fault.TheVariants as faults
 use Rattle.hidreport.specs.declared.state.Globals.{Globals}
 use Rattle.hidreport.specs.declared.state.State.{State}
 use Rattle.hidreport.specs.declared.usage.Usage.{Usage}
+use Rattle.hidreport.specs.declared.usages.Usages.{Usages}
+use Rattle.hidreport.specs.declared.usages.Usages.TheVariants as usages
 
 -- the globals and these locals as what is in force
 abbrev pub force_of : Globals → List LocalItem → Force
@@ -44,14 +44,16 @@ held_of s = record { force = force_of s.globals s.locals.items; descriptor = rec
 abbrev pub IsFaultOf : Fault → Option MeaningFault → Type 0
 IsFaultOf faults.EmptyDescriptor f = ⊥
 IsFaultOf faults.NotInFirstPath f = f ≡ Some (Says not_in_the_first_path)
+IsFaultOf faults.MissingUsageMaximum f = f ≡ Some (Says missing_maximum)
 IsFaultOf faults.MissingUsagePage f = f ≡ Some (Says missing_page)
 IsFaultOf faults.MissingUsages f = f ≡ Some (Says missing_usages)
 IsFaultOf faults.OutOfBounds f = f ≡ Some PastBounds
 IsFaultOf faults.OutOfMemory f = Unit {0}
 
--- the answer, seen by `view`, is this one, or the fault is of a missing page; want of memory says nothing
+-- the answer, seen by `view`, is this one, or the fault is of usages; want of memory says nothing
 abbrev pub Gives : {A B : Type 0} → (A → B) → Result A Fault → Result B (List ℕ) → Type 0
 Gives view (Ok x) answer = answer ≡ Ok (view x)
+Gives view (Err faults.MissingUsageMaximum) answer = answer ≡ Err missing_maximum
 Gives view (Err faults.MissingUsagePage) answer = answer ≡ Err missing_page
 Gives view (Err faults.OutOfMemory) answer = Unit {0}
 Gives view (Err faults.EmptyDescriptor) answer = ⊥
@@ -69,21 +71,28 @@ one_usage page (local.Usage own id) = Ok (Some (make_usage own id))
 one_usage page (local.UsageId id) = usage_on page id
 one_usage page _ = Ok None
 
--- no range is among the locals
-abbrev pub HasNoRange : List LocalItem → Type 0
-HasNoRange locals = last_local minimum_of locals ≡ None
+-- the usages as the definition has them
+abbrev pub usage_list : Usages → UsageList
+usage_list (usages.Range page minimum maximum) = record { usages = range_from page minimum (maximum + 1 - minimum); is_range = true }
+usage_list (usages.Single us) = record { usages = us.items; is_range = false }
 
-abbrev pub input : Flags → ItemType
-input flags = item.Main (main.Input flags)
+-- the fault of a data item's usages; a constant item has none
+abbrev pub usages_fault : Flags → Force → Option MeaningFault
+usages_fault flags f = if flags.constant then None else needed_usages_fault (usages_of f)
 
--- the fault of a variable Input
-abbrev pub input_fault : Held → Flags → Option MeaningFault
-input_fault h flags = fault_of (counts_in h (input flags)) h.force (input flags)
+-- the usages of a data item that needs some
+abbrev pub HasUsages : Flags → Force → Usages → Type 0
+HasUsages flags f us = flags.constant ≡ false → (usages_of f ≡ Ok (usage_list us)) × (0 < length (usage_list us).usages)
+
+-- the fault of a data item where this is held
+abbrev pub held_fault : Held → DataItem → Option MeaningFault
+held_fault h x = fault_of (counts_in h (item_of x)) h.force (item_of x)
 
 -- what a fault is at an offset, as a parser says it; want of memory is nothing
 abbrev pub refusal_of : Fault → ℕ → Option Refusal
 refusal_of faults.EmptyDescriptor offset = Some (InvalidAt offset empty_descriptor)
 refusal_of faults.NotInFirstPath offset = Some (InvalidAt offset not_in_the_first_path)
+refusal_of faults.MissingUsageMaximum offset = Some (InvalidAt offset missing_maximum)
 refusal_of faults.MissingUsagePage offset = Some (InvalidAt offset missing_page)
 refusal_of faults.MissingUsages offset = Some (InvalidAt offset missing_usages)
 refusal_of faults.OutOfBounds offset = Some Bounds

@@ -1,5 +1,5 @@
 -- A field of the library as plain data.
-use Rattle.std.specs.Prelude.{ℕ, List}
+use Rattle.std.specs.Prelude.{ℕ, List, []}
 use Rattle.std.specs.Arc.{arc_slice_items}
 use Rattle.std.specs.declared.ops.Range.{Range}
 use Rattle.hidreport.specs.Records.{CollectionRecord, FieldPlace, Attributes, FieldRecord, VariableRecord, ArrayRecord, ConstantRecord}
@@ -29,19 +29,6 @@ variable_attributes f = record {
   buffered_bytes = f.is_buffered_bytes;
   volatile = f.is_volatile;
 }
-
--- all parts of a field
-abbrev pub field_record : Field → FieldRecord
-field_record (fields.Variable f) = VariableRecord (variable_place f) f.usage (variable_attributes f)
-
-abbrev pub field_id : Field → ℕ
-field_id (fields.Variable f) = f.id
-
-abbrev pub field_bits : Field → Range ℕ
-field_bits (fields.Variable f) = f.bits
-
-abbrev pub field_collections : Field → List CollectionRecord
-field_collections (fields.Variable f) = arc_slice_items f.collections
 
 -- all parts of a variable field
 abbrev pub variable_record : VariableField → FieldRecord
@@ -78,3 +65,25 @@ constant_place f = record { id = f.id; report_id = f.report_id; first = f.bits.s
 -- all parts of a constant field
 abbrev pub constant_record : ConstantField → FieldRecord
 constant_record f = ConstantRecord (constant_place f)
+
+-- all parts of a field
+abbrev pub field_record : Field → FieldRecord
+field_record (fields.Variable f) = variable_record f
+field_record (fields.Array f) = array_record f
+field_record (fields.Constant f) = constant_record f
+
+abbrev pub field_id : Field → ℕ
+field_id (fields.Variable f) = f.id
+field_id (fields.Array f) = f.id
+field_id (fields.Constant f) = f.id
+
+abbrev pub field_bits : Field → Range ℕ
+field_bits (fields.Variable f) = f.bits
+field_bits (fields.Array f) = f.bits
+field_bits (fields.Constant f) = f.bits
+
+-- padding lies in no collection
+abbrev pub field_collections : Field → List CollectionRecord
+field_collections (fields.Variable f) = arc_slice_items f.collections
+field_collections (fields.Array f) = arc_slice_items f.collections
+field_collections (fields.Constant f) = []

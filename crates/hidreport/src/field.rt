@@ -1,9 +1,11 @@
 ghost use Rattle.std.specs.Prelude.{◌≡◌, ◌≢◌, pos, ◌<ℤ◌, int_lt, IfOk};
 ghost use Rattle.hidreport_lists.specs.Answer.{Answers};
 ghost use Rattle.hidreport.specs.Reading.{read_variable};
-ghost use Rattle.hidreport.specs.Views.{field_id, field_bits, field_collections, variable_attributes, variable_record};
+ghost use Rattle.hidreport.specs.Views.{field_id, field_bits, field_collections, field_record, variable_attributes, variable_record};
 
+use crate::array_field::ArrayField;
 use crate::collection::Collection;
+use crate::constant_field::ConstantField;
 use crate::field_attributes::FieldAttributes;
 use crate::usage::Usage;
 use crate::value::{FieldValue, check_id, read_bits};
@@ -60,6 +62,12 @@ impl From<FieldId> for u32 {
 pub enum Field {
     /// One value with a usage of its own.
     Variable(VariableField),
+
+    /// Several values, each of which chooses among usages.
+    Array(ArrayField),
+
+    /// Padding.
+    Constant(ConstantField),
 }
 
 impl Field {
@@ -69,6 +77,8 @@ impl Field {
     {
         match self {
             Field::Variable(field) => field.id,
+            Field::Array(field) => field.id,
+            Field::Constant(field) => field.id,
         }
     }
 
@@ -78,15 +88,31 @@ impl Field {
     {
         match self {
             Field::Variable(field) => &field.bits,
+            Field::Array(field) => &field.bits,
+            Field::Constant(field) => &field.bits,
         }
     }
 
-    /// The collections that the field lies in, outermost first.
+    /// The collections that the field lies in, outermost first. Padding lies in none, so they are
+    /// the empty slice there.
     pub fn collections(&self) -> &[Collection]
         ensures { result.now ≡ field_collections self.now }
     {
         match self {
             Field::Variable(field) => field.collections.as_slice(),
+            Field::Array(field) => field.collections.as_slice(),
+            Field::Constant(_) => &[],
+        }
+    }
+
+    /// The same field once more, as the `clone` of its kind says.
+    pub fn clone(&self) -> Result<Field, AllocError>
+        ensures { IfOk result (λ copy. field_record copy ≡ field_record self.now) }
+    {
+        match self {
+            Field::Variable(field) => Ok(Field::Variable(field.clone()?)),
+            Field::Array(field) => Ok(Field::Array(field.clone()?)),
+            Field::Constant(field) => Ok(Field::Constant(field.clone())),
         }
     }
 }

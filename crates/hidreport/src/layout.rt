@@ -1,20 +1,25 @@
-ghost use Rattle.std.specs.Prelude.{◌≡◌, ◌+◌, ◌*◌, ◌<◌, ◌≤◌, ◌^◌, length, IfOk, IfErr, OnOk, map};
+ghost use Rattle.std.specs.Prelude.{◌≡◌, ◌+◌, ◌*◌, ◌<◌, ◌≤◌, ◌^◌, None, IfOk, IfErr, OnOk, map};
 ghost use Rattle.hidreport.specs.Making.{both_set, same_key};
 ghost use Rattle.hidreport.specs.InForce.{first_of};
 ghost use Rattle.hidreport.specs.Places.{id_bits};
 ghost use Rattle.hidreport.specs.Machine.{added_to, first_id, index_in, size_in};
-ghost use Rattle.hidreport.specs.State.{Gives, one_usage};
-ghost use Rattle.hidreport.specs.Usages.{single_usages};
+ghost use Rattle.hidreport.specs.DataItem.{flags_of};
+ghost use Rattle.hidreport.specs.State.{HasUsages, IsFaultOf, force_of, usages_fault};
 ghost use Rattle.hidreport.specs.Fields.{physical_bound};
 ghost use Rattle.hidreport.specs.Views.{field_record};
 
+use crate::array_field::ArrayField;
 use crate::collection::Collection;
+use crate::constant_field::ConstantField;
+use crate::data_item::DataItem;
 use crate::field::{Field, FieldId, VariableField};
 use crate::report::RDescReport;
 use crate::state::{Fault, Globals, State};
-use crate::usage::Usage;
-use hidreport_items::{InputItem, LocalItem, MainDataItem};
-use hidreport_types::{LogicalMaximum, LogicalMinimum, PhysicalMaximum, PhysicalMinimum, ReportId};
+use crate::usages::{Usages, usages_of};
+use hidreport_items::{LocalItem, MainDataItem};
+use hidreport_types::{
+    LogicalMaximum, LogicalMinimum, PhysicalMaximum, PhysicalMinimum, ReportCount, ReportId,
+};
 use std::alloc::{AllocError, Global};
 use std::ops::Range;
 use std::sync::ArcSlice;
@@ -23,48 +28,99 @@ use std::sync::ArcSlice;
 const FIELD_NUMBERS: u64 = 1 << 32;
 
 impl State {
-    ghost use Rattle.std.specs.Prelude.{◌≡◌, true, false, IfErr, None, OnOk};
-    ghost use Rattle.hidreport.specs.Machine.{next_held};
-    ghost use Rattle.hidreport.specs.State.{HasNoRange, IsFaultOf, held_of, input, input_fault};
+    ghost use Rattle.std.specs.Prelude.{◌≡◌, ◌+◌, ◌<◌, ◌^◌, None, IfErr, OnOk, map};
+    ghost use Rattle.hidreport.specs.DataItem.{direction_of, item_of};
+    ghost use Rattle.hidreport.specs.Machine.{added_to, next_held, reports_in, size_in, with_reports};
+    ghost use Rattle.hidreport.specs.State.{IsFaultOf, held_fault, held_of};
+    ghost use Rattle.hidreport.specs.Views.{field_record};
 
-    /// Adds the fields of a variable Input to their report, which is made at need.
-    pub(crate) fn add_input(&mut self, alloc: Global, item: InputItem) -> Result<(), Fault>
-        requires data { item.constant ≡ false }
-        requires variable { item.variable ≡ true }
-        requires single { HasNoRange self.old.locals.items }
-        ensures faultless { OnOk result (input_fault (held_of self.old) item ≡ None) }
+    /// Adds the fields of a data item to their report, which is made at need.
+    pub(crate) fn add_data(&mut self, alloc: Global, item: DataItem) -> Result<(), Fault>
+        ensures faultless { OnOk result (held_fault (held_of self.old) item ≡ None) }
         ensures force { OnOk result ((held_of self.new).force ≡ (held_of self.old).force) }
-        ensures descriptor { OnOk result ((held_of self.new).descriptor ≡ (next_held (held_of self.old) (input item)).descriptor) }
-        ensures fields { OnOk result (self.new.field_count ≡ (next_held (held_of self.old) (input item)).fields) }
-        ensures err { IfErr result (λ e. IsFaultOf e (input_fault (held_of self.old) item)) }
+        ensures descriptor { OnOk result ((held_of self.new).descriptor ≡ (next_held (held_of self.old) (item_of item)).descriptor) }
+        ensures fields { OnOk result (self.new.field_count ≡ (next_held (held_of self.old) (item_of item)).fields) }
+        ensures err { IfErr result (λ e. IsFaultOf e (held_fault (held_of self.old) item)) }
     {
         let Some((size, count)) = extent(&self.globals) else {
             return Ok(());
         };
-        let usages = single_usages(alloc, &self.globals, &self.locals)?;
-        if usages.is_empty() {
-            return Err(Fault::MissingUsages);
-        }
-        let key = key_of(&self.input_reports, self.globals.report_id);
-        let start = size_of(&self.input_reports, &key);
-        let bits = bits_within(start, size, count)?;
-        if count as u64 > FIELD_NUMBERS || self.field_count > FIELD_NUMBERS - count as u64 {
+        let usages = needed_usages(alloc, &item, &self.globals, &self.locals)?;
+        let reports = self.reports(&item);
+        let key = key_of(reports, self.globals.report_id);
+        let first_bit = size_of(reports, &key);
+        let bits = bits_within(first_bit, size, count)?;
+        let field_count = item.field_count(count) as u64;
+        if field_count > FIELD_NUMBERS || self.field_count > FIELD_NUMBERS - field_count {
             return Err(Fault::OutOfBounds);
         }
         let layout = Layout {
             globals: self.globals,
             item,
-            usages: &usages,
             collections: ArcSlice::from_vec(Vec::new(alloc))?,
             first_id: self.field_count,
-            first_bit: start,
+            first_bit,
             size,
+            count,
         };
-        let fields = layout.fields(alloc, count)?;
-        add_fields(alloc, &mut self.input_reports, key, bits, fields)?;
-        self.field_count += count as u64;
+        let fields = layout.fields(alloc, usages)?;
+        self.add_to_reports(alloc, &item, key, bits, fields)?;
+        self.field_count += field_count;
         Ok(())
     }
+
+    /// Adds fields that take so many bits to the report with this id of the item's direction.
+    fn add_to_reports(
+        &mut self,
+        alloc: Global,
+        item: &DataItem,
+        key: Option<ReportId>,
+        bits: usize,
+        fields: Vec<Field>,
+    ) -> Result<(), AllocError>
+        requires { size_in key (reports_in (direction_of item.now) (held_of self.old).descriptor) + bits < 2 ^ 64 }
+        ensures descriptor { OnOk result ((held_of self.new).descriptor ≡ with_reports (direction_of item.now) (added_to key bits (map field_record fields.items) (reports_in (direction_of item.now) (held_of self.old).descriptor)) (held_of self.old).descriptor) }
+        ensures force { (held_of self.new).force ≡ (held_of self.old).force }
+        ensures fields { self.new.field_count ≡ self.old.field_count }
+    {
+        match item {
+            DataItem::Input(_) => add_fields(alloc, &mut self.input_reports, key, bits, fields),
+            DataItem::Output(_) => add_fields(alloc, &mut self.output_reports, key, bits, fields),
+            DataItem::Feature(_) => add_fields(alloc, &mut self.feature_reports, key, bits, fields),
+        }
+    }
+
+    /// The reports of the item's direction.
+    fn reports(&self, item: &DataItem) -> &[RDescReport]
+        ensures { result.now ≡ reports_in (direction_of item.now) (held_of self.now).descriptor }
+    {
+        match item {
+            DataItem::Input(_) => &self.input_reports,
+            DataItem::Output(_) => &self.output_reports,
+            DataItem::Feature(_) => &self.feature_reports,
+        }
+    }
+}
+
+/// The usages of a data item, of which it needs some unless it is constant.
+fn needed_usages(
+    alloc: Global,
+    item: &DataItem,
+    globals: &Globals,
+    locals: &[LocalItem],
+) -> Result<Usages, Fault>
+    ensures faultless { OnOk result (usages_fault (flags_of item.now) (force_of globals.now locals.now) ≡ None) }
+    ensures usages { IfOk result (HasUsages (flags_of item.now) (force_of globals.now locals.now)) }
+    ensures err { IfErr result (λ e. IsFaultOf e (usages_fault (flags_of item.now) (force_of globals.now locals.now))) }
+{
+    if item.is_constant() {
+        return Ok(Usages::Single(Vec::new(alloc)));
+    }
+    let usages = usages_of(alloc, globals, locals)?;
+    if usages.is_empty() {
+        return Err(Fault::MissingUsages);
+    }
+    Ok(usages)
 }
 
 /// The size and the count that make fields: both are set, and neither is 0.
@@ -77,37 +133,6 @@ fn extent(globals: &Globals) -> Option<(usize, usize)>
         None
     } else {
         Some((size, count))
-    }
-}
-
-/// The single usages, in order.
-fn single_usages(
-    alloc: Global,
-    globals: &Globals,
-    locals: &[LocalItem],
-) -> Result<Vec<Usage>, Fault>
-    ensures { Gives (λ us. us.items) result (single_usages globals.now.usage_page locals.now) }
-{
-    let mut usages = Vec::new(alloc);
-    for local in locals {
-        if let Some(usage) = single_usage(globals, *local)? {
-            usages.push(usage)?;
-        }
-    }
-    Ok(usages)
-}
-
-/// The usage of a local item that is one; without a page of its own it takes the page in force.
-fn single_usage(globals: &Globals, local: LocalItem) -> Result<Option<Usage>, Fault>
-    ensures { Gives (λ u. u) result (one_usage globals.now.usage_page local) }
-{
-    match local {
-        LocalItem::Usage(own, id) => Ok(Some(Usage::from_page_and_id(own, id))),
-        LocalItem::UsageId(id) => match globals.usage_page {
-            Some(page) => Ok(Some(Usage::from_page_and_id(page, id))),
-            None => Err(Fault::MissingUsagePage),
-        },
-        _ => Ok(None),
     }
 }
 
@@ -211,53 +236,84 @@ fn add_fields(
 
 /// What the fields of one item have in common.
 #[derive(Drop)]
-struct Layout<'a> {
+struct Layout {
     globals: Globals,
-    item: InputItem,
-    usages: &'a [Usage],
+    item: DataItem,
     collections: ArcSlice<Collection>,
     first_id: u64,
     first_bit: usize,
     size: usize,
+    count: usize,
 }
 
-impl Layout<'_> {
-    ghost use Rattle.std.specs.Prelude.{◌≡◌, ◌+◌, ◌*◌, ◌<◌, ◌≤◌, ◌^◌, [], length, IfOk, map};
-    ghost use Rattle.std.specs.Arc.{arc_slice_items};
-    ghost use Rattle.hidreport.specs.Fields.{each_from, usage_at};
-    ghost use Rattle.hidreport.specs.Layout.{variable_of};
-    ghost use Rattle.hidreport.specs.Records.{FieldRecord};
+impl Layout {
+    ghost use Rattle.std.specs.Prelude.{◌≡◌, ◌+◌, ◌*◌, ◌<◌, ◌≤◌, ◌^◌, false, []};
+    ghost use Rattle.std.specs.Prelude.{Some, length, IfOk, map};
+    ghost use Rattle.hidreport.specs.DataItem.{flags_of};
+    ghost use Rattle.hidreport.specs.Fields.{each_from, field_count, make_place};
+    ghost use Rattle.hidreport.specs.Layout.{fields_of, shared_of, variable_of};
+    ghost use Rattle.hidreport.specs.Records.{ArrayRecord, ConstantRecord, FieldRecord};
+    ghost use Rattle.hidreport.specs.State.{usage_list};
     ghost use Rattle.hidreport.specs.Views.{field_record};
 
     /// The item's fields.
-    fn fields(&self, alloc: Global, count: usize) -> Result<Vec<Field>, AllocError>
-        requires ids { self.now.first_id + count ≤ 2 ^ 32 }
-        requires bits { self.now.first_bit + self.now.size * count < 2 ^ 64 }
-        requires usages { 0 < length self.now.usages.now }
-        requires alone { arc_slice_items self.now.collections ≡ [] }
-        ensures { IfOk result (λ fields. map field_record fields.items ≡ each_from (variable_of self.now) 0 count) }
+    fn fields(&self, alloc: Global, usages: Usages) -> Result<Vec<Field>, AllocError>
+        requires ids { self.now.first_id + field_count (flags_of self.now.item) self.now.count ≤ 2 ^ 32 }
+        requires bits { self.now.first_bit + self.now.size * self.now.count < 2 ^ 64 }
+        requires count { self.now.globals.report_count ≡ Some self.now.count }
+        requires usages { (flags_of self.now.item).constant ≡ false → 0 < length (usage_list usages).usages }
+        ensures { IfOk result (λ fields. map field_record fields.items ≡ fields_of self.now (usage_list usages)) }
+    {
+        if self.item.is_constant() {
+            return Ok(vec![in alloc; self.constant_field()]?);
+        }
+        if self.item.is_variable() {
+            return self.variable_fields(alloc, &usages);
+        }
+        let field = self.array_field(alloc, usages)?;
+        Ok(vec![in alloc; field]?)
+    }
+
+    /// The padding.
+    fn constant_field(&self) -> Field
+        requires ids { self.now.first_id < 2 ^ 32 }
+        requires bits { self.now.first_bit + self.now.size * self.now.count < 2 ^ 64 }
+        ensures { field_record result ≡ ConstantRecord (make_place self.now.first_id self.now.globals.report_id self.now.first_bit (self.now.size * self.now.count)) }
+    {
+        Field::Constant(ConstantField {
+            id: FieldId::new(self.first_id as u32),
+            report_id: self.globals.report_id,
+            bits: self.all_bits(),
+        })
+    }
+
+    /// The fields of a variable item.
+    fn variable_fields(&self, alloc: Global, usages: &Usages) -> Result<Vec<Field>, AllocError>
+        requires ids { self.now.first_id + self.now.count ≤ 2 ^ 32 }
+        requires bits { self.now.first_bit + self.now.size * self.now.count < 2 ^ 64 }
+        requires usages { 0 < length (usage_list usages.now).usages }
+        ensures { IfOk result (λ fields. map field_record fields.items ≡ each_from (variable_of self.now (usage_list usages.now)) 0 self.now.count) }
     {
         let mut fields = Vec::new(alloc);
-        for c in 0..count {
-            fields.push(self.variable_field(c)?)?;
+        for c in 0..self.count {
+            fields.push(self.variable_field(usages, c)?)?;
         }
         Ok(fields)
     }
 
-    /// Field number `c` of the item.
-    fn variable_field(&self, c: usize) -> Result<Field, AllocError>
+    /// Field number `c` of a variable item.
+    fn variable_field(&self, usages: &Usages, c: usize) -> Result<Field, AllocError>
         requires ids { self.now.first_id + c < 2 ^ 32 }
         requires bits { self.now.first_bit + self.now.size * (c + 1) < 2 ^ 64 }
-        requires usages { 0 < length self.now.usages.now }
-        requires alone { arc_slice_items self.now.collections ≡ [] }
-        ensures { IfOk result (λ field. field_record field ≡ variable_of self.now c) }
+        requires usages { 0 < length (usage_list usages.now).usages }
+        ensures { IfOk result (λ field. field_record field ≡ variable_of self.now (usage_list usages.now) c) }
     {
         let globals = &self.globals;
         Ok(Field::Variable(VariableField {
             id: FieldId::new((self.first_id + c as u64) as u32),
             report_id: globals.report_id,
             bits: self.bits(c),
-            usage: self.usage(c),
+            usage: usages.at(c),
             logical_minimum: globals.logical_minimum.unwrap_or(LogicalMinimum::from(0)),
             logical_maximum: globals.logical_maximum.unwrap_or(LogicalMaximum::from(0)),
             physical_minimum: physical_minimum(globals),
@@ -271,11 +327,43 @@ impl Layout<'_> {
             has_no_preferred_state: self.item.has_no_preferred_state(),
             has_null_state: self.item.has_null_state(),
             is_buffered_bytes: self.item.is_buffered_bytes(),
-            is_volatile: None,
+            is_volatile: self.item.is_volatile(),
         }))
     }
 
-    /// The bits of field number `c`.
+    /// The field of an array item, which has all the usages.
+    fn array_field(&self, alloc: Global, usages: Usages) -> Result<Field, AllocError>
+        requires ids { self.now.first_id < 2 ^ 32 }
+        requires bits { self.now.first_bit + self.now.size * self.now.count < 2 ^ 64 }
+        requires count { self.now.globals.report_count ≡ Some self.now.count }
+        ensures { IfOk result (λ field. field_record field ≡ ArrayRecord (make_place self.now.first_id self.now.globals.report_id self.now.first_bit (self.now.size * self.now.count)) (usage_list usages).usages (usage_list usages).is_range self.now.count (shared_of self.now)) }
+    {
+        let globals = &self.globals;
+        Ok(Field::Array(ArrayField {
+            id: FieldId::new(self.first_id as u32),
+            report_id: globals.report_id,
+            bits: self.all_bits(),
+            is_usage_range: usages.is_range(),
+            usages: usages.into_list(alloc)?,
+            report_count: globals.report_count.unwrap_or(ReportCount::from(0)),
+            logical_minimum: globals.logical_minimum.unwrap_or(LogicalMinimum::from(0)),
+            logical_maximum: globals.logical_maximum.unwrap_or(LogicalMaximum::from(0)),
+            physical_minimum: physical_minimum(globals),
+            physical_maximum: physical_maximum(globals),
+            unit: globals.unit,
+            unit_exponent: globals.unit_exponent,
+            collections: self.collections.clone()?,
+            is_relative: self.item.is_relative(),
+            wraps: self.item.wraps(),
+            is_nonlinear: self.item.is_nonlinear(),
+            has_no_preferred_state: self.item.has_no_preferred_state(),
+            has_null_state: self.item.has_null_state(),
+            is_buffered_bytes: self.item.is_buffered_bytes(),
+            is_volatile: self.item.is_volatile(),
+        }))
+    }
+
+    /// The bits of field number `c` of a variable item.
     fn bits(&self, c: usize) -> Range<usize>
         requires { self.now.first_bit + self.now.size * (c + 1) < 2 ^ 64 }
         ensures first { result.start ≡ self.now.first_bit + c * self.now.size }
@@ -285,12 +373,13 @@ impl Layout<'_> {
         start..start + self.size
     }
 
-    /// Usage number `c`, or the last one where there are fewer.
-    fn usage(&self, c: usize) -> Usage
-        requires { 0 < length self.now.usages.now }
-        ensures { result ≡ usage_at self.now.usages.now c }
+    /// The bits of all elements.
+    fn all_bits(&self) -> Range<usize>
+        requires { self.now.first_bit + self.now.size * self.now.count < 2 ^ 64 }
+        ensures first { result.start ≡ self.now.first_bit }
+        ensures end { result.end ≡ self.now.first_bit + self.now.size * self.now.count }
     {
-        self.usages[c.min(self.usages.len() - 1)]
+        self.first_bit..self.first_bit + self.size * self.count
     }
 }
 

@@ -4,6 +4,7 @@
 mod array_field;
 mod collection;
 mod constant_field;
+mod data_item;
 mod descriptor;
 mod field;
 mod field_attributes;
@@ -15,6 +16,7 @@ mod report;
 mod state;
 mod usage;
 mod usage_range;
+mod usages;
 mod value;
 
 /// The numbers that items carry, each as a type of its own.

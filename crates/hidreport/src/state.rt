@@ -1,6 +1,7 @@
 ghost use Rattle.std.specs.Prelude.{◌≡◌};
 ghost use Rattle.hidreport.specs.declared.state.Fault.TheVariants.{OutOfMemory};
 
+use crate::data_item::DataItem;
 use crate::descriptor::ReportDescriptor;
 use crate::first_path::is_carried;
 use crate::report::RDescReport;
@@ -20,6 +21,9 @@ pub(crate) enum Fault {
 
     /// The meaning of the item isn't carried yet.
     NotInFirstPath,
+
+    /// A minimum of usages has no maximum.
+    MissingUsageMaximum,
 
     /// A usage has no page of its own, and none is in force.
     MissingUsagePage,
@@ -62,6 +66,7 @@ impl Fault {
         let text = match self {
             Fault::EmptyDescriptor => "Empty report descriptor",
             Fault::NotInFirstPath => "Not in the first path",
+            Fault::MissingUsageMaximum => "Missing UsageMaximum in locals",
             Fault::MissingUsagePage => "Missing UsagePage in globals",
             Fault::MissingUsages => "Missing Usages for main item",
             Fault::OutOfBounds => return ParserError::OutOfBounds,
@@ -148,7 +153,7 @@ impl State {
     ghost use Rattle.hidreport.specs.Faults.{fault_of};
     ghost use Rattle.hidreport.specs.FirstPath.{is_carried};
     ghost use Rattle.hidreport.specs.Machine.{counts_in, fault_in, nothing_held, step, whole_step};
-    ghost use Rattle.hidreport.specs.State.{HasNoRange, IsFaultOf, held_of};
+    ghost use Rattle.hidreport.specs.State.{IsFaultOf, held_of};
 
     /// Before the first item.
     pub(crate) fn new(alloc: Global) -> State
@@ -166,9 +171,7 @@ impl State {
 
     /// Goes on by one item.
     pub(crate) fn take(&mut self, alloc: Global, item: ItemType) -> Result<(), Fault>
-        requires { HasNoRange self.old.locals.items }
         ensures ok { OnOk result (step (held_of self.old) item ≡ Ok (held_of self.new)) }
-        ensures single { OnOk result (HasNoRange self.new.locals.items) }
         ensures err { IfErr result (λ e. IsFaultOf e (fault_in (held_of self.old) item)) }
     {
         if !is_carried(&item) {
@@ -180,9 +183,7 @@ impl State {
     /// Goes on by an item that is carried.
     fn take_carried(&mut self, alloc: Global, item: ItemType) -> Result<(), Fault>
         requires carried { is_carried item ≡ true }
-        requires single { HasNoRange self.old.locals.items }
         ensures ok { OnOk result (whole_step (held_of self.old) item ≡ Ok (held_of self.new)) }
-        ensures single { OnOk result (HasNoRange self.new.locals.items) }
         ensures err { IfErr result (λ e. IsFaultOf e (fault_of (counts_in (held_of self.old) item) (held_of self.old).force item)) }
     {
         match item {
@@ -197,13 +198,14 @@ impl State {
     /// The locals end with the item.
     fn take_main(&mut self, alloc: Global, item: MainItem) -> Result<(), Fault>
         requires carried { is_carried (ItemType.Main item) ≡ true }
-        requires single { HasNoRange self.old.locals.items }
         ensures ok { OnOk result (whole_step (held_of self.old) (ItemType.Main item) ≡ Ok (held_of self.new)) }
-        ensures single { OnOk result (HasNoRange self.new.locals.items) }
         ensures err { IfErr result (λ e. IsFaultOf e (fault_of (counts_in (held_of self.old) (ItemType.Main item)) (held_of self.old).force (ItemType.Main item))) }
     {
-        if let MainItem::Input(item) = item {
-            self.add_input(alloc, item)?;
+        match item {
+            MainItem::Input(item) => self.add_data(alloc, DataItem::Input(item))?,
+            MainItem::Output(item) => self.add_data(alloc, DataItem::Output(item))?,
+            MainItem::Feature(item) => self.add_data(alloc, DataItem::Feature(item))?,
+            MainItem::Collection(_) | MainItem::EndCollection => {}
         }
         self.locals.clear();
         Ok(())

@@ -28,9 +28,13 @@ abbrev pub number_text : Option ℤ → List ℕ
 number_text (Some n) = signed_decimal n
 number_text None = codes "out of bounds"
 
--- the values of an array, each after a space
+-- values, each after a space
+abbrev pub values_text : List ValueRecord → List ℕ
+values_text vs = flat_map (λ v. 32 ∷ signed_decimal (value_number v)) vs
+
+-- the values of an array
 abbrev pub numbers_text : Result (List ValueRecord) Refusal → List ℕ
-numbers_text (Ok vs) = flat_map (λ v. 32 ∷ signed_decimal (value_number v)) vs
+numbers_text (Ok vs) = values_text vs
 numbers_text (Err refusal) = codes " out of bounds"
 
 abbrev pub is_signed : Attributes → Bool

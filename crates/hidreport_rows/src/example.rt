@@ -1,12 +1,11 @@
 //! The library as a caller uses it.
-ghost use Rattle.std.specs.Prelude.{map};
+ghost use Rattle.std.specs.Prelude.{◌≡◌, map, IfOk};
 ghost use Rattle.hidreport.specs.Reading.{AnswersBy};
 ghost use Rattle.hidreport.specs.Views.{field_record};
-ghost use Rattle.hidreport_lists.specs.Answer.{Answers};
-ghost use Rattle.hidreport_rows.specs.Values.{field_read, numbers_in, numbers_of};
+ghost use Rattle.hidreport_rows.specs.Values.{number, numbers_at, numbers_in, numbers_of};
 
 use hidreport::{Field, FieldValue, ParserError, Report, ReportDescriptor};
-use std::alloc::Global;
+use std::alloc::{AllocError, Global};
 
 /// The values in a report, by the descriptor of its device; none where no input report fits.
 ///
@@ -27,17 +26,28 @@ fn values_of(alloc: Global, fields: &[Field], bytes: &[u8]) -> Result<Vec<i32>, 
 {
     let mut values = Vec::new(alloc);
     for field in fields {
-        let value = value_of(field, bytes)?;
-        values.push(i32::from(value))?;
+        values.append(&mut values_at(alloc, field, bytes)?)?;
     }
     Ok(values)
 }
 
-/// The value that a report's bytes give a field.
-fn value_of(field: &Field, bytes: &[u8]) -> Result<FieldValue, ParserError>
-    ensures { Answers result (field_read bytes.now field.now) }
+/// The values of one field: one, those of all elements of an array, or none of padding.
+fn values_at(alloc: Global, field: &Field, bytes: &[u8]) -> Result<Vec<i32>, ParserError>
+    ensures { AnswersBy (λ values. values.items) result (numbers_at bytes.now (field_record field.now)) }
 {
     match field {
-        Field::Variable(field) => field.extract(bytes),
+        Field::Variable(field) => Ok(vec![in alloc; i32::from(field.extract(bytes)?)]?),
+        Field::Array(field) => Ok(numbers(alloc, &field.extract(bytes)?)?),
+        Field::Constant(_) => Ok(Vec::new(alloc)),
     }
+}
+
+fn numbers(alloc: Global, values: &[FieldValue]) -> Result<Vec<i32>, AllocError>
+    ensures { IfOk result (λ numbers. numbers.items ≡ map number values.now) }
+{
+    let mut numbers = Vec::new(alloc);
+    for value in values {
+        numbers.push(i32::from(value))?;
+    }
+    Ok(numbers)
 }

@@ -5,6 +5,8 @@
 mod builder;
 pub mod definitions;
 pub mod example;
+#[cfg(test)]
+mod fields;
 pub mod generic;
 #[cfg(test)]
 mod items;

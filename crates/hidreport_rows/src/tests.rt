@@ -30,7 +30,9 @@ fn parts_of_a_field(rt: HostRuntime) -> Result<(), Fail> {
     assert_eq!(rt; fields[1].bits().start, 8);
     assert_eq!(rt; fields[1].bits().end, 16);
     assert!(rt; fields[1].collections().is_empty());
-    let Field::Variable(field) = &fields[1];
+    let Field::Variable(field) = &fields[1] else {
+        panic!(rt; "no variable field");
+    };
     assert_eq!(rt; u32::from(field.usage), 0x0001_0031);
     assert_eq!(rt; field.logical_minimum, LogicalMinimum::from(-127));
     assert!(rt; field.is_signed());
@@ -57,7 +59,7 @@ fn items_with_their_places(rt: HostRuntime) -> Result<(), Fail> {
 
 #[test]
 fn refusals_name_their_offset(rt: HostRuntime) {
-    let rows: [(&[u8], usize, &str); 12] = [
+    let rows: [(&[u8], usize, &str); 16] = [
         (b"", 0, "Empty report descriptor"),
         (b"\x03", 0, "Insufficient data"),
         (b"\x00", 0, "Invalid data: Invalid item tag 0b000000"),
@@ -76,6 +78,26 @@ fn refusals_name_their_offset(rt: HostRuntime) {
         (
             b"\x75\x08\x95\x01\x09\x30\x81\x02",
             6,
+            "Missing UsagePage in globals",
+        ),
+        (
+            b"\x05\x01\x19\x05\x29\x02\x75\x08\x95\x01\x81\x02",
+            10,
+            "Missing Usages for main item",
+        ),
+        (
+            b"\x05\x01\x19\x05\x75\x08\x95\x01\x81\x02",
+            8,
+            "Missing UsageMaximum in locals",
+        ),
+        (
+            b"\x77\xff\xff\xff\xff\x97\xff\xff\xff\xff\x81\x01\x81\x00",
+            12,
+            "Missing Usages for main item",
+        ),
+        (
+            b"\x19\x05\x29\x02\x75\x08\x95\x01\xb1\x00",
+            8,
             "Missing UsagePage in globals",
         ),
     ];

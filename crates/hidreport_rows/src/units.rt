@@ -154,7 +154,9 @@ fn values_keep_their_low_bits(rt: HostRuntime) -> Result<(), Fail> {
     let descriptor = ReportDescriptor::try_from(rt.alloc(), descriptor)?;
     let report = descriptor.find_input_report(b"\xf1").ok_or("no report")?;
     assert_eq!(rt; report.fields().len(), 2);
-    let Field::Variable(field) = &report.fields()[1];
+    let Field::Variable(field) = &report.fields()[1] else {
+        panic!(rt; "no variable field");
+    };
     let value = field.extract(b"\xf1")?;
     assert!(rt; value.is_signed());
     assert_eq!(rt; u8::from(value), 255);

@@ -1,13 +1,14 @@
 //! The lines of a report and of its fields.
-ghost use Rattle.std.specs.Prelude.{◌≡◌, ◌++◌, pos, int_lt, IfOk, OnOk, string_bytes};
+ghost use Rattle.std.specs.Prelude.{◌≡◌, ◌++◌, [], pos, int_lt, IfOk, OnOk, string_bytes};
 ghost use Rattle.hidreport.specs.Reading.{read_variable};
-ghost use Rattle.hidreport.specs.Records.{VariableRecord};
-ghost use Rattle.hidreport.specs.Views.{field_record, variable_place, variable_attributes};
-ghost use Rattle.hidreport_program.specs.Lines.{line_of_field, number_read, report_line};
+ghost use Rattle.hidreport.specs.Views.{array_record, constant_record, field_record, variable_record};
+ghost use Rattle.hidreport_program.specs.Lines.{line_of_field, number_read, report_line, values_text};
 ghost use Rattle.hidreport_program.specs.Output.{report_text};
 
 use super::numbers::{EightDigits, NumberRead, TwoDigits, number_of};
-use hidreport::{Field, ParserError, RDescReport, Report, VariableField};
+use hidreport::{
+    ArrayField, ConstantField, Field, FieldValue, ParserError, RDescReport, Report, VariableField,
+};
 use std::alloc::AllocError;
 use std::fmt::Write;
 
@@ -43,12 +44,14 @@ fn add_field(text: &mut String, field: &Field, bytes: &[u8]) -> Result<(), Alloc
 {
     match field {
         Field::Variable(field) => add_variable(text, field, bytes),
+        Field::Array(field) => add_array(text, field, bytes),
+        Field::Constant(field) => add_constant(text, field),
     }
 }
 
 fn add_variable(text: &mut String, field: &VariableField, bytes: &[u8]) -> Result<(), AllocError>
     ensures { OnOk result (string_bytes text.new ≡ string_bytes text.old
-        ++ line_of_field bytes.now (VariableRecord (variable_place field.now) field.now.usage (variable_attributes field.now))) }
+        ++ line_of_field bytes.now (variable_record field.now)) }
 {
     let first = field.bits.start;
     let end = field.bits.end;
@@ -67,4 +70,40 @@ fn read_number(field: &VariableField, bytes: &[u8]) -> Result<Option<i64>, Alloc
         Err(ParserError::OutOfMemory) => Err(AllocError),
         Err(_) => Ok(None),
     }
+}
+
+fn add_array(text: &mut String, field: &ArrayField, bytes: &[u8]) -> Result<(), AllocError>
+    ensures { OnOk result (string_bytes text.new ≡ string_bytes text.old
+        ++ line_of_field bytes.now (array_record field.now)) }
+{
+    let first = field.bits.start;
+    let end = field.bits.end;
+    write!(text, "{first}..{end} array")?;
+    match field.extract(bytes) {
+        Ok(values) => add_values(text, &values)?,
+        Err(ParserError::OutOfMemory) => return Err(AllocError),
+        Err(_refusal) => write!(text, " out of bounds")?,
+    }
+    writeln!(text)
+}
+
+/// Appends the values, each after a space.
+fn add_values(text: &mut String, values: &[FieldValue]) -> Result<(), AllocError>
+    ensures { OnOk result (string_bytes text.new
+        ≡ string_bytes text.old ++ values_text values.now) }
+{
+    for value in values {
+        let number = number_of(*value);
+        write!(text, " {number}")?;
+    }
+    Ok(())
+}
+
+fn add_constant(text: &mut String, field: &ConstantField) -> Result<(), AllocError>
+    ensures { OnOk result (string_bytes text.new ≡ string_bytes text.old
+        ++ line_of_field [] (constant_record field.now)) }
+{
+    let first = field.bits.start;
+    let end = field.bits.end;
+    writeln!(text, "{first}..{end} constant")
 }

@@ -77,6 +77,29 @@ fn descriptor_without_reports(rt: HostRuntime) {
 }
 
 #[test]
+fn array_of_three_elements(rt: HostRuntime) {
+    let descriptor = b"\x05\x01\x15\x00\x26\xff\x00\x75\x08\x95\x03\x1b\x01\x00\x01\x00\x2b\xff\x00\x01\x00\x81\x00";
+    let text = b"report -- 24\n0..24 array 1 0 255\n";
+    shows(&rt, descriptor, b"\x01\x00\xff", Outcome::Done, text);
+    let text = b"report -- 24\n0..24 array out of bounds\n";
+    shows(&rt, descriptor, b"\x01\x00", Outcome::Done, text);
+}
+
+#[test]
+fn padding_before_a_value_that_is_cut_off(rt: HostRuntime) {
+    let descriptor = b"\x05\x01\x75\x04\x95\x01\x81\x01\x75\x20\x09\x30\x81\x02";
+    let text = b"report -- 36\n0..4 constant\n4..36 variable 00010030 out of bounds\n";
+    shows(&rt, descriptor, b"\x0f\x5e\xab\x78", Outcome::Done, text);
+}
+
+#[test]
+fn signed_elements_of_four_bits(rt: HostRuntime) {
+    let descriptor = b"\x05\x01\x15\xff\x25\x07\x75\x04\x95\x02\x09\x30\x81\x00";
+    let text = b"report -- 8\n0..8 array 1 -1\n";
+    shows(&rt, descriptor, b"\xf1", Outcome::Done, text);
+}
+
+#[test]
 fn missing_usages(rt: HostRuntime) {
     let descriptor = b"\x05\x01\x75\x08\x95\x01\x81\x02";
     let text = b"refused: invalid data at offset 6: Missing Usages for main item\n";

@@ -14,7 +14,7 @@ returns-in-Err c =
     let fault : IsFaultOf c.in-Err.fault (fault_in h c.entry-item.result.item) = subst (λ (x : ItemType). IsFaultOf c.in-Err.fault (fault_in h x)) same c.in-Err.ensures.err in
     record {
       exact = refuses-fault c.in-Err.fault c.offset.result c.at.result (fault_in h c.entry-item.result.item) _ fault c.at.ensures.named c.at.ensures.memory
-          (λ f e. meaning-fault c.args.items.now c.loop-entry.entry-index c.entry-item.result h f c.loop-entry-test.true c.entry-item.is c.loop-entry.invariant.walked e
+          (λ f e. meaning-fault c.args.items.now c.loop-entry.entry-index c.entry-item.result h f c.loop-entry-test.true c.entry-item.is c.loop-entry.invariant e
           ∙ ap (λ o. Err (refusal_at o f)) (sym c.offset.ensures));
     }
 
@@ -22,11 +22,8 @@ pub loop-entry-preserved : goal.loop-entry-preserved
 loop-entry-preserved c =
     let same = c.item_type.ensures ∙ ap (λ (s : Spelled). s.item) c.item.ensures in
     let h = held_of c.loop-entry.state in
-    record {
-      walked = sym (walked-on c.args.items.now c.loop-entry.entry-index c.entry-item.result h (held_of c.take.new.self) c.loop-entry-test.true c.entry-item.is
-          (ap (step h) (sym same) ∙ c.in-Ok.ensures.ok)) ∙ c.loop-entry.invariant.walked;
-      single = c.in-Ok.ensures.single;
-    }
+    sym (walked-on c.args.items.now c.loop-entry.entry-index c.entry-item.result h (held_of c.take.new.self) c.loop-entry-test.true c.entry-item.is
+    (ap (step h) (sym same) ∙ c.in-Ok.ensures.ok)) ∙ c.loop-entry.invariant
 
 pub returns : goal.returns
-returns c = record { exact = meaning-end c.args.items.now c.loop-entry.entry-index (held_of c.loop-entry.state) c.loop-entry-test.false c.loop-entry.invariant.walked ∙ ap Ok (sym c.into_descriptor.ensures) }
+returns c = record { exact = meaning-end c.args.items.now c.loop-entry.entry-index (held_of c.loop-entry.state) c.loop-entry-test.false c.loop-entry.invariant ∙ ap Ok (sym c.into_descriptor.ensures) }

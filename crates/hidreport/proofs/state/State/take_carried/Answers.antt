@@ -5,7 +5,7 @@ use Rattle.hidreport.specs.InForce.{Force}
 use Rattle.hidreport.specs.Machine.{whole_step, next_force}
 use Rattle.hidreport.specs.State.{held_of}
 use Rattle.hidreport.specs.FirstPath.{is_carried}
-use Rattle.hidreport.proofs.InputLemmas.{held_result, step-global, no_range-next}
+use Rattle.hidreport.proofs.DataLemmas.{held_result, step-global}
 use Rattle.hidreport.proofs.state.State.take_carried.Goals as goal
 
 pub returns-in-Global-clause-ok : goal.returns-in-Global-clause-ok
@@ -16,7 +16,3 @@ returns-in-Global-clause-ok c =
     ∙ step-global h c.in-Global.item (ap is_carried (sym c.in-Global.is) ∙ c.requires.carried)
     ∙ ap (λ (f : Force). held_result (record { force = f; descriptor = h.descriptor; fields = h.fields }))
     (ap (λ (l : List LocalItem). record (next_force h.force x) { locals = l }) (append-nil h.force.locals) ∙ sym (c.set.ensures h.force.locals))
-
-pub returns-in_ok-push-in-Local-clause-single : goal.returns-in_ok-push-in-Local-clause-single
-returns-in_ok-push-in-Local-clause-single c =
-    rw c.in_ok-push-in-Local.ensures.items (no_range-next c.args.self.now.locals.items c.in-Local.item c.requires.single (ap is_carried (sym c.in-Local.is) ∙ c.requires.carried))

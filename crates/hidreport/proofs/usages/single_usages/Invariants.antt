@@ -1,7 +1,7 @@
 use Rattle.std.proofs.Common.{◌≡◌, drop}
 use Rattle.hidreport.specs.Usages.{single_usages}
 use Rattle.hidreport.proofs.UsageLemmas.{usages_with}
-use Rattle.hidreport.proofs.layout.single_usages.Given as goal
+use Rattle.hidreport.proofs.usages.single_usages.Given as goal
 
 -- the usages so far, and then those of the rest
 abbrev pub invariant-loop-local : goal.invariant-loop-local

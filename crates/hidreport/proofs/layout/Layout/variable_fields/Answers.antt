@@ -3,14 +3,15 @@ use Rattle.std.proofs.lemmas.List.{map-append}
 use Rattle.hidreport.specs.Fields.{each_from}
 use Rattle.hidreport.specs.Layout.{variable_of}
 use Rattle.hidreport.specs.Records.{FieldRecord}
+use Rattle.hidreport.specs.State.{usage_list}
 use Rattle.hidreport.specs.Views.{field_record}
 use Rattle.hidreport.proofs.FieldLemmas.{each_from-next}
-use Rattle.hidreport.proofs.layout.Layout.fields.Goals as goal
+use Rattle.hidreport.proofs.layout.Layout.variable_fields.Goals as goal
 
 pub loop-c-preserved : goal.loop-c-preserved
 loop-c-preserved c =
     let k = c.loop-c.c in
-    let made = variable_of c.args.self.now in
+    let made = variable_of c.args.self.now (usage_list c.args.usages.now) in
     ap (map field_record) c.in_ok-push.ensures.items
     ∙ map-append field_record c.loop-c.fields.items (c.in_ok-variable_field.field-0 ∷ [])
     ∙ ap (λ (l : List FieldRecord). l ++ field_record c.in_ok-variable_field.field-0 ∷ []) c.loop-c.invariant
