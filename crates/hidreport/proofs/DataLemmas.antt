@@ -1,24 +1,20 @@
 -- A data item: its fault, and what it makes.
-use Rattle.std.proofs.Common.{◌≡◌, ℕ, ◌+◌, ◌*◌, ◌<◌, Bool, true, false, ◌||◌, nat_lt, List, [], length, Option, None, Some, Result, Ok, refl, sym, ap, ◌∙◌, subst, add-zero}
-use Rattle.hidreport_items.specs.Flags.{Flags}
+use Rattle.std.proofs.Common.{◌≡◌, ℕ, ◌+◌, ◌*◌, Bool, true, false, List, [], Option, Some, Result, Ok, refl, sym, ap, ◌∙◌, add-zero}
 use Rattle.hidreport_items.specs.declared.global.GlobalItem.{GlobalItem}
 use Rattle.hidreport_items.specs.declared.global.GlobalItem.TheVariants as global
 use Rattle.hidreport_items.specs.declared.item.ItemType.{ItemType}
 use Rattle.hidreport_items.specs.declared.item.ItemType.TheVariants as item
 use Rattle.hidreport.specs.DataItem.{item_of, direction_of, flags_of}
-use Rattle.hidreport.specs.Faults.{MeaningFault, PastBounds, data_fault, limit_fault, greatest_place, numbers}
-use Rattle.hidreport.specs.Fields.{make_fields, attributes, field_count, list_or_none}
+use Rattle.hidreport.specs.Faults.{MeaningFault}
+use Rattle.hidreport.specs.Fields.{make_fields, attributes, list_or_none}
 use Rattle.hidreport.specs.FirstPath.{is_carried}
-use Rattle.hidreport.specs.InForce.{first_of}
-use Rattle.hidreport.specs.Machine.{Held, whole_step, next_force, counts_in, next_held, key_in, start_in, size_in, added_to, reports_in, with_reports}
+use Rattle.hidreport.specs.Machine.{Held, whole_step, next_force, next_held, key_in, start_in, size_in, added_to, reports_in, with_reports}
 use Rattle.hidreport.specs.Making.{extent}
 use Rattle.hidreport.specs.Records.{CollectionRecord, FieldRecord, ReportRecord}
-use Rattle.hidreport.specs.State.{IsFaultOf, HasUsages, usages_fault, usage_list, held_fault}
+use Rattle.hidreport.specs.State.{HasUsages, usage_list}
 use Rattle.hidreport.specs.Usages.{UsageList, usages_of}
 use Rattle.hidreport.specs.declared.data_item.DataItem.{DataItem}
 use Rattle.hidreport.specs.declared.data_item.DataItem.TheVariants as kinds
-use Rattle.hidreport.specs.declared.state.Fault.{Fault}
-use Rattle.hidreport.specs.declared.state.Fault.TheVariants as faults
 use Rattle.hidreport.specs.declared.usages.Usages.{Usages}
 
 -- the fields that it makes in these collections

@@ -1,14 +1,12 @@
 -- The fields of one item as the parser lays them out.
-use Rattle.std.specs.Prelude.{ℕ, ◌+◌, ◌*◌, ◌-◌, [], List}
+use Rattle.std.specs.Prelude.{ℕ, ◌+◌, ◌*◌, [], List}
 use Rattle.std.specs.Arc.{arc_slice_items}
 use Rattle.hidreport.specs.DataItem.{direction_of, flags_of}
 use Rattle.hidreport.specs.Fields.{make_place, make_fields, usage_at, attributes}
 use Rattle.hidreport.specs.Records.{Attributes, FieldRecord, VariableRecord}
 use Rattle.hidreport.specs.State.{force_of}
-use Rattle.hidreport.specs.Usages.{UsageList, range_from}
+use Rattle.hidreport.specs.Usages.{UsageList}
 use Rattle.hidreport.specs.declared.layout.Layout.{Layout}
-use Rattle.hidreport.specs.declared.usages.Usages.{Usages}
-use Rattle.hidreport.specs.declared.usages.Usages.TheVariants as usages
 
 -- what the item's fields share
 abbrev pub shared_of : Layout → Attributes

@@ -1,4 +1,4 @@
-use Rattle.std.proofs.Common.{◌≡◌, ◌+◌, ◌∙◌, List, ap, sym, add-one, ◌++◌, [], ◌∷◌}
+use Rattle.std.proofs.Common.{◌≡◌, ◌∙◌, List, ap, sym, add-one, ◌++◌, [], ◌∷◌}
 use Rattle.hidreport.specs.Usages.{range_from}
 use Rattle.hidreport.specs.declared.usage.Usage.{Usage}
 use Rattle.hidreport.proofs.UsageLemmas.{range_from-next}
