@@ -32,7 +32,9 @@ impl Usages {
     {
         match self {
             Usages::Range {
-                minimum, maximum, ..
+                minimum,
+                maximum,
+                ..
             } => minimum > maximum,
             Usages::Single(usages) => usages.is_empty(),
         }

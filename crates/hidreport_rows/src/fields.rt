@@ -10,8 +10,7 @@ use std::test::Fail;
 const NIBBLES: &[u8] = b"\x05\x01\x15\xff\x25\x07\x75\x04\x95\x02\x09\x30\x81\x00";
 
 /// Four bits of padding and a field of 32 bits.
-const ACROSS_FIVE_BYTES: &[u8] =
-    b"\x05\x01\x75\x04\x95\x01\x81\x01\x75\x20\x09\x30\x81\x02";
+const ACROSS_FIVE_BYTES: &[u8] = b"\x05\x01\x75\x04\x95\x01\x81\x01\x75\x20\x09\x30\x81\x02";
 
 fn variable(field: &Field) -> Option<&VariableField> {
     match field {
@@ -51,7 +50,10 @@ fn an_output_field_has_every_attribute(rt: HostRuntime) -> Result<(), Fail> {
     let fields = reports[0].fields();
     assert_eq!(rt; fields.len(), 3);
     for (place, usage) in [0x0008_0001, 0x0008_0002, 0x0008_0003].iter().enumerate() {
-        let field = fields.get(place).and_then(variable).ok_or("no variable field")?;
+        let field = fields
+            .get(place)
+            .and_then(variable)
+            .ok_or("no variable field")?;
         assert_eq!(rt; u32::from(field.usage), *usage);
         assert_eq!(rt; field.physical_minimum, Some(PhysicalMinimum::from(0)));
         assert_eq!(rt; field.physical_maximum, Some(PhysicalMaximum::from(5)));
@@ -71,7 +73,9 @@ fn a_field_without_id_joins_the_first_report(rt: HostRuntime) -> Result<(), Fail
     assert_eq!(rt; reports.len(), 2);
     assert_eq!(rt; reports[0].size_in_bits(), 8);
     assert_eq!(rt; reports[1].size_in_bits(), 16);
-    let found = descriptor.find_input_report(b"\x02\x00").ok_or("no report")?;
+    let found = descriptor
+        .find_input_report(b"\x02\x00")
+        .ok_or("no report")?;
     assert_eq!(rt; found.size_in_bits(), 8);
     Ok(())
 }
@@ -82,7 +86,9 @@ fn the_last_usage_is_used_again(rt: HostRuntime) -> Result<(), Fail> {
     let descriptor = ReportDescriptor::try_from(rt.alloc(), bytes)?;
     let usages = [0x0009_0001, 0x0009_0002, 0x0009_0002, 0x0009_0002];
     for (place, usage) in usages.iter().enumerate() {
-        let field = input_field(&descriptor, place).and_then(variable).ok_or("no variable field")?;
+        let field = input_field(&descriptor, place)
+            .and_then(variable)
+            .ok_or("no variable field")?;
         assert_eq!(rt; field.bits.start, place);
         assert_eq!(rt; field.bits.end, place + 1);
         assert_eq!(rt; u32::from(field.usage), *usage);
@@ -95,7 +101,9 @@ fn a_range_of_all_usages_is_never_listed(rt: HostRuntime) -> Result<(), Fail> {
     let bytes = b"\x05\x01\x1b\x00\x00\x00\x00\x2b\xff\xff\xff\xff\x75\x08\x95\x01\x81\x02";
     let descriptor = ReportDescriptor::try_from(rt.alloc(), bytes)?;
     assert!(rt; input_field(&descriptor, 1).is_none());
-    let field = input_field(&descriptor, 0).and_then(variable).ok_or("no variable field")?;
+    let field = input_field(&descriptor, 0)
+        .and_then(variable)
+        .ok_or("no variable field")?;
     assert_eq!(rt; u32::from(field.usage), 0x0001_0000);
     Ok(())
 }
@@ -110,10 +118,11 @@ fn an_item_without_fields_looks_at_no_usages(rt: HostRuntime) -> Result<(), Fail
 
 #[test]
 fn a_range_of_usages_wraps_within_its_page(rt: HostRuntime) -> Result<(), Fail> {
-    let bytes =
-        b"\x05\x01\x1b\xff\xff\x00\x00\x2b\x01\x00\x01\x00\x75\x08\x95\x01\x81\x00";
+    let bytes = b"\x05\x01\x1b\xff\xff\x00\x00\x2b\x01\x00\x01\x00\x75\x08\x95\x01\x81\x00";
     let descriptor = ReportDescriptor::try_from(rt.alloc(), bytes)?;
-    let field = input_field(&descriptor, 0).and_then(array).ok_or("no array field")?;
+    let field = input_field(&descriptor, 0)
+        .and_then(array)
+        .ok_or("no array field")?;
     assert_eq!(rt; field.usages().len(), 3);
     assert_eq!(rt; u32::from(field.usages()[0]), 0x0001_ffff);
     assert_eq!(rt; u32::from(field.usages()[1]), 0x0001_0000);
@@ -129,7 +138,9 @@ fn a_range_of_usages_wraps_within_its_page(rt: HostRuntime) -> Result<(), Fail> 
 #[test]
 fn elements_of_an_array_are_signed(rt: HostRuntime) -> Result<(), Fail> {
     let descriptor = ReportDescriptor::try_from(rt.alloc(), NIBBLES)?;
-    let field = input_field(&descriptor, 0).and_then(array).ok_or("no array field")?;
+    let field = input_field(&descriptor, 0)
+        .and_then(array)
+        .ok_or("no array field")?;
     assert_eq!(rt; field.bits.start, 0);
     assert_eq!(rt; field.bits.end, 8);
     assert!(rt; field.is_signed());
@@ -149,9 +160,17 @@ fn elements_of_an_array_are_signed(rt: HostRuntime) -> Result<(), Fail> {
 #[test]
 fn reading_follows_a_changed_array(rt: HostRuntime) -> Result<(), Fail> {
     let descriptor = ReportDescriptor::try_from(rt.alloc(), NIBBLES)?;
-    let field = input_field(&descriptor, 0).and_then(array).ok_or("no array field")?;
+    let field = input_field(&descriptor, 0)
+        .and_then(array)
+        .ok_or("no array field")?;
     let last = usize::MAX;
-    let ranges = [(5, 2, 2), (0, 8, 9), (0, 8, last), (0, last, 1), (last - 8, last, 1)];
+    let ranges = [
+        (5, 2, 2),
+        (0, 8, 9),
+        (0, 8, last),
+        (0, last, 1),
+        (last - 8, last, 1),
+    ];
     for (start, end, count) in ranges {
         let mut changed = field.clone()?;
         changed.bits = start..end;
@@ -175,7 +194,9 @@ fn reading_follows_a_changed_array(rt: HostRuntime) -> Result<(), Fail> {
 fn padding_of_the_greatest_size(rt: HostRuntime) -> Result<(), Fail> {
     let bytes = b"\x77\xff\xff\xff\xff\x97\xff\xff\xff\xff\x81\x01\x81\x01";
     let descriptor = ReportDescriptor::try_from(rt.alloc(), &bytes[..12])?;
-    let field = input_field(&descriptor, 0).and_then(constant).ok_or("no constant field")?;
+    let field = input_field(&descriptor, 0)
+        .and_then(constant)
+        .ok_or("no constant field")?;
     assert_eq!(rt; field.bits.start, 0);
     assert_eq!(rt; field.bits.end, 18446744065119617025);
     assert!(rt; field.usages().is_empty());
@@ -187,11 +208,21 @@ fn padding_of_the_greatest_size(rt: HostRuntime) -> Result<(), Fail> {
 #[test]
 fn a_value_lies_across_five_bytes(rt: HostRuntime) -> Result<(), Fail> {
     let descriptor = ReportDescriptor::try_from(rt.alloc(), ACROSS_FIVE_BYTES)?;
-    let field = input_field(&descriptor, 1).and_then(variable).ok_or("no variable field")?;
+    let field = input_field(&descriptor, 1)
+        .and_then(variable)
+        .ok_or("no variable field")?;
     assert_eq!(rt; field.bits.start, 4);
     assert_eq!(rt; field.bits.end, 36);
-    assert_eq!(rt; u32::from(field.extract(b"\x0f\x5e\xab\x78\x09")?), 0x978a_b5e0);
-    assert!(rt; matches!(field.extract(b"\x0f\x5e\xab\x78"), Err(ParserError::OutOfBounds)));
+    assert_eq!(rt;
+        u32::from(field.extract(b"\x0f\x5e\xab\x78\x09")?),
+        0x978a_b5e0
+    );
+    assert!(rt;
+        matches!(
+            field.extract(b"\x0f\x5e\xab\x78"),
+            Err(ParserError::OutOfBounds)
+        )
+    );
     Ok(())
 }
 
@@ -199,7 +230,9 @@ fn a_value_lies_across_five_bytes(rt: HostRuntime) -> Result<(), Fail> {
 fn a_value_of_33_bits_is_not_read(rt: HostRuntime) -> Result<(), Fail> {
     let bytes = b"\x05\x01\x75\x04\x95\x01\x81\x01\x75\x21\x09\x30\x81\x02";
     let descriptor = ReportDescriptor::try_from(rt.alloc(), bytes)?;
-    let field = input_field(&descriptor, 1).and_then(variable).ok_or("no variable field")?;
+    let field = input_field(&descriptor, 1)
+        .and_then(variable)
+        .ok_or("no variable field")?;
     assert_eq!(rt; field.bits.end, 37);
     let answer = field.extract(b"\x0f\x5e\xab\x78\x09");
     assert!(rt; matches!(answer, Err(ParserError::OutOfBounds)));
@@ -223,7 +256,9 @@ static RANGES: [(&[u8], usize, usize, i32, i32); 10] = [
 #[test]
 fn ranges_of_bits_have_their_values(rt: HostRuntime) -> Result<(), Fail> {
     let descriptor = ReportDescriptor::try_from(rt.alloc(), ACROSS_FIVE_BYTES)?;
-    let parsed = input_field(&descriptor, 1).and_then(variable).ok_or("no variable field")?;
+    let parsed = input_field(&descriptor, 1)
+        .and_then(variable)
+        .ok_or("no variable field")?;
     for (bytes, start, end, minimum, value) in &RANGES {
         let mut field = parsed.clone()?;
         field.bits = *start..*end;
@@ -236,7 +271,9 @@ fn ranges_of_bits_have_their_values(rt: HostRuntime) -> Result<(), Fail> {
 #[test]
 fn reading_follows_a_changed_range(rt: HostRuntime) -> Result<(), Fail> {
     let descriptor = ReportDescriptor::try_from(rt.alloc(), ACROSS_FIVE_BYTES)?;
-    let parsed = input_field(&descriptor, 1).and_then(variable).ok_or("no variable field")?;
+    let parsed = input_field(&descriptor, 1)
+        .and_then(variable)
+        .ok_or("no variable field")?;
     let mut field = parsed.clone()?;
     field.bits = 0..4;
     field.logical_minimum = LogicalMinimum::from(-8);
@@ -247,8 +284,18 @@ fn reading_follows_a_changed_range(rt: HostRuntime) -> Result<(), Fail> {
     field.bits = 0..32;
     assert_eq!(rt; u32::from(field.extract(b"\x0f\x5e\xab\x78")?), 0x78ab_5e0f);
     field.bits = 8..8;
-    assert!(rt; matches!(field.extract(b"\x0f\x5e\xab\x78"), Err(ParserError::OutOfBounds)));
+    assert!(rt;
+        matches!(
+            field.extract(b"\x0f\x5e\xab\x78"),
+            Err(ParserError::OutOfBounds)
+        )
+    );
     field.bits = 0..33;
-    assert!(rt; matches!(field.extract(b"\x0f\x5e\xab\x78"), Err(ParserError::OutOfBounds)));
+    assert!(rt;
+        matches!(
+            field.extract(b"\x0f\x5e\xab\x78"),
+            Err(ParserError::OutOfBounds)
+        )
+    );
     Ok(())
 }

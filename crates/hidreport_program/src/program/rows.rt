@@ -78,7 +78,8 @@ fn descriptor_without_reports(rt: HostRuntime) {
 
 #[test]
 fn array_of_three_elements(rt: HostRuntime) {
-    let descriptor = b"\x05\x01\x15\x00\x26\xff\x00\x75\x08\x95\x03\x1b\x01\x00\x01\x00\x2b\xff\x00\x01\x00\x81\x00";
+    let descriptor =
+        b"\x05\x01\x15\x00\x26\xff\x00\x75\x08\x95\x03\x1b\x01\x00\x01\x00\x2b\xff\x00\x01\x00\x81\x00";
     let text = b"report -- 24\n0..24 array 1 0 255\n";
     shows(&rt, descriptor, b"\x01\x00\xff", Outcome::Done, text);
     let text = b"report -- 24\n0..24 array out of bounds\n";
