@@ -2,6 +2,7 @@ pub mod LookupLemmas
 pub mod BitLemmas
 pub mod Walk
 pub mod Reports
+pub mod OpenLemmas
 pub mod WalkLemmas
 pub mod UsageLemmas
 pub mod ReportList

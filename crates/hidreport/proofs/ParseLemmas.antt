@@ -9,7 +9,7 @@ use Rattle.hidreport_lists.specs.Itemising.{itemise, as_refusal}
 use Rattle.hidreport_lists.specs.Messages.{grammar_message}
 use Rattle.hidreport_lists.specs.declared.error.ParserError.{ParserError}
 use Rattle.hidreport_lists.specs.declared.error.ParserError.TheVariants as errors
-use Rattle.hidreport.specs.Faults.{MeaningFault, Says, PastBounds, fault_of, missing_usages}
+use Rattle.hidreport.specs.Faults.{MeaningFault, Says, PastBounds, fault_of, missing_usages, too_many_ends}
 use Rattle.hidreport.specs.FirstPath.{is_carried, stage_fault, uncarried_fault, not_in_the_first_path}
 use Rattle.hidreport.specs.InForce.{first_of}
 use Rattle.hidreport.specs.Machine.{Held, fault_in, counts_in, whole_step, next_held, unless_fault, step, go_on, nothing_held, walk}
@@ -83,6 +83,7 @@ refuses-fault faults.NotInFirstPath offset e o answer is named memory given = re
 refuses-fault faults.MissingUsageMaximum offset e o answer is named memory given = refuses-as e (InvalidAt offset missing_maximum) answer named (given (Says missing_maximum) is)
 refuses-fault faults.MissingUsagePage offset e o answer is named memory given = refuses-as e (InvalidAt offset missing_page) answer named (given (Says missing_page) is)
 refuses-fault faults.MissingUsages offset e o answer is named memory given = refuses-as e (InvalidAt offset missing_usages) answer named (given (Says missing_usages) is)
+refuses-fault faults.TooManyEnds offset e o answer is named memory given = refuses-as e (InvalidAt offset too_many_ends) answer named (given (Says too_many_ends) is)
 refuses-fault faults.OutOfBounds offset e o answer is named memory given = refuses-as e Bounds answer named (given PastBounds is)
 refuses-fault {A} faults.OutOfMemory offset e o answer is named memory given = subst (λ (x : ParserError). Refuses {A = A} x answer) (sym (memory refl)) tt
 

@@ -105,7 +105,7 @@ abbrev pub AreBelow : ℕ → List Placed → Type 0
 AreBelow k [] = Unit {0}
 AreBelow k (p ∷ ps) = (p.0 < k) × AreBelow k ps
 
-enumerated-below : (n m : ℕ) (xs : List ItemType) → n + length xs ≤ m → AreBelow m (enumerate_from n xs)
+pub enumerated-below : (n m : ℕ) (xs : List ItemType) → n + length xs ≤ m → AreBelow m (enumerate_from n xs)
 enumerated-below n m [] h = tt
 enumerated-below n m (x ∷ xs) h = (omega arith, enumerated-below (n + 1) m xs (omega arith))
 

@@ -1,27 +1,35 @@
--- The walk forward gives the meaning that looks back; no item that is carried is a Push or opens a collection.
-use Rattle.std.proofs.Common.{◌≡◌, ℕ, suc, ◌+◌, Bool, true, false, cond, ◌&&◌, List, [], ◌∷◌, ◌++◌, length, take, map, Option, None, Some, is_some, filter, Ok, refl, sym, ap, ◌∙◌, subst, append-nil, append_assoc, add-zero, add-one, arith}
-use Rattle.std.specs.Prelude.{sum_by}
+-- The walk forward gives the meaning that looks back; no item that is carried is a Push.
+use Rattle.std.proofs.Common.{◌≡◌, ℕ, suc, ◌+◌, ◌-◌, ◌<◌, Bool, true, false, cond, ◌&&◌, List, [], ◌∷◌, ◌++◌, length, take, map, Option, None, Some, is_some, filter, Ok, refl, sym, ap, ◌∙◌, subst, append-nil, append_assoc, add-zero, add-one, arith}
+use Rattle.std.specs.Prelude.{◌==◌, sum_by, unwrap_or}
 use Rattle.std.specs.List.{enumerate_from}
 use Rattle.std.proofs.Math.Seq.{take-append_seam}
+use Rattle.std.proofs.lemmas.Bool.Decides.{nat_tests}
 use Rattle.std.proofs.lemmas.Grind.{common_steps}
+use Rattle.std.proofs.lemmas.List.{map-append, take-map}
 use Rattle.std.proofs.lemmas.List.Elements.{filter-append}
 use Rattle.std.proofs.lemmas.List.Sums.{sum_by-append}
 use Rattle.hidreport_items.specs.Flags.{Flags}
+use Rattle.hidreport_items.specs.declared.main_item.CollectionItem.{CollectionItem}
+use Rattle.hidreport_items.specs.declared.main_item.CollectionItem.TheVariants as kinds
+use Rattle.hidreport_items.specs.declared.main_item.MainItem.TheVariants as main
+use Rattle.hidreport_items.specs.declared.item.ItemType.TheVariants as item
 use Rattle.hidreport_items.specs.declared.item.ItemType.{ItemType}
-use Rattle.hidreport.specs.Faults.{MeaningFault, fault_of, fault, counts, start_of}
-use Rattle.hidreport.specs.Fields.{fields_at, fields_of, fields_made, fields_before, collections_at, collection_record}
+use Rattle.hidreport.specs.Faults.{MeaningFault, Says, fault_of, fault, counts, start_of, too_many_ends}
+use Rattle.hidreport.specs.Fields.{fields_at, fields_of, fields_made, fields_before, collections_at, collection_record, usages_or_none}
 use Rattle.hidreport.specs.FirstPath.{is_carried, stage_fault, uncarried_fault}
 use Rattle.hidreport.specs.InForce.{Force, force, first_of}
-use Rattle.hidreport.specs.Kinds.{Placed, Direction, Input, Output, Feature, data_of, goes, is_push, is_collection}
-use Rattle.hidreport.specs.Machine.{NoneOf, Held, reports_of, size_in, first_id, added_to, reports_in, key_in, start_in, start_for, counts_in, fault_in, adds, next_force, next_reports, next_held, unless_fault, nothing_held, go_on, walk}
+use Rattle.hidreport.specs.Kinds.{Placed, Direction, Input, Output, Feature, data_of, goes, is_push, is_collection, is_end_collection, collection_of}
+use Rattle.hidreport.specs.Machine.{NoneOf, Held, reports_of, size_in, first_id, added_to, reports_in, key_in, start_in, start_for, counts_in, fault_in, adds, next_force, next_reports, next_opened, new_collection, next_held, unless_fault, nothing_held, go_on, walk}
 use Rattle.hidreport.specs.Making.{extent, key, makers, first_report_id}
 use Rattle.hidreport.specs.Meaning.{meaning, meaning_by, first_fault, fault_here, reports}
-use Rattle.hidreport.specs.OpenCollections.{depth, collections_before, is_open}
+use Rattle.hidreport.specs.OpenCollections.{depth, collections_before, open_at}
 use Rattle.hidreport.specs.Places.{start, bits_of}
-use Rattle.hidreport.specs.Records.{FieldRecord, ReportRecord, DescriptorRecord}
+use Rattle.hidreport.specs.Records.{CollectionRecord, FieldRecord, ReportRecord, DescriptorRecord}
+use Rattle.hidreport.specs.Usages.{usages_of}
 use Rattle.hidreport.specs.Visibility.{before, level}
-use Rattle.hidreport.proofs.Walk.{count_by-none, before-next, force-next, level-none}
-use Rattle.hidreport.proofs.Carried.{no-push, no-collection}
+use Rattle.hidreport.proofs.Walk.{before-next, force-next, level-none}
+use Rattle.hidreport.proofs.Carried.{no-push}
+use Rattle.hidreport.proofs.OpenLemmas.{Stands, stands-nothing, open-length, count-next, plain-next, opened-next, closed-next}
 use Rattle.hidreport.proofs.Reports.{reports-next, size-in_reports}
 
 -- the reports of a direction that the items before k make
@@ -35,6 +43,9 @@ pub record Holds (items : List ItemType) (k : ℕ) (h : Held) : Type 0 where
   pub listed : (d : Direction) → reports_in d h.descriptor ≡ reports_before d items k
   pub first : (d : Direction) → first_report_id items (makers d items k) ≡ first_id (reports_in d h.descriptor)
   pub numbered : h.fields ≡ fields_before items k
+  pub stands : Stands items k
+  pub inside : h.opened ≡ collections_at items k
+  pub counted : h.collections ≡ collections_before items k
 
 key-held : (items : List ItemType) (k : ℕ) (h : Held) (d : Direction) → Holds items k h → key d items k ≡ key_in d h
 key-held items k h d held = ap (λ (f : Force). first_of f.report_id (first_report_id items (makers d items k))) (sym held.in_force) ∙ ap (first_of h.force.report_id) (held.first d)
@@ -48,39 +59,32 @@ start-for : (items : List ItemType) (k : ℕ) (h : Held) (o : Option (Direction 
 start-for items k h None held = refl
 start-for items k h (Some x) held = start-held items k h x.0 held
 
-depth-none : (items : List ItemType) (k : ℕ) → NoneOf is_collection (take k items) → depth items k ≡ 0
-depth-none items k n = rw (count_by-none is_collection (take k items) n) (omega arith)
+-- as many collections are held as the depth says
+depth-held : (items : List ItemType) (k : ℕ) (h : Held) → Holds items k h → depth items k ≡ length h.opened
+depth-held items k h held =
+    let size : length (collections_at items k) ≡ length (open_at items k) = grind (arith, common_steps) in
+    sym (ap length held.inside ∙ size ∙ open-length items k held.stands)
 
-counts-held : (items : List ItemType) (k : ℕ) (h : Held) (x : ItemType) → NoneOf is_push (take k items) → NoneOf is_collection (take k items) → Holds items k h → counts items k x ≡ counts_in h x
-counts-held items k h x no_push no_collection held =
+counts-held : (items : List ItemType) (k : ℕ) (h : Held) (x : ItemType) → NoneOf is_push (take k items) → Holds items k h → counts items k x ≡ counts_in h x
+counts-held items k h x no_push held =
     let l : level items k ≡ 0 = level-none items k no_push in
-    let d : depth items k ≡ 0 = depth-none items k no_collection in
-    let c : collections_before items k ≡ 0 = count_by-none is_collection (take k items) no_collection in
+    let d : depth items k ≡ length h.opened = depth-held items k h held in
+    let c : collections_before items k ≡ h.collections = sym held.counted in
     let f : fields_before items k ≡ h.fields = sym held.numbered in
     let s : start_of (data_of x) items k ≡ start_for (data_of x) h = start-for items k h (data_of x) held in
     cc
 
-fault-held : (items : List ItemType) (k : ℕ) (h : Held) (x : ItemType) → NoneOf is_push (take k items) → NoneOf is_collection (take k items) → Holds items k h → fault items k x ≡ fault_of (counts_in h x) h.force x
-fault-held items k h x no_push no_collection held =
-    ap (λ n. fault_of n (force items k) x) (counts-held items k h x no_push no_collection held) ∙ ap (λ f. fault_of (counts_in h x) f x) (sym held.in_force)
+fault-held : (items : List ItemType) (k : ℕ) (h : Held) (x : ItemType) → NoneOf is_push (take k items) → Holds items k h → fault items k x ≡ fault_of (counts_in h x) h.force x
+fault-held items k h x no_push held =
+    ap (λ n. fault_of n (force items k) x) (counts-held items k h x no_push held) ∙ ap (λ f. fault_of (counts_in h x) f x) (sym held.in_force)
 
-filter-none : (items xs : List ItemType) (n k : ℕ) → NoneOf is_collection xs → filter (λ (p : Placed). is_collection p.1 && is_open items p.0 k) (enumerate_from n xs) ≡ []
-filter-none items [] n k h = refl
-filter-none items (x ∷ xs) n k h =
-    let rest = filter-none items xs (n + 1) k h.1 in
-    let l = filter (λ (p : Placed). is_collection p.1 && is_open items p.0 k) (enumerate_from (n + 1) xs) in
-    ap (λ b. cond (b && is_open items n k) ((n, x) ∷ l) l) h.0 ∙ rest
-
-no-collections : (items : List ItemType) (k : ℕ) → NoneOf is_collection (take k items) → collections_at items k ≡ []
-no-collections items k h = ap (map (collection_record items)) (filter-none items (take k items) 0 k h)
-
-fields-held : (items : List ItemType) (k : ℕ) (h : Held) (d : Direction) (x : ItemType) → NoneOf is_collection (take k items) → Holds items k h
-    → fields_at d items (k, x) ≡ fields_of h.force [] h.fields (start_in d h) (data_of x) (extent h.force)
-fields-held items k h d x none held =
-    ap (λ cs. fields_of (force items k) cs (fields_before items k) (start d items k) (data_of x) (extent (force items k))) (no-collections items k none)
-    ∙ ap (λ f. fields_of f [] (fields_before items k) (start d items k) (data_of x) (extent f)) (sym held.in_force)
-    ∙ ap (λ n. fields_of h.force [] n (start d items k) (data_of x) (extent h.force)) (sym held.numbered)
-    ∙ ap (λ s. fields_of h.force [] h.fields s (data_of x) (extent h.force)) (start-held items k h d held)
+fields-held : (items : List ItemType) (k : ℕ) (h : Held) (d : Direction) (x : ItemType) → Holds items k h
+    → fields_at d items (k, x) ≡ fields_of h.force h.opened h.fields (start_in d h) (data_of x) (extent h.force)
+fields-held items k h d x held =
+    ap (λ cs. fields_of (force items k) cs (fields_before items k) (start d items k) (data_of x) (extent (force items k))) (sym held.inside)
+    ∙ ap (λ f. fields_of f h.opened (fields_before items k) (start d items k) (data_of x) (extent f)) (sym held.in_force)
+    ∙ ap (λ n. fields_of h.force h.opened n (start d items k) (data_of x) (extent h.force)) (sym held.numbered)
+    ∙ ap (λ s. fields_of h.force h.opened h.fields s (data_of x) (extent h.force)) (start-held items k h d held)
 
 -- the items that make fields, with one more item
 makers-next : (items front rest : List ItemType) (x : ItemType) (d : Direction) → items ≡ front ++ x ∷ rest
@@ -89,11 +93,11 @@ makers-next items front rest x d e =
     let test = λ (p : Placed). goes d (data_of p.1) && is_some (extent (force items p.0)) in
     ap (filter test) (before-next items front rest x e) ∙ filter-append test (before items (length front)) ((length front, x) ∷ [])
 
-listed-by : (b : Bool) (items front rest : List ItemType) (h : Held) (x : ItemType) (d : Direction) → NoneOf is_collection (take (length front) items) → items ≡ front ++ x ∷ rest → Holds items (length front) h
+listed-by : (b : Bool) (items front rest : List ItemType) (h : Held) (x : ItemType) (d : Direction) → items ≡ front ++ x ∷ rest → Holds items (length front) h
     → (goes d (data_of x) && is_some (extent (force items (length front)))) ≡ b
     → reports_before d items (suc (length front))
-    ≡ cond b (added_to (key_in d h) (bits_of (extent h.force)) (fields_of h.force [] h.fields (start_in d h) (data_of x) (extent h.force)) (reports_in d h.descriptor)) (reports_in d h.descriptor)
-listed-by true items front rest h x d none e held t =
+    ≡ cond b (added_to (key_in d h) (bits_of (extent h.force)) (fields_of h.force h.opened h.fields (start_in d h) (data_of x) (extent h.force)) (reports_in d h.descriptor)) (reports_in d h.descriptor)
+listed-by true items front rest h x d e held t =
     let k = length front in
     let key_of = λ (p : Placed). key d items p.0 in
     let bits = λ (p : Placed). bits_of (extent (force items p.0)) in
@@ -103,18 +107,18 @@ listed-by true items front rest h x d none e held t =
     ∙ reports-next key_of bits parts ms (k, x)
     ∙ ap (λ id. added_to id (bits_of (extent (force items k))) (fields_at d items (k, x)) (reports_of key_of bits parts ms)) (key-held items k h d held)
     ∙ ap (λ f. added_to (key_in d h) (bits_of (extent f)) (fields_at d items (k, x)) (reports_of key_of bits parts ms)) (sym held.in_force)
-    ∙ ap (λ fs. added_to (key_in d h) (bits_of (extent h.force)) fs (reports_of key_of bits parts ms)) (fields-held items k h d x none held)
-    ∙ ap (added_to (key_in d h) (bits_of (extent h.force)) (fields_of h.force [] h.fields (start_in d h) (data_of x) (extent h.force))) (sym (held.listed d))
-listed-by false items front rest h x d none e held t =
+    ∙ ap (λ fs. added_to (key_in d h) (bits_of (extent h.force)) fs (reports_of key_of bits parts ms)) (fields-held items k h d x held)
+    ∙ ap (added_to (key_in d h) (bits_of (extent h.force)) (fields_of h.force h.opened h.fields (start_in d h) (data_of x) (extent h.force))) (sym (held.listed d))
+listed-by false items front rest h x d e held t =
     let k = length front in
     let ms = makers d items k in
     ap (reports_of (λ p. key d items p.0) (λ p. bits_of (extent (force items p.0))) (fields_at d items)) (makers-next items front rest x d e ∙ ap (λ b. ms ++ cond b ((k, x) ∷ []) []) t ∙ append-nil ms)
     ∙ sym (held.listed d)
 
-listed-next : (items front rest : List ItemType) (h : Held) (x : ItemType) (d : Direction) → NoneOf is_collection (take (length front) items) → items ≡ front ++ x ∷ rest → Holds items (length front) h
+listed-next : (items front rest : List ItemType) (h : Held) (x : ItemType) (d : Direction) → items ≡ front ++ x ∷ rest → Holds items (length front) h
     → reports_before d items (suc (length front)) ≡ next_reports d h x
-listed-next items front rest h x d none e held =
-    listed-by (adds d h x) items front rest h x d none e held (ap (λ f. goes d (data_of x) && is_some (extent f)) (sym held.in_force))
+listed-next items front rest h x d e held =
+    listed-by (adds d h x) items front rest h x d e held (ap (λ f. goes d (data_of x) && is_some (extent f)) (sym held.in_force))
 
 -- the first report's id, with one more item
 first-more : (items : List ItemType) (ms : List Placed) (key_of : Placed → Option ℕ) (bits : Placed → ℕ) (parts : Placed → List FieldRecord) (m : Placed)
@@ -191,16 +195,98 @@ in_direction Input h x = refl
 in_direction Output h x = refl
 in_direction Feature h x = refl
 
+-- the open collections, with one more item
+record OpenedNext (items : List ItemType) (k : ℕ) (h : Held) (x : ItemType) : Type 0 where
+  pub stands : Stands items (suc k)
+  pub inside : next_opened h x ≡ collections_at items (suc k)
+
+not_both_kinds : (x : ItemType) (kind : CollectionItem) → collection_of x ≡ Some kind → is_end_collection x ≡ false
+not_both_kinds (item.Main (main.Collection kind)) k h = refl
+not_both_kinds (item.Main main.EndCollection) k h = cc
+not_both_kinds (item.Main y) k h = cc
+not_both_kinds (item.Global g) k h = cc
+not_both_kinds (item.Local y) k h = cc
+not_both_kinds item.Long k h = cc
+not_both_kinds item.Reserved k h = cc
+
+some-deep : (b : Bool) (n : ℕ) → (n == 0) ≡ b → cond b (Some (Says too_many_ends)) None ≡ None → 0 < n
+some-deep true n e h = cc
+some-deep false n e h = grind (arith, nat_tests)
+
+-- an EndCollection without a fault closes a collection
+end-deep : (h : Held) (x : ItemType) → is_end_collection x ≡ true → fault_in h x ≡ None → 0 < length h.opened
+end-deep h (item.Main main.EndCollection) e faultless = some-deep (length h.opened == 0) (length h.opened) refl faultless
+end-deep h (item.Main (main.Input flags)) e faultless = cc
+end-deep h (item.Main (main.Output flags)) e faultless = cc
+end-deep h (item.Main (main.Feature flags)) e faultless = cc
+end-deep h (item.Main (main.Collection kind)) e faultless = cc
+end-deep h (item.Global g) e faultless = cc
+end-deep h (item.Local y) e faultless = cc
+end-deep h item.Long e faultless = cc
+end-deep h item.Reserved e faultless = cc
+
+opened-by : (o : Option CollectionItem) (b : Bool) (items front rest : List ItemType) (h : Held) (x : ItemType) → items ≡ front ++ x ∷ rest → Holds items (length front) h
+    → fault_in h x ≡ None → collection_of x ≡ o → is_end_collection x ≡ b → OpenedNext items (length front) h x
+opened-by (Some kind) b items front rest h x e held faultless opens closes =
+    let k = length front in
+    let plain : is_end_collection x ≡ false = not_both_kinds x kind opens in
+    let next = opened-next items front rest x e held.stands (ap is_some opens) plain in
+    let new : collection_record items (k, x) ≡ record { id = h.collections; kind = kind; usages = usages_or_none (usages_of h.force) } =
+    ap (λ (o : Option CollectionItem). record { id = collections_before items k; kind = unwrap_or o kinds.Physical; usages = usages_or_none (usages_of (force items k)) }) opens
+    ∙ ap (λ (n : ℕ). record { id = n; kind = kind; usages = usages_or_none (usages_of (force items k)) }) (sym held.counted)
+    ∙ ap (λ (f : Force). record { id = h.collections; kind = kind; usages = usages_or_none (usages_of f) }) (sym held.in_force) in
+    record {
+      stands = next.1;
+      inside = ap (λ c. cond c (take (length h.opened - 1) h.opened) (h.opened ++ new_collection h (collection_of x))) plain
+          ∙ ap (λ o. h.opened ++ new_collection h o) opens
+          ∙ ap (λ l. l ++ record { id = h.collections; kind = kind; usages = usages_or_none (usages_of h.force) } ∷ []) held.inside
+          ∙ ap (λ (c : CollectionRecord). collections_at items k ++ c ∷ []) (sym new)
+          ∙ sym (map-append (collection_record items) (open_at items k) ((k, x) ∷ []))
+          ∙ ap (map (collection_record items)) (sym next.0);
+    }
+opened-by None false items front rest h x e held faultless opens closes =
+    let k = length front in
+    let next = plain-next items front rest x e held.stands (ap is_some opens) closes in
+    record {
+      stands = next.1;
+      inside = ap (λ c. cond c (take (length h.opened - 1) h.opened) (h.opened ++ new_collection h (collection_of x))) closes
+          ∙ ap (λ o. h.opened ++ new_collection h o) opens ∙ append-nil h.opened
+          ∙ held.inside ∙ ap (map (collection_record items)) (sym next.0);
+    }
+opened-by None true items front rest h x e held faultless opens closes =
+    let k = length front in
+    let deep : 0 < depth items k = omega (arith, end-deep h x closes faultless, depth-held items k h held) in
+    let next = closed-next items front rest x e held.stands (ap is_some opens) closes deep in
+    let size : length h.opened ≡ length (open_at items k) = sym (depth-held items k h held) ∙ sym (open-length items k held.stands) in
+    record {
+      stands = next.1;
+      inside = ap (λ c. cond c (take (length h.opened - 1) h.opened) (h.opened ++ new_collection h (collection_of x))) closes
+          ∙ ap (λ n. take (n - 1) h.opened) size
+          ∙ ap (take (length (open_at items k) - 1)) held.inside
+          ∙ take-map (collection_record items) (length (open_at items k) - 1) (open_at items k)
+          ∙ ap (map (collection_record items)) (sym next.0);
+    }
+
+one-opened : (h : Held) (o : Option CollectionItem) → length (new_collection h o) ≡ cond (is_some o) 1 0
+one-opened h None = refl
+one-opened h (Some kind) = refl
+
 -- what is held goes on by one item
-holds-next : (items front rest : List ItemType) (h : Held) (x : ItemType) → NoneOf is_push (take (suc (length front)) items) → NoneOf is_collection (take (length front) items) → items ≡ front ++ x ∷ rest → Holds items (length front) h
-    → Holds items (suc (length front)) (next_held h x)
-holds-next items front rest h x no_push no_collection e held = record {
-  in_force = ap (λ f. next_force f x) held.in_force ∙ sym (force-next items front rest x no_push e);
-  listed = λ d. in_direction d h x ∙ sym (listed-next items front rest h x d no_collection e held);
-  first = λ d. first-by (goes d (data_of x) && is_some (extent (force items (length front)))) items front rest h x d e held refl
-      ∙ ap first_id (listed-next items front rest h x d no_collection e held ∙ sym (in_direction d h x));
-  numbered = sym (numbered-next items front rest h x e held);
-}
+holds-next : (items front rest : List ItemType) (h : Held) (x : ItemType) → NoneOf is_push (take (suc (length front)) items) → items ≡ front ++ x ∷ rest → Holds items (length front) h
+    → fault_in h x ≡ None → Holds items (suc (length front)) (next_held h x)
+holds-next items front rest h x no_push e held faultless =
+    let opened = opened-by (collection_of x) (is_end_collection x) items front rest h x e held faultless refl refl in
+    record {
+      in_force = ap (λ f. next_force f x) held.in_force ∙ sym (force-next items front rest x no_push e);
+      listed = λ d. in_direction d h x ∙ sym (listed-next items front rest h x d e held);
+      first = λ d. first-by (goes d (data_of x) && is_some (extent (force items (length front)))) items front rest h x d e held refl
+          ∙ ap first_id (listed-next items front rest h x d e held ∙ sym (in_direction d h x));
+      numbered = sym (numbered-next items front rest h x e held);
+      stands = opened.stands;
+      inside = opened.inside;
+      counted = ap (λ n. n + length (new_collection h (collection_of x))) held.counted ∙ ap (λ n. collections_before items (length front) + n) (one-opened h (collection_of x))
+          ∙ sym (count-next is_collection items front rest x e);
+    }
 
 -- the fault of the item, and what the rest gives where it has none
 walked-by : (o : Option MeaningFault) (items : List ItemType) (k : ℕ) (h : Held) (x : ItemType) (xs : List ItemType) (all : DescriptorRecord)
@@ -231,12 +317,12 @@ descriptor-of r i o f p q s =
 at-end : (items : List ItemType) (h : Held) → Holds items (length items) h → h.descriptor ≡ record { input = reports Input items; output = reports Output items; feature = reports Feature items }
 at-end items h held = descriptor-of h.descriptor (reports Input items) (reports Output items) (reports Feature items) (held.listed Input) (held.listed Output) (held.listed Feature)
 
-walk-from : (items front rest : List ItemType) (h : Held) → NoneOf is_push front → NoneOf is_collection front → items ≡ front ++ rest → Holds items (length front) h
+walk-from : (items front rest : List ItemType) (h : Held) → NoneOf is_push front → items ≡ front ++ rest → Holds items (length front) h
     → walk h (length front) rest ≡ meaning_by (first_fault stage_fault items (enumerate_from (length front) rest)) (record { input = reports Input items; output = reports Output items; feature = reports Feature items })
-walk-from items front [] h no_push no_collection e held =
+walk-from items front [] h no_push e held =
     let whole : items ≡ front = e ∙ append-nil front in
     ap Ok (at-end items h (subst (λ n. Holds items n h) (ap length (sym whole)) held))
-walk-from items front (x ∷ xs) h no_push no_collection e held =
+walk-from items front (x ∷ xs) h no_push e held =
     let k = length front in
     let more : items ≡ (front ++ x ∷ []) ++ xs = e ∙ sym (append_assoc front (x ∷ []) xs) in
     let size : length (front ++ x ∷ []) ≡ suc k = grind (arith, common_steps) in
@@ -245,17 +331,15 @@ walk-from items front (x ∷ xs) h no_push no_collection e held =
     let before_next : front ++ x ∷ [] ≡ take (suc k) items =
     sym (ap (λ n. take n items) (sym size) ∙ ap (take (length (front ++ x ∷ []))) more ∙ take-append_seam (front ++ x ∷ []) xs) in
     let no_push_k : NoneOf is_push (take k items) = subst (λ (l : List ItemType). NoneOf is_push l) before_k no_push in
-    let no_collection_k : NoneOf is_collection (take k items) = subst (λ (l : List ItemType). NoneOf is_collection l) before_k no_collection in
     let all : DescriptorRecord = record { input = reports Input items; output = reports Output items; feature = reports Feature items } in
-    walked-by (fault_in h x) items k h x xs all (ap (first_of (stage_fault x)) (fault-held items k h x no_push_k no_collection_k held)) refl
+    walked-by (fault_in h x) items k h x xs all (ap (first_of (stage_fault x)) (fault-held items k h x no_push_k held)) refl
     (λ faultless.
     let carried : is_carried x ≡ true = carried-by (is_carried x) (fault_of (counts_in h x) h.force x) faultless in
     let pushes : NoneOf is_push (front ++ x ∷ []) = none-more is_push front x no_push (no-push x carried) in
-    let collections : NoneOf is_collection (front ++ x ∷ []) = none-more is_collection front x no_collection (no-collection x carried) in
     let no_push_next : NoneOf is_push (take (suc k) items) = subst (λ (l : List ItemType). NoneOf is_push l) before_next pushes in
-    let next : Holds items (length (front ++ x ∷ [])) (next_held h x) = subst (λ n. Holds items n (next_held h x)) (sym size) (holds-next items front xs h x no_push_next no_collection_k e held) in
+    let next : Holds items (length (front ++ x ∷ [])) (next_held h x) = subst (λ n. Holds items n (next_held h x)) (sym size) (holds-next items front xs h x no_push_next e held faultless) in
     subst (λ n. walk (next_held h x) n xs ≡ meaning_by (first_fault stage_fault items (enumerate_from n xs)) all) size_one
-    (walk-from items (front ++ x ∷ []) xs (next_held h x) pushes collections more next))
+    (walk-from items (front ++ x ∷ []) xs (next_held h x) pushes more next))
 
 holds-nothing : (items : List ItemType) → Holds items 0 nothing_held
 holds-nothing items = record {
@@ -263,8 +347,11 @@ holds-nothing items = record {
   listed = λ d. elim d as (λ d. reports_in d nothing_held.descriptor ≡ reports_before d items 0) [ Input ↦ refl | Output ↦ refl | Feature ↦ refl ];
   first = λ d. elim d as (λ d. first_report_id items (makers d items 0) ≡ first_id (reports_in d nothing_held.descriptor)) [ Input ↦ refl | Output ↦ refl | Feature ↦ refl ];
   numbered = refl;
+  stands = stands-nothing items;
+  inside = refl;
+  counted = refl;
 }
 
 -- the walk gives the meaning
 pub walk-meaning : (items : List ItemType) → walk nothing_held 0 items ≡ meaning stage_fault items
-walk-meaning items = walk-from items [] items nothing_held tt tt refl (holds-nothing items)
+walk-meaning items = walk-from items [] items nothing_held tt refl (holds-nothing items)

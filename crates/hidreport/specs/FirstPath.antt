@@ -1,17 +1,14 @@
 -- Items whose meaning isn't carried yet are refused, each before every other fault that it has. This is the one place that
 -- says which items those are; it shrinks until no item is refused so.
 use Rattle.std.specs.Prelude.{ℕ, Bool, true, false, List, Option, None, Some, codes}
-use Rattle.hidreport_items.specs.declared.main_item.MainItem.TheVariants as main
 use Rattle.hidreport_items.specs.declared.global.GlobalItem.TheVariants as global
 use Rattle.hidreport_items.specs.declared.item.ItemType.{ItemType}
 use Rattle.hidreport_items.specs.declared.item.ItemType.TheVariants as item
 use Rattle.hidreport.specs.Faults.{MeaningFault, Says}
 
--- every item but Collection, EndCollection, Push and Pop
+-- every item but Push and Pop
 abbrev pub is_carried : ItemType → Bool
-is_carried (item.Main (main.Collection kind)) = false
-is_carried (item.Main main.EndCollection) = false
-is_carried (item.Main _) = true
+is_carried (item.Main x) = true
 is_carried (item.Global global.Push) = false
 is_carried (item.Global global.Pop) = false
 is_carried (item.Global _) = true

@@ -9,6 +9,7 @@ pub mod Kinds
 pub mod Lookup
 pub mod Making
 pub mod Meaning
+pub mod Opened
 pub mod OpenCollections
 pub mod Places
 pub mod Reading

@@ -1,21 +1,19 @@
 -- The same meaning by one walk forward: what is held between two items, and what an item changes.
-use Rattle.std.specs.Prelude.{◌≡◌, ℕ, suc, ◌&&◌, is_some, ◌+◌, Bool, true, false, if◌then◌else◌, List, [], ◌∷◌, ◌++◌, map, filter, flat_map, sum_by, Option, None, Some, option_to_list, Result, Ok, Err}
+use Rattle.std.specs.Prelude.{◌≡◌, ℕ, suc, ◌&&◌, is_some, ◌+◌, ◌-◌, length, take, Bool, false, if◌then◌else◌, List, [], ◌∷◌, ◌++◌, map, filter, flat_map, sum_by, Option, None, Some, option_to_list, Result, Ok, Err}
 use Rattle.hidreport_items.specs.Flags.{Flags}
+use Rattle.hidreport_items.specs.declared.main_item.CollectionItem.{CollectionItem}
 use Rattle.hidreport_items.specs.declared.item.ItemType.{ItemType}
 use Rattle.hidreport_items.specs.declared.local.LocalItem.{LocalItem}
 use Rattle.hidreport.specs.Faults.{MeaningFault, Counts, fault_of}
-use Rattle.hidreport.specs.Fields.{fields_of, fields_made}
+use Rattle.hidreport.specs.Fields.{fields_of, fields_made, usages_or_none}
 use Rattle.hidreport.specs.FirstPath.{stage_fault}
 use Rattle.hidreport.specs.InForce.{Force, first_of}
 use Rattle.hidreport.specs.Making.{extent, same_key}
 use Rattle.hidreport.specs.Meaning.{firsts_after}
 use Rattle.hidreport.specs.Places.{id_bits, bits_of}
-use Rattle.hidreport.specs.Records.{FieldRecord, ReportRecord, DescriptorRecord}
-use Rattle.hidreport.specs.Kinds.{Placed, Direction, Input, Output, Feature, data_of, goes, is_main, is_push, is_pop, is_collection, is_end_collection, local_of, usage_page_of, logical_minimum_of, logical_maximum_of, physical_minimum_of, physical_maximum_of, unit_exponent_of, unit_of, report_size_of, report_id_of, report_count_of}
-
--- neither Push, Pop, Collection nor EndCollection
-abbrev pub is_plain : ItemType → Bool
-is_plain x = if is_push x then false else (if is_pop x then false else (if is_collection x then false else (if is_end_collection x then false else true)))
+use Rattle.hidreport.specs.Records.{CollectionRecord, FieldRecord, ReportRecord, DescriptorRecord}
+use Rattle.hidreport.specs.Usages.{usages_of}
+use Rattle.hidreport.specs.Kinds.{Placed, Direction, Input, Output, Feature, data_of, goes, is_main, is_end_collection, collection_of, local_of, usage_page_of, logical_minimum_of, logical_maximum_of, physical_minimum_of, physical_maximum_of, unit_exponent_of, unit_of, report_size_of, report_id_of, report_count_of}
 
 -- a main item ends the locals, a local item is added to them
 abbrev pub next_locals : List LocalItem → ItemType → List LocalItem
@@ -76,11 +74,14 @@ added_to id bits fields (r ∷ rs) =
     if same_key r.id id then record { id = r.id; size = r.size + bits; fields = r.fields ++ fields } ∷ rs
     else r ∷ added_to id bits fields rs
 
--- what is held between two items
+-- what is held between two items: what is in force, the reports so far and how many fields they have, the open
+-- collections, outermost first, and how many were opened
 pub record Held : Type 0 where
   pub force : Force
   pub descriptor : DescriptorRecord
   pub fields : ℕ
+  pub opened : List CollectionRecord
+  pub collections : ℕ
 
 -- the reports of a direction
 abbrev pub reports_in : Direction → DescriptorRecord → List ReportRecord
@@ -108,7 +109,7 @@ start_for (Some x) h = start_in x.0 h
 
 -- the counts before an item
 abbrev pub counts_in : Held → ItemType → Counts
-counts_in h x = record { level = 0; depth = 0; collections = 0; fields = h.fields; start = start_for (data_of x) h }
+counts_in h x = record { level = 0; depth = length h.opened; collections = h.collections; fields = h.fields; start = start_for (data_of x) h }
 
 -- the item makes fields in this direction
 abbrev pub adds : Direction → Held → ItemType → Bool
@@ -117,8 +118,17 @@ adds d h x = goes d (data_of x) && is_some (extent h.force)
 -- the reports of a direction behind the item
 abbrev pub next_reports : Direction → Held → ItemType → List ReportRecord
 next_reports d h x =
-    if adds d h x then added_to (key_in d h) (bits_of (extent h.force)) (fields_of h.force [] h.fields (start_in d h) (data_of x) (extent h.force)) (reports_in d h.descriptor)
+    if adds d h x then added_to (key_in d h) (bits_of (extent h.force)) (fields_of h.force h.opened h.fields (start_in d h) (data_of x) (extent h.force)) (reports_in d h.descriptor)
     else reports_in d h.descriptor
+
+-- the collection that an item opens
+abbrev pub new_collection : Held → Option CollectionItem → List CollectionRecord
+new_collection h None = []
+new_collection h (Some kind) = record { id = h.collections; kind = kind; usages = usages_or_none (usages_of h.force) } ∷ []
+
+-- the open collections behind the item: an EndCollection closes the last
+abbrev pub next_opened : Held → ItemType → List CollectionRecord
+next_opened h x = if is_end_collection x then take (length h.opened - 1) h.opened else h.opened ++ new_collection h (collection_of x)
 
 -- what is held behind an item without a fault
 abbrev pub next_held : Held → ItemType → Held
@@ -126,6 +136,8 @@ next_held h x = record {
   force = next_force h.force x;
   descriptor = record { input = next_reports Input h x; output = next_reports Output h x; feature = next_reports Feature h x };
   fields = h.fields + fields_made (data_of x) (extent h.force);
+  opened = next_opened h x;
+  collections = h.collections + length (new_collection h (collection_of x));
 }
 
 abbrev pub unless_fault : Option MeaningFault → Held → Result Held MeaningFault
@@ -162,6 +174,8 @@ nothing_held = record {
   };
   descriptor = record { input = []; output = []; feature = [] };
   fields = 0;
+  opened = [];
+  collections = 0;
 }
 
 abbrev pub go_on : Result Held MeaningFault → ℕ → (Held → Result DescriptorRecord (ℕ × MeaningFault)) → Result DescriptorRecord (ℕ × MeaningFault)

@@ -1,12 +1,16 @@
 -- What the parser's state holds, as plain data.
 use Rattle.std.specs.Prelude.{◌≡◌, ◌<◌, ℕ, ◌+◌, ◌-◌, true, false, if◌then◌else◌, List, length, Option, None, Some, Result, Ok, Err}
 use Rattle.hidreport_items.specs.Flags.{Flags}
+use Rattle.hidreport_items.specs.declared.main_item.CollectionItem.{CollectionItem}
+use Rattle.hidreport_items.specs.declared.main_item.MainItem.TheVariants as main
+use Rattle.hidreport_items.specs.declared.item.ItemType.{ItemType}
+use Rattle.hidreport_items.specs.declared.item.ItemType.TheVariants as item
 use Rattle.hidreport_items.specs.declared.local.LocalItem.{LocalItem}
 use Rattle.hidreport_items.specs.declared.local.LocalItem.TheVariants as local
 use Rattle.hidreport_lists.specs.Answer.{Refusal, InvalidAt, Bounds, Refuses}
 use Rattle.hidreport_lists.specs.declared.error.ParserError.{ParserError}
 use Rattle.hidreport.specs.DataItem.{item_of}
-use Rattle.hidreport.specs.Faults.{MeaningFault, fault_of, needed_usages_fault, Says, PastBounds, missing_usages}
+use Rattle.hidreport.specs.Faults.{MeaningFault, fault_of, needed_usages_fault, Says, PastBounds, missing_usages, too_many_ends}
 use Rattle.hidreport.specs.FirstPath.{not_in_the_first_path}
 use Rattle.hidreport.specs.InForce.{Force}
 use Rattle.hidreport.specs.Meaning.{empty_descriptor}
@@ -38,7 +42,7 @@ force_of g locals = record {
 }
 
 abbrev pub held_of : State → Held
-held_of s = record { force = force_of s.globals s.locals.items; descriptor = record { input = s.input_reports.items; output = s.output_reports.items; feature = s.feature_reports.items }; fields = s.field_count }
+held_of s = record { force = force_of s.globals s.locals.items; descriptor = record { input = s.input_reports.items; output = s.output_reports.items; feature = s.feature_reports.items }; fields = s.field_count; opened = s.collections.list; collections = s.collections.count }
 
 -- the fault of an item is this one; want of memory says nothing
 abbrev pub IsFaultOf : Fault → Option MeaningFault → Type 0
@@ -47,6 +51,7 @@ IsFaultOf faults.NotInFirstPath f = f ≡ Some (Says not_in_the_first_path)
 IsFaultOf faults.MissingUsageMaximum f = f ≡ Some (Says missing_maximum)
 IsFaultOf faults.MissingUsagePage f = f ≡ Some (Says missing_page)
 IsFaultOf faults.MissingUsages f = f ≡ Some (Says missing_usages)
+IsFaultOf faults.TooManyEnds f = f ≡ Some (Says too_many_ends)
 IsFaultOf faults.OutOfBounds f = f ≡ Some PastBounds
 IsFaultOf faults.OutOfMemory f = Unit {0}
 
@@ -59,6 +64,7 @@ Gives view (Err faults.OutOfMemory) answer = Unit {0}
 Gives view (Err faults.EmptyDescriptor) answer = ⊥
 Gives view (Err faults.NotInFirstPath) answer = ⊥
 Gives view (Err faults.MissingUsages) answer = ⊥
+Gives view (Err faults.TooManyEnds) answer = ⊥
 Gives view (Err faults.OutOfBounds) answer = ⊥
 
 abbrev pub usage_on : Option ℕ → ℕ → Result (Option Usage) (List ℕ)
@@ -88,6 +94,12 @@ HasUsages flags f us = flags.constant ≡ false → (usages_of f ≡ Ok (usage_l
 abbrev pub held_fault : Held → DataItem → Option MeaningFault
 held_fault h x = fault_of (counts_in h (item_of x)) h.force (item_of x)
 
+abbrev pub collection : CollectionItem → ItemType
+collection kind = item.Main (main.Collection kind)
+
+abbrev pub end_collection : ItemType
+end_collection = item.Main main.EndCollection
+
 -- what a fault is at an offset, as a parser says it; want of memory is nothing
 abbrev pub refusal_of : Fault → ℕ → Option Refusal
 refusal_of faults.EmptyDescriptor offset = Some (InvalidAt offset empty_descriptor)
@@ -95,6 +107,7 @@ refusal_of faults.NotInFirstPath offset = Some (InvalidAt offset not_in_the_firs
 refusal_of faults.MissingUsageMaximum offset = Some (InvalidAt offset missing_maximum)
 refusal_of faults.MissingUsagePage offset = Some (InvalidAt offset missing_page)
 refusal_of faults.MissingUsages offset = Some (InvalidAt offset missing_usages)
+refusal_of faults.TooManyEnds offset = Some (InvalidAt offset too_many_ends)
 refusal_of faults.OutOfBounds offset = Some Bounds
 refusal_of faults.OutOfMemory offset = None
 

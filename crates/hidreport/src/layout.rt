@@ -30,7 +30,7 @@ const FIELD_NUMBERS: u64 = 1 << 32;
 impl State {
     ghost use Rattle.std.specs.Prelude.{◌≡◌, ◌+◌, ◌<◌, ◌^◌, None, IfErr, OnOk, map};
     ghost use Rattle.hidreport.specs.DataItem.{direction_of, item_of};
-    ghost use Rattle.hidreport.specs.Machine.{added_to, next_held, reports_in, size_in, with_reports};
+    ghost use Rattle.hidreport.specs.Machine.{added_to, index_in, next_held, reports_in, size_in, with_reports};
     ghost use Rattle.hidreport.specs.State.{IsFaultOf, held_fault, held_of};
     ghost use Rattle.hidreport.specs.Views.{field_record};
 
@@ -40,6 +40,7 @@ impl State {
         ensures force { OnOk result ((held_of self.new).force ≡ (held_of self.old).force) }
         ensures descriptor { OnOk result ((held_of self.new).descriptor ≡ (next_held (held_of self.old) (item_of item)).descriptor) }
         ensures fields { OnOk result (self.new.field_count ≡ (next_held (held_of self.old) (item_of item)).fields) }
+        ensures collections { self.new.collections ≡ self.old.collections }
         ensures err { IfErr result (λ e. IsFaultOf e (held_fault (held_of self.old) item)) }
     {
         let Some((size, count)) = extent(&self.globals) else {
@@ -47,8 +48,8 @@ impl State {
         };
         let usages = needed_usages(alloc, &item, &self.globals, &self.locals)?;
         let reports = self.reports(&item);
-        let key = key_of(reports, self.globals.report_id);
-        let first_bit = size_of(reports, &key);
+        let place = place_of(reports, self.globals.report_id);
+        let first_bit = size_at(reports, place);
         let bits = bits_within(first_bit, size, count)?;
         let field_count = item.field_count(count) as u64;
         if field_count > FIELD_NUMBERS || self.field_count > FIELD_NUMBERS - field_count {
@@ -57,36 +58,44 @@ impl State {
         let layout = Layout {
             globals: self.globals,
             item,
-            collections: ArcSlice::from_vec(Vec::new(alloc))?,
+            collections: self.collections.share(alloc)?,
             first_id: self.field_count,
             first_bit,
             size,
             count,
         };
         let fields = layout.fields(alloc, usages)?;
-        self.add_to_reports(alloc, &item, key, bits, fields)?;
+        self.add_to_reports(alloc, &item, place, bits, fields)?;
         self.field_count += field_count;
         Ok(())
     }
 
-    /// Adds fields that take so many bits to the report with this id of the item's direction.
+    /// Adds fields that take so many bits to the report at this place in the item's direction.
     fn add_to_reports(
         &mut self,
         alloc: Global,
         item: &DataItem,
-        key: Option<ReportId>,
+        place: Place,
         bits: usize,
         fields: Vec<Field>,
     ) -> Result<(), AllocError>
-        requires { size_in key (reports_in (direction_of item.now) (held_of self.old).descriptor) + bits < 2 ^ 64 }
-        ensures descriptor { OnOk result ((held_of self.new).descriptor ≡ with_reports (direction_of item.now) (added_to key bits (map field_record fields.items) (reports_in (direction_of item.now) (held_of self.old).descriptor)) (held_of self.old).descriptor) }
+        requires place { place.index ≡ index_in place.key (reports_in (direction_of item.now) (held_of self.old).descriptor) }
+        requires bits { size_in place.key (reports_in (direction_of item.now) (held_of self.old).descriptor) + bits < 2 ^ 64 }
+        ensures descriptor { OnOk result ((held_of self.new).descriptor ≡ with_reports (direction_of item.now) (added_to place.key bits (map field_record fields.items) (reports_in (direction_of item.now) (held_of self.old).descriptor)) (held_of self.old).descriptor) }
         ensures force { (held_of self.new).force ≡ (held_of self.old).force }
         ensures fields { self.new.field_count ≡ self.old.field_count }
+        ensures collections { self.new.collections ≡ self.old.collections }
     {
         match item {
-            DataItem::Input(_) => add_fields(alloc, &mut self.input_reports, key, bits, fields),
-            DataItem::Output(_) => add_fields(alloc, &mut self.output_reports, key, bits, fields),
-            DataItem::Feature(_) => add_fields(alloc, &mut self.feature_reports, key, bits, fields),
+            DataItem::Input(_) => add_fields(alloc, &mut self.input_reports, place, bits, fields),
+            DataItem::Output(_) => add_fields(alloc, &mut self.output_reports, place, bits, fields),
+            DataItem::Feature(_) => add_fields(
+                alloc,
+                &mut self.feature_reports,
+                place,
+                bits,
+                fields,
+            ),
         }
     }
 
@@ -180,16 +189,33 @@ fn id_bits(id: Option<ReportId>) -> usize
     }
 }
 
-/// Where the report with this id ends so far.
-fn size_of(reports: &[RDescReport], key: &Option<ReportId>) -> usize
-    ensures { result ≡ size_in key.now reports.now }
+/// The id of a report and where it stands, which is the length where it has to be made.
+#[derive(Clone, Copy)]
+struct Place {
+    key: Option<ReportId>,
+    index: usize,
+}
+
+/// The place of the report that a field with this id in force goes to.
+fn place_of(reports: &[RDescReport], id: Option<ReportId>) -> Place
+    ensures key { result.key ≡ first_of id (first_id reports.now) }
+    ensures index { result.index ≡ index_in result.key reports.now }
 {
-    let index = report_index(reports, key);
-    if index < reports.len() {
-        let report = &reports[index];
+    let key = key_of(reports, id);
+    let index = report_index(reports, &key);
+    Place { key, index }
+}
+
+/// Where the report at this place ends so far.
+fn size_at(reports: &[RDescReport], place: Place) -> usize
+    requires { place.index ≡ index_in place.key reports.now }
+    ensures { result ≡ size_in place.key reports.now }
+{
+    if place.index < reports.len() {
+        let report = &reports[place.index];
         report.size
     } else {
-        id_bits(*key)
+        id_bits(place.key)
     }
 }
 
@@ -207,27 +233,27 @@ fn bits_within(start: usize, size: usize, count: usize) -> Result<usize, Fault>
     Ok(bits)
 }
 
-/// Adds fields that take so many bits to the report with this id, which is made at need.
+/// Adds fields that take so many bits to the report at this place, which is made at need.
 fn add_fields(
     alloc: Global,
     reports: &mut Vec<RDescReport>,
-    key: Option<ReportId>,
+    place: Place,
     bits: usize,
     mut fields: Vec<Field>,
 ) -> Result<(), AllocError>
-    requires { size_in key reports.old.items + bits < 2 ^ 64 }
-    ensures { OnOk result (reports.new.items ≡ added_to key bits (map field_record fields.items) reports.old.items) }
+    requires place { place.index ≡ index_in place.key reports.old.items }
+    requires bits { size_in place.key reports.old.items + bits < 2 ^ 64 }
+    ensures { OnOk result (reports.new.items ≡ added_to place.key bits (map field_record fields.items) reports.old.items) }
 {
-    let index = report_index(reports, &key);
-    if index < reports.len() {
-        let report = &mut reports[index];
+    if place.index < reports.len() {
+        let report = &mut reports[place.index];
         report.fields.append(&mut fields)?;
         report.size += bits;
         return Ok(());
     }
-    let size = id_bits(key) + bits;
+    let size = id_bits(place.key) + bits;
     reports.push(RDescReport {
-        id: key,
+        id: place.key,
         size,
         fields,
     })?;

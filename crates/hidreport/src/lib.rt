@@ -11,6 +11,7 @@ mod field_attributes;
 mod first_path;
 mod layout;
 mod lookup;
+mod open_collections;
 mod parse;
 mod report;
 mod state;

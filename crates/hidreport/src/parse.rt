@@ -15,12 +15,13 @@ impl ReportDescriptor {
     /// Refused are, the first of these that there is: no bytes at all, `InvalidData` at 0,
     /// `Empty report descriptor`; an item that can't be read, as `ReportDescriptorItems::try_from`
     /// says; then the first item that has no meaning where it stands, with `InvalidData` at the
-    /// item's offset. A Collection, EndCollection, Push or Pop, which aren't carried yet, is
-    /// `Not in the first path`. An Input, Output or Feature that makes fields with data is, in this
-    /// order, `Missing UsageMaximum in locals` where a minimum has no maximum, `Missing UsagePage
-    /// in globals` where a range or a usage has no page, `Missing Usages for main item` where there
-    /// are none. One that makes fields, padding too, is `OutOfBounds` where its report would end
-    /// past `usize::MAX` bits, or more than 2^32 fields would be numbered.
+    /// item's offset. A Push or a Pop, which aren't carried yet, is `Not in the first path`; an
+    /// EndCollection without an open collection is `Too many EndCollection`. A Collection, and an
+    /// Input, Output or Feature that makes fields with data, is `Missing UsageMaximum in locals`
+    /// where a minimum has no maximum, then `Missing UsagePage in globals` where a range or a usage
+    /// has no page; such an Input, Output or Feature is then `Missing Usages for main item` where
+    /// there are none. Last comes `OutOfBounds`, without an offset: where a report would end past
+    /// `usize::MAX` bits, or more than 2^32 fields or collections would be numbered.
     /// `OutOfMemory` comes only where a growth is refused.
     pub fn try_from(alloc: Global, bytes: &[u8]) -> Result<ReportDescriptor, ParserError>
         ensures exact { Answers result (parse bytes.now) }

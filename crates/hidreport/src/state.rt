@@ -4,14 +4,17 @@ ghost use Rattle.hidreport.specs.declared.state.Fault.TheVariants.{OutOfMemory};
 use crate::data_item::DataItem;
 use crate::descriptor::ReportDescriptor;
 use crate::first_path::is_carried;
+use crate::open_collections::OpenCollections;
 use crate::report::RDescReport;
-use hidreport_items::{GlobalItem, ItemType, LocalItem, MainItem};
+use crate::usages::usages_of;
+use hidreport_items::{CollectionItem, GlobalItem, ItemType, LocalItem, MainItem};
 use hidreport_lists::ParserError;
 use hidreport_types::{
     LogicalMaximum, LogicalMinimum, PhysicalMaximum, PhysicalMinimum, ReportCount, ReportId,
     ReportSize, Unit, UnitExponent, UsagePage,
 };
 use std::alloc::{AllocError, AllocFailed, Global};
+use std::sync::ArcSlice;
 
 /// Why an item has no meaning where it stands.
 #[derive(Clone, Copy, Debug)]
@@ -30,6 +33,9 @@ pub(crate) enum Fault {
 
     /// A data item has no usages.
     MissingUsages,
+
+    /// No collection is open that could be closed.
+    TooManyEnds,
 
     /// A count passes its limit.
     OutOfBounds,
@@ -69,6 +75,7 @@ impl Fault {
             Fault::MissingUsageMaximum => "Missing UsageMaximum in locals",
             Fault::MissingUsagePage => "Missing UsagePage in globals",
             Fault::MissingUsages => "Missing Usages for main item",
+            Fault::TooManyEnds => "Too many EndCollection",
             Fault::OutOfBounds => return ParserError::OutOfBounds,
             Fault::OutOfMemory => return ParserError::OutOfMemory,
         };
@@ -137,6 +144,9 @@ impl Globals {
     }
 }
 
+/// How many collections can be numbered.
+const COLLECTION_NUMBERS: u64 = 1 << 32;
+
 /// What the items so far have set and made.
 #[derive(Debug, Drop)]
 pub(crate) struct State {
@@ -146,14 +156,15 @@ pub(crate) struct State {
     pub(crate) output_reports: Vec<RDescReport>,
     pub(crate) feature_reports: Vec<RDescReport>,
     pub(crate) field_count: u64,
+    pub(crate) collections: OpenCollections,
 }
 
 impl State {
-    ghost use Rattle.std.specs.Prelude.{◌≡◌, Ok, true, IfErr, OnOk};
+    ghost use Rattle.std.specs.Prelude.{◌≡◌, ◌+◌, Ok, None, true, IfErr, OnOk};
     ghost use Rattle.hidreport.specs.Faults.{fault_of};
     ghost use Rattle.hidreport.specs.FirstPath.{is_carried};
-    ghost use Rattle.hidreport.specs.Machine.{counts_in, fault_in, nothing_held, step, whole_step};
-    ghost use Rattle.hidreport.specs.State.{IsFaultOf, held_of};
+    ghost use Rattle.hidreport.specs.Machine.{counts_in, fault_in, next_opened, nothing_held, step, whole_step};
+    ghost use Rattle.hidreport.specs.State.{IsFaultOf, collection, end_collection, held_of};
 
     /// Before the first item.
     pub(crate) fn new(alloc: Global) -> State
@@ -166,6 +177,7 @@ impl State {
             output_reports: Vec::new(alloc),
             feature_reports: Vec::new(alloc),
             field_count: 0,
+            collections: OpenCollections::new(alloc),
         }
     }
 
@@ -205,10 +217,39 @@ impl State {
             MainItem::Input(item) => self.add_data(alloc, DataItem::Input(item))?,
             MainItem::Output(item) => self.add_data(alloc, DataItem::Output(item))?,
             MainItem::Feature(item) => self.add_data(alloc, DataItem::Feature(item))?,
-            MainItem::Collection(_) | MainItem::EndCollection => {}
+            MainItem::Collection(item) => self.open_collection(alloc, item)?,
+            MainItem::EndCollection => self.close_collection()?,
         }
         self.locals.clear();
         Ok(())
+    }
+
+    /// Opens a collection with the usages in force.
+    fn open_collection(&mut self, alloc: Global, item: CollectionItem) -> Result<(), Fault>
+        ensures faultless { OnOk result (fault_of (counts_in (held_of self.old) (collection item)) (held_of self.old).force (collection item) ≡ None) }
+        ensures held { OnOk result (held_of self.new ≡ record (held_of self.old) { opened = next_opened (held_of self.old) (collection item); collections = (held_of self.old).collections + 1 }) }
+        ensures err { IfErr result (λ e. IsFaultOf e (fault_of (counts_in (held_of self.old) (collection item)) (held_of self.old).force (collection item))) }
+    {
+        let usages = usages_of(alloc, &self.globals, &self.locals)?;
+        if self.collections.count() >= COLLECTION_NUMBERS {
+            return Err(Fault::OutOfBounds);
+        }
+        let usages = ArcSlice::from_vec(usages.into_list(alloc)?)?;
+        self.collections.open(item, usages)?;
+        Ok(())
+    }
+
+    /// Closes the collection that was opened last.
+    fn close_collection(&mut self) -> Result<(), Fault>
+        ensures faultless { OnOk result (fault_of (counts_in (held_of self.old) end_collection) (held_of self.old).force end_collection ≡ None) }
+        ensures held { OnOk result (held_of self.new ≡ record (held_of self.old) { opened = next_opened (held_of self.old) end_collection }) }
+        ensures err { IfErr result (λ e. IsFaultOf e (fault_of (counts_in (held_of self.old) end_collection) (held_of self.old).force end_collection)) }
+    {
+        if self.collections.close() {
+            Ok(())
+        } else {
+            Err(Fault::TooManyEnds)
+        }
     }
 
     /// The reports that the items made.

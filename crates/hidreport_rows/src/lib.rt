@@ -3,6 +3,8 @@
 
 #[cfg(test)]
 mod builder;
+#[cfg(test)]
+mod collections;
 pub mod definitions;
 pub mod example;
 #[cfg(test)]

@@ -9,37 +9,33 @@ use Rattle.hidreport.proofs.layout.add_fields.Goals as goal
 pub overflow_add-report : goal.overflow_add-report
 overflow_add-report c =
     let items = c.args.reports.now.items in
-    let index = c.report_index-index.ensures ∙ ap (index_in c.args.key) c.deref.ensures.value in
-    let found = added_to-found c.args.key c.args.bits [] items c.report_index-index.result c.index_mut-report.result.now index (omega (arith, c.if-index-len.true, c.len.ensures)) c.index_mut-report.ensures.value in
+    let found = added_to-found c.args.place.key c.args.bits [] items c.args.place.index c.index_mut-report.result.now c.requires.place (omega (arith, c.if-place-len.true, c.len.ensures)) c.index_mut-report.ensures.value in
     let size = ap (λ (r : ReportRecord). r.size) c.report.view_is in
-    omega (arith, found.1, size, c.requires)
+    omega (arith, found.1, size, c.requires.bits)
 
-pub returns-then-index-len : goal.returns-then-index-len
-returns-then-index-len c =
+pub returns-then-place-len : goal.returns-then-place-len
+returns-then-place-len c =
     let items = c.args.reports.now.items in
     let fields : List FieldRecord = map field_record c.args.fields.items in
-    let index = c.report_index-index.ensures ∙ ap (index_in c.args.key) c.deref.ensures.value in
-    let found = added_to-found c.args.key c.args.bits fields items c.report_index-index.result c.index_mut-report.result.now index (omega (arith, c.if-index-len.true, c.len.ensures)) c.index_mut-report.ensures.value in
+    let found = added_to-found c.args.place.key c.args.bits fields items c.args.place.index c.index_mut-report.result.now c.requires.place (omega (arith, c.if-place-len.true, c.len.ensures)) c.index_mut-report.ensures.value in
     let longer = ap (map field_record) c.in_ok-append.ensures.items ∙ map-append field_record c.report.inside.fields.items c.args.fields.items in
-    ap (λ (l : List FieldRecord). set items c.report_index-index.result (record { id = c.report.inside.id; size = c.report.inside.size + c.args.bits; fields = l })) longer
-    ∙ ap (λ (r : ReportRecord). set items c.report_index-index.result (extended r c.args.bits fields)) c.report.view_is
+    ap (λ (l : List FieldRecord). set items c.args.place.index (record { id = c.report.inside.id; size = c.report.inside.size + c.args.bits; fields = l })) longer
+    ∙ ap (λ (r : ReportRecord). set items c.args.place.index (extended r c.args.bits fields)) c.report.view_is
     ∙ sym found.0
 
 pub overflow_add-size : goal.overflow_add-size
 overflow_add-size c =
     let items = c.args.reports.now.items in
-    let index = c.report_index-index.ensures ∙ ap (index_in c.args.key) c.deref.ensures.value in
-    let none : length items ≤ index_in c.args.key items = omega (arith, c.if-index-len.false, c.len.ensures, index) in
-    let new = added_to-new c.args.key c.args.bits [] items none in
-    omega (arith, new.1, c.id_bits.ensures, c.requires)
+    let none : length items ≤ index_in c.args.place.key items = omega (arith, c.if-place-len.false, c.len.ensures, c.requires.place) in
+    let new = added_to-new c.args.place.key c.args.bits [] items none in
+    omega (arith, new.1, c.id_bits.ensures, c.requires.bits)
 
 pub returns : goal.returns
 returns c =
     let items = c.args.reports.now.items in
     let fields : List FieldRecord = map field_record c.args.fields.items in
-    let index = c.report_index-index.ensures ∙ ap (index_in c.args.key) c.deref.ensures.value in
-    let none : length items ≤ index_in c.args.key items = omega (arith, c.if-index-len.false, c.len.ensures, index) in
-    let new = added_to-new c.args.key c.args.bits fields items none in
+    let none : length items ≤ index_in c.args.place.key items = omega (arith, c.if-place-len.false, c.len.ensures, c.requires.place) in
+    let new = added_to-new c.args.place.key c.args.bits fields items none in
     c.in_ok-push.ensures.items
-    ∙ ap (λ (n : ℕ). items ++ record { id = c.args.key; size = n + c.args.bits; fields = fields } ∷ []) c.id_bits.ensures
+    ∙ ap (λ (n : ℕ). items ++ record { id = c.args.place.key; size = n + c.args.bits; fields = fields } ∷ []) c.id_bits.ensures
     ∙ sym new.0

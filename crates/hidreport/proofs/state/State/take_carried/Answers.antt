@@ -14,5 +14,5 @@ returns-in-Global-clause-ok c =
     let x = item.Global c.in-Global.item in
     ap (whole_step h) c.in-Global.is
     ∙ step-global h c.in-Global.item (ap is_carried (sym c.in-Global.is) ∙ c.requires.carried)
-    ∙ ap (λ (f : Force). held_result (record { force = f; descriptor = h.descriptor; fields = h.fields }))
+    ∙ ap (λ (f : Force). held_result (record { force = f; descriptor = h.descriptor; fields = h.fields; opened = h.opened; collections = h.collections }))
     (ap (λ (l : List LocalItem). record (next_force h.force x) { locals = l }) (append-nil h.force.locals) ∙ sym (c.set.ensures h.force.locals))

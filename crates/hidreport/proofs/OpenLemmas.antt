@@ -1,0 +1,235 @@
+-- Open collections go on item by item.
+use Rattle.std.proofs.Common.{◌≡◌, ℕ, zero, suc, ◌+◌, ◌-◌, ◌<◌, ◌≤◌, Bool, true, false, cond, ◌&&◌, nat_lt, List, [], ◌∷◌, ◌++◌, length, take, map, filter, count_by, refl, sym, ap, ◌∙◌, subst, append-nil, append_assoc, arith, zero-add}
+use Rattle.std.proofs.Math.Seq.{take-append_seam}
+use Rattle.std.proofs.lemmas.Grind.{common_steps}
+use Rattle.std.proofs.lemmas.List.{map-append, take-map}
+use Rattle.std.proofs.lemmas.List.Elements.{filter-append}
+use Rattle.std.proofs.lemmas.List.Sums.{sum_by-append}
+use Rattle.hidreport_items.specs.declared.item.ItemType.{ItemType}
+use Rattle.hidreport.specs.Kinds.{Placed, is_collection, is_end_collection}
+use Rattle.hidreport.specs.OpenCollections.{depth, is_open, stays_deep, open_at}
+use Rattle.hidreport.specs.Visibility.{before}
+use Rattle.hidreport.proofs.Walk.{before-front, before-next, AreBelow, enumerated-below}
+
+-- the numbers from a on, so many
+abbrev pub count_up : ℕ → ℕ → List ℕ
+count_up a zero = []
+count_up a (suc n) = a ∷ count_up (a + 1) n
+
+length-count_up : (a n : ℕ) → length (count_up a n) ≡ n
+length-count_up a zero = refl
+length-count_up a (suc n) = let e = length-count_up (a + 1) n in omega arith
+
+count_up-next : (a n : ℕ) → count_up a (suc n) ≡ count_up a n ++ (a + n) ∷ []
+count_up-next a zero = ap (λ k. k ∷ []) (let e : a ≡ a + 0 = omega arith in e)
+count_up-next a (suc n) = ap (λ l. a ∷ l) (count_up-next (a + 1) n) ∙ ap (λ k. a ∷ (count_up (a + 1) n ++ k ∷ [])) (let e : a + 1 + n ≡ a + suc n = omega arith in e)
+
+take-count_up : (m a n : ℕ) → m ≤ n → take m (count_up a n) ≡ count_up a m
+take-count_up zero a n h = refl
+take-count_up (suc m) a zero h = absurd (omega arith)
+take-count_up (suc m) a (suc n) h = ap (λ l. a ∷ l) (take-count_up m (a + 1) n (omega arith))
+
+take-nil : {A : Type 0} (n : ℕ) → take {A = A} n [] ≡ []
+take-nil zero = refl
+take-nil (suc n) = refl
+
+take-all : {A : Type 0} (n : ℕ) (xs : List A) → length xs ≤ n → take n xs ≡ xs
+take-all n [] h = take-nil n
+take-all zero (x ∷ xs) h = absurd (omega arith)
+take-all (suc n) (x ∷ xs) h = ap (λ l. x ∷ l) (take-all n xs (omega arith))
+
+head_of : (a b : ℕ) (xs ys : List ℕ) → a ∷ xs ≡ b ∷ ys → a ≡ b
+head_of a b xs ys h = cc
+
+tail_of : (a b : ℕ) (xs ys : List ℕ) → a ∷ xs ≡ b ∷ ys → xs ≡ ys
+tail_of a b xs ys h = cc
+
+below-by : (b : Bool) (d : Placed → ℕ) (t a : ℕ) (p : Placed) (ps : List Placed) → d p ≡ a → nat_lt a t ≡ b
+    → filter (λ q. nat_lt (d q) t) ps ≡ take (t - (a + 1)) ps → filter (λ q. nat_lt (d q) t) (p ∷ ps) ≡ take (t - a) (p ∷ ps)
+below-by true d t a p ps here e rest =
+    let more : t - a ≡ suc (t - (a + 1)) = let lt : a < t = grind (arith, common_steps) in omega arith in
+    ap (λ n. cond (nat_lt n t) (p ∷ filter (λ q. nat_lt (d q) t) ps) (filter (λ q. nat_lt (d q) t) ps)) here
+    ∙ ap (λ b. cond b (p ∷ filter (λ q. nat_lt (d q) t) ps) (filter (λ q. nat_lt (d q) t) ps)) e
+    ∙ ap (λ l. p ∷ l) rest ∙ ap (λ n. take n (p ∷ ps)) (sym more)
+below-by false d t a p ps here e rest =
+    let none : t - a ≡ 0 = let le : t ≤ a = grind (arith, common_steps) in omega arith in
+    let none_later : t - (a + 1) ≡ 0 = omega (arith, none) in
+    ap (λ n. cond (nat_lt n t) (p ∷ filter (λ q. nat_lt (d q) t) ps) (filter (λ q. nat_lt (d q) t) ps)) here
+    ∙ ap (λ b. cond b (p ∷ filter (λ q. nat_lt (d q) t) ps) (filter (λ q. nat_lt (d q) t) ps)) e
+    ∙ rest ∙ ap (λ n. take n ps) none_later ∙ ap (λ n. take n (p ∷ ps)) (sym none)
+
+-- where numbers count up from a, those below t are the first of them
+below-first : (d : Placed → ℕ) (t a n : ℕ) (ps : List Placed) → map d ps ≡ count_up a n → filter (λ p. nat_lt (d p) t) ps ≡ take (t - a) ps
+below-first d t a n [] h = sym (take-nil (t - a))
+below-first d t a zero (p ∷ ps) h = cc
+below-first d t a (suc n) (p ∷ ps) h =
+    below-by (nat_lt a t) d t a p ps (head_of (d p) a (map d ps) (count_up (a + 1) n) h) refl
+    (below-first d t (a + 1) n ps (tail_of (d p) a (map d ps) (count_up (a + 1) n) h))
+
+filter-both-by : (a b : Bool) (p : Placed) (xs ys : List Placed) (r : Placed → Bool) → xs ≡ filter r ys → r p ≡ b
+    → cond (a && b) (p ∷ xs) xs ≡ filter r (cond a (p ∷ ys) ys)
+filter-both-by true true p xs ys r e h = ap (λ l. p ∷ l) e ∙ ap (λ c. cond c (p ∷ filter r ys) (filter r ys)) (sym h)
+filter-both-by true false p xs ys r e h = e ∙ ap (λ c. cond c (p ∷ filter r ys) (filter r ys)) (sym h)
+filter-both-by false b p xs ys r e h = e
+
+-- both tests, one after the other
+filter-both : (q r : Placed → Bool) (xs : List Placed) → filter (λ p. q p && r p) xs ≡ filter r (filter q xs)
+filter-both q r [] = refl
+filter-both q r (x ∷ xs) = filter-both-by (q x) (r x) x (filter (λ p. q p && r p) xs) (filter q xs) r (filter-both q r xs) refl
+
+filter-same-below : (k : ℕ) (p q : Placed → Bool) → ((x : Placed) → x.0 < k → p x ≡ q x) → (xs : List Placed) → AreBelow k xs → filter p xs ≡ filter q xs
+filter-same-below k p q h [] below = refl
+filter-same-below k p q h (x ∷ xs) below =
+    ap (λ b. cond b (x ∷ filter p xs) (filter p xs)) (h x below.0) ∙ ap (λ l. cond (q x) (x ∷ l) l) (filter-same-below k p q h xs below.1)
+
+and_last : (a s d : Bool) → (a && (d && s)) ≡ ((a && s) && d)
+and_last true true true = refl
+and_last true true false = refl
+and_last true false true = refl
+and_last true false false = refl
+and_last false s d = refl
+
+-- whether a collection is open one place further
+is_open-next : (items : List ItemType) (j k : ℕ) → j < k → is_open items j (suc k) ≡ (is_open items j k && nat_lt (depth items j) (depth items (suc k)))
+is_open-next items j k lt =
+    let further : suc k - j ≡ suc (k - j) = omega arith in
+    let there : j + suc (k - j) ≡ suc k = omega arith in
+    let before_next : nat_lt j (suc k) ≡ true = grind (arith, common_steps) in
+    let before_now : nat_lt j k ≡ true = grind (arith, common_steps) in
+    ap (λ b. b && stays_deep items (depth items j) j (suc k - j)) before_next
+    ∙ ap (λ n. stays_deep items (depth items j) j n) further
+    ∙ ap (λ n. nat_lt (depth items j) (depth items n) && stays_deep items (depth items j) j (k - j)) there
+    ∙ and_last true (stays_deep items (depth items j) j (k - j)) (nat_lt (depth items j) (depth items (suc k)))
+    ∙ ap (λ b. (b && stays_deep items (depth items j) j (k - j)) && nat_lt (depth items j) (depth items (suc k))) (sym before_now)
+
+and_true : (b : Bool) → (b && true) ≡ b
+and_true true = refl
+and_true false = refl
+
+is_open-new : (items : List ItemType) (k : ℕ) → is_open items k (suc k) ≡ nat_lt (depth items k) (depth items (suc k))
+is_open-new items k =
+    let one : suc k - k ≡ suc zero = omega arith in
+    let there : k + suc zero ≡ suc k = omega arith in
+    let before_next : nat_lt k (suc k) ≡ true = grind (arith, common_steps) in
+    ap (λ b. b && stays_deep items (depth items k) k (suc k - k)) before_next
+    ∙ ap (λ n. stays_deep items (depth items k) k n) one
+    ∙ ap (λ n. nat_lt (depth items k) (depth items n) && true) there
+    ∙ and_true (nat_lt (depth items k) (depth items (suc k)))
+
+-- no two open collections have the same depth, and every depth up to that of the place has one; no more were closed than opened
+pub record Stands (items : List ItemType) (k : ℕ) : Type 0 where
+  pub depths : map (λ (p : Placed). depth items p.0) (open_at items k) ≡ count_up 0 (depth items k)
+  pub balanced : count_by is_end_collection (take k items) ≤ count_by is_collection (take k items)
+
+pub stands-nothing : (items : List ItemType) → Stands items 0
+stands-nothing items = record { depths = refl; balanced = omega arith }
+
+-- as many are open as the depth says
+pub open-length : (items : List ItemType) (k : ℕ) → Stands items k → length (open_at items k) ≡ depth items k
+open-length items k s =
+    let size : length (map (λ (p : Placed). depth items p.0) (open_at items k)) ≡ length (open_at items k) = grind (arith, common_steps) in
+    sym size ∙ ap length s.depths ∙ length-count_up 0 (depth items k)
+
+and_assoc : (a b c : Bool) → ((a && b) && c) ≡ (a && (b && c))
+and_assoc true b c = refl
+and_assoc false b c = refl
+
+subst-below : (k : ℕ) (items front rest : List ItemType) → k ≡ length front → items ≡ front ++ rest → AreBelow k (before items k)
+subst-below k items front rest size e =
+    subst (λ (n : ℕ). AreBelow n (before items n)) (sym size) (subst (AreBelow (length front)) (sym (before-front items front rest e)) (enumerated-below 0 (length front) front (omega arith)))
+
+-- the open collections one item further
+open-next : (items front rest : List ItemType) (x : ItemType) → items ≡ front ++ x ∷ rest → Stands items (length front)
+    → open_at items (suc (length front)) ≡ take (depth items (suc (length front))) (open_at items (length front))
+    ++ cond (is_collection x && nat_lt (depth items (length front)) (depth items (suc (length front)))) ((length front, x) ∷ []) []
+open-next items front rest x e s =
+    let k = length front in
+    let below : AreBelow k (before items k) = subst-below k items front (x ∷ rest) refl e in
+    let now : Placed → Bool = λ p. is_collection p.1 && is_open items p.0 k in
+    let next : Placed → Bool = λ p. is_collection p.1 && is_open items p.0 (suc k) in
+    let deep : Placed → Bool = λ p. nat_lt (depth items p.0) (depth items (suc k)) in
+    ap (filter next) (before-next items front rest x e)
+    ∙ filter-append next (before items k) ((k, x) ∷ [])
+    ∙ ap (λ l. l ++ filter next ((k, x) ∷ [])) (filter-same-below k next (λ p. now p && deep p) (λ p lt. ap (λ b. is_collection p.1 && b) (is_open-next items p.0 k lt) ∙ sym (and_assoc (is_collection p.1) (is_open items p.0 k) (deep p))) (before items k) below)
+    ∙ ap (λ l. l ++ filter next ((k, x) ∷ [])) (filter-both now deep (before items k))
+    ∙ ap (λ l. l ++ filter next ((k, x) ∷ [])) (below-first (λ p. depth items p.0) (depth items (suc k)) 0 (depth items k) (open_at items k) s.depths ∙ ap (λ n. take n (open_at items k)) (let e : depth items (suc k) - 0 ≡ depth items (suc k) = omega arith in e))
+    ∙ ap (λ b. take (depth items (suc k)) (open_at items k) ++ cond (is_collection x && b) ((k, x) ∷ []) []) (is_open-new items k)
+
+-- how many pass a test, one item further
+pub count-next : (p : ItemType → Bool) (items front rest : List ItemType) (x : ItemType) → items ≡ front ++ x ∷ rest
+    → count_by p (take (suc (length front)) items) ≡ count_by p (take (length front) items) + cond (p x) 1 0
+count-next p items front rest x e =
+    let size : length (front ++ x ∷ []) ≡ suc (length front) = grind (arith, common_steps) in
+    let longer : items ≡ (front ++ x ∷ []) ++ rest = e ∙ sym (append_assoc front (x ∷ []) rest) in
+    let next : take (suc (length front)) items ≡ front ++ x ∷ [] =
+    ap (λ n. take n items) (sym size) ∙ ap (take (length (front ++ x ∷ []))) longer ∙ take-append_seam (front ++ x ∷ []) rest in
+    let now : take (length front) items ≡ front = ap (take (length front)) e ∙ take-append_seam front (x ∷ rest) in
+    let one : count_by p (x ∷ []) ≡ cond (p x) 1 0 = grind (arith, common_steps) in
+    ap (count_by p) next ∙ sum_by-append (λ y. cond (p y) 1 0) front (x ∷ []) ∙ ap (λ n. count_by p front + n) one ∙ ap (λ l. count_by p l + cond (p x) 1 0) (sym now)
+
+-- an item that neither opens nor closes a collection
+pub plain-next : (items front rest : List ItemType) (x : ItemType) → items ≡ front ++ x ∷ rest → Stands items (length front)
+    → is_collection x ≡ false → is_end_collection x ≡ false
+    → (open_at items (suc (length front)) ≡ open_at items (length front)) × Stands items (suc (length front))
+plain-next items front rest x e s no_collection no_end =
+    let k = length front in
+    let begins = count-next is_collection items front rest x e ∙ ap (λ b. count_by is_collection (take k items) + cond b 1 0) no_collection in
+    let ends = count-next is_end_collection items front rest x e ∙ ap (λ b. count_by is_end_collection (take k items) + cond b 1 0) no_end in
+    let same : depth items (suc k) ≡ depth items k = omega (arith, begins, ends) in
+    let all : open_at items (suc k) ≡ open_at items k =
+    open-next items front rest x e s
+    ∙ ap (λ b. take (depth items (suc k)) (open_at items k) ++ cond (b && nat_lt (depth items k) (depth items (suc k))) ((k, x) ∷ []) []) no_collection
+    ∙ append-nil (take (depth items (suc k)) (open_at items k))
+    ∙ take-all (depth items (suc k)) (open_at items k) (omega (arith, same, open-length items k s)) in (
+      all,
+      record {
+        depths = ap (map (λ (p : Placed). depth items p.0)) all ∙ s.depths ∙ ap (count_up 0) (sym same);
+        balanced = omega (arith, begins, ends, s.balanced);
+      },
+    )
+
+-- a Collection
+pub opened-next : (items front rest : List ItemType) (x : ItemType) → items ≡ front ++ x ∷ rest → Stands items (length front)
+    → is_collection x ≡ true → is_end_collection x ≡ false
+    → (open_at items (suc (length front)) ≡ open_at items (length front) ++ (length front, x) ∷ []) × Stands items (suc (length front))
+opened-next items front rest x e s opens no_end =
+    let k = length front in
+    let begins = count-next is_collection items front rest x e ∙ ap (λ b. count_by is_collection (take k items) + cond b 1 0) opens in
+    let ends = count-next is_end_collection items front rest x e ∙ ap (λ b. count_by is_end_collection (take k items) + cond b 1 0) no_end in
+    let deeper : depth items (suc k) ≡ suc (depth items k) = omega (arith, begins, ends, s.balanced) in
+    let below : nat_lt (depth items k) (depth items (suc k)) ≡ true = grind (arith, common_steps) in
+    let all : open_at items (suc k) ≡ open_at items k ++ (k, x) ∷ [] =
+    open-next items front rest x e s
+    ∙ ap (λ b. take (depth items (suc k)) (open_at items k) ++ cond (b && nat_lt (depth items k) (depth items (suc k))) ((k, x) ∷ []) []) opens
+    ∙ ap (λ b. take (depth items (suc k)) (open_at items k) ++ cond b ((k, x) ∷ []) []) below
+    ∙ ap (λ l. l ++ (k, x) ∷ []) (take-all (depth items (suc k)) (open_at items k) (omega (arith, deeper, open-length items k s))) in (
+      all,
+      record {
+        depths = ap (map (λ (p : Placed). depth items p.0)) all ∙ map-append (λ (p : Placed). depth items p.0) (open_at items k) ((k, x) ∷ [])
+            ∙ ap (λ l. l ++ depth items k ∷ []) s.depths ∙ sym (count_up-next 0 (depth items k) ∙ ap (λ n. count_up 0 (depth items k) ++ n ∷ []) (zero-add (depth items k)))
+            ∙ ap (count_up 0) (sym deeper);
+        balanced = omega (arith, begins, ends, s.balanced);
+      },
+    )
+
+-- an EndCollection, where a collection is open
+pub closed-next : (items front rest : List ItemType) (x : ItemType) → items ≡ front ++ x ∷ rest → Stands items (length front)
+    → is_collection x ≡ false → is_end_collection x ≡ true → 0 < depth items (length front)
+    → (open_at items (suc (length front)) ≡ take (length (open_at items (length front)) - 1) (open_at items (length front))) × Stands items (suc (length front))
+closed-next items front rest x e s no_collection closes deep =
+    let k = length front in
+    let begins = count-next is_collection items front rest x e ∙ ap (λ b. count_by is_collection (take k items) + cond b 1 0) no_collection in
+    let ends = count-next is_end_collection items front rest x e ∙ ap (λ b. count_by is_end_collection (take k items) + cond b 1 0) closes in
+    let higher : depth items (suc k) ≡ depth items k - 1 = omega (arith, begins, ends, s.balanced) in
+    let fewer : depth items (suc k) ≡ length (open_at items k) - 1 = omega (arith, higher, open-length items k s) in
+    let all : open_at items (suc k) ≡ take (depth items (suc k)) (open_at items k) =
+    open-next items front rest x e s
+    ∙ ap (λ b. take (depth items (suc k)) (open_at items k) ++ cond (b && nat_lt (depth items k) (depth items (suc k))) ((k, x) ∷ []) []) no_collection
+    ∙ append-nil (take (depth items (suc k)) (open_at items k)) in (
+      all ∙ ap (λ n. take n (open_at items k)) fewer,
+      record {
+        depths = ap (map (λ (p : Placed). depth items p.0)) all ∙ sym (take-map (λ (p : Placed). depth items p.0) (depth items (suc k)) (open_at items k))
+            ∙ ap (take (depth items (suc k))) s.depths ∙ take-count_up (depth items (suc k)) 0 (depth items k) (omega (arith, higher));
+        balanced = omega (arith, begins, ends, s.balanced, deep);
+      },
+    )
