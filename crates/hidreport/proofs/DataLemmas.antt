@@ -1,14 +1,18 @@
 -- A data item: its fault, and what it makes.
-use Rattle.std.proofs.Common.{◌≡◌, ℕ, ◌+◌, ◌*◌, Bool, true, false, List, [], ◌++◌, Option, Some, Result, Ok, refl, sym, ap, ◌∙◌, add-zero, append-nil}
+use Rattle.std.proofs.Common.{◌≡◌, ◌≢◌, ℕ, suc, ◌+◌, ◌-◌, ◌*◌, ◌<◌, Bool, true, false, cond, List, [], ◌∷◌, ◌++◌, length, take, Option, None, Some, Result, Ok, refl, sym, ap, ◌∙◌, add-zero, append-nil, arith}
+use Rattle.std.specs.Prelude.{◌==◌}
+use Rattle.std.proofs.Math.Seq.{take-append_seam}
+use Rattle.std.proofs.lemmas.Bool.Decides.{nat_tests}
+use Rattle.std.proofs.lemmas.Grind.{common_steps}
 use Rattle.hidreport_items.specs.declared.global.GlobalItem.{GlobalItem}
 use Rattle.hidreport_items.specs.declared.global.GlobalItem.TheVariants as global
-use Rattle.hidreport_items.specs.declared.item.ItemType.{ItemType}
+use Rattle.hidreport_items.specs.declared.local.LocalItem.{LocalItem}
 use Rattle.hidreport_items.specs.declared.item.ItemType.TheVariants as item
 use Rattle.hidreport.specs.DataItem.{item_of, direction_of, flags_of}
-use Rattle.hidreport.specs.Faults.{MeaningFault}
+use Rattle.hidreport.specs.Faults.{MeaningFault, Says, too_many_pops}
 use Rattle.hidreport.specs.Fields.{make_fields, attributes, list_or_none}
-use Rattle.hidreport.specs.FirstPath.{is_carried}
-use Rattle.hidreport.specs.Machine.{Held, whole_step, next_force, next_held, key_in, start_in, size_in, added_to, reports_in, with_reports}
+use Rattle.hidreport.specs.InForce.{Force}
+use Rattle.hidreport.specs.Machine.{Held, step, unless_fault, last_force, next_force, next_held, key_in, start_in, size_in, added_to, reports_in, with_reports}
 use Rattle.hidreport.specs.Making.{extent}
 use Rattle.hidreport.specs.Records.{CollectionRecord, FieldRecord, ReportRecord}
 use Rattle.hidreport.specs.State.{HasUsages, usage_list}
@@ -57,18 +61,48 @@ abbrev pub held_result : Held → Result Held MeaningFault
 held_result h = Ok h
 
 -- what is held behind an item that makes nothing and has no fault
-abbrev pub quietly : Held → ItemType → Held
-quietly h x = record { force = next_force h.force x; descriptor = h.descriptor; fields = h.fields; opened = h.opened; collections = h.collections }
+pub quiet : (h : Held) (f : Force) (saved : List Force)
+    → held_result (record { force = f; saved = saved; descriptor = h.descriptor; fields = h.fields + 0; opened = h.opened ++ []; collections = h.collections + 0 })
+    ≡ held_result (record h { force = f; saved = saved })
+quiet h f saved =
+    ap (λ n. held_result (record { force = f; saved = saved; descriptor = h.descriptor; fields = n; opened = h.opened ++ []; collections = h.collections + 0 })) (add-zero h.fields)
+    ∙ ap (λ l. held_result (record { force = f; saved = saved; descriptor = h.descriptor; fields = h.fields; opened = l; collections = h.collections + 0 })) (append-nil h.opened)
+    ∙ ap (λ n. held_result (record { force = f; saved = saved; descriptor = h.descriptor; fields = h.fields; opened = h.opened; collections = n })) (add-zero h.collections)
 
-quiet : (h : Held) (x : ItemType)
-    → held_result (record { force = next_force h.force x; descriptor = h.descriptor; fields = h.fields + 0; opened = h.opened ++ []; collections = h.collections + 0 }) ≡ held_result (quietly h x)
-quiet h x =
-    ap (λ n. held_result (record { force = next_force h.force x; descriptor = h.descriptor; fields = n; opened = h.opened ++ []; collections = h.collections + 0 })) (add-zero h.fields)
-    ∙ ap (λ l. held_result (record { force = next_force h.force x; descriptor = h.descriptor; fields = h.fields; opened = l; collections = h.collections + 0 })) (append-nil h.opened)
-    ∙ ap (λ n. held_result (record { force = next_force h.force x; descriptor = h.descriptor; fields = h.fields; opened = h.opened; collections = n })) (add-zero h.collections)
+-- a global item is set, where it is neither Push nor Pop
+pub step-global : (h : Held) (g : GlobalItem) → g ≢ global.Push → g ≢ global.Pop
+    → step h (item.Global g) ≡ Ok (record h { force = record (next_force h.force (item.Global g)) { locals = h.force.locals ++ [] } })
+step-global h global.Push a b = absurd (a refl)
+step-global h global.Pop a b = absurd (b refl)
+step-global h g a b = quiet h (next_force h.force (item.Global g)) h.saved
 
--- a global item is set
-pub step-global : (h : Held) (g : GlobalItem) → is_carried (item.Global g) ≡ true → whole_step h (item.Global g) ≡ Ok (quietly h (item.Global g))
-step-global h global.Push n = cc
-step-global h global.Pop n = cc
-step-global h g n = quiet h (item.Global g)
+same-force : (f : Force) (locals : List LocalItem) → locals ≡ f.locals → record f { locals = locals } ≡ f
+same-force f locals e = ap (λ l. record f { locals = l }) e
+
+-- a Push keeps what is in force
+pub step-push : (h : Held) → step h (item.Global global.Push) ≡ Ok (record h { saved = h.saved ++ h.force ∷ [] })
+step-push h =
+    quiet h (next_force h.force (item.Global global.Push)) (h.saved ++ h.force ∷ [])
+    ∙ ap (λ (f : Force). held_result (record h { force = f; saved = h.saved ++ h.force ∷ [] })) (same-force h.force (h.force.locals ++ []) (append-nil h.force.locals))
+
+pops-by : (b : Bool) (h : Held) → (length h.saved == 0) ≡ b → 0 < length h.saved
+    → unless_fault (cond (length h.saved == 0) (Some (Says too_many_pops)) None) (next_held h (item.Global global.Pop)) ≡ held_result (next_held h (item.Global global.Pop))
+pops-by true h e some = absurd (let none : length h.saved ≡ 0 = grind (arith, nat_tests) in omega (arith, none, some))
+pops-by false h e some = ap (λ b. unless_fault (cond b (Some (Says too_many_pops)) None) (next_held h (item.Global global.Pop))) e
+
+-- a Pop brings it back
+pub step-pop : (h : Held) → 0 < length h.saved
+    → step h (item.Global global.Pop) ≡ Ok (record h { force = last_force h.force h.saved; saved = take (length h.saved - 1) h.saved })
+step-pop h some =
+    pops-by (length h.saved == 0) h refl some ∙ quiet h (last_force h.force h.saved) (take (length h.saved - 1) h.saved)
+
+-- the last of a list
+pub last_force-end : (f g : Force) (gs : List Force) → last_force f (gs ++ g ∷ []) ≡ g
+last_force-end f g [] = refl
+last_force-end f g (h ∷ hs) = last_force-end h g hs
+
+-- all but the last of a list
+pub all-but-last : (g : Force) (gs : List Force) → take (length (gs ++ g ∷ []) - 1) (gs ++ g ∷ []) ≡ gs
+all-but-last g gs =
+    let size : length (gs ++ g ∷ []) ≡ suc (length gs) = grind (arith, common_steps) in
+    ap (λ n. take n (gs ++ g ∷ [])) (let e : length (gs ++ g ∷ []) - 1 ≡ length gs = omega (arith, size) in e) ∙ take-append_seam gs (g ∷ [])

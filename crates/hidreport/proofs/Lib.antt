@@ -2,13 +2,15 @@ pub mod LookupLemmas
 pub mod BitLemmas
 pub mod Walk
 pub mod Reports
+pub mod PlacedLemmas
+pub mod LevelLemmas
 pub mod OpenLemmas
 pub mod WalkLemmas
 pub mod UsageLemmas
 pub mod ReportList
 pub mod FieldLemmas
 pub mod DataLemmas
-pub mod Carried
 pub mod ParseLemmas
 pub mod RangeLemmas
 pub mod ElementLemmas
+pub mod SegmentLemmas

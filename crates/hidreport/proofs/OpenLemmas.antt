@@ -1,42 +1,14 @@
 -- Open collections go on item by item.
-use Rattle.std.proofs.Common.{◌≡◌, ℕ, zero, suc, ◌+◌, ◌-◌, ◌<◌, ◌≤◌, Bool, true, false, cond, ◌&&◌, nat_lt, List, [], ◌∷◌, ◌++◌, length, take, map, filter, count_by, refl, sym, ap, ◌∙◌, subst, append-nil, append_assoc, arith, zero-add}
-use Rattle.std.proofs.Math.Seq.{take-append_seam}
+use Rattle.std.proofs.Common.{◌≡◌, ℕ, zero, suc, ◌+◌, ◌-◌, ◌<◌, ◌≤◌, Bool, true, false, cond, ◌&&◌, nat_lt, List, [], ◌∷◌, ◌++◌, length, take, map, filter, count_by, refl, sym, ap, ◌∙◌, append-nil, arith, zero-add}
 use Rattle.std.proofs.lemmas.Grind.{common_steps}
 use Rattle.std.proofs.lemmas.List.{map-append, take-map}
 use Rattle.std.proofs.lemmas.List.Elements.{filter-append}
-use Rattle.std.proofs.lemmas.List.Sums.{sum_by-append}
 use Rattle.hidreport_items.specs.declared.item.ItemType.{ItemType}
 use Rattle.hidreport.specs.Kinds.{Placed, is_collection, is_end_collection}
 use Rattle.hidreport.specs.OpenCollections.{depth, is_open, stays_deep, open_at}
 use Rattle.hidreport.specs.Visibility.{before}
-use Rattle.hidreport.proofs.Walk.{before-front, before-next, AreBelow, enumerated-below}
-
--- the numbers from a on, so many
-abbrev pub count_up : ℕ → ℕ → List ℕ
-count_up a zero = []
-count_up a (suc n) = a ∷ count_up (a + 1) n
-
-length-count_up : (a n : ℕ) → length (count_up a n) ≡ n
-length-count_up a zero = refl
-length-count_up a (suc n) = let e = length-count_up (a + 1) n in omega arith
-
-count_up-next : (a n : ℕ) → count_up a (suc n) ≡ count_up a n ++ (a + n) ∷ []
-count_up-next a zero = ap (λ k. k ∷ []) (let e : a ≡ a + 0 = omega arith in e)
-count_up-next a (suc n) = ap (λ l. a ∷ l) (count_up-next (a + 1) n) ∙ ap (λ k. a ∷ (count_up (a + 1) n ++ k ∷ [])) (let e : a + 1 + n ≡ a + suc n = omega arith in e)
-
-take-count_up : (m a n : ℕ) → m ≤ n → take m (count_up a n) ≡ count_up a m
-take-count_up zero a n h = refl
-take-count_up (suc m) a zero h = absurd (omega arith)
-take-count_up (suc m) a (suc n) h = ap (λ l. a ∷ l) (take-count_up m (a + 1) n (omega arith))
-
-take-nil : {A : Type 0} (n : ℕ) → take {A = A} n [] ≡ []
-take-nil zero = refl
-take-nil (suc n) = refl
-
-take-all : {A : Type 0} (n : ℕ) (xs : List A) → length xs ≤ n → take n xs ≡ xs
-take-all n [] h = take-nil n
-take-all zero (x ∷ xs) h = absurd (omega arith)
-take-all (suc n) (x ∷ xs) h = ap (λ l. x ∷ l) (take-all n xs (omega arith))
+use Rattle.hidreport.proofs.Walk.{before-next, count-next, AreBelow}
+use Rattle.hidreport.proofs.PlacedLemmas.{count_up, length-count_up, count_up-next, take-count_up, take-nil, take-all, filter-both, filter-same-below, and_last, and_true, and_assoc, subst-below}
 
 head_of : (a b : ℕ) (xs ys : List ℕ) → a ∷ xs ≡ b ∷ ys → a ≡ b
 head_of a b xs ys h = cc
@@ -66,29 +38,6 @@ below-first d t a (suc n) (p ∷ ps) h =
     below-by (nat_lt a t) d t a p ps (head_of (d p) a (map d ps) (count_up (a + 1) n) h) refl
     (below-first d t (a + 1) n ps (tail_of (d p) a (map d ps) (count_up (a + 1) n) h))
 
-filter-both-by : (a b : Bool) (p : Placed) (xs ys : List Placed) (r : Placed → Bool) → xs ≡ filter r ys → r p ≡ b
-    → cond (a && b) (p ∷ xs) xs ≡ filter r (cond a (p ∷ ys) ys)
-filter-both-by true true p xs ys r e h = ap (λ l. p ∷ l) e ∙ ap (λ c. cond c (p ∷ filter r ys) (filter r ys)) (sym h)
-filter-both-by true false p xs ys r e h = e ∙ ap (λ c. cond c (p ∷ filter r ys) (filter r ys)) (sym h)
-filter-both-by false b p xs ys r e h = e
-
--- both tests, one after the other
-filter-both : (q r : Placed → Bool) (xs : List Placed) → filter (λ p. q p && r p) xs ≡ filter r (filter q xs)
-filter-both q r [] = refl
-filter-both q r (x ∷ xs) = filter-both-by (q x) (r x) x (filter (λ p. q p && r p) xs) (filter q xs) r (filter-both q r xs) refl
-
-filter-same-below : (k : ℕ) (p q : Placed → Bool) → ((x : Placed) → x.0 < k → p x ≡ q x) → (xs : List Placed) → AreBelow k xs → filter p xs ≡ filter q xs
-filter-same-below k p q h [] below = refl
-filter-same-below k p q h (x ∷ xs) below =
-    ap (λ b. cond b (x ∷ filter p xs) (filter p xs)) (h x below.0) ∙ ap (λ l. cond (q x) (x ∷ l) l) (filter-same-below k p q h xs below.1)
-
-and_last : (a s d : Bool) → (a && (d && s)) ≡ ((a && s) && d)
-and_last true true true = refl
-and_last true true false = refl
-and_last true false true = refl
-and_last true false false = refl
-and_last false s d = refl
-
 -- whether a collection is open one place further
 is_open-next : (items : List ItemType) (j k : ℕ) → j < k → is_open items j (suc k) ≡ (is_open items j k && nat_lt (depth items j) (depth items (suc k)))
 is_open-next items j k lt =
@@ -101,10 +50,6 @@ is_open-next items j k lt =
     ∙ ap (λ n. nat_lt (depth items j) (depth items n) && stays_deep items (depth items j) j (k - j)) there
     ∙ and_last true (stays_deep items (depth items j) j (k - j)) (nat_lt (depth items j) (depth items (suc k)))
     ∙ ap (λ b. (b && stays_deep items (depth items j) j (k - j)) && nat_lt (depth items j) (depth items (suc k))) (sym before_now)
-
-and_true : (b : Bool) → (b && true) ≡ b
-and_true true = refl
-and_true false = refl
 
 is_open-new : (items : List ItemType) (k : ℕ) → is_open items k (suc k) ≡ nat_lt (depth items k) (depth items (suc k))
 is_open-new items k =
@@ -130,14 +75,6 @@ open-length items k s =
     let size : length (map (λ (p : Placed). depth items p.0) (open_at items k)) ≡ length (open_at items k) = grind (arith, common_steps) in
     sym size ∙ ap length s.depths ∙ length-count_up 0 (depth items k)
 
-and_assoc : (a b c : Bool) → ((a && b) && c) ≡ (a && (b && c))
-and_assoc true b c = refl
-and_assoc false b c = refl
-
-subst-below : (k : ℕ) (items front rest : List ItemType) → k ≡ length front → items ≡ front ++ rest → AreBelow k (before items k)
-subst-below k items front rest size e =
-    subst (λ (n : ℕ). AreBelow n (before items n)) (sym size) (subst (AreBelow (length front)) (sym (before-front items front rest e)) (enumerated-below 0 (length front) front (omega arith)))
-
 -- the open collections one item further
 open-next : (items front rest : List ItemType) (x : ItemType) → items ≡ front ++ x ∷ rest → Stands items (length front)
     → open_at items (suc (length front)) ≡ take (depth items (suc (length front))) (open_at items (length front))
@@ -154,18 +91,6 @@ open-next items front rest x e s =
     ∙ ap (λ l. l ++ filter next ((k, x) ∷ [])) (filter-both now deep (before items k))
     ∙ ap (λ l. l ++ filter next ((k, x) ∷ [])) (below-first (λ p. depth items p.0) (depth items (suc k)) 0 (depth items k) (open_at items k) s.depths ∙ ap (λ n. take n (open_at items k)) (let e : depth items (suc k) - 0 ≡ depth items (suc k) = omega arith in e))
     ∙ ap (λ b. take (depth items (suc k)) (open_at items k) ++ cond (is_collection x && b) ((k, x) ∷ []) []) (is_open-new items k)
-
--- how many pass a test, one item further
-pub count-next : (p : ItemType → Bool) (items front rest : List ItemType) (x : ItemType) → items ≡ front ++ x ∷ rest
-    → count_by p (take (suc (length front)) items) ≡ count_by p (take (length front) items) + cond (p x) 1 0
-count-next p items front rest x e =
-    let size : length (front ++ x ∷ []) ≡ suc (length front) = grind (arith, common_steps) in
-    let longer : items ≡ (front ++ x ∷ []) ++ rest = e ∙ sym (append_assoc front (x ∷ []) rest) in
-    let next : take (suc (length front)) items ≡ front ++ x ∷ [] =
-    ap (λ n. take n items) (sym size) ∙ ap (take (length (front ++ x ∷ []))) longer ∙ take-append_seam (front ++ x ∷ []) rest in
-    let now : take (length front) items ≡ front = ap (take (length front)) e ∙ take-append_seam front (x ∷ rest) in
-    let one : count_by p (x ∷ []) ≡ cond (p x) 1 0 = grind (arith, common_steps) in
-    ap (count_by p) next ∙ sum_by-append (λ y. cond (p y) 1 0) front (x ∷ []) ∙ ap (λ n. count_by p front + n) one ∙ ap (λ l. count_by p l + cond (p x) 1 0) (sym now)
 
 -- an item that neither opens nor closes a collection
 pub plain-next : (items front rest : List ItemType) (x : ItemType) → items ≡ front ++ x ∷ rest → Stands items (length front)

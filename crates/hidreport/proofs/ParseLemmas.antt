@@ -1,5 +1,5 @@
 -- From the walk over the entries to the answer.
-use Rattle.std.proofs.Common.{◌≡◌, ◌≢◌, ℕ, true, false, zero, suc, ◌+◌, ◌<◌, ◌≤◌, List, [], ◌∷◌, length, get_or, drop, map, Option, None, Some, IfSome, Result, Ok, Err, refl, sym, ap, ◌∙◌, subst, arith, add-one}
+use Rattle.std.proofs.Common.{◌≡◌, ◌≢◌, ℕ, zero, suc, ◌+◌, ◌<◌, ◌≤◌, List, [], ◌∷◌, length, get_or, drop, map, Option, None, Some, IfSome, Result, Ok, Err, refl, sym, ap, ◌∙◌, subst, arith, add-one}
 use Rattle.hidreport_items.specs.Answer.{Fault as ReadFault}
 use Rattle.hidreport_items.specs.Spelling.{item_of}
 use Rattle.hidreport_items.specs.declared.item.ItemType.{ItemType}
@@ -9,10 +9,8 @@ use Rattle.hidreport_lists.specs.Itemising.{itemise, as_refusal}
 use Rattle.hidreport_lists.specs.Messages.{grammar_message}
 use Rattle.hidreport_lists.specs.declared.error.ParserError.{ParserError}
 use Rattle.hidreport_lists.specs.declared.error.ParserError.TheVariants as errors
-use Rattle.hidreport.specs.Faults.{MeaningFault, Says, PastBounds, fault_of, missing_usages, too_many_ends}
-use Rattle.hidreport.specs.FirstPath.{is_carried, stage_fault, uncarried_fault, not_in_the_first_path}
-use Rattle.hidreport.specs.InForce.{first_of}
-use Rattle.hidreport.specs.Machine.{Held, fault_in, counts_in, whole_step, next_held, unless_fault, step, go_on, nothing_held, walk}
+use Rattle.hidreport.specs.Faults.{MeaningFault, Says, PastBounds, missing_usages, too_many_ends, too_many_pops}
+use Rattle.hidreport.specs.Machine.{Held, fault_in, next_held, unless_fault, step, go_on, nothing_held, walk}
 use Rattle.hidreport.specs.Meaning.{meaning, parse, parse_items, placed, offset_at, refusal_at}
 use Rattle.hidreport.specs.Records.{DescriptorRecord}
 use Rattle.hidreport.specs.State.{IsFaultOf, IsRefusal, refusal_of}
@@ -43,7 +41,7 @@ drop-end (x ∷ xs) (suc i) le = let less : length xs ≤ i = omega arith in dro
 
 -- the meaning is what the walk over the rest gives
 meaning-walked : (entries : List Entry) (i : ℕ) (h : Held)
-    → walk h i (drop i (items_of entries)) ≡ walk nothing_held 0 (items_of entries) → meaning stage_fault (items_of entries) ≡ walk h i (drop i (items_of entries))
+    → walk h i (drop i (items_of entries)) ≡ walk nothing_held 0 (items_of entries) → meaning (items_of entries) ≡ walk h i (drop i (items_of entries))
 meaning-walked entries i h walked = sym (walk-meaning (items_of entries)) ∙ sym walked
 
 -- one item further
@@ -56,7 +54,7 @@ walked-on entries i e h next lt here stepped =
 -- a fault of an item is the meaning
 pub meaning-fault : (entries : List Entry) (i : ℕ) (e : Entry) (h : Held) (f : MeaningFault) → i < length entries → e ≡ get_or entries i e
     → walk h i (drop i (items_of entries)) ≡ walk nothing_held 0 (items_of entries)
-    → fault_in h e.item ≡ Some f → placed entries (meaning stage_fault (items_of entries)) ≡ Err (refusal_at e.offset f)
+    → fault_in h e.item ≡ Some f → placed entries (meaning (items_of entries)) ≡ Err (refusal_at e.offset f)
 meaning-fault entries i e h f lt here walked fault =
     ap (placed entries) (meaning-walked entries i h walked ∙ ap (walk h i) (drop-item entries i e lt here)
     ∙ ap (λ o. go_on (unless_fault o (next_held h e.item)) i (λ n. walk n (i + 1) (drop (suc i) (items_of entries)))) fault)
@@ -64,7 +62,7 @@ meaning-fault entries i e h f lt here walked fault =
 
 -- at the end the meaning is what is held
 pub meaning-end : (entries : List Entry) (i : ℕ) (h : Held) → length entries ≤ i
-    → walk h i (drop i (items_of entries)) ≡ walk nothing_held 0 (items_of entries) → placed entries (meaning stage_fault (items_of entries)) ≡ Ok h.descriptor
+    → walk h i (drop i (items_of entries)) ≡ walk nothing_held 0 (items_of entries) → placed entries (meaning (items_of entries)) ≡ Ok h.descriptor
 meaning-end entries i h end walked = ap (placed entries) (meaning-walked entries i h walked ∙ ap (walk h i) (drop-end entries i end))
 
 -- an error that says a refusal is every answer that is this refusal
@@ -79,7 +77,7 @@ pub refuses-fault : {A : Type 0} (fault : Fault) (offset : ℕ) (e : ParserError
     → IsFaultOf fault o → IfSome (refusal_of fault offset) (IsRefusal e) → (refusal_of fault offset ≡ None → e ≡ errors.OutOfMemory)
     → ((f : MeaningFault) → o ≡ Some f → answer ≡ Err (refusal_at offset f)) → Refuses e answer
 refuses-fault faults.EmptyDescriptor offset e o answer is named memory given = absurd is
-refuses-fault faults.NotInFirstPath offset e o answer is named memory given = refuses-as e (InvalidAt offset not_in_the_first_path) answer named (given (Says not_in_the_first_path) is)
+refuses-fault faults.TooManyPops offset e o answer is named memory given = refuses-as e (InvalidAt offset too_many_pops) answer named (given (Says too_many_pops) is)
 refuses-fault faults.MissingUsageMaximum offset e o answer is named memory given = refuses-as e (InvalidAt offset missing_maximum) answer named (given (Says missing_maximum) is)
 refuses-fault faults.MissingUsagePage offset e o answer is named memory given = refuses-as e (InvalidAt offset missing_page) answer named (given (Says missing_page) is)
 refuses-fault faults.MissingUsages offset e o answer is named memory given = refuses-as e (InvalidAt offset missing_usages) answer named (given (Says missing_usages) is)
@@ -87,7 +85,7 @@ refuses-fault faults.TooManyEnds offset e o answer is named memory given = refus
 refuses-fault faults.OutOfBounds offset e o answer is named memory given = refuses-as e Bounds answer named (given PastBounds is)
 refuses-fault {A} faults.OutOfMemory offset e o answer is named memory given = subst (λ (x : ParserError). Refuses {A = A} x answer) (sym (memory refl)) tt
 
-parse-some : (bytes : List ℕ) → bytes ≢ [] → parse bytes ≡ parse_items stage_fault (itemise item_of bytes)
+parse-some : (bytes : List ℕ) → bytes ≢ [] → parse bytes ≡ parse_items (itemise item_of bytes)
 parse-some [] some = absurd (some refl)
 parse-some (b ∷ bs) some = refl
 
@@ -103,8 +101,8 @@ err_refuses errors.OutOfBounds r h = let same : r ≡ Bounds = cc in ap Err same
 err_refuses errors.MismatchingReportId r h = let same : r ≡ _ = cc in ap Err same
 err_refuses errors.OutOfMemory r h = tt
 
-grammar-refuses : (e : ParserError) (r : Result (List Entry) (ℕ × ReadFault)) → Refuses e (as_refusal r) → Refuses e (parse_items stage_fault r)
-grammar-refuses e (Ok entries) h = ok_refuses e entries (parse_items stage_fault (Ok entries)) h
+grammar-refuses : (e : ParserError) (r : Result (List Entry) (ℕ × ReadFault)) → Refuses e (as_refusal r) → Refuses e (parse_items r)
+grammar-refuses e (Ok entries) h = ok_refuses e entries (parse_items (Ok entries)) h
 grammar-refuses e (Err fault) h = err_refuses e (InvalidAt fault.0 (grammar_message fault.1)) h
 
 -- a grammar fault is the answer
@@ -117,16 +115,5 @@ items_ok (Err fault) entries h = cc
 
 -- else the meaning of the items is
 pub parse-meaning : (bytes : List ℕ) (entries : List Entry) → bytes ≢ [] → as_refusal (itemise item_of bytes) ≡ Ok entries
-    → parse bytes ≡ placed entries (meaning stage_fault (items_of entries))
-parse-meaning bytes entries some h = parse-some bytes some ∙ ap (parse_items stage_fault) (items_ok (itemise item_of bytes) entries h)
-
--- an item that is carried has the fault that it has by itself
-pub carried-fault : (h : Held) (x : ItemType) → is_carried x ≡ true → fault_in h x ≡ fault_of (counts_in h x) h.force x
-carried-fault h x e = ap (λ b. first_of (uncarried_fault b) (fault_of (counts_in h x) h.force x)) e
-
-pub carried-step : (h : Held) (x : ItemType) → is_carried x ≡ true → step h x ≡ whole_step h x
-carried-step h x e = ap (λ f. unless_fault f (next_held h x)) (carried-fault h x e)
-
--- an item that isn't carried has just that fault
-pub uncarried-fault : (h : Held) (x : ItemType) → is_carried x ≡ false → fault_in h x ≡ Some (Says not_in_the_first_path)
-uncarried-fault h x e = ap (λ b. first_of (uncarried_fault b) (fault_of (counts_in h x) h.force x)) e
+    → parse bytes ≡ placed entries (meaning (items_of entries))
+parse-meaning bytes entries some h = parse-some bytes some ∙ ap (parse_items) (items_ok (itemise item_of bytes) entries h)

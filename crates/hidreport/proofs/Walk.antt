@@ -1,27 +1,18 @@
--- What is in force goes on item by item.
-use Rattle.std.proofs.Common.{◌≡◌, ℕ, zero, suc, ◌+◌, ◌-◌, ◌<◌, ◌≤◌, Bool, true, false, cond, not, ◌&&◌, ◌||◌, nat_lt, nat_le, List, [], ◌∷◌, ◌++◌, length, take, Option, None, Some, option_to_list, filter, filter_map, count_by, refl, sym, ap, ◌∙◌, subst, append_assoc, arith, add-zero, zero-add, length-take}
+-- What is in force goes on item by item, in the order of visible items.
+use Rattle.std.proofs.Common.{◌≡◌, ℕ, suc, ◌+◌, ◌<◌, ◌≤◌, Bool, true, false, cond, not, ◌&&◌, ◌||◌, nat_lt, List, [], ◌∷◌, ◌++◌, length, take, Option, None, Some, option_to_list, filter, filter_map, count_by, refl, sym, ap, ◌∙◌, append_assoc, arith, add-zero, zero-add}
 use Rattle.std.specs.List.{enumerate_from, list_any}
 use Rattle.std.proofs.Math.Seq.{take-append_seam}
-use Rattle.std.proofs.lemmas.Bool.{ltb-true}
 use Rattle.std.proofs.lemmas.Grind.{common_steps}
 use Rattle.std.proofs.lemmas.List.Elements.{filter-append, filter_map-append}
 use Rattle.std.proofs.lemmas.List.Folds.{list_any-append}
+use Rattle.std.proofs.lemmas.List.Sums.{sum_by-append}
 use Rattle.hidreport_items.specs.declared.item.ItemType.{ItemType}
 use Rattle.hidreport_items.specs.declared.item.ItemType.TheVariants as item
 use Rattle.hidreport_items.specs.declared.local.LocalItem.{LocalItem}
-use Rattle.hidreport.specs.InForce.{in_force, force, last_value, unended_locals, first_of}
-use Rattle.hidreport.specs.Kinds.{Placed, is_main, is_push, local_of, usage_page_of, logical_minimum_of, logical_maximum_of, physical_minimum_of, physical_maximum_of, unit_exponent_of, unit_of, report_size_of, report_id_of, report_count_of}
-use Rattle.hidreport.specs.Machine.{NoneOf, next_force}
-use Rattle.hidreport.specs.Visibility.{before, level, stays_up, is_visible, visible}
-
-pub count_by-none : {A : Type 0} (p : A → Bool) (xs : List A) → NoneOf p xs → count_by p xs ≡ 0
-count_by-none p [] h = refl
-count_by-none p (x ∷ xs) h = rw h.0 (count_by-none p xs h.1)
-
-pub none-take : {A : Type 0} (p : A → Bool) (k : ℕ) (xs : List A) → NoneOf p xs → NoneOf p (take k xs)
-none-take p zero xs h = tt
-none-take p (suc k) [] h = tt
-none-take p (suc k) (x ∷ xs) h = (h.0, none-take p k xs h.1)
+use Rattle.hidreport.specs.InForce.{in_force, last_value, unended_locals, first_of}
+use Rattle.hidreport.specs.Kinds.{Placed, is_main, local_of, usage_page_of, logical_minimum_of, logical_maximum_of, physical_minimum_of, physical_maximum_of, unit_exponent_of, unit_of, report_size_of, report_id_of, report_count_of}
+use Rattle.hidreport.specs.Machine.{next_force}
+use Rattle.hidreport.specs.Visibility.{before}
 
 pub enumerate_from-append : {A : Type 0} (n : ℕ) (xs ys : List A) → enumerate_from n (xs ++ ys) ≡ enumerate_from n xs ++ enumerate_from (n + length xs) ys
 enumerate_from-append n [] ys = ap (λ m. enumerate_from m ys) (sym (add-zero n))
@@ -41,51 +32,21 @@ before-next items front rest x e =
     ∙ enumerate_from-append 0 front (x ∷ []) ∙ ap (λ m. enumerate_from 0 front ++ (m, x) ∷ []) (zero-add (length front))
     ∙ ap (λ l. l ++ (length front, x) ∷ []) (sym (before-front items front (x ∷ rest) e))
 
--- without Pushes before k the level at k is 0
-pub level-none : (items : List ItemType) (k : ℕ) → NoneOf is_push (take k items) → level items k ≡ 0
-level-none items k h = rw (count_by-none is_push (take k items) h) (omega arith)
-
--- and so is every level before it
-none-earlier : {A : Type 0} (p : A → Bool) (j k : ℕ) (xs : List A) → j ≤ k → NoneOf p (take k xs) → NoneOf p (take j xs)
-none-earlier p zero k xs le h = tt
-none-earlier p (suc j) zero xs le h = absurd (omega arith)
-none-earlier p (suc j) (suc k) [] le h = tt
-none-earlier p (suc j) (suc k) (x ∷ xs) le h = (h.0, none-earlier p j k xs (omega arith) h.1)
-
-stays_up-zero : (items : List ItemType) (j n : ℕ) → stays_up items 0 j n ≡ true
-stays_up-zero items j zero = refl
-stays_up-zero items j (suc n) = let low : nat_le 0 (level items (j + suc n)) ≡ true = grind (arith, common_steps) in ap (λ b. b && stays_up items 0 j n) low ∙ stays_up-zero items j n
-
-is_visible-by : (b : Bool) (items : List ItemType) (j k : ℕ) → nat_lt j k ≡ b → NoneOf is_push (take k items) → (b && stays_up items (level items j) j (k - j)) ≡ b
-is_visible-by false items j k e h = refl
-is_visible-by true items j k e h =
-    let le : j ≤ k = let lt : j < k = ltb-true j k e in omega arith in
-    ap (λ n. stays_up items n j (k - j)) (level-none items j (none-earlier is_push j k items le h)) ∙ stays_up-zero items j (k - j)
-
-is_visible-none : (items : List ItemType) (j k : ℕ) → NoneOf is_push (take k items) → is_visible items j k ≡ nat_lt j k
-is_visible-none items j k h = is_visible-by (nat_lt j k) items j k refl h
-
 filter-same : {A : Type 0} (p q : A → Bool) → ((x : A) → p x ≡ q x) → (xs : List A) → filter p xs ≡ filter q xs
 filter-same p q h [] = refl
 filter-same p q h (x ∷ xs) = ap (λ b. cond b (x ∷ filter p xs) (filter p xs)) (h x) ∙ ap (λ l. cond (q x) (x ∷ l) l) (filter-same p q h xs)
 
--- the places of a list from n on are below m
-filter-below : (n m : ℕ) (xs : List ItemType) → n + length xs ≤ m → filter (λ (p : Placed). nat_lt p.0 m) (enumerate_from n xs) ≡ enumerate_from n xs
-filter-below n m [] h = refl
-filter-below n m (x ∷ xs) h =
-    let here : nat_lt n m ≡ true = grind (arith, common_steps) in
-    let more : n + 1 + length xs ≤ m = omega arith in
-    ap (λ b. cond b ((n, x) ∷ filter (λ (p : Placed). nat_lt p.0 m) (enumerate_from (n + 1) xs)) (filter (λ (p : Placed). nat_lt p.0 m) (enumerate_from (n + 1) xs))) here
-    ∙ ap (λ l. (n, x) ∷ l) (filter-below (n + 1) m xs more)
-
-length-take-le : {A : Type 0} (k : ℕ) (xs : List A) → length (take k xs) ≤ k
-length-take-le k xs = simp length-take (omega arith)
-
--- without Pushes before k every item before k is visible at k
-pub visible-none : (items : List ItemType) (k : ℕ) → NoneOf is_push (take k items) → visible items k ≡ before items k
-visible-none items k h =
-    filter-same (λ (p : Placed). is_visible items p.0 k) (λ (p : Placed). nat_lt p.0 k) (λ p. is_visible-none items p.0 k h) (before items k)
-    ∙ filter-below 0 k (take k items) (let le : 0 + length (take k items) ≤ k = omega (arith, length-take-le k items) in le)
+-- how many pass a test, one item further
+pub count-next : (p : ItemType → Bool) (items front rest : List ItemType) (x : ItemType) → items ≡ front ++ x ∷ rest
+    → count_by p (take (suc (length front)) items) ≡ count_by p (take (length front) items) + cond (p x) 1 0
+count-next p items front rest x e =
+    let size : length (front ++ x ∷ []) ≡ suc (length front) = grind (arith, common_steps) in
+    let longer : items ≡ (front ++ x ∷ []) ++ rest = e ∙ sym (append_assoc front (x ∷ []) rest) in
+    let next : take (suc (length front)) items ≡ front ++ x ∷ [] =
+    ap (λ n. take n items) (sym size) ∙ ap (take (length (front ++ x ∷ []))) longer ∙ take-append_seam (front ++ x ∷ []) rest in
+    let now : take (length front) items ≡ front = ap (take (length front)) e ∙ take-append_seam front (x ∷ rest) in
+    let one : count_by p (x ∷ []) ≡ cond (p x) 1 0 = grind (arith, common_steps) in
+    ap (count_by p) next ∙ sum_by-append (λ y. cond (p y) 1 0) front (x ∷ []) ∙ ap (λ n. count_by p front + n) one ∙ ap (λ l. count_by p l + cond (p x) 1 0) (sym now)
 
 -- the last item's value counts
 first_of-none : {A : Type 0} (o : Option A) → first_of o None ≡ o
@@ -188,7 +149,7 @@ unended_locals-next : (b : Bool) (ps : List Placed) (k : ℕ) (x : ItemType) →
 unended_locals-next true ps k x below main = unended_locals-main ps k x below main
 unended_locals-next false ps k x below main = unended_locals-plain ps k x below main
 
-in_force-next : (ps : List Placed) (k : ℕ) (x : ItemType) → AreBelow k ps → in_force (ps ++ (k, x) ∷ []) ≡ next_force (in_force ps) x
+pub in_force-next : (ps : List Placed) (k : ℕ) (x : ItemType) → AreBelow k ps → in_force (ps ++ (k, x) ∷ []) ≡ next_force (in_force ps) x
 in_force-next ps k x below =
     let p : Placed = (k, x) in
     let page = last_value-next usage_page_of ps p in
@@ -203,13 +164,3 @@ in_force-next ps k x below =
     let count = last_value-next report_count_of ps p in
     let locals = unended_locals-next (is_main x) ps k x below refl in
     cc
-
--- what is in force goes on by one item
-pub force-next : (items front rest : List ItemType) (x : ItemType) → NoneOf is_push (take (suc (length front)) items) → items ≡ front ++ x ∷ rest
-    → force items (suc (length front)) ≡ next_force (force items (length front)) x
-force-next items front rest x none e =
-    let k = length front in
-    let below : AreBelow k (before items k) = subst (AreBelow k) (sym (before-front items front (x ∷ rest) e)) (enumerated-below 0 k front (omega arith)) in
-    ap in_force (visible-none items (suc k) none ∙ before-next items front rest x e)
-    ∙ in_force-next (before items k) k x below
-    ∙ ap (λ ps. next_force (in_force ps) x) (sym (visible-none items k (none-earlier is_push k (suc k) items (omega arith) none)))

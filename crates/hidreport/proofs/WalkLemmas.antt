@@ -1,8 +1,7 @@
--- The walk forward gives the meaning that looks back; no item that is carried is a Push.
+-- The walk forward gives the meaning that looks back.
 use Rattle.std.proofs.Common.{◌≡◌, ℕ, suc, ◌+◌, ◌-◌, ◌<◌, Bool, true, false, cond, ◌&&◌, List, [], ◌∷◌, ◌++◌, length, take, map, Option, None, Some, is_some, filter, Ok, refl, sym, ap, ◌∙◌, subst, append-nil, append_assoc, add-zero, add-one, arith}
 use Rattle.std.specs.Prelude.{◌==◌, sum_by, unwrap_or}
 use Rattle.std.specs.List.{enumerate_from}
-use Rattle.std.proofs.Math.Seq.{take-append_seam}
 use Rattle.std.proofs.lemmas.Bool.Decides.{nat_tests}
 use Rattle.std.proofs.lemmas.Grind.{common_steps}
 use Rattle.std.proofs.lemmas.List.{map-append, take-map}
@@ -13,13 +12,14 @@ use Rattle.hidreport_items.specs.declared.main_item.CollectionItem.{CollectionIt
 use Rattle.hidreport_items.specs.declared.main_item.CollectionItem.TheVariants as kinds
 use Rattle.hidreport_items.specs.declared.main_item.MainItem.TheVariants as main
 use Rattle.hidreport_items.specs.declared.item.ItemType.TheVariants as item
+use Rattle.hidreport_items.specs.declared.global.GlobalItem.TheVariants as global
+use Rattle.hidreport_items.specs.declared.local.LocalItem.{LocalItem}
 use Rattle.hidreport_items.specs.declared.item.ItemType.{ItemType}
-use Rattle.hidreport.specs.Faults.{MeaningFault, Says, fault_of, fault, counts, start_of, too_many_ends}
+use Rattle.hidreport.specs.Faults.{MeaningFault, Says, fault_of, fault, counts, start_of, too_many_ends, too_many_pops}
 use Rattle.hidreport.specs.Fields.{fields_at, fields_of, fields_made, fields_before, collections_at, collection_record, usages_or_none}
-use Rattle.hidreport.specs.FirstPath.{is_carried, stage_fault, uncarried_fault}
 use Rattle.hidreport.specs.InForce.{Force, force, first_of}
-use Rattle.hidreport.specs.Kinds.{Placed, Direction, Input, Output, Feature, data_of, goes, is_push, is_collection, is_end_collection, collection_of}
-use Rattle.hidreport.specs.Machine.{NoneOf, Held, reports_of, size_in, first_id, added_to, reports_in, key_in, start_in, start_for, counts_in, fault_in, adds, next_force, next_reports, next_opened, new_collection, next_held, unless_fault, nothing_held, go_on, walk}
+use Rattle.hidreport.specs.Kinds.{Placed, Direction, Input, Output, Feature, data_of, goes, is_push, is_pop, is_collection, is_end_collection, collection_of}
+use Rattle.hidreport.specs.Machine.{Held, reports_of, size_in, first_id, added_to, reports_in, key_in, start_in, start_for, counts_in, fault_in, adds, next_force, last_force, next_reports, next_opened, new_collection, next_held, unless_fault, nothing_held, go_on, walk}
 use Rattle.hidreport.specs.Making.{extent, key, makers, first_report_id}
 use Rattle.hidreport.specs.Meaning.{meaning, meaning_by, first_fault, fault_here, reports}
 use Rattle.hidreport.specs.OpenCollections.{depth, collections_before, open_at}
@@ -27,9 +27,9 @@ use Rattle.hidreport.specs.Places.{start, bits_of}
 use Rattle.hidreport.specs.Records.{CollectionRecord, FieldRecord, ReportRecord, DescriptorRecord}
 use Rattle.hidreport.specs.Usages.{usages_of}
 use Rattle.hidreport.specs.Visibility.{before, level}
-use Rattle.hidreport.proofs.Walk.{before-next, force-next, level-none}
-use Rattle.hidreport.proofs.Carried.{no-push}
-use Rattle.hidreport.proofs.OpenLemmas.{Stands, stands-nothing, open-length, count-next, plain-next, opened-next, closed-next}
+use Rattle.hidreport.proofs.Walk.{before-next, count-next}
+use Rattle.hidreport.proofs.LevelLemmas.{Rests, rests-nothing, kept, length-kept, Stepped, plain-step, push-step, pop-step}
+use Rattle.hidreport.proofs.OpenLemmas.{Stands, stands-nothing, open-length, plain-next, opened-next, closed-next}
 use Rattle.hidreport.proofs.Reports.{reports-next, size-in_reports}
 
 -- the reports of a direction that the items before k make
@@ -40,6 +40,8 @@ reports_before d items k =
 -- what is held at k is what the definitions say of the items before k
 pub record Holds (items : List ItemType) (k : ℕ) (h : Held) : Type 0 where
   pub in_force : h.force ≡ force items k
+  pub rests : Rests items k
+  pub saved : h.saved ≡ kept items k
   pub listed : (d : Direction) → reports_in d h.descriptor ≡ reports_before d items k
   pub first : (d : Direction) → first_report_id items (makers d items k) ≡ first_id (reports_in d h.descriptor)
   pub numbered : h.fields ≡ fields_before items k
@@ -65,18 +67,18 @@ depth-held items k h held =
     let size : length (collections_at items k) ≡ length (open_at items k) = grind (arith, common_steps) in
     sym (ap length held.inside ∙ size ∙ open-length items k held.stands)
 
-counts-held : (items : List ItemType) (k : ℕ) (h : Held) (x : ItemType) → NoneOf is_push (take k items) → Holds items k h → counts items k x ≡ counts_in h x
-counts-held items k h x no_push held =
-    let l : level items k ≡ 0 = level-none items k no_push in
+counts-held : (items : List ItemType) (k : ℕ) (h : Held) (x : ItemType) → Holds items k h → counts items k x ≡ counts_in h x
+counts-held items k h x held =
+    let l : level items k ≡ length h.saved = sym (ap length held.saved ∙ length-kept items k) in
     let d : depth items k ≡ length h.opened = depth-held items k h held in
     let c : collections_before items k ≡ h.collections = sym held.counted in
     let f : fields_before items k ≡ h.fields = sym held.numbered in
     let s : start_of (data_of x) items k ≡ start_for (data_of x) h = start-for items k h (data_of x) held in
     cc
 
-fault-held : (items : List ItemType) (k : ℕ) (h : Held) (x : ItemType) → NoneOf is_push (take k items) → Holds items k h → fault items k x ≡ fault_of (counts_in h x) h.force x
-fault-held items k h x no_push held =
-    ap (λ n. fault_of n (force items k) x) (counts-held items k h x no_push held) ∙ ap (λ f. fault_of (counts_in h x) f x) (sym held.in_force)
+fault-held : (items : List ItemType) (k : ℕ) (h : Held) (x : ItemType) → Holds items k h → fault items k x ≡ fault_of (counts_in h x) h.force x
+fault-held items k h x held =
+    ap (λ n. fault_of n (force items k) x) (counts-held items k h x held) ∙ ap (λ f. fault_of (counts_in h x) f x) (sym held.in_force)
 
 fields-held : (items : List ItemType) (k : ℕ) (h : Held) (d : Direction) (x : ItemType) → Holds items k h
     → fields_at d items (k, x) ≡ fields_of h.force h.opened h.fields (start_in d h) (data_of x) (extent h.force)
@@ -271,13 +273,65 @@ one-opened : (h : Held) (o : Option CollectionItem) → length (new_collection h
 one-opened h None = refl
 one-opened h (Some kind) = refl
 
+push_is_no_pop : (x : ItemType) → is_push x ≡ true → is_pop x ≡ false
+push_is_no_pop (item.Global global.Push) e = refl
+push_is_no_pop (item.Global global.Pop) e = cc
+push_is_no_pop (item.Global g) e = cc
+push_is_no_pop (item.Main y) e = cc
+push_is_no_pop (item.Local y) e = cc
+push_is_no_pop item.Long e = cc
+push_is_no_pop item.Reserved e = cc
+
+-- a Push changes nothing that is in force
+push-force : (f : Force) (x : ItemType) → is_push x ≡ true → next_force f x ≡ f
+push-force f (item.Global global.Push) e = ap (λ (l : List LocalItem). record f { locals = l }) (append-nil f.locals)
+push-force f (item.Global global.Pop) e = cc
+push-force f (item.Global g) e = cc
+push-force f (item.Main y) e = cc
+push-force f (item.Local y) e = cc
+push-force f item.Long e = cc
+push-force f item.Reserved e = cc
+
+some-saved : (b : Bool) (n : ℕ) → (n == 0) ≡ b → cond b (Some (Says too_many_pops)) None ≡ None → 0 < n
+some-saved true n e h = cc
+some-saved false n e h = grind (arith, nat_tests)
+
+-- a Pop without a fault has an open Push
+pop-deep : (h : Held) (x : ItemType) → is_pop x ≡ true → fault_in h x ≡ None → 0 < length h.saved
+pop-deep h (item.Global global.Pop) e faultless = some-saved (length h.saved == 0) (length h.saved) refl faultless
+pop-deep h (item.Global global.Push) e faultless = cc
+pop-deep h (item.Global g) e faultless = cc
+pop-deep h (item.Main y) e faultless = cc
+pop-deep h (item.Local y) e faultless = cc
+pop-deep h item.Long e faultless = cc
+pop-deep h item.Reserved e faultless = cc
+
+stepped-by : (a b : Bool) (items front rest : List ItemType) (h : Held) (x : ItemType) → items ≡ front ++ x ∷ rest → Holds items (length front) h → fault_in h x ≡ None
+    → is_push x ≡ a → is_pop x ≡ b → Stepped items (length front) (cond b (last_force h.force h.saved) (next_force h.force x)) (cond b (take (length h.saved - 1) h.saved) (cond a (h.saved ++ h.force ∷ []) h.saved))
+stepped-by true true items front rest h x e held faultless push pop = let no = push_is_no_pop x push in cc
+stepped-by false true items front rest h x e held faultless push pop =
+    let k = length front in
+    let deep : 0 < level items k = omega (arith, pop-deep h x pop faultless, ap length held.saved, length-kept items k) in
+    subst (λ (l : List Force). Stepped items k (last_force h.force l) (take (length l - 1) l)) (sym held.saved) (pop-step items front rest x e held.rests push pop deep h.force)
+stepped-by true false items front rest h x e held faultless push pop =
+    let k = length front in
+    subst (λ (l : List Force). Stepped items k (next_force h.force x) (l ++ h.force ∷ [])) (sym held.saved)
+    (subst (λ (f : Force). Stepped items k (next_force f x) (kept items k ++ f ∷ [])) (sym held.in_force) (push-step items front rest x e held.rests push pop (push-force (force items k) x push)))
+stepped-by false false items front rest h x e held faultless push pop =
+    let k = length front in
+    subst (λ (l : List Force). Stepped items k (next_force h.force x) l) (sym held.saved)
+    (subst (λ (f : Force). Stepped items k (next_force f x) (kept items k)) (sym held.in_force) (plain-step items front rest x e held.rests push pop))
+
 -- what is held goes on by one item
-holds-next : (items front rest : List ItemType) (h : Held) (x : ItemType) → NoneOf is_push (take (suc (length front)) items) → items ≡ front ++ x ∷ rest → Holds items (length front) h
+holds-next : (items front rest : List ItemType) (h : Held) (x : ItemType) → items ≡ front ++ x ∷ rest → Holds items (length front) h
     → fault_in h x ≡ None → Holds items (suc (length front)) (next_held h x)
-holds-next items front rest h x no_push e held faultless =
+holds-next items front rest h x e held faultless =
     let opened = opened-by (collection_of x) (is_end_collection x) items front rest h x e held faultless refl refl in
+    let stepped = stepped-by (is_push x) (is_pop x) items front rest h x e held faultless refl refl in
     record {
-      in_force = ap (λ f. next_force f x) held.in_force ∙ sym (force-next items front rest x no_push e);
+      in_force = sym stepped.in_force_next;
+      rests = stepped.rests_next;
+      saved = sym stepped.kept_next;
       listed = λ d. in_direction d h x ∙ sym (listed-next items front rest h x d e held);
       first = λ d. first-by (goes d (data_of x) && is_some (extent (force items (length front)))) items front rest h x d e held refl
           ∙ ap first_id (listed-next items front rest h x d e held ∙ sym (in_direction d h x));
@@ -290,24 +344,15 @@ holds-next items front rest h x no_push e held faultless =
 
 -- the fault of the item, and what the rest gives where it has none
 walked-by : (o : Option MeaningFault) (items : List ItemType) (k : ℕ) (h : Held) (x : ItemType) (xs : List ItemType) (all : DescriptorRecord)
-    → first_of (stage_fault x) (fault items k x) ≡ fault_in h x → fault_in h x ≡ o
-    → (fault_in h x ≡ None → walk (next_held h x) (k + 1) xs ≡ meaning_by (first_fault stage_fault items (enumerate_from (k + 1) xs)) all)
-    → walk h k (x ∷ xs) ≡ meaning_by (first_fault stage_fault items (enumerate_from k (x ∷ xs))) all
+    → fault items k x ≡ fault_in h x → fault_in h x ≡ o
+    → (fault_in h x ≡ None → walk (next_held h x) (k + 1) xs ≡ meaning_by (first_fault items (enumerate_from (k + 1) xs)) all)
+    → walk h k (x ∷ xs) ≡ meaning_by (first_fault items (enumerate_from k (x ∷ xs))) all
 walked-by None items k h x xs all same e rest =
     ap (λ f. go_on (unless_fault f (next_held h x)) k (λ next. walk next (k + 1) xs)) e ∙ rest e
-    ∙ sym (ap (λ f. meaning_by (fault_here f k (first_fault stage_fault items (enumerate_from (k + 1) xs))) all) (same ∙ e))
+    ∙ sym (ap (λ f. meaning_by (fault_here f k (first_fault items (enumerate_from (k + 1) xs))) all) (same ∙ e))
 walked-by (Some f) items k h x xs all same e rest =
     ap (λ f. go_on (unless_fault f (next_held h x)) k (λ next. walk next (k + 1) xs)) e
-    ∙ sym (ap (λ f. meaning_by (fault_here f k (first_fault stage_fault items (enumerate_from (k + 1) xs))) all) (same ∙ e))
-
--- an item without a fault is carried
-carried-by : (b : Bool) (f : Option MeaningFault) → first_of (uncarried_fault b) f ≡ None → b ≡ true
-carried-by true f e = refl
-carried-by false f e = cc
-
-none-more : {A : Type 0} (p : A → Bool) (xs : List A) (x : A) → NoneOf p xs → p x ≡ false → NoneOf p (xs ++ x ∷ [])
-none-more p [] x h e = (e, tt)
-none-more p (y ∷ ys) x h e = (h.0, none-more p ys x h.1 e)
+    ∙ sym (ap (λ f. meaning_by (fault_here f k (first_fault items (enumerate_from (k + 1) xs))) all) (same ∙ e))
 
 descriptor-of : (r : DescriptorRecord) (i o f : List ReportRecord) → r.input ≡ i → r.output ≡ o → r.feature ≡ f → r ≡ record { input = i; output = o; feature = f }
 descriptor-of r i o f p q s =
@@ -317,33 +362,28 @@ descriptor-of r i o f p q s =
 at-end : (items : List ItemType) (h : Held) → Holds items (length items) h → h.descriptor ≡ record { input = reports Input items; output = reports Output items; feature = reports Feature items }
 at-end items h held = descriptor-of h.descriptor (reports Input items) (reports Output items) (reports Feature items) (held.listed Input) (held.listed Output) (held.listed Feature)
 
-walk-from : (items front rest : List ItemType) (h : Held) → NoneOf is_push front → items ≡ front ++ rest → Holds items (length front) h
-    → walk h (length front) rest ≡ meaning_by (first_fault stage_fault items (enumerate_from (length front) rest)) (record { input = reports Input items; output = reports Output items; feature = reports Feature items })
-walk-from items front [] h no_push e held =
+walk-from : (items front rest : List ItemType) (h : Held) → items ≡ front ++ rest → Holds items (length front) h
+    → walk h (length front) rest ≡ meaning_by (first_fault items (enumerate_from (length front) rest)) (record { input = reports Input items; output = reports Output items; feature = reports Feature items })
+walk-from items front [] h e held =
     let whole : items ≡ front = e ∙ append-nil front in
     ap Ok (at-end items h (subst (λ n. Holds items n h) (ap length (sym whole)) held))
-walk-from items front (x ∷ xs) h no_push e held =
+walk-from items front (x ∷ xs) h e held =
     let k = length front in
     let more : items ≡ (front ++ x ∷ []) ++ xs = e ∙ sym (append_assoc front (x ∷ []) xs) in
     let size : length (front ++ x ∷ []) ≡ suc k = grind (arith, common_steps) in
     let size_one : length (front ++ x ∷ []) ≡ k + 1 = size ∙ sym (add-one k) in
-    let before_k : front ≡ take k items = sym (ap (take k) e ∙ take-append_seam front (x ∷ xs)) in
-    let before_next : front ++ x ∷ [] ≡ take (suc k) items =
-    sym (ap (λ n. take n items) (sym size) ∙ ap (take (length (front ++ x ∷ []))) more ∙ take-append_seam (front ++ x ∷ []) xs) in
-    let no_push_k : NoneOf is_push (take k items) = subst (λ (l : List ItemType). NoneOf is_push l) before_k no_push in
     let all : DescriptorRecord = record { input = reports Input items; output = reports Output items; feature = reports Feature items } in
-    walked-by (fault_in h x) items k h x xs all (ap (first_of (stage_fault x)) (fault-held items k h x no_push_k held)) refl
+    walked-by (fault_in h x) items k h x xs all (fault-held items k h x held) refl
     (λ faultless.
-    let carried : is_carried x ≡ true = carried-by (is_carried x) (fault_of (counts_in h x) h.force x) faultless in
-    let pushes : NoneOf is_push (front ++ x ∷ []) = none-more is_push front x no_push (no-push x carried) in
-    let no_push_next : NoneOf is_push (take (suc k) items) = subst (λ (l : List ItemType). NoneOf is_push l) before_next pushes in
-    let next : Holds items (length (front ++ x ∷ [])) (next_held h x) = subst (λ n. Holds items n (next_held h x)) (sym size) (holds-next items front xs h x no_push_next e held faultless) in
-    subst (λ n. walk (next_held h x) n xs ≡ meaning_by (first_fault stage_fault items (enumerate_from n xs)) all) size_one
-    (walk-from items (front ++ x ∷ []) xs (next_held h x) pushes more next))
+    let next : Holds items (length (front ++ x ∷ [])) (next_held h x) = subst (λ n. Holds items n (next_held h x)) (sym size) (holds-next items front xs h x e held faultless) in
+    subst (λ n. walk (next_held h x) n xs ≡ meaning_by (first_fault items (enumerate_from n xs)) all) size_one
+    (walk-from items (front ++ x ∷ []) xs (next_held h x) more next))
 
 holds-nothing : (items : List ItemType) → Holds items 0 nothing_held
 holds-nothing items = record {
   in_force = refl;
+  rests = rests-nothing items;
+  saved = refl;
   listed = λ d. elim d as (λ d. reports_in d nothing_held.descriptor ≡ reports_before d items 0) [ Input ↦ refl | Output ↦ refl | Feature ↦ refl ];
   first = λ d. elim d as (λ d. first_report_id items (makers d items 0) ≡ first_id (reports_in d nothing_held.descriptor)) [ Input ↦ refl | Output ↦ refl | Feature ↦ refl ];
   numbered = refl;
@@ -353,5 +393,5 @@ holds-nothing items = record {
 }
 
 -- the walk gives the meaning
-pub walk-meaning : (items : List ItemType) → walk nothing_held 0 items ≡ meaning stage_fault items
-walk-meaning items = walk-from items [] items nothing_held tt refl (holds-nothing items)
+pub walk-meaning : (items : List ItemType) → walk nothing_held 0 items ≡ meaning items
+walk-meaning items = walk-from items [] items nothing_held refl (holds-nothing items)

@@ -3,7 +3,7 @@ pub mod DataItem
 pub mod Elements
 pub mod Faults
 pub mod Fields
-pub mod FirstPath
+pub mod Globals
 pub mod InForce
 pub mod Kinds
 pub mod Lookup
@@ -14,6 +14,7 @@ pub mod OpenCollections
 pub mod Places
 pub mod Reading
 pub mod Records
+pub mod Segments
 pub mod Usages
 pub mod UsageNumber
 pub mod UsageRange

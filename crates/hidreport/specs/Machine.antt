@@ -1,19 +1,18 @@
 -- The same meaning by one walk forward: what is held between two items, and what an item changes.
-use Rattle.std.specs.Prelude.{◌≡◌, ℕ, suc, ◌&&◌, is_some, ◌+◌, ◌-◌, length, take, Bool, false, if◌then◌else◌, List, [], ◌∷◌, ◌++◌, map, filter, flat_map, sum_by, Option, None, Some, option_to_list, Result, Ok, Err}
+use Rattle.std.specs.Prelude.{ℕ, suc, ◌&&◌, is_some, ◌+◌, ◌-◌, length, take, Bool, if◌then◌else◌, List, [], ◌∷◌, ◌++◌, map, filter, flat_map, sum_by, Option, None, Some, option_to_list, Result, Ok, Err}
 use Rattle.hidreport_items.specs.Flags.{Flags}
 use Rattle.hidreport_items.specs.declared.main_item.CollectionItem.{CollectionItem}
 use Rattle.hidreport_items.specs.declared.item.ItemType.{ItemType}
 use Rattle.hidreport_items.specs.declared.local.LocalItem.{LocalItem}
 use Rattle.hidreport.specs.Faults.{MeaningFault, Counts, fault_of}
 use Rattle.hidreport.specs.Fields.{fields_of, fields_made, usages_or_none}
-use Rattle.hidreport.specs.FirstPath.{stage_fault}
 use Rattle.hidreport.specs.InForce.{Force, first_of}
 use Rattle.hidreport.specs.Making.{extent, same_key}
 use Rattle.hidreport.specs.Meaning.{firsts_after}
 use Rattle.hidreport.specs.Places.{id_bits, bits_of}
 use Rattle.hidreport.specs.Records.{CollectionRecord, FieldRecord, ReportRecord, DescriptorRecord}
 use Rattle.hidreport.specs.Usages.{usages_of}
-use Rattle.hidreport.specs.Kinds.{Placed, Direction, Input, Output, Feature, data_of, goes, is_main, is_end_collection, collection_of, local_of, usage_page_of, logical_minimum_of, logical_maximum_of, physical_minimum_of, physical_maximum_of, unit_exponent_of, unit_of, report_size_of, report_id_of, report_count_of}
+use Rattle.hidreport.specs.Kinds.{Placed, Direction, Input, Output, Feature, data_of, goes, is_main, is_push, is_pop, is_end_collection, collection_of, local_of, usage_page_of, logical_minimum_of, logical_maximum_of, physical_minimum_of, physical_maximum_of, unit_exponent_of, unit_of, report_size_of, report_id_of, report_count_of}
 
 -- a main item ends the locals, a local item is added to them
 abbrev pub next_locals : List LocalItem → ItemType → List LocalItem
@@ -34,11 +33,6 @@ next_force f x = record {
   report_count = first_of (report_count_of x) f.report_count;
   locals = next_locals f.locals x;
 }
-
--- no element passes the test
-abbrev pub NoneOf : {A : Type 0} → (A → Bool) → List A → Type 0
-NoneOf p [] = Unit {0}
-NoneOf p (x ∷ xs) = (p x ≡ false) × NoneOf p xs
 
 -- the report with this id that these items make, each adding bits and fields to the report of its key
 abbrev pub report_of : (Placed → Option ℕ) → (Placed → ℕ) → (Placed → List FieldRecord) → List Placed → Option ℕ → ReportRecord
@@ -74,10 +68,11 @@ added_to id bits fields (r ∷ rs) =
     if same_key r.id id then record { id = r.id; size = r.size + bits; fields = r.fields ++ fields } ∷ rs
     else r ∷ added_to id bits fields rs
 
--- what is held between two items: what is in force, the reports so far and how many fields they have, the open
--- collections, outermost first, and how many were opened
+-- what is held between two items: what is in force, what the open Pushes keep, outermost first, the reports so far
+-- and how many fields they have, the open collections, outermost first, and how many were opened
 pub record Held : Type 0 where
   pub force : Force
+  pub saved : List Force
   pub descriptor : DescriptorRecord
   pub fields : ℕ
   pub opened : List CollectionRecord
@@ -109,7 +104,7 @@ start_for (Some x) h = start_in x.0 h
 
 -- the counts before an item
 abbrev pub counts_in : Held → ItemType → Counts
-counts_in h x = record { level = 0; depth = length h.opened; collections = h.collections; fields = h.fields; start = start_for (data_of x) h }
+counts_in h x = record { level = length h.saved; depth = length h.opened; collections = h.collections; fields = h.fields; start = start_for (data_of x) h }
 
 -- the item makes fields in this direction
 abbrev pub adds : Direction → Held → ItemType → Bool
@@ -130,10 +125,24 @@ new_collection h (Some kind) = record { id = h.collections; kind = kind; usages 
 abbrev pub next_opened : Held → ItemType → List CollectionRecord
 next_opened h x = if is_end_collection x then take (length h.opened - 1) h.opened else h.opened ++ new_collection h (collection_of x)
 
+-- the last of a list, or else the first argument
+abbrev pub last_force : Force → List Force → Force
+last_force f [] = f
+last_force f (g ∷ gs) = last_force g gs
+
+-- what is in force behind the item: a Pop brings back what its Push kept
+abbrev pub held_force : Held → ItemType → Force
+held_force h x = if is_pop x then last_force h.force h.saved else next_force h.force x
+
+-- what the open Pushes keep behind the item
+abbrev pub next_saved : Held → ItemType → List Force
+next_saved h x = if is_pop x then take (length h.saved - 1) h.saved else (if is_push x then h.saved ++ h.force ∷ [] else h.saved)
+
 -- what is held behind an item without a fault
 abbrev pub next_held : Held → ItemType → Held
 next_held h x = record {
-  force = next_force h.force x;
+  force = held_force h x;
+  saved = next_saved h x;
   descriptor = record { input = next_reports Input h x; output = next_reports Output h x; feature = next_reports Feature h x };
   fields = h.fields + fields_made (data_of x) (extent h.force);
   opened = next_opened h x;
@@ -146,11 +155,7 @@ unless_fault (Some f) h = Err f
 
 -- the fault of an item where this is held
 abbrev pub fault_in : Held → ItemType → Option MeaningFault
-fault_in h x = first_of (stage_fault x) (fault_of (counts_in h x) h.force x)
-
--- one item further, or its fault, whether or not it is carried
-abbrev pub whole_step : Held → ItemType → Result Held MeaningFault
-whole_step h x = unless_fault (fault_of (counts_in h x) h.force x) (next_held h x)
+fault_in h x = fault_of (counts_in h x) h.force x
 
 -- one item further, or its fault
 abbrev pub step : Held → ItemType → Result Held MeaningFault
@@ -172,6 +177,7 @@ nothing_held = record {
     report_count = None;
     locals = [];
   };
+  saved = [];
   descriptor = record { input = []; output = []; feature = [] };
   fields = 0;
   opened = [];

@@ -10,8 +10,6 @@ use Rattle.hidreport_lists.specs.Itemising.{itemise}
 use Rattle.hidreport_lists.specs.Messages.{grammar_message}
 use Rattle.hidreport.specs.Faults.{MeaningFault, Says, PastBounds, fault}
 use Rattle.hidreport.specs.Fields.{fields_at}
-use Rattle.hidreport.specs.FirstPath.{stage_fault}
-use Rattle.hidreport.specs.InForce.{first_of}
 use Rattle.hidreport.specs.Kinds.{Placed, Direction, Input, Output, Feature}
 use Rattle.hidreport.specs.Making.{key, makers, makers_of, same_key}
 use Rattle.hidreport.specs.Places.{end_before}
@@ -42,26 +40,18 @@ abbrev pub fault_here : Option MeaningFault → ℕ → Option (ℕ × MeaningFa
 fault_here (Some x) k later = Some (k, x)
 fault_here None k later = later
 
--- a fault that comes before all others of its item, by the item alone
-abbrev pub EarlyFault : Type 0
-EarlyFault = ItemType → Option MeaningFault
-
--- no item has one
-abbrev pub no_early_fault : EarlyFault
-no_early_fault x = None
-
 -- the first of these items that has a fault, with its place
-abbrev pub first_fault : EarlyFault → List ItemType → List Placed → Option (ℕ × MeaningFault)
-first_fault early items [] = None
-first_fault early items (p ∷ ps) = fault_here (first_of (early p.1) (fault items p.0 p.1)) p.0 (first_fault early items ps)
+abbrev pub first_fault : List ItemType → List Placed → Option (ℕ × MeaningFault)
+first_fault items [] = None
+first_fault items (p ∷ ps) = fault_here (fault items p.0 p.1) p.0 (first_fault items ps)
 
 abbrev pub meaning_by : Option (ℕ × MeaningFault) → DescriptorRecord → Result DescriptorRecord (ℕ × MeaningFault)
 meaning_by None descriptor = Ok descriptor
 meaning_by (Some first) descriptor = Err first
 
 -- the reports of the three directions, or the first fault with its place in the list
-abbrev pub meaning : EarlyFault → List ItemType → Result DescriptorRecord (ℕ × MeaningFault)
-meaning early items = meaning_by (first_fault early items (enumerate_from 0 items))
+abbrev pub meaning : List ItemType → Result DescriptorRecord (ℕ × MeaningFault)
+meaning items = meaning_by (first_fault items (enumerate_from 0 items))
     (record { input = reports Input items; output = reports Output items; feature = reports Feature items })
 
 -- the offset of the entry at a place
@@ -78,18 +68,14 @@ placed entries (Ok descriptor) = Ok descriptor
 placed entries (Err first) = Err (refusal_at (offset_at entries first.0) first.1)
 
 -- a grammar fault, or else the meaning of the items
-abbrev pub parse_items : EarlyFault → Result (List Entry) (ℕ × Fault) → Result DescriptorRecord Refusal
-parse_items early (Err fault) = Err (InvalidAt fault.0 (grammar_message fault.1))
-parse_items early (Ok entries) = placed entries (meaning early (map (λ e. e.item) entries))
+abbrev pub parse_items : Result (List Entry) (ℕ × Fault) → Result DescriptorRecord Refusal
+parse_items (Err fault) = Err (InvalidAt fault.0 (grammar_message fault.1))
+parse_items (Ok entries) = placed entries (meaning (map (λ e. e.item) entries))
 
 abbrev pub empty_descriptor : List ℕ
 empty_descriptor = codes "Empty report descriptor"
 
 -- the reports that the bytes of a descriptor announce, or their first fault, grammar before meaning
-abbrev pub parse_by : EarlyFault → List ℕ → Result DescriptorRecord Refusal
-parse_by early [] = Err (InvalidAt 0 empty_descriptor)
-parse_by early (b ∷ bs) = parse_items early (itemise item_of (b ∷ bs))
-
--- the same of the items that are carried so far
 abbrev pub parse : List ℕ → Result DescriptorRecord Refusal
-parse = parse_by stage_fault
+parse [] = Err (InvalidAt 0 empty_descriptor)
+parse (b ∷ bs) = parse_items (itemise item_of (b ∷ bs))

@@ -10,8 +10,7 @@ use Rattle.hidreport_items.specs.declared.local.LocalItem.TheVariants as local
 use Rattle.hidreport_lists.specs.Answer.{Refusal, InvalidAt, Bounds, Refuses}
 use Rattle.hidreport_lists.specs.declared.error.ParserError.{ParserError}
 use Rattle.hidreport.specs.DataItem.{item_of}
-use Rattle.hidreport.specs.Faults.{MeaningFault, fault_of, needed_usages_fault, Says, PastBounds, missing_usages, too_many_ends}
-use Rattle.hidreport.specs.FirstPath.{not_in_the_first_path}
+use Rattle.hidreport.specs.Faults.{MeaningFault, fault_of, needed_usages_fault, Says, PastBounds, missing_usages, too_many_ends, too_many_pops}
 use Rattle.hidreport.specs.InForce.{Force}
 use Rattle.hidreport.specs.Meaning.{empty_descriptor}
 use Rattle.hidreport.specs.Machine.{Held, counts_in}
@@ -19,35 +18,19 @@ use Rattle.hidreport.specs.Usages.{UsageList, missing_page, missing_maximum, mak
 use Rattle.hidreport.specs.declared.data_item.DataItem.{DataItem}
 use Rattle.hidreport.specs.declared.state.Fault.{Fault}
 use Rattle.hidreport.specs.declared.state.Fault.TheVariants as faults
-use Rattle.hidreport.specs.declared.state.Globals.{Globals}
+pub use Rattle.hidreport.specs.Globals.{force_of}
 use Rattle.hidreport.specs.declared.state.State.{State}
 use Rattle.hidreport.specs.declared.usage.Usage.{Usage}
 use Rattle.hidreport.specs.declared.usages.Usages.{Usages}
 use Rattle.hidreport.specs.declared.usages.Usages.TheVariants as usages
 
--- the globals and these locals as what is in force
-abbrev pub force_of : Globals → List LocalItem → Force
-force_of g locals = record {
-  usage_page = g.usage_page;
-  logical_minimum = g.logical_minimum;
-  logical_maximum = g.logical_maximum;
-  physical_minimum = g.physical_minimum;
-  physical_maximum = g.physical_maximum;
-  unit_exponent = g.unit_exponent;
-  unit = g.unit;
-  report_size = g.report_size;
-  report_id = g.report_id;
-  report_count = g.report_count;
-  locals = locals;
-}
-
 abbrev pub held_of : State → Held
-held_of s = record { force = force_of s.globals s.locals.items; descriptor = record { input = s.input_reports.items; output = s.output_reports.items; feature = s.feature_reports.items }; fields = s.field_count; opened = s.collections.list; collections = s.collections.count }
+held_of s = record { force = force_of s.globals s.locals.items; saved = s.saved.items; descriptor = record { input = s.input_reports.items; output = s.output_reports.items; feature = s.feature_reports.items }; fields = s.field_count; opened = s.collections.list; collections = s.collections.count }
 
 -- the fault of an item is this one; want of memory says nothing
 abbrev pub IsFaultOf : Fault → Option MeaningFault → Type 0
 IsFaultOf faults.EmptyDescriptor f = ⊥
-IsFaultOf faults.NotInFirstPath f = f ≡ Some (Says not_in_the_first_path)
+IsFaultOf faults.TooManyPops f = f ≡ Some (Says too_many_pops)
 IsFaultOf faults.MissingUsageMaximum f = f ≡ Some (Says missing_maximum)
 IsFaultOf faults.MissingUsagePage f = f ≡ Some (Says missing_page)
 IsFaultOf faults.MissingUsages f = f ≡ Some (Says missing_usages)
@@ -62,7 +45,7 @@ Gives view (Err faults.MissingUsageMaximum) answer = answer ≡ Err missing_maxi
 Gives view (Err faults.MissingUsagePage) answer = answer ≡ Err missing_page
 Gives view (Err faults.OutOfMemory) answer = Unit {0}
 Gives view (Err faults.EmptyDescriptor) answer = ⊥
-Gives view (Err faults.NotInFirstPath) answer = ⊥
+Gives view (Err faults.TooManyPops) answer = ⊥
 Gives view (Err faults.MissingUsages) answer = ⊥
 Gives view (Err faults.TooManyEnds) answer = ⊥
 Gives view (Err faults.OutOfBounds) answer = ⊥
@@ -103,7 +86,7 @@ end_collection = item.Main main.EndCollection
 -- what a fault is at an offset, as a parser says it; want of memory is nothing
 abbrev pub refusal_of : Fault → ℕ → Option Refusal
 refusal_of faults.EmptyDescriptor offset = Some (InvalidAt offset empty_descriptor)
-refusal_of faults.NotInFirstPath offset = Some (InvalidAt offset not_in_the_first_path)
+refusal_of faults.TooManyPops offset = Some (InvalidAt offset too_many_pops)
 refusal_of faults.MissingUsageMaximum offset = Some (InvalidAt offset missing_maximum)
 refusal_of faults.MissingUsagePage offset = Some (InvalidAt offset missing_page)
 refusal_of faults.MissingUsages offset = Some (InvalidAt offset missing_usages)

@@ -41,6 +41,7 @@ impl State {
         ensures descriptor { OnOk result ((held_of self.new).descriptor ≡ (next_held (held_of self.old) (item_of item)).descriptor) }
         ensures fields { OnOk result (self.new.field_count ≡ (next_held (held_of self.old) (item_of item)).fields) }
         ensures collections { self.new.collections ≡ self.old.collections }
+        ensures saved { self.new.saved.items ≡ self.old.saved.items }
         ensures err { IfErr result (λ e. IsFaultOf e (held_fault (held_of self.old) item)) }
     {
         let Some((size, count)) = extent(&self.globals) else {
@@ -85,6 +86,7 @@ impl State {
         ensures force { (held_of self.new).force ≡ (held_of self.old).force }
         ensures fields { self.new.field_count ≡ self.old.field_count }
         ensures collections { self.new.collections ≡ self.old.collections }
+        ensures saved { self.new.saved.items ≡ self.old.saved.items }
     {
         match item {
             DataItem::Input(_) => add_fields(alloc, &mut self.input_reports, place, bits, fields),

@@ -3,9 +3,9 @@ ghost use Rattle.hidreport.specs.declared.state.Fault.TheVariants.{OutOfMemory};
 
 use crate::data_item::DataItem;
 use crate::descriptor::ReportDescriptor;
-use crate::first_path::is_carried;
 use crate::open_collections::OpenCollections;
 use crate::report::RDescReport;
+use crate::saved::Saved;
 use crate::usages::usages_of;
 use hidreport_items::{CollectionItem, GlobalItem, ItemType, LocalItem, MainItem};
 use hidreport_lists::ParserError;
@@ -22,8 +22,8 @@ pub(crate) enum Fault {
     /// There are no bytes.
     EmptyDescriptor,
 
-    /// The meaning of the item isn't carried yet.
-    NotInFirstPath,
+    /// No Push is open that could be undone.
+    TooManyPops,
 
     /// A minimum of usages has no maximum.
     MissingUsageMaximum,
@@ -71,7 +71,7 @@ impl Fault {
     {
         let text = match self {
             Fault::EmptyDescriptor => "Empty report descriptor",
-            Fault::NotInFirstPath => "Not in the first path",
+            Fault::TooManyPops => "Too many Pops, not enough Pushes",
             Fault::MissingUsageMaximum => "Missing UsageMaximum in locals",
             Fault::MissingUsagePage => "Missing UsagePage in globals",
             Fault::MissingUsages => "Missing Usages for main item",
@@ -152,6 +152,7 @@ const COLLECTION_NUMBERS: u64 = 1 << 32;
 pub(crate) struct State {
     pub(crate) globals: Globals,
     pub(crate) locals: Vec<LocalItem>,
+    pub(crate) saved: Vec<Saved>,
     pub(crate) input_reports: Vec<RDescReport>,
     pub(crate) output_reports: Vec<RDescReport>,
     pub(crate) feature_reports: Vec<RDescReport>,
@@ -160,10 +161,8 @@ pub(crate) struct State {
 }
 
 impl State {
-    ghost use Rattle.std.specs.Prelude.{◌≡◌, ◌+◌, Ok, None, true, IfErr, OnOk};
-    ghost use Rattle.hidreport.specs.Faults.{fault_of};
-    ghost use Rattle.hidreport.specs.FirstPath.{is_carried};
-    ghost use Rattle.hidreport.specs.Machine.{counts_in, fault_in, next_opened, nothing_held, step, whole_step};
+    ghost use Rattle.std.specs.Prelude.{◌≡◌, ◌+◌, ◌-◌, ◌<◌, [], ◌∷◌, ◌++◌, length, take, Ok, None, IfErr, OnOk};
+    ghost use Rattle.hidreport.specs.Machine.{fault_in, last_force, next_opened, nothing_held, step};
     ghost use Rattle.hidreport.specs.State.{IsFaultOf, collection, end_collection, held_of};
 
     /// Before the first item.
@@ -173,6 +172,7 @@ impl State {
         State {
             globals: Globals::new(),
             locals: Vec::new(alloc),
+            saved: Vec::new(alloc),
             input_reports: Vec::new(alloc),
             output_reports: Vec::new(alloc),
             feature_reports: Vec::new(alloc),
@@ -186,20 +186,8 @@ impl State {
         ensures ok { OnOk result (step (held_of self.old) item ≡ Ok (held_of self.new)) }
         ensures err { IfErr result (λ e. IsFaultOf e (fault_in (held_of self.old) item)) }
     {
-        if !is_carried(&item) {
-            return Err(Fault::NotInFirstPath);
-        }
-        self.take_carried(alloc, item)
-    }
-
-    /// Goes on by an item that is carried.
-    fn take_carried(&mut self, alloc: Global, item: ItemType) -> Result<(), Fault>
-        requires carried { is_carried item ≡ true }
-        ensures ok { OnOk result (whole_step (held_of self.old) item ≡ Ok (held_of self.new)) }
-        ensures err { IfErr result (λ e. IsFaultOf e (fault_of (counts_in (held_of self.old) item) (held_of self.old).force item)) }
-    {
         match item {
-            ItemType::Global(item) => self.globals.set(item),
+            ItemType::Global(item) => self.take_global(alloc, item)?,
             ItemType::Local(item) => self.locals.push(item)?,
             ItemType::Main(item) => self.take_main(alloc, item)?,
             ItemType::Long | ItemType::Reserved => {}
@@ -207,11 +195,51 @@ impl State {
         Ok(())
     }
 
+    /// A Push keeps what is in force, a Pop brings it back, any other item sets a value.
+    fn take_global(&mut self, alloc: Global, item: GlobalItem) -> Result<(), Fault>
+        ensures ok { OnOk result (step (held_of self.old) (ItemType.Global item) ≡ Ok (held_of self.new)) }
+        ensures err { IfErr result (λ e. IsFaultOf e (fault_in (held_of self.old) (ItemType.Global item))) }
+    {
+        match item {
+            GlobalItem::Push => self.push(alloc)?,
+            GlobalItem::Pop => self.pop()?,
+            item => self.globals.set(item),
+        }
+        Ok(())
+    }
+
+    /// Keeps the globals and the locals.
+    fn push(&mut self, alloc: Global) -> Result<(), AllocError>
+        ensures { OnOk result (held_of self.new ≡ record (held_of self.old) { saved = (held_of self.old).saved ++ (held_of self.old).force ∷ [] }) }
+    {
+        let locals = Vec::from_slice(alloc, &self.locals)?;
+        self.saved.push(Saved {
+            globals: self.globals,
+            locals,
+        })?;
+        Ok(())
+    }
+
+    /// Brings back what the last open Push kept.
+    fn pop(&mut self) -> Result<(), Fault>
+        ensures some { OnOk result (0 < length (held_of self.old).saved) }
+        ensures held { OnOk result (held_of self.new ≡ record (held_of self.old) { force = last_force (held_of self.old).force (held_of self.old).saved; saved = take (length (held_of self.old).saved - 1) (held_of self.old).saved }) }
+        ensures err { IfErr result (λ e. IsFaultOf e (fault_in (held_of self.old) (ItemType.Global GlobalItem.Pop))) }
+    {
+        match self.saved.pop() {
+            Some(saved) => {
+                self.globals = saved.globals;
+                self.locals = saved.locals;
+                Ok(())
+            }
+            None => Err(Fault::TooManyPops),
+        }
+    }
+
     /// The locals end with the item.
     fn take_main(&mut self, alloc: Global, item: MainItem) -> Result<(), Fault>
-        requires carried { is_carried (ItemType.Main item) ≡ true }
-        ensures ok { OnOk result (whole_step (held_of self.old) (ItemType.Main item) ≡ Ok (held_of self.new)) }
-        ensures err { IfErr result (λ e. IsFaultOf e (fault_of (counts_in (held_of self.old) (ItemType.Main item)) (held_of self.old).force (ItemType.Main item))) }
+        ensures ok { OnOk result (step (held_of self.old) (ItemType.Main item) ≡ Ok (held_of self.new)) }
+        ensures err { IfErr result (λ e. IsFaultOf e (fault_in (held_of self.old) (ItemType.Main item))) }
     {
         match item {
             MainItem::Input(item) => self.add_data(alloc, DataItem::Input(item))?,
@@ -226,9 +254,9 @@ impl State {
 
     /// Opens a collection with the usages in force.
     fn open_collection(&mut self, alloc: Global, item: CollectionItem) -> Result<(), Fault>
-        ensures faultless { OnOk result (fault_of (counts_in (held_of self.old) (collection item)) (held_of self.old).force (collection item) ≡ None) }
+        ensures faultless { OnOk result (fault_in (held_of self.old) (collection item) ≡ None) }
         ensures held { OnOk result (held_of self.new ≡ record (held_of self.old) { opened = next_opened (held_of self.old) (collection item); collections = (held_of self.old).collections + 1 }) }
-        ensures err { IfErr result (λ e. IsFaultOf e (fault_of (counts_in (held_of self.old) (collection item)) (held_of self.old).force (collection item))) }
+        ensures err { IfErr result (λ e. IsFaultOf e (fault_in (held_of self.old) (collection item))) }
     {
         let usages = usages_of(alloc, &self.globals, &self.locals)?;
         if self.collections.count() >= COLLECTION_NUMBERS {
@@ -241,9 +269,9 @@ impl State {
 
     /// Closes the collection that was opened last.
     fn close_collection(&mut self) -> Result<(), Fault>
-        ensures faultless { OnOk result (fault_of (counts_in (held_of self.old) end_collection) (held_of self.old).force end_collection ≡ None) }
+        ensures faultless { OnOk result (fault_in (held_of self.old) end_collection ≡ None) }
         ensures held { OnOk result (held_of self.new ≡ record (held_of self.old) { opened = next_opened (held_of self.old) end_collection }) }
-        ensures err { IfErr result (λ e. IsFaultOf e (fault_of (counts_in (held_of self.old) end_collection) (held_of self.old).force end_collection)) }
+        ensures err { IfErr result (λ e. IsFaultOf e (fault_in (held_of self.old) end_collection)) }
     {
         if self.collections.close() {
             Ok(())

@@ -2,7 +2,7 @@
 use Rattle.std.specs.Prelude.{ℕ, ℤ, pos, negsuc, ◌+◌, ◌*◌, Bool, true, false, List, [], ◌∷◌, map, flat_map, Option, None, option_map, Result, Ok, Err}
 use Rattle.hidreport_lists.specs.Answer.{Refusal}
 use Rattle.hidreport.specs.Lookup.{find_report}
-use Rattle.hidreport.specs.Meaning.{no_early_fault, parse_by}
+use Rattle.hidreport.specs.Meaning.{parse}
 use Rattle.hidreport.specs.Reading.{ValueRecord, read_variable, read_array}
 use Rattle.hidreport.specs.Records.{Attributes, FieldRecord, VariableRecord, ArrayRecord, ConstantRecord, ReportRecord, DescriptorRecord}
 use Rattle.hidreport.specs.declared.usage.Usage.{Usage}
@@ -40,9 +40,9 @@ abbrev pub in_short : Result DescriptorRecord Refusal → Result DescriptorSumma
 in_short (Ok d) = Ok (record { input = map report_summary d.input; output = map report_summary d.output; feature = map report_summary d.feature })
 in_short (Err refusal) = Err refusal
 
--- what the bytes of a text announce, every item carried
+-- what the bytes of a text announce
 abbrev pub announced_by : List ℕ → Result DescriptorRecord Refusal
-announced_by text = parse_by no_early_fault (hex text)
+announced_by text = parse (hex text)
 
 -- the same in short
 abbrev pub summary : List ℕ → Result DescriptorSummary Refusal

@@ -14,6 +14,8 @@ pub mod generic;
 mod items;
 pub mod laws;
 #[cfg(test)]
+mod segments;
+#[cfg(test)]
 mod tests;
 #[cfg(test)]
 mod units;

@@ -66,7 +66,7 @@ fn refusals_name_their_offset(rt: HostRuntime) {
         (b"\x40", 0, "Invalid data: Invalid item tag 0b1000000"),
         (b"\xb4\x80", 1, "Insufficient data"),
         (b"\xa4\x80", 1, "Insufficient data"),
-        (b"\x05\x01\xa4", 2, "Not in the first path"),
+        (b"\x05\x01\xb4", 2, "Too many Pops, not enough Pushes"),
         (b"\x05\x01\xa1\x01\x05", 4, "Insufficient data"),
         (b"\x18", 0, "Insufficient data"),
         (b"\x08", 0, "Insufficient data"),

@@ -148,10 +148,9 @@ fn missing_usage_page(rt: HostRuntime) {
 }
 
 #[test]
-fn item_that_is_not_read_yet(rt: HostRuntime) {
-    let descriptor = b"\x05\x01\xa4";
-    let text = b"refused: invalid data at offset 2: Not in the first path\n";
-    shows(&rt, descriptor, b"\x00", Outcome::Refused, text);
+fn pop_without_a_push(rt: HostRuntime) {
+    let text = b"refused: invalid data at offset 2: Too many Pops, not enough Pushes\n";
+    shows(&rt, b"\x05\x01\xb4", b"\x00", Outcome::Refused, text);
 }
 
 #[test]

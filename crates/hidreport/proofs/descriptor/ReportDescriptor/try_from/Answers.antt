@@ -3,16 +3,27 @@ use Rattle.std.proofs.lemmas.Result.{err_from_is_err_and}
 use Rattle.hidreport_lists.specs.Answer.{Answers, Refusal}
 use Rattle.hidreport.specs.Records.{DescriptorRecord}
 use Rattle.hidreport.proofs.ParseLemmas.{parse-grammar, parse-meaning}
+use Rattle.hidreport.proofs.SegmentLemmas.{parse-struck}
 use Rattle.hidreport.proofs.descriptor.ReportDescriptor.try_from.Goals as goal
 
-pub returns-in_err-items : goal.returns-in_err-items
-returns-in_err-items c =
+pub returns-in_err-items-clause-exact : goal.returns-in_err-items-clause-exact
+returns-in_err-items-clause-exact c =
     let some : c.args.bytes.now ≢ [] = λ e. let l : length c.args.bytes.now ≡ 0 = ap length e in grind (arith, c.is_empty.ensures) in
     let p = err_from_is_err_and c.from_residual.result c.from_residual.ensures.1 in
-    record { exact = rw (p.1, p.2) (parse-grammar c.args.bytes.now c.in_err-items.field-0.0 some c.in_err-items.ensures.exact) }
+    rw (p.1, p.2) (parse-grammar c.args.bytes.now c.in_err-items.field-0.0 some c.in_err-items.ensures.exact)
 
-pub returns : goal.returns
-returns c =
+pub returns-in_err-items-clause-struck : goal.returns-in_err-items-clause-struck
+returns-in_err-items-clause-struck c =
+    λ entries front inside rest e m is.
+    subst (λ (r : Result DescriptorRecord Refusal). Answers c.from_residual.result r) (parse-struck c.args.bytes.now entries front inside rest e m is) (returns-in_err-items-clause-exact c)
+
+pub returns-clause-exact : goal.returns-clause-exact
+returns-clause-exact c =
     let some : c.args.bytes.now ≢ [] = λ e. let l : length c.args.bytes.now ≡ 0 = ap length e in grind (arith, c.is_empty.ensures) in
     let is = parse-meaning c.args.bytes.now c.as_slice.result.now some (c.in_ok-items.ensures.exact ∙ ap Ok (sym c.as_slice.ensures)) in
-    record { exact = subst (λ (r : Result DescriptorRecord Refusal). Answers c.reports_of.result r) (sym is) c.reports_of.ensures.exact }
+    subst (λ (r : Result DescriptorRecord Refusal). Answers c.reports_of.result r) (sym is) c.reports_of.ensures.exact
+
+pub returns-clause-struck : goal.returns-clause-struck
+returns-clause-struck c =
+    λ entries front inside rest e m is.
+    subst (λ (r : Result DescriptorRecord Refusal). Answers c.reports_of.result r) (parse-struck c.args.bytes.now entries front inside rest e m is) (returns-clause-exact c)

@@ -1,0 +1,209 @@
+-- A segment without main items is as if it weren't there.
+use Rattle.std.proofs.Common.{◌≡◌, ℕ, suc, ◌+◌, ◌-◌, ◌<◌, ◌≤◌, Bool, true, false, cond, ◌||◌, nat_lt, List, [], ◌∷◌, ◌++◌, length, take, map, count_by, Result, Ok, Err, refl, sym, ap, ◌∙◌, append-nil, append_assoc, arith}
+use Rattle.std.specs.List.{list_any}
+use Rattle.std.proofs.Math.Seq.{take-append-add}
+use Rattle.std.proofs.lemmas.Grind.{common_steps}
+use Rattle.hidreport_items.specs.declared.global.GlobalItem.TheVariants as global
+use Rattle.hidreport_items.specs.declared.item.ItemType.{ItemType}
+use Rattle.hidreport_items.specs.declared.item.ItemType.TheVariants as item
+use Rattle.hidreport.specs.Faults.{MeaningFault}
+use Rattle.hidreport.specs.InForce.{Force}
+use Rattle.hidreport.specs.Kinds.{is_main, is_push, is_pop}
+use Rattle.hidreport.specs.Machine.{Held, step, go_on, last_force, next_force, nothing_held, walk}
+use Rattle.hidreport_items.specs.Spelling.{item_of}
+use Rattle.hidreport_lists.specs.Entry.{Entry}
+use Rattle.hidreport_lists.specs.Itemising.{itemise}
+use Rattle.hidreport.specs.Meaning.{meaning, parse, parse_items, placed}
+use Rattle.hidreport.specs.Records.{DescriptorRecord}
+use Rattle.hidreport.specs.Segments.{IsMatched, with_segment, moved}
+use Rattle.hidreport.proofs.DataLemmas.{quiet, step-push, step-pop, last_force-end, all-but-last}
+use Rattle.hidreport.proofs.WalkLemmas.{walk-meaning}
+
+abbrev pub Answer : Type 0
+Answer = Result DescriptorRecord (ℕ × MeaningFault)
+
+step-ok : (h next : Held) (k : ℕ) (x : ItemType) (xs : List ItemType) → step h x ≡ Ok next → walk h k (x ∷ xs) ≡ walk next (k + 1) xs
+step-ok h next k x xs e = ap (λ r. go_on r k (λ n. walk n (k + 1) xs)) e
+
+moved-by : (r : Result Held MeaningFault) (h : Held) (at n k : ℕ) (x : ItemType) (xs : List ItemType) → step h x ≡ r → at ≤ k
+    → ((next : Held) → moved at n (walk next (k + 1) xs) ≡ walk next (k + 1 + n) xs) → moved at n (walk h k (x ∷ xs)) ≡ walk h (k + n) (x ∷ xs)
+moved-by (Ok next) h at n k x xs e le rest =
+    ap (λ r. moved at n (go_on r k (λ m. walk m (k + 1) xs))) e ∙ rest next
+    ∙ ap (λ p. walk next p xs) (let p : k + 1 + n ≡ k + n + 1 = omega arith in p) ∙ sym (ap (λ r. go_on r (k + n) (λ m. walk m (k + n + 1) xs)) e)
+moved-by (Err f) h at n k x xs e le rest =
+    let behind : nat_lt k at ≡ false = grind (arith, common_steps) in
+    ap (λ r. moved at n (go_on r k (λ m. walk m (k + 1) xs))) e
+    ∙ ap (λ b. Err (cond b k (k + n), f)) behind
+    ∙ sym (ap (λ r. go_on r (k + n) (λ m. walk m (k + n + 1) xs)) e)
+
+-- faults behind the place move with their items
+moved-behind : (h : Held) (at n k : ℕ) (xs : List ItemType) → at ≤ k → moved at n (walk h k xs) ≡ walk h (k + n) xs
+moved-behind h at n k [] le = refl
+moved-behind h at n k (x ∷ xs) le = moved-by (step h x) h at n k x xs refl le (λ next. moved-behind next at n (k + 1) xs (omega (arith, le)))
+
+front-by : (r : Result Held MeaningFault) (h : Held) (n k : ℕ) (x : ItemType) (xs more rest : List ItemType) → step h x ≡ r
+    → ((next : Held) → walk next (k + 1) (xs ++ more) ≡ moved (k + 1 + length xs) n (walk next (k + 1) (xs ++ rest)))
+    → walk h k (x ∷ (xs ++ more)) ≡ moved (k + suc (length xs)) n (walk h k (x ∷ (xs ++ rest)))
+front-by (Ok next) h n k x xs more rest e later =
+    step-ok h next k x (xs ++ more) e ∙ later next
+    ∙ ap (λ p. moved p n (walk next (k + 1) (xs ++ rest))) (let p : k + 1 + length xs ≡ k + suc (length xs) = omega arith in p)
+    ∙ ap (moved (k + suc (length xs)) n) (sym (step-ok h next k x (xs ++ rest) e))
+front-by (Err f) h n k x xs more rest e later =
+    let before : nat_lt k (k + suc (length xs)) ≡ true = grind (arith, common_steps) in
+    ap (λ r. go_on r k (λ m. walk m (k + 1) (xs ++ more))) e
+    ∙ sym (ap (λ r. moved (k + suc (length xs)) n (go_on r k (λ m. walk m (k + 1) (xs ++ rest)))) e ∙ ap (λ b. Err (cond b k (k + n), f)) before)
+
+-- what changes nothing behind a front changes nothing behind more
+front-kept : (front more rest : List ItemType) (n : ℕ) → ((h : Held) (k : ℕ) → walk h k more ≡ walk h (k + n) rest)
+    → (h : Held) (k : ℕ) → walk h k (front ++ more) ≡ moved (k + length front) n (walk h k (front ++ rest))
+front-kept [] more rest n same h k =
+    same h k ∙ sym (moved-behind h (k + 0) n k rest (omega arith))
+front-kept (x ∷ xs) more rest n same h k = front-by (step h x) h n k x xs more rest refl (λ next. front-kept xs more rest n same next (k + 1))
+
+-- what is held inside a segment: other values in force, and more kept
+abbrev pub inside : Held → Force → List Force → Held
+inside h f ts = record h { force = f; saved = (h.saved ++ h.force ∷ []) ++ ts }
+
+-- what holds of the items up to the segment's Pop, with so many Pushes open inside it
+pub record Closes (n : ℕ) (xs : List ItemType) : Type 0 where
+  pub idle : list_any is_main xs ≡ false
+  pub within : (m : ℕ) → count_by is_pop (take m xs) ≤ n + count_by is_push (take m xs)
+  pub closed : count_by is_pop xs ≡ n + count_by is_push xs
+
+idle-parts : (a b : Bool) → (a || b) ≡ false → (a ≡ false) × (b ≡ false)
+idle-parts true b h = cc
+idle-parts false b h = (refl, h)
+
+abbrev pub one_if : Bool → ℕ
+one_if b = cond b 1 0
+
+count-cons : (p : ItemType → Bool) (x : ItemType) (xs : List ItemType) → count_by p (x ∷ xs) ≡ cond (p x) 1 0 + count_by p xs
+count-cons p x xs = grind (arith, common_steps)
+
+plain-inside : (h : Held) (x : ItemType) → is_main x ≡ false → is_push x ≡ false → is_pop x ≡ false → step h x ≡ Ok (record h { force = next_force h.force x })
+plain-inside h (item.Main y) a b c = cc
+plain-inside h (item.Global global.Push) a b c = cc
+plain-inside h (item.Global global.Pop) a b c = cc
+plain-inside h (item.Global g) a b c = quiet h (next_force h.force (item.Global g)) h.saved
+plain-inside h (item.Local y) a b c = quiet h (next_force h.force (item.Local y)) h.saved
+plain-inside h item.Long a b c = quiet h (next_force h.force item.Long) h.saved
+plain-inside h item.Reserved a b c = quiet h (next_force h.force item.Reserved) h.saved
+
+is-push : (x : ItemType) → is_push x ≡ true → x ≡ item.Global global.Push
+is-push (item.Global global.Push) e = refl
+is-push (item.Global global.Pop) e = cc
+is-push (item.Global g) e = cc
+is-push (item.Main y) e = cc
+is-push (item.Local y) e = cc
+is-push item.Long e = cc
+is-push item.Reserved e = cc
+
+is-pop : (x : ItemType) → is_pop x ≡ true → x ≡ item.Global global.Pop
+is-pop (item.Global global.Pop) e = refl
+is-pop (item.Global global.Push) e = cc
+is-pop (item.Global g) e = cc
+is-pop (item.Main y) e = cc
+is-pop (item.Local y) e = cc
+is-pop item.Long e = cc
+is-pop item.Reserved e = cc
+
+-- the conditions on the rest, behind one item
+closes-next : (n m : ℕ) (x : ItemType) (xs : List ItemType) → Closes n (x ∷ xs) → m + cond (is_pop x) 1 0 ≡ n + cond (is_push x) 1 0 → Closes m xs
+closes-next n m x xs c e = record {
+  idle = (idle-parts (is_main x) (list_any is_main xs) c.idle).1;
+  within = λ i. omega (arith, c.within (suc i), count-cons is_pop x (take i xs), count-cons is_push x (take i xs), e);
+  closed = omega (arith, c.closed, count-cons is_pop x xs, count-cons is_push x xs, e);
+}
+
+none-left : (ts : List Force) → length ts ≡ 0 → ts ≡ []
+none-left [] e = refl
+none-left (t ∷ ts) e = absurd (omega (arith, e))
+
+take-kept : (base ts : List Force) → 0 < length ts → take (length (base ++ ts) - 1) (base ++ ts) ≡ base ++ take (length ts - 1) ts
+take-kept base ts some =
+    let size : length (base ++ ts) ≡ length base + length ts = grind (arith, common_steps) in
+    ap (λ n. take n (base ++ ts)) (let e : length (base ++ ts) - 1 ≡ length base + (length ts - 1) = omega (arith, size, some) in e) ∙ take-append-add base ts (length ts - 1)
+
+length-less : (ts : List Force) → length (take (length ts - 1) ts) ≡ length ts - 1
+length-less ts = grind (arith, common_steps)
+
+abbrev pub InsideGoesOn : Held → ℕ → List ItemType → List ItemType → Type 0
+InsideGoesOn h n xs rest = (f : Force) (ts : List Force) (k : ℕ) → length ts ≡ n → Closes n xs → walk (inside h f ts) k (xs ++ (item.Global global.Pop ∷ rest)) ≡ walk h (k + length xs + 1) rest
+
+inside-end : (h : Held) (f : Force) (ts : List Force) (k n : ℕ) (rest : List ItemType) → length ts ≡ n → Closes n [] → walk (inside h f ts) k (item.Global global.Pop ∷ rest) ≡ walk h (k + 0 + 1) rest
+inside-end h f ts k n rest size c =
+    let none : ts ≡ [] = none-left ts (omega (arith, size, c.closed)) in
+    let base = h.saved ++ h.force ∷ [] in
+    let alone : inside h f ts ≡ record h { force = f; saved = base } = ap (λ (l : List Force). record h { force = f; saved = l }) (ap (λ l. base ++ l) none ∙ append-nil base) in
+    let some : 0 < length base = let s : length base ≡ suc (length h.saved) = grind (arith, common_steps) in omega (arith, s) in
+    let back : step (record h { force = f; saved = base }) (item.Global global.Pop) ≡ Ok h =
+    step-pop (record h { force = f; saved = base }) some
+    ∙ ap (λ (g : Force). Ok (record h { force = g; saved = take (length base - 1) base })) (last_force-end f h.force h.saved)
+    ∙ ap (λ (l : List Force). Ok (record h { saved = l })) (all-but-last h.force h.saved) in
+    ap (λ (g : Held). walk g k (item.Global global.Pop ∷ rest)) alone ∙ step-ok (record h { force = f; saved = base }) h k (item.Global global.Pop) rest back
+    ∙ ap (λ p. walk h p rest) (let p : k + 1 ≡ k + 0 + 1 = omega arith in p)
+
+inside-by : (a b : Bool) (h : Held) (f : Force) (ts : List Force) (k n : ℕ) (x : ItemType) (xs rest : List ItemType) → is_push x ≡ a → is_pop x ≡ b → length ts ≡ n → Closes n (x ∷ xs)
+    → ((m : ℕ) → InsideGoesOn h m xs rest) → walk (inside h f ts) k (x ∷ (xs ++ (item.Global global.Pop ∷ rest))) ≡ walk h (k + suc (length xs) + 1) rest
+inside-by true b h f ts k n x xs rest push pop size c later =
+    let base = h.saved ++ h.force ∷ [] in
+    let no_pop : is_pop x ≡ false = ap is_pop (is-push x push) in
+    let stepped : step (inside h f ts) x ≡ Ok (inside h f (ts ++ f ∷ [])) =
+    ap (step (inside h f ts)) (is-push x push) ∙ step-push (inside h f ts) ∙ ap (λ (l : List Force). Ok (record h { force = f; saved = l })) (append_assoc base ts (f ∷ [])) in
+    let longer : length (ts ++ f ∷ []) ≡ suc n = let s : length (ts ++ f ∷ []) ≡ suc (length ts) = grind (arith, common_steps) in omega (arith, s, size) in
+    let next : Closes (suc n) xs = closes-next n (suc n) x xs c (omega (arith, ap one_if push, ap one_if no_pop)) in
+    step-ok (inside h f ts) (inside h f (ts ++ f ∷ [])) k x (xs ++ (item.Global global.Pop ∷ rest)) stepped
+    ∙ later (suc n) f (ts ++ f ∷ []) (k + 1) longer next
+    ∙ ap (λ p. walk h p rest) (let p : k + 1 + length xs + 1 ≡ k + suc (length xs) + 1 = omega arith in p)
+inside-by false true h f ts k n x xs rest push pop size c later =
+    let base = h.saved ++ h.force ∷ [] in
+    let open_inside : 0 < n = omega (arith, c.within 1, count-cons is_pop x (take 0 xs), count-cons is_push x (take 0 xs), ap one_if push, ap one_if pop) in
+    let some : 0 < length (base ++ ts) = let s : length (base ++ ts) ≡ length base + length ts = grind (arith, common_steps) in omega (arith, s, size, open_inside) in
+    let g = last_force f (base ++ ts) in
+    let fewer = take (length ts - 1) ts in
+    let stepped : step (inside h f ts) x ≡ Ok (inside h g fewer) =
+    ap (step (inside h f ts)) (is-pop x pop) ∙ step-pop (inside h f ts) some
+    ∙ ap (λ (l : List Force). Ok (record h { force = g; saved = l })) (take-kept base ts (omega (arith, size, open_inside))) in
+    let shorter : length fewer ≡ n - 1 = omega (arith, length-less ts, size) in
+    let next : Closes (n - 1) xs = closes-next n (n - 1) x xs c (omega (arith, ap one_if push, ap one_if pop, open_inside)) in
+    step-ok (inside h f ts) (inside h g fewer) k x (xs ++ (item.Global global.Pop ∷ rest)) stepped
+    ∙ later (n - 1) g fewer (k + 1) shorter next
+    ∙ ap (λ p. walk h p rest) (let p : k + 1 + length xs + 1 ≡ k + suc (length xs) + 1 = omega arith in p)
+inside-by false false h f ts k n x xs rest push pop size c later =
+    let plain : is_main x ≡ false = (idle-parts (is_main x) (list_any is_main xs) c.idle).0 in
+    let next : Closes n xs = closes-next n n x xs c (omega (arith, ap one_if push, ap one_if pop)) in
+    step-ok (inside h f ts) (inside h (next_force f x) ts) k x (xs ++ (item.Global global.Pop ∷ rest)) (plain-inside (inside h f ts) x plain push pop)
+    ∙ later n (next_force f x) ts (k + 1) size next
+    ∙ ap (λ p. walk h p rest) (let p : k + 1 + length xs + 1 ≡ k + suc (length xs) + 1 = omega arith in p)
+
+inside-on : (h : Held) (xs rest : List ItemType) (n : ℕ) → InsideGoesOn h n xs rest
+inside-on h [] rest n f ts k size c = inside-end h f ts k n rest size c
+inside-on h (x ∷ xs) rest n f ts k size c = inside-by (is_push x) (is_pop x) h f ts k n x xs rest refl refl size c (λ m. inside-on h xs rest m)
+
+-- a segment changes nothing
+segment-kept : (xs rest : List ItemType) → IsMatched xs → (h : Held) (k : ℕ)
+    → walk h k (item.Global global.Push ∷ (xs ++ (item.Global global.Pop ∷ rest))) ≡ walk h (k + (length xs + 2)) rest
+segment-kept xs rest m h k =
+    let base = h.saved ++ h.force ∷ [] in
+    let stepped : step h (item.Global global.Push) ≡ Ok (inside h h.force []) =
+    step-push h ∙ ap (λ (l : List Force). Ok (record h { saved = l })) (sym (append-nil base)) in
+    let c : Closes 0 xs = record { idle = m.idle; within = λ i. omega (arith, m.within i); closed = omega (arith, m.closed) } in
+    step-ok h (inside h h.force []) k (item.Global global.Push) (xs ++ (item.Global global.Pop ∷ rest)) stepped
+    ∙ inside-on h xs rest 0 h.force [] (k + 1) refl c
+    ∙ ap (λ p. walk h p rest) (let p : k + 1 + length xs + 1 ≡ k + (length xs + 2) = omega arith in p)
+
+-- the meaning is that of the items around it
+pub meaning-struck : (front xs rest : List ItemType) → IsMatched xs
+    → meaning (with_segment front xs rest) ≡ moved (length front) (length xs + 2) (meaning (front ++ rest))
+meaning-struck front xs rest m =
+    sym (walk-meaning (with_segment front xs rest))
+    ∙ front-kept front (item.Global global.Push ∷ (xs ++ (item.Global global.Pop ∷ rest))) rest (length xs + 2) (segment-kept xs rest m) nothing_held 0
+    ∙ ap (λ p. moved p (length xs + 2) (walk nothing_held 0 (front ++ rest))) (let p : 0 + length front ≡ length front = omega arith in p)
+    ∙ ap (moved (length front) (length xs + 2)) (walk-meaning (front ++ rest))
+
+-- the same of a descriptor's bytes
+pub parse-struck : (bytes : List ℕ) (entries : List Entry) (front xs rest : List ItemType) → itemise item_of bytes ≡ Ok entries → IsMatched xs
+    → map (λ (e : Entry). e.item) entries ≡ with_segment front xs rest → parse bytes ≡ placed entries (moved (length front) (length xs + 2) (meaning (front ++ rest)))
+parse-struck [] entries front xs rest e m is = cc
+parse-struck (b ∷ bs) entries front xs rest e m is =
+    ap parse_items e ∙ ap (λ (l : List ItemType). placed entries (meaning l)) is ∙ ap (placed entries) (meaning-struck front xs rest m)

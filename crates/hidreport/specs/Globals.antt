@@ -1,0 +1,21 @@
+-- The parser's globals and locals as plain data.
+use Rattle.std.specs.Prelude.{List}
+use Rattle.hidreport_items.specs.declared.local.LocalItem.{LocalItem}
+use Rattle.hidreport.specs.InForce.{Force}
+use Rattle.hidreport.specs.declared.state.Globals.{Globals}
+
+-- the globals and these locals as what is in force
+abbrev pub force_of : Globals → List LocalItem → Force
+force_of g locals = record {
+  usage_page = g.usage_page;
+  logical_minimum = g.logical_minimum;
+  logical_maximum = g.logical_maximum;
+  physical_minimum = g.physical_minimum;
+  physical_maximum = g.physical_maximum;
+  unit_exponent = g.unit_exponent;
+  unit = g.unit;
+  report_size = g.report_size;
+  report_id = g.report_id;
+  report_count = g.report_count;
+  locals = locals;
+}
