@@ -32,25 +32,28 @@ made-descriptor h (kinds.Input flags) e made = rw made refl
 made-descriptor h (kinds.Output flags) e made = rw made refl
 made-descriptor h (kinds.Feature flags) e made = rw made refl
 
--- a constant item's fields have no usages
-usages-by : (b : Bool) (h : Held) (x : DataItem) (e : ℕ × ℕ) (us : Usages) (first : ℕ) → (flags_of x).constant ≡ b → HasUsages (flags_of x) h.force us
-    → made_fields h x h.opened e (usage_list us) first ≡ made_fields h x h.opened e (list_or_none (usages_of h.force)) first
-usages-by true h x e us first constant has = rw constant refl
-usages-by false h x e us first constant has = ap (λ (l : UsageList). made_fields h x h.opened e l first) (sym (ap list_or_none (has constant).0))
+-- a constant item's fields have neither usages nor collections
+usages-by : (b : Bool) (h : Held) (x : DataItem) (cs : List CollectionRecord) (e : ℕ × ℕ) (us : Usages) (first : ℕ) → (flags_of x).constant ≡ b
+    → ((flags_of x).constant ≡ false → cs ≡ h.opened) → HasUsages (flags_of x) h.force us
+    → made_fields h x cs e (usage_list us) first ≡ made_fields h x h.opened e (list_or_none (usages_of h.force)) first
+usages-by true h x cs e us first constant around has = rw constant refl
+usages-by false h x cs e us first constant around has =
+    ap (λ (l : List CollectionRecord). made_fields h x l e (usage_list us) first) (around constant)
+    ∙ ap (λ (l : UsageList). made_fields h x h.opened e l first) (sym (ap list_or_none (has constant).0))
 
 -- the reports behind the item, from what the parser made of it
 pub descriptor-made : (h : Held) (x : DataItem) (cs : List CollectionRecord) (size count : ℕ) (us : Usages) (key : Option ℕ) (first bits : ℕ) (fields : List FieldRecord) (new : List ReportRecord)
-    → cs ≡ h.opened → extent h.force ≡ Some (size, count) → HasUsages (flags_of x) h.force us
+    → ((flags_of x).constant ≡ false → cs ≡ h.opened) → extent h.force ≡ Some (size, count) → HasUsages (flags_of x) h.force us
     → key ≡ key_in (direction_of x) h → first ≡ size_in key (reports_in (direction_of x) h.descriptor) → bits ≡ size * count
     → fields ≡ made_fields h x cs (size, count) (usage_list us) first
     → new ≡ added_to key bits fields (reports_in (direction_of x) h.descriptor)
     → with_reports (direction_of x) new h.descriptor ≡ (next_held h (item_of x)).descriptor
-descriptor-made h x cs size count us key first bits fields new alone made has key_is first_is bits_are fields_are new_is =
+descriptor-made h x cs size count us key first bits fields new around made has key_is first_is bits_are fields_are new_is =
     let d = direction_of x in
     let old = reports_in d h.descriptor in
     let begins : first ≡ start_in d h = first_is ∙ ap (λ id. size_in id old) key_is in
     let listed : fields ≡ made_fields h x h.opened (size, count) (list_or_none (usages_of h.force)) (start_in d h) =
-    fields_are ∙ ap (λ (l : List CollectionRecord). made_fields h x l (size, count) (usage_list us) first) alone ∙ usages-by (flags_of x).constant h x (size, count) us first refl has ∙ ap (made_fields h x h.opened (size, count) (list_or_none (usages_of h.force))) begins in
+    fields_are ∙ usages-by (flags_of x).constant h x cs (size, count) us first refl around has ∙ ap (made_fields h x h.opened (size, count) (list_or_none (usages_of h.force))) begins in
     ap (λ (rs : List ReportRecord). with_reports d rs h.descriptor)
     (new_is ∙ ap (λ l. added_to key bits l old) listed
     ∙ ap (λ n. added_to key n (made_fields h x h.opened (size, count) (list_or_none (usages_of h.force)) (start_in d h)) old) bits_are

@@ -59,7 +59,7 @@ impl State {
         let layout = Layout {
             globals: self.globals,
             item,
-            collections: self.collections.share(alloc)?,
+            collections: self.collections.shared_by(alloc, &item)?,
             first_id: self.field_count,
             first_bit,
             size,

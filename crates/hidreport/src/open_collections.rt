@@ -1,8 +1,9 @@
 ghost use Rattle.std.specs.Prelude.{◌≡◌, IfOk};
 
 use crate::collection::{Collection, CollectionId};
+use crate::data_item::DataItem;
 use crate::usage::Usage;
-use hidreport_items::CollectionItem;
+use hidreport_items::{CollectionItem, MainDataItem};
 use std::alloc::{AllocError, Global};
 use std::marker::Model;
 use std::sync::ArcSlice;
@@ -31,6 +32,7 @@ impl Model for OpenCollections {
 
 impl OpenCollections {
     ghost use Rattle.std.specs.Arc.{arc_slice_items};
+    ghost use Rattle.hidreport.specs.DataItem.{flags_of};
     ghost use Rattle.std.specs.Prelude.{◌≡◌, ◌<◌, ◌+◌, ◌-◌, ◌^◌, true, false, [], ◌∷◌, ◌++◌, length, take, IfOk, OnOk};
 
     /// None is open.
@@ -81,8 +83,23 @@ impl OpenCollections {
         self.open.pop().is_some()
     }
 
+    /// The list of them for the fields of an item; padding lies in none, so none is made for it.
+    pub(crate) fn shared_by(
+        &mut self,
+        alloc: Global,
+        item: &DataItem,
+    ) -> Result<ArcSlice<Collection>, AllocError>
+        ensures all { IfOk result (λ shared. (flags_of item.now).constant ≡ false → arc_slice_items shared ≡ self.old.list) }
+        ensures same { self.new ≡ self.old }
+    {
+        if item.is_constant() {
+            return ArcSlice::from_vec(Vec::new(alloc));
+        }
+        self.share(alloc)
+    }
+
     /// The list of them that fields share.
-    pub(crate) fn share(&mut self, alloc: Global) -> Result<ArcSlice<Collection>, AllocError>
+    fn share(&mut self, alloc: Global) -> Result<ArcSlice<Collection>, AllocError>
         ensures all { IfOk result (λ shared. arc_slice_items shared ≡ self.old.list) }
         ensures same { self.new ≡ self.old }
     {

@@ -226,6 +226,19 @@ fn many_items_in_many_collections(rt: HostRuntime) -> Result<(), Fail> {
 }
 
 #[test]
+fn padding_in_each_of_many_collections(rt: HostRuntime) -> Result<(), Fail> {
+    let mut bytes = Vec::new(rt.alloc());
+    bytes.extend_from_slice(b"\x75\x01\x95\x01")?;
+    let mut items = repeated(rt.alloc(), b"\xa1\x00\x81\x01", 60_000)?;
+    bytes.append(&mut items)?;
+    let descriptor = ReportDescriptor::try_from(rt.alloc(), &bytes)?;
+    let reports = descriptor.input_reports();
+    assert_eq!(rt; reports.len(), 1);
+    assert_eq!(rt; reports[0].size_in_bits(), 60_000);
+    Ok(())
+}
+
+#[test]
 fn more_are_closed_than_opened(rt: HostRuntime) {
     let rows: [(&[u8], usize, &str); 4] = [
         (b"\xa1\x00\xc0\xc0", 3, "Too many EndCollection"),

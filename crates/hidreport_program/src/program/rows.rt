@@ -113,6 +113,16 @@ fn a_mouse(rt: HostRuntime) {
     shows(&rt, &MOUSE, report, Outcome::Done, MOUSE_TEXT);
 }
 
+/// As a run of the Rust crate printed it.
+#[test]
+fn a_segment_with_fields_inside_a_collection(rt: HostRuntime) {
+    let descriptor =
+        b"\x05\x01\x09\x02\xa1\x01\x75\x08\x95\x02\x15\x81\x25\x7f\xa4\x09\x30\x09\x31\x81\x02\xb4\x75\x04\x95\x01\x81\x01\x09\x38\x81\x06\xa1\x02\x05\x09\x19\x01\x29\x03\x15\x00\x25\x03\x75\x02\x95\x04\x81\x00\xc0\xc0";
+    let text =
+        b"report -- 32\n0..8 variable 00010030 5\n8..16 variable 00010031 -5\n16..20 constant\n20..24 variable 00010038 3\n24..32 array 0 1 2 3\n";
+    shows(&rt, descriptor, b"\x05\xfb\x3f\xe4", Outcome::Done, text);
+}
+
 #[test]
 fn more_collections_closed_than_opened(rt: HostRuntime) {
     let text = b"refused: invalid data at offset 3: Too many EndCollection\n";

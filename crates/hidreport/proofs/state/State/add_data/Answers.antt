@@ -14,8 +14,8 @@ pub returns-clause-descriptor : goal.returns-clause-descriptor
 returns-clause-descriptor c =
     let h = held_of c.args.self.now in
     c.in_ok-add_to_reports.ensures.descriptor
-    ∙ descriptor-made h c.args.item (arc_slice_items c.in_ok-share.field-0) c.in-Some.size c.in-Some.count c.in_ok-usages.usages c.place_of-place.result.key c.size_at-first_bit.result c.in_ok-bits.bits (map field_record c.in_ok-fields.fields.items) _
-    c.in_ok-share.ensures.all
+    ∙ descriptor-made h c.args.item (arc_slice_items c.in_ok-shared_by.field-0) c.in-Some.size c.in-Some.count c.in_ok-usages.usages c.place_of-place.result.key c.size_at-first_bit.result c.in_ok-bits.bits (map field_record c.in_ok-fields.fields.items) _
+    c.in_ok-shared_by.ensures.all
     (sym c.in-Some.ensures)
     (subst (λ (l : List LocalItem). HasUsages (flags_of c.args.item) (force_of c.args.self.now.globals l) c.in_ok-usages.usages) c.deref.ensures.value c.in_ok-usages.ensures.usages)
     (c.place_of-place.ensures.key ∙ ap (λ (rs : List ReportRecord). first_of h.force.report_id (first_id rs)) c.reports-reports.ensures)
