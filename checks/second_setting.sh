@@ -1,11 +1,26 @@
 #!/bin/sh
-# Each flag of an item builder is set at most once: a second setting doesn't compile, the first setting of another flag does.
-# Proves nothing, takes about half a minute, and leaves nothing behind. Its argument, if any, is the repository to look at.
+# Each flag of an item builder is set at most once: behind either setter of a flag neither of them compiles, and both
+# setters of another flag do. Proves nothing, takes about half a minute, and leaves nothing behind.
+# Its argument, if any, is the repository to look at.
 set -eu
 
+. "$(dirname "$0")/needs.sh"
+need_rt second_setting
 repository=${1:-$(dirname "$0")/..}
 scratch=$(mktemp -d)
 trap 'rm -rf "$scratch"' EXIT
+
+# A flag on each line: the setter that turns it on and the state that it makes, and the same that leave it off.
+# The compiler prints at most twenty errors, so the nine are tried in two parts.
+first_part='constant IBConstant data IBData
+variable IBVariable array IBArray
+relative IBRelative absolute IBAbsolute
+wrap IBWrap nowrap IBNoWrap
+nonlinear IBNonLinear linear IBLinear'
+second_part='no_preferred_state IBNoPreferred preferred_state IBPreferred
+null IBNull no_null IBNoNull
+buffered_bytes IBBuffered bitfield IBBitfield
+volatile IBVolatile non_volatile IBNonVolatile'
 
 # A repository of its own: the sources of the items, and a crate `probe` above them.
 git init -q "$scratch"
@@ -20,48 +35,86 @@ for crate in hidreport_types hidreport_items; do
 done
 echo 'probe: hidreport_items' >> "$scratch/crates.txt"
 mkdir -p "$scratch/crates/probe/src"
+probe="$scratch/crates/probe/src/lib.rt"
+wanted="$scratch/wanted"
 
-# What the compiler says of an item that these calls build, and of a test that builds it.
-answer() {
-    cat > "$scratch/crates/probe/src/lib.rt" << SOURCE
+fail() {
+    echo "second_setting: $1" >&2
+    cat >&2
+    exit 1
+}
+
+# A source that builds an item and tests it; functions are added to it, each on a line of its own.
+begin() {
+    cat > "$probe" << SOURCE
 #![tactic(auto)]
 
 use hidreport_items::{InputItem, ItemBuilder, MainDataItem};
 
-pub fn item() -> InputItem {
-    ItemBuilder::new()$1.input()
-}
-
 #[test]
 fn fields_carry_data(rt: HostRuntime) {
-    assert!(rt; item().is_data());
+    assert!(rt; ItemBuilder::new().input().is_data());
 }
 SOURCE
+    : > "$wanted"
+}
+
+add() {
+    echo "pub fn $1_$2() -> InputItem { ItemBuilder::new().$1().$2().input() }" >> "$probe"
+}
+
+# The function that was added last is refused, since something was said of the flag before.
+refuse() {
+    line=$(wc -l < "$probe")
+    echo "src/lib.rt:$line: the trait bound \`$1: IBUnsaid\` is not satisfied" >> "$wanted"
+}
+
+answer() {
     (cd "$scratch/crates/probe" && rt try --test 2>&1) || true
 }
 
-fail() {
-    echo "second_setting: $1" >&2
-    echo "$2" >&2
-    exit 1
+# The errors of an answer, each with its line and without its column.
+errors_of() {
+    echo "$1" | sed -n 's/^\(src[^:]*:[0-9]*\):[0-9]*: error\[unsatisfied-bound\]/\1/p; /error\[unsatisfied-bound\]/d; /error/p'
 }
 
-# The calls are refused, for no other reason than that something was said of the flag before.
+# Behind each of the two setters of a flag both are refused, for no other reason.
 refused() {
-    said=$(answer "$1")
-    echo "$said" | grep -qF "src/lib.rt:6:5: error[unsatisfied-bound]: the trait bound \`$2: IBUnsaid\` is not satisfied" ||
-        fail "$1 is not refused for its second setting" "$said"
-    [ "$(echo "$said" | grep -c 'error\[')" = 1 ] || fail "$1 has other errors" "$said"
-    echo "$1: refused"
+    begin
+    while read -r on is_on off is_off; do
+        add "$on" "$on" && refuse "$is_on"
+        add "$on" "$off" && refuse "$is_on"
+        add "$off" "$on" && refuse "$is_off"
+        add "$off" "$off" && refuse "$is_off"
+    done << FLAGS
+$1
+FLAGS
+    said=$(answer)
+    errors_of "$said" | cmp -s - "$wanted" ||
+        errors_of "$said" | diff "$wanted" - | fail "a second setting is not refused, or something else is"
+    echo "$(wc -l < "$wanted") second settings: refused"
 }
 
-# The calls compile, and the test passes.
+# Behind each setter those of the next flag compile, and the test passes.
 accepted() {
-    said=$(answer "$1")
-    echo "$said" | grep -q '^test result: ok\. 1 passed' || fail "$1 is not accepted" "$said"
-    echo "$1: accepted"
+    begin
+    first='volatile non_volatile'
+    while read -r on _ off _; do
+        for before in $first; do
+            add "$before" "$on"
+            add "$before" "$off"
+        done
+        first="$on $off"
+    done << FLAGS
+$first_part
+$second_part
+FLAGS
+    said=$(answer)
+    echo "$said" | grep -q '^test result: ok\. 1 passed' ||
+        echo "$said" | fail "a first setting is not accepted"
+    echo "$(grep -c '^pub fn' "$probe") first settings: accepted"
 }
 
-refused '.variable().array()' IBVariable
-refused '.data().data()' IBData
-accepted '.variable().data()'
+refused "$first_part"
+refused "$second_part"
+accepted

@@ -1,7 +1,7 @@
 -- The fields of an item, one after the other.
 use Rattle.std.proofs.Common.{◌≡◌, ℕ, zero, suc, ◌+◌, ◌-◌, ◌<◌, min, List, [], ◌∷◌, ◌++◌, length, get_or, refl, ap, ◌∙◌, arith}
 use Rattle.hidreport.specs.Fields.{each_from, usage_at}
-use Rattle.hidreport.specs.declared.usage.Usage.{Usage}
+use Rattle.hidreport.specs.declared.field.usage.Usage.{Usage}
 
 -- one more at the end
 pub each_from-next : {A : Type 0} (f : ℕ → A) (c n : ℕ) → each_from f c (suc n) ≡ each_from f c n ++ f (c + n) ∷ []

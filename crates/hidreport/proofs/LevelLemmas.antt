@@ -4,13 +4,13 @@ use Rattle.std.proofs.lemmas.Grind.{common_steps}
 use Rattle.std.proofs.lemmas.List.{map-append, take-map}
 use Rattle.std.proofs.lemmas.List.Elements.{filter-append}
 use Rattle.hidreport_items.specs.declared.item.ItemType.{ItemType}
-use Rattle.hidreport.specs.InForce.{Force, in_force, force}
-use Rattle.hidreport.specs.Kinds.{Placed, is_push, is_pop}
-use Rattle.hidreport.specs.Machine.{next_force, last_force}
+use Rattle.hidreport.specs.InForce.{Force, force}
+use Rattle.hidreport.specs.Kinds.{Indexed, is_push, is_pop}
+use Rattle.hidreport.specs.Parser.Machine.{next_force, last_force}
 use Rattle.hidreport.specs.Visibility.{before, level, stays_up, is_visible, visible}
 use Rattle.hidreport.proofs.DataLemmas.{last_force-end}
-use Rattle.hidreport.proofs.PlacedLemmas.{count_up, length-count_up, count_up-next, take-count_up, filter-both, filter-same-below, and_last, and_true, subst-below}
-use Rattle.hidreport.proofs.Walk.{before-next, count-next, in_force-next, AreBelow}
+use Rattle.hidreport.proofs.IndexedLemmas.{count_up, length-count_up, count_up-next, take-count_up, filter-both, filter-same-below, and_last, and_true, subst-below}
+use Rattle.hidreport.proofs.Walk.{before-next, count-next, in_force, in_force-next, AreBelow}
 
 -- whether an item is visible one place further
 is_visible-next : (items : List ItemType) (j k : ℕ) → j < k → is_visible items j (suc k) ≡ (is_visible items j k && nat_le (level items j) (level items (suc k)))
@@ -36,8 +36,8 @@ is_visible-new items k =
     ∙ and_true (nat_le (level items k) (level items (suc k)))
 
 -- the items of this level or below
-abbrev pub up_to : List ItemType → ℕ → List Placed → List Placed
-up_to items n ps = filter (λ (p : Placed). nat_le (level items p.0) n) ps
+abbrev pub up_to : List ItemType → ℕ → List Indexed → List Indexed
+up_to items n ps = filter (λ (p : Indexed). nat_le (level items p.0) n) ps
 
 -- the visible items one item further
 visible-next : (items front rest : List ItemType) (x : ItemType) → items ≡ front ++ x ∷ rest
@@ -46,9 +46,9 @@ visible-next : (items front rest : List ItemType) (x : ItemType) → items ≡ f
 visible-next items front rest x e =
     let k = length front in
     let below : AreBelow k (before items k) = subst-below k items front (x ∷ rest) refl e in
-    let now : Placed → Bool = λ p. is_visible items p.0 k in
-    let next : Placed → Bool = λ p. is_visible items p.0 (suc k) in
-    let low : Placed → Bool = λ p. nat_le (level items p.0) (level items (suc k)) in
+    let now : Indexed → Bool = λ p. is_visible items p.0 k in
+    let next : Indexed → Bool = λ p. is_visible items p.0 (suc k) in
+    let low : Indexed → Bool = λ p. nat_le (level items p.0) (level items (suc k)) in
     ap (filter next) (before-next items front rest x e)
     ∙ filter-append next (before items k) ((k, x) ∷ [])
     ∙ ap (λ l. l ++ filter next ((k, x) ∷ [])) (filter-same-below k next (λ p. now p && low p) (λ p lt. is_visible-next items p.0 k lt) (before items k) below)
@@ -56,41 +56,41 @@ visible-next items front rest x e =
     ∙ ap (λ b. up_to items (level items (suc k)) (visible items k) ++ cond b ((k, x) ∷ []) []) (is_visible-new items k)
 
 -- no level of these is above n
-abbrev pub AreLow : List ItemType → ℕ → List Placed → Type 0
+abbrev pub AreLow : List ItemType → ℕ → List Indexed → Type 0
 AreLow items n [] = Unit {0}
 AreLow items n (p ∷ ps) = (level items p.0 ≤ n) × AreLow items n ps
 
-low-weaker : (items : List ItemType) (n m : ℕ) (ps : List Placed) → n ≤ m → AreLow items n ps → AreLow items m ps
+low-weaker : (items : List ItemType) (n m : ℕ) (ps : List Indexed) → n ≤ m → AreLow items n ps → AreLow items m ps
 low-weaker items n m [] le low = tt
 low-weaker items n m (p ∷ ps) le low = (omega (arith, low.0, le), low-weaker items n m ps le low.1)
 
-low-all : (items : List ItemType) (n : ℕ) (ps : List Placed) → AreLow items n ps → up_to items n ps ≡ ps
+low-all : (items : List ItemType) (n : ℕ) (ps : List Indexed) → AreLow items n ps → up_to items n ps ≡ ps
 low-all items n [] low = refl
 low-all items n (p ∷ ps) low =
     let here : nat_le (level items p.0) n ≡ true = let le : level items p.0 ≤ n = low.0 in grind (arith, common_steps) in
     ap (λ b. cond b (p ∷ up_to items n ps) (up_to items n ps)) here ∙ ap (λ l. p ∷ l) (low-all items n ps low.1)
 
-low-more : (items : List ItemType) (n : ℕ) (ps : List Placed) (p : Placed) → AreLow items n ps → level items p.0 ≤ n → AreLow items n (ps ++ p ∷ [])
+low-more : (items : List ItemType) (n : ℕ) (ps : List Indexed) (p : Indexed) → AreLow items n ps → level items p.0 ≤ n → AreLow items n (ps ++ p ∷ [])
 low-more items n [] p low le = (le, tt)
 low-more items n (q ∷ ps) p low le = (low.0, low-more items n ps p low.1 le)
 
-low-filter-by : (b : Bool) (items : List ItemType) (n : ℕ) (p : Placed) (ps : List Placed) → nat_le (level items p.0) n ≡ b → AreLow items n ps → AreLow items n (cond b (p ∷ ps) ps)
+low-filter-by : (b : Bool) (items : List ItemType) (n : ℕ) (p : Indexed) (ps : List Indexed) → nat_le (level items p.0) n ≡ b → AreLow items n ps → AreLow items n (cond b (p ∷ ps) ps)
 low-filter-by true items n p ps e low = (grind (arith, common_steps), low)
 low-filter-by false items n p ps e low = low
 
-low-filter : (items : List ItemType) (n : ℕ) (ps : List Placed) → AreLow items n (up_to items n ps)
+low-filter : (items : List ItemType) (n : ℕ) (ps : List Indexed) → AreLow items n (up_to items n ps)
 low-filter items n [] = tt
 low-filter items n (p ∷ ps) = low-filter-by (nat_le (level items p.0) n) items n p (up_to items n ps) refl (low-filter items n ps)
 
-below-filter-by : (b : Bool) (k : ℕ) (p : Placed) (ps : List Placed) → p.0 < k → AreBelow k ps → AreBelow k (cond b (p ∷ ps) ps)
+below-filter-by : (b : Bool) (k : ℕ) (p : Indexed) (ps : List Indexed) → p.0 < k → AreBelow k ps → AreBelow k (cond b (p ∷ ps) ps)
 below-filter-by true k p ps lt below = (lt, below)
 below-filter-by false k p ps lt below = below
 
-below-filter : (k : ℕ) (test : Placed → Bool) (ps : List Placed) → AreBelow k ps → AreBelow k (filter test ps)
+below-filter : (k : ℕ) (test : Indexed → Bool) (ps : List Indexed) → AreBelow k ps → AreBelow k (filter test ps)
 below-filter k test [] below = tt
 below-filter k test (p ∷ ps) below = below-filter-by (test p) k p (filter test ps) below.0 (below-filter k test ps below.1)
 
-twice-by : (a b : Bool) (items : List ItemType) (n : ℕ) (p : Placed) (xs ys : List Placed) → nat_le (level items p.0) n ≡ a → (a ≡ true → b ≡ true) → up_to items n xs ≡ up_to items n ys
+twice-by : (a b : Bool) (items : List ItemType) (n : ℕ) (p : Indexed) (xs ys : List Indexed) → nat_le (level items p.0) n ≡ a → (a ≡ true → b ≡ true) → up_to items n xs ≡ up_to items n ys
     → up_to items n (cond b (p ∷ xs) xs) ≡ up_to items n (p ∷ ys)
 twice-by true true items n p xs ys e h rest = ap (λ l. cond (nat_le (level items p.0) n) (p ∷ l) l) rest
 twice-by true false items n p xs ys e h rest = let no : false ≡ true = h refl in cc
@@ -98,16 +98,16 @@ twice-by false true items n p xs ys e h rest = ap (λ l. cond (nat_le (level ite
 twice-by false false items n p xs ys e h rest = rest ∙ sym (ap (λ b. cond b (p ∷ up_to items n ys) (up_to items n ys)) e)
 
 -- what is cut lower was not hidden by a cut above
-up_to-twice : (items : List ItemType) (n m : ℕ) (ps : List Placed) → n ≤ m → up_to items n (up_to items m ps) ≡ up_to items n ps
+up_to-twice : (items : List ItemType) (n m : ℕ) (ps : List Indexed) → n ≤ m → up_to items n (up_to items m ps) ≡ up_to items n ps
 up_to-twice items n m [] le = refl
 up_to-twice items n m (p ∷ ps) le =
     twice-by (nat_le (level items p.0) n) (nat_le (level items p.0) m) items n p (up_to items m ps) ps refl (λ low. grind (arith, common_steps)) (up_to-twice items n m ps le)
 
 -- an item above n is cut
-up_to-more : (items : List ItemType) (n : ℕ) (ps : List Placed) (p : Placed) → n < level items p.0 → up_to items n (ps ++ p ∷ []) ≡ up_to items n ps
+up_to-more : (items : List ItemType) (n : ℕ) (ps : List Indexed) (p : Indexed) → n < level items p.0 → up_to items n (ps ++ p ∷ []) ≡ up_to items n ps
 up_to-more items n ps p lt =
     let above : nat_le (level items p.0) n ≡ false = grind (arith, common_steps) in
-    filter-append (λ (q : Placed). nat_le (level items q.0) n) ps (p ∷ []) ∙ ap (λ b. up_to items n ps ++ cond b (p ∷ []) []) above ∙ append-nil (up_to items n ps)
+    filter-append (λ (q : Indexed). nat_le (level items q.0) n) ps (p ∷ []) ∙ ap (λ b. up_to items n ps ++ cond b (p ∷ []) []) above ∙ append-nil (up_to items n ps)
 
 -- what was in force at the level n
 abbrev pub force_at : List ItemType → ℕ → ℕ → Force
@@ -146,11 +146,11 @@ risen-visible items front rest x e r le =
     ∙ ap (λ b. up_to items (level items (suc k)) (visible items k) ++ cond b ((k, x) ∷ []) []) here
     ∙ ap (λ l. l ++ (k, x) ∷ []) (low-all items (level items (suc k)) (visible items k) (low-weaker items (level items k) (level items (suc k)) (visible items k) le r.low))
 
-below-more : (k : ℕ) (ps : List Placed) (p : Placed) → AreBelow k ps → p.0 ≡ k → AreBelow (suc k) (ps ++ p ∷ [])
+below-more : (k : ℕ) (ps : List Indexed) (p : Indexed) → AreBelow k ps → p.0 ≡ k → AreBelow (suc k) (ps ++ p ∷ [])
 below-more k [] p below e = (omega (arith, e), tt)
 below-more k (q ∷ ps) p below e = (omega (arith, below.0), below-more k ps p below.1 e)
 
-below-later : (k : ℕ) (ps : List Placed) → AreBelow k ps → AreBelow (suc k) ps
+below-later : (k : ℕ) (ps : List Indexed) → AreBelow k ps → AreBelow (suc k) ps
 below-later k [] below = tt
 below-later k (q ∷ ps) below = (omega (arith, below.0), below-later k ps below.1)
 
@@ -169,8 +169,8 @@ risen items front rest x e r le balanced =
       goes_on = ap in_force all ∙ in_force-next (visible items k) k x r.below;
       older = λ n lt. ap in_force (ap (up_to items n) all ∙ up_to-more items n (visible items k) (k, x) lt);
       rests = record {
-        low = subst (λ (l : List Placed). AreLow items (level items (suc k)) l) (sym all) (low-more items (level items (suc k)) (visible items k) (k, x) (low-weaker items (level items k) (level items (suc k)) (visible items k) le r.low) le);
-        below = subst (λ (l : List Placed). AreBelow (suc k) l) (sym all) (below-more k (visible items k) (k, x) r.below refl);
+        low = subst (λ (l : List Indexed). AreLow items (level items (suc k)) l) (sym all) (low-more items (level items (suc k)) (visible items k) (k, x) (low-weaker items (level items k) (level items (suc k)) (visible items k) le r.low) le);
+        below = subst (λ (l : List Indexed). AreBelow (suc k) l) (sym all) (below-more k (visible items k) (k, x) r.below refl);
         balanced = balanced;
       };
     }
@@ -246,8 +246,8 @@ pop-step items front rest x e r no_push pop deep f =
           ∙ sym (ap (λ n. take n (kept items k)) fewer ∙ take-map (force_at items k) (level items (suc k)) (count_up 0 (level items k))
           ∙ ap (map (force_at items k)) (take-count_up (level items (suc k)) 0 (level items k) (omega (arith, more))));
       rests_next = record {
-        low = subst (λ (l : List Placed). AreLow items (level items (suc k)) l) (sym all) (low-filter items (level items (suc k)) (visible items k));
-        below = subst (λ (l : List Placed). AreBelow (suc k) l) (sym all) (below-later k (up_to items (level items (suc k)) (visible items k)) (below-filter k (λ (p : Placed). nat_le (level items p.0) (level items (suc k))) (visible items k) r.below));
+        low = subst (λ (l : List Indexed). AreLow items (level items (suc k)) l) (sym all) (low-filter items (level items (suc k)) (visible items k));
+        below = subst (λ (l : List Indexed). AreBelow (suc k) l) (sym all) (below-later k (up_to items (level items (suc k)) (visible items k)) (below-filter k (λ (p : Indexed). nat_le (level items p.0) (level items (suc k))) (visible items k) r.below));
         balanced = omega (arith, pushes, pops, r.balanced, deep);
       };
     }

@@ -2,10 +2,11 @@ pub mod LookupLemmas
 pub mod BitLemmas
 pub mod Walk
 pub mod Reports
-pub mod PlacedLemmas
+pub mod IndexedLemmas
 pub mod LevelLemmas
 pub mod OpenLemmas
 pub mod WalkLemmas
+pub mod AllKept
 pub mod UsageLemmas
 pub mod ReportList
 pub mod FieldLemmas

@@ -4,11 +4,11 @@ use Rattle.std.proofs.lemmas.Grind.{common_steps}
 use Rattle.std.proofs.lemmas.List.{map-append, take-map}
 use Rattle.std.proofs.lemmas.List.Elements.{filter-append}
 use Rattle.hidreport_items.specs.declared.item.ItemType.{ItemType}
-use Rattle.hidreport.specs.Kinds.{Placed, is_collection, is_end_collection}
+use Rattle.hidreport.specs.Kinds.{Indexed, is_collection, is_end_collection}
 use Rattle.hidreport.specs.OpenCollections.{depth, is_open, stays_deep, open_at}
 use Rattle.hidreport.specs.Visibility.{before}
 use Rattle.hidreport.proofs.Walk.{before-next, count-next, AreBelow}
-use Rattle.hidreport.proofs.PlacedLemmas.{count_up, length-count_up, count_up-next, take-count_up, take-nil, take-all, filter-both, filter-same-below, and_last, and_true, and_assoc, subst-below}
+use Rattle.hidreport.proofs.IndexedLemmas.{count_up, length-count_up, count_up-next, take-count_up, take-nil, take-all, filter-both, filter-same-below, and_last, and_true, and_assoc, subst-below}
 
 head_of : (a b : ℕ) (xs ys : List ℕ) → a ∷ xs ≡ b ∷ ys → a ≡ b
 head_of a b xs ys h = cc
@@ -16,7 +16,7 @@ head_of a b xs ys h = cc
 tail_of : (a b : ℕ) (xs ys : List ℕ) → a ∷ xs ≡ b ∷ ys → xs ≡ ys
 tail_of a b xs ys h = cc
 
-below-by : (b : Bool) (d : Placed → ℕ) (t a : ℕ) (p : Placed) (ps : List Placed) → d p ≡ a → nat_lt a t ≡ b
+below-by : (b : Bool) (d : Indexed → ℕ) (t a : ℕ) (p : Indexed) (ps : List Indexed) → d p ≡ a → nat_lt a t ≡ b
     → filter (λ q. nat_lt (d q) t) ps ≡ take (t - (a + 1)) ps → filter (λ q. nat_lt (d q) t) (p ∷ ps) ≡ take (t - a) (p ∷ ps)
 below-by true d t a p ps here e rest =
     let more : t - a ≡ suc (t - (a + 1)) = let lt : a < t = grind (arith, common_steps) in omega arith in
@@ -31,7 +31,7 @@ below-by false d t a p ps here e rest =
     ∙ rest ∙ ap (λ n. take n ps) none_later ∙ ap (λ n. take n (p ∷ ps)) (sym none)
 
 -- where numbers count up from a, those below t are the first of them
-below-first : (d : Placed → ℕ) (t a n : ℕ) (ps : List Placed) → map d ps ≡ count_up a n → filter (λ p. nat_lt (d p) t) ps ≡ take (t - a) ps
+below-first : (d : Indexed → ℕ) (t a n : ℕ) (ps : List Indexed) → map d ps ≡ count_up a n → filter (λ p. nat_lt (d p) t) ps ≡ take (t - a) ps
 below-first d t a n [] h = sym (take-nil (t - a))
 below-first d t a zero (p ∷ ps) h = cc
 below-first d t a (suc n) (p ∷ ps) h =
@@ -63,7 +63,7 @@ is_open-new items k =
 
 -- no two open collections have the same depth, and every depth up to that of the place has one; no more were closed than opened
 pub record Stands (items : List ItemType) (k : ℕ) : Type 0 where
-  pub depths : map (λ (p : Placed). depth items p.0) (open_at items k) ≡ count_up 0 (depth items k)
+  pub depths : map (λ (p : Indexed). depth items p.0) (open_at items k) ≡ count_up 0 (depth items k)
   pub balanced : count_by is_end_collection (take k items) ≤ count_by is_collection (take k items)
 
 pub stands-nothing : (items : List ItemType) → Stands items 0
@@ -72,7 +72,7 @@ stands-nothing items = record { depths = refl; balanced = omega arith }
 -- as many are open as the depth says
 pub open-length : (items : List ItemType) (k : ℕ) → Stands items k → length (open_at items k) ≡ depth items k
 open-length items k s =
-    let size : length (map (λ (p : Placed). depth items p.0) (open_at items k)) ≡ length (open_at items k) = grind (arith, common_steps) in
+    let size : length (map (λ (p : Indexed). depth items p.0) (open_at items k)) ≡ length (open_at items k) = grind (arith, common_steps) in
     sym size ∙ ap length s.depths ∙ length-count_up 0 (depth items k)
 
 -- the open collections one item further
@@ -82,9 +82,9 @@ open-next : (items front rest : List ItemType) (x : ItemType) → items ≡ fron
 open-next items front rest x e s =
     let k = length front in
     let below : AreBelow k (before items k) = subst-below k items front (x ∷ rest) refl e in
-    let now : Placed → Bool = λ p. is_collection p.1 && is_open items p.0 k in
-    let next : Placed → Bool = λ p. is_collection p.1 && is_open items p.0 (suc k) in
-    let deep : Placed → Bool = λ p. nat_lt (depth items p.0) (depth items (suc k)) in
+    let now : Indexed → Bool = λ p. is_collection p.1 && is_open items p.0 k in
+    let next : Indexed → Bool = λ p. is_collection p.1 && is_open items p.0 (suc k) in
+    let deep : Indexed → Bool = λ p. nat_lt (depth items p.0) (depth items (suc k)) in
     ap (filter next) (before-next items front rest x e)
     ∙ filter-append next (before items k) ((k, x) ∷ [])
     ∙ ap (λ l. l ++ filter next ((k, x) ∷ [])) (filter-same-below k next (λ p. now p && deep p) (λ p lt. ap (λ b. is_collection p.1 && b) (is_open-next items p.0 k lt) ∙ sym (and_assoc (is_collection p.1) (is_open items p.0 k) (deep p))) (before items k) below)
@@ -108,7 +108,7 @@ plain-next items front rest x e s no_collection no_end =
     ∙ take-all (depth items (suc k)) (open_at items k) (omega (arith, same, open-length items k s)) in (
       all,
       record {
-        depths = ap (map (λ (p : Placed). depth items p.0)) all ∙ s.depths ∙ ap (count_up 0) (sym same);
+        depths = ap (map (λ (p : Indexed). depth items p.0)) all ∙ s.depths ∙ ap (count_up 0) (sym same);
         balanced = omega (arith, begins, ends, s.balanced);
       },
     )
@@ -130,7 +130,7 @@ opened-next items front rest x e s opens no_end =
     ∙ ap (λ l. l ++ (k, x) ∷ []) (take-all (depth items (suc k)) (open_at items k) (omega (arith, deeper, open-length items k s))) in (
       all,
       record {
-        depths = ap (map (λ (p : Placed). depth items p.0)) all ∙ map-append (λ (p : Placed). depth items p.0) (open_at items k) ((k, x) ∷ [])
+        depths = ap (map (λ (p : Indexed). depth items p.0)) all ∙ map-append (λ (p : Indexed). depth items p.0) (open_at items k) ((k, x) ∷ [])
             ∙ ap (λ l. l ++ depth items k ∷ []) s.depths ∙ sym (count_up-next 0 (depth items k) ∙ ap (λ n. count_up 0 (depth items k) ++ n ∷ []) (zero-add (depth items k)))
             ∙ ap (count_up 0) (sym deeper);
         balanced = omega (arith, begins, ends, s.balanced);
@@ -153,7 +153,7 @@ closed-next items front rest x e s no_collection closes deep =
     ∙ append-nil (take (depth items (suc k)) (open_at items k)) in (
       all ∙ ap (λ n. take n (open_at items k)) fewer,
       record {
-        depths = ap (map (λ (p : Placed). depth items p.0)) all ∙ sym (take-map (λ (p : Placed). depth items p.0) (depth items (suc k)) (open_at items k))
+        depths = ap (map (λ (p : Indexed). depth items p.0)) all ∙ sym (take-map (λ (p : Indexed). depth items p.0) (depth items (suc k)) (open_at items k))
             ∙ ap (take (depth items (suc k))) s.depths ∙ take-count_up (depth items (suc k)) 0 (depth items k) (omega (arith, higher));
         balanced = omega (arith, begins, ends, s.balanced, deep);
       },

@@ -9,15 +9,14 @@ use Rattle.hidreport_lists.specs.Itemising.{itemise, as_refusal}
 use Rattle.hidreport_lists.specs.Messages.{grammar_message}
 use Rattle.hidreport_lists.specs.declared.error.ParserError.{ParserError}
 use Rattle.hidreport_lists.specs.declared.error.ParserError.TheVariants as errors
-use Rattle.hidreport.specs.Faults.{MeaningFault, Says, PastBounds, missing_usages, too_many_ends, too_many_pops}
-use Rattle.hidreport.specs.Machine.{Held, fault_in, next_held, unless_fault, step, go_on, nothing_held, walk}
-use Rattle.hidreport.specs.Meaning.{meaning, parse, parse_items, placed, offset_at, refusal_at}
+use Rattle.hidreport.specs.InForce.{force}
+use Rattle.hidreport.specs.MeaningFault.{MeaningFault}
+use Rattle.hidreport.specs.Parser.Machine.{Held, fault_in, next_held, unless_fault, step, go_on, nothing_held, walk}
+use Rattle.hidreport.specs.Meaning.{meaning, parse, parse_items, at_offset, offset_at, refusal_at}
 use Rattle.hidreport.specs.Records.{DescriptorRecord}
-use Rattle.hidreport.specs.State.{IsFaultOf, IsRefusal, refusal_of}
-use Rattle.hidreport.specs.Usages.{missing_page, missing_maximum}
-use Rattle.hidreport.specs.declared.state.Fault.{Fault}
-use Rattle.hidreport.specs.declared.state.Fault.TheVariants as faults
-use Rattle.hidreport.proofs.WalkLemmas.{walk-meaning}
+use Rattle.hidreport.specs.Parser.Refusals.{IsFaultOf, IsRefusal, fault_named}
+use Rattle.hidreport.specs.declared.parser.fault.Fault.{Fault}
+use Rattle.hidreport.proofs.AllKept.{walk-meaning}
 
 -- the items of the entries
 abbrev pub items_of : List Entry → List ItemType
@@ -54,16 +53,16 @@ walked-on entries i e h next lt here stepped =
 -- a fault of an item is the meaning
 pub meaning-fault : (entries : List Entry) (i : ℕ) (e : Entry) (h : Held) (f : MeaningFault) → i < length entries → e ≡ get_or entries i e
     → walk h i (drop i (items_of entries)) ≡ walk nothing_held 0 (items_of entries)
-    → fault_in h e.item ≡ Some f → placed entries (meaning (items_of entries)) ≡ Err (refusal_at e.offset f)
+    → fault_in h e.item ≡ Some f → at_offset entries (meaning (items_of entries)) ≡ Err (refusal_at e.offset f)
 meaning-fault entries i e h f lt here walked fault =
-    ap (placed entries) (meaning-walked entries i h walked ∙ ap (walk h i) (drop-item entries i e lt here)
+    ap (at_offset entries) (meaning-walked entries i h walked ∙ ap (walk h i) (drop-item entries i e lt here)
     ∙ ap (λ o. go_on (unless_fault o (next_held h e.item)) i (λ n. walk n (i + 1) (drop (suc i) (items_of entries)))) fault)
     ∙ ap (λ o. Err (refusal_at o f)) (offset-at entries i e lt here)
 
 -- at the end the meaning is what is held
 pub meaning-end : (entries : List Entry) (i : ℕ) (h : Held) → length entries ≤ i
-    → walk h i (drop i (items_of entries)) ≡ walk nothing_held 0 (items_of entries) → placed entries (meaning (items_of entries)) ≡ Ok h.descriptor
-meaning-end entries i h end walked = ap (placed entries) (meaning-walked entries i h walked ∙ ap (walk h i) (drop-end entries i end))
+    → walk h i (drop i (items_of entries)) ≡ walk nothing_held 0 (items_of entries) → at_offset entries (meaning (items_of entries)) ≡ Ok h.descriptor
+meaning-end entries i h end walked = ap (at_offset entries) (meaning-walked entries i h walked ∙ ap (walk h i) (drop-end entries i end))
 
 -- an error that says a refusal is every answer that is this refusal
 pub refuses-as : {A : Type 0} (e : ParserError) (r : Refusal) (answer : Result A Refusal) → IsRefusal e r → answer ≡ Err r → Refuses e answer
@@ -72,20 +71,19 @@ refuses-as errors.OutOfBounds r answer says is = let same : r ≡ Bounds = cc in
 refuses-as errors.MismatchingReportId r answer says is = let same : r ≡ _ = cc in is ∙ ap Err same
 refuses-as errors.OutOfMemory r answer says is = tt
 
--- the parser's fault, placed, is the answer
-pub refuses-fault : {A : Type 0} (fault : Fault) (offset : ℕ) (e : ParserError) (o : Option MeaningFault) (answer : Result A Refusal)
-    → IsFaultOf fault o → IfSome (refusal_of fault offset) (IsRefusal e) → (refusal_of fault offset ≡ None → e ≡ errors.OutOfMemory)
-    → ((f : MeaningFault) → o ≡ Some f → answer ≡ Err (refusal_at offset f)) → Refuses e answer
-refuses-fault faults.EmptyDescriptor offset e o answer is named memory given = absurd is
-refuses-fault faults.TooManyPops offset e o answer is named memory given = refuses-as e (InvalidAt offset too_many_pops) answer named (given (Says too_many_pops) is)
-refuses-fault faults.MissingUsageMaximum offset e o answer is named memory given = refuses-as e (InvalidAt offset missing_maximum) answer named (given (Says missing_maximum) is)
-refuses-fault faults.MissingUsagePage offset e o answer is named memory given = refuses-as e (InvalidAt offset missing_page) answer named (given (Says missing_page) is)
-refuses-fault faults.MissingUsages offset e o answer is named memory given = refuses-as e (InvalidAt offset missing_usages) answer named (given (Says missing_usages) is)
-refuses-fault faults.TooManyEnds offset e o answer is named memory given = refuses-as e (InvalidAt offset too_many_ends) answer named (given (Says too_many_ends) is)
-refuses-fault faults.OutOfBounds offset e o answer is named memory given = refuses-as e Bounds answer named (given PastBounds is)
-refuses-fault {A} faults.OutOfMemory offset e o answer is named memory given = subst (λ (x : ParserError). Refuses {A = A} x answer) (sym (memory refl)) tt
+-- the parser's fault at its item's offset is the answer
+refuses-named : {A : Type 0} (o : Option MeaningFault) (offset : ℕ) (e : ParserError) (found : Option MeaningFault) (answer : Result A Refusal)
+    → IfSome o (λ f. found ≡ Some f) → IfSome o (λ f. IsRefusal e (refusal_at offset f)) → (o ≡ None → e ≡ errors.OutOfMemory)
+    → ((f : MeaningFault) → found ≡ Some f → answer ≡ Err (refusal_at offset f)) → Refuses e answer
+refuses-named (Some f) offset e found answer is named memory given = refuses-as e (refusal_at offset f) answer named (given f is)
+refuses-named {A} None offset e found answer is named memory given = subst (λ (x : ParserError). Refuses {A = A} x answer) (sym (memory refl)) tt
 
-parse-some : (bytes : List ℕ) → bytes ≢ [] → parse bytes ≡ parse_items (itemise item_of bytes)
+pub refuses-fault : {A : Type 0} (fault : Fault) (offset : ℕ) (e : ParserError) (found : Option MeaningFault) (answer : Result A Refusal)
+    → IsFaultOf fault found → IfSome (fault_named fault) (λ f. IsRefusal e (refusal_at offset f)) → (fault_named fault ≡ None → e ≡ errors.OutOfMemory)
+    → ((f : MeaningFault) → found ≡ Some f → answer ≡ Err (refusal_at offset f)) → Refuses e answer
+refuses-fault fault offset e found answer is named memory given = refuses-named (fault_named fault) offset e found answer is named memory given
+
+parse-some : (bytes : List ℕ) → bytes ≢ [] → parse bytes ≡ parse_items force (itemise item_of bytes)
 parse-some [] some = absurd (some refl)
 parse-some (b ∷ bs) some = refl
 
@@ -101,8 +99,8 @@ err_refuses errors.OutOfBounds r h = let same : r ≡ Bounds = cc in ap Err same
 err_refuses errors.MismatchingReportId r h = let same : r ≡ _ = cc in ap Err same
 err_refuses errors.OutOfMemory r h = tt
 
-grammar-refuses : (e : ParserError) (r : Result (List Entry) (ℕ × ReadFault)) → Refuses e (as_refusal r) → Refuses e (parse_items r)
-grammar-refuses e (Ok entries) h = ok_refuses e entries (parse_items (Ok entries)) h
+grammar-refuses : (e : ParserError) (r : Result (List Entry) (ℕ × ReadFault)) → Refuses e (as_refusal r) → Refuses e (parse_items force r)
+grammar-refuses e (Ok entries) h = ok_refuses e entries (parse_items force (Ok entries)) h
 grammar-refuses e (Err fault) h = err_refuses e (InvalidAt fault.0 (grammar_message fault.1)) h
 
 -- a grammar fault is the answer
@@ -115,5 +113,5 @@ items_ok (Err fault) entries h = cc
 
 -- else the meaning of the items is
 pub parse-meaning : (bytes : List ℕ) (entries : List Entry) → bytes ≢ [] → as_refusal (itemise item_of bytes) ≡ Ok entries
-    → parse bytes ≡ placed entries (meaning (items_of entries))
-parse-meaning bytes entries some h = parse-some bytes some ∙ ap (parse_items) (items_ok (itemise item_of bytes) entries h)
+    → parse bytes ≡ at_offset entries (meaning (items_of entries))
+parse-meaning bytes entries some h = parse-some bytes some ∙ ap (parse_items force) (items_ok (itemise item_of bytes) entries h)

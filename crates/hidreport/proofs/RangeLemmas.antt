@@ -4,7 +4,7 @@ use Rattle.std.specs.Prelude.{◌==◌, slice_get}
 use Rattle.std.proofs.lemmas.Bool.Decides.{nat_tests}
 use Rattle.hidreport.specs.Usages.{make_usage, range_from}
 use Rattle.hidreport.specs.UsageRange.{RangeRecord, HasExactly, last_usage, range_of, usage_within}
-use Rattle.hidreport.specs.declared.usage.Usage.{Usage}
+use Rattle.hidreport.specs.declared.field.usage.Usage.{Usage}
 
 -- the last of a list
 slice_get-last : (x : Usage) (us : List Usage) → slice_get (x ∷ us) (length us) ≡ Some (last_usage x us)

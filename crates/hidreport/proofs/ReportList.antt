@@ -1,6 +1,6 @@
 -- The report with an id by its place in the list.
 use Rattle.std.proofs.Common.{◌≡◌, ℕ, suc, ◌+◌, ◌<◌, ◌≤◌, Bool, true, false, cond, List, [], ◌∷◌, ◌++◌, length, get_or, set, Option, refl, sym, ap, ◌∙◌, arith}
-use Rattle.hidreport.specs.Machine.{added_to, index_in, size_in}
+use Rattle.hidreport.specs.Parser.Machine.{added_to, index_in, size_in}
 use Rattle.hidreport.specs.Making.{same_key}
 use Rattle.hidreport.specs.Places.{id_bits}
 use Rattle.hidreport.specs.Records.{FieldRecord, ReportRecord}

@@ -6,12 +6,13 @@ use Rattle.std.proofs.lemmas.Grind.{common_steps, flat_map-append}
 use Rattle.std.proofs.lemmas.List.{map-append}
 use Rattle.std.proofs.lemmas.List.Elements.{filter-append}
 use Rattle.std.proofs.lemmas.List.Sums.{sum_by-append}
-use Rattle.hidreport.specs.Kinds.{Placed}
-use Rattle.hidreport.specs.Machine.{report_of, reports_of, size_in, first_id, added_to}
+use Rattle.hidreport.specs.Kinds.{Indexed}
+use Rattle.hidreport.specs.Parser.Machine.{report_of, reports_of, size_in, first_id, added_to}
 use Rattle.hidreport.specs.Making.{same_key}
 use Rattle.hidreport.specs.Meaning.{firsts_after}
 use Rattle.hidreport.specs.Places.{id_bits}
 use Rattle.hidreport.specs.Records.{FieldRecord, ReportRecord}
+use Rattle.hidreport.proofs.Walk.{or_false}
 
 -- keys that compare alike are one
 same_key-equal : (a b : Option ℕ) → same_key a b ≡ true → a ≡ b
@@ -37,17 +38,13 @@ is_among x xs = list_any (same_key x) xs
 not_both : {A : Type 0} (b : Bool) → b ≡ true → b ≡ false → A
 not_both b p q = cc
 
-or_cases : (a b : Bool) → (a || b) ≡ false → (a ≡ false) × (b ≡ false)
+pub or_cases : (a b : Bool) → (a || b) ≡ false → (a ≡ false) × (b ≡ false)
 or_cases true b h = cc
 or_cases false b h = (refl, h)
 
 or_right : (a b : Bool) → b ≡ true → (a || b) ≡ true
 or_right true b h = refl
 or_right false b h = h
-
-or_false : (b : Bool) → (b || false) ≡ b
-or_false true = refl
-or_false false = refl
 
 avoids-new : (b : Bool) (y x : Option ℕ) (seen xs : List (Option ℕ)) → same_key y x ≡ b → is_among x seen ≡ false → is_among y seen ≡ true
     → is_among y (firsts_after (x ∷ seen) xs) ≡ false → (b || is_among y (firsts_after (x ∷ seen) xs)) ≡ false
@@ -134,14 +131,14 @@ firsts-next y seen [] = ap (λ d. cond d [] (y ∷ [])) (sym (or_false (is_among
 firsts-next y seen (x ∷ xs) = firsts-next-by (is_among x seen) y x seen xs refl (firsts-next y seen xs) (firsts-next y (x ∷ seen) xs)
 
 -- the items that add to the report with this id
-abbrev pub adding : (Placed → Option ℕ) → Option ℕ → List Placed → List Placed
+abbrev pub adding : (Indexed → Option ℕ) → Option ℕ → List Indexed → List Indexed
 adding key id ms = filter (λ p. same_key (key p) id) ms
 
-sum_by-one : (bits : Placed → ℕ) (m : Placed) → sum_by bits (m ∷ []) ≡ bits m
+sum_by-one : (bits : Indexed → ℕ) (m : Indexed) → sum_by bits (m ∷ []) ≡ bits m
 sum_by-one bits m = grind (arith, common_steps)
 
 -- an item of the report's key extends it
-report-extended : (key : Placed → Option ℕ) (bits : Placed → ℕ) (fields : Placed → List FieldRecord) (ms : List Placed) (m : Placed) (id : Option ℕ)
+report-extended : (key : Indexed → Option ℕ) (bits : Indexed → ℕ) (fields : Indexed → List FieldRecord) (ms : List Indexed) (m : Indexed) (id : Option ℕ)
     → same_key (key m) id ≡ true
     → report_of key bits fields (ms ++ m ∷ []) id
     ≡ record { id = id; size = (report_of key bits fields ms id).size + bits m; fields = (report_of key bits fields ms id).fields ++ fields m }
@@ -156,7 +153,7 @@ report-extended key bits fields ms m id same =
     ∙ ap (λ l. record { id = id; size = (id_bits id + sum_by bits (adding key id ms)) + bits m; fields = l }) parts
 
 -- another item leaves it
-report-other : (key : Placed → Option ℕ) (bits : Placed → ℕ) (fields : Placed → List FieldRecord) (ms : List Placed) (m : Placed) (id : Option ℕ)
+report-other : (key : Indexed → Option ℕ) (bits : Indexed → ℕ) (fields : Indexed → List FieldRecord) (ms : List Indexed) (m : Indexed) (id : Option ℕ)
     → same_key (key m) id ≡ false → report_of key bits fields (ms ++ m ∷ []) id ≡ report_of key bits fields ms id
 report-other key bits fields ms m id other =
     let all : adding key id (ms ++ m ∷ []) ≡ adding key id ms =
@@ -164,14 +161,14 @@ report-other key bits fields ms m id other =
     ap (λ l. record { id = id; size = id_bits id + sum_by bits l; fields = flat_map fields l }) all
 
 -- no item adds to a report that isn't there
-adding-none : (key : Placed → Option ℕ) (id : Option ℕ) (ms : List Placed) → is_among id (map key ms) ≡ false → adding key id ms ≡ []
+adding-none : (key : Indexed → Option ℕ) (id : Option ℕ) (ms : List Indexed) → is_among id (map key ms) ≡ false → adding key id ms ≡ []
 adding-none key id [] n = refl
 adding-none key id (m ∷ ms) n =
     let both = or_cases (same_key id (key m)) (is_among id (map key ms)) n in
     ap (λ b. cond b (m ∷ adding key id ms) (adding key id ms)) (same_key-sym (key m) id ∙ both.0) ∙ adding-none key id ms both.1
 
 -- where the id isn't among these keys their reports stay, and the new one stands behind them
-absent : (key : Placed → Option ℕ) (bits : Placed → ℕ) (fields : Placed → List FieldRecord) (ms : List Placed) (m : Placed) (ks : List (Option ℕ))
+absent : (key : Indexed → Option ℕ) (bits : Indexed → ℕ) (fields : Indexed → List FieldRecord) (ms : List Indexed) (m : Indexed) (ks : List (Option ℕ))
     → is_among (key m) ks ≡ false
     → map (report_of key bits fields (ms ++ m ∷ [])) ks ++ record { id = key m; size = id_bits (key m) + bits m; fields = fields m } ∷ []
     ≡ added_to (key m) (bits m) (fields m) (map (report_of key bits fields ms) ks)
@@ -187,7 +184,7 @@ absent key bits fields ms m (k ∷ ks) n =
     (sym (same_key-sym k (key m) ∙ both.0))
 
 -- reports of other keys stay
-others : (key : Placed → Option ℕ) (bits : Placed → ℕ) (fields : Placed → List FieldRecord) (ms : List Placed) (m : Placed) (ks : List (Option ℕ))
+others : (key : Indexed → Option ℕ) (bits : Indexed → ℕ) (fields : Indexed → List FieldRecord) (ms : List Indexed) (m : Indexed) (ks : List (Option ℕ))
     → is_among (key m) ks ≡ false → map (report_of key bits fields (ms ++ m ∷ [])) ks ≡ map (report_of key bits fields ms) ks
 others key bits fields ms m [] n = refl
 others key bits fields ms m (k ∷ ks) n =
@@ -195,7 +192,7 @@ others key bits fields ms m (k ∷ ks) n =
     ap (λ (r : ReportRecord). r ∷ map (report_of key bits fields (ms ++ m ∷ [])) ks) (report-other key bits fields ms m k both.0)
     ∙ ap (λ l. report_of key bits fields ms k ∷ l) (others key bits fields ms m ks both.1)
 
-present-by : (b : Bool) (key : Placed → Option ℕ) (bits : Placed → ℕ) (fields : Placed → List FieldRecord) (ms : List Placed) (m : Placed) (k : Option ℕ) (ks : List (Option ℕ))
+present-by : (b : Bool) (key : Indexed → Option ℕ) (bits : Indexed → ℕ) (fields : Indexed → List FieldRecord) (ms : List Indexed) (m : Indexed) (k : Option ℕ) (ks : List (Option ℕ))
     → same_key (key m) k ≡ b → Distinct (k ∷ ks) → (b || is_among (key m) ks) ≡ true
     → (is_among (key m) ks ≡ true → map (report_of key bits fields (ms ++ m ∷ [])) ks ≡ added_to (key m) (bits m) (fields m) (map (report_of key bits fields ms) ks))
     → map (report_of key bits fields (ms ++ m ∷ [])) (k ∷ ks) ≡ added_to (key m) (bits m) (fields m) (map (report_of key bits fields ms) (k ∷ ks))
@@ -215,14 +212,14 @@ present-by false key bits fields ms m k ks s d n rest =
     (sym (same_key-sym k (key m) ∙ s))
 
 -- where it is among them, just its report is extended
-present : (key : Placed → Option ℕ) (bits : Placed → ℕ) (fields : Placed → List FieldRecord) (ms : List Placed) (m : Placed) (ks : List (Option ℕ))
+present : (key : Indexed → Option ℕ) (bits : Indexed → ℕ) (fields : Indexed → List FieldRecord) (ms : List Indexed) (m : Indexed) (ks : List (Option ℕ))
     → Distinct ks → is_among (key m) ks ≡ true
     → map (report_of key bits fields (ms ++ m ∷ [])) ks ≡ added_to (key m) (bits m) (fields m) (map (report_of key bits fields ms) ks)
 present key bits fields ms m [] d n = cc
 present key bits fields ms m (k ∷ ks) d n =
     present-by (same_key (key m) k) key bits fields ms m k ks refl d n (present key bits fields ms m ks d.1)
 
-reports-next-by : (b : Bool) (key : Placed → Option ℕ) (bits : Placed → ℕ) (fields : Placed → List FieldRecord) (ms : List Placed) (m : Placed)
+reports-next-by : (b : Bool) (key : Indexed → Option ℕ) (bits : Indexed → ℕ) (fields : Indexed → List FieldRecord) (ms : List Indexed) (m : Indexed)
     → is_among (key m) (map key ms) ≡ b
     → map (report_of key bits fields (ms ++ m ∷ [])) (firsts_after [] (map key ms) ++ cond b [] (key m ∷ [])) ≡ added_to (key m) (bits m) (fields m) (reports_of key bits fields ms)
 reports-next-by true key bits fields ms m e =
@@ -241,13 +238,13 @@ reports-next-by false key bits fields ms m e =
     ∙ absent key bits fields ms m ks (listed (key m) [] (map key ms) refl ∙ e)
 
 -- the reports behind one more item that makes fields
-pub reports-next : (key : Placed → Option ℕ) (bits : Placed → ℕ) (fields : Placed → List FieldRecord) (ms : List Placed) (m : Placed)
+pub reports-next : (key : Indexed → Option ℕ) (bits : Indexed → ℕ) (fields : Indexed → List FieldRecord) (ms : List Indexed) (m : Indexed)
     → reports_of key bits fields (ms ++ m ∷ []) ≡ added_to (key m) (bits m) (fields m) (reports_of key bits fields ms)
 reports-next key bits fields ms m =
     ap (map (report_of key bits fields (ms ++ m ∷ []))) (ap (firsts_after []) (map-append key ms (m ∷ [])) ∙ firsts-next (key m) [] (map key ms))
     ∙ reports-next-by (is_among (key m) (map key ms)) key bits fields ms m refl
 
-size-at : (b : Bool) (key : Placed → Option ℕ) (bits : Placed → ℕ) (fields : Placed → List FieldRecord) (ms : List Placed) (id k : Option ℕ) (ks : List (Option ℕ))
+size-at : (b : Bool) (key : Indexed → Option ℕ) (bits : Indexed → ℕ) (fields : Indexed → List FieldRecord) (ms : List Indexed) (id k : Option ℕ) (ks : List (Option ℕ))
     → same_key id k ≡ b → ((b || is_among id ks) ≡ false → adding key id ms ≡ [])
     → ((is_among id ks ≡ false → adding key id ms ≡ []) → size_in id (map (report_of key bits fields ms) ks) ≡ (report_of key bits fields ms id).size)
     → size_in id (map (report_of key bits fields ms) (k ∷ ks)) ≡ (report_of key bits fields ms id).size
@@ -257,18 +254,18 @@ size-at true key bits fields ms id k ks s none rest =
 size-at false key bits fields ms id k ks s none rest =
     ap (λ b. cond b (report_of key bits fields ms k).size (size_in id (map (report_of key bits fields ms) ks))) (same_key-sym k id ∙ s) ∙ rest none
 
-size-by : (key : Placed → Option ℕ) (bits : Placed → ℕ) (fields : Placed → List FieldRecord) (ms : List Placed) (id : Option ℕ) (ks : List (Option ℕ))
+size-by : (key : Indexed → Option ℕ) (bits : Indexed → ℕ) (fields : Indexed → List FieldRecord) (ms : List Indexed) (id : Option ℕ) (ks : List (Option ℕ))
     → (is_among id ks ≡ false → adding key id ms ≡ []) → size_in id (map (report_of key bits fields ms) ks) ≡ (report_of key bits fields ms id).size
 size-by key bits fields ms id [] none = sym (ap (λ l. id_bits id + sum_by bits l) (none refl) ∙ add-zero (id_bits id))
 size-by key bits fields ms id (k ∷ ks) none = size-at (same_key id k) key bits fields ms id k ks refl none (size-by key bits fields ms id ks)
 
 -- where the report with this id ends so far
-pub size-in_reports : (key : Placed → Option ℕ) (bits : Placed → ℕ) (fields : Placed → List FieldRecord) (ms : List Placed) (id : Option ℕ)
+pub size-in_reports : (key : Indexed → Option ℕ) (bits : Indexed → ℕ) (fields : Indexed → List FieldRecord) (ms : List Indexed) (id : Option ℕ)
     → size_in id (reports_of key bits fields ms) ≡ (report_of key bits fields ms id).size
 size-in_reports key bits fields ms id =
     size-by key bits fields ms id (firsts_after [] (map key ms)) (λ n. adding-none key id ms (sym (listed id [] (map key ms) refl) ∙ n))
 
 -- the first report is that of the first item
-pub first-of_reports : (key : Placed → Option ℕ) (bits : Placed → ℕ) (fields : Placed → List FieldRecord) (ms : List Placed) (m : Placed)
+pub first-of_reports : (key : Indexed → Option ℕ) (bits : Indexed → ℕ) (fields : Indexed → List FieldRecord) (ms : List Indexed) (m : Indexed)
     → first_id (reports_of key bits fields (m ∷ ms)) ≡ key m
 first-of_reports key bits fields ms m = refl

@@ -6,18 +6,19 @@ use Rattle.std.proofs.lemmas.Grind.{common_steps}
 use Rattle.hidreport_items.specs.declared.global.GlobalItem.TheVariants as global
 use Rattle.hidreport_items.specs.declared.item.ItemType.{ItemType}
 use Rattle.hidreport_items.specs.declared.item.ItemType.TheVariants as item
-use Rattle.hidreport.specs.Faults.{MeaningFault}
-use Rattle.hidreport.specs.InForce.{Force}
+use Rattle.hidreport.specs.MeaningFault.{MeaningFault}
+use Rattle.hidreport.specs.InForce.{Force, force}
 use Rattle.hidreport.specs.Kinds.{is_main, is_push, is_pop}
-use Rattle.hidreport.specs.Machine.{Held, step, go_on, last_force, next_force, nothing_held, walk}
+use Rattle.hidreport.specs.Parser.Machine.{Held, step, go_on, last_force, next_force, nothing_held, walk}
 use Rattle.hidreport_items.specs.Spelling.{item_of}
 use Rattle.hidreport_lists.specs.Entry.{Entry}
 use Rattle.hidreport_lists.specs.Itemising.{itemise}
-use Rattle.hidreport.specs.Meaning.{meaning, parse, parse_items, placed}
+use Rattle.hidreport.specs.Meaning.{meaning, parse, parse_items, at_offset}
 use Rattle.hidreport.specs.Records.{DescriptorRecord}
 use Rattle.hidreport.specs.Segments.{IsMatched, with_segment, moved}
 use Rattle.hidreport.proofs.DataLemmas.{quiet, step-push, step-pop, last_force-end, all-but-last}
-use Rattle.hidreport.proofs.WalkLemmas.{walk-meaning}
+use Rattle.hidreport.proofs.Reports.{or_cases}
+use Rattle.hidreport.proofs.AllKept.{walk-meaning}
 
 abbrev pub Answer : Type 0
 Answer = Result DescriptorRecord (ℕ × MeaningFault)
@@ -62,17 +63,13 @@ front-kept (x ∷ xs) more rest n same h k = front-by (step h x) h n k x xs more
 
 -- what is held inside a segment: other values in force, and more kept
 abbrev pub inside : Held → Force → List Force → Held
-inside h f ts = record h { force = f; saved = (h.saved ++ h.force ∷ []) ++ ts }
+inside h f ts = record h { force = f; kept = (h.kept ++ h.force ∷ []) ++ ts }
 
 -- what holds of the items up to the segment's Pop, with so many Pushes open inside it
 pub record Closes (n : ℕ) (xs : List ItemType) : Type 0 where
   pub idle : list_any is_main xs ≡ false
   pub within : (m : ℕ) → count_by is_pop (take m xs) ≤ n + count_by is_push (take m xs)
   pub closed : count_by is_pop xs ≡ n + count_by is_push xs
-
-idle-parts : (a b : Bool) → (a || b) ≡ false → (a ≡ false) × (b ≡ false)
-idle-parts true b h = cc
-idle-parts false b h = (refl, h)
 
 abbrev pub one_if : Bool → ℕ
 one_if b = cond b 1 0
@@ -84,10 +81,10 @@ plain-inside : (h : Held) (x : ItemType) → is_main x ≡ false → is_push x �
 plain-inside h (item.Main y) a b c = cc
 plain-inside h (item.Global global.Push) a b c = cc
 plain-inside h (item.Global global.Pop) a b c = cc
-plain-inside h (item.Global g) a b c = quiet h (next_force h.force (item.Global g)) h.saved
-plain-inside h (item.Local y) a b c = quiet h (next_force h.force (item.Local y)) h.saved
-plain-inside h item.Long a b c = quiet h (next_force h.force item.Long) h.saved
-plain-inside h item.Reserved a b c = quiet h (next_force h.force item.Reserved) h.saved
+plain-inside h (item.Global g) a b c = quiet h (next_force h.force (item.Global g)) h.kept
+plain-inside h (item.Local y) a b c = quiet h (next_force h.force (item.Local y)) h.kept
+plain-inside h item.Long a b c = quiet h (next_force h.force item.Long) h.kept
+plain-inside h item.Reserved a b c = quiet h (next_force h.force item.Reserved) h.kept
 
 is-push : (x : ItemType) → is_push x ≡ true → x ≡ item.Global global.Push
 is-push (item.Global global.Push) e = refl
@@ -110,7 +107,7 @@ is-pop item.Reserved e = cc
 -- the conditions on the rest, behind one item
 closes-next : (n m : ℕ) (x : ItemType) (xs : List ItemType) → Closes n (x ∷ xs) → m + cond (is_pop x) 1 0 ≡ n + cond (is_push x) 1 0 → Closes m xs
 closes-next n m x xs c e = record {
-  idle = (idle-parts (is_main x) (list_any is_main xs) c.idle).1;
+  idle = (or_cases (is_main x) (list_any is_main xs) c.idle).1;
   within = λ i. omega (arith, c.within (suc i), count-cons is_pop x (take i xs), count-cons is_push x (take i xs), e);
   closed = omega (arith, c.closed, count-cons is_pop x xs, count-cons is_push x xs, e);
 }
@@ -133,44 +130,44 @@ InsideGoesOn h n xs rest = (f : Force) (ts : List Force) (k : ℕ) → length ts
 inside-end : (h : Held) (f : Force) (ts : List Force) (k n : ℕ) (rest : List ItemType) → length ts ≡ n → Closes n [] → walk (inside h f ts) k (item.Global global.Pop ∷ rest) ≡ walk h (k + 0 + 1) rest
 inside-end h f ts k n rest size c =
     let none : ts ≡ [] = none-left ts (omega (arith, size, c.closed)) in
-    let base = h.saved ++ h.force ∷ [] in
-    let alone : inside h f ts ≡ record h { force = f; saved = base } = ap (λ (l : List Force). record h { force = f; saved = l }) (ap (λ l. base ++ l) none ∙ append-nil base) in
-    let some : 0 < length base = let s : length base ≡ suc (length h.saved) = grind (arith, common_steps) in omega (arith, s) in
-    let back : step (record h { force = f; saved = base }) (item.Global global.Pop) ≡ Ok h =
-    step-pop (record h { force = f; saved = base }) some
-    ∙ ap (λ (g : Force). Ok (record h { force = g; saved = take (length base - 1) base })) (last_force-end f h.force h.saved)
-    ∙ ap (λ (l : List Force). Ok (record h { saved = l })) (all-but-last h.force h.saved) in
-    ap (λ (g : Held). walk g k (item.Global global.Pop ∷ rest)) alone ∙ step-ok (record h { force = f; saved = base }) h k (item.Global global.Pop) rest back
+    let base = h.kept ++ h.force ∷ [] in
+    let alone : inside h f ts ≡ record h { force = f; kept = base } = ap (λ (l : List Force). record h { force = f; kept = l }) (ap (λ l. base ++ l) none ∙ append-nil base) in
+    let some : 0 < length base = let s : length base ≡ suc (length h.kept) = grind (arith, common_steps) in omega (arith, s) in
+    let back : step (record h { force = f; kept = base }) (item.Global global.Pop) ≡ Ok h =
+    step-pop (record h { force = f; kept = base }) some
+    ∙ ap (λ (g : Force). Ok (record h { force = g; kept = take (length base - 1) base })) (last_force-end f h.force h.kept)
+    ∙ ap (λ (l : List Force). Ok (record h { kept = l })) (all-but-last h.force h.kept) in
+    ap (λ (g : Held). walk g k (item.Global global.Pop ∷ rest)) alone ∙ step-ok (record h { force = f; kept = base }) h k (item.Global global.Pop) rest back
     ∙ ap (λ p. walk h p rest) (let p : k + 1 ≡ k + 0 + 1 = omega arith in p)
 
 inside-by : (a b : Bool) (h : Held) (f : Force) (ts : List Force) (k n : ℕ) (x : ItemType) (xs rest : List ItemType) → is_push x ≡ a → is_pop x ≡ b → length ts ≡ n → Closes n (x ∷ xs)
     → ((m : ℕ) → InsideGoesOn h m xs rest) → walk (inside h f ts) k (x ∷ (xs ++ (item.Global global.Pop ∷ rest))) ≡ walk h (k + suc (length xs) + 1) rest
 inside-by true b h f ts k n x xs rest push pop size c later =
-    let base = h.saved ++ h.force ∷ [] in
+    let base = h.kept ++ h.force ∷ [] in
     let no_pop : is_pop x ≡ false = ap is_pop (is-push x push) in
     let stepped : step (inside h f ts) x ≡ Ok (inside h f (ts ++ f ∷ [])) =
-    ap (step (inside h f ts)) (is-push x push) ∙ step-push (inside h f ts) ∙ ap (λ (l : List Force). Ok (record h { force = f; saved = l })) (append_assoc base ts (f ∷ [])) in
+    ap (step (inside h f ts)) (is-push x push) ∙ step-push (inside h f ts) ∙ ap (λ (l : List Force). Ok (record h { force = f; kept = l })) (append_assoc base ts (f ∷ [])) in
     let longer : length (ts ++ f ∷ []) ≡ suc n = let s : length (ts ++ f ∷ []) ≡ suc (length ts) = grind (arith, common_steps) in omega (arith, s, size) in
     let next : Closes (suc n) xs = closes-next n (suc n) x xs c (omega (arith, ap one_if push, ap one_if no_pop)) in
     step-ok (inside h f ts) (inside h f (ts ++ f ∷ [])) k x (xs ++ (item.Global global.Pop ∷ rest)) stepped
     ∙ later (suc n) f (ts ++ f ∷ []) (k + 1) longer next
     ∙ ap (λ p. walk h p rest) (let p : k + 1 + length xs + 1 ≡ k + suc (length xs) + 1 = omega arith in p)
 inside-by false true h f ts k n x xs rest push pop size c later =
-    let base = h.saved ++ h.force ∷ [] in
+    let base = h.kept ++ h.force ∷ [] in
     let open_inside : 0 < n = omega (arith, c.within 1, count-cons is_pop x (take 0 xs), count-cons is_push x (take 0 xs), ap one_if push, ap one_if pop) in
     let some : 0 < length (base ++ ts) = let s : length (base ++ ts) ≡ length base + length ts = grind (arith, common_steps) in omega (arith, s, size, open_inside) in
     let g = last_force f (base ++ ts) in
     let fewer = take (length ts - 1) ts in
     let stepped : step (inside h f ts) x ≡ Ok (inside h g fewer) =
     ap (step (inside h f ts)) (is-pop x pop) ∙ step-pop (inside h f ts) some
-    ∙ ap (λ (l : List Force). Ok (record h { force = g; saved = l })) (take-kept base ts (omega (arith, size, open_inside))) in
+    ∙ ap (λ (l : List Force). Ok (record h { force = g; kept = l })) (take-kept base ts (omega (arith, size, open_inside))) in
     let shorter : length fewer ≡ n - 1 = omega (arith, length-less ts, size) in
     let next : Closes (n - 1) xs = closes-next n (n - 1) x xs c (omega (arith, ap one_if push, ap one_if pop, open_inside)) in
     step-ok (inside h f ts) (inside h g fewer) k x (xs ++ (item.Global global.Pop ∷ rest)) stepped
     ∙ later (n - 1) g fewer (k + 1) shorter next
     ∙ ap (λ p. walk h p rest) (let p : k + 1 + length xs + 1 ≡ k + suc (length xs) + 1 = omega arith in p)
 inside-by false false h f ts k n x xs rest push pop size c later =
-    let plain : is_main x ≡ false = (idle-parts (is_main x) (list_any is_main xs) c.idle).0 in
+    let plain : is_main x ≡ false = (or_cases (is_main x) (list_any is_main xs) c.idle).0 in
     let next : Closes n xs = closes-next n n x xs c (omega (arith, ap one_if push, ap one_if pop)) in
     step-ok (inside h f ts) (inside h (next_force f x) ts) k x (xs ++ (item.Global global.Pop ∷ rest)) (plain-inside (inside h f ts) x plain push pop)
     ∙ later n (next_force f x) ts (k + 1) size next
@@ -184,9 +181,9 @@ inside-on h (x ∷ xs) rest n f ts k size c = inside-by (is_push x) (is_pop x) h
 segment-kept : (xs rest : List ItemType) → IsMatched xs → (h : Held) (k : ℕ)
     → walk h k (item.Global global.Push ∷ (xs ++ (item.Global global.Pop ∷ rest))) ≡ walk h (k + (length xs + 2)) rest
 segment-kept xs rest m h k =
-    let base = h.saved ++ h.force ∷ [] in
+    let base = h.kept ++ h.force ∷ [] in
     let stepped : step h (item.Global global.Push) ≡ Ok (inside h h.force []) =
-    step-push h ∙ ap (λ (l : List Force). Ok (record h { saved = l })) (sym (append-nil base)) in
+    step-push h ∙ ap (λ (l : List Force). Ok (record h { kept = l })) (sym (append-nil base)) in
     let c : Closes 0 xs = record { idle = m.idle; within = λ i. omega (arith, m.within i); closed = omega (arith, m.closed) } in
     step-ok h (inside h h.force []) k (item.Global global.Push) (xs ++ (item.Global global.Pop ∷ rest)) stepped
     ∙ inside-on h xs rest 0 h.force [] (k + 1) refl c
@@ -203,7 +200,7 @@ meaning-struck front xs rest m =
 
 -- the same of a descriptor's bytes
 pub parse-struck : (bytes : List ℕ) (entries : List Entry) (front xs rest : List ItemType) → itemise item_of bytes ≡ Ok entries → IsMatched xs
-    → map (λ (e : Entry). e.item) entries ≡ with_segment front xs rest → parse bytes ≡ placed entries (moved (length front) (length xs + 2) (meaning (front ++ rest)))
+    → map (λ (e : Entry). e.item) entries ≡ with_segment front xs rest → parse bytes ≡ at_offset entries (moved (length front) (length xs + 2) (meaning (front ++ rest)))
 parse-struck [] entries front xs rest e m is = cc
 parse-struck (b ∷ bs) entries front xs rest e m is =
-    ap parse_items e ∙ ap (λ (l : List ItemType). placed entries (meaning l)) is ∙ ap (placed entries) (meaning-struck front xs rest m)
+    ap (parse_items force) e ∙ ap (λ (l : List ItemType). at_offset entries (meaning l)) is ∙ ap (at_offset entries) (meaning-struck front xs rest m)

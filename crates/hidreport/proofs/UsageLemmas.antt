@@ -3,30 +3,30 @@ use Rattle.std.proofs.Common.{◌≡◌, ℕ, zero, suc, ◌+◌, ◌-◌, ◌%�
 use Rattle.hidreport_items.specs.declared.local.LocalItem.{LocalItem}
 use Rattle.hidreport_items.specs.declared.local.LocalItem.TheVariants as local
 use Rattle.hidreport.specs.Fields.{usage_at}
-use Rattle.hidreport.specs.InForce.{first_of}
-use Rattle.hidreport.specs.State.{one_usage, usage_on}
+use Rattle.hidreport.specs.MeaningFault.{MeaningFault}
+use Rattle.hidreport.specs.Parser.Usages.{one_usage, usage_on}
 use Rattle.hidreport.specs.Usages.{single_usages, before_usages, on_page, make_usage, range_from}
-use Rattle.hidreport.specs.declared.usage.Usage.{Usage}
+use Rattle.hidreport.specs.declared.field.usage.Usage.{Usage}
 use Rattle.hidreport.proofs.RangeLemmas.{length-range_from}
 
 -- these usages, and then the others
-abbrev pub usages_with : List Usage → Result (List Usage) (List ℕ) → Result (List Usage) (List ℕ)
+abbrev pub usages_with : List Usage → Result (List Usage) MeaningFault → Result (List Usage) MeaningFault
 usages_with us (Ok vs) = Ok (us ++ vs)
-usages_with us (Err message) = Err message
+usages_with us (Err fault) = Err fault
 
-pub usages_with-none : (r : Result (List Usage) (List ℕ)) → usages_with [] r ≡ r
+pub usages_with-none : (r : Result (List Usage) MeaningFault) → usages_with [] r ≡ r
 usages_with-none (Ok vs) = refl
-usages_with-none (Err message) = refl
+usages_with-none (Err fault) = refl
 
-pub usages_with-more : (us : List Usage) (u : Usage) (r : Result (List Usage) (List ℕ)) → usages_with (us ++ u ∷ []) r ≡ usages_with us (usages_with (u ∷ []) r)
+pub usages_with-more : (us : List Usage) (u : Usage) (r : Result (List Usage) MeaningFault) → usages_with (us ++ u ∷ []) r ≡ usages_with us (usages_with (u ∷ []) r)
 usages_with-more us u (Ok vs) = ap Ok (append_assoc us (u ∷ []) vs)
-usages_with-more us u (Err message) = refl
+usages_with-more us u (Err fault) = refl
 
-before_is_with : (u : Usage) (r : Result (List Usage) (List ℕ)) → before_usages u r ≡ usages_with (u ∷ []) r
+before_is_with : (u : Usage) (r : Result (List Usage) MeaningFault) → before_usages u r ≡ usages_with (u ∷ []) r
 before_is_with u (Ok us) = refl
-before_is_with u (Err message) = refl
+before_is_with u (Err fault) = refl
 
-on_page_ok : (page : Option ℕ) (id : ℕ) (o : Option Usage) (r : Result (List Usage) (List ℕ)) → usage_on page id ≡ Ok o → on_page page id r ≡ usages_with (option_to_list o) r
+on_page_ok : (page : Option ℕ) (id : ℕ) (o : Option Usage) (r : Result (List Usage) MeaningFault) → usage_on page id ≡ Ok o → on_page page id r ≡ usages_with (option_to_list o) r
 on_page_ok None id o r h = cc
 on_page_ok (Some p) id o r h =
     let same : Some (make_usage p id) ≡ o = cc in
@@ -54,10 +54,6 @@ range_from-next page low zero = ap (λ k. make_usage page (k % 65536) ∷ []) (l
 range_from-next page low (suc n) =
     ap (λ l. make_usage page (low % 65536) ∷ l) (range_from-next page (low + 1) n)
     ∙ ap (λ k. make_usage page (low % 65536) ∷ (range_from page (low + 1) n ++ make_usage page (k % 65536) ∷ [])) (let e : low + 1 + n ≡ low + suc n = omega arith in e)
-
-pub first_of-assoc : {A : Type 0} (a b c : Option A) → first_of (first_of a b) c ≡ first_of a (first_of b c)
-first_of-assoc None b c = refl
-first_of-assoc (Some x) b c = refl
 
 -- usage c of those from a minimum to a maximum, where there are some
 pub usage_at-list : (page low high c : ℕ) → 0 < length (range_from page low (high + 1 - low))

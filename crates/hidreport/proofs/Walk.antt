@@ -9,9 +9,9 @@ use Rattle.std.proofs.lemmas.List.Sums.{sum_by-append}
 use Rattle.hidreport_items.specs.declared.item.ItemType.{ItemType}
 use Rattle.hidreport_items.specs.declared.item.ItemType.TheVariants as item
 use Rattle.hidreport_items.specs.declared.local.LocalItem.{LocalItem}
-use Rattle.hidreport.specs.InForce.{in_force, last_value, unended_locals, first_of}
-use Rattle.hidreport.specs.Kinds.{Placed, is_main, local_of, usage_page_of, logical_minimum_of, logical_maximum_of, physical_minimum_of, physical_maximum_of, unit_exponent_of, unit_of, report_size_of, report_id_of, report_count_of}
-use Rattle.hidreport.specs.Machine.{next_force}
+use Rattle.hidreport.specs.InForce.{Force, last_value, unended_locals, first_of}
+use Rattle.hidreport.specs.Kinds.{Indexed, is_main, local_of, usage_page_of, logical_minimum_of, logical_maximum_of, physical_minimum_of, physical_maximum_of, unit_exponent_of, unit_of, report_size_of, report_id_of, report_count_of}
+use Rattle.hidreport.specs.Parser.Machine.{next_force}
 use Rattle.hidreport.specs.Visibility.{before}
 
 pub enumerate_from-append : {A : Type 0} (n : ℕ) (xs ys : List A) → enumerate_from n (xs ++ ys) ≡ enumerate_from n xs ++ enumerate_from (n + length xs) ys
@@ -49,7 +49,7 @@ count-next p items front rest x e =
     ap (count_by p) next ∙ sum_by-append (λ y. cond (p y) 1 0) front (x ∷ []) ∙ ap (λ n. count_by p front + n) one ∙ ap (λ l. count_by p l + cond (p x) 1 0) (sym now)
 
 -- the last item's value counts
-first_of-none : {A : Type 0} (o : Option A) → first_of o None ≡ o
+pub first_of-none : {A : Type 0} (o : Option A) → first_of o None ≡ o
 first_of-none None = refl
 first_of-none (Some x) = refl
 
@@ -57,12 +57,12 @@ first_of-assoc : {A : Type 0} (a b c : Option A) → first_of (first_of a b) c �
 first_of-assoc None b c = refl
 first_of-assoc (Some x) b c = refl
 
-last_value-next : {A : Type 0} (tag : ItemType → Option A) (ps : List Placed) (p : Placed) → last_value tag (ps ++ p ∷ []) ≡ first_of (tag p.1) (last_value tag ps)
+last_value-next : {A : Type 0} (tag : ItemType → Option A) (ps : List Indexed) (p : Indexed) → last_value tag (ps ++ p ∷ []) ≡ first_of (tag p.1) (last_value tag ps)
 last_value-next tag [] p = sym (first_of-none (tag p.1))
 last_value-next tag (q ∷ ps) p = ap (λ o. first_of o (tag q.1)) (last_value-next tag ps p) ∙ first_of-assoc (tag p.1) (last_value tag ps) (tag q.1)
 
 -- all places of the list are below k
-abbrev pub AreBelow : ℕ → List Placed → Type 0
+abbrev pub AreBelow : ℕ → List Indexed → Type 0
 AreBelow k [] = Unit {0}
 AreBelow k (p ∷ ps) = (p.0 < k) × AreBelow k ps
 
@@ -71,46 +71,46 @@ enumerated-below n m [] h = tt
 enumerated-below n m (x ∷ xs) h = (omega arith, enumerated-below (n + 1) m xs (omega arith))
 
 -- a main item stands behind p
-abbrev pub is_ended : List Placed → Placed → Bool
-is_ended ps p = list_any (λ (q : Placed). is_main q.1 && nat_lt p.0 q.0) ps
+abbrev pub is_ended : List Indexed → Indexed → Bool
+is_ended ps p = list_any (λ (q : Indexed). is_main q.1 && nat_lt p.0 q.0) ps
 
 and_false : (b : Bool) → (b && false) ≡ false
 and_false true = refl
 and_false false = refl
 
-not_behind : (k : ℕ) (x : ItemType) (ps : List Placed) → AreBelow k ps → is_ended ps (k, x) ≡ false
+not_behind : (k : ℕ) (x : ItemType) (ps : List Indexed) → AreBelow k ps → is_ended ps (k, x) ≡ false
 not_behind k x [] h = refl
 not_behind k x (q ∷ ps) h =
     let here : nat_lt k q.0 ≡ false = grind (arith, common_steps) in
     ap (λ b. (is_main q.1 && b) || is_ended ps (k, x)) here ∙ ap (λ b. b || is_ended ps (k, x)) (and_false (is_main q.1)) ∙ not_behind k x ps h.1
 
-or_false : (b : Bool) → (b || false) ≡ b
+pub or_false : (b : Bool) → (b || false) ≡ b
 or_false true = refl
 or_false false = refl
 
 -- the locals behind one more item that is no main item
-is_ended-plain : (ps : List Placed) (k : ℕ) (x : ItemType) (p : Placed) → is_main x ≡ false → is_ended (ps ++ (k, x) ∷ []) p ≡ is_ended ps p
+is_ended-plain : (ps : List Indexed) (k : ℕ) (x : ItemType) (p : Indexed) → is_main x ≡ false → is_ended (ps ++ (k, x) ∷ []) p ≡ is_ended ps p
 is_ended-plain ps k x p plain =
-    list_any-append (λ (q : Placed). is_main q.1 && nat_lt p.0 q.0) ps ((k, x) ∷ [])
+    list_any-append (λ (q : Indexed). is_main q.1 && nat_lt p.0 q.0) ps ((k, x) ∷ [])
     ∙ ap (λ b. is_ended ps p || ((b && nat_lt p.0 k) || false)) plain ∙ or_false (is_ended ps p)
 
 -- the items that no main item of the list stands behind
-abbrev pub unended : List Placed → List Placed → List Placed
-unended qs ps = filter (λ (p : Placed). not (is_ended qs p)) ps
+abbrev pub unended : List Indexed → List Indexed → List Indexed
+unended qs ps = filter (λ (p : Indexed). not (is_ended qs p)) ps
 
 one_local : (o : Option LocalItem) → filter_map (λ (q : Option LocalItem). q) (o ∷ []) ≡ option_to_list o
 one_local None = refl
 one_local (Some y) = refl
 
-unended_locals-plain : (ps : List Placed) (k : ℕ) (x : ItemType) → AreBelow k ps → is_main x ≡ false
+unended_locals-plain : (ps : List Indexed) (k : ℕ) (x : ItemType) → AreBelow k ps → is_main x ≡ false
     → unended_locals (ps ++ (k, x) ∷ []) ≡ unended_locals ps ++ option_to_list (local_of x)
 unended_locals-plain ps k x below plain =
     let qs = ps ++ (k, x) ∷ [] in
-    let same : unended qs ps ≡ unended ps ps = filter-same (λ (p : Placed). not (is_ended qs p)) (λ (p : Placed). not (is_ended ps p)) (λ p. ap not (is_ended-plain ps k x p plain)) ps in
+    let same : unended qs ps ≡ unended ps ps = filter-same (λ (p : Indexed). not (is_ended qs p)) (λ (p : Indexed). not (is_ended ps p)) (λ p. ap not (is_ended-plain ps k x p plain)) ps in
     let last : unended qs ((k, x) ∷ []) ≡ (k, x) ∷ [] =
     ap (λ b. cond (not b) ((k, x) ∷ []) []) (is_ended-plain ps k x (k, x) plain ∙ not_behind k x ps below) in
-    ap (filter_map (λ (p : Placed). local_of p.1)) (filter-append (λ (p : Placed). not (is_ended qs p)) ps ((k, x) ∷ []) ∙ ap (λ l. l ++ unended qs ((k, x) ∷ [])) same ∙ ap (λ l. unended ps ps ++ l) last)
-    ∙ filter_map-append (λ (p : Placed). local_of p.1) (unended ps ps) ((k, x) ∷ [])
+    ap (filter_map (λ (p : Indexed). local_of p.1)) (filter-append (λ (p : Indexed). not (is_ended qs p)) ps ((k, x) ∷ []) ∙ ap (λ l. l ++ unended qs ((k, x) ∷ [])) same ∙ ap (λ l. unended ps ps ++ l) last)
+    ∙ filter_map-append (λ (p : Indexed). local_of p.1) (unended ps ps) ((k, x) ∷ [])
     ∙ ap (λ l. unended_locals ps ++ l) (one_local (local_of x))
 
 or_true : (b : Bool) → (b || true) ≡ true
@@ -118,12 +118,12 @@ or_true true = refl
 or_true false = refl
 
 -- no local outlives a main item
-ended-all : (qs ps : List Placed) (k : ℕ) (x : ItemType) → AreBelow k ps → is_main x ≡ true → unended (qs ++ (k, x) ∷ []) ps ≡ []
+ended-all : (qs ps : List Indexed) (k : ℕ) (x : ItemType) → AreBelow k ps → is_main x ≡ true → unended (qs ++ (k, x) ∷ []) ps ≡ []
 ended-all qs [] k x below main = refl
 ended-all qs (p ∷ ps) k x below main =
     let here : nat_lt p.0 k ≡ true = grind (arith, common_steps) in
     let ended : is_ended (qs ++ (k, x) ∷ []) p ≡ true =
-    list_any-append (λ (q : Placed). is_main q.1 && nat_lt p.0 q.0) qs ((k, x) ∷ [])
+    list_any-append (λ (q : Indexed). is_main q.1 && nat_lt p.0 q.0) qs ((k, x) ∷ [])
     ∙ ap (λ b. is_ended qs p || ((b && nat_lt p.0 k) || false)) main ∙ ap (λ b. is_ended qs p || (b || false)) here ∙ or_true (is_ended qs p) in
     ap (λ b. cond (not b) (p ∷ unended (qs ++ (k, x) ∷ []) ps) (unended (qs ++ (k, x) ∷ []) ps)) ended ∙ ended-all qs ps k x below.1 main
 
@@ -134,24 +134,40 @@ main_is_no_local (item.Local y) h = cc
 main_is_no_local item.Long h = cc
 main_is_no_local item.Reserved h = cc
 
-last_no_local : (b : Bool) (k : ℕ) (x : ItemType) → local_of x ≡ None → filter_map (λ (p : Placed). local_of p.1) (cond b ((k, x) ∷ []) []) ≡ []
+last_no_local : (b : Bool) (k : ℕ) (x : ItemType) → local_of x ≡ None → filter_map (λ (p : Indexed). local_of p.1) (cond b ((k, x) ∷ []) []) ≡ []
 last_no_local true k x none = rw none refl
 last_no_local false k x none = refl
 
-unended_locals-main : (ps : List Placed) (k : ℕ) (x : ItemType) → AreBelow k ps → is_main x ≡ true → unended_locals (ps ++ (k, x) ∷ []) ≡ []
+unended_locals-main : (ps : List Indexed) (k : ℕ) (x : ItemType) → AreBelow k ps → is_main x ≡ true → unended_locals (ps ++ (k, x) ∷ []) ≡ []
 unended_locals-main ps k x below main =
     let qs = ps ++ (k, x) ∷ [] in
-    ap (filter_map (λ (p : Placed). local_of p.1)) (filter-append (λ (p : Placed). not (is_ended qs p)) ps ((k, x) ∷ []) ∙ ap (λ l. l ++ unended qs ((k, x) ∷ [])) (ended-all ps ps k x below main))
+    ap (filter_map (λ (p : Indexed). local_of p.1)) (filter-append (λ (p : Indexed). not (is_ended qs p)) ps ((k, x) ∷ []) ∙ ap (λ l. l ++ unended qs ((k, x) ∷ [])) (ended-all ps ps k x below main))
     ∙ last_no_local (not (is_ended qs (k, x))) k x (main_is_no_local x main)
 
-unended_locals-next : (b : Bool) (ps : List Placed) (k : ℕ) (x : ItemType) → AreBelow k ps → is_main x ≡ b
+unended_locals-next : (b : Bool) (ps : List Indexed) (k : ℕ) (x : ItemType) → AreBelow k ps → is_main x ≡ b
     → unended_locals (ps ++ (k, x) ∷ []) ≡ (cond b [] (unended_locals ps ++ option_to_list (local_of x)))
 unended_locals-next true ps k x below main = unended_locals-main ps k x below main
 unended_locals-next false ps k x below main = unended_locals-plain ps k x below main
 
-pub in_force-next : (ps : List Placed) (k : ℕ) (x : ItemType) → AreBelow k ps → in_force (ps ++ (k, x) ∷ []) ≡ next_force (in_force ps) x
+-- what is in force behind these visible items
+abbrev pub in_force : List Indexed → Force
+in_force ps = record {
+  usage_page = last_value usage_page_of ps;
+  logical_minimum = last_value logical_minimum_of ps;
+  logical_maximum = last_value logical_maximum_of ps;
+  physical_minimum = last_value physical_minimum_of ps;
+  physical_maximum = last_value physical_maximum_of ps;
+  unit_exponent = last_value unit_exponent_of ps;
+  unit = last_value unit_of ps;
+  report_size = last_value report_size_of ps;
+  report_id = last_value report_id_of ps;
+  report_count = last_value report_count_of ps;
+  locals = unended_locals ps;
+}
+
+pub in_force-next : (ps : List Indexed) (k : ℕ) (x : ItemType) → AreBelow k ps → in_force (ps ++ (k, x) ∷ []) ≡ next_force (in_force ps) x
 in_force-next ps k x below =
-    let p : Placed = (k, x) in
+    let p : Indexed = (k, x) in
     let page = last_value-next usage_page_of ps p in
     let low = last_value-next logical_minimum_of ps p in
     let high = last_value-next logical_maximum_of ps p in

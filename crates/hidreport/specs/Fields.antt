@@ -3,14 +3,15 @@ use Rattle.std.specs.Prelude.{ℕ, ℤ, pos, ◌+◌, ◌*◌, zero, suc, Bool, 
 use Rattle.hidreport_items.specs.Flags.{Flags}
 use Rattle.hidreport_items.specs.declared.main_item.CollectionItem.TheVariants as kind
 use Rattle.hidreport_items.specs.declared.item.ItemType.{ItemType}
-use Rattle.hidreport.specs.InForce.{Force, force}
-use Rattle.hidreport.specs.Kinds.{Placed, Direction, Input, Output, Feature, data_of, collection_of}
+use Rattle.hidreport.specs.InForce.{Force}
+use Rattle.hidreport.specs.Kinds.{Indexed, Direction, Input, Output, Feature, data_of, collection_of}
 use Rattle.hidreport.specs.Making.{extent, makers}
+use Rattle.hidreport.specs.MeaningFault.{MeaningFault}
 use Rattle.hidreport.specs.OpenCollections.{open_at, collections_before}
 use Rattle.hidreport.specs.Places.{start}
 use Rattle.hidreport.specs.Records.{CollectionRecord, FieldPlace, Attributes, FieldRecord, VariableRecord, ArrayRecord, ConstantRecord}
 use Rattle.hidreport.specs.Usages.{UsageList, usages_of, make_usage}
-use Rattle.hidreport.specs.declared.usage.Usage.{Usage}
+use Rattle.hidreport.specs.declared.field.usage.Usage.{Usage}
 
 -- one field for a constant item or an array, `count` for a variable item
 abbrev pub field_count : Flags → ℕ → ℕ
@@ -22,29 +23,32 @@ fields_made (Some x) (Some e) = field_count x.1 e.1
 fields_made (Some x) None = 0
 fields_made None e = 0
 
--- how many fields the items before k made, in all directions
-abbrev pub fields_before : List ItemType → ℕ → ℕ
-fields_before items k =
-    sum_by (λ p. fields_made (data_of p.1) (extent (force items p.0))) (makers Input items k)
-    + (sum_by (λ p. fields_made (data_of p.1) (extent (force items p.0))) (makers Output items k)
-    + sum_by (λ p. fields_made (data_of p.1) (extent (force items p.0))) (makers Feature items k))
+-- how many fields the items before k made in a direction
+abbrev pub fields_in : (ℕ → Force) → Direction → List ItemType → ℕ → ℕ
+fields_in force d items k =
+    sum_by (λ p. fields_made (data_of p.1) (extent (force p.0))) (makers force d items k)
 
--- the usages of a list, none for a fault
-abbrev pub usages_or_none : Result UsageList (List ℕ) → List Usage
-usages_or_none (Ok us) = us.usages
-usages_or_none (Err message) = []
+-- how many fields the items before k made, in all directions
+abbrev pub fields_before : (ℕ → Force) → List ItemType → ℕ → ℕ
+fields_before force items k =
+    fields_in force Input items k + (fields_in force Output items k + fields_in force Feature items k)
+
+-- the usages, none for a fault
+abbrev pub list_or_none : Result UsageList MeaningFault → UsageList
+list_or_none (Ok us) = us
+list_or_none (Err fault) = record { usages = []; is_range = false }
 
 -- a Collection as the fields inside it carry it
-abbrev pub collection_record : List ItemType → Placed → CollectionRecord
-collection_record items p = record {
+abbrev pub collection_record : (ℕ → Force) → List ItemType → Indexed → CollectionRecord
+collection_record force items p = record {
   id = collections_before items p.0;
   kind = unwrap_or (collection_of p.1) kind.Physical;
-  usages = usages_or_none (usages_of (force items p.0));
+  usages = (list_or_none (usages_of (force p.0))).usages;
 }
 
 -- the collections that a field made at k lies in, outermost first
-abbrev pub collections_at : List ItemType → ℕ → List CollectionRecord
-collections_at items k = map (collection_record items) (open_at items k)
+abbrev pub collections_at : (ℕ → Force) → List ItemType → ℕ → List CollectionRecord
+collections_at force items k = map (collection_record force items) (open_at items k)
 
 -- where just one physical bound is set the other is 0
 abbrev pub physical_bound : Option ℤ → Option ℤ → Option ℤ
@@ -58,15 +62,35 @@ volatile_in Input flag = None
 volatile_in Output flag = Some flag
 volatile_in Feature flag = Some flag
 
--- what the fields of one item share
-abbrev pub attributes : Force → List CollectionRecord → Direction → Flags → Attributes
-attributes f collections d flags = record {
+-- the numbers that a field with data has from global items
+pub record Measures : Type 0 where
+  pub logical_minimum : ℤ
+  pub logical_maximum : ℤ
+  pub physical_minimum : Option ℤ
+  pub physical_maximum : Option ℤ
+  pub unit : Option ℕ
+  pub unit_exponent : Option ℤ
+
+-- logical bounds that aren't set are 0
+abbrev pub measures : Force → Measures
+measures f = record {
   logical_minimum = unwrap_or f.logical_minimum (pos 0);
   logical_maximum = unwrap_or f.logical_maximum (pos 0);
   physical_minimum = physical_bound f.physical_minimum f.physical_maximum;
   physical_maximum = physical_bound f.physical_maximum f.physical_minimum;
   unit = f.unit;
   unit_exponent = f.unit_exponent;
+}
+
+-- what a field with data has from these numbers, from its item's flags and from the collections around it
+abbrev pub attributes_with : Direction → Flags → Measures → List CollectionRecord → Attributes
+attributes_with d flags m collections = record {
+  logical_minimum = m.logical_minimum;
+  logical_maximum = m.logical_maximum;
+  physical_minimum = m.physical_minimum;
+  physical_maximum = m.physical_maximum;
+  unit = m.unit;
+  unit_exponent = m.unit_exponent;
   collections = collections;
   relative = flags.relative;
   wrap = flags.wrap;
@@ -76,6 +100,10 @@ attributes f collections d flags = record {
   buffered_bytes = flags.buffered_bytes;
   volatile = volatile_in d flags.volatile;
 }
+
+-- what the fields of one item share
+abbrev pub attributes : Force → List CollectionRecord → Direction → Flags → Attributes
+attributes f collections d flags = attributes_with d flags (measures f) collections
 
 -- usage c of a list, or the last one where there are fewer
 abbrev pub usage_at : List Usage → ℕ → Usage
@@ -90,28 +118,38 @@ each_from f c zero = []
 each_from f c (suc more) = f c ∷ each_from f (c + 1) more
 
 abbrev pub make_place : ℕ → Option ℕ → ℕ → ℕ → FieldPlace
-make_place id report_id first size = record { id = id; report_id = report_id; first = first; end = first + size }
+make_place id report_id first size = record {
+  id = id;
+  report_id = report_id;
+  first = first;
+  end = first + size;
+}
+
+-- the fields of a variable item: one for each element
+abbrev pub variable_fields : Option ℕ → ℕ → ℕ → ℕ × ℕ → UsageList → Attributes → List FieldRecord
+variable_fields report_id id first e us shared =
+    each_from (λ c. VariableRecord
+    (make_place (id + c) report_id (first + c * e.0) e.0) (usage_at us.usages c) shared) 0 e.1
 
 -- the fields of an item with these usages, the first with number `id` and from bit `first` on
-abbrev pub make_fields : Option ℕ → ℕ → ℕ → ℕ × ℕ → Flags → UsageList → Attributes → List FieldRecord
+abbrev pub make_fields : Option ℕ → ℕ → ℕ → ℕ × ℕ → Flags → UsageList → Attributes
+    → List FieldRecord
 make_fields report_id id first e flags us shared =
     if flags.constant then ConstantRecord (make_place id report_id first (e.0 * e.1)) ∷ []
-    else (if flags.variable then each_from (λ c. VariableRecord (make_place (id + c) report_id (first + c * e.0) e.0) (usage_at us.usages c) shared) 0 e.1
-    else ArrayRecord (make_place id report_id first (e.0 * e.1)) us.usages us.is_range e.1 shared ∷ [])
-
--- the usages, none for a fault
-abbrev pub list_or_none : Result UsageList (List ℕ) → UsageList
-list_or_none (Ok us) = us
-list_or_none (Err message) = record { usages = []; is_range = false }
+    else (if flags.variable then variable_fields report_id id first e us shared
+    else ArrayRecord (make_place id report_id first (e.0 * e.1))
+    us.usages us.is_range e.1 shared ∷ [])
 
 -- the same where the item makes fields
-abbrev pub fields_of : Force → List CollectionRecord → ℕ → ℕ → Option (Direction × Flags) → Option (ℕ × ℕ) → List FieldRecord
+abbrev pub fields_of : Force → List CollectionRecord → ℕ → ℕ
+    → Option (Direction × Flags) → Option (ℕ × ℕ) → List FieldRecord
 fields_of f collections id first (Some x) (Some e) =
-    make_fields f.report_id id first e x.1 (list_or_none (usages_of f)) (attributes f collections x.0 x.1)
+    make_fields f.report_id id first e x.1 (list_or_none (usages_of f))
+    (attributes f collections x.0 x.1)
 fields_of f collections id first (Some x) None = []
 fields_of f collections id first None e = []
 
--- the fields that the item x of direction d at k makes
-abbrev pub fields_at : Direction → List ItemType → Placed → List FieldRecord
-fields_at d items p =
-    fields_of (force items p.0) (collections_at items p.0) (fields_before items p.0) (start d items p.0) (data_of p.1) (extent (force items p.0))
+-- the fields that an item of direction d makes
+abbrev pub fields_at : (ℕ → Force) → Direction → List ItemType → Indexed → List FieldRecord
+fields_at force d items p = fields_of (force p.0) (collections_at force items p.0)
+    (fields_before force items p.0) (start force d items p.0) (data_of p.1) (extent (force p.0))

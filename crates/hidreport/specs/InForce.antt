@@ -4,7 +4,7 @@ use Rattle.std.specs.Prelude.{ℕ, ℤ, nat_lt, ◌&&◌, not, List, [], ◌∷�
 use Rattle.std.specs.List.{list_any}
 use Rattle.hidreport_items.specs.declared.item.ItemType.{ItemType}
 use Rattle.hidreport_items.specs.declared.local.LocalItem.{LocalItem}
-use Rattle.hidreport.specs.Kinds.{Placed, is_main, local_of, usage_page_of, logical_minimum_of, logical_maximum_of, physical_minimum_of, physical_maximum_of, unit_exponent_of, unit_of, report_size_of, report_id_of, report_count_of}
+use Rattle.hidreport.specs.Kinds.{Indexed, is_main, local_of, usage_page_of, logical_minimum_of, logical_maximum_of, physical_minimum_of, physical_maximum_of, unit_exponent_of, unit_of, report_size_of, report_id_of, report_count_of}
 use Rattle.hidreport.specs.Visibility.{visible}
 
 -- the first of two values that is there
@@ -13,13 +13,14 @@ first_of (Some x) second = Some x
 first_of None second = second
 
 -- the value that the last item with this tag sets
-abbrev pub last_value : {A : Type 0} → (ItemType → Option A) → List Placed → Option A
+abbrev pub last_value : {A : Type 0} → (ItemType → Option A) → List Indexed → Option A
 last_value tag [] = None
 last_value tag (p ∷ ps) = first_of (last_value tag ps) (tag p.1)
 
 -- the local items behind the last main item
-abbrev pub unended_locals : List Placed → List LocalItem
-unended_locals ps = filter_map (λ p. local_of p.1) (filter (λ p. not (list_any (λ q. is_main q.1 && nat_lt p.0 q.0) ps)) ps)
+abbrev pub unended_locals : List Indexed → List LocalItem
+unended_locals ps = filter_map (λ p. local_of p.1)
+    (filter (λ p. not (list_any (λ q. is_main q.1 && nat_lt p.0 q.0) ps)) ps)
 
 -- the value of a global item at k
 abbrev pub global : {A : Type 0} → (ItemType → Option A) → List ItemType → ℕ → Option A
@@ -29,7 +30,7 @@ global tag items k = last_value tag (visible items k)
 abbrev pub locals : List ItemType → ℕ → List LocalItem
 locals items k = unended_locals (visible items k)
 
--- all that is in force at a place
+-- all that is in force at an index
 pub record Force : Type 0 where
   pub usage_page : Option ℕ
   pub logical_minimum : Option ℤ
@@ -43,22 +44,18 @@ pub record Force : Type 0 where
   pub report_count : Option ℕ
   pub locals : List LocalItem
 
--- what is in force behind these visible items
-abbrev pub in_force : List Placed → Force
-in_force ps = record {
-  usage_page = last_value usage_page_of ps;
-  logical_minimum = last_value logical_minimum_of ps;
-  logical_maximum = last_value logical_maximum_of ps;
-  physical_minimum = last_value physical_minimum_of ps;
-  physical_maximum = last_value physical_maximum_of ps;
-  unit_exponent = last_value unit_exponent_of ps;
-  unit = last_value unit_of ps;
-  report_size = last_value report_size_of ps;
-  report_id = last_value report_id_of ps;
-  report_count = last_value report_count_of ps;
-  locals = unended_locals ps;
-}
-
--- what is in force at k: each value is that of `global`, the locals are `locals`
+-- what is in force at k
 abbrev pub force : List ItemType → ℕ → Force
-force items k = in_force (visible items k)
+force items k = record {
+  usage_page = global usage_page_of items k;
+  logical_minimum = global logical_minimum_of items k;
+  logical_maximum = global logical_maximum_of items k;
+  physical_minimum = global physical_minimum_of items k;
+  physical_maximum = global physical_maximum_of items k;
+  unit_exponent = global unit_exponent_of items k;
+  unit = global unit_of items k;
+  report_size = global report_size_of items k;
+  report_id = global report_id_of items k;
+  report_count = global report_count_of items k;
+  locals = locals items k;
+}

@@ -8,9 +8,9 @@ use Rattle.hidreport_items.specs.declared.local.LocalItem.{LocalItem}
 use Rattle.hidreport_items.specs.declared.item.ItemType.{ItemType}
 use Rattle.hidreport_items.specs.declared.item.ItemType.TheVariants as item
 
--- an item and its place in the list of items, counted from 0
-abbrev pub Placed : Type 0
-Placed = ℕ × ItemType
+-- an item and its index in the list of items, counted from 0
+abbrev pub Indexed : Type 0
+Indexed = ℕ × ItemType
 
 -- the three directions in which reports go (Section 6.2.2.4)
 pub data Direction : Type 0 where

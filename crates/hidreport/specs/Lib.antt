@@ -1,16 +1,14 @@
 pub mod BitValue
-pub mod DataItem
-pub mod Elements
 pub mod Faults
 pub mod Fields
-pub mod Globals
 pub mod InForce
 pub mod Kinds
 pub mod Lookup
 pub mod Making
 pub mod Meaning
-pub mod Opened
+pub mod MeaningFault
 pub mod OpenCollections
+pub mod Parser
 pub mod Places
 pub mod Reading
 pub mod Records
@@ -20,6 +18,27 @@ pub mod UsageNumber
 pub mod UsageRange
 pub mod Visibility
 pub mod Views
-pub mod Machine
-pub mod State
-pub mod Layout
+-- what public clauses cite of the crates below, so that a user names this one alone
+pub use Rattle.hidreport_types.specs.UnitTable
+pub use Rattle.hidreport_types.specs.UnitText
+pub use Rattle.hidreport_items.specs.Answer as ItemAnswer
+pub use Rattle.hidreport_items.specs.Canonical
+pub use Rattle.hidreport_items.specs.Flags
+pub use Rattle.hidreport_items.specs.Kept
+pub use Rattle.hidreport_items.specs.Messages as ItemMessages
+pub use Rattle.hidreport_items.specs.Numbers
+pub use Rattle.hidreport_items.specs.Said
+pub use Rattle.hidreport_items.specs.Spelling
+pub use Rattle.hidreport_items.specs.Writing
+pub use Rattle.hidreport_items.specs.declared.error.HidError
+pub use Rattle.hidreport_items.specs.declared.global.GlobalItem
+pub use Rattle.hidreport_items.specs.declared.item.ItemType
+pub use Rattle.hidreport_items.specs.declared.local.LocalItem
+pub use Rattle.hidreport_items.specs.declared.main_item.CollectionItem
+pub use Rattle.hidreport_items.specs.declared.main_item.MainItem
+pub use Rattle.hidreport_lists.specs.Answer
+pub use Rattle.hidreport_lists.specs.Data
+pub use Rattle.hidreport_lists.specs.Entry
+pub use Rattle.hidreport_lists.specs.Itemising
+pub use Rattle.hidreport_lists.specs.Messages
+pub use Rattle.hidreport_lists.specs.declared.error.ParserError

@@ -1,8 +1,9 @@
 -- Making items and their keys (Sections 6.2.2.4 and 6.2.2.7): which data items make fields, and in which report.
+-- `force` is what is in force at each index of the list of items.
 use Rattle.std.specs.Prelude.{ℕ, ◌==◌, ◌||◌, ◌&&◌, Bool, true, false, if◌then◌else◌, List, [], ◌∷◌, filter, is_some, Option, Some, None}
 use Rattle.hidreport_items.specs.declared.item.ItemType.{ItemType}
-use Rattle.hidreport.specs.InForce.{Force, force, first_of}
-use Rattle.hidreport.specs.Kinds.{Placed, Direction, data_of, goes}
+use Rattle.hidreport.specs.InForce.{Force, first_of}
+use Rattle.hidreport.specs.Kinds.{Indexed, Direction, data_of, goes}
 use Rattle.hidreport.specs.Visibility.{before}
 
 -- a report size and a report count of which neither is 0
@@ -15,23 +16,23 @@ both_set (Some size) None = None
 abbrev pub extent : Force → Option (ℕ × ℕ)
 extent f = both_set f.report_size f.report_count
 
--- k, where x stands, makes fields
-abbrev pub makes : List ItemType → ℕ → ItemType → Bool
-makes items k x = is_some (data_of x) && is_some (extent (force items k))
+-- the item is of direction d and makes fields
+abbrev pub makes : (ℕ → Force) → Direction → Indexed → Bool
+makes force d p = goes d (data_of p.1) && is_some (extent (force p.0))
 
 -- the items of direction d before k that make fields, in order
-abbrev pub makers : Direction → List ItemType → ℕ → List Placed
-makers d items k = filter (λ p. goes d (data_of p.1) && is_some (extent (force items p.0))) (before items k)
+abbrev pub makers : (ℕ → Force) → Direction → List ItemType → ℕ → List Indexed
+makers force d items k = filter (makes force d) (before items k)
 
 -- the report id in force at the first of these items
-abbrev pub first_report_id : List ItemType → List Placed → Option ℕ
-first_report_id items [] = None
-first_report_id items (p ∷ ps) = (force items p.0).report_id
+abbrev pub first_report_id : (ℕ → Force) → List Indexed → Option ℕ
+first_report_id force [] = None
+first_report_id force (p ∷ ps) = (force p.0).report_id
 
 -- The report that an item of direction d at k adds to: that with the id in force; without one, the report of
 -- the first item of its direction that makes fields.
-abbrev pub key : Direction → List ItemType → ℕ → Option ℕ
-key d items k = first_of (force items k).report_id (first_report_id items (makers d items k))
+abbrev pub key : (ℕ → Force) → Direction → List ItemType → ℕ → Option ℕ
+key force d items k = first_of (force k).report_id (first_report_id force (makers force d items k))
 
 -- two keys are the same
 abbrev pub same_key : Option ℕ → Option ℕ → Bool
@@ -41,5 +42,6 @@ same_key None (Some b) = false
 same_key (Some a) None = false
 
 -- the items of direction d before k that add to this report
-abbrev pub makers_of : Direction → Option ℕ → List ItemType → ℕ → List Placed
-makers_of d id items k = filter (λ p. same_key (key d items p.0) id) (makers d items k)
+abbrev pub makers_of : (ℕ → Force) → Direction → Option ℕ → List ItemType → ℕ → List Indexed
+makers_of force d id items k =
+    filter (λ p. same_key (key force d items p.0) id) (makers force d items k)

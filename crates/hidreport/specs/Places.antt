@@ -1,7 +1,7 @@
 -- Places (Section 5.6): where a report's fields lie in it, in bits.
 use Rattle.std.specs.Prelude.{ℕ, ◌+◌, ◌*◌, List, sum_by, Option, None, Some}
 use Rattle.hidreport_items.specs.declared.item.ItemType.{ItemType}
-use Rattle.hidreport.specs.InForce.{force}
+use Rattle.hidreport.specs.InForce.{Force}
 use Rattle.hidreport.specs.Kinds.{Direction}
 use Rattle.hidreport.specs.Making.{extent, key, makers_of}
 
@@ -16,9 +16,10 @@ bits_of None = 0
 bits_of (Some e) = e.0 * e.1
 
 -- where the report ends behind the items before k: the id's bits and those of each item that adds to it
-abbrev pub end_before : Direction → Option ℕ → List ItemType → ℕ → ℕ
-end_before d id items k = id_bits id + sum_by (λ p. bits_of (extent (force items p.0))) (makers_of d id items k)
+abbrev pub end_before : (ℕ → Force) → Direction → Option ℕ → List ItemType → ℕ → ℕ
+end_before force d id items k =
+    id_bits id + sum_by (λ p. bits_of (extent (force p.0))) (makers_of force d id items k)
 
 -- where the fields of an item of direction d at k begin
-abbrev pub start : Direction → List ItemType → ℕ → ℕ
-start d items k = end_before d (key d items k) items k
+abbrev pub start : (ℕ → Force) → Direction → List ItemType → ℕ → ℕ
+start force d items k = end_before force d (key force d items k) items k

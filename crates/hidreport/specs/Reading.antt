@@ -1,8 +1,9 @@
 -- Reading a field (Sections 5.6 and 5.8): the value that a report's bytes give it, or why they give none.
-use Rattle.std.specs.Prelude.{◌≡◌, ℕ, ◌+◌, ◌-◌, ◌*◌, ◌/◌, ◌==◌, nat_lt, nat_le, ◌||◌, zero, suc, Bool, if◌then◌else◌, List, [], ◌∷◌, length, Option, None, Some, Result, Ok, Err}
+use Rattle.std.specs.Prelude.{◌≡◌, ℕ, ◌+◌, ◌-◌, ◌*◌, ◌/◌, ◌==◌, nat_lt, nat_le, ◌||◌, zero, suc, Bool, if◌then◌else◌, List, [], ◌∷◌, length, Option, None, Some, Result, Ok, Err, int_lt, pos}
 use Rattle.hidreport_lists.specs.Answer.{Refusal, Bounds, Mismatch, Refuses}
 use Rattle.hidreport_lists.specs.declared.error.ParserError.{ParserError}
 use Rattle.hidreport.specs.BitValue.{value, as_word}
+use Rattle.hidreport.specs.Records.{Attributes, FieldRecord, VariableRecord, ArrayRecord, ConstantRecord}
 
 -- a value as 32 bits, and whether it is signed
 pub record ValueRecord : Type 0 where
@@ -19,11 +20,10 @@ with_id (Some id) (b ∷ bytes) answer = if b == id then answer else Err Mismatc
 abbrev pub read_bits : ℕ → ℕ → Bool → List ℕ → Result ValueRecord Refusal
 read_bits first end is_signed bytes =
     if nat_le end first || (nat_lt 32 (end - first) || nat_lt (8 * length bytes) end) then Err Bounds
-    else Ok (record { word = as_word (value bytes first (end - first) is_signed); is_signed = is_signed })
-
--- the value of a variable field
-abbrev pub read_variable : Option ℕ → ℕ → ℕ → Bool → List ℕ → Result ValueRecord Refusal
-read_variable report_id first end is_signed bytes = with_id report_id bytes (read_bits first end is_signed bytes)
+    else Ok (record {
+      word = as_word (value bytes first (end - first) is_signed);
+      is_signed = is_signed;
+    })
 
 -- how wide one of so many elements of a range is, in bits
 abbrev pub element_width : ℕ → ℕ → ℕ → ℕ
@@ -32,14 +32,11 @@ element_width first end count = (end - first) / count
 -- element `index` of an array
 abbrev pub element : ℕ → ℕ → ℕ → Bool → List ℕ → ℕ → Result ValueRecord Refusal
 element first end count is_signed bytes index =
-    read_bits (first + element_width first end count * index) (first + element_width first end count * index + element_width first end count) is_signed bytes
+    let width = element_width first end count in
+    read_bits (first + width * index) (first + width * index + width) is_signed bytes
 
--- the value of one element of an array field
-abbrev pub read_element : Option ℕ → ℕ → ℕ → ℕ → Bool → List ℕ → ℕ → Result ValueRecord Refusal
-read_element report_id first end count is_signed bytes index =
-    if nat_lt index count then with_id report_id bytes (element first end count is_signed bytes index) else Err Bounds
-
-abbrev pub before_values : Result ValueRecord Refusal → Result (List ValueRecord) Refusal → Result (List ValueRecord) Refusal
+abbrev pub before_values : Result ValueRecord Refusal → Result (List ValueRecord) Refusal
+    → Result (List ValueRecord) Refusal
 before_values (Err e) rest = Err e
 before_values (Ok x) (Err e) = Err e
 before_values (Ok x) (Ok xs) = Ok (x ∷ xs)
@@ -48,11 +45,53 @@ before_values (Ok x) (Ok xs) = Ok (x ∷ xs)
 abbrev pub elements_from : ℕ → ℕ → ℕ → Bool → List ℕ → ℕ → ℕ → Result (List ValueRecord) Refusal
 elements_from first end count is_signed bytes index zero = Ok []
 elements_from first end count is_signed bytes index (suc more) =
-    before_values (element first end count is_signed bytes index) (elements_from first end count is_signed bytes (index + 1) more)
+    before_values (element first end count is_signed bytes index)
+    (elements_from first end count is_signed bytes (index + 1) more)
 
--- the values of all elements of an array field, in order
-abbrev pub read_array : Option ℕ → ℕ → ℕ → ℕ → Bool → List ℕ → Result (List ValueRecord) Refusal
-read_array report_id first end count is_signed bytes = with_id report_id bytes (elements_from first end count is_signed bytes 0 count)
+-- the values are signed where the least of them is below 0
+abbrev pub is_signed : Attributes → Bool
+is_signed shared = int_lt shared.logical_minimum (pos 0)
+
+-- a field's own report id; padding is of every report
+abbrev pub own_id : FieldRecord → Option ℕ
+own_id (VariableRecord place usage shared) = place.report_id
+own_id (ArrayRecord place usages is_range count shared) = place.report_id
+own_id (ConstantRecord place) = None
+
+abbrev pub one_value : Result ValueRecord Refusal → Result (List ValueRecord) Refusal
+one_value (Ok x) = Ok (x ∷ [])
+one_value (Err refusal) = Err refusal
+
+-- a field's values in order, whatever the report's id: one, those of all elements, or none of padding
+abbrev pub values_of : FieldRecord → List ℕ → Result (List ValueRecord) Refusal
+values_of (VariableRecord place usage shared) bytes =
+    one_value (read_bits place.first place.end (is_signed shared) bytes)
+values_of (ArrayRecord place usages is_range count shared) bytes =
+    elements_from place.first place.end count (is_signed shared) bytes 0 count
+values_of (ConstantRecord place) bytes = Ok []
+
+-- the values that a report's bytes give a field, or the first refusal
+abbrev pub reads : FieldRecord → List ℕ → Result (List ValueRecord) Refusal
+reads field bytes = with_id (own_id field) bytes (values_of field bytes)
+
+-- how many elements a field has; only an array has some
+abbrev pub element_count : FieldRecord → ℕ
+element_count (VariableRecord place usage shared) = 0
+element_count (ArrayRecord place usages is_range count shared) = count
+element_count (ConstantRecord place) = 0
+
+-- an element of an array, whatever the report's id
+abbrev pub element_of : FieldRecord → List ℕ → ℕ → Result ValueRecord Refusal
+element_of (VariableRecord place usage shared) bytes index = Err Bounds
+element_of (ArrayRecord place usages is_range count shared) bytes index =
+    element place.first place.end count (is_signed shared) bytes index
+element_of (ConstantRecord place) bytes index = Err Bounds
+
+-- the value that a report's bytes give one element, or the first refusal
+abbrev pub reads_element : FieldRecord → List ℕ → ℕ → Result ValueRecord Refusal
+reads_element field bytes index =
+    if nat_lt index (element_count field) then with_id (own_id field) bytes (element_of field bytes index)
+    else Err Bounds
 
 -- the answer, seen by `view`, is what the definition gives; want of memory says nothing
 abbrev pub AnswersBy : {A B : Type 0} → (A → B) → Result A ParserError → Result B Refusal → Type 0

@@ -1,7 +1,7 @@
 -- Reports, fields and collections as plain data (Sections 5.6, 6.2.2.4 to 6.2.2.8).
-use Rattle.std.specs.Prelude.{ℕ, ℤ, Bool, List, Option}
+use Rattle.std.specs.Prelude.{ℕ, ℤ, Bool, false, List, [], ◌∷◌, Option}
 use Rattle.hidreport_items.specs.declared.main_item.CollectionItem.{CollectionItem}
-use Rattle.hidreport.specs.declared.usage.Usage.{Usage}
+use Rattle.hidreport.specs.declared.field.usage.Usage.{Usage}
 
 -- a collection that a field lies in: its number over the descriptor, its kind and its usages
 pub record CollectionRecord : Type 0 where
@@ -40,6 +40,18 @@ pub data FieldRecord : Type 0 where
   VariableRecord : FieldPlace → Usage → Attributes → FieldRecord
   ArrayRecord : FieldPlace → List Usage → Bool → ℕ → Attributes → FieldRecord
   ConstantRecord : FieldPlace → FieldRecord
+
+-- the usages of a field: one of a variable field, all that an array chooses among, none of padding
+abbrev pub usages_in : FieldRecord → List Usage
+usages_in (VariableRecord place usage shared) = usage ∷ []
+usages_in (ArrayRecord place usages is_range count shared) = usages
+usages_in (ConstantRecord place) = []
+
+-- they are those of a minimum and a maximum
+abbrev pub is_of_range : FieldRecord → Bool
+is_of_range (VariableRecord place usage shared) = false
+is_of_range (ArrayRecord place usages is_range count shared) = is_range
+is_of_range (ConstantRecord place) = false
 
 -- a report: its id, where it has one, its size in bits and its fields in order
 pub record ReportRecord : Type 0 where

@@ -4,7 +4,7 @@ use Rattle.std.specs.List.{list_any}
 use Rattle.hidreport_items.specs.declared.global.GlobalItem.TheVariants as global
 use Rattle.hidreport_items.specs.declared.item.ItemType.{ItemType}
 use Rattle.hidreport_items.specs.declared.item.ItemType.TheVariants as item
-use Rattle.hidreport.specs.Faults.{MeaningFault}
+use Rattle.hidreport.specs.MeaningFault.{MeaningFault}
 use Rattle.hidreport.specs.Kinds.{is_main, is_push, is_pop}
 use Rattle.hidreport.specs.Records.{DescriptorRecord}
 
@@ -16,9 +16,12 @@ pub record IsMatched (items : List ItemType) : Type 0 where
 
 -- the items between a Push and its Pop, put between others
 abbrev pub with_segment : List ItemType → List ItemType → List ItemType → List ItemType
-with_segment front inside rest = front ++ (item.Global global.Push ∷ (inside ++ (item.Global global.Pop ∷ rest)))
+with_segment front inside rest =
+    front ++ (item.Global global.Push ∷ (inside ++ (item.Global global.Pop ∷ rest)))
 
--- the same meaning, or the fault of the same item, where so many items were put in at a place
-abbrev pub moved : ℕ → ℕ → Result DescriptorRecord (ℕ × MeaningFault) → Result DescriptorRecord (ℕ × MeaningFault)
-moved place count (Ok descriptor) = Ok descriptor
-moved place count (Err fault) = Err (if nat_lt fault.0 place then fault.0 else fault.0 + count, fault.1)
+-- the same meaning, or the fault of the same item, where so many items were put in at an index
+abbrev pub moved : ℕ → ℕ → Result DescriptorRecord (ℕ × MeaningFault)
+    → Result DescriptorRecord (ℕ × MeaningFault)
+moved index count (Ok descriptor) = Ok descriptor
+moved index count (Err fault) =
+    Err (if nat_lt fault.0 index then fault.0 else fault.0 + count, fault.1)

@@ -1,6 +1,6 @@
 -- A usage as one number (Section 5.5): the page is the upper 16 of its 32 bits.
 use Rattle.std.specs.Prelude.{ℕ, ◌+◌, ◌*◌, ◌/◌, ◌%◌}
-use Rattle.hidreport.specs.declared.usage.Usage.{Usage}
+use Rattle.hidreport.specs.declared.field.usage.Usage.{Usage}
 
 abbrev pub usage_number : Usage → ℕ
 usage_number u = u.usage_page * 65536 + u.usage_id

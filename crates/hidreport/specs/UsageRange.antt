@@ -1,7 +1,7 @@
 -- The range of an array's usages (Section 6.2.2.8): from its first usage to its last, all on the page of the first.
 use Rattle.std.specs.Prelude.{◌≡◌, ℕ, ◌+◌, Bool, true, false, ◌&&◌, ◌==◌, nat_le, if◌then◌else◌, List, [], ◌∷◌, length, Contains, Option, None, Some, IsSome, ◌↔◌}
 use Rattle.hidreport.specs.Usages.{make_usage, range_from}
-use Rattle.hidreport.specs.declared.usage.Usage.{Usage}
+use Rattle.hidreport.specs.declared.field.usage.Usage.{Usage}
 
 pub record RangeRecord : Type 0 where
   pub first : Usage
@@ -13,7 +13,8 @@ is_id_within r id = nat_le r.first.usage_id id && nat_le id r.last.usage_id
 
 -- the usage, where it is on the range's page and its id lies in the range
 abbrev pub usage_within : RangeRecord → Usage → Option Usage
-usage_within r u = if (u.usage_page == r.first.usage_page) && is_id_within r u.usage_id then Some u else None
+usage_within r u =
+    if (u.usage_page == r.first.usage_page) && is_id_within r u.usage_id then Some u else None
 
 -- the usage with this id on the range's page, where the id lies in the range
 abbrev pub usage_with_id : RangeRecord → ℕ → Option Usage

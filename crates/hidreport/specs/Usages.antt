@@ -1,21 +1,15 @@
 -- Usages of an item (Section 6.2.2.8): a range from a minimum to a maximum, or single usages.
-use Rattle.std.specs.Prelude.{ℕ, ◌+◌, ◌-◌, ◌%◌, zero, suc, Bool, true, false, List, [], ◌∷◌, Option, None, Some, Result, Ok, Err, codes}
+use Rattle.std.specs.Prelude.{ℕ, ◌+◌, ◌-◌, ◌%◌, zero, suc, Bool, true, false, List, [], ◌∷◌, Option, None, Some, Result, Ok, Err}
 use Rattle.hidreport_items.specs.declared.local.LocalItem.{LocalItem}
 use Rattle.hidreport_items.specs.declared.local.LocalItem.TheVariants as local
 use Rattle.hidreport.specs.InForce.{Force, first_of}
-use Rattle.hidreport.specs.declared.usage.Usage.{Usage}
+use Rattle.hidreport.specs.MeaningFault.{MeaningFault, MissingUsageMaximum, MissingUsagePage}
+use Rattle.hidreport.specs.declared.field.usage.Usage.{Usage}
 
 -- an item's usages, in order, and whether they are those of a range
 pub record UsageList : Type 0 where
   pub usages : List Usage
   pub is_range : Bool
-
--- the messages of the two faults
-abbrev pub missing_maximum : List ℕ
-missing_maximum = codes "Missing UsageMaximum in locals"
-
-abbrev pub missing_page : List ℕ
-missing_page = codes "Missing UsagePage in globals"
 
 abbrev pub minimum_of : LocalItem → Option ℕ
 minimum_of (local.UsageMinimum n) = Some n
@@ -38,36 +32,36 @@ abbrev pub range_from : ℕ → ℕ → ℕ → List Usage
 range_from page n zero = []
 range_from page n (suc more) = make_usage page (n % 65536) ∷ range_from page (n + 1) more
 
-abbrev pub before_usages : Usage → Result (List Usage) (List ℕ) → Result (List Usage) (List ℕ)
+abbrev pub before_usages : Usage → Result (List Usage) MeaningFault → Result (List Usage) MeaningFault
 before_usages u (Ok us) = Ok (u ∷ us)
-before_usages u (Err message) = Err message
+before_usages u (Err fault) = Err fault
 
-abbrev pub on_page : Option ℕ → ℕ → Result (List Usage) (List ℕ) → Result (List Usage) (List ℕ)
-on_page None id us = Err missing_page
+abbrev pub on_page : Option ℕ → ℕ → Result (List Usage) MeaningFault → Result (List Usage) MeaningFault
+on_page None id us = Err MissingUsagePage
 on_page (Some page) id us = before_usages (make_usage page id) us
 
 -- the single usages; one without its own page takes the page in force
-abbrev pub single_usages : Option ℕ → List LocalItem → Result (List Usage) (List ℕ)
+abbrev pub single_usages : Option ℕ → List LocalItem → Result (List Usage) MeaningFault
 single_usages page [] = Ok []
 single_usages page (local.Usage own id ∷ xs) = before_usages (make_usage own id) (single_usages page xs)
 single_usages page (local.UsageId id ∷ xs) = on_page page id (single_usages page xs)
 single_usages page (x ∷ xs) = single_usages page xs
 
 -- a range needs its maximum, and then a page
-abbrev pub range_usages : ℕ → Option ℕ → Option ℕ → Result UsageList (List ℕ)
-range_usages low None page = Err missing_maximum
-range_usages low (Some high) None = Err missing_page
+abbrev pub range_usages : ℕ → Option ℕ → Option ℕ → Result UsageList MeaningFault
+range_usages low None page = Err MissingUsageMaximum
+range_usages low (Some high) None = Err MissingUsagePage
 range_usages low (Some high) (Some page) = Ok (record { usages = range_from page low (high + 1 - low); is_range = true })
 
-abbrev pub as_single : Result (List Usage) (List ℕ) → Result UsageList (List ℕ)
+abbrev pub as_single : Result (List Usage) MeaningFault → Result UsageList MeaningFault
 as_single (Ok us) = Ok (record { usages = us; is_range = false })
-as_single (Err message) = Err message
+as_single (Err fault) = Err fault
 
 -- with a minimum in force the range, and else the single usages
-abbrev pub usages_by : Option ℕ → Force → Result UsageList (List ℕ)
+abbrev pub usages_by : Option ℕ → Force → Result UsageList MeaningFault
 usages_by (Some low) f = range_usages low (last_local maximum_of f.locals) f.usage_page
 usages_by None f = as_single (single_usages f.usage_page f.locals)
 
--- the usages that what is in force gives an item, or the message of a fault
-abbrev pub usages_of : Force → Result UsageList (List ℕ)
+-- the usages that what is in force gives an item, or their fault
+abbrev pub usages_of : Force → Result UsageList MeaningFault
 usages_of f = usages_by (last_local minimum_of f.locals) f

@@ -2,33 +2,51 @@
 use Rattle.std.specs.Prelude.{ℕ, List, []}
 use Rattle.std.specs.Arc.{arc_slice_items}
 use Rattle.std.specs.declared.ops.Range.{Range}
+use Rattle.hidreport_items.specs.Flags.{Flags}
+use Rattle.hidreport.specs.Fields.{attributes_with}
+use Rattle.hidreport.specs.Kinds.{Direction, Input, Output, Feature}
 use Rattle.hidreport.specs.Records.{CollectionRecord, FieldPlace, Attributes, FieldRecord, VariableRecord, ArrayRecord, ConstantRecord}
-use Rattle.hidreport.specs.declared.array_field.ArrayField.{ArrayField}
-use Rattle.hidreport.specs.declared.constant_field.ConstantField.{ConstantField}
+use Rattle.hidreport.specs.declared.field.array_field.ArrayField.{ArrayField}
+use Rattle.hidreport.specs.declared.field.constant_field.ConstantField.{ConstantField}
 use Rattle.hidreport.specs.declared.field.Field.{Field}
 use Rattle.hidreport.specs.declared.field.Field.TheVariants as fields
-use Rattle.hidreport.specs.declared.field.VariableField.{VariableField}
+use Rattle.hidreport.specs.declared.field.data_item.DataItem.{DataItem}
+use Rattle.hidreport.specs.declared.field.data_item.Direction.{Direction as ItemDirection}
+use Rattle.hidreport.specs.declared.field.data_item.Direction.TheVariants as directions
+use Rattle.hidreport.specs.declared.field.variable_field.VariableField.{VariableField}
+
+-- the direction of a field's item
+abbrev pub direction_of : ItemDirection → Direction
+direction_of directions.Input = Input
+direction_of directions.Output = Output
+direction_of directions.Feature = Feature
+
+-- its flags
+abbrev pub item_flags : DataItem → Flags
+item_flags x = record {
+  constant = x.is_constant;
+  variable = x.is_variable;
+  relative = x.is_relative;
+  wrap = x.wraps;
+  nonlinear = x.is_nonlinear;
+  no_preferred_state = x.has_no_preferred_state;
+  null_state = x.has_null_state;
+  volatile = x.is_volatile;
+  buffered_bytes = x.is_buffered_bytes;
+}
 
 abbrev pub variable_place : VariableField → FieldPlace
 variable_place f = record { id = f.id; report_id = f.report_id; first = f.bits.start; end = f.bits.end }
 
 abbrev pub variable_attributes : VariableField → Attributes
-variable_attributes f = record {
+variable_attributes f = attributes_with (direction_of f.item.direction) (item_flags f.item) (record {
   logical_minimum = f.logical_minimum;
   logical_maximum = f.logical_maximum;
   physical_minimum = f.physical_minimum;
   physical_maximum = f.physical_maximum;
   unit = f.unit;
   unit_exponent = f.unit_exponent;
-  collections = arc_slice_items f.collections;
-  relative = f.is_relative;
-  wrap = f.wraps;
-  nonlinear = f.is_nonlinear;
-  no_preferred_state = f.has_no_preferred_state;
-  null_state = f.has_null_state;
-  buffered_bytes = f.is_buffered_bytes;
-  volatile = f.is_volatile;
-}
+}) (arc_slice_items f.collections)
 
 -- all parts of a variable field
 abbrev pub variable_record : VariableField → FieldRecord
@@ -38,22 +56,14 @@ abbrev pub array_place : ArrayField → FieldPlace
 array_place f = record { id = f.id; report_id = f.report_id; first = f.bits.start; end = f.bits.end }
 
 abbrev pub array_attributes : ArrayField → Attributes
-array_attributes f = record {
+array_attributes f = attributes_with (direction_of f.item.direction) (item_flags f.item) (record {
   logical_minimum = f.logical_minimum;
   logical_maximum = f.logical_maximum;
   physical_minimum = f.physical_minimum;
   physical_maximum = f.physical_maximum;
   unit = f.unit;
   unit_exponent = f.unit_exponent;
-  collections = arc_slice_items f.collections;
-  relative = f.is_relative;
-  wrap = f.wraps;
-  nonlinear = f.is_nonlinear;
-  no_preferred_state = f.has_no_preferred_state;
-  null_state = f.has_null_state;
-  buffered_bytes = f.is_buffered_bytes;
-  volatile = f.is_volatile;
-}
+}) (arc_slice_items f.collections)
 
 -- all parts of an array field
 abbrev pub array_record : ArrayField → FieldRecord

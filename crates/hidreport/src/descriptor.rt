@@ -1,6 +1,18 @@
-ghost use Rattle.std.specs.Prelude.{◌≡◌, []};
+ghost use Rattle.std.specs.Prelude.{◌≡◌, ◌+◌, ◌++◌, [], List, length, map, option_copied};
+ghost use Rattle.hidreport_items.specs.Spelling.{item_of};
+ghost use Rattle.hidreport_items.specs.declared.item.ItemType.{ItemType};
+ghost use Rattle.hidreport_lists.specs.Answer.{Answers};
+ghost use Rattle.hidreport_lists.specs.Entry.{Entry};
+ghost use Rattle.hidreport_lists.specs.Itemising.{itemise};
+ghost use Rattle.hidreport.specs.Lookup.{find_report};
+ghost use Rattle.hidreport.specs.Meaning.{at_offset, meaning, parse};
+ghost use Rattle.hidreport.specs.Segments.{IsMatched, moved, with_segment};
 
+use crate::field::data_item::Direction;
+use crate::parser;
 use crate::report::RDescReport;
+use crate::report::reports::{Reports, find_report};
+use hidreport_lists::{ParserError, ReportDescriptorItems};
 use std::alloc::Global;
 use std::marker::Model;
 
@@ -8,9 +20,7 @@ use std::marker::Model;
 /// order of their first fields.
 #[derive(Debug, Drop)]
 pub struct ReportDescriptor {
-    pub(crate) input_reports: Vec<RDescReport>,
-    pub(crate) output_reports: Vec<RDescReport>,
-    pub(crate) feature_reports: Vec<RDescReport>,
+    reports: Reports,
 }
 
 impl Model for ReportDescriptor {
@@ -18,7 +28,7 @@ impl Model for ReportDescriptor {
 
     ghost Value = { DescriptorRecord };
 
-    ghost view = { λ d. record { input = d.input_reports.items; output = d.output_reports.items; feature = d.feature_reports.items } };
+    ghost view = { λ d. d.reports };
 }
 
 impl ReportDescriptor {
@@ -27,30 +37,83 @@ impl ReportDescriptor {
         ensures { result ≡ record { input = []; output = []; feature = [] } }
     {
         ReportDescriptor {
-            input_reports: Vec::new(alloc),
-            output_reports: Vec::new(alloc),
-            feature_reports: Vec::new(alloc),
+            reports: Reports::new(alloc),
         }
+    }
+
+    /// The reports that the bytes of a report descriptor announce (Section 6.2.2).
+    ///
+    /// Refused are, the first of these that there is: no bytes at all, `InvalidData` at 0,
+    /// `Empty report descriptor`; an item that can't be read, as `ReportDescriptorItems::try_from`
+    /// says; then the first item that has no meaning where it stands, with `InvalidData` at the
+    /// item's offset. A Pop without an open Push is `Too many Pops, not enough Pushes`; an
+    /// EndCollection without an open collection is `Too many EndCollection`. A Collection, and an
+    /// Input, Output or Feature that makes fields with data, is `Missing UsageMaximum in locals`
+    /// where a minimum has no maximum, then `Missing UsagePage in globals` where a range or a usage
+    /// has no page; such an Input, Output or Feature is then `Missing Usages for main item` where
+    /// there are none. Last comes `OutOfBounds`, without an offset: where a report would end past
+    /// `usize::MAX` bits, or more than 2^32 fields or collections would be numbered.
+    /// `OutOfMemory` comes only where a growth is refused.
+    ///
+    /// A Push, items without a main item in which each Push has its Pop, and the Pop of that Push
+    /// change nothing (`struck`): the answer is that of the items around them, a fault at the same
+    /// item.
+    pub fn try_from(alloc: Global, bytes: &[u8]) -> Result<ReportDescriptor, ParserError>
+        ensures exact { Answers result (parse bytes.now) }
+        ensures struck { (entries : List Entry) (front inside rest : List ItemType)
+            → itemise item_of bytes.now ≡ Ok entries → IsMatched inside
+            → map (λ (e : Entry). e.item) entries ≡ with_segment front inside rest
+            → Answers result (at_offset entries
+            (moved (length front) (length inside + 2) (meaning (front ++ rest)))) }
+    {
+        if bytes.is_empty() {
+            return Err(parser::empty_descriptor(alloc));
+        }
+        let items = ReportDescriptorItems::try_from(alloc, bytes)?;
+        let reports = parser::reports_of(alloc, items.as_slice())?;
+        Ok(ReportDescriptor { reports })
     }
 
     /// The reports that the device sends.
     pub fn input_reports(&self) -> &[RDescReport]
         ensures { result.now ≡ self.now.input }
     {
-        &self.input_reports
+        self.reports.of(Direction::Input)
     }
 
     /// The reports that the host sends.
     pub fn output_reports(&self) -> &[RDescReport]
         ensures { result.now ≡ self.now.output }
     {
-        &self.output_reports
+        self.reports.of(Direction::Output)
     }
 
     /// The reports that the host reads and writes apart from the two streams.
     pub fn feature_reports(&self) -> &[RDescReport]
         ensures { result.now ≡ self.now.feature }
     {
-        &self.feature_reports
+        self.reports.of(Direction::Feature)
+    }
+
+    /// The input report that a report's bytes are of (Section 5.6): the first where it has no id,
+    /// else the one with the first byte as its id. `None` where there is none, or no bytes.
+    pub fn find_input_report(&self, bytes: &[u8]) -> Option<&RDescReport>
+        ensures { option_copied result ≡ find_report self.now.input bytes.now }
+    {
+        find_report(self.input_reports(), bytes)
+    }
+
+    /// The output report that a report's bytes are of, as `find_input_report` says.
+    pub fn find_output_report(&self, bytes: &[u8]) -> Option<&RDescReport>
+        ensures { option_copied result ≡ find_report self.now.output bytes.now }
+    {
+        find_report(self.output_reports(), bytes)
+    }
+
+    /// The feature report that a report's bytes are of, as `find_input_report` says.
+    pub fn find_feature_report(&self, bytes: &[u8]) -> Option<&RDescReport>
+        ensures { option_copied result ≡ find_report self.now.feature bytes.now }
+    {
+        find_report(self.feature_reports(), bytes)
     }
 }

@@ -1,24 +1,10 @@
 //! HID report descriptors parsed into reports and fields, and values read from reports.
 #![tactic(auto)]
 
-mod array_field;
-mod collection;
-mod constant_field;
-mod data_item;
 mod descriptor;
 mod field;
-mod field_attributes;
-mod layout;
-mod lookup;
-mod open_collections;
-mod parse;
+mod parser;
 mod report;
-mod saved;
-mod state;
-mod usage;
-mod usage_range;
-mod usages;
-mod value;
 
 /// The numbers that items carry, each as a type of its own.
 pub mod types {
@@ -44,12 +30,16 @@ pub mod hid {
     };
 }
 
-pub use array_field::ArrayField;
-pub use collection::{Collection, CollectionId};
-pub use constant_field::ConstantField;
 pub use descriptor::ReportDescriptor;
-pub use field::{Field, FieldId, VariableField};
-pub use field_attributes::FieldAttributes;
+pub use field::array_field::ArrayField;
+pub use field::collection::{Collection, CollectionId};
+pub use field::constant_field::ConstantField;
+pub use field::field_attributes::FieldAttributes;
+pub use field::usage::Usage;
+pub use field::usage_range::UsageRange;
+pub use field::value::FieldValue;
+pub use field::variable_field::VariableField;
+pub use field::{Field, FieldId};
 pub use hid::CollectionItem as CollectionType;
 pub use hidreport_lists::ParserError;
 pub use report::{RDescReport, Report};
@@ -59,6 +49,3 @@ pub use types::{
     StringIndex, StringMaximum, StringMinimum, Unit, UnitExponent, UnitSystem, Units, UsageId,
     UsageMaximum, UsageMinimum, UsagePage,
 };
-pub use usage::Usage;
-pub use usage_range::UsageRange;
-pub use value::FieldValue;

@@ -2,6 +2,8 @@ ghost use Rattle.std.specs.Prelude.{◌≡◌, ◌+◌, ◌/◌, ℕ, List, Opti
 ghost use Rattle.hidreport.specs.Records.{FieldRecord};
 ghost use Rattle.hidreport.specs.Views.{field_record};
 
+pub(crate) mod reports;
+
 use crate::field::Field;
 use hidreport_types::ReportId;
 use std::marker::Model;
@@ -55,7 +57,11 @@ impl Model for RDescReport {
 
     ghost use Rattle.hidreport.specs.Views.{field_record};
 
-    ghost view = { λ r. record { id = r.id; size = r.size; fields = map field_record r.fields.items } };
+    ghost view = { λ r. record {
+      id = r.id;
+      size = r.size;
+      fields = map field_record r.fields.items;
+    } };
 }
 
 impl Report for RDescReport {

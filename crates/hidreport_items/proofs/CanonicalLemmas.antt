@@ -1,9 +1,8 @@
 -- What is written for an item is its canonical spelling, if some bytes spell it.
-use Rattle.std.proofs.Common.{◌≡◌, ◌≢◌, ℕ, zero, suc, ◌+◌, ◌-◌, ◌*◌, ◌/◌, ◌%◌, ◌^◌, ◌<◌, ◌≤◌, Bool, true, false, nat_lt, nat_le, cond, List, [], ◌∷◌, length, drop, Result, Ok, Err, IfOk, Vec, Global, refl, sym, ap, ◌∙◌, subst, arith}
-use Rattle.std.specs.Prelude.{ℤ, pos, negsuc, ◌==◌, All}
+use Rattle.std.proofs.Common.{◌≡◌, ◌≢◌, ℕ, zero, suc, ◌+◌, ◌*◌, ◌/◌, ◌%◌, ◌^◌, ◌<◌, ◌≤◌, Bool, true, false, nat_lt, cond, List, [], ◌∷◌, length, drop, Result, Ok, Err, IfOk, Vec, Global, refl, sym, ap, ◌∙◌, subst, arith}
+use Rattle.std.specs.Prelude.{ℤ, ◌==◌}
 use Rattle.std.proofs.lemmas.Bool.{cond_both, cond-true, cond-false, eqb-true, ne_eqb, lt-ltb}
 use Rattle.std.proofs.lemmas.Bool.Decides.{nat_tests}
-use Rattle.std.proofs.lemmas.List.Elements.{All-from_recursion}
 use Rattle.hidreport_items.specs.Answer.{Fault, Invalid, Writes}
 use Rattle.hidreport_items.specs.declared.error.HidError.{HidError}
 use Rattle.hidreport_items.specs.Messages.{size_message, tag_message}
@@ -12,19 +11,18 @@ use Rattle.hidreport_items.specs.Flags.{Flags, flags_of, is_flag_set}
 use Rattle.hidreport_items.specs.Kept.{is_kept}
 use Rattle.hidreport_items.specs.Numbers.{word, signed, is_short_length}
 use Rattle.hidreport_items.specs.Spelling.{announced, prefix, type_of, item_of, main_item, global_item, local_item, usage_item, read_as, with_data, of_short_length, input_item, collection_item, kind_number, first_or_zero, AreBytes, Spells, read_with}
-use Rattle.hidreport_items.specs.Writing.{size_code, with_header, two_bytes, four_bytes, unsigned_data, signed_data, count_data, flags_data, flags_number, item_bytes, main_bytes, global_bytes, local_bytes}
+use Rattle.hidreport_items.specs.Writing.{with_header, four_bytes, unsigned_data, signed_data, count_data, flags_data, flags_number, item_bytes, main_bytes, global_bytes, local_bytes}
 use Rattle.hidreport_items.specs.declared.main_item.MainItem.{MainItem}
 use Rattle.hidreport_items.specs.declared.main_item.MainItem.TheVariants as main
 use Rattle.hidreport_items.specs.declared.main_item.CollectionItem.{CollectionItem}
-use Rattle.hidreport_items.specs.declared.main_item.CollectionItem.TheVariants as kind
 use Rattle.hidreport_items.specs.declared.global.GlobalItem.{GlobalItem}
 use Rattle.hidreport_items.specs.declared.global.GlobalItem.TheVariants as global
 use Rattle.hidreport_items.specs.declared.local.LocalItem.{LocalItem}
 use Rattle.hidreport_items.specs.declared.local.LocalItem.TheVariants as local
 use Rattle.hidreport_items.specs.declared.item.ItemType.{ItemType}
 use Rattle.hidreport_items.specs.declared.item.ItemType.TheVariants as item
-use Rattle.hidreport_items.proofs.Words.{IsLeast, announced-four, by-shape, bytes-behind, bytes-one, bytes-two, bytes-four, word-four, word-unsigned, length-unsigned, unsigned-least, signed-least, signed-again, signed-fits-any, word-fits, unsigned-two, are-one, are-four, are-unsigned, are-signed, HasShape, shape-signed, fits}
-use Rattle.hidreport_items.proofs.FlagWords.{flags-again, flags-least, number-le, number-without, number-small, word-flags, length-flags, are-flags}
+use Rattle.hidreport_items.proofs.Words.{IsLeast, announced-four, by-shape, bytes-behind, word-four, word-unsigned, length-unsigned, unsigned-least, signed-least, signed-again, signed-fits-any, word-fits, unsigned-two, are-one, are-four, are-unsigned, are-signed, HasShape, shape-signed, fits}
+use Rattle.hidreport_items.proofs.FlagWords.{flags-again, flags-least, number-le, number-without, word-flags, length-flags, are-flags}
 
 -- what data says of the item that it spells
 abbrev pub SaysGlobal : List ℕ → GlobalItem → Type 0

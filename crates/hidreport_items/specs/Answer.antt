@@ -20,7 +20,24 @@ abbrev pub Gives : {A : Type 0} → Result A HidError → Result A Fault → Typ
 Gives (Ok x) read = read ≡ Ok x
 Gives (Err e) read = Fails e read
 
--- the same for a list of bytes
+-- the refusal has a message
+abbrev pub HasMessage : {A : Type 0} → Result A Fault → Type 0
+HasMessage (Ok x) = ⊥
+HasMessage (Err (Invalid text)) = Unit {0}
+HasMessage (Err Insufficient) = ⊥
+
+-- the error is this fault; only a message takes memory
+abbrev pub FailsInPlace : {A : Type 0} → HidError → Result A Fault → Type 0
+FailsInPlace (errors.InvalidData message) read = read ≡ Err (Invalid (string_bytes message))
+FailsInPlace errors.InsufficientData read = read ≡ Err Insufficient
+FailsInPlace errors.OutOfMemory read = HasMessage read
+
+-- the answer is what reading gives; only a message takes memory
+abbrev pub GivesInPlace : {A : Type 0} → Result A HidError → Result A Fault → Type 0
+GivesInPlace (Ok x) read = read ≡ Ok x
+GivesInPlace (Err e) read = FailsInPlace e read
+
+-- the same as `Gives` for a list of bytes
 abbrev pub GivesList : Result (Vec ℕ Global) HidError → Result (List ℕ) Fault → Type 0
 GivesList (Ok xs) read = read ≡ Ok xs.items
 GivesList (Err e) read = Fails e read

@@ -1,5 +1,6 @@
--- The canonical spelling of an item: of EndCollection, Push and Pop the header alone; of every other item the shortest spelling
--- that has data, and of those the one whose data is the smallest number.
+-- The canonical spelling of an item: of EndCollection, Push and Pop the header alone; of every
+-- other item the shortest spelling that has data, and of those the one whose data is the smallest
+-- number.
 use Rattle.std.specs.Prelude.{◌≡◌, ℕ, ◌<◌, ◌≤◌, Bool, true, false, List, length, drop}
 use Rattle.hidreport_items.specs.Numbers.{word}
 use Rattle.hidreport_items.specs.Spelling.{Spells}
@@ -20,4 +21,5 @@ pub record IsCanonical (bytes : List ℕ) (x : ItemType) : Type 0 where
   pub bare : is_bare x ≡ true → length bytes ≡ 1
   pub has_data : is_bare x ≡ false → 1 < length bytes
   pub shortest : (other : List ℕ) → Spells other x → 1 < length other → length bytes ≤ length other
-  pub smallest : (other : List ℕ) → Spells other x → length other ≡ length bytes → word (drop 1 bytes) ≤ word (drop 1 other)
+  pub smallest : (other : List ℕ) → Spells other x → length other ≡ length bytes
+      → word (drop 1 bytes) ≤ word (drop 1 other)

@@ -1,5 +1,6 @@
 -- Numbers in an item's data (Section 6.2.2.2): little-endian, unsigned or in two's complement.
-use Rattle.std.specs.Prelude.{ℕ, ◌+◌, ◌*◌, ◌^◌, List, [], ◌∷◌, length, Bool, false, nat_le, ◌||◌, ◌==◌, ℤ, pos, ◌-ℤ◌, if◌then◌else◌}
+use Rattle.std.specs.Prelude.{ℕ, ◌+◌, ◌*◌, ◌^◌, List, [], ◌∷◌, length, Bool, false, nat_le, ◌||◌}
+use Rattle.std.specs.Prelude.{◌==◌, ℤ, pos, ◌-ℤ◌, if◌then◌else◌}
 
 -- the unsigned word: the sum of byte i times 256 ^ i
 abbrev pub word : List ℕ → ℕ

@@ -1,5 +1,7 @@
--- The items that bytes spell (Sections 6.2.2.2 to 6.2.2.8): a header, and exactly the data that it announces.
-use Rattle.std.specs.Prelude.{◌≡◌, ℕ, ◌-◌, ◌/◌, ◌%◌, ◌<◌, ◌==◌, nat_le, false, if◌then◌else◌, List, [], ◌∷◌, length, All, Result, Ok, Err}
+-- The items that bytes spell (Sections 6.2.2.2 to 6.2.2.8): a header, and exactly the data that it
+-- announces.
+use Rattle.std.specs.Prelude.{◌≡◌, ℕ, ◌-◌, ◌/◌, ◌%◌, ◌<◌, ◌==◌, nat_le, false, if◌then◌else◌, List}
+use Rattle.std.specs.Prelude.{[], ◌∷◌, length, All, Result, Ok, Err}
 use Rattle.hidreport_items.specs.Answer.{Fault, Invalid, Insufficient}
 use Rattle.hidreport_items.specs.Flags.{Flags, flags_of}
 use Rattle.hidreport_items.specs.Messages.{size_message, tag_message}
@@ -34,7 +36,8 @@ read_as f (Err e) = Err e
 
 -- an item whose data has 0, 1, 2 or 4 bytes
 abbrev pub of_short_length : {A : Type 0} → List ℕ → Result A Fault → Result A Fault
-of_short_length bs read = if is_short_length (length bs) then read else Err (Invalid (size_message (length bs)))
+of_short_length bs read =
+    if is_short_length (length bs) then read else Err (Invalid (size_message (length bs)))
 
 -- an item that needs a data byte
 abbrev pub with_data : {A : Type 0} → List ℕ → Result A Fault → Result A Fault
@@ -43,7 +46,8 @@ with_data (b ∷ bs) read = read
 
 -- an Input's flags; it has no flag 7
 abbrev pub input_item : List ℕ → Result Flags Fault
-input_item bs = with_data bs (of_short_length bs (Ok (record (flags_of (word bs)) { volatile = false })))
+input_item bs =
+    with_data bs (of_short_length bs (Ok (record (flags_of (word bs)) { volatile = false })))
 
 -- an Output's flags
 abbrev pub output_item : List ℕ → Result Flags Fault
@@ -117,7 +121,8 @@ global_item h bs = of_short_length bs (
 -- a usage of the page in force, or in four bytes one with its own page
 abbrev pub usage_item : ℕ → ℕ → LocalItem
 usage_item number length =
-    if length == 4 then local.Usage (number / 65536) (number % 65536) else local.UsageId (number % 65536)
+    if length == 4 then local.Usage (number / 65536) (number % 65536)
+    else local.UsageId (number % 65536)
 
 -- local items (Section 6.2.2.8); each needs a data byte
 abbrev pub local_item : ℕ → List ℕ → Result LocalItem Fault

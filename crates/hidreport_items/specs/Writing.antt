@@ -1,10 +1,11 @@
--- The bytes that are written for an item (Sections 6.2.2.2 to 6.2.2.8): its header, and the shortest data that holds its number.
-use Rattle.std.specs.Prelude.{◌≡◌, ℕ, ◌+◌, ◌-◌, ◌*◌, ◌/◌, ◌%◌, ◌^◌, ◌==◌, nat_lt, Bool, false, if◌then◌else◌, ℤ, pos, negsuc, List, [], ◌∷◌, length}
+-- The bytes that are written for an item (Sections 6.2.2.2 to 6.2.2.8): its header, and the
+-- shortest data that holds its number.
+use Rattle.std.specs.Prelude.{ℕ, ◌+◌, ◌-◌, ◌*◌, ◌/◌, ◌%◌, ◌^◌, ◌==◌, nat_lt, Bool, false}
+use Rattle.std.specs.Prelude.{if◌then◌else◌, ℤ, pos, negsuc, List, [], ◌∷◌, length}
 use Rattle.hidreport_items.specs.Flags.{Flags}
 use Rattle.hidreport_items.specs.Spelling.{kind_number}
 use Rattle.hidreport_items.specs.declared.main_item.MainItem.{MainItem}
 use Rattle.hidreport_items.specs.declared.main_item.MainItem.TheVariants as main
-use Rattle.hidreport_items.specs.declared.main_item.CollectionItem.{CollectionItem}
 use Rattle.hidreport_items.specs.declared.global.GlobalItem.{GlobalItem}
 use Rattle.hidreport_items.specs.declared.global.GlobalItem.TheVariants as global
 use Rattle.hidreport_items.specs.declared.local.LocalItem.{LocalItem}
@@ -29,13 +30,18 @@ four_bytes n = n % 256 ∷ n / 256 % 256 ∷ n / 65536 % 256 ∷ n / 16777216 % 
 
 -- an unsigned number in 1, 2 or 4 bytes
 abbrev pub unsigned_data : ℕ → List ℕ
-unsigned_data n = if nat_lt n 256 then n ∷ [] else (if nat_lt n 65536 then two_bytes n else four_bytes n)
+unsigned_data n =
+    if nat_lt n 256 then n ∷ []
+    else (if nat_lt n 65536 then two_bytes n else four_bytes n)
 
 -- a signed number in 1, 2 or 4 bytes, as two's complement
 abbrev pub signed_data : ℤ → List ℕ
-signed_data (pos n) = if nat_lt n 128 then n ∷ [] else (if nat_lt n 32768 then two_bytes n else four_bytes n)
+signed_data (pos n) =
+    if nat_lt n 128 then n ∷ []
+    else (if nat_lt n 32768 then two_bytes n else four_bytes n)
 signed_data (negsuc n) =
-    if nat_lt n 128 then (255 - n) ∷ [] else (if nat_lt n 32768 then two_bytes (65535 - n) else four_bytes (4294967295 - n))
+    if nat_lt n 128 then (255 - n) ∷ []
+    else (if nat_lt n 32768 then two_bytes (65535 - n) else four_bytes (4294967295 - n))
 
 -- a report's size or count: past 32 bits the low 32 bits
 abbrev pub count_data : ℕ → List ℕ
@@ -48,8 +54,9 @@ flag_bit flag i = if flag then 2 ^ i else 0
 -- all flags as one number
 abbrev pub flags_number : Flags → ℕ
 flags_number f =
-    flag_bit f.buffered_bytes 8 + (flag_bit f.volatile 7 + (flag_bit f.null_state 6 + (flag_bit f.no_preferred_state 5
-    + (flag_bit f.nonlinear 4 + (flag_bit f.wrap 3 + (flag_bit f.relative 2 + (flag_bit f.variable 1 + flag_bit f.constant 0)))))))
+    flag_bit f.buffered_bytes 8 + (flag_bit f.volatile 7 + (flag_bit f.null_state 6
+    + (flag_bit f.no_preferred_state 5 + (flag_bit f.nonlinear 4 + (flag_bit f.wrap 3
+    + (flag_bit f.relative 2 + (flag_bit f.variable 1 + flag_bit f.constant 0)))))))
 
 -- flag 8 needs a second byte
 abbrev pub flags_data : Flags → List ℕ

@@ -1,6 +1,12 @@
 ghost use Rattle.std.specs.Prelude.{◌≡◌, not};
-ghost use Rattle.hidreport_items.specs.Flags.{Flags};
+ghost use Rattle.hidreport_items.specs.Answer.{GivesInPlace};
+ghost use Rattle.hidreport_items.specs.Flags.{Flags, flags_of};
+ghost use Rattle.hidreport_items.specs.Spelling.{output_item};
 
+use crate::error::HidError;
+use crate::message::size_fault;
+use crate::number::{is_flag_set, is_short_length, word};
+use std::alloc::Global;
 use std::marker::Model;
 
 /// The flags that Input, Output and Feature items share (Section 6.2.2.5).
@@ -100,7 +106,7 @@ pub trait MainDataItem {
 }
 
 /// All nine flags (Section 6.2.2.5). An Input has no flag 7.
-#[derive(Clone, Copy, Default)]
+#[derive(Clone, Copy, Debug, Default, PartialEq)]
 pub(crate) struct ItemFlags {
     pub(crate) is_constant: bool,
     pub(crate) is_variable: bool,
@@ -141,4 +147,36 @@ impl Model for ItemFlags {
       is_volatile = f.volatile;
       is_buffered_bytes = f.buffered_bytes;
     } };
+}
+
+impl ItemFlags {
+    /// The flags that these data bytes spell, all nine.
+    pub(crate) fn from_data(alloc: Global, bytes: &[u8]) -> Result<ItemFlags, HidError>
+        ensures { GivesInPlace result (output_item bytes.now) }
+    {
+        if bytes.is_empty() {
+            return Err(HidError::InsufficientData);
+        }
+        if !is_short_length(bytes.len()) {
+            return Err(size_fault(alloc, bytes.len()));
+        }
+        Ok(ItemFlags::from_word(word(bytes)))
+    }
+
+    /// The flags that this number spells.
+    fn from_word(number: u32) -> ItemFlags
+        ensures { result ≡ flags_of number }
+    {
+        ItemFlags {
+            is_constant: is_flag_set(number, 0),
+            is_variable: is_flag_set(number, 1),
+            is_relative: is_flag_set(number, 2),
+            wraps: is_flag_set(number, 3),
+            is_nonlinear: is_flag_set(number, 4),
+            has_no_preferred_state: is_flag_set(number, 5),
+            has_null_state: is_flag_set(number, 6),
+            is_volatile: is_flag_set(number, 7),
+            is_buffered_bytes: is_flag_set(number, 8),
+        }
+    }
 }

@@ -1,4 +1,4 @@
-ghost use Rattle.hidreport_items.specs.Answer.{Gives, Writes};
+ghost use Rattle.hidreport_items.specs.Answer.{GivesInPlace, Writes};
 ghost use Rattle.std.specs.Prelude.{◌≡◌};
 ghost use Rattle.hidreport_items.specs.Spelling.{global_item, read_with};
 ghost use Rattle.hidreport_items.specs.Writing.{global_bytes, global_prefix};
@@ -66,7 +66,7 @@ impl GlobalItem {
     /// of no global item is `Reserved`. `OutOfMemory` comes only where there is no memory for a
     /// message.
     pub fn try_from(alloc: Global, bytes: &[u8]) -> Result<GlobalItem, HidError>
-        ensures { Gives result (read_with global_item bytes.now) }
+        ensures { GivesInPlace result (read_with global_item bytes.now) }
     {
         let Some((header, data_bytes)) = bytes.split_first() else {
             return Err(HidError::InsufficientData);
@@ -127,7 +127,7 @@ impl GlobalItem {
         header: u8,
         bytes: &[u8],
     ) -> Result<GlobalItem, HidError>
-        ensures { Gives result (global_item header bytes.now) }
+        ensures { GivesInPlace result (global_item header bytes.now) }
     {
         if !is_short_length(bytes.len()) {
             return Err(size_fault(alloc, bytes.len()));

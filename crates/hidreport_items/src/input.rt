@@ -1,13 +1,11 @@
 ghost use Rattle.std.specs.Prelude.{◌≡◌, false};
-ghost use Rattle.hidreport_items.specs.Answer.{Gives, Writes};
+ghost use Rattle.hidreport_items.specs.Answer.{GivesInPlace, Writes};
 ghost use Rattle.hidreport_items.specs.Spelling.{input_item, read_with};
 ghost use Rattle.hidreport_items.specs.Writing.{main_bytes};
 ghost use Rattle.hidreport_items.specs.declared.main_item.MainItem.TheVariants.{Input};
 
 use crate::error::HidError;
 use crate::flags::{ItemFlags, MainDataItem};
-use crate::message::size_fault;
-use crate::number::{is_flag_set, is_short_length, word};
 use crate::writing::flags;
 use std::alloc::Global;
 use std::marker::Model;
@@ -15,55 +13,32 @@ use std::marker::Model;
 /// An Input item: a field that the device sends (Section 6.2.2.4).
 #[derive(Clone, Copy, Debug, Default, PartialEq)]
 pub struct InputItem {
-    is_constant: bool,
-    is_variable: bool,
-    is_relative: bool,
-    wraps: bool,
-    is_nonlinear: bool,
-    has_no_preferred_state: bool,
-    has_null_state: bool,
-    is_buffered_bytes: bool,
+    flags: ItemFlags,
 }
 
 impl Model for InputItem {
-    ghost use Rattle.std.specs.Prelude.{false};
+    ghost use Rattle.std.specs.Prelude.{◌≡◌, false};
     ghost use Rattle.hidreport_items.specs.Flags.{Flags};
 
     ghost Value = { Flags };
 
-    ghost view = { λ i. record {
-      constant = i.is_constant;
-      variable = i.is_variable;
-      relative = i.is_relative;
-      wrap = i.wraps;
-      nonlinear = i.is_nonlinear;
-      no_preferred_state = i.has_no_preferred_state;
-      null_state = i.has_null_state;
-      volatile = false;
-      buffered_bytes = i.is_buffered_bytes;
-    } };
+    ghost view = { λ i. i.flags };
 
-    ghost inverse = { λ f. record {
-      is_constant = f.constant;
-      is_variable = f.variable;
-      is_relative = f.relative;
-      wraps = f.wrap;
-      is_nonlinear = f.nonlinear;
-      has_no_preferred_state = f.no_preferred_state;
-      has_null_state = f.null_state;
-      is_buffered_bytes = f.buffered_bytes;
-    } };
+    // An Input has no flag 7.
+    ghost invariant = { λ i. i.flags.volatile ≡ false };
+
+    ghost inverse = { λ f. record { flags = f } };
 }
 
 impl InputItem {
     /// The item with the data bytes behind the first byte, the header, which isn't looked at
     /// (Section 6.2.2.5).
     ///
-    /// Bits 0 to 8 of the data are its flags, but for bit 7. No bytes and no data are `InsufficientData`;
-    /// another length `n` of the data than 1, 2 and 4 is `InvalidData`, `Size {n} cannot happen`.
-    /// `OutOfMemory` comes only where there is no memory for the message.
+    /// Bits 0 to 8 of the data are its flags, but for bit 7. No bytes and no data are
+    /// `InsufficientData`; another length `n` of the data than 1, 2 and 4 is `InvalidData`,
+    /// `Size {n} cannot happen`. `OutOfMemory` comes only where there is no memory for the message.
     pub fn try_from(alloc: Global, bytes: &[u8]) -> Result<InputItem, HidError>
-        ensures { Gives result (read_with (λ _. input_item) bytes.now) }
+        ensures { GivesInPlace result (read_with (λ _. input_item) bytes.now) }
     {
         let Some((_header, data_bytes)) = bytes.split_first() else {
             return Err(HidError::InsufficientData);
@@ -78,30 +53,14 @@ impl InputItem {
     pub fn as_bytes(&self, alloc: Global) -> Result<Vec<u8>, HidError>
         ensures { Writes result (main_bytes (Input self.now)) }
     {
-        flags(alloc, 0x80, self, false)
+        flags(alloc, 0x80, self.flags)
     }
 
     /// The item that these data bytes spell.
     pub(crate) fn from_data(alloc: Global, bytes: &[u8]) -> Result<InputItem, HidError>
-        ensures { Gives result (input_item bytes.now) }
+        ensures { GivesInPlace result (input_item bytes.now) }
     {
-        if bytes.is_empty() {
-            return Err(HidError::InsufficientData);
-        }
-        if !is_short_length(bytes.len()) {
-            return Err(size_fault(alloc, bytes.len()));
-        }
-        let flags = word(bytes);
-        Ok(InputItem {
-            is_constant: is_flag_set(flags, 0),
-            is_variable: is_flag_set(flags, 1),
-            is_relative: is_flag_set(flags, 2),
-            wraps: is_flag_set(flags, 3),
-            is_nonlinear: is_flag_set(flags, 4),
-            has_no_preferred_state: is_flag_set(flags, 5),
-            has_null_state: is_flag_set(flags, 6),
-            is_buffered_bytes: is_flag_set(flags, 8),
-        })
+        Ok(InputItem::from_flags(ItemFlags::from_data(alloc, bytes)?))
     }
 
     /// The item with these flags; it has no flag 7.
@@ -109,14 +68,10 @@ impl InputItem {
         ensures { result ≡ record flags { volatile = false } }
     {
         InputItem {
-            is_constant: flags.is_constant,
-            is_variable: flags.is_variable,
-            is_relative: flags.is_relative,
-            wraps: flags.wraps,
-            is_nonlinear: flags.is_nonlinear,
-            has_no_preferred_state: flags.has_no_preferred_state,
-            has_null_state: flags.has_null_state,
-            is_buffered_bytes: flags.is_buffered_bytes,
+            flags: ItemFlags {
+                is_volatile: false,
+                ..flags
+            },
         }
     }
 }
@@ -125,34 +80,34 @@ impl MainDataItem for InputItem {
     ghost flags = { λ flags. flags };
 
     fn is_constant(&self) -> bool {
-        self.is_constant
+        self.flags.is_constant
     }
 
     fn is_variable(&self) -> bool {
-        self.is_variable
+        self.flags.is_variable
     }
 
     fn is_relative(&self) -> bool {
-        self.is_relative
+        self.flags.is_relative
     }
 
     fn wraps(&self) -> bool {
-        self.wraps
+        self.flags.wraps
     }
 
     fn is_nonlinear(&self) -> bool {
-        self.is_nonlinear
+        self.flags.is_nonlinear
     }
 
     fn has_no_preferred_state(&self) -> bool {
-        self.has_no_preferred_state
+        self.flags.has_no_preferred_state
     }
 
     fn has_null_state(&self) -> bool {
-        self.has_null_state
+        self.flags.has_null_state
     }
 
     fn is_buffered_bytes(&self) -> bool {
-        self.is_buffered_bytes
+        self.flags.is_buffered_bytes
     }
 }

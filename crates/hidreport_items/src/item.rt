@@ -1,4 +1,4 @@
-ghost use Rattle.hidreport_items.specs.Answer.{Gives, Writes};
+ghost use Rattle.hidreport_items.specs.Answer.{GivesInPlace, Writes};
 ghost use Rattle.hidreport_items.specs.Writing.{item_bytes};
 ghost use Rattle.std.specs.Prelude.{◌≡◌, true, ℕ, IfOk, List, Ok};
 ghost use Rattle.hidreport_items.specs.Canonical.{IsCanonical};
@@ -38,7 +38,7 @@ impl ItemType {
     /// `Reserved`, whatever its data. No bytes are `InsufficientData`. `OutOfMemory` comes only
     /// where there is no memory for a message.
     pub fn try_from(alloc: Global, bytes: &[u8]) -> Result<ItemType, HidError>
-        ensures { Gives result (read_with item_of bytes.now) }
+        ensures { GivesInPlace result (read_with item_of bytes.now) }
     {
         let Some((header, data_bytes)) = bytes.split_first() else {
             return Err(HidError::InsufficientData);
@@ -74,7 +74,7 @@ impl ItemType {
 
     /// The item with this header and data, whatever its type.
     fn from_parts(alloc: Global, header: u8, bytes: &[u8]) -> Result<ItemType, HidError>
-        ensures { Gives result (item_of header bytes.now) }
+        ensures { GivesInPlace result (item_of header bytes.now) }
     {
         match header >> 2 & 0x03 {
             0 => Ok(ItemType::Main(MainItem::from_parts(alloc, header, bytes)?)),

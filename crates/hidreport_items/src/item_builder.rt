@@ -1,5 +1,5 @@
-ghost use Rattle.std.specs.Prelude.{◌≡◌, true, false, None};
-ghost use Rattle.hidreport_items.specs.Said.{flags_said, no_flags};
+ghost use Rattle.std.specs.Prelude.{◌≡◌, true, false, Some, None};
+ghost use Rattle.hidreport_items.specs.Said.{flags_said, nothing_said, said_by};
 
 use crate::builder_state::{
     IBAbsolute, IBArray, IBBitfield, IBBuffered, IBConstant, IBData, IBLinear, IBNoNull,
@@ -15,8 +15,8 @@ use std::marker::{Model, PhantomData};
 
 /// Makes an Input, an Output or a Feature from its flags (Section 6.2.2.5).
 ///
-/// A flag of which nothing is said is off. Each parameter is what has been said of one flag, so that a
-/// flag is set at most once: a second setting doesn't compile.
+/// A flag of which nothing is said is off. Each parameter is what has been said of one flag, so
+/// that a flag is set at most once: a second setting doesn't compile.
 ///
 /// `ItemBuilder::new().variable().relative().input()` is the Input of a mouse's axes.
 #[derive(Drop)]
@@ -49,14 +49,14 @@ where
     I: IBSVol,
 {
     ghost use Rattle.std.specs.Prelude.{◌≡◌};
-    ghost use Rattle.hidreport_items.specs.Flags.{Flags};
-    ghost use Rattle.hidreport_items.specs.Said.{flags_said};
+    ghost use Rattle.hidreport_items.specs.Said.{Said, flags_said, said_by};
 
-    ghost Value = { Flags };
+    ghost Value = { Said };
 
-    ghost view = { λ b. b.flags };
+    ghost view = { λ b. said_by A.said B.said C.said D.said E.said F.said G.said H.said I.said };
 
-    ghost invariant = { λ b. b.flags ≡ flags_said A.said B.said C.said D.said E.said F.said G.said H.said I.said };
+    ghost invariant = { λ b. b.flags
+        ≡ flags_said (said_by A.said B.said C.said D.said E.said F.said G.said H.said I.said) };
 }
 
 impl ItemBuilder<
@@ -72,7 +72,7 @@ impl ItemBuilder<
 > {
     /// Nothing is said of any flag: all are off.
     pub fn new() -> Self
-        ensures { result ≡ no_flags }
+        ensures { result ≡ nothing_said }
     {
         ItemBuilder::with_flags(ItemFlags::default())
     }
@@ -92,8 +92,9 @@ where
 {
     /// The builder with these flags, which are those that its states say.
     fn with_flags(flags: ItemFlags) -> Self
-        requires { flags ≡ flags_said A.said B.said C.said D.said E.said F.said G.said H.said I.said }
-        ensures { result ≡ flags }
+        requires { flags
+            ≡ flags_said (said_by A.said B.said C.said D.said E.said F.said G.said H.said I.said) }
+        ensures { result ≡ said_by A.said B.said C.said D.said E.said F.said G.said H.said I.said }
     {
         ItemBuilder {
             flags,
@@ -103,24 +104,27 @@ where
 
     /// The Input with these flags; it has no flag 7.
     pub fn input(self) -> InputItem
-        ensures flags { result ≡ record self { volatile = false } }
-        ensures said { result ≡ record (flags_said A.said B.said C.said D.said E.said F.said G.said H.said I.said) { volatile = false } }
+        ensures flags { result ≡ record (flags_said self) { volatile = false } }
+        ensures said { self
+            ≡ said_by A.said B.said C.said D.said E.said F.said G.said H.said I.said }
     {
         InputItem::from_flags(self.flags)
     }
 
     /// The Output with these flags.
     pub fn output(self) -> OutputItem
-        ensures flags { result ≡ self }
-        ensures said { result ≡ flags_said A.said B.said C.said D.said E.said F.said G.said H.said I.said }
+        ensures flags { result ≡ flags_said self }
+        ensures said { self
+            ≡ said_by A.said B.said C.said D.said E.said F.said G.said H.said I.said }
     {
         OutputItem::from_flags(self.flags)
     }
 
     /// The Feature with these flags.
     pub fn feature(self) -> FeatureItem
-        ensures flags { result ≡ self }
-        ensures said { result ≡ flags_said A.said B.said C.said D.said E.said F.said G.said H.said I.said }
+        ensures flags { result ≡ flags_said self }
+        ensures said { self
+            ≡ said_by A.said B.said C.said D.said E.said F.said G.said H.said I.said }
     {
         FeatureItem::from_flags(self.flags)
     }
@@ -129,8 +133,8 @@ where
     pub fn constant(self) -> ItemBuilder<IBConstant, B, C, D, E, F, G, H, I>
     where
         A: IBUnsaid,
-        ensures unsaid { A.said ≡ None }
-        ensures flags { result ≡ record self { constant = true } }
+        ensures unsaid { self.constant ≡ None }
+        ensures said { result ≡ record self { constant = Some true } }
     {
         ItemBuilder::with_flags(ItemFlags {
             is_constant: true,
@@ -142,8 +146,8 @@ where
     pub fn data(self) -> ItemBuilder<IBData, B, C, D, E, F, G, H, I>
     where
         A: IBUnsaid,
-        ensures unsaid { A.said ≡ None }
-        ensures flags { result ≡ record self { constant = false } }
+        ensures unsaid { self.constant ≡ None }
+        ensures said { result ≡ record self { constant = Some false } }
     {
         ItemBuilder::with_flags(ItemFlags {
             is_constant: false,
@@ -155,8 +159,8 @@ where
     pub fn variable(self) -> ItemBuilder<A, IBVariable, C, D, E, F, G, H, I>
     where
         B: IBUnsaid,
-        ensures unsaid { B.said ≡ None }
-        ensures flags { result ≡ record self { variable = true } }
+        ensures unsaid { self.variable ≡ None }
+        ensures said { result ≡ record self { variable = Some true } }
     {
         ItemBuilder::with_flags(ItemFlags {
             is_variable: true,
@@ -168,8 +172,8 @@ where
     pub fn array(self) -> ItemBuilder<A, IBArray, C, D, E, F, G, H, I>
     where
         B: IBUnsaid,
-        ensures unsaid { B.said ≡ None }
-        ensures flags { result ≡ record self { variable = false } }
+        ensures unsaid { self.variable ≡ None }
+        ensures said { result ≡ record self { variable = Some false } }
     {
         ItemBuilder::with_flags(ItemFlags {
             is_variable: false,
@@ -181,8 +185,8 @@ where
     pub fn relative(self) -> ItemBuilder<A, B, IBRelative, D, E, F, G, H, I>
     where
         C: IBUnsaid,
-        ensures unsaid { C.said ≡ None }
-        ensures flags { result ≡ record self { relative = true } }
+        ensures unsaid { self.relative ≡ None }
+        ensures said { result ≡ record self { relative = Some true } }
     {
         ItemBuilder::with_flags(ItemFlags {
             is_relative: true,
@@ -194,8 +198,8 @@ where
     pub fn absolute(self) -> ItemBuilder<A, B, IBAbsolute, D, E, F, G, H, I>
     where
         C: IBUnsaid,
-        ensures unsaid { C.said ≡ None }
-        ensures flags { result ≡ record self { relative = false } }
+        ensures unsaid { self.relative ≡ None }
+        ensures said { result ≡ record self { relative = Some false } }
     {
         ItemBuilder::with_flags(ItemFlags {
             is_relative: false,
@@ -207,8 +211,8 @@ where
     pub fn wrap(self) -> ItemBuilder<A, B, C, IBWrap, E, F, G, H, I>
     where
         D: IBUnsaid,
-        ensures unsaid { D.said ≡ None }
-        ensures flags { result ≡ record self { wrap = true } }
+        ensures unsaid { self.wrap ≡ None }
+        ensures said { result ≡ record self { wrap = Some true } }
     {
         ItemBuilder::with_flags(ItemFlags {
             wraps: true,
@@ -220,8 +224,8 @@ where
     pub fn nowrap(self) -> ItemBuilder<A, B, C, IBNoWrap, E, F, G, H, I>
     where
         D: IBUnsaid,
-        ensures unsaid { D.said ≡ None }
-        ensures flags { result ≡ record self { wrap = false } }
+        ensures unsaid { self.wrap ≡ None }
+        ensures said { result ≡ record self { wrap = Some false } }
     {
         ItemBuilder::with_flags(ItemFlags {
             wraps: false,
@@ -233,8 +237,8 @@ where
     pub fn nonlinear(self) -> ItemBuilder<A, B, C, D, IBNonLinear, F, G, H, I>
     where
         E: IBUnsaid,
-        ensures unsaid { E.said ≡ None }
-        ensures flags { result ≡ record self { nonlinear = true } }
+        ensures unsaid { self.nonlinear ≡ None }
+        ensures said { result ≡ record self { nonlinear = Some true } }
     {
         ItemBuilder::with_flags(ItemFlags {
             is_nonlinear: true,
@@ -246,8 +250,8 @@ where
     pub fn linear(self) -> ItemBuilder<A, B, C, D, IBLinear, F, G, H, I>
     where
         E: IBUnsaid,
-        ensures unsaid { E.said ≡ None }
-        ensures flags { result ≡ record self { nonlinear = false } }
+        ensures unsaid { self.nonlinear ≡ None }
+        ensures said { result ≡ record self { nonlinear = Some false } }
     {
         ItemBuilder::with_flags(ItemFlags {
             is_nonlinear: false,
@@ -259,8 +263,8 @@ where
     pub fn no_preferred_state(self) -> ItemBuilder<A, B, C, D, E, IBNoPreferred, G, H, I>
     where
         F: IBUnsaid,
-        ensures unsaid { F.said ≡ None }
-        ensures flags { result ≡ record self { no_preferred_state = true } }
+        ensures unsaid { self.no_preferred_state ≡ None }
+        ensures said { result ≡ record self { no_preferred_state = Some true } }
     {
         ItemBuilder::with_flags(ItemFlags {
             has_no_preferred_state: true,
@@ -272,8 +276,8 @@ where
     pub fn preferred_state(self) -> ItemBuilder<A, B, C, D, E, IBPreferred, G, H, I>
     where
         F: IBUnsaid,
-        ensures unsaid { F.said ≡ None }
-        ensures flags { result ≡ record self { no_preferred_state = false } }
+        ensures unsaid { self.no_preferred_state ≡ None }
+        ensures said { result ≡ record self { no_preferred_state = Some false } }
     {
         ItemBuilder::with_flags(ItemFlags {
             has_no_preferred_state: false,
@@ -285,8 +289,8 @@ where
     pub fn null(self) -> ItemBuilder<A, B, C, D, E, F, IBNull, H, I>
     where
         G: IBUnsaid,
-        ensures unsaid { G.said ≡ None }
-        ensures flags { result ≡ record self { null_state = true } }
+        ensures unsaid { self.null_state ≡ None }
+        ensures said { result ≡ record self { null_state = Some true } }
     {
         ItemBuilder::with_flags(ItemFlags {
             has_null_state: true,
@@ -298,8 +302,8 @@ where
     pub fn no_null(self) -> ItemBuilder<A, B, C, D, E, F, IBNoNull, H, I>
     where
         G: IBUnsaid,
-        ensures unsaid { G.said ≡ None }
-        ensures flags { result ≡ record self { null_state = false } }
+        ensures unsaid { self.null_state ≡ None }
+        ensures said { result ≡ record self { null_state = Some false } }
     {
         ItemBuilder::with_flags(ItemFlags {
             has_null_state: false,
@@ -311,8 +315,8 @@ where
     pub fn buffered_bytes(self) -> ItemBuilder<A, B, C, D, E, F, G, IBBuffered, I>
     where
         H: IBUnsaid,
-        ensures unsaid { H.said ≡ None }
-        ensures flags { result ≡ record self { buffered_bytes = true } }
+        ensures unsaid { self.buffered_bytes ≡ None }
+        ensures said { result ≡ record self { buffered_bytes = Some true } }
     {
         ItemBuilder::with_flags(ItemFlags {
             is_buffered_bytes: true,
@@ -324,8 +328,8 @@ where
     pub fn bitfield(self) -> ItemBuilder<A, B, C, D, E, F, G, IBBitfield, I>
     where
         H: IBUnsaid,
-        ensures unsaid { H.said ≡ None }
-        ensures flags { result ≡ record self { buffered_bytes = false } }
+        ensures unsaid { self.buffered_bytes ≡ None }
+        ensures said { result ≡ record self { buffered_bytes = Some false } }
     {
         ItemBuilder::with_flags(ItemFlags {
             is_buffered_bytes: false,
@@ -337,8 +341,8 @@ where
     pub fn volatile(self) -> ItemBuilder<A, B, C, D, E, F, G, H, IBVolatile>
     where
         I: IBUnsaid,
-        ensures unsaid { I.said ≡ None }
-        ensures flags { result ≡ record self { volatile = true } }
+        ensures unsaid { self.volatile ≡ None }
+        ensures said { result ≡ record self { volatile = Some true } }
     {
         ItemBuilder::with_flags(ItemFlags {
             is_volatile: true,
@@ -350,8 +354,8 @@ where
     pub fn non_volatile(self) -> ItemBuilder<A, B, C, D, E, F, G, H, IBNonVolatile>
     where
         I: IBUnsaid,
-        ensures unsaid { I.said ≡ None }
-        ensures flags { result ≡ record self { volatile = false } }
+        ensures unsaid { self.volatile ≡ None }
+        ensures said { result ≡ record self { volatile = Some false } }
     {
         ItemBuilder::with_flags(ItemFlags {
             is_volatile: false,

@@ -1,5 +1,5 @@
 ghost use Rattle.std.specs.Prelude.{◌≡◌, ◌+◌, ◌*◌};
-ghost use Rattle.hidreport_items.specs.Answer.{Gives, Writes};
+ghost use Rattle.hidreport_items.specs.Answer.{GivesInPlace, Writes};
 ghost use Rattle.hidreport_items.specs.Writing.{local_bytes, local_prefix};
 ghost use Rattle.hidreport_items.specs.Spelling.{local_item, usage_item, read_with};
 
@@ -65,7 +65,7 @@ impl LocalItem {
     /// local item is `Reserved`, with the header without its size code. `OutOfMemory` comes only
     /// where there is no memory for a message.
     pub fn try_from(alloc: Global, bytes: &[u8]) -> Result<LocalItem, HidError>
-        ensures { Gives result (read_with local_item bytes.now) }
+        ensures { GivesInPlace result (read_with local_item bytes.now) }
     {
         let Some((header, data_bytes)) = bytes.split_first() else {
             return Err(HidError::InsufficientData);
@@ -119,7 +119,7 @@ impl LocalItem {
 
     /// The local item with this header and data.
     pub(crate) fn from_parts(alloc: Global, header: u8, bytes: &[u8]) -> Result<LocalItem, HidError>
-        ensures { Gives result (local_item header bytes.now) }
+        ensures { GivesInPlace result (local_item header bytes.now) }
     {
         if bytes.is_empty() {
             return Err(HidError::InsufficientData);

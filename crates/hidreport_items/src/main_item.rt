@@ -1,7 +1,9 @@
-ghost use Rattle.std.specs.Prelude.{◌≡◌};
-ghost use Rattle.hidreport_items.specs.Answer.{Gives, Writes};
+ghost use Rattle.std.specs.Prelude.{◌≡◌, [], MatchResult, Ok};
+ghost use Rattle.hidreport_items.specs.Answer.{GivesInPlace, Writes};
 ghost use Rattle.hidreport_items.specs.Writing.{main_bytes};
-ghost use Rattle.hidreport_items.specs.Spelling.{main_item, collection_item, collection_of, kind_number, first_or_zero, read_with};
+ghost use Rattle.hidreport_items.specs.declared.error.HidError.TheVariants.{InsufficientData};
+ghost use Rattle.hidreport_items.specs.Spelling.{main_item, collection_item, collection_of};
+ghost use Rattle.hidreport_items.specs.Spelling.{kind_number, first_or_zero, read_with};
 
 use crate::error::HidError;
 use crate::feature::FeatureItem;
@@ -118,7 +120,9 @@ impl From<CollectionItem> for u8 {
 impl TryFrom<&[u8]> for CollectionItem {
     type Error = HidError;
 
-    ghost try_from_gives = { λ bytes kind. Gives kind (read_with (λ _. collection_of) bytes.now) };
+    ghost try_from_gives = { λ bytes kind. MatchResult kind
+        (λ k. read_with (λ _. collection_of) bytes.now ≡ Ok k)
+        (λ error. (bytes.now ≡ []) × (error ≡ InsufficientData)) };
 
     fn try_from(bytes: &[u8]) -> Result<CollectionItem, HidError> {
         match bytes.split_first() {
@@ -160,7 +164,7 @@ impl MainItem {
     /// physical; EndCollection ignores its data. `OutOfMemory` comes only where there is no memory
     /// for a message.
     pub fn try_from(alloc: Global, bytes: &[u8]) -> Result<MainItem, HidError>
-        ensures { Gives result (read_with main_item bytes.now) }
+        ensures { GivesInPlace result (read_with main_item bytes.now) }
     {
         let Some((header, data_bytes)) = bytes.split_first() else {
             return Err(HidError::InsufficientData);
@@ -186,7 +190,7 @@ impl MainItem {
 
     /// The main item with this header and data.
     pub(crate) fn from_parts(alloc: Global, header: u8, bytes: &[u8]) -> Result<MainItem, HidError>
-        ensures { Gives result (main_item header bytes.now) }
+        ensures { GivesInPlace result (main_item header bytes.now) }
     {
         match header & 0xfc {
             0x80 => Ok(MainItem::Input(InputItem::from_data(alloc, bytes)?)),

@@ -22,7 +22,9 @@ pub(crate) fn tag_fault(alloc: Global, header: u8) -> HidError
 
 /// Data that is refused with this message, or want of memory for it.
 pub(crate) fn fault(message: Result<String, AllocError>) -> HidError
-    ensures { MatchResult message (λ t. IsFault result (string_bytes t)) (λ _. result ≡ HidError.OutOfMemory) }
+    ensures { MatchResult message
+        (λ t. IsFault result (string_bytes t))
+        (λ _. result ≡ HidError.OutOfMemory) }
 {
     match message {
         Ok(message) => HidError::InvalidData { message },

@@ -1,11 +1,12 @@
 //! Items as bytes.
 ghost use Rattle.std.specs.Prelude.{◌≡◌, ◌≤◌, ◌<◌, ◌^◌, length, pos};
 ghost use Rattle.hidreport_items.specs.Answer.{Writes};
-ghost use Rattle.hidreport_items.specs.Writing.{count_data, flag_bit, flags_data, four_bytes, signed_data, size_code};
+ghost use Rattle.hidreport_items.specs.Writing.{count_data, flag_bit, flags_data, four_bytes};
+ghost use Rattle.hidreport_items.specs.Writing.{signed_data, size_code};
 ghost use Rattle.hidreport_items.specs.Writing.{unsigned_data, with_header};
 
 use crate::error::HidError;
-use crate::flags::MainDataItem;
+use crate::flags::ItemFlags;
 use std::alloc::Global;
 
 /// A header without its size code, and the data that gives it one.
@@ -78,24 +79,19 @@ pub(crate) fn four_bytes(alloc: Global, prefix: u8, number: u32) -> Result<Vec<u
 }
 
 /// A data item with its flags, in two bytes where it is of buffered bytes, else in one.
-pub(crate) fn flags<M: MainDataItem>(
-    alloc: Global,
-    prefix: u8,
-    item: &M,
-    is_volatile: bool,
-) -> Result<Vec<u8>, HidError>
+pub(crate) fn flags(alloc: Global, prefix: u8, flags: ItemFlags) -> Result<Vec<u8>, HidError>
     requires { prefix ≤ 252 }
-    ensures { Writes result (with_header prefix (flags_data (record (M.flags item.now) { volatile = is_volatile }))) }
+    ensures { Writes result (with_header prefix (flags_data flags)) }
 {
-    let low = flag(item.is_constant(), 0)
-        + flag(item.is_variable(), 1)
-        + flag(item.is_relative(), 2)
-        + flag(item.wraps(), 3)
-        + flag(item.is_nonlinear(), 4)
-        + flag(item.has_no_preferred_state(), 5)
-        + flag(item.has_null_state(), 6)
-        + flag(is_volatile, 7);
-    if item.is_buffered_bytes() {
+    let low = flag(flags.is_constant, 0)
+        + flag(flags.is_variable, 1)
+        + flag(flags.is_relative, 2)
+        + flag(flags.wraps, 3)
+        + flag(flags.is_nonlinear, 4)
+        + flag(flags.has_no_preferred_state, 5)
+        + flag(flags.has_null_state, 6)
+        + flag(flags.is_volatile, 7);
+    if flags.is_buffered_bytes {
         with_header(alloc, prefix, &[low, 1])
     } else {
         with_header(alloc, prefix, &[low])

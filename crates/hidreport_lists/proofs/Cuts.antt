@@ -14,7 +14,7 @@ use Rattle.hidreport_lists.specs.Itemising.{Reader, Reads, joined, AreInPlace, A
 use Rattle.hidreport_lists.specs.Messages.{grammar_message}
 use Rattle.hidreport_lists.specs.declared.error.ParserError.{ParserError}
 use Rattle.hidreport_lists.specs.declared.error.ParserError.TheVariants as parser
-use Rattle.hidreport_lists.proofs.Items.{items_from-inside, item_at-enough, chosen_ok, enough, with_front}
+use Rattle.hidreport_lists.proofs.Items.{items_from-inside, item_at-enough, chosen_ok, enough, with_front, itemise-some}
 
 -- a header and its data, before other bytes, are the first item
 step-header : (read : Reader) (offset h : ℕ) (bs : List ℕ) (x : ItemType) (rest : List ℕ) → length bs ≡ announced h → read h bs ≡ Ok x
@@ -58,10 +58,6 @@ stop-all read (e ∷ es) offset header after fault each why =
     ∙ step read offset e.bytes e.item (joined es ++ header ∷ after) each.0
     ∙ ap (with_entry offset e.bytes (Ok e.item)) (stop-all read es (offset + length e.bytes) header after fault each.1 why)
     ∙ ap (λ n. Err (n, fault)) (let e2 : offset + length e.bytes + length (joined es) ≡ offset + length (e.bytes ++ joined es) = simp length-append (omega arith) in e2)
-
-itemise-some : (read : Reader) (bytes : List ℕ) → bytes ≢ [] → itemise read bytes ≡ items_from read 0 0 bytes
-itemise-some read [] ne = absurd (ne refl)
-itemise-some read (b ∷ bs) ne = refl
 
 -- an itemising is the one that is computed
 pub itemise-items : (read : Reader) (bytes : List ℕ) (entries : List Entry) → Itemises read bytes entries → itemise read bytes ≡ Ok entries

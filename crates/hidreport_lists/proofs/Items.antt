@@ -1,7 +1,8 @@
 -- One item at a time: the items of the rest behind those that were cut off before.
 use Rattle.std.proofs.Common.{◌≡◌, ◌≢◌, ℕ, zero, suc, ◌+◌, ◌<◌, ◌≤◌, Bool, true, false, cond, List, [], ◌∷◌, ◌++◌, length, take, drop, Result, Ok, Err, None, IfSome, string_bytes, refl, sym, ap, ◌∙◌, subst, arith, nat_lt, length-take, append_assoc, one-add}
 use Rattle.std.proofs.lemmas.Grind.{common_steps}
-use Rattle.hidreport_items.specs.Answer.{Fault, Invalid, Insufficient, Fails}
+use Rattle.hidreport_items.specs.Answer.{Fault, Invalid, Insufficient, FailsInPlace}
+use Rattle.hidreport_items.proofs.Reading.{fails_read_as}
 use Rattle.hidreport_items.specs.declared.error.HidError.{HidError}
 use Rattle.hidreport_items.specs.declared.error.HidError.TheVariants as errors
 use Rattle.hidreport_items.specs.Spelling.{item_of, read_with}
@@ -26,15 +27,6 @@ chosen_ok false e r x h = (refl, h)
 pub read_as_ok : {A B : Type 0} (f : A → B) (r : Result A Fault) (y : B) → read_as f r ≡ Ok y → (x : A) × (r ≡ Ok x) × (f x ≡ y)
 read_as_ok f (Ok x) y h = (x, refl, cc)
 read_as_ok f (Err e) y h = cc
-
--- a fault of the part is the whole's
-pub fails_read_as : {A B : Type 0} (f : A → B) (read : Result A Fault) (e : HidError) → Fails e read → Fails e (read_as f read)
-fails_read_as f (Ok x) (errors.InvalidData message) h = cc
-fails_read_as f (Ok x) errors.InsufficientData h = cc
-fails_read_as f (Ok x) errors.OutOfMemory h = tt
-fails_read_as f (Err y) (errors.InvalidData message) h = cc
-fails_read_as f (Err y) errors.InsufficientData h = cc
-fails_read_as f (Err y) errors.OutOfMemory h = tt
 
 pub read_as_err : {A B : Type 0} (f : A → B) (r : Result A Fault) (e : Fault) → read_as f r ≡ Err e → r ≡ Err e
 read_as_err f (Ok x) e h = cc
@@ -68,12 +60,12 @@ short_item-ok bytes h after a x e ea le r =
 
 -- a fault of the header and its data is the item's
 pub short_item-fails : (bytes : List ℕ) (h : ℕ) (after : List ℕ) (a : ℕ) (e : HidError) → bytes ≡ h ∷ after → a ≡ announced h → a ≤ length after
-    → Fails e (read_with item_of (take (1 + a) bytes)) → Fails e (short_item item_of bytes)
+    → FailsInPlace e (read_with item_of (take (1 + a) bytes)) → FailsInPlace e (short_item item_of bytes)
 short_item-fails bytes h after a error e ea le f =
     let spelled : ItemType → Spelled = λ y. record { bytes = h ∷ take (announced h) after; item = y } in
     let same : item_at item_of h after ≡ read_with item_of (take (1 + a) bytes) = item_at-first bytes h after a e ea le in
-    let part : Fails error (item_at item_of h after) = subst (λ (r : Result ItemType Fault). Fails error r) (sym same) f in
-    subst (λ (l : List ℕ). Fails error (short_item item_of l)) (sym e) (fails_read_as spelled (item_at item_of h after) error part)
+    let part : FailsInPlace error (item_at item_of h after) = subst (λ (r : Result ItemType Fault). FailsInPlace error r) (sym same) f in
+    subst (λ (l : List ℕ). FailsInPlace error (short_item item_of l)) (sym e) (fails_read_as spelled (item_at item_of h after) error part)
 
 -- the items before, and then those of the rest
 abbrev pub with_front : List Entry → Result (List Entry) (ℕ × Fault) → Result (List Entry) (ℕ × Fault)
@@ -143,21 +135,21 @@ refuses-invalid parser.MismatchingReportId offset message answer named e = absur
 refuses-invalid parser.OutOfMemory offset message answer named e = tt
 
 -- bytes of which the first stands at 0
-itemise-some : (bytes : List ℕ) → bytes ≢ [] → itemise item_of bytes ≡ items_from item_of 0 0 bytes
-itemise-some [] ne = absurd (ne refl)
-itemise-some (b ∷ bs) ne = refl
+pub itemise-some : (read : Reader) (bytes : List ℕ) → bytes ≢ [] → itemise read bytes ≡ items_from read 0 0 bytes
+itemise-some read [] ne = absurd (ne refl)
+itemise-some read (b ∷ bs) ne = refl
 
 -- the fault of the rest is that of all the bytes
 fault-whole : (bytes rest : List ℕ) (front : List Entry) (offset : ℕ) (fault : Fault) → bytes ≢ [] → rest ≢ []
     → with_front front (items_from item_of offset 0 rest) ≡ items_from item_of 0 0 bytes
     → short_item item_of rest ≡ Err fault → as_refusal (itemise item_of bytes) ≡ Err (InvalidAt offset (grammar_message fault))
 fault-whole bytes rest front offset fault some more same e =
-    ap as_refusal (itemise-some bytes some ∙ sym same ∙ ap (with_front front) (items_from-fault offset rest fault more e))
+    ap as_refusal (itemise-some item_of bytes some ∙ sym same ∙ ap (with_front front) (items_from-fault offset rest fault more e))
 
 -- the reader's error, placed, is the answer
 pub refuses-fault : (bytes rest : List ℕ) (front : List Entry) (offset : ℕ) (fault : HidError) (error : ParserError) → bytes ≢ [] → rest ≢ []
     → with_front front (items_from item_of offset 0 rest) ≡ items_from item_of 0 0 bytes
-    → Fails fault (short_item item_of rest)
+    → FailsInPlace fault (short_item item_of rest)
     → IfSome (fault_of fault) (λ f. IsInvalidAt error offset (grammar_message f)) → (fault_of fault ≡ None → error ≡ parser.OutOfMemory)
     → Refuses error (as_refusal (itemise item_of bytes))
 refuses-fault bytes rest front offset (errors.InvalidData message) error some more same e named memory =

@@ -6,8 +6,9 @@ use Rattle.hidreport_items.specs.declared.error.HidError.TheVariants as faults
 use Rattle.hidreport_lists.specs.declared.error.ParserError.{ParserError}
 use Rattle.hidreport_lists.specs.declared.error.ParserError.TheVariants as errors
 
--- why a descriptor or a report is refused: data is wrong at an offset, for the reason that the message
--- gives; something passes what can be counted or lies outside the bytes; the bytes are of another report
+-- why a descriptor or a report is refused: data is wrong at an offset, for the reason that the
+-- message gives; something passes what can be counted or lies outside the bytes; the bytes are of
+-- another report
 pub data Refusal : Type 0 where
   InvalidAt : ℕ → List ℕ → Refusal
   Bounds : Refusal
@@ -15,7 +16,8 @@ pub data Refusal : Type 0 where
 
 -- the error is this refusal; want of memory says nothing
 abbrev pub Refuses : {A : Type 0} → ParserError → Result A Refusal → Type 0
-Refuses (errors.InvalidData offset message) answer = answer ≡ Err (InvalidAt offset (string_bytes message))
+Refuses (errors.InvalidData offset message) answer =
+    answer ≡ Err (InvalidAt offset (string_bytes message))
 Refuses errors.OutOfBounds answer = answer ≡ Err Bounds
 Refuses errors.MismatchingReportId answer = answer ≡ Err Mismatch
 Refuses errors.OutOfMemory answer = Unit {0}
@@ -27,7 +29,8 @@ Answers (Err e) answer = Refuses e answer
 
 -- the error is data refused at the offset with this message, or want of memory
 abbrev pub IsInvalidAt : ParserError → ℕ → List ℕ → Type 0
-IsInvalidAt (errors.InvalidData at text) offset message = (at ≡ offset) × (string_bytes text ≡ message)
+IsInvalidAt (errors.InvalidData at text) offset message =
+    (at ≡ offset) × (string_bytes text ≡ message)
 IsInvalidAt errors.OutOfBounds offset message = ⊥
 IsInvalidAt errors.MismatchingReportId offset message = ⊥
 IsInvalidAt errors.OutOfMemory offset message = Unit {0}

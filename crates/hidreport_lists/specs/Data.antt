@@ -1,5 +1,6 @@
 -- The data bytes of an item, and what they are taken for (Section 6.2.2.2).
-use Rattle.std.specs.Prelude.{ℕ, ◌/◌, if◌then◌else◌, List, [], ◌∷◌, ◌++◌, drop, length, Option, None, Some, Result, Ok, Err, codes, decimal}
+use Rattle.std.specs.Prelude.{ℕ, if◌then◌else◌, List, [], ◌∷◌, ◌++◌, length, Option, None, Some}
+use Rattle.std.specs.Prelude.{Result, Ok, Err, codes, decimal}
 use Rattle.hidreport_items.specs.Answer.{Fault, Invalid, Insufficient}
 use Rattle.hidreport_items.specs.Numbers.{word, is_short_length}
 
@@ -14,7 +15,9 @@ byte_message n = codes "Cannot convert " ++ (decimal n ++ codes " bytes to u8")
 -- data of 1, 2 or 4 bytes
 abbrev pub of_data : {A : Type 0} → List ℕ → A → Result A Fault
 of_data [] x = Err Insufficient
-of_data (b ∷ bs) x = if is_short_length (length (b ∷ bs)) then Ok x else Err (Invalid (length_message (length (b ∷ bs))))
+of_data (b ∷ bs) x =
+    if is_short_length (length (b ∷ bs)) then Ok x
+    else Err (Invalid (length_message (length (b ∷ bs))))
 
 -- data as an unsigned number
 abbrev pub data_number : List ℕ → Result ℕ Fault

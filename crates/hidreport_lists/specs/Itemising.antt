@@ -1,6 +1,8 @@
--- A descriptor's bytes as a list of items (Section 6.2.2.1): each item begins where the one before it ends.
+-- A descriptor's bytes as a list of items (Section 6.2.2.1): each item begins where the one before
+-- it ends.
 -- `read` gives the item of a header and its data, or why they are none.
-use Rattle.std.specs.Prelude.{◌≡◌, ◌≢◌, ℕ, ◌+◌, zero, suc, nat_lt, if◌then◌else◌, List, [], ◌∷◌, ◌++◌, length, take, flat_map, Result, Ok, Err, string_bytes}
+use Rattle.std.specs.Prelude.{◌≡◌, ◌≢◌, ℕ, ◌+◌, zero, suc, nat_lt, if◌then◌else◌, List, [], ◌∷◌}
+use Rattle.std.specs.Prelude.{◌++◌, length, take, flat_map, Result, Ok, Err, string_bytes}
 use Rattle.hidreport_items.specs.Answer.{Fault, Insufficient}
 use Rattle.hidreport_items.specs.Spelling.{announced, AreBytes, read_as}
 use Rattle.hidreport_items.specs.declared.item.ItemType.{ItemType}
@@ -42,10 +44,12 @@ pub record Itemises (read : Reader) (bytes : List ℕ) (entries : List Entry) : 
 
 -- what the first item of h and the bytes after it is, or why there is none
 abbrev pub item_at : Reader → ℕ → List ℕ → Result ItemType Fault
-item_at read h bs = if nat_lt (length bs) (announced h) then Err Insufficient else read h (take (announced h) bs)
+item_at read h bs =
+    if nat_lt (length bs) (announced h) then Err Insufficient
+    else read h (take (announced h) bs)
 
--- The bytes before the offset are items, or none; no beginning of the rest, which isn't empty, is one, and
--- this is why.
+-- The bytes before the offset are items, or none; no beginning of the rest, which isn't empty, is
+-- one, and this is why.
 pub record IsFaultAt (read : Reader) (bytes : List ℕ) (offset : ℕ) (fault : Fault) : Type 0 where
   pub entries : List Entry
   pub header : ℕ
@@ -56,26 +60,31 @@ pub record IsFaultAt (read : Reader) (bytes : List ℕ) (offset : ℕ) (fault : 
   pub none : (n : ℕ) (x : ItemType) → Reads read (take n (header ∷ after)) x → ⊥
   pub why : item_at read header after ≡ Err fault
 
--- the error is data that can't be read, where the bytes have this fault, and says why; want of memory says nothing
+-- the error is data that can't be read, where the bytes have this fault, and says why; want of
+-- memory says nothing
 abbrev pub IsGrammarFault : Reader → List ℕ → ParserError → Type 0
 IsGrammarFault read bytes (errors.InvalidData offset message) =
-    (fault : Fault) × IsFaultAt read bytes offset fault × (string_bytes message ≡ grammar_message fault)
+    (fault : Fault) × IsFaultAt read bytes offset fault
+    × (string_bytes message ≡ grammar_message fault)
 IsGrammarFault read bytes errors.OutOfBounds = ⊥
 IsGrammarFault read bytes errors.MismatchingReportId = ⊥
 IsGrammarFault read bytes errors.OutOfMemory = Unit {0}
 
 -- an item before others, unless it or they can't be read
-abbrev pub with_entry : ℕ → List ℕ → Result ItemType Fault → Result (List Entry) (ℕ × Fault) → Result (List Entry) (ℕ × Fault)
+abbrev pub with_entry : ℕ → List ℕ → Result ItemType Fault → Result (List Entry) (ℕ × Fault)
+    → Result (List Entry) (ℕ × Fault)
 with_entry offset bytes (Err fault) rest = Err (offset, fault)
 with_entry offset bytes (Ok x) (Err fault) = Err fault
-with_entry offset bytes (Ok x) (Ok entries) = Ok (record { offset = offset; bytes = bytes; item = x } ∷ entries)
+with_entry offset bytes (Ok x) (Ok entries) =
+    Ok (record { offset = offset; bytes = bytes; item = x } ∷ entries)
 
--- The items of the bytes, of which the first stands at the offset; a count of them still belongs to the item
--- before. What can't be read comes with its offset.
+-- The items of the bytes, of which the first stands at the offset; a count of them still belongs to
+-- the item before. What can't be read comes with its offset.
 abbrev pub items_from : Reader → ℕ → ℕ → List ℕ → Result (List Entry) (ℕ × Fault)
 items_from read offset inside [] = Ok []
 items_from read offset zero (h ∷ bs) =
-    with_entry offset (h ∷ take (announced h) bs) (item_at read h bs) (items_from read (offset + 1) (announced h) bs)
+    with_entry offset (h ∷ take (announced h) bs) (item_at read h bs)
+    (items_from read (offset + 1) (announced h) bs)
 items_from read offset (suc inside) (b ∷ bs) = items_from read (offset + 1) inside bs
 
 -- the items of a descriptor, or its grammar fault
@@ -91,4 +100,5 @@ as_refusal (Err fault) = Err (InvalidAt fault.0 (grammar_message fault.1))
 -- the item at the front of the bytes, with the bytes that spell it
 abbrev pub short_item : Reader → List ℕ → Result Spelled Fault
 short_item read [] = Err Insufficient
-short_item read (h ∷ bs) = read_as (λ x. record { bytes = h ∷ take (announced h) bs; item = x }) (item_at read h bs)
+short_item read (h ∷ bs) =
+    read_as (λ x. record { bytes = h ∷ take (announced h) bs; item = x }) (item_at read h bs)

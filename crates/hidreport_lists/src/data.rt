@@ -1,6 +1,7 @@
 ghost use Rattle.std.specs.Prelude.{◌≡◌, IfOk, MatchResult, string_bytes};
-ghost use Rattle.hidreport_items.specs.Answer.{Gives, GivesList, IsFault};
-ghost use Rattle.hidreport_lists.specs.Data.{byte_message, data_byte, data_list, data_number, length_message};
+ghost use Rattle.hidreport_items.specs.Answer.{GivesInPlace, GivesList, IsFault};
+ghost use Rattle.hidreport_lists.specs.Data.{byte_message, data_byte, data_list, data_number};
+ghost use Rattle.hidreport_lists.specs.Data.{length_message};
 
 use hidreport_items::HidError;
 use std::alloc::{AllocError, Global};
@@ -41,7 +42,7 @@ impl<'a> ItemData<'a> {
     /// `Size of {n} cannot happen`. `OutOfMemory` comes only where there is no memory for the
     /// message.
     pub fn to_u32(&self, alloc: Global) -> Result<u32, HidError>
-        ensures { Gives result (data_number self.now) }
+        ensures { GivesInPlace result (data_number self.now) }
     {
         match self.bytes {
             [] => Err(HidError::InsufficientData),
@@ -57,7 +58,7 @@ impl<'a> ItemData<'a> {
     /// No data is `InsufficientData`; `n` bytes are `InvalidData`, `Cannot convert {n} bytes to
     /// u8`. `OutOfMemory` comes only where there is no memory for the message.
     pub fn to_u8(&self, alloc: Global) -> Result<u8, HidError>
-        ensures { Gives result (data_byte self.now) }
+        ensures { GivesInPlace result (data_byte self.now) }
     {
         match self.bytes {
             [] => Err(HidError::InsufficientData),
@@ -83,7 +84,9 @@ impl<'a> ItemData<'a> {
 
 /// Data that is refused with this message, or want of memory for it.
 fn fault(message: Result<String, AllocError>) -> HidError
-    ensures { MatchResult message (λ t. IsFault result (string_bytes t)) (λ _. result ≡ HidError.OutOfMemory) }
+    ensures { MatchResult message
+        (λ t. IsFault result (string_bytes t))
+        (λ _. result ≡ HidError.OutOfMemory) }
 {
     match message {
         Ok(message) => HidError::InvalidData { message },

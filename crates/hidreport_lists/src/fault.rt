@@ -18,7 +18,8 @@ pub(crate) fn fault_at(alloc: Global, offset: usize, fault: HidError) -> ParserE
 }
 
 fn message(alloc: Global, fault: HidError) -> Result<String, AllocError>
-    ensures named { IfSome (fault_of fault) (λ f. MatchResult result (λ t. string_bytes t ≡ grammar_message f) (λ _. Unit {0})) }
+    ensures named { IfSome (fault_of fault) (λ f.
+        MatchResult result (λ t. string_bytes t ≡ grammar_message f) (λ _. Unit {0})) }
     ensures memory { fault_of fault ≡ None → OnOk result (Unit {0} → ⊥) }
 {
     match fault {

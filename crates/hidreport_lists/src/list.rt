@@ -3,7 +3,8 @@ ghost use Rattle.hidreport_items.specs.Answer.{Fault};
 ghost use Rattle.hidreport_items.specs.Spelling.{item_of};
 ghost use Rattle.hidreport_lists.specs.Answer.{Answers, InvalidAt};
 ghost use Rattle.hidreport_lists.specs.Entry.{Entry};
-ghost use Rattle.hidreport_lists.specs.Itemising.{as_refusal, itemise, Itemises, IsFaultAt, IsGrammarFault};
+ghost use Rattle.hidreport_lists.specs.Itemising.{as_refusal, itemise, Itemises, IsFaultAt};
+ghost use Rattle.hidreport_lists.specs.Itemising.{IsGrammarFault};
 ghost use Rattle.hidreport_lists.specs.Messages.{grammar_message};
 
 use crate::error::ParserError;
@@ -68,9 +69,13 @@ impl ReportDescriptorItems {
     pub fn try_from(alloc: Global, bytes: &[u8]) -> Result<ReportDescriptorItems, ParserError>
         ensures exact { Answers result (as_refusal (itemise item_of bytes.now)) }
         ensures items { IfOk result (λ items. Itemises item_of bytes.now items) }
-        ensures only_items { (entries : List Entry) → Itemises item_of bytes.now entries → Answers result (Ok entries) }
-        ensures fault { bytes.now ≢ [] → IfErr result (λ error. IsGrammarFault item_of bytes.now error) }
-        ensures only_fault { (offset : ℕ) (fault : Fault) → IsFaultAt item_of bytes.now offset fault → Answers result (Err (InvalidAt offset (grammar_message fault))) }
+        ensures only_items { (entries : List Entry)
+            → Itemises item_of bytes.now entries → Answers result (Ok entries) }
+        ensures fault { bytes.now ≢ []
+            → IfErr result (λ error. IsGrammarFault item_of bytes.now error) }
+        ensures only_fault { (offset : ℕ) (fault : Fault)
+            → IsFaultAt item_of bytes.now offset fault
+            → Answers result (Err (InvalidAt offset (grammar_message fault))) }
     {
         if bytes.is_empty() {
             return Err(fault_at(alloc, 0, HidError::InsufficientData));

@@ -1,5 +1,5 @@
 ghost use Rattle.std.specs.Prelude.{◌≡◌, ◌≤◌, ◌/◌, ◌%◌, Bool, false, List, ℕ, drop, length, take};
-ghost use Rattle.hidreport_items.specs.Answer.{Gives};
+ghost use Rattle.hidreport_items.specs.Answer.{Gives, GivesInPlace};
 ghost use Rattle.hidreport_items.specs.Spelling.{item_of};
 ghost use Rattle.hidreport_items.specs.Spelling.{announced, first_or_zero};
 ghost use Rattle.hidreport_items.specs.Writing.{item_bytes};
@@ -83,7 +83,7 @@ impl ShortItem {
     /// No bytes, or fewer than the header announces, are `InsufficientData`; else the refusals are
     /// those of `ItemType::try_from` of just the announced bytes.
     pub fn try_from(alloc: Global, bytes: &[u8]) -> Result<ShortItem, HidError>
-        ensures { Gives result (short_item item_of bytes.now) }
+        ensures { GivesInPlace result (short_item item_of bytes.now) }
     {
         let Some((header, after)) = bytes.split_first() else {
             return Err(HidError::InsufficientData);

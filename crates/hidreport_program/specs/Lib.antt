@@ -1,4 +1,5 @@
 pub mod Command
+pub mod Ending
 pub mod Lines
 pub mod Output
 pub mod Run

@@ -1,10 +1,10 @@
 -- The lines that the program writes. Each ends with a newline, which is the byte 10.
-use Rattle.std.specs.Prelude.{ℕ, ℤ, Bool, pos, ◌-◌, int_lt, if◌then◌else◌, List, [], ◌∷◌, ◌++◌, flat_map, Option, Some, None, Result, Ok, Err, length, replicate, codes, decimal, false}
+use Rattle.std.specs.Prelude.{ℕ, ℤ, Bool, pos, ◌-◌, if◌then◌else◌, List, [], ◌∷◌, ◌++◌, flat_map, Option, Some, None, Result, Ok, Err, length, replicate, codes, decimal, false}
 use Rattle.std.specs.Fmt.{radix_digits, signed_decimal}
 use Rattle.std.specs.Int.{w32, cast_signed}
 use Rattle.hidreport_lists.specs.Answer.{Refusal, InvalidAt, Bounds, Mismatch}
-use Rattle.hidreport.specs.Reading.{ValueRecord, read_variable, read_array}
-use Rattle.hidreport.specs.Records.{FieldPlace, Attributes, FieldRecord, VariableRecord, ArrayRecord, ConstantRecord}
+use Rattle.hidreport.specs.Reading.{ValueRecord, reads}
+use Rattle.hidreport.specs.Records.{FieldPlace, FieldRecord, VariableRecord, ArrayRecord, ConstantRecord}
 use Rattle.hidreport.specs.UsageNumber.{usage_number}
 
 abbrev pub newline : List ℕ
@@ -18,40 +18,27 @@ hex_digits count n = replicate (count - length (radix_digits 16 false n)) 48 ++ 
 abbrev pub value_number : ValueRecord → ℤ
 value_number v = if v.is_signed then cast_signed w32 v.word else pos v.word
 
--- the number that was read; none for any refusal of reading
-abbrev pub number_read : Result ValueRecord Refusal → Option ℤ
-number_read (Ok v) = Some (value_number v)
-number_read (Err refusal) = None
-
--- a number in decimal, or that its bits lie outside the report
-abbrev pub number_text : Option ℤ → List ℕ
-number_text (Some n) = signed_decimal n
-number_text None = codes "out of bounds"
-
 -- values, each after a space
 abbrev pub values_text : List ValueRecord → List ℕ
 values_text vs = flat_map (λ v. 32 ∷ signed_decimal (value_number v)) vs
 
--- the values of an array
-abbrev pub numbers_text : Result (List ValueRecord) Refusal → List ℕ
-numbers_text (Ok vs) = values_text vs
-numbers_text (Err refusal) = codes " out of bounds"
-
-abbrev pub is_signed : Attributes → Bool
-is_signed shared = int_lt shared.logical_minimum (pos 0)
+-- what was read, or that its bits lie outside the report
+abbrev pub reading_text : Result (List ValueRecord) Refusal → List ℕ
+reading_text (Ok vs) = values_text vs
+reading_text (Err refusal) = codes " out of bounds"
 
 -- a field's bits in its report: the first, and the one behind the last
 abbrev pub bits_text : FieldPlace → List ℕ → List ℕ
 bits_text place rest = decimal place.first ++ (codes ".." ++ (decimal place.end ++ rest))
 
--- a field and what the report's bytes give it
+-- a field's place, its kind and usage, and what the report's bytes give it
 abbrev pub line_of_field : List ℕ → FieldRecord → List ℕ
 line_of_field bytes (VariableRecord place usage shared) =
-    bits_text place (codes " variable " ++ (hex_digits 8 (usage_number usage) ++ (codes " "
-    ++ (number_text (number_read (read_variable place.report_id place.first place.end (is_signed shared) bytes)) ++ newline))))
+    bits_text place (codes " variable " ++ (hex_digits 8 (usage_number usage)
+    ++ (reading_text (reads (VariableRecord place usage shared) bytes) ++ newline)))
 line_of_field bytes (ArrayRecord place usages is_range count shared) =
     bits_text place (codes " array"
-    ++ (numbers_text (read_array place.report_id place.first place.end count (is_signed shared) bytes) ++ newline))
+    ++ (reading_text (reads (ArrayRecord place usages is_range count shared) bytes) ++ newline))
 line_of_field bytes (ConstantRecord place) = bits_text place (codes " constant" ++ newline)
 
 -- a report's id, or two dashes

@@ -5,17 +5,23 @@ pub mod ending;
 pub mod ends;
 #[cfg(test)]
 mod failing;
+pub mod faults;
 mod fields;
 mod numbers;
 mod output;
+pub mod requests;
 #[cfg(test)]
 mod rows;
 pub mod running;
 #[cfg(test)]
 mod tests;
 mod transfer;
+#[cfg(test)]
+mod transfers;
 
 pub use commands::{Command, command_of};
 pub use ending::{Outcome, RunFault};
 pub use ends::{Failed, FromRead, Sink, Source, ToWrite};
+pub use faults::{Fault, line_of, status_of};
+pub use requests::{Request, request_of};
 pub use running::run;

@@ -1,19 +1,13 @@
 //! Readers and writers of items: what written tables and runs of the Rust crate say of them.
-mod table;
-
 use hidreport::hid::{
     CollectionItem, FeatureItem, GlobalItem, HidError, InputItem, Item, ItemType, LocalItem,
-    MainItem, OutputItem, ShortItem,
+    OutputItem, ShortItem,
 };
 use hidreport::types::{LogicalMaximum, LogicalMinimum, ReportId, ReportSize, UsageId, UsagePage};
 use std::alloc::Global;
 use std::test::Fail;
-use table::ANSWERS;
 
-/// The data that the headers of the table were read with.
-const DATA: [u8; 5] = [0x81, 0x02, 0x93, 0x04, 0xf5];
-
-/// What a reader answered, as the table has it.
+/// What a reader answered: the bytes that its item writes, `-` for none, or the refusal.
 fn shown(alloc: Global, written: Result<Vec<u8>, HidError>) -> Result<String, HidError> {
     match written {
         Ok(bytes) if bytes.is_empty() => Ok(String::from_str(alloc, "-")?),
@@ -32,47 +26,6 @@ fn shown(alloc: Global, written: Result<Vec<u8>, HidError>) -> Result<String, Hi
 
 fn read(alloc: Global, bytes: &[u8]) -> Result<Vec<u8>, HidError> {
     ItemType::try_from(alloc, bytes)?.as_bytes(alloc)
-}
-
-/// The same by the reader of the header's type.
-fn read_by_type(alloc: Global, bytes: &[u8]) -> Result<Vec<u8>, HidError> {
-    match bytes.first().copied().unwrap_or(0x0c) >> 2 & 0x03 {
-        0 => MainItem::try_from(alloc, bytes)?.as_bytes(alloc),
-        1 => GlobalItem::try_from(alloc, bytes)?.as_bytes(alloc),
-        2 => LocalItem::try_from(alloc, bytes)?.as_bytes(alloc),
-        _ => Ok(Vec::new(alloc)),
-    }
-}
-
-/// Whether a header with so many bytes of data is read as the table says; where the Rust crate
-/// panics at a length, it is refused by name.
-fn agrees(alloc: Global, header: u8, length: usize, answer: &str) -> Result<bool, HidError> {
-    let mut bytes = vec![in alloc; header]?;
-    if let Some(data_bytes) = DATA.get(..length) {
-        bytes.extend_from_slice(data_bytes)?;
-    }
-    let text = shown(alloc, read(alloc, &bytes))?;
-    let by_type = shown(alloc, read_by_type(alloc, &bytes))?;
-    if by_type.as_str() != text.as_str() {
-        return Ok(false);
-    }
-    if answer == "panic" {
-        let message = format!(in alloc; "Size {length} cannot happen")?;
-        return Ok(text.as_str() == message.as_str());
-    }
-    Ok(text.as_str() == answer)
-}
-
-#[test]
-fn every_header_is_read_as_the_rust_crate_reads_it(rt: HostRuntime) -> Result<(), Fail> {
-    for (tag, answers) in ANSWERS.iter() {
-        for code in 0..4 {
-            for (length, answer) in answers.iter().enumerate() {
-                assert!(rt; agrees(rt.alloc(), *tag | code, length, answer)?);
-            }
-        }
-    }
-    Ok(())
 }
 
 #[test]

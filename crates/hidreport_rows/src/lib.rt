@@ -1,18 +1,23 @@
-//! Worked descriptors: what the definitions say of them, and what the library answers.
+//! Worked descriptors, tables and generic callers: what the library answers.
 #![tactic(auto)]
 
 #[cfg(test)]
 mod builder;
 #[cfg(test)]
 mod collections;
-pub mod definitions;
-pub mod example;
+#[cfg(test)]
+mod copies;
 #[cfg(test)]
 mod fields;
 pub mod generic;
 #[cfg(test)]
+mod into_items;
+#[cfg(test)]
 mod items;
-pub mod laws;
+#[cfg(test)]
+mod lookups;
+#[cfg(test)]
+mod numbers_read;
 #[cfg(test)]
 mod segments;
 #[cfg(test)]

@@ -1,20 +1,9 @@
-use crate::example::values;
 use hidreport::hid::{Item, ReportDescriptorItems};
 use hidreport::types::{LogicalMinimum, UsagePage};
 use hidreport::{Field, ParserError, Report, ReportDescriptor, ReportId, Usage};
 use std::test::Fail;
 
 const TWO_AXES: &[u8] = b"\x05\x01\x15\x81\x25\x7f\x75\x08\x95\x02\x09\x30\x09\x31\x81\x02";
-
-#[test]
-fn example_reads_two_axes(rt: HostRuntime) -> Result<(), Fail> {
-    assert_eq!(rt;
-        values(rt.alloc(), TWO_AXES, b"\x05\xfb")?.as_slice(),
-        [5, -5].as_slice()
-    );
-    assert!(rt; values(rt.alloc(), TWO_AXES, b"")?.is_empty());
-    Ok(())
-}
 
 #[test]
 fn parts_of_a_field(rt: HostRuntime) -> Result<(), Fail> {

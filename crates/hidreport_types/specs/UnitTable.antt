@@ -1,12 +1,20 @@
--- What the number of a Unit item means (HID 1.11, Section 6.2.2.7): eight nibbles, the lowest names the system of units, and each of
--- the next six is the exponent of a unit.
-use Rattle.std.specs.Prelude.{◌≡◌, ◌<◌, bit_or, ℕ, ◌+◌, ◌-◌, ◌*◌, ◌/◌, ◌%◌, ◌^◌, ◌==◌, nat_lt, ℤ, pos, negsuc, ◌-ℤ◌, Bool, true, false, if◌then◌else◌, List, [], ◌∷◌, Option, Some, None}
+-- What the number of a Unit item means (HID 1.11, Section 6.2.2.7): eight nibbles, the lowest names
+-- the system of units, and each of the next six is the exponent of a unit.
+use Rattle.std.specs.Prelude.{◌≡◌, ◌<◌, bit_or, ℕ, ◌+◌, ◌-◌, ◌*◌, ◌/◌, ◌%◌, ◌^◌, ◌==◌, nat_lt, ℤ}
+use Rattle.std.specs.Prelude.{pos, negsuc, ◌-ℤ◌, Bool, true, false, if◌then◌else◌, List, [], ◌∷◌}
+use Rattle.std.specs.Prelude.{Option, Some, None}
 use Rattle.std.specs.Option.{option_map, unwrap_or}
 use Rattle.std.specs.List.{filter}
 use Rattle.hidreport_types.specs.declared.unit_system.UnitSystem.{UnitSystem}
-use Rattle.hidreport_types.specs.declared.unit_system.UnitSystem.TheVariants.{None as NoSystem, SILinear, SIRotation, EnglishLinear, EnglishRotation}
+use Rattle.hidreport_types.specs.declared.unit_system.UnitSystem.TheVariants.{None as NoSystem}
+use Rattle.hidreport_types.specs.declared.unit_system.UnitSystem.TheVariants.{SILinear, SIRotation}
+use Rattle.hidreport_types.specs.declared.unit_system.UnitSystem.TheVariants.{EnglishLinear}
+use Rattle.hidreport_types.specs.declared.unit_system.UnitSystem.TheVariants.{EnglishRotation}
 use Rattle.hidreport_types.specs.declared.units.Units.{Units}
-use Rattle.hidreport_types.specs.declared.units.Units.TheVariants.{None as NoUnit, Centimeter, Radians, Inch, Degrees, Gram, Slug, Seconds, Kelvin, Fahrenheit, Ampere, Candela}
+use Rattle.hidreport_types.specs.declared.units.Units.TheVariants.{None as NoUnit, Centimeter}
+use Rattle.hidreport_types.specs.declared.units.Units.TheVariants.{Radians, Inch, Degrees, Gram}
+use Rattle.hidreport_types.specs.declared.units.Units.TheVariants.{Slug, Seconds, Kelvin}
+use Rattle.hidreport_types.specs.declared.units.Units.TheVariants.{Fahrenheit, Ampere, Candela}
 
 -- a nibble of a number, counted from the lowest
 abbrev pub nibble : ℕ → ℕ → ℕ
@@ -48,7 +56,8 @@ temperature_in EnglishRotation e = Fahrenheit e
 
 -- the exponent in a place; a nibble of 0 means that there is none
 abbrev pub exponent_in : ℕ → ℕ → Option ℤ
-exponent_in number place = if nibble number place == 0 then None else Some (nibble_exponent (nibble number place))
+exponent_in number place =
+    if nibble number place == 0 then None else Some (nibble_exponent (nibble number place))
 
 -- a unit with the exponent in a place, or no unit
 abbrev pub measured : ℕ → ℕ → (ℤ → Units) → Units
@@ -89,7 +98,8 @@ is_unit (Candela e) = true
 -- what stands in the six places, in their order
 unfoldable pub places_of : ℕ → List Units
 places_of number =
-    length_of number ∷ mass_of number ∷ time_of number ∷ temperature_of number ∷ current_of number ∷ luminosity_of number ∷ []
+    length_of number ∷ mass_of number ∷ time_of number
+    ∷ temperature_of number ∷ current_of number ∷ luminosity_of number ∷ []
 
 -- the units of a number
 abbrev pub units_of : ℕ → List Units
@@ -117,7 +127,8 @@ exponent_nibble (negsuc n) = if nat_lt n 8 then 15 - n else 0
 abbrev pub exponent_at : ℕ → ℤ → ℕ
 exponent_at place e = exponent_nibble e * 16 ^ place
 
--- the number of one unit: its exponent in its place, and the system where the unit belongs to one alone
+-- the number of one unit: its exponent in its place, and the system where the unit belongs to one
+-- alone
 abbrev pub unit_number : Units → ℕ
 unit_number NoUnit = 0
 unit_number (Centimeter e) = exponent_at 1 e + system_number SILinear
@@ -137,13 +148,15 @@ abbrev pub joined : ℕ → List Units → ℕ
 joined number [] = number
 joined number (u ∷ us) = joined (bit_or number (unit_number u)) us
 
--- where a system is named and the highest nibble, which means nothing, is 0, the system and the units make up the number
+-- where a system is named and the highest nibble, which means nothing, is 0, the system and the
+-- units make up the number
 abbrev pub MakeUp : List Units → ℕ → Type 0
 MakeUp units number =
     0 < nibble number 0 → nibble number 0 < 5 → number < 16 ^ 7 →
     joined (system_number (system_of number)) units ≡ number
 
--- the power of ten of a UnitExponent item: a nibble as two's complement, or any other number cut to its low byte
+-- the power of ten of a UnitExponent item: a nibble as two's complement, or any other number cut to
+-- its low byte
 abbrev pub low_byte : ℕ → ℤ
 low_byte n = if nat_lt n 128 then pos n else pos n -ℤ pos 256
 

@@ -1,9 +1,14 @@
 -- How units are written: each by its name and its exponent as a superscript, one after the other.
-use Rattle.std.specs.Prelude.{ℕ, ◌+◌, ◌==◌, nat_lt, ℤ, pos, negsuc, if◌then◌else◌, List, [], ◌∷◌, ◌++◌, codes, Option, Some, None}
+use Rattle.std.specs.Prelude.{ℕ, ◌+◌, ◌==◌, nat_lt, ℤ, pos, negsuc, if◌then◌else◌, List, [], ◌∷◌}
+use Rattle.std.specs.Prelude.{◌++◌, codes, Option, Some, None}
 use Rattle.std.specs.Option.{option_map, unwrap_or}
 use Rattle.hidreport_types.specs.declared.units.Units.{Units}
-use Rattle.hidreport_types.specs.declared.units.Units.TheVariants.{None as NoUnit, Centimeter, Radians, Inch, Degrees, Gram, Slug, Seconds, Kelvin, Fahrenheit, Ampere, Candela}
-use Rattle.hidreport_types.specs.UnitTable.{length_of, mass_of, time_of, temperature_of, current_of, luminosity_of}
+use Rattle.hidreport_types.specs.declared.units.Units.TheVariants.{None as NoUnit, Centimeter}
+use Rattle.hidreport_types.specs.declared.units.Units.TheVariants.{Radians, Inch, Degrees, Gram}
+use Rattle.hidreport_types.specs.declared.units.Units.TheVariants.{Slug, Seconds, Kelvin}
+use Rattle.hidreport_types.specs.declared.units.Units.TheVariants.{Fahrenheit, Ampere, Candela}
+use Rattle.hidreport_types.specs.UnitTable.{length_of, mass_of, time_of, temperature_of, current_of}
+use Rattle.hidreport_types.specs.UnitTable.{luminosity_of}
 
 -- the superscript digits in UTF-8: U+00B9, U+00B2 and U+00B3 for 1 to 3, then U+2074 and on
 abbrev pub superscript : ℕ → List ℕ
@@ -21,7 +26,7 @@ abbrev pub exponent_text : ℤ → Option (List ℕ)
 exponent_text (pos n) =
     if n == 0 then None
     else (if n == 1 then Some []
-    else (if nat_lt n 8 then Some ((superscript n)) else None))
+    else (if nat_lt n 8 then Some (superscript n) else None))
 exponent_text (negsuc n) =
     if nat_lt n 8 then Some (superscript_minus ++ superscript (n + 1)) else None
 
@@ -46,5 +51,6 @@ units_text (Candela e) = powered (codes "cd") e
 -- the units of a number, in the order of their places
 abbrev pub unit_text : ℕ → List ℕ
 unit_text number =
-    units_text (length_of number) ++ (units_text (mass_of number) ++ (units_text (time_of number) ++
-    (units_text (temperature_of number) ++ (units_text (current_of number) ++ units_text (luminosity_of number)))))
+    units_text (length_of number) ++ (units_text (mass_of number) ++ (units_text (time_of number)
+    ++ (units_text (temperature_of number) ++ (units_text (current_of number)
+    ++ units_text (luminosity_of number)))))

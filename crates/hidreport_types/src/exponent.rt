@@ -3,6 +3,7 @@ ghost use Rattle.std.specs.Prelude.{◌≡◌, ℤ, Some};
 ghost use Rattle.std.specs.Fmt.{signed_decimal};
 ghost use Rattle.hidreport_types.specs.UnitTable.{exponent_of};
 
+use crate::decimal::write_decimal;
 use std::fmt;
 use std::marker::Model;
 
@@ -63,8 +64,10 @@ impl From<UnitExponent> for i32 {
 impl fmt::Display for UnitExponent {
     ghost output = { λ wrapper. Some (signed_decimal wrapper) };
 
+    ghost styled_output = { λ wrapper _. Some (signed_decimal wrapper) };
+
     fn fmt<W: fmt::Write>(&self, f: &mut fmt::Formatter<W>) -> fmt::Result {
         let unit_exponent = self.0;
-        write!(f, "{unit_exponent}")
+        write_decimal(f, unit_exponent)
     }
 }

@@ -2,6 +2,7 @@
 ghost use Rattle.std.specs.Prelude.{◌≡◌, ℕ, ℤ, Some, decimal};
 ghost use Rattle.std.specs.Fmt.{signed_decimal};
 
+use crate::decimal::write_decimal;
 use std::fmt;
 use std::marker::Model;
 
@@ -45,9 +46,11 @@ impl From<UsagePage> for u16 {
 impl fmt::Display for UsagePage {
     ghost output = { λ wrapper. Some (decimal wrapper) };
 
+    ghost styled_output = { λ wrapper _. Some (decimal wrapper) };
+
     fn fmt<W: fmt::Write>(&self, f: &mut fmt::Formatter<W>) -> fmt::Result {
         let usage_page = self.0;
-        write!(f, "{usage_page}")
+        write_decimal(f, usage_page)
     }
 }
 
@@ -93,9 +96,11 @@ impl From<LogicalMinimum> for i32 {
 impl fmt::Display for LogicalMinimum {
     ghost output = { λ wrapper. Some (signed_decimal wrapper) };
 
+    ghost styled_output = { λ wrapper _. Some (signed_decimal wrapper) };
+
     fn fmt<W: fmt::Write>(&self, f: &mut fmt::Formatter<W>) -> fmt::Result {
         let logical_minimum = self.0;
-        write!(f, "{logical_minimum}")
+        write_decimal(f, logical_minimum)
     }
 }
 
@@ -139,9 +144,11 @@ impl From<LogicalMaximum> for i32 {
 impl fmt::Display for LogicalMaximum {
     ghost output = { λ wrapper. Some (signed_decimal wrapper) };
 
+    ghost styled_output = { λ wrapper _. Some (signed_decimal wrapper) };
+
     fn fmt<W: fmt::Write>(&self, f: &mut fmt::Formatter<W>) -> fmt::Result {
         let logical_maximum = self.0;
-        write!(f, "{logical_maximum}")
+        write_decimal(f, logical_maximum)
     }
 }
 
@@ -185,9 +192,11 @@ impl From<PhysicalMinimum> for i32 {
 impl fmt::Display for PhysicalMinimum {
     ghost output = { λ wrapper. Some (signed_decimal wrapper) };
 
+    ghost styled_output = { λ wrapper _. Some (signed_decimal wrapper) };
+
     fn fmt<W: fmt::Write>(&self, f: &mut fmt::Formatter<W>) -> fmt::Result {
         let physical_minimum = self.0;
-        write!(f, "{physical_minimum}")
+        write_decimal(f, physical_minimum)
     }
 }
 
@@ -231,9 +240,11 @@ impl From<PhysicalMaximum> for i32 {
 impl fmt::Display for PhysicalMaximum {
     ghost output = { λ wrapper. Some (signed_decimal wrapper) };
 
+    ghost styled_output = { λ wrapper _. Some (signed_decimal wrapper) };
+
     fn fmt<W: fmt::Write>(&self, f: &mut fmt::Formatter<W>) -> fmt::Result {
         let physical_maximum = self.0;
-        write!(f, "{physical_maximum}")
+        write_decimal(f, physical_maximum)
     }
 }
 
@@ -277,9 +288,11 @@ impl From<ReportSize> for usize {
 impl fmt::Display for ReportSize {
     ghost output = { λ wrapper. Some (decimal wrapper) };
 
+    ghost styled_output = { λ wrapper _. Some (decimal wrapper) };
+
     fn fmt<W: fmt::Write>(&self, f: &mut fmt::Formatter<W>) -> fmt::Result {
         let report_size = self.0;
-        write!(f, "{report_size}")
+        write_decimal(f, report_size)
     }
 }
 
@@ -331,9 +344,11 @@ impl From<&ReportId> for ReportId {
 impl fmt::Display for ReportId {
     ghost output = { λ wrapper. Some (decimal wrapper) };
 
+    ghost styled_output = { λ wrapper _. Some (decimal wrapper) };
+
     fn fmt<W: fmt::Write>(&self, f: &mut fmt::Formatter<W>) -> fmt::Result {
         let report_id = self.0;
-        write!(f, "{report_id}")
+        write_decimal(f, report_id)
     }
 }
 
@@ -377,8 +392,10 @@ impl From<ReportCount> for usize {
 impl fmt::Display for ReportCount {
     ghost output = { λ wrapper. Some (decimal wrapper) };
 
+    ghost styled_output = { λ wrapper _. Some (decimal wrapper) };
+
     fn fmt<W: fmt::Write>(&self, f: &mut fmt::Formatter<W>) -> fmt::Result {
         let report_count = self.0;
-        write!(f, "{report_count}")
+        write_decimal(f, report_count)
     }
 }

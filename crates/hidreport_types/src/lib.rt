@@ -1,6 +1,7 @@
 //! The numbers that a report descriptor carries, each as a type of its own.
 #![tactic(auto)]
 
+mod decimal;
 mod exponent;
 mod global;
 mod local;

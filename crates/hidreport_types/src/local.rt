@@ -1,6 +1,7 @@
 //! The numbers of local items: they end with the next main item.
 ghost use Rattle.std.specs.Prelude.{◌≡◌, ℕ, ◌/◌, ◌%◌, Some, decimal};
 
+use crate::decimal::write_decimal;
 use crate::global::UsagePage;
 use std::fmt;
 use std::marker::Model;
@@ -45,9 +46,11 @@ impl From<UsageId> for u16 {
 impl fmt::Display for UsageId {
     ghost output = { λ wrapper. Some (decimal wrapper) };
 
+    ghost styled_output = { λ wrapper _. Some (decimal wrapper) };
+
     fn fmt<W: fmt::Write>(&self, f: &mut fmt::Formatter<W>) -> fmt::Result {
         let usage_id = self.0;
-        write!(f, "{usage_id}")
+        write_decimal(f, usage_id)
     }
 }
 
@@ -109,9 +112,11 @@ impl From<UsageMinimum> for u32 {
 impl fmt::Display for UsageMinimum {
     ghost output = { λ wrapper. Some (decimal wrapper) };
 
+    ghost styled_output = { λ wrapper _. Some (decimal wrapper) };
+
     fn fmt<W: fmt::Write>(&self, f: &mut fmt::Formatter<W>) -> fmt::Result {
         let usage_minimum = self.0;
-        write!(f, "{usage_minimum}")
+        write_decimal(f, usage_minimum)
     }
 }
 
@@ -173,13 +178,16 @@ impl From<UsageMaximum> for u32 {
 impl fmt::Display for UsageMaximum {
     ghost output = { λ wrapper. Some (decimal wrapper) };
 
+    ghost styled_output = { λ wrapper _. Some (decimal wrapper) };
+
     fn fmt<W: fmt::Write>(&self, f: &mut fmt::Formatter<W>) -> fmt::Result {
         let usage_maximum = self.0;
-        write!(f, "{usage_maximum}")
+        write_decimal(f, usage_maximum)
     }
 }
 
-/// Which part of the body a control is for, as an index into the physical descriptor (Section 6.2.2.8).
+/// Which part of the body a control is for, as an index into the physical descriptor
+/// (Section 6.2.2.8).
 #[derive(Clone, Copy, Debug, PartialEq)]
 pub struct DesignatorIndex(u32);
 
@@ -219,9 +227,11 @@ impl From<DesignatorIndex> for u32 {
 impl fmt::Display for DesignatorIndex {
     ghost output = { λ wrapper. Some (decimal wrapper) };
 
+    ghost styled_output = { λ wrapper _. Some (decimal wrapper) };
+
     fn fmt<W: fmt::Write>(&self, f: &mut fmt::Formatter<W>) -> fmt::Result {
         let designator_index = self.0;
-        write!(f, "{designator_index}")
+        write_decimal(f, designator_index)
     }
 }
 
@@ -265,9 +275,11 @@ impl From<DesignatorMinimum> for u32 {
 impl fmt::Display for DesignatorMinimum {
     ghost output = { λ wrapper. Some (decimal wrapper) };
 
+    ghost styled_output = { λ wrapper _. Some (decimal wrapper) };
+
     fn fmt<W: fmt::Write>(&self, f: &mut fmt::Formatter<W>) -> fmt::Result {
         let designator_minimum = self.0;
-        write!(f, "{designator_minimum}")
+        write_decimal(f, designator_minimum)
     }
 }
 
@@ -311,9 +323,11 @@ impl From<DesignatorMaximum> for u32 {
 impl fmt::Display for DesignatorMaximum {
     ghost output = { λ wrapper. Some (decimal wrapper) };
 
+    ghost styled_output = { λ wrapper _. Some (decimal wrapper) };
+
     fn fmt<W: fmt::Write>(&self, f: &mut fmt::Formatter<W>) -> fmt::Result {
         let designator_maximum = self.0;
-        write!(f, "{designator_maximum}")
+        write_decimal(f, designator_maximum)
     }
 }
 
@@ -357,9 +371,11 @@ impl From<StringIndex> for u32 {
 impl fmt::Display for StringIndex {
     ghost output = { λ wrapper. Some (decimal wrapper) };
 
+    ghost styled_output = { λ wrapper _. Some (decimal wrapper) };
+
     fn fmt<W: fmt::Write>(&self, f: &mut fmt::Formatter<W>) -> fmt::Result {
         let string_index = self.0;
-        write!(f, "{string_index}")
+        write_decimal(f, string_index)
     }
 }
 
@@ -403,9 +419,11 @@ impl From<StringMinimum> for u32 {
 impl fmt::Display for StringMinimum {
     ghost output = { λ wrapper. Some (decimal wrapper) };
 
+    ghost styled_output = { λ wrapper _. Some (decimal wrapper) };
+
     fn fmt<W: fmt::Write>(&self, f: &mut fmt::Formatter<W>) -> fmt::Result {
         let string_minimum = self.0;
-        write!(f, "{string_minimum}")
+        write_decimal(f, string_minimum)
     }
 }
 
@@ -449,9 +467,11 @@ impl From<StringMaximum> for u32 {
 impl fmt::Display for StringMaximum {
     ghost output = { λ wrapper. Some (decimal wrapper) };
 
+    ghost styled_output = { λ wrapper _. Some (decimal wrapper) };
+
     fn fmt<W: fmt::Write>(&self, f: &mut fmt::Formatter<W>) -> fmt::Result {
         let string_maximum = self.0;
-        write!(f, "{string_maximum}")
+        write_decimal(f, string_maximum)
     }
 }
 
@@ -495,8 +515,10 @@ impl From<Delimiter> for u32 {
 impl fmt::Display for Delimiter {
     ghost output = { λ wrapper. Some (decimal wrapper) };
 
+    ghost styled_output = { λ wrapper _. Some (decimal wrapper) };
+
     fn fmt<W: fmt::Write>(&self, f: &mut fmt::Formatter<W>) -> fmt::Result {
         let delimiter = self.0;
-        write!(f, "{delimiter}")
+        write_decimal(f, delimiter)
     }
 }

@@ -48,8 +48,10 @@ impl Unit {
     /// Where a system is named and the highest nibble is 0, the system's number OR-ed with the
     /// numbers of these units is the number of the unit.
     pub fn units(&self, alloc: Global) -> Result<Option<Vec<Units>>, AllocError>
-        ensures exact { IfOk result (λ units. option_map (λ v. v.items) units ≡ if_any (units_of self.now)) }
-        ensures law { IfOk result (λ units. MakeUp (unwrap_or (option_map (λ v. v.items) units) []) self.now) }
+        ensures exact { IfOk result (λ units.
+            option_map (λ v. v.items) units ≡ if_any (units_of self.now)) }
+        ensures law { IfOk result (λ units.
+            MakeUp (unwrap_or (option_map (λ v. v.items) units) []) self.now) }
     {
         let units = self.set_units(alloc)?;
         if units.is_empty() {
@@ -143,8 +145,8 @@ impl Unit {
 
     /// The current, in amperes whatever the system (Section 6.2.2.7).
     ///
-    /// For a voltage, cm²·g·s⁻³·A⁻¹ (`0x00F0_D121`), it is `Ampere { exponent: -1 }`. Without an exponent it is
-    /// `Units::None`.
+    /// For a voltage, cm²·g·s⁻³·A⁻¹ (`0x00F0_D121`), it is `Ampere { exponent: -1 }`. Without an
+    /// exponent it is `Units::None`.
     pub fn current(&self) -> Units
         ensures { result ≡ current_of self.now }
     {
@@ -223,11 +225,15 @@ impl Unit {
 impl fmt::Display for Unit {
     ghost output = { λ unit. Some (unit_text unit) };
 
+    ghost styled_output = { λ unit _. Some (unit_text unit) };
+
     fn fmt<W: fmt::Write>(&self, f: &mut fmt::Formatter<W>) -> fmt::Result {
-        let (length, mass, time) = (self.length(), self.mass(), self.time());
-        let (temperature, current) = (self.temperature(), self.current());
-        let luminosity = self.luminosity();
-        write!(f, "{length}{mass}{time}{temperature}{current}{luminosity}")
+        self.length().fmt(f)?;
+        self.mass().fmt(f)?;
+        self.time().fmt(f)?;
+        self.temperature().fmt(f)?;
+        self.current().fmt(f)?;
+        self.luminosity().fmt(f)
     }
 }
 

@@ -1,7 +1,9 @@
 //! One unit with its exponent.
 ghost use Rattle.std.specs.Prelude.{◌≡◌, ◌+◌, Some, ◌<◌};
 ghost use Rattle.std.specs.Option.{option_map};
-ghost use Rattle.hidreport_types.specs.UnitTable.{unit_number, system_number, exponent_at, exponent_nibble, is_unit};
+ghost use Rattle.std.specs.Fmt.{WritesOnOk, WritesStyledOnOk};
+ghost use Rattle.hidreport_types.specs.UnitTable.{unit_number, system_number, exponent_at};
+ghost use Rattle.hidreport_types.specs.UnitTable.{exponent_nibble, is_unit};
 ghost use Rattle.hidreport_types.specs.UnitText.{units_text, powered, exponent_text};
 
 use crate::unit_system::UnitSystem;
@@ -56,25 +58,38 @@ impl Units {
 impl fmt::Display for Units {
     ghost output = { λ units. Some (units_text units) };
 
+    ghost styled_output = { λ units _. Some (units_text units) };
+
     fn fmt<W: fmt::Write>(&self, f: &mut fmt::Formatter<W>) -> fmt::Result {
-        let (name, exponent) = match *self {
-            Units::None => ("", 0),
-            Units::Centimeter { exponent } => ("cm", exponent),
-            Units::Radians { exponent } => ("rad", exponent),
-            Units::Inch { exponent } => ("in", exponent),
-            Units::Degrees { exponent } => ("deg", exponent),
-            Units::Gram { exponent } => ("g", exponent),
-            Units::Slug { exponent } => ("slug", exponent),
-            Units::Seconds { exponent } => ("s", exponent),
-            Units::Kelvin { exponent } => ("K", exponent),
-            Units::Fahrenheit { exponent } => ("F", exponent),
-            Units::Ampere { exponent } => ("A", exponent),
-            Units::Candela { exponent } => ("cd", exponent),
-        };
-        match superscript(exponent) {
-            Some(superscript) => write!(f, "{name}{superscript}"),
-            None => Ok(()),
+        match *self {
+            Units::None => Ok(()),
+            Units::Centimeter { exponent } => write_powered(f, "cm", exponent),
+            Units::Radians { exponent } => write_powered(f, "rad", exponent),
+            Units::Inch { exponent } => write_powered(f, "in", exponent),
+            Units::Degrees { exponent } => write_powered(f, "deg", exponent),
+            Units::Gram { exponent } => write_powered(f, "g", exponent),
+            Units::Slug { exponent } => write_powered(f, "slug", exponent),
+            Units::Seconds { exponent } => write_powered(f, "s", exponent),
+            Units::Kelvin { exponent } => write_powered(f, "K", exponent),
+            Units::Fahrenheit { exponent } => write_powered(f, "F", exponent),
+            Units::Ampere { exponent } => write_powered(f, "A", exponent),
+            Units::Candela { exponent } => write_powered(f, "cd", exponent),
         }
+    }
+}
+
+/// Writes a name with an exponent; where nothing is written of the exponent, none of the name is.
+fn write_powered<W: fmt::Write>(f: &mut fmt::Formatter<W>, name: &str, exponent: i8) -> fmt::Result
+    ensures plain { WritesOnOk W.write_str_gives f.old result (powered name.now exponent) f.new }
+    ensures styled { WritesStyledOnOk W.write_str_gives f.old result
+        (powered name.now exponent) f.new }
+{
+    match superscript(exponent) {
+        Some(superscript) => {
+            f.write_str(name)?;
+            f.write_str(superscript)
+        }
+        None => Ok(()),
     }
 }
 

@@ -15,7 +15,8 @@ pub enum Command {
 /// Answers `None` for all other words: none, an unknown first word, one missing or one too many.
 pub fn command_of(words: &[String]) -> Option<Command>
     ensures asked { IfSome result (AsksFor (map string_bytes words.now)) }
-    ensures wrong { IsNone result → (command : Command) → ¬ AsksFor (map string_bytes words.now) command }
+    ensures wrong { IsNone result → (command : Command)
+        → ¬ AsksFor (map string_bytes words.now) command }
 {
     match words {
         [name, _, _] if name.as_str() == "values" => Some(Command::Values),

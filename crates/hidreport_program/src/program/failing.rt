@@ -120,3 +120,52 @@ impl io::Write for FullWriter {
         Ok(())
     }
 }
+
+/// A reader that gives its bytes one a read.
+#[derive(Drop)]
+pub struct SlowReader<'a> {
+    /// The bytes that are left.
+    pub bytes: &'a [u8],
+}
+
+impl io::Read for SlowReader<'_> {
+    fn read(&mut self, buf: &mut [u8]) -> io::Result<usize> {
+        let (Some(place), Some((first, rest))) = (buf.first_mut(), self.bytes.split_first()) else {
+            return Ok(0);
+        };
+        *place = *first;
+        self.bytes = rest;
+        Ok(1)
+    }
+}
+
+/// A writer that takes one byte a write, but an error at the write of number `bad_write`.
+#[derive(Drop)]
+pub struct FlakyWriter {
+    /// What was taken.
+    pub taken: Vec<u8>,
+    /// How many writes there were.
+    pub writes: usize,
+    /// Which of them, counted from 1, is an error.
+    pub bad_write: usize,
+}
+
+impl io::Write for FlakyWriter {
+    fn write(&mut self, buf: &[u8]) -> io::Result<usize> {
+        self.writes = self.writes.saturating_add(1);
+        if self.writes == self.bad_write {
+            return Err(io::Error::from(io::ErrorKind::Other));
+        }
+        match buf.first() {
+            Some(first) => {
+                self.taken.push(*first)?;
+                Ok(1)
+            }
+            None => Ok(0),
+        }
+    }
+
+    fn flush(&mut self) -> io::Result<()> {
+        Ok(())
+    }
+}

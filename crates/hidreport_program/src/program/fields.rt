@@ -1,11 +1,11 @@
 //! The lines of a report and of its fields.
-ghost use Rattle.std.specs.Prelude.{◌≡◌, ◌++◌, [], pos, int_lt, IfOk, OnOk, string_bytes};
-ghost use Rattle.hidreport.specs.Reading.{read_variable};
+ghost use Rattle.std.specs.Prelude.{◌≡◌, ◌++◌, [], OnOk, string_bytes};
+ghost use Rattle.hidreport.specs.Reading.{reads};
 ghost use Rattle.hidreport.specs.Views.{array_record, constant_record, field_record, variable_record};
-ghost use Rattle.hidreport_program.specs.Lines.{line_of_field, number_read, report_line, values_text};
+ghost use Rattle.hidreport_program.specs.Lines.{line_of_field, reading_text, report_line, values_text};
 ghost use Rattle.hidreport_program.specs.Output.{report_text};
 
-use super::numbers::{EightDigits, NumberRead, TwoDigits, number_of};
+use super::numbers::{EightDigits, TwoDigits, number_of};
 use hidreport::{
     ArrayField, ConstantField, Field, FieldValue, ParserError, RDescReport, Report, VariableField,
 };
@@ -56,19 +56,20 @@ fn add_variable(text: &mut String, field: &VariableField, bytes: &[u8]) -> Resul
     let first = field.bits.start;
     let end = field.bits.end;
     let usage = EightDigits(u32::from(field.usage));
-    let number = NumberRead(read_number(field, bytes)?);
-    writeln!(text, "{first}..{end} variable {usage} {number}")
+    write!(text, "{first}..{end} variable {usage}")?;
+    add_value(text, field, bytes)?;
+    writeln!(text)
 }
 
-/// The number that `bytes` give a field, or none where they give none.
-fn read_number(field: &VariableField, bytes: &[u8]) -> Result<Option<i64>, AllocError>
-    ensures { IfOk result (λ number. number ≡ number_read (read_variable field.now.report_id
-        field.now.bits.start field.now.bits.end (int_lt field.now.logical_minimum (pos 0)) bytes.now)) }
+/// Appends the value after a space, or that its bits lie outside the report.
+fn add_value(text: &mut String, field: &VariableField, bytes: &[u8]) -> Result<(), AllocError>
+    ensures { OnOk result (string_bytes text.new
+        ≡ string_bytes text.old ++ reading_text (reads (variable_record field.now) bytes.now)) }
 {
     match field.extract(bytes) {
-        Ok(value) => Ok(Some(number_of(value))),
+        Ok(value) => add_values(text, &[value]),
         Err(ParserError::OutOfMemory) => Err(AllocError),
-        Err(_) => Ok(None),
+        Err(_refusal) => write!(text, " out of bounds"),
     }
 }
 

@@ -1,6 +1,6 @@
 //! Numbers as the lines show them.
 ghost use Rattle.std.specs.Prelude.{◌≡◌, Some};
-ghost use Rattle.hidreport_program.specs.Lines.{hex_digits, number_text, value_number};
+ghost use Rattle.hidreport_program.specs.Lines.{hex_digits, value_number};
 
 use hidreport::FieldValue;
 use std::fmt;
@@ -30,21 +30,6 @@ impl fmt::Display for EightDigits {
     fn fmt<W: fmt::Write>(&self, f: &mut fmt::Formatter<W>) -> fmt::Result {
         let number = self.0;
         write!(f, "{number:08x}")
-    }
-}
-
-/// A number that was read, or none where its bits lie outside the report.
-#[derive(Clone, Copy)]
-pub struct NumberRead(pub Option<i64>);
-
-impl fmt::Display for NumberRead {
-    ghost output = { λ number. Some (number_text number.0) };
-
-    fn fmt<W: fmt::Write>(&self, f: &mut fmt::Formatter<W>) -> fmt::Result {
-        match self.0 {
-            Some(number) => write!(f, "{number}"),
-            None => write!(f, "out of bounds"),
-        }
     }
 }
 

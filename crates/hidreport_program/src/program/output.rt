@@ -57,7 +57,8 @@ fn values(alloc: Global, descriptor: &[u8], report: &[u8]) -> Result<Written, Al
 /// The values of the input report that `bytes` are of, or that there is none.
 fn found(alloc: Global, descriptor: &ReportDescriptor, bytes: &[u8]) -> Result<Written, AllocError>
     ensures text { IfOk result (λ w.
-        string_bytes w.text ≡ (found_output (find_report descriptor.now.input bytes.now) bytes.now).text) }
+        string_bytes w.text ≡ (found_output
+        (find_report descriptor.now.input bytes.now) bytes.now).text) }
     ensures outcome { IfOk result (λ w.
         w.outcome ≡ (found_output (find_report descriptor.now.input bytes.now) bytes.now).outcome) }
 {

@@ -6,7 +6,7 @@ use super::{Failed, Source};
 use std::io;
 
 /// A reader as a source, which fails at the reader's first error.
-#[derive(Drop)]
+#[derive(Debug, Drop)]
 pub struct FromRead<R> {
     reader: R,
     has_failed: bool,
@@ -34,10 +34,12 @@ impl<R: io::Read> Source for FromRead<R> {
     fn read(&mut self, buffer: &mut [u8]) -> Result<usize, Failed>
         ensures within { IfOk result (λ count. count ≤ length buffer.new) }
         ensures bytes { IfOk result (λ count.
-            Consumes (R.remaining self.old.reader) (R.remaining self.new.reader) (take count buffer.new)) }
+            Consumes (R.remaining self.old.reader) (R.remaining self.new.reader)
+            (take count buffer.new)) }
         ensures end { IfOk result (λ count.
             count ≡ 0 → 0 < length buffer.new → IsAtEnd (R.remaining self.new.reader)) }
-        ensures kept { OnErr result (Keeps (R.remaining self.old.reader) (R.remaining self.new.reader)) }
+        ensures kept { OnErr result (Keeps (R.remaining self.old.reader)
+            (R.remaining self.new.reader)) }
         ensures failed { IsErr result ↔ IsTrue self.new.has_failed }
         ensures untouched { IsTrue self.old.has_failed → self.new ≡ self.old }
     {

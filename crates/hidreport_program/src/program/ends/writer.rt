@@ -8,7 +8,7 @@ use std::io;
 /// A writer as a sink, which fails at the writer's first error.
 ///
 /// A write of bytes that takes none is such an error too.
-#[derive(Drop)]
+#[derive(Debug, Drop)]
 pub struct ToWrite<W> {
     writer: W,
     has_failed: bool,
@@ -36,9 +36,11 @@ impl<W: io::Write> Sink for ToWrite<W> {
     fn write(&mut self, bytes: &[u8]) -> Result<usize, Failed>
         ensures within { IfOk result (λ count. count ≤ length bytes.now) }
         ensures bytes { IfOk result (λ count.
-            Appends (W.contents self.old.writer) (W.contents self.new.writer) (take count bytes.now)) }
+            Appends (W.contents self.old.writer) (W.contents self.new.writer)
+            (take count bytes.now)) }
         ensures progress { IfOk result (λ count. 0 < length bytes.now → 0 < count) }
-        ensures kept { OnErr result (Keeps (W.contents self.old.writer) (W.contents self.new.writer)) }
+        ensures kept { OnErr result (Keeps (W.contents self.old.writer)
+            (W.contents self.new.writer)) }
         ensures failed { IsErr result ↔ IsTrue self.new.has_failed }
         ensures untouched { IsTrue self.old.has_failed → self.new ≡ self.old }
     {

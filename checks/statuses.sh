@@ -1,0 +1,98 @@
+#!/bin/sh
+# The program's statuses and what it prints, from outside: 0, 1 and 2, also where a file, a folder or the output is no good.
+# ./hidreport proves and builds the program first, where it isn't built. The argument, if any, is another program to look at.
+set -eu
+
+top=$(cd "$(dirname "$0")/.." && pwd)
+. "$top/checks/needs.sh"
+crate="$top/crates/hidreport_program"
+mouse="$crate/data/mouse.rdesc"
+report="$crate/data/mouse.report"
+scratch=$(mktemp -d)
+trap 'rm -rf "$scratch"' EXIT
+
+if [ $# -gt 0 ]; then
+    program=$1
+else
+    "$top/hidreport" values "$mouse" "$report" > "$scratch/first" || {
+        echo 'statuses: ./hidreport shows no values' >&2
+        exit 1
+    }
+    program="$crate/out/hidreport_program"
+fi
+if [ ! -x "$program" ]; then
+    echo "statuses: no program $program" >&2
+    exit 2
+fi
+
+usage='usage: hidreport items FILE | values FILE REPORT | rebuild FILE'
+passed=0
+
+# What is shown, the status and the one line that are wanted, and the words; the output is $scratch/out where it isn't told.
+shows() {
+    name=$1
+    wanted=$2
+    line=$3
+    shift 3
+    status=0
+    "$program" "$@" > "$scratch/out" 2> "$scratch/errors" < "$report" || status=$?
+    printf '%s\n' "$line" > "$scratch/wanted"
+    judge "$name" "$wanted" "$scratch/wanted" "$scratch/out"
+}
+
+judge() {
+    if [ "$status" != "$2" ] || ! cmp -s "$3" "$4" || [ -s "$scratch/errors" ]; then
+        echo "statuses: $1: status $status in place of $2, and the output:" >&2
+        cat "$4" "$scratch/errors" >&2
+        exit 1
+    fi
+    passed=$((passed + 1))
+}
+
+# The same where the output takes nothing: only the status tells.
+fails_to_write() {
+    name=$1
+    shift
+    : > "$scratch/none"
+    if [ -c /dev/full ]; then
+        status=0
+        "$program" "$@" > /dev/full 2> "$scratch/errors" || status=$?
+        judge "$name on a full device" 2 "$scratch/none" "$scratch/none"
+    fi
+    status=0
+    "$program" "$@" >&- 2> "$scratch/errors" || status=$?
+    judge "$name with a closed output" 2 "$scratch/none" "$scratch/none"
+}
+
+cd "$scratch"
+: > empty
+printf '\005' > cut
+mkdir folder
+
+status=0
+"$program" values "$mouse" "$report" > out 2> errors || status=$?
+judge 'values' 0 "$crate/stdout" out
+shows 'a refused descriptor' 1 'refused: invalid data at offset 0: Insufficient data' values cut "$report"
+shows 'an empty descriptor' 1 'refused: invalid data at offset 0: Empty report descriptor' values empty "$report"
+shows 'no report' 1 'refused: no report' values "$mouse" empty
+shows 'no words' 2 "$usage"
+shows 'a word too few' 2 "$usage" values "$mouse"
+shows 'a word too many' 2 "$usage" values "$mouse" "$report" "$report"
+shows 'an unknown word' 2 "$usage" value "$mouse" "$report"
+shows 'another case' 2 "$usage" VALUES "$mouse" "$report"
+shows 'a word for help' 2 "$usage" --help
+shows 'a missing descriptor' 2 'fault: open' values missing "$report"
+shows 'a missing report' 2 'fault: open' values "$mouse" missing
+shows 'wrong words before missing files' 2 "$usage" values missing missing missing
+shows 'a folder for a descriptor' 2 'fault: read' values folder "$report"
+shows 'a folder for a report' 2 'fault: read' values "$mouse" folder
+shows 'no file named -, though there is an input' 2 'fault: open' values "$mouse" -
+cp "$report" ./-
+status=0
+"$program" values "$mouse" - > out 2> errors < empty || status=$?
+judge 'a file named -' 0 "$crate/stdout" out
+fails_to_write 'values' values "$mouse" "$report"
+fails_to_write 'a refusal' values cut "$report"
+fails_to_write 'wrong words' values
+fails_to_write 'a missing file' values missing "$report"
+echo "statuses: $passed as they should be"

@@ -1,0 +1,67 @@
+-- The reading in which a Push keeps globals and locals: the walk follows it.
+use Rattle.std.proofs.Common.{◌≡◌, ℕ, ◌-◌, ◌<◌, Bool, true, false, cond, List, [], ◌∷◌, ◌++◌, length, take, refl, sym, ap, ◌∙◌, append-nil}
+use Rattle.hidreport_items.specs.declared.item.ItemType.TheVariants as item
+use Rattle.hidreport_items.specs.declared.global.GlobalItem.TheVariants as global
+use Rattle.hidreport_items.specs.declared.local.LocalItem.{LocalItem}
+use Rattle.hidreport_items.specs.declared.item.ItemType.{ItemType}
+use Rattle.hidreport.specs.InForce.{Force, force}
+use Rattle.hidreport.specs.Kinds.{is_push, is_pop}
+use Rattle.hidreport.specs.Meaning.{meaning}
+use Rattle.hidreport.specs.Parser.Machine.{all_kept, last_force, next_force, nothing_held, walk}
+use Rattle.hidreport.specs.Visibility.{level}
+use Rattle.hidreport.proofs.LevelLemmas.{Rests, kept, length-kept, Stepped, plain-step, push-step, pop-step}
+use Rattle.hidreport.proofs.WalkLemmas.{Steps, Follows, walk-follows}
+
+push_is_no_pop : (x : ItemType) → is_push x ≡ true → is_pop x ≡ false
+push_is_no_pop (item.Global global.Push) e = refl
+push_is_no_pop (item.Global global.Pop) e = cc
+push_is_no_pop (item.Global g) e = cc
+push_is_no_pop (item.Main y) e = cc
+push_is_no_pop (item.Local y) e = cc
+push_is_no_pop item.Long e = cc
+push_is_no_pop item.Reserved e = cc
+
+-- a Push changes nothing that is in force
+push-force : (f : Force) (x : ItemType) → is_push x ≡ true → next_force f x ≡ f
+push-force f (item.Global global.Push) e = ap (λ (l : List LocalItem). record f { locals = l }) (append-nil f.locals)
+push-force f (item.Global global.Pop) e = cc
+push-force f (item.Global g) e = cc
+push-force f (item.Main y) e = cc
+push-force f (item.Local y) e = cc
+push-force f item.Long e = cc
+push-force f item.Reserved e = cc
+
+-- a step with its kinds of items told
+steps-by : (a b : Bool) (items : List ItemType) (k : ℕ) (x : ItemType) (f : Force) (saved : List Force) → is_push x ≡ a → is_pop x ≡ b
+    → f ≡ cond b (last_force (force items k) (kept items k)) (next_force (force items k) x)
+    → saved ≡ cond b (take (length (kept items k) - 1) (kept items k)) (cond a (kept items k ++ force items k ∷ []) (kept items k))
+    → Stepped items k f saved → Steps all_kept (force items) (kept items) items k x
+steps-by a b items k x f saved push pop is keeps stepped = record {
+  in_force_next = stepped.in_force_next ∙ is ∙ ap (λ c. cond c (last_force (force items k) (kept items k)) (next_force (force items k) x)) (sym pop);
+  kept_next = stepped.kept_next ∙ keeps
+      ∙ ap (λ c. cond c (take (length (kept items k) - 1) (kept items k)) (cond a (kept items k ++ force items k ∷ []) (kept items k))) (sym pop)
+      ∙ ap (λ c. cond (is_pop x) (take (length (kept items k) - 1) (kept items k)) (cond c (kept items k ++ force items k ∷ []) (kept items k))) (sym push);
+  rests_next = stepped.rests_next;
+}
+
+all-by : (a b : Bool) (items front rest : List ItemType) (x : ItemType) → items ≡ front ++ x ∷ rest → Rests items (length front)
+    → (is_pop x ≡ true → 0 < level items (length front)) → is_push x ≡ a → is_pop x ≡ b → Steps all_kept (force items) (kept items) items (length front) x
+all-by true true items front rest x e rests deep push pop = let no = push_is_no_pop x push in cc
+all-by false true items front rest x e rests deep push pop =
+    steps-by false true items (length front) x _ _ push pop refl refl (pop-step items front rest x e rests push pop (deep pop) (force items (length front)))
+all-by true false items front rest x e rests deep push pop =
+    steps-by true false items (length front) x _ _ push pop refl refl (push-step items front rest x e rests push pop (push-force (force items (length front)) x push))
+all-by false false items front rest x e rests deep push pop =
+    steps-by false false items (length front) x _ _ push pop refl refl (plain-step items front rest x e rests push pop)
+
+pub all-follows : (items : List ItemType) → Follows all_kept (force items) (kept items) items
+all-follows items = record {
+  begins = refl;
+  empty = refl;
+  leveled = length-kept items;
+  goes_on = λ front rest x e rests deep. all-by (is_push x) (is_pop x) items front rest x e rests deep refl refl;
+}
+
+-- the walk gives the meaning
+pub walk-meaning : (items : List ItemType) → walk nothing_held 0 items ≡ meaning items
+walk-meaning items = walk-follows all_kept force (kept items) items (all-follows items)

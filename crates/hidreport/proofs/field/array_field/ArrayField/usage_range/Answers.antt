@@ -1,0 +1,18 @@
+use Rattle.std.proofs.Common.{◌≡◌, ◌-◌, Bool, true, List, Some, length, ap, sym, ◌∙◌}
+use Rattle.std.specs.Prelude.{slice_get}
+use Rattle.hidreport.proofs.RangeLemmas.{range_of-ends, range_of-exact}
+use Rattle.hidreport.specs.UsageRange.{RangeRecord, range_of}
+use Rattle.hidreport.specs.declared.field.usage.Usage.{Usage}
+use Rattle.hidreport.proofs.field.array_field.ArrayField.usage_range.Goals as goal
+
+pub returns-clause-range : goal.returns-clause-range
+returns-clause-range c =
+    let usages = c.args.self.now.usages.items in
+    let first = c.in_ok-first.ensures.value ∙ ap (λ (us : List Usage). slice_get us 0) c.deref.ensures.value in
+    let last = c.in_ok-last.ensures.value ∙ ap (λ (us : List Usage). slice_get us (length us - 1)) c.deref-2.ensures.value in
+    let is_range : c.args.self.now.is_usage_range ≡ true = cc in
+    ap (λ (r : RangeRecord). Some r) c.new.ensures
+    ∙ sym (ap (λ (b : Bool). range_of b usages) is_range ∙ range_of-ends usages c.in_ok-first.first.now c.in_ok-last.last.now first last)
+
+pub returns-clause-listed : goal.returns-clause-listed
+returns-clause-listed c = range_of-exact c.args.self.now.is_usage_range c.args.self.now.usages.items c.new.result (returns-clause-range c)

@@ -1,9 +1,0 @@
-use Rattle.std.proofs.Common.{◌≡◌, map, drop}
-use Rattle.hidreport_lists.specs.Entry.{Entry}
-use Rattle.hidreport.specs.Machine.{nothing_held, walk}
-use Rattle.hidreport.specs.State.{held_of}
-use Rattle.hidreport.proofs.parse.reports_of.Given as goal
-
--- the walk over the rest from what is held is the walk over all items
-abbrev pub invariant-loop-entry : goal.invariant-loop-entry
-invariant-loop-entry l = walk (held_of l.state) l.entry-index (drop l.entry-index (map (λ (e : Entry). e.item) l.items)) ≡ walk nothing_held 0 (map (λ (e : Entry). e.item) l.items)

@@ -1,0 +1,26 @@
+-- What the parser keeps in force.
+use Rattle.std.specs.Prelude.{List}
+use Rattle.hidreport_items.specs.declared.local.LocalItem.{LocalItem}
+use Rattle.hidreport.specs.InForce.{Force}
+use Rattle.hidreport.specs.declared.parser.globals.Globals.{Globals}
+
+-- what is in force now, and what each open Push keeps, outermost first
+pub record Forces : Type 0 where
+  pub now : Force
+  pub kept : List Force
+
+-- the globals and these locals as what is in force
+abbrev pub force_of : Globals → List LocalItem → Force
+force_of g locals = record {
+  usage_page = g.usage_page;
+  logical_minimum = g.logical_minimum;
+  logical_maximum = g.logical_maximum;
+  physical_minimum = g.physical_minimum;
+  physical_maximum = g.physical_maximum;
+  unit_exponent = g.unit_exponent;
+  unit = g.unit;
+  report_size = g.report_size;
+  report_id = g.report_id;
+  report_count = g.report_count;
+  locals = locals;
+}

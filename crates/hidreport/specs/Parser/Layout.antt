@@ -1,0 +1,25 @@
+-- The fields of one item as the parser lays them out.
+use Rattle.std.specs.Prelude.{ℕ, ◌+◌, ◌*◌, [], List}
+use Rattle.std.specs.Arc.{arc_slice_items}
+use Rattle.hidreport.specs.Fields.{make_place, make_fields, usage_at, attributes}
+use Rattle.hidreport.specs.Parser.Forces.{force_of}
+use Rattle.hidreport.specs.Records.{Attributes, FieldRecord, VariableRecord}
+use Rattle.hidreport.specs.Usages.{UsageList}
+use Rattle.hidreport.specs.Views.{direction_of, item_flags}
+use Rattle.hidreport.specs.declared.parser.layout.Layout.{Layout}
+
+-- what the item's fields share
+abbrev pub shared_of : Layout → Attributes
+shared_of l = attributes (force_of l.globals []) (arc_slice_items l.collections)
+    (direction_of l.item.direction) (item_flags l.item)
+
+-- the fields, with these usages
+abbrev pub laid_out : Layout → UsageList → List FieldRecord
+laid_out l us = make_fields l.globals.report_id l.first_id l.first_bit (l.size, l.count)
+    (item_flags l.item) us (shared_of l)
+
+-- field number c of a variable item
+abbrev pub variable_of : Layout → UsageList → ℕ → FieldRecord
+variable_of l us c = VariableRecord
+    (make_place (l.first_id + c) l.globals.report_id (l.first_bit + c * l.size) l.size)
+    (usage_at us.usages c) (shared_of l)

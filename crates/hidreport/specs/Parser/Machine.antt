@@ -1,0 +1,237 @@
+-- The same meaning by one walk forward: what is held between two items, and what an item changes.
+use Rattle.std.specs.Prelude.{ℕ, suc, ◌&&◌, is_some, ◌+◌, ◌-◌, length, take, Bool, if◌then◌else◌, List, [], ◌∷◌, ◌++◌, map, filter, flat_map, sum_by, Option, None, Some, option_to_list, Result, Ok, Err}
+use Rattle.hidreport_items.specs.Flags.{Flags}
+use Rattle.hidreport_items.specs.declared.main_item.CollectionItem.{CollectionItem}
+use Rattle.hidreport_items.specs.declared.item.ItemType.{ItemType}
+use Rattle.hidreport_items.specs.declared.local.LocalItem.{LocalItem}
+use Rattle.hidreport.specs.Faults.{Counts, item_fault}
+use Rattle.hidreport.specs.Fields.{fields_of, fields_made, list_or_none}
+use Rattle.hidreport.specs.InForce.{Force, first_of}
+use Rattle.hidreport.specs.Making.{extent, same_key}
+use Rattle.hidreport.specs.Meaning.{firsts_after}
+use Rattle.hidreport.specs.MeaningFault.{MeaningFault}
+use Rattle.hidreport.specs.Places.{id_bits, bits_of}
+use Rattle.hidreport.specs.Records.{CollectionRecord, FieldRecord, ReportRecord, DescriptorRecord}
+use Rattle.hidreport.specs.Usages.{usages_of}
+use Rattle.hidreport.specs.Kinds.{Indexed, Direction, Input, Output, Feature, data_of, goes, is_main, is_push, is_pop, is_end_collection, collection_of, local_of, usage_page_of, logical_minimum_of, logical_maximum_of, physical_minimum_of, physical_maximum_of, unit_exponent_of, unit_of, report_size_of, report_id_of, report_count_of}
+
+-- a main item ends the locals, a local item is added to them
+abbrev pub next_locals : List LocalItem → ItemType → List LocalItem
+next_locals xs x = if is_main x then [] else xs ++ option_to_list (local_of x)
+
+-- what is in force behind one more item
+abbrev pub next_force : Force → ItemType → Force
+next_force f x = record {
+  usage_page = first_of (usage_page_of x) f.usage_page;
+  logical_minimum = first_of (logical_minimum_of x) f.logical_minimum;
+  logical_maximum = first_of (logical_maximum_of x) f.logical_maximum;
+  physical_minimum = first_of (physical_minimum_of x) f.physical_minimum;
+  physical_maximum = first_of (physical_maximum_of x) f.physical_maximum;
+  unit_exponent = first_of (unit_exponent_of x) f.unit_exponent;
+  unit = first_of (unit_of x) f.unit;
+  report_size = first_of (report_size_of x) f.report_size;
+  report_id = first_of (report_id_of x) f.report_id;
+  report_count = first_of (report_count_of x) f.report_count;
+  locals = next_locals f.locals x;
+}
+
+-- the report with this id that these items make, each adding bits and fields to the report of its key
+abbrev pub report_of : (Indexed → Option ℕ) → (Indexed → ℕ) → (Indexed → List FieldRecord)
+    → List Indexed → Option ℕ → ReportRecord
+report_of key bits fields ms id = record {
+  id = id;
+  size = id_bits id + sum_by bits (filter (λ p. same_key (key p) id) ms);
+  fields = flat_map fields (filter (λ p. same_key (key p) id) ms);
+}
+
+-- the reports that these items make
+abbrev pub reports_of : (Indexed → Option ℕ) → (Indexed → ℕ) → (Indexed → List FieldRecord)
+    → List Indexed → List ReportRecord
+reports_of key bits fields ms = map (report_of key bits fields ms) (firsts_after [] (map key ms))
+
+-- where the report with this id ends so far
+abbrev pub size_in : Option ℕ → List ReportRecord → ℕ
+size_in id [] = id_bits id
+size_in id (r ∷ rs) = if same_key r.id id then r.size else size_in id rs
+
+-- the id of the first report
+abbrev pub first_id : List ReportRecord → Option ℕ
+first_id [] = None
+first_id (r ∷ rs) = r.id
+
+-- the index of the report with this id, or the length where there is none
+abbrev pub index_in : Option ℕ → List ReportRecord → ℕ
+index_in id [] = 0
+index_in id (r ∷ rs) = if same_key r.id id then 0 else suc (index_in id rs)
+
+-- the reports with these bits and fields added to the one with this id, which is made at need
+abbrev pub added_to : Option ℕ → ℕ → List FieldRecord → List ReportRecord → List ReportRecord
+added_to id bits fields [] = record { id = id; size = id_bits id + bits; fields = fields } ∷ []
+added_to id bits fields (r ∷ rs) =
+    if same_key r.id id then record { id = r.id; size = r.size + bits; fields = r.fields ++ fields } ∷ rs
+    else r ∷ added_to id bits fields rs
+
+-- what is held between two items: what is in force, what the open Pushes keep, outermost first, the reports so far
+-- and how many fields they have, the open collections, outermost first, and how many were opened
+pub record Held : Type 0 where
+  pub force : Force
+  pub kept : List Force
+  pub descriptor : DescriptorRecord
+  pub fields : ℕ
+  pub opened : List CollectionRecord
+  pub collections : ℕ
+
+-- the reports of a direction
+abbrev pub reports_in : Direction → DescriptorRecord → List ReportRecord
+reports_in Input r = r.input
+reports_in Output r = r.output
+reports_in Feature r = r.feature
+
+-- the descriptor with other reports of a direction
+abbrev pub with_reports : Direction → List ReportRecord → DescriptorRecord → DescriptorRecord
+with_reports Input rs r = record { input = rs; output = r.output; feature = r.feature }
+with_reports Output rs r = record { input = r.input; output = rs; feature = r.feature }
+with_reports Feature rs r = record { input = r.input; output = r.output; feature = rs }
+
+-- the id of the report that a data item of a direction adds to
+abbrev pub key_in : Direction → Held → Option ℕ
+key_in d h = first_of h.force.report_id (first_id (reports_in d h.descriptor))
+
+-- where its fields begin
+abbrev pub start_in : Direction → Held → ℕ
+start_in d h = size_in (key_in d h) (reports_in d h.descriptor)
+
+abbrev pub start_for : Option (Direction × Flags) → Held → ℕ
+start_for None h = 0
+start_for (Some x) h = start_in x.0 h
+
+-- the counts before an item
+abbrev pub counts_in : Held → ItemType → Counts
+counts_in h x = record {
+  level = length h.kept;
+  depth = length h.opened;
+  collections = h.collections;
+  fields = h.fields;
+  start = start_for (data_of x) h;
+}
+
+-- the item makes fields in this direction
+abbrev pub adds : Direction → Held → ItemType → Bool
+adds d h x = goes d (data_of x) && is_some (extent h.force)
+
+-- the reports of a direction behind the item
+abbrev pub next_reports : Direction → Held → ItemType → List ReportRecord
+next_reports d h x =
+    if adds d h x then added_to (key_in d h) (bits_of (extent h.force))
+    (fields_of h.force h.opened h.fields (start_in d h) (data_of x) (extent h.force)) (reports_in d h.descriptor)
+    else reports_in d h.descriptor
+
+-- the collection that an item opens
+abbrev pub new_collection : Held → Option CollectionItem → List CollectionRecord
+new_collection h None = []
+new_collection h (Some kind) = record {
+  id = h.collections;
+  kind = kind;
+  usages = (list_or_none (usages_of h.force)).usages;
+} ∷ []
+
+-- the open collections behind the item: an EndCollection closes the last
+abbrev pub next_opened : Held → ItemType → List CollectionRecord
+next_opened h x =
+    if is_end_collection x then take (length h.opened - 1) h.opened
+    else h.opened ++ new_collection h (collection_of x)
+
+-- the last of a list, or else the first argument
+abbrev pub last_force : Force → List Force → Force
+last_force f [] = f
+last_force f (g ∷ gs) = last_force g gs
+
+-- what a Pop brings back, from what is in force there and what its Push kept
+abbrev pub Restoring : Type 0
+Restoring = Force → Force → Force
+
+-- all that the Push kept
+abbrev pub all_kept : Restoring
+all_kept now kept = kept
+
+-- what is in force behind the item
+abbrev pub held_force : Restoring → Held → ItemType → Force
+held_force restored h x =
+    if is_pop x then restored h.force (last_force h.force h.kept) else next_force h.force x
+
+-- what the open Pushes keep behind the item
+abbrev pub next_kept : Held → ItemType → List Force
+next_kept h x =
+    if is_pop x then take (length h.kept - 1) h.kept
+    else (if is_push x then h.kept ++ h.force ∷ [] else h.kept)
+
+-- what is held behind an item without a fault
+abbrev pub next_held_by : Restoring → Held → ItemType → Held
+next_held_by restored h x = record {
+  force = held_force restored h x;
+  kept = next_kept h x;
+  descriptor = record {
+    input = next_reports Input h x;
+    output = next_reports Output h x;
+    feature = next_reports Feature h x;
+  };
+  fields = h.fields + fields_made (data_of x) (extent h.force);
+  opened = next_opened h x;
+  collections = h.collections + length (new_collection h (collection_of x));
+}
+
+abbrev pub unless_fault : Option MeaningFault → Held → Result Held MeaningFault
+unless_fault None h = Ok h
+unless_fault (Some f) h = Err f
+
+-- the fault of an item where this is held
+abbrev pub fault_in : Held → ItemType → Option MeaningFault
+fault_in h x = item_fault (counts_in h x) h.force x
+
+-- one item further, or its fault
+abbrev pub step_by : Restoring → Held → ItemType → Result Held MeaningFault
+step_by restored h x = unless_fault (fault_in h x) (next_held_by restored h x)
+
+-- before the first item
+abbrev pub nothing_held : Held
+nothing_held = record {
+  force = record {
+    usage_page = None;
+    logical_minimum = None;
+    logical_maximum = None;
+    physical_minimum = None;
+    physical_maximum = None;
+    unit_exponent = None;
+    unit = None;
+    report_size = None;
+    report_id = None;
+    report_count = None;
+    locals = [];
+  };
+  kept = [];
+  descriptor = record { input = []; output = []; feature = [] };
+  fields = 0;
+  opened = [];
+  collections = 0;
+}
+
+abbrev pub go_on : Result Held MeaningFault → ℕ → (Held → Result DescriptorRecord (ℕ × MeaningFault))
+    → Result DescriptorRecord (ℕ × MeaningFault)
+go_on (Ok h) k rest = rest h
+go_on (Err f) k rest = Err (k, f)
+
+-- the walk over the items from index k on
+abbrev pub walk_by : Restoring → Held → ℕ → List ItemType → Result DescriptorRecord (ℕ × MeaningFault)
+walk_by restored h k [] = Ok h.descriptor
+walk_by restored h k (x ∷ xs) =
+    go_on (step_by restored h x) k (λ next. walk_by restored next (k + 1) xs)
+
+-- the same where a Pop brings back all that its Push kept
+abbrev pub next_held : Held → ItemType → Held
+next_held = next_held_by all_kept
+
+abbrev pub step : Held → ItemType → Result Held MeaningFault
+step = step_by all_kept
+
+abbrev pub walk : Held → ℕ → List ItemType → Result DescriptorRecord (ℕ × MeaningFault)
+walk = walk_by all_kept

@@ -1,0 +1,238 @@
+ghost use Rattle.std.specs.Prelude.{◌≡◌, ◌≢◌, ◌<◌, pos, int_lt, IfErr, IfOk, IfSome, IsOk, OnOk};
+ghost use Rattle.hidreport_lists.specs.Answer.{Answers, Refuses};
+ghost use Rattle.hidreport.specs.Reading.{AnswersBy, element_of, reads, reads_element, values_of};
+ghost use Rattle.hidreport.specs.Records.{is_of_range, usages_in};
+ghost use Rattle.hidreport.specs.UsageRange.{range_of, HasExactly};
+ghost use Rattle.hidreport.specs.Views.{array_attributes, array_record};
+
+use crate::field::FieldId;
+use crate::field::collection::Collection;
+use crate::field::data_item::DataItem;
+use crate::field::field_attributes::FieldAttributes;
+use crate::field::usage::Usage;
+use crate::field::usage_range::UsageRange;
+use crate::field::value::{FieldValue, check_id, read_bits};
+use hidreport_lists::ParserError;
+use hidreport_types::{
+    LogicalMaximum, LogicalMinimum, PhysicalMaximum, PhysicalMinimum, ReportCount, ReportId, Unit,
+    UnitExponent,
+};
+use std::alloc::AllocError;
+use std::ops::Range;
+use std::sync::ArcSlice;
+
+/// A field with several values, each of which chooses among the field's usages (Section 6.2.2.5).
+///
+/// Its values are elements of one width: the field's bits divided by the count, rounded down, so
+/// that bits may be left over at the end. The public fields may be changed; reading follows what
+/// they are then.
+#[derive(Debug, Drop)]
+pub struct ArrayField {
+    pub(crate) id: FieldId,
+    pub(crate) report_id: Option<ReportId>,
+
+    /// The field's bits in its report: from the first up to the one behind the last.
+    pub bits: Range<usize>,
+
+    pub(crate) usages: Vec<Usage>,
+    pub(crate) is_usage_range: bool,
+
+    /// How many values the field has.
+    pub report_count: ReportCount,
+
+    /// The least value; the field is signed where it is below 0.
+    pub logical_minimum: LogicalMinimum,
+
+    /// The greatest value.
+    pub logical_maximum: LogicalMaximum,
+
+    /// What the least value stands for; 0 where only the other physical bound was set.
+    pub physical_minimum: Option<PhysicalMinimum>,
+
+    /// What the greatest value stands for; 0 where only the other physical bound was set.
+    pub physical_maximum: Option<PhysicalMaximum>,
+
+    /// The unit of the physical bounds.
+    pub unit: Option<Unit>,
+
+    /// The power of ten of the unit.
+    pub unit_exponent: Option<UnitExponent>,
+
+    /// The collections that the field lies in, outermost first; the fields of an item share them.
+    pub collections: ArcSlice<Collection>,
+
+    pub(crate) item: DataItem,
+}
+
+impl ArrayField {
+    /// The usages that the values choose among, in the order of the descriptor (Section 6.2.2.8).
+    pub fn usages(&self) -> &[Usage]
+        ensures { result.now ≡ usages_in (array_record self.now) }
+    {
+        &self.usages
+    }
+
+    /// The range of the usages, from the first to the last, where a minimum and a maximum gave
+    /// them (Section 6.2.2.8). `None` where they were given one by one.
+    ///
+    /// Where the last id less the first is one less than the number of usages, the range has
+    /// exactly these usages.
+    pub fn usage_range(&self) -> Option<UsageRange>
+        ensures range { let field = array_record self.now in
+            result ≡ range_of (is_of_range field) (usages_in field) }
+        ensures listed { IfSome result (λ range.
+            HasExactly range (usages_in (array_record self.now))) }
+    {
+        if !self.is_usage_range {
+            return None;
+        }
+        let first = self.usages.first()?;
+        let last = self.usages.last()?;
+        Some(UsageRange::new(*first, *last))
+    }
+
+    /// Whether the usages were given by a minimum and a maximum (Section 6.2.2.8).
+    pub fn is_usage_range(&self) -> bool
+        ensures { result ≡ is_of_range (array_record self.now) }
+    {
+        self.is_usage_range
+    }
+
+    /// Whether the values can be below 0: the logical minimum is.
+    pub fn is_signed(&self) -> bool
+        ensures { result ≡ int_lt self.now.logical_minimum (pos 0) }
+    {
+        self.logical_minimum < LogicalMinimum::from(0)
+    }
+
+    /// The values of all elements in a report that has these bytes, in order (Section 5.8).
+    ///
+    /// For a field with a report id, no bytes are `OutOfBounds`, and another first byte is
+    /// `MismatchingReportId`. Then a count of 0 gives no values, and an element of 0 bits, one of
+    /// more than 32 and one that ends behind the bytes are `OutOfBounds`. Memory is taken for the
+    /// values alone, once they are known to be there; where it is refused the answer is
+    /// `OutOfMemory`.
+    pub fn extract(&self, bytes: &[u8]) -> Result<Vec<FieldValue>, ParserError>
+        ensures answer { AnswersBy (λ values. values.items) result
+            (reads (array_record self.now) bytes.now) }
+        ensures memory { result ≡ Err ParserError.OutOfMemory
+            → IsOk (reads (array_record self.now) bytes.now) }
+    {
+        check_id(self.report_id, bytes).and_then(|()| self.elements(bytes))
+    }
+
+    /// The value of element `idx`, counted from 0, in a report that has these bytes (Section 5.8).
+    ///
+    /// An `idx` that isn't below the count is `OutOfBounds`. Then, for a field with a report id, no
+    /// bytes are `OutOfBounds`, and another first byte is `MismatchingReportId`. Then an element of
+    /// 0 bits, one of more than 32 and one that ends behind the bytes are `OutOfBounds`. It takes
+    /// no memory.
+    pub fn extract_one(&self, bytes: &[u8], idx: usize) -> Result<FieldValue, ParserError>
+        ensures answer { Answers result (reads_element (array_record self.now) bytes.now idx) }
+        ensures memory { result ≢ Err ParserError.OutOfMemory }
+    {
+        if idx >= usize::from(self.report_count) {
+            return Err(ParserError::OutOfBounds);
+        }
+        check_id(self.report_id, bytes)?;
+        self.element(bytes, idx)
+    }
+
+    /// The same field once more, with a list of usages of its own; both share the list of
+    /// collections. An `AllocError` comes where memory for the usages is refused, or where that
+    /// list would have 2^63 owners.
+    pub fn clone(&self) -> Result<ArrayField, AllocError>
+        ensures { IfOk result (λ copy. array_record copy ≡ array_record self.now) }
+    {
+        Ok(ArrayField {
+            id: self.id,
+            report_id: self.report_id,
+            bits: self.bits.start..self.bits.end,
+            usages: Vec::from_slice(*self.usages.allocator(), &self.usages)?,
+            is_usage_range: self.is_usage_range,
+            report_count: self.report_count,
+            logical_minimum: self.logical_minimum,
+            logical_maximum: self.logical_maximum,
+            physical_minimum: self.physical_minimum,
+            physical_maximum: self.physical_maximum,
+            unit: self.unit,
+            unit_exponent: self.unit_exponent,
+            collections: self.collections.clone()?,
+            item: self.item,
+        })
+    }
+
+    /// The values of all elements, whatever the report's id.
+    fn elements(&self, bytes: &[u8]) -> Result<Vec<FieldValue>, ParserError>
+        ensures answer { AnswersBy (λ values. values.items) result
+            (values_of (array_record self.now) bytes.now) }
+        ensures memory { result ≡ Err ParserError.OutOfMemory
+            → IsOk (values_of (array_record self.now) bytes.now) }
+    {
+        self.check_elements(bytes)?;
+        let count = usize::from(self.report_count);
+        let mut values = Vec::with_capacity(*self.usages.allocator(), count)?;
+        for idx in 0..count {
+            values.push(self.element(bytes, idx)?)?;
+        }
+        Ok(values)
+    }
+
+    /// Refuses where some element can't be read: where the last one can, so can those before it.
+    fn check_elements(&self, bytes: &[u8]) -> Result<(), ParserError>
+        ensures readable { OnOk result (IsOk (values_of (array_record self.now) bytes.now)) }
+        ensures refused { IfErr result (λ e.
+            Refuses e (values_of (array_record self.now) bytes.now)) }
+        ensures memory { result ≢ Err ParserError.OutOfMemory }
+    {
+        let count = usize::from(self.report_count);
+        if count == 0 {
+            return Ok(());
+        }
+        self.element(bytes, count - 1)?;
+        Ok(())
+    }
+
+    /// The value of an element that is there, whatever the report's id.
+    fn element(&self, bytes: &[u8], idx: usize) -> Result<FieldValue, ParserError>
+        requires { idx < self.now.report_count }
+        ensures answer { Answers result (element_of (array_record self.now) bytes.now idx) }
+        ensures memory { result ≢ Err ParserError.OutOfMemory }
+    {
+        let width = self.bits.end.saturating_sub(self.bits.start) / usize::from(self.report_count);
+        let first = self.bits.start + width * idx;
+        read_bits(bytes, &(first..first + width), self.is_signed())
+    }
+}
+
+impl FieldAttributes for ArrayField {
+    ghost attributes = { array_attributes };
+
+    fn is_relative(&self) -> bool {
+        self.item.is_relative
+    }
+
+    fn wraps(&self) -> bool {
+        self.item.wraps
+    }
+
+    fn is_nonlinear(&self) -> bool {
+        self.item.is_nonlinear
+    }
+
+    fn has_no_preferred_state(&self) -> bool {
+        self.item.has_no_preferred_state
+    }
+
+    fn has_null_state(&self) -> bool {
+        self.item.has_null_state
+    }
+
+    fn is_buffered_bytes(&self) -> bool {
+        self.item.is_buffered_bytes
+    }
+
+    fn is_volatile(&self) -> Option<bool> {
+        self.item.volatile()
+    }
+}

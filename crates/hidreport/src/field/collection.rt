@@ -1,0 +1,147 @@
+ghost use Rattle.std.specs.Prelude.{◌≡◌, nat_eq, IfOk};
+ghost use Rattle.std.specs.Cmp.Rules.{comparing, hashing};
+ghost use Rattle.std.specs.Hash as fed;
+ghost use Rattle.std.specs.Ordering.{on};
+ghost use Rattle.std.proofs.Common.{rules};
+
+use crate::field::usage::Usage;
+use hidreport_items::CollectionItem;
+use std::alloc::AllocError;
+use std::hash::{Hash, Hasher};
+use std::marker::Model;
+use std::sync::ArcSlice;
+
+/// The number of a collection, counted from 0 in the order of the descriptor.
+#[derive(Debug, Drop, PartialEq, Eq, Hash, PartialOrd)]
+pub struct CollectionId(u32);
+
+impl Model for CollectionId {
+    ghost use Rattle.std.specs.Prelude.{ℕ};
+
+    ghost Value = { ℕ };
+
+    ghost view = { λ c. c.0 };
+
+    ghost inverse = { λ n. record { 0 = n } };
+}
+
+impl CollectionId {
+    /// The id of the collection with this number.
+    pub(crate) fn new(number: u32) -> CollectionId
+        ensures { result ≡ number }
+    {
+        CollectionId(number)
+    }
+
+    /// The same id once more. It takes no memory.
+    pub fn clone(&self) -> CollectionId
+        ensures { result ≡ self.now }
+    {
+        CollectionId(self.0)
+    }
+}
+
+/// A group of fields that belong together (Section 6.2.2.6).
+///
+/// Two collections are equal where their ids are.
+#[derive(Debug, Drop)]
+pub struct Collection {
+    id: CollectionId,
+    collection_type: CollectionItem,
+    usages: ArcSlice<Usage>,
+}
+
+impl Model for Collection {
+    ghost use Rattle.std.specs.Arc.{arc_slice_items};
+    ghost use Rattle.hidreport.specs.Records.{CollectionRecord};
+
+    ghost Value = { CollectionRecord };
+
+    ghost view = { λ c. record {
+      id = c.id;
+      kind = c.collection_type;
+      usages = arc_slice_items c.usages;
+    } };
+}
+
+impl Collection {
+    ghost use Rattle.std.specs.Arc.{arc_slice_items};
+
+    /// The collection with these parts.
+    pub(crate) fn new(
+        id: CollectionId,
+        collection_type: CollectionItem,
+        usages: ArcSlice<Usage>,
+    ) -> Collection
+        ensures { result ≡ record {
+          id = id;
+          kind = collection_type;
+          usages = arc_slice_items usages;
+        } }
+    {
+        Collection {
+            id,
+            collection_type,
+            usages,
+        }
+    }
+
+    /// The collection's number.
+    pub fn id(&self) -> &CollectionId
+        ensures { result.now ≡ self.now.id }
+    {
+        &self.id
+    }
+
+    /// What the collection's fields have in common.
+    pub fn collection_type(&self) -> CollectionItem
+        ensures { result ≡ self.now.kind }
+    {
+        self.collection_type
+    }
+
+    /// The collection's usages, in the order of the descriptor.
+    pub fn usages(&self) -> &[Usage]
+        ensures { result.now ≡ self.now.usages }
+    {
+        self.usages.as_slice()
+    }
+
+    /// The same collection once more; both share the list of usages. It takes no memory; an
+    /// `AllocError` comes only where that list would have 2^63 owners.
+    pub fn clone(&self) -> Result<Collection, AllocError>
+        ensures { IfOk result (λ copy. copy ≡ self.now) }
+    {
+        Ok(Collection {
+            id: self.id.clone(),
+            collection_type: self.collection_type,
+            usages: self.usages.clone()?,
+        })
+    }
+}
+
+/// The same id.
+impl PartialEq for Collection {
+    ghost eq = { on (λ c. c.id) nat_eq };
+
+    ghost laws = { Prim.search (comparing, rules) };
+
+    fn eq(&self, other: &Collection) -> bool {
+        self.id == other.id
+    }
+}
+
+impl Eq for Collection {
+    ghost laws = { Prim.search (comparing, rules) };
+}
+
+/// That of the id.
+impl Hash for Collection {
+    ghost hash_input = { λ c. fed.u32 c.id };
+
+    ghost respects_eq = { Prim.search (hashing, rules) };
+
+    fn hash<H: Hasher>(&self, state: &mut H) {
+        self.id.hash(state);
+    }
+}

@@ -1,0 +1,131 @@
+ghost use Rattle.std.specs.Prelude.{◌≡◌, ◌≢◌, [], ◌∷◌, pos, int_lt, IfOk};
+ghost use Rattle.hidreport.specs.Reading.{AnswersBy, reads};
+ghost use Rattle.hidreport.specs.Views.{variable_attributes, variable_record};
+
+use crate::field::FieldId;
+use crate::field::collection::Collection;
+use crate::field::data_item::DataItem;
+use crate::field::field_attributes::FieldAttributes;
+use crate::field::usage::Usage;
+use crate::field::value::{FieldValue, check_id, read_bits};
+use hidreport_lists::ParserError;
+use hidreport_types::{
+    LogicalMaximum, LogicalMinimum, PhysicalMaximum, PhysicalMinimum, ReportId, Unit, UnitExponent,
+};
+use std::alloc::AllocError;
+use std::ops::Range;
+use std::sync::ArcSlice;
+
+/// A field with one value (Section 6.2.2.5).
+///
+/// The public fields may be changed; reading follows what they are then.
+#[derive(Debug, Drop)]
+pub struct VariableField {
+    pub(crate) id: FieldId,
+    pub(crate) report_id: Option<ReportId>,
+
+    /// The field's bits in its report: from the first up to the one behind the last.
+    pub bits: Range<usize>,
+
+    /// What the value is for.
+    pub usage: Usage,
+
+    /// The least value; the field is signed where it is below 0.
+    pub logical_minimum: LogicalMinimum,
+
+    /// The greatest value.
+    pub logical_maximum: LogicalMaximum,
+
+    /// What the least value stands for; 0 where only the other physical bound was set.
+    pub physical_minimum: Option<PhysicalMinimum>,
+
+    /// What the greatest value stands for; 0 where only the other physical bound was set.
+    pub physical_maximum: Option<PhysicalMaximum>,
+
+    /// The unit of the physical bounds.
+    pub unit: Option<Unit>,
+
+    /// The power of ten of the unit.
+    pub unit_exponent: Option<UnitExponent>,
+
+    /// The collections that the field lies in, outermost first; the fields of an item share them.
+    pub collections: ArcSlice<Collection>,
+
+    pub(crate) item: DataItem,
+}
+
+impl VariableField {
+    /// Whether the value can be below 0: the logical minimum is.
+    pub fn is_signed(&self) -> bool
+        ensures { result ≡ int_lt self.now.logical_minimum (pos 0) }
+    {
+        self.logical_minimum < LogicalMinimum::from(0)
+    }
+
+    /// The field's value in a report that has these bytes (Section 5.8).
+    ///
+    /// For a field with a report id, no bytes are `OutOfBounds`, and another first byte is
+    /// `MismatchingReportId`. Then an empty or reversed range of bits, one of more than 32 bits
+    /// and one that ends behind the bytes are `OutOfBounds`. It takes no memory.
+    pub fn extract(&self, bytes: &[u8]) -> Result<FieldValue, ParserError>
+        ensures answer { AnswersBy (λ value. value ∷ []) result
+            (reads (variable_record self.now) bytes.now) }
+        ensures memory { result ≢ Err ParserError.OutOfMemory }
+    {
+        check_id(self.report_id, bytes)?;
+        read_bits(bytes, &self.bits, self.is_signed())
+    }
+
+    /// The same field once more; both share the list of collections. It takes no memory; an
+    /// `AllocError` comes only where that list would have 2^63 owners.
+    pub fn clone(&self) -> Result<VariableField, AllocError>
+        ensures { IfOk result (λ copy. variable_record copy ≡ variable_record self.now) }
+    {
+        Ok(VariableField {
+            id: self.id,
+            report_id: self.report_id,
+            bits: self.bits.start..self.bits.end,
+            usage: self.usage,
+            logical_minimum: self.logical_minimum,
+            logical_maximum: self.logical_maximum,
+            physical_minimum: self.physical_minimum,
+            physical_maximum: self.physical_maximum,
+            unit: self.unit,
+            unit_exponent: self.unit_exponent,
+            collections: self.collections.clone()?,
+            item: self.item,
+        })
+    }
+}
+
+impl FieldAttributes for VariableField {
+    ghost attributes = { variable_attributes };
+
+    fn is_relative(&self) -> bool {
+        self.item.is_relative
+    }
+
+    fn wraps(&self) -> bool {
+        self.item.wraps
+    }
+
+    fn is_nonlinear(&self) -> bool {
+        self.item.is_nonlinear
+    }
+
+    fn has_no_preferred_state(&self) -> bool {
+        self.item.has_no_preferred_state
+    }
+
+    fn has_null_state(&self) -> bool {
+        self.item.has_null_state
+    }
+
+    fn is_buffered_bytes(&self) -> bool {
+        self.item.is_buffered_bytes
+    }
+
+    fn is_volatile(&self) -> Option<bool> {
+        self.item.volatile()
+    }
+}

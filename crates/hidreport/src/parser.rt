@@ -1,0 +1,45 @@
+//! The parser: one walk over the items of a descriptor, forward.
+ghost use Rattle.std.specs.Prelude.{◌≡◌, map};
+ghost use Rattle.hidreport_lists.specs.Answer.{Answers, InvalidAt};
+ghost use Rattle.hidreport_lists.specs.Entry.{Entry};
+ghost use Rattle.hidreport.specs.Meaning.{at_offset, empty_descriptor, meaning};
+ghost use Rattle.hidreport.specs.Parser.Refusals.{IsRefusal};
+
+mod fault;
+mod globals;
+mod in_force;
+mod layout;
+mod open_collections;
+mod state;
+mod usages;
+
+use crate::report::reports::Reports;
+use fault::invalid_data;
+use hidreport_lists::{Item, ParserError, ReportDescriptorItem};
+use state::State;
+use std::alloc::Global;
+
+/// The refusal of no bytes at all.
+pub(crate) fn empty_descriptor(alloc: Global) -> ParserError
+    ensures { IsRefusal result (InvalidAt 0 empty_descriptor) }
+{
+    invalid_data(alloc, 0, "Empty report descriptor")
+}
+
+/// The reports that the items announce.
+pub(crate) fn reports_of(
+    alloc: Global,
+    items: &[ReportDescriptorItem],
+) -> Result<Reports, ParserError>
+    ensures { Answers result
+        (at_offset items.now (meaning (map (λ (e : Entry). e.item) items.now))) }
+{
+    let mut state = State::new(alloc);
+    for entry in items {
+        match state.take(alloc, entry.item().item_type()) {
+            Ok(()) => {}
+            Err(fault) => return Err(fault.at(alloc, entry.offset())),
+        }
+    }
+    Ok(state.into_reports())
+}

@@ -1,0 +1,125 @@
+use crate::parser::globals::Globals;
+use hidreport_items::{GlobalItem, LocalItem};
+use std::alloc::{AllocError, AllocFailed, Global};
+use std::marker::Model;
+
+/// What is in force between two items (Sections 6.2.2.7 and 6.2.2.8), and what each open Push
+/// keeps of it for its Pop.
+#[derive(Debug, Drop)]
+pub(crate) struct InForce {
+    globals: Globals,
+    locals: Vec<LocalItem>,
+    kept: Vec<Kept>,
+}
+
+impl Model for InForce {
+    ghost use Rattle.hidreport.specs.Parser.Forces.{Forces, force_of};
+
+    ghost Value = { Forces };
+
+    ghost view = { λ f. record { now = force_of f.globals f.locals.items; kept = f.kept.items } };
+}
+
+/// What a Push keeps: the globals and the locals.
+#[derive(Debug, Drop)]
+struct Kept {
+    globals: Globals,
+    locals: Vec<LocalItem>,
+}
+
+impl Model for Kept {
+    ghost use Rattle.hidreport.specs.InForce.{Force};
+    ghost use Rattle.hidreport.specs.Parser.Forces.{force_of};
+
+    ghost Value = { Force };
+
+    ghost view = { λ k. force_of k.globals k.locals.items };
+}
+
+impl InForce {
+    ghost use Rattle.std.specs.Prelude.{◌≡◌, ◌-◌, ◌<◌, [], ◌∷◌, ◌++◌, true, false, length, take, OnOk};
+    ghost use Rattle.hidreport_items.specs.declared.item.ItemType.TheVariants as items;
+    ghost use Rattle.hidreport.specs.Parser.Forces.{force_of};
+    ghost use Rattle.hidreport.specs.Parser.Machine.{last_force, next_force, nothing_held};
+
+    /// Before the first item.
+    pub(crate) fn new(alloc: Global) -> InForce
+        ensures { result ≡ record { now = nothing_held.force; kept = [] } }
+    {
+        InForce {
+            globals: Globals::new(),
+            locals: Vec::new(alloc),
+            kept: Vec::new(alloc),
+        }
+    }
+
+    /// The values of global items.
+    pub(crate) fn globals(&self) -> &Globals
+        ensures { force_of result.now self.now.now.locals ≡ self.now.now }
+    {
+        &self.globals
+    }
+
+    /// The local items.
+    pub(crate) fn locals(&self) -> &[LocalItem]
+        ensures { result.now ≡ self.now.now.locals }
+    {
+        &self.locals
+    }
+
+    /// Sets the value of a global item; a Push, a Pop and a reserved item have none.
+    pub(crate) fn set(&mut self, item: GlobalItem)
+        ensures { self.new ≡ record self.old { now = next_force self.old.now (items.Global item) } }
+    {
+        self.globals.set(item);
+    }
+
+    /// Adds a local item.
+    pub(crate) fn add_local(&mut self, item: LocalItem) -> Result<(), AllocFailed<LocalItem>>
+        ensures { OnOk result (self.new ≡ record self.old {
+          now = next_force self.old.now (items.Local item);
+        }) }
+    {
+        self.locals.push(item)
+    }
+
+    /// Ends the locals, as each main item does.
+    pub(crate) fn end_locals(&mut self)
+        ensures { self.new ≡ record self.old { now = record self.old.now { locals = [] } } }
+    {
+        self.locals.clear();
+    }
+
+    /// Keeps what is in force for the Pop of a Push.
+    pub(crate) fn push(&mut self, alloc: Global) -> Result<(), AllocError>
+        ensures { OnOk result (self.new ≡ record self.old {
+          kept = self.old.kept ++ self.old.now ∷ [];
+        }) }
+    {
+        let locals = Vec::from_slice(alloc, &self.locals)?;
+        self.kept.push(Kept {
+            globals: self.globals,
+            locals,
+        })?;
+        Ok(())
+    }
+
+    /// Brings back what the last open Push kept, and answers whether a Push was open.
+    pub(crate) fn pop(&mut self) -> bool
+        ensures open { result ≡ true → 0 < length self.old.kept }
+        ensures back { result ≡ true → self.new ≡ record {
+          now = last_force self.old.now self.old.kept;
+          kept = take (length self.old.kept - 1) self.old.kept;
+        } }
+        ensures none { result ≡ false → self.old.kept ≡ [] }
+    {
+        match self.kept.pop() {
+            Some(kept) => {
+                self.globals = kept.globals;
+                self.locals = kept.locals;
+                true
+            }
+            None => false,
+        }
+    }
+}

@@ -1,0 +1,143 @@
+use crate::field::data_item::DataItem;
+use crate::parser::fault::Fault;
+use crate::parser::in_force::InForce;
+use crate::parser::open_collections::OpenCollections;
+use crate::parser::usages::usages_of;
+use crate::report::reports::Reports;
+use hidreport_items::{CollectionItem, GlobalItem, ItemType, MainItem};
+use std::alloc::Global;
+use std::marker::Model;
+use std::sync::ArcSlice;
+
+/// How many collections have an id.
+const COLLECTION_IDS: u64 = 1 << 32;
+
+/// What the items so far have set, opened and made.
+#[derive(Debug, Drop)]
+pub(crate) struct State {
+    pub(crate) in_force: InForce,
+    pub(crate) reports: Reports,
+    pub(crate) field_count: u64,
+    pub(crate) collections: OpenCollections,
+}
+
+impl Model for State {
+    ghost use Rattle.hidreport.specs.Parser.Machine.{Held};
+
+    ghost Value = { Held };
+
+    ghost view = { λ s. record {
+      force = s.in_force.now;
+      kept = s.in_force.kept;
+      descriptor = s.reports;
+      fields = s.field_count;
+      opened = s.collections.list;
+      collections = s.collections.count;
+    } };
+}
+
+impl State {
+    ghost use Rattle.std.specs.Prelude.{◌≡◌, ◌+◌, None, Ok, IfErr, OnOk};
+    ghost use Rattle.hidreport.specs.Parser.Machine.{fault_in, next_opened, nothing_held, step};
+    ghost use Rattle.hidreport.specs.Parser.Refusals.{IsFaultOf};
+    ghost use Rattle.hidreport.specs.Parser.DataItem.{collection, end_collection};
+
+    /// Before the first item.
+    pub(crate) fn new(alloc: Global) -> State
+        ensures { result ≡ nothing_held }
+    {
+        State {
+            in_force: InForce::new(alloc),
+            reports: Reports::new(alloc),
+            field_count: 0,
+            collections: OpenCollections::new(alloc),
+        }
+    }
+
+    /// Goes on by one item.
+    pub(crate) fn take(&mut self, alloc: Global, item: ItemType) -> Result<(), Fault>
+        ensures ok { OnOk result (step self.old item ≡ Ok self.new) }
+        ensures err { IfErr result (λ e. IsFaultOf e (fault_in self.old item)) }
+    {
+        match item {
+            ItemType::Global(item) => self.take_global(alloc, item)?,
+            ItemType::Local(item) => self.in_force.add_local(item)?,
+            ItemType::Main(item) => self.take_main(alloc, item)?,
+            ItemType::Long | ItemType::Reserved => {}
+        }
+        Ok(())
+    }
+
+    /// A Push keeps what is in force, a Pop brings it back, any other item sets a value.
+    fn take_global(&mut self, alloc: Global, item: GlobalItem) -> Result<(), Fault>
+        ensures ok { OnOk result (step self.old (ItemType.Global item) ≡ Ok self.new) }
+        ensures err { IfErr result (λ e. IsFaultOf e (fault_in self.old (ItemType.Global item))) }
+    {
+        match item {
+            GlobalItem::Push => self.in_force.push(alloc)?,
+            GlobalItem::Pop => {
+                if !self.in_force.pop() {
+                    return Err(Fault::TooManyPops);
+                }
+            }
+            item => self.in_force.set(item),
+        }
+        Ok(())
+    }
+
+    /// The locals end with the item.
+    fn take_main(&mut self, alloc: Global, item: MainItem) -> Result<(), Fault>
+        ensures ok { OnOk result (step self.old (ItemType.Main item) ≡ Ok self.new) }
+        ensures err { IfErr result (λ e. IsFaultOf e (fault_in self.old (ItemType.Main item))) }
+    {
+        match item {
+            MainItem::Input(item) => self.add_data(alloc, DataItem::from(item))?,
+            MainItem::Output(item) => self.add_data(alloc, DataItem::from(item))?,
+            MainItem::Feature(item) => self.add_data(alloc, DataItem::from(item))?,
+            MainItem::Collection(item) => self.open_collection(alloc, item)?,
+            MainItem::EndCollection => self.close_collection()?,
+        }
+        self.in_force.end_locals();
+        Ok(())
+    }
+
+    /// Opens a collection with the usages in force.
+    fn open_collection(&mut self, alloc: Global, item: CollectionItem) -> Result<(), Fault>
+        ensures faultless { OnOk result (fault_in self.old (collection item) ≡ None) }
+        ensures held { OnOk result (self.new ≡ record self.old {
+          opened = next_opened self.old (collection item);
+          collections = self.old.collections + 1;
+        }) }
+        ensures err { IfErr result (λ e. IsFaultOf e (fault_in self.old (collection item))) }
+    {
+        let usages = usages_of(alloc, &self.in_force)?;
+        if self.collections.count() >= COLLECTION_IDS {
+            return Err(Fault::OutOfBounds);
+        }
+        let usages = ArcSlice::from_vec(usages.into_list(alloc)?)?;
+        self.collections.open(item, usages)?;
+        Ok(())
+    }
+
+    /// Closes the collection that was opened last.
+    fn close_collection(&mut self) -> Result<(), Fault>
+        ensures faultless { OnOk result (fault_in self.old end_collection ≡ None) }
+        ensures held { OnOk result (self.new ≡ record self.old {
+          opened = next_opened self.old end_collection;
+        }) }
+        ensures err { IfErr result (λ e. IsFaultOf e (fault_in self.old end_collection)) }
+    {
+        if self.collections.close() {
+            Ok(())
+        } else {
+            Err(Fault::TooManyEnds)
+        }
+    }
+
+    /// The reports that the items made.
+    pub(crate) fn into_reports(self) -> Reports
+        ensures { result ≡ self.descriptor }
+    {
+        self.reports
+    }
+}

@@ -1,0 +1,156 @@
+-- What a descriptor announces, in short, for the rows.
+use Rattle.std.specs.Prelude.{ℕ, ℤ, pos, ◌+◌, ◌*◌, Bool, true, false, List, [], ◌∷◌, map, flat_map, Option, None, Some, option_map, Result, Ok, Err}
+use Rattle.hidreport.specs.Answer.{Refusal}
+use Rattle.hidreport.specs.Lookup.{find_report}
+use Rattle.hidreport.specs.Meaning.{parse}
+use Rattle.hidreport.specs.Reading.{ValueRecord, reads}
+use Rattle.hidreport.specs.Records.{Attributes, CollectionRecord, FieldPlace, FieldRecord, VariableRecord, ArrayRecord, ConstantRecord, ReportRecord, DescriptorRecord}
+use Rattle.hidreport.specs.UsageNumber.{usage_number}
+use Rattle.hidreport.specs.Usages.{make_usage}
+use Rattle.hidreport_definitions.specs.Hex.{hex}
+
+-- a field: its first bit, the bit behind its last, and its usages, each as one number
+pub data FieldSummary : Type 0 where
+  Variable : ℕ → ℕ → ℕ → FieldSummary
+  Array : ℕ → ℕ → List ℕ → FieldSummary
+  Constant : ℕ → ℕ → FieldSummary
+
+-- a report: its id, its size in bits and its fields
+pub data ReportSummary : Type 0 where
+  Report : Option ℕ → ℕ → List FieldSummary → ReportSummary
+
+-- the reports of each direction
+pub record DescriptorSummary : Type 0 where
+  pub input : List ReportSummary
+  pub output : List ReportSummary
+  pub feature : List ReportSummary
+
+abbrev pub field_summary : FieldRecord → FieldSummary
+field_summary (VariableRecord place usage shared) = Variable place.first place.«end» (usage_number usage)
+field_summary (ArrayRecord place usages is_range count shared) = Array place.first place.«end» (map usage_number usages)
+field_summary (ConstantRecord place) = Constant place.first place.«end»
+
+abbrev pub report_summary : ReportRecord → ReportSummary
+report_summary r = Report r.id r.size (map field_summary r.fields)
+
+abbrev pub in_short : Result DescriptorRecord Refusal → Result DescriptorSummary Refusal
+in_short (Ok d) = Ok (record { input = map report_summary d.input; output = map report_summary d.output; feature = map report_summary d.feature })
+in_short (Err refusal) = Err refusal
+
+-- what the bytes of a text announce
+abbrev pub announced_by : List ℕ → Result DescriptorRecord Refusal
+announced_by text = parse (hex text)
+
+-- the same in short
+abbrev pub summary : List ℕ → Result DescriptorSummary Refusal
+summary text = in_short (announced_by text)
+
+-- input reports alone
+abbrev pub inputs : List ReportSummary → Result DescriptorSummary Refusal
+inputs reports = Ok (record { input = reports; output = []; feature = [] })
+
+-- accepted, and no reports
+abbrev pub no_reports : Result DescriptorSummary Refusal
+no_reports = Ok (record { input = []; output = []; feature = [] })
+
+abbrev pub input_reports : Result DescriptorRecord Refusal → List ReportRecord
+input_reports (Ok d) = d.input
+input_reports (Err refusal) = []
+
+abbrev pub feature_reports : Result DescriptorRecord Refusal → List ReportRecord
+feature_reports (Ok d) = d.feature
+feature_reports (Err refusal) = []
+
+-- a field's number over the descriptor, and those of the collections that it lies in
+abbrev pub numbers : FieldRecord → ℕ × List ℕ
+numbers (VariableRecord place usage shared) = (place.id, map (λ c. c.id) shared.collections)
+numbers (ArrayRecord place usages is_range count shared) = (place.id, map (λ c. c.id) shared.collections)
+numbers (ConstantRecord place) = (place.id, [])
+
+-- the same of all fields of these reports
+abbrev pub all_numbers : List ReportRecord → List (ℕ × List ℕ)
+all_numbers reports = flat_map (λ r. map numbers r.fields) reports
+
+-- the input report that a report's bytes are of
+abbrev pub found : List ℕ → List ℕ → Option ReportSummary
+found text report = option_map report_summary (find_report (input_reports (announced_by text)) (hex report))
+
+abbrev pub read_fields : List ReportRecord → List ℕ → List (Result (List ValueRecord) Refusal)
+read_fields [] bytes = []
+read_fields (r ∷ rs) bytes = map (λ f. reads f bytes) r.fields
+
+-- what the bytes give each field of the first input report
+abbrev pub readings : List ℕ → List ℕ → List (Result (List ValueRecord) Refusal)
+readings text report = read_fields (input_reports (announced_by text)) (hex report)
+
+-- values as they are kept: the word, unsigned or signed
+abbrev pub unsigned : ℕ → ValueRecord
+unsigned n = record { word = n; is_signed = false }
+
+abbrev pub signed : ℕ → ValueRecord
+signed n = record { word = n; is_signed = true }
+
+-- what a field has that no item sets: bounds of 0, no physical bounds, no unit, no collections and no flags
+abbrev pub unset : Attributes
+unset = record {
+  logical_minimum = pos 0;
+  logical_maximum = pos 0;
+  physical_minimum = None;
+  physical_maximum = None;
+  unit = None;
+  unit_exponent = None;
+  collections = [];
+  relative = false;
+  wrap = false;
+  nonlinear = false;
+  no_preferred_state = false;
+  null_state = false;
+  buffered_bytes = false;
+  volatile = None;
+}
+
+-- the place of a field without a report id: its number, its first bit and the bit behind its last
+abbrev pub place_of : ℕ → ℕ → ℕ → FieldPlace
+place_of id first last = record { id = id; report_id = None; first = first; «end» = last }
+
+-- a field with one value from bit `first` up to `end`, at least so much
+abbrev pub variable_at : ℕ → ℕ → ℤ → FieldRecord
+variable_at first last least = VariableRecord (place_of 0 first last)
+    (make_usage 1 0x30) (record unset { logical_minimum = least })
+
+-- a field with so many values there
+abbrev pub array_at : ℕ → ℕ → ℕ → ℤ → FieldRecord
+array_at first last count least = ArrayRecord (place_of 0 first last)
+    [] false count (record unset { logical_minimum = least })
+
+-- the fields of the first input report, or none
+abbrev pub first_fields : List ReportRecord → List FieldRecord
+first_fields [] = []
+first_fields (r ∷ rs) = r.fields
+
+-- what the first field of a report shares with its item's others; padding has nothing
+abbrev pub shared_by_first : List FieldRecord → Option Attributes
+shared_by_first (VariableRecord place usage shared ∷ fs) = Some shared
+shared_by_first (ArrayRecord place usages is_range count shared ∷ fs) = Some shared
+shared_by_first _ = None
+
+-- the attributes of the first input field that a text's bytes announce
+abbrev pub input_attributes : List ℕ → Option Attributes
+input_attributes text = shared_by_first (first_fields (input_reports (announced_by text)))
+
+-- the same of the first feature field
+abbrev pub feature_attributes : List ℕ → Option Attributes
+feature_attributes text = shared_by_first (first_fields (feature_reports (announced_by text)))
+
+-- the collections that the first input field lies in
+abbrev pub collections_around : List ℕ → Option (List CollectionRecord)
+collections_around text = option_map (λ (a : Attributes). a.collections) (input_attributes text)
+
+-- the same field with a report id of its own
+abbrev pub with_report_id : FieldPlace → ℕ → FieldPlace
+with_report_id place id = record { id = place.id; report_id = Some id; first = place.first; «end» = place.«end» }
+
+abbrev pub of_report : ℕ → FieldRecord → FieldRecord
+of_report id (VariableRecord place usage shared) = VariableRecord (with_report_id place id) usage shared
+of_report id (ArrayRecord place usages is_range count shared) = ArrayRecord (with_report_id place id) usages is_range count shared
+of_report id (ConstantRecord place) = ConstantRecord (with_report_id place id)

@@ -1,0 +1,16 @@
+//! Laws of the definitions: what is computed is what the relations say.
+ghost use Rattle.std.specs.Prelude.{◌↔◌, ℕ, List, IsTrue};
+ghost use Rattle.hidreport.specs.ItemType.{ItemType};
+ghost use Rattle.hidreport.specs.OpenCollections.{is_open, IsOpen};
+ghost use Rattle.hidreport.specs.Visibility.{is_visible, IsVisible};
+
+/// An item is visible at a place where it is before it and no Pop has closed the segment that it stands in.
+pub fn visibility_is_computed()
+    ensures { (items : List ItemType) (j k : ℕ)
+        → IsTrue (is_visible items j k) ↔ IsVisible items j k }
+{}
+
+/// A collection is open at a place where it was opened before it and isn't closed yet.
+pub fn open_collections_are_computed()
+    ensures { (items : List ItemType) (j k : ℕ) → IsTrue (is_open items j k) ↔ IsOpen items j k }
+{}

@@ -1,0 +1,13 @@
+//! What the definitions say of single descriptors, and laws of them. Nothing here runs.
+#![tactic(auto)]
+
+pub mod attributes;
+pub mod collections;
+pub mod faults;
+pub mod laws;
+pub mod mouse_reports;
+pub mod places;
+pub mod push_and_pop;
+pub mod reading;
+pub mod segments;
+pub mod usages;

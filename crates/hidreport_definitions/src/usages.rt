@@ -1,0 +1,121 @@
+//! Which usages the fields of an item have.
+ghost use Rattle.std.specs.Prelude.{◌≡◌, pos, List, [], ◌∷◌, Option, None, codes, true, false};
+ghost use Rattle.hidreport.specs.CollectionItem.TheVariants as kind;
+ghost use Rattle.hidreport.specs.Answer.{InvalidAt};
+ghost use Rattle.hidreport.specs.Records.{ArrayRecord};
+ghost use Rattle.hidreport.specs.Usages.{make_usage, range_from};
+ghost use Rattle.hidreport_definitions.specs.Summary.{Report, Variable, announced_by, inputs, no_reports, place_of, summary, unset};
+
+/// Fields beyond the usages take the last one.
+pub fn the_last_usage_is_repeated()
+    ensures { summary (codes "05 09 19 01 29 02 75 01 95 04 81 02")
+        ≡ inputs (Report None 4 (Variable 0 1 0x00090001 ∷ Variable 1 2 0x00090002
+        ∷ Variable 2 3 0x00090002 ∷ Variable 3 4 0x00090002 ∷ []) ∷ []) }
+{}
+
+/// A minimum above its maximum gives no usages: a data item needs some, a Collection none.
+pub fn a_reversed_range_has_no_usages()
+    ensures data_item { summary (codes "05 01 19 05 29 02 75 08 95 01 81 02")
+        ≡ Err (InvalidAt 10 (codes "Missing Usages for main item")) }
+    ensures collection { summary (codes "05 01 19 05 29 02 a1 00") ≡ no_reports }
+{}
+
+/// A minimum needs its maximum where the usages are looked at, and a data item of no size doesn't look.
+pub fn a_minimum_needs_its_maximum()
+    ensures data_item { summary (codes "05 01 19 05 75 08 95 01 81 02")
+        ≡ Err (InvalidAt 8 (codes "Missing UsageMaximum in locals")) }
+    ensures no_count { summary (codes "05 01 19 05 75 08 95 00 81 02") ≡ no_reports }
+{}
+
+/// Usages need a page, also a range that has none in it.
+pub fn a_usage_needs_a_page()
+    ensures single { summary (codes "09 02 a1 01")
+        ≡ Err (InvalidAt 2 (codes "Missing UsagePage in globals")) }
+    ensures reversed_range { summary (codes "19 05 29 02 a1 00")
+        ≡ Err (InvalidAt 4 (codes "Missing UsagePage in globals")) }
+{}
+
+/// A range that passes 0xffff goes on from 0 on the same page.
+pub fn a_range_wraps_within_its_page()
+    ensures { announced_by (codes "05 01 1b ff ff 00 00 2b 01 00 01 00 75 08 95 01 81 00")
+        ≡ Ok (record {
+          input = record {
+            id = None;
+            size = 8;
+            fields =
+                ArrayRecord (place_of 0 0 8) (make_usage 1 0xffff ∷ make_usage 1 0 ∷ make_usage 1 1
+                ∷ []) true 1 unset
+                ∷ [];
+          } ∷ [];
+          output = [];
+          feature = [];
+        }) }
+{}
+
+/// An array has a long range of usages, each with the page that its minimum and maximum name or leave out.
+pub fn an_array_has_all_usages_of_a_range()
+    ensures { announced_by
+        (codes "05 01 09 02 a1 01 15 00 26 ff 00 75 08 95 03 1b 01 00 01 00 2b ff 00 01 00 81 00 c0")
+        ≡ Ok (record {
+          input = record {
+            id = None;
+            size = 24;
+            fields =
+                ArrayRecord (place_of 0 0 24) (range_from 1 1 255) true 3
+                (record unset {
+                  logical_maximum = pos 255;
+                  collections = record {
+                    id = 0;
+                    kind = kind.Application;
+                    usages = make_usage 1 2 ∷ [];
+                  } ∷ [];
+                })
+                ∷ [];
+          } ∷ [];
+          output = [];
+          feature = [];
+        }) }
+{}
+
+/// Of several minima and of several maxima the last one counts.
+pub fn the_last_minimum_and_maximum_count()
+    ensures minimum { summary (codes "05 01 19 05 19 01 29 02 75 08 95 02 81 02")
+        ≡ inputs (Report None 16 (Variable 0 8 0x00010001 ∷ Variable 8 16 0x00010002 ∷ []) ∷ []) }
+    ensures maximum { summary (codes "05 01 19 01 29 05 29 02 75 08 95 03 81 02")
+        ≡ inputs (Report None 24 (Variable 0 8 0x00010001 ∷ Variable 8 16 0x00010002
+        ∷ Variable 16 24 0x00010002 ∷ []) ∷ []) }
+{}
+
+/// With a minimum in force single usages are hidden; a maximum alone is not looked at.
+pub fn a_range_hides_single_usages()
+    ensures hidden { summary (codes "05 01 09 30 19 01 29 02 75 08 95 02 81 02")
+        ≡ inputs (Report None 16 (Variable 0 8 0x00010001 ∷ Variable 8 16 0x00010002 ∷ []) ∷ []) }
+    ensures maximum_alone { summary (codes "05 01 09 30 29 05 75 08 95 01 81 02")
+        ≡ inputs (Report None 8 (Variable 0 8 0x00010030 ∷ []) ∷ []) }
+{}
+
+/// A range without its maximum and without a page lacks the maximum first.
+pub fn the_maximum_is_asked_for_before_the_page()
+    ensures both { summary (codes "19 01 75 08 95 01 81 02")
+        ≡ Err (InvalidAt 6 (codes "Missing UsageMaximum in locals")) }
+    ensures page { summary (codes "19 01 29 02 75 08 95 01 81 02")
+        ≡ Err (InvalidAt 8 (codes "Missing UsagePage in globals")) }
+{}
+
+/// A usage in two bytes takes the page in force at the data item; one in four bytes has its own.
+pub fn the_page_in_force_at_the_item_counts()
+    ensures later { summary (codes "05 01 09 30 05 09 75 08 95 01 81 02")
+        ≡ inputs (Report None 8 (Variable 0 8 0x00090030 ∷ []) ∷ []) }
+    ensures own { summary (codes "0b 30 00 01 00 75 08 95 01 81 02")
+        ≡ inputs (Report None 8 (Variable 0 8 0x00010030 ∷ []) ∷ []) }
+    ensures own_first { summary (codes "05 09 0b 30 00 01 00 09 02 75 08 95 02 81 02")
+        ≡ inputs (Report None 16 (Variable 0 8 0x00010030 ∷ Variable 8 16 0x00090002 ∷ []) ∷ []) }
+{}
+
+/// Usages are taken in their order; those beyond the count are not taken.
+pub fn fields_take_usages_in_order()
+    ensures order { summary (codes "05 01 09 31 09 30 75 08 95 02 81 02")
+        ≡ inputs (Report None 16 (Variable 0 8 0x00010031 ∷ Variable 8 16 0x00010030 ∷ []) ∷ []) }
+    ensures more_than_fields { summary (codes "05 01 09 30 09 31 75 08 95 01 81 02")
+        ≡ inputs (Report None 8 (Variable 0 8 0x00010030 ∷ []) ∷ []) }
+{}

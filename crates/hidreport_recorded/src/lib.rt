@@ -1,0 +1,13 @@
+//! What the library answers, written out as text, and what recorded runs of the Rust crate say of it.
+#![tactic(auto)]
+
+pub mod descriptors;
+pub mod fields;
+pub mod items;
+pub mod kinds;
+pub mod questions;
+pub mod readings;
+#[cfg(test)]
+mod recorded;
+#[cfg(test)]
+mod tests;

@@ -1,5 +1,0 @@
-use Rattle.std.proofs.Common.{refl}
-use Rattle.hidreport_rows.proofs.definitions.attributes.only_input_fields_leave_volatility_out.Goals as goal
-
-pub returns : goal.returns
-returns c = refl

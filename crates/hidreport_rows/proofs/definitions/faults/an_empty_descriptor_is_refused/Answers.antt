@@ -1,5 +1,0 @@
-use Rattle.std.proofs.Common.{refl}
-use Rattle.hidreport_rows.proofs.definitions.faults.an_empty_descriptor_is_refused.Goals as goal
-
-pub returns : goal.returns
-returns c = refl

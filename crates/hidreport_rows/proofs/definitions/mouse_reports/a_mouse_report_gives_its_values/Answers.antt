@@ -1,5 +1,0 @@
-use Rattle.std.proofs.Common.{refl}
-use Rattle.hidreport_rows.proofs.definitions.mouse_reports.a_mouse_report_gives_its_values.Goals as goal
-
-pub returns : goal.returns
-returns c = refl

@@ -1,5 +1,0 @@
-use Rattle.std.proofs.Common.{refl}
-use Rattle.hidreport_rows.proofs.definitions.usages.a_range_wraps_within_its_page.Goals as goal
-
-pub returns : goal.returns
-returns c = refl

@@ -1,5 +1,0 @@
-use Rattle.std.proofs.Common.{refl}
-use Rattle.hidreport_rows.proofs.definitions.usages.the_last_usage_is_repeated.Goals as goal
-
-pub returns : goal.returns
-returns c = refl

@@ -1,5 +1,0 @@
-use Rattle.hidreport_rows.proofs.Relations.{open-is, open-from}
-use Rattle.hidreport_rows.proofs.laws.open_collections_are_computed.Goals as goal
-
-pub returns : goal.returns
-returns c = λ items j k. (open-is items j k, open-from items j k)

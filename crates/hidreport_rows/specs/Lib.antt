@@ -1,4 +1,0 @@
-pub mod Hex
-pub mod Mouse
-pub mod Summary
-pub mod Values
