@@ -147,43 +147,6 @@ fn slices_of_other_lengths(rt: HostRuntime) -> Result<(), Fail> {
     Ok(())
 }
 
-/// The data of a short item as an unsigned number.
-fn unsigned_of(alloc: Global, bytes: &[u8]) -> Result<u32, HidError> {
-    let item = ShortItem::try_from(alloc, bytes)?;
-    match item.data() {
-        Some(data_bytes) => data_bytes.to_u32(alloc),
-        None => Err(HidError::InsufficientData),
-    }
-}
-
-/// The number of a logical minimum.
-fn signed_of(alloc: Global, bytes: &[u8]) -> Result<i32, HidError> {
-    match GlobalItem::try_from(alloc, bytes)? {
-        GlobalItem::LogicalMinimum(bound) => Ok(i32::from(bound)),
-        _ => Err(HidError::InsufficientData),
-    }
-}
-
-#[test]
-fn signs_go_by_width(rt: HostRuntime) -> Result<(), Fail> {
-    let alloc = rt.alloc();
-    let rows: [(&[u8], u32, i32); 8] = [
-        (b"\x15\x7f", 127, 127),
-        (b"\x15\x80", 128, -128),
-        (b"\x15\xff", 255, -1),
-        (b"\x16\x00\x80", 32768, -32768),
-        (b"\x16\x80\x00", 128, 128),
-        (b"\x16\xcc\xed", 60876, -4660),
-        (b"\x17\xff\xff\xff\xff", 4294967295, -1),
-        (b"\x17\x01\x02\x03\x04", 67305985, 67305985),
-    ];
-    for (bytes, unsigned, signed) in rows {
-        assert_eq!(rt; unsigned_of(alloc, bytes)?, unsigned);
-        assert_eq!(rt; signed_of(alloc, bytes)?, signed);
-    }
-    Ok(())
-}
-
 #[test]
 fn parts_of_a_short_item(rt: HostRuntime) -> Result<(), Fail> {
     let alloc = rt.alloc();

@@ -117,22 +117,26 @@ fn ranges_of_bits_of_one_to_four_bytes(rt: HostRuntime) -> Result<(), Fail> {
     Ok(())
 }
 
-/// The data of a logical minimum as an unsigned number, and the number that the item has.
-fn numbers_in(alloc: Global, bytes: &[u8]) -> Result<(u32, i32), HidError> {
+/// The data of a short item as an unsigned number.
+fn unsigned_of(alloc: Global, bytes: &[u8]) -> Result<u32, HidError> {
     let item = ShortItem::try_from(alloc, bytes)?;
-    let unsigned = match item.data() {
-        Some(data_bytes) => data_bytes.to_u32(alloc)?,
-        None => return Err(HidError::InsufficientData),
-    };
-    match item.item_type() {
-        ItemType::Global(GlobalItem::LogicalMinimum(bound)) => Ok((unsigned, i32::from(bound))),
+    match item.data() {
+        Some(data_bytes) => data_bytes.to_u32(alloc),
+        None => Err(HidError::InsufficientData),
+    }
+}
+
+/// The number of a logical minimum.
+fn signed_of(alloc: Global, bytes: &[u8]) -> Result<i32, HidError> {
+    match GlobalItem::try_from(alloc, bytes)? {
+        GlobalItem::LogicalMinimum(bound) => Ok(i32::from(bound)),
         _ => Err(HidError::InsufficientData),
     }
 }
 
 #[test]
 fn data_bytes_as_numbers(rt: HostRuntime) -> Result<(), Fail> {
-    let rows: [(&[u8], u32, i32); 20] = [
+    let rows: [(&[u8], u32, i32); 21] = [
         (b"\x17\x01\x02\x03\x04", 0x0403_0201, 0x0403_0201),
         (b"\x15\x7f", 127, 127),
         (b"\x15\x80", 128, -128),
@@ -142,6 +146,7 @@ fn data_bytes_as_numbers(rt: HostRuntime) -> Result<(), Fail> {
         (b"\x16\xff\x7f", 32767, 32767),
         (b"\x16\x00\x80", 32768, -32768),
         (b"\x16\xff\xff", 65535, -1),
+        (b"\x16\x80\x00", 128, 128),
         (b"\x16\x01\x00", 1, 1),
         (b"\x16\x34\x12", 4660, 4660),
         (b"\x16\xcc\xed", 60876, -4660),
@@ -155,7 +160,8 @@ fn data_bytes_as_numbers(rt: HostRuntime) -> Result<(), Fail> {
         (b"\x17\x00\x00\x00\x00", 0, 0),
     ];
     for (bytes, unsigned, signed) in rows {
-        assert_eq!(rt; numbers_in(rt.alloc(), bytes)?, (unsigned, signed));
+        assert_eq!(rt; unsigned_of(rt.alloc(), bytes)?, unsigned);
+        assert_eq!(rt; signed_of(rt.alloc(), bytes)?, signed);
     }
     Ok(())
 }
