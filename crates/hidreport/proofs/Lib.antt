@@ -3,6 +3,7 @@ pub mod BitLemmas
 pub mod Walk
 pub mod Reports
 pub mod IndexedLemmas
+pub mod KeptItems
 pub mod LevelLemmas
 pub mod OpenLemmas
 pub mod WalkLemmas

@@ -1,5 +1,5 @@
 -- A segment without main items is as if it weren't there.
-use Rattle.std.proofs.Common.{◌≡◌, ℕ, suc, ◌+◌, ◌-◌, ◌<◌, ◌≤◌, Bool, true, false, cond, ◌||◌, nat_lt, List, [], ◌∷◌, ◌++◌, length, take, map, count_by, Result, Ok, Err, refl, sym, ap, ◌∙◌, append-nil, append_assoc, arith}
+use Rattle.std.proofs.Common.{◌≡◌, ℕ, suc, ◌+◌, ◌-◌, ◌<◌, ◌≤◌, Bool, true, false, cond, nat_lt, List, [], ◌∷◌, ◌++◌, length, take, map, count_by, Result, Ok, Err, refl, sym, ap, ◌∙◌, append-nil, append_assoc, arith}
 use Rattle.std.specs.List.{list_any}
 use Rattle.std.proofs.Math.Seq.{take-append-add}
 use Rattle.std.proofs.lemmas.Grind.{common_steps}

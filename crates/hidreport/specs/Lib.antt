@@ -41,4 +41,5 @@ pub use Rattle.hidreport_lists.specs.Data
 pub use Rattle.hidreport_lists.specs.Entry
 pub use Rattle.hidreport_lists.specs.Itemising
 pub use Rattle.hidreport_lists.specs.Messages
+pub use Rattle.hidreport_lists.specs.Rebuilt
 pub use Rattle.hidreport_lists.specs.declared.error.ParserError

@@ -1,9 +1,10 @@
-ghost use Rattle.std.specs.Prelude.{◌≡◌, ◌+◌, ◌++◌, [], List, length, map, option_copied};
+ghost use Rattle.std.specs.Prelude.{◌≡◌, ◌≢◌, ◌+◌, ◌++◌, [], List, length, map, option_copied};
 ghost use Rattle.hidreport_items.specs.Spelling.{item_of};
 ghost use Rattle.hidreport_items.specs.declared.item.ItemType.{ItemType};
 ghost use Rattle.hidreport_lists.specs.Answer.{Answers};
 ghost use Rattle.hidreport_lists.specs.Entry.{Entry};
-ghost use Rattle.hidreport_lists.specs.Itemising.{itemise};
+ghost use Rattle.hidreport_lists.specs.Itemising.{itemise, Itemises};
+ghost use Rattle.hidreport_lists.specs.Rebuilt.{items_of, kept, rebuilt, respelled};
 ghost use Rattle.hidreport.specs.Lookup.{find_report};
 ghost use Rattle.hidreport.specs.Meaning.{at_offset, meaning, parse};
 ghost use Rattle.hidreport.specs.Segments.{IsMatched, moved, with_segment};
@@ -58,6 +59,11 @@ impl ReportDescriptor {
     /// A Push, items without a main item in which each Push has its Pop, and the Pop of that Push
     /// change nothing (`struck`): the answer is that of the items around them, a fault at the same
     /// item.
+    ///
+    /// Items of kinds that the standard keeps for later change nothing either (`kept`): the answer
+    /// is what the kept items mean, a fault at the offset of its item. The bytes that `hid::rebuild`
+    /// writes for them are read as the same reports, or refused with the same fault at the same
+    /// item, whose offset is its own in each (`rebuilt`).
     pub fn try_from(alloc: Global, bytes: &[u8]) -> Result<ReportDescriptor, ParserError>
         ensures exact { Answers result (parse bytes.now) }
         ensures struck { (entries : List Entry) (front inside rest : List ItemType)
@@ -65,6 +71,12 @@ impl ReportDescriptor {
             → map (λ (e : Entry). e.item) entries ≡ with_segment front inside rest
             → Answers result (at_offset entries
             (moved (length front) (length inside + 2) (meaning (front ++ rest)))) }
+        ensures kept { (entries : List Entry) → Itemises item_of bytes.now entries
+            → Answers result (at_offset (kept entries) (meaning (items_of (kept entries)))) }
+        ensures rebuilt { (entries : List Entry) → Itemises item_of bytes.now entries
+            → rebuilt entries ≢ []
+            → parse (rebuilt entries) ≡ at_offset (respelled 0 (items_of (kept entries)))
+            (meaning (items_of (kept entries))) }
     {
         if bytes.is_empty() {
             return Err(parser::empty_descriptor(alloc));

@@ -26,7 +26,7 @@ pub mod hid {
         IBWrap, InputItem, ItemBuilder, ItemType, LocalItem, MainDataItem, MainItem, OutputItem,
     };
     pub use hidreport_lists::{
-        Item, ItemData, ReportDescriptorItem, ReportDescriptorItems, ShortItem,
+        Item, ItemData, ReportDescriptorItem, ReportDescriptorItems, ShortItem, rebuild,
     };
 }
 

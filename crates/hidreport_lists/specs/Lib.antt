@@ -3,3 +3,4 @@ pub mod Data
 pub mod Entry
 pub mod Itemising
 pub mod Messages
+pub mod Rebuilt

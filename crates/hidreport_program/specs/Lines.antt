@@ -14,6 +14,11 @@ newline = 10 ∷ []
 abbrev pub hex_digits : ℕ → ℕ → List ℕ
 hex_digits count n = replicate (count - length (radix_digits 16 false n)) 48 ++ radix_digits 16 false n
 
+-- bytes in two digits each, a space between
+abbrev pub bytes_text : List ℕ → List ℕ
+bytes_text [] = []
+bytes_text (b ∷ bs) = hex_digits 2 b ++ flat_map (λ c. 32 ∷ hex_digits 2 c) bs
+
 -- the number that a value's 32 bits are: below 0 only where the value is signed
 abbrev pub value_number : ValueRecord → ℤ
 value_number v = if v.is_signed then cast_signed w32 v.word else pos v.word
@@ -60,3 +65,7 @@ refusal_line Mismatch = codes "refused: out of bounds" ++ newline
 -- no report has bytes like these
 abbrev pub no_report_line : List ℕ
 no_report_line = codes "refused: no report" ++ newline
+
+-- what rebuilding writes
+abbrev pub rebuilt_line : List ℕ → List ℕ
+rebuilt_line bytes = bytes_text bytes ++ newline

@@ -1,14 +1,19 @@
 -- What a command writes of the bytes that it read, and how it ends.
 use Rattle.std.specs.Prelude.{ℕ, List, ◌++◌, flat_map, Option, Some, None, Result, Ok, Err, string_bytes}
+use Rattle.hidreport_items.specs.Spelling.{item_of}
 use Rattle.hidreport_lists.specs.Answer.{Refusal, InvalidAt, Bounds, Mismatch}
+use Rattle.hidreport_lists.specs.Entry.{Entry}
+use Rattle.hidreport_lists.specs.Itemising.{as_refusal, itemise}
+use Rattle.hidreport_lists.specs.Rebuilt.{rebuilding}
 use Rattle.hidreport_lists.specs.declared.error.ParserError.{ParserError}
 use Rattle.hidreport_lists.specs.declared.error.ParserError.TheVariants as errors
 use Rattle.hidreport.specs.Lookup.{find_report}
 use Rattle.hidreport.specs.Meaning.{parse}
 use Rattle.hidreport.specs.Records.{ReportRecord, DescriptorRecord}
-use Rattle.hidreport_program.specs.Lines.{line_of_field, report_line, refusal_line, no_report_line}
+use Rattle.hidreport_program.specs.ItemLines.{items_text}
+use Rattle.hidreport_program.specs.Lines.{line_of_field, report_line, refusal_line, no_report_line, rebuilt_line}
 use Rattle.hidreport_program.specs.declared.program.commands.Command.{Command}
-use Rattle.hidreport_program.specs.declared.program.commands.Command.TheVariants.{Values}
+use Rattle.hidreport_program.specs.declared.program.commands.Command.TheVariants.{Items, Values, Rebuild}
 use Rattle.hidreport_program.specs.declared.program.ending.Outcome.{Outcome}
 use Rattle.hidreport_program.specs.declared.program.ending.Outcome.TheVariants.{Done, Refused}
 
@@ -30,9 +35,22 @@ abbrev pub values_output : Result DescriptorRecord Refusal → List ℕ → Outp
 values_output (Ok descriptor) bytes = found_output (find_report descriptor.input bytes) bytes
 values_output (Err refusal) bytes = record { text = refusal_line refusal; outcome = Refused }
 
+-- a line for each item, or why the bytes are none
+abbrev pub items_output : Result (List Entry) Refusal → Output
+items_output (Ok entries) = record { text = items_text entries; outcome = Done }
+items_output (Err refusal) = record { text = refusal_line refusal; outcome = Refused }
+
+-- the rebuilt bytes in one line, or why there are none
+abbrev pub rebuild_output : Result (List ℕ) Refusal → Output
+rebuild_output (Ok bytes) = record { text = rebuilt_line bytes; outcome = Done }
+rebuild_output (Err refusal) = record { text = refusal_line refusal; outcome = Refused }
+
 -- the output of a command for the bytes of a descriptor and of a report
 unfoldable pub output : Command → List ℕ → List ℕ → Output
+output Items descriptor bytes = items_output (as_refusal (itemise item_of descriptor))
 output Values descriptor bytes = values_output (parse descriptor) bytes
+output Rebuild descriptor bytes =
+    rebuild_output (as_refusal (rebuilding (itemise item_of descriptor)))
 
 -- what an error says of a descriptor; want of memory says nothing
 abbrev pub refusal_of : ParserError → Option Refusal

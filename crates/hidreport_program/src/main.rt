@@ -1,10 +1,12 @@
-//! The program `hidreport`: the values that a report has, by its descriptor.
+//! The program `hidreport`: a descriptor's items, the values of its reports, and the descriptor
+//! written anew.
 #![tactic(auto)]
 
 pub mod program;
 
 use program::{
-    Fault, FromRead, Outcome, Request, RunFault, ToWrite, line_of, request_of, run, status_of,
+    Command, Fault, FromRead, Outcome, Request, RunFault, ToWrite, line_of, request_of, run,
+    status_of,
 };
 use std::process::ExitCode;
 use std::rt::{Env, Files};
@@ -48,18 +50,24 @@ fn carry_out<R: AllocGlobal + Files + Print>(rt: &R, request: Request) -> Result
     let Ok(file) = fs::open(rt, request.file) else {
         return Err(Fault::Open);
     };
-    let Ok(report) = fs::open(rt, request.report) else {
-        return Err(Fault::Open);
-    };
-    let mut file = FromRead::new(file);
+    match request.report {
+        Some(name) => match fs::open(rt, name) {
+            Ok(report) => print(rt, request.command, file, report),
+            Err(_refused) => Err(Fault::Open),
+        },
+        None => print(rt, request.command, file, io::empty()),
+    }
+}
+
+/// Prints what a command says of a descriptor and a report.
+fn print<R, D, P>(rt: &R, command: Command, descriptor: D, report: P) -> Result<Outcome, Fault>
+where
+    R: AllocGlobal + Print,
+    D: io::Read + Drop,
+    P: io::Read + Drop,
+{
+    let mut descriptor = FromRead::new(descriptor);
     let mut report = FromRead::new(report);
     let mut out = ToWrite::new(io::writer(rt));
-    run(
-        rt.alloc(),
-        request.command,
-        &mut file,
-        &mut report,
-        &mut out,
-    )
-    .map_err(Fault::Run)
+    run(rt.alloc(), command, &mut descriptor, &mut report, &mut out).map_err(Fault::Run)
 }

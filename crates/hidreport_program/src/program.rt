@@ -7,6 +7,7 @@ pub mod ends;
 mod failing;
 pub mod faults;
 mod fields;
+mod items;
 mod numbers;
 mod output;
 pub mod requests;

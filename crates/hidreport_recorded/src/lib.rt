@@ -8,6 +8,8 @@ pub mod kinds;
 pub mod questions;
 pub mod readings;
 #[cfg(test)]
+mod rebuilt;
+#[cfg(test)]
 mod recorded;
 #[cfg(test)]
 mod tests;

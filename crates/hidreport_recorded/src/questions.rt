@@ -25,13 +25,19 @@ pub fn add_answer(alloc: Global, text: &mut String, question: &str) -> Result<()
 fn add_answer_of_run(alloc: Global, text: &mut String, words: &str) -> Result<(), AllocError> {
     let (descriptor, words) = words.split_once(" ").unwrap_or((words, ""));
     let descriptor = bytes_of(alloc, descriptor)?;
+    let reports = reports_of(alloc, words)?;
+    add_run(alloc, text, &descriptor, &reports)
+}
+
+/// The bytes of reports, each a word.
+pub fn reports_of(alloc: Global, words: &str) -> Result<Vec<Vec<u8>>, AllocError> {
     let mut reports = Vec::new(alloc);
     if !words.is_empty() {
         for word in words.split(" ") {
             reports.push(bytes_of(alloc, word)?)?;
         }
     }
-    add_run(alloc, text, &descriptor, &reports)
+    Ok(reports)
 }
 
 /// The bytes that digits spell, two each; what is no digit counts for nothing.

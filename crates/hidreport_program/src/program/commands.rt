@@ -1,17 +1,34 @@
 //! The commands, and the words that ask for them.
-ghost use Rattle.std.specs.Prelude.{IfSome, IsNone, map, string_bytes};
-ghost use Rattle.hidreport_program.specs.Command.{AsksFor};
+ghost use Rattle.std.specs.Prelude.{◌≡◌, IfSome, IsNone, map, string_bytes};
+ghost use Rattle.hidreport_program.specs.Command.{AsksFor, reads_report};
 
 /// What the program is asked to do.
 #[derive(Debug, Clone, Copy, PartialEq)]
 pub enum Command {
+    /// The items of a descriptor.
+    Items,
     /// The fields of a report, with their values.
     Values,
+    /// The canonical bytes of a descriptor's items.
+    Rebuild,
+}
+
+impl Command {
+    /// Whether it reads a report beside the descriptor.
+    pub fn reads_report(self) -> bool
+        ensures { result ≡ reads_report self }
+    {
+        match self {
+            Command::Values => true,
+            Command::Items | Command::Rebuild => false,
+        }
+    }
 }
 
 /// The command that `words` ask for, the words after the program's name.
 ///
-/// It is `Values` for the word `values` and two more, the names of two files.
+/// It is the one whose name is the first word, with one more word for `items` and `rebuild`, the
+/// name of a file, and two for `values`.
 /// Answers `None` for all other words: none, an unknown first word, one missing or one too many.
 pub fn command_of(words: &[String]) -> Option<Command>
     ensures asked { IfSome result (AsksFor (map string_bytes words.now)) }
@@ -19,7 +36,9 @@ pub fn command_of(words: &[String]) -> Option<Command>
         → ¬ AsksFor (map string_bytes words.now) command }
 {
     match words {
+        [name, _] if name.as_str() == "items" => Some(Command::Items),
         [name, _, _] if name.as_str() == "values" => Some(Command::Values),
+        [name, _] if name.as_str() == "rebuild" => Some(Command::Rebuild),
         _ => None,
     }
 }

@@ -1,9 +1,11 @@
 //! Numbers as the lines show them.
-ghost use Rattle.std.specs.Prelude.{◌≡◌, Some};
-ghost use Rattle.hidreport_program.specs.Lines.{hex_digits, value_number};
+ghost use Rattle.std.specs.Prelude.{◌≡◌, ◌++◌, Some, OnOk, string_bytes};
+ghost use Rattle.hidreport_program.specs.Lines.{bytes_text, hex_digits, value_number};
 
 use hidreport::FieldValue;
+use std::alloc::AllocError;
 use std::fmt;
+use std::fmt::Write;
 
 /// A number of two hexadecimal digits.
 #[derive(Clone, Copy)]
@@ -42,4 +44,21 @@ pub fn number_of(value: FieldValue) -> i64
     } else {
         i64::from(u32::from(value))
     }
+}
+
+/// Appends bytes in two hexadecimal digits each, a space between.
+pub fn add_bytes(text: &mut String, bytes: &[u8]) -> Result<(), AllocError>
+    ensures { OnOk result (string_bytes text.new
+        ≡ string_bytes text.old ++ bytes_text bytes.now) }
+{
+    let Some((first, rest)) = bytes.split_first() else {
+        return Ok(());
+    };
+    let digits = TwoDigits(*first);
+    write!(text, "{digits}")?;
+    for byte in rest {
+        let digits = TwoDigits(*byte);
+        write!(text, " {digits}")?;
+    }
+    Ok(())
 }

@@ -1,12 +1,19 @@
 //! The whole text of a command.
 ghost use Rattle.std.specs.Prelude.{◌≡◌, ◌<◌, IfOk, IsSomeAnd, string_bytes, string_len};
+ghost use Rattle.hidreport_items.specs.Spelling.{item_of};
+ghost use Rattle.hidreport_lists.specs.Itemising.{as_refusal, itemise};
+ghost use Rattle.hidreport_lists.specs.Rebuilt.{rebuilding};
 ghost use Rattle.hidreport.specs.Lookup.{find_report};
 ghost use Rattle.hidreport_program.specs.Lines.{refusal_line};
-ghost use Rattle.hidreport_program.specs.Output.{output, found_output, refusal_of};
+ghost use Rattle.hidreport_program.specs.Output.{output, found_output, items_output};
+ghost use Rattle.hidreport_program.specs.Output.{rebuild_output, refusal_of};
 
 use super::commands::Command;
 use super::ending::Outcome;
 use super::fields::add_report;
+use super::items::add_items;
+use super::numbers::add_bytes;
+use hidreport::hid::{ReportDescriptorItems, rebuild};
 use hidreport::{ParserError, ReportDescriptor};
 use std::alloc::{AllocError, Global};
 
@@ -36,7 +43,47 @@ pub fn text_of(
         w.outcome ≡ (output command descriptor.now report.now).outcome) }
 {
     match command {
+        Command::Items => items(alloc, descriptor),
         Command::Values => values(alloc, descriptor, report),
+        Command::Rebuild => rebuilt(alloc, descriptor),
+    }
+}
+
+/// What `items` writes of a descriptor's bytes: some text, since there is an item or a refusal.
+fn items(alloc: Global, descriptor: &[u8]) -> Result<Written, AllocError>
+    ensures some { IfOk result (λ w. 0 < string_len w.text) }
+    ensures text { IfOk result (λ w. string_bytes w.text
+        ≡ (items_output (as_refusal (itemise item_of descriptor.now))).text) }
+    ensures outcome { IfOk result (λ w. w.outcome
+        ≡ (items_output (as_refusal (itemise item_of descriptor.now))).outcome) }
+{
+    match ReportDescriptorItems::try_from(alloc, descriptor) {
+        Ok(items) => {
+            let mut text = String::new(alloc);
+            add_items(&mut text, items.as_slice())?;
+            let outcome = Outcome::Done;
+            Ok(Written { text, outcome })
+        }
+        Err(error) => refused(alloc, &error),
+    }
+}
+
+/// What `rebuild` writes of a descriptor's bytes.
+fn rebuilt(alloc: Global, descriptor: &[u8]) -> Result<Written, AllocError>
+    ensures text { IfOk result (λ w. string_bytes w.text
+        ≡ (rebuild_output (as_refusal (rebuilding (itemise item_of descriptor.now)))).text) }
+    ensures outcome { IfOk result (λ w. w.outcome
+        ≡ (rebuild_output (as_refusal (rebuilding (itemise item_of descriptor.now)))).outcome) }
+{
+    match rebuild(alloc, descriptor) {
+        Ok(bytes) => {
+            let mut text = String::new(alloc);
+            add_bytes(&mut text, &bytes)?;
+            text.push_str("\n")?;
+            let outcome = Outcome::Done;
+            Ok(Written { text, outcome })
+        }
+        Err(error) => refused(alloc, &error),
     }
 }
 

@@ -1,5 +1,5 @@
 //! A command with the names of its files.
-ghost use Rattle.std.specs.Prelude.{◌≡◌, IfSome, IsNone, Some, map, slice_get, string_bytes};
+ghost use Rattle.std.specs.Prelude.{◌≡◌, IfSome, IsNone, Some, map, option_copied, slice_get, string_bytes};
 ghost use Rattle.hidreport_program.specs.Command.{AsksFor};
 
 use super::commands::{Command, command_of};
@@ -11,11 +11,12 @@ pub struct Request<'a> {
     pub command: Command,
     /// The name of the descriptor's file.
     pub file: &'a str,
-    /// The name of the report's file.
-    pub report: &'a str,
+    /// The name of the report's file, where the command reads one.
+    pub report: Option<&'a str>,
 }
 
-/// What `words` ask for, the words after the program's name: the command, and the words behind it as the files' names.
+/// What `words` ask for, the words after the program's name: the command, and the words behind it as
+/// the files' names.
 ///
 /// Every word is a name as it stands; `-` is one too.
 pub fn request_of(words: &[String]) -> Option<Request<'_>>
@@ -26,14 +27,19 @@ pub fn request_of(words: &[String]) -> Option<Request<'_>>
     ensures file { IfSome result (λ request. slice_get (map string_bytes words.now) 1
         ≡ Some request.file.now) }
     ensures report { IfSome result (λ request. slice_get (map string_bytes words.now) 2
-        ≡ Some request.report.now) }
+        ≡ option_copied request.report) }
 {
     let command = command_of(words)?;
     match words {
+        [_, file] => Some(Request {
+            command,
+            file: file.as_str(),
+            report: None,
+        }),
         [_, file, report] => Some(Request {
             command,
             file: file.as_str(),
-            report: report.as_str(),
+            report: Some(report.as_str()),
         }),
         _ => None,
     }

@@ -17,6 +17,7 @@ const WITH_ID: &[u8] = b"\x05\x01\x85\x05\x75\x08\x95\x01\x09\x30\x81\x02";
 
 fn run_on(
     alloc: Global,
+    command: Command,
     descriptor: &[u8],
     report: &[u8],
     written: &mut Vec<u8>,
@@ -24,7 +25,6 @@ fn run_on(
     let mut descriptor = FromRead::new(descriptor);
     let mut report = FromRead::new(report);
     let mut out = ToWrite::new(written);
-    let command = Command::Values;
     run(alloc, command, &mut descriptor, &mut report, &mut out)
 }
 
@@ -36,9 +36,112 @@ fn shows<R: Abort + AllocGlobal>(
     text: &[u8],
 ) {
     let mut written = Vec::new(rt.alloc());
-    let answer = run_on(rt.alloc(), descriptor, report, &mut written);
+    let answer = run_on(
+        rt.alloc(),
+        Command::Values,
+        descriptor,
+        report,
+        &mut written,
+    );
     assert_eq!(rt; answer, Ok(outcome));
     assert_eq!(rt; written.as_slice(), text);
+}
+
+/// A descriptor, what a command ends with and what it writes of it.
+type Row<'a> = (&'a [u8], Outcome, &'a [u8]);
+
+fn all_show<R: Abort + AllocGlobal>(
+    rt: &R,
+    command: Command,
+    rows: &[Row<'_>],
+) -> Result<(), Fail> {
+    for (descriptor, outcome, text) in rows {
+        let mut written = Vec::new(rt.alloc());
+        let answer = run_on(rt.alloc(), command, descriptor, b"", &mut written);
+        assert_eq!(rt; answer, Ok(*outcome));
+        assert_eq!(rt; written.as_slice(), *text);
+    }
+    Ok(())
+}
+
+#[test]
+fn items_of_descriptors(rt: HostRuntime) -> Result<(), Fail> {
+    let rows: [Row<'_>; 5] = [
+        (
+            b"\x05\x01\x09\x02\xa1\x01\xc0",
+            Outcome::Done,
+            b"0 05 01 UsagePage\n2 09 02 UsageId\n4 a1 01 Collection\n6 c0 EndCollection\n",
+        ),
+        (
+            b"\xc4\xfc\x69\x01",
+            Outcome::Done,
+            b"0 c4 GlobalReserved\n1 fc Reserved\n2 69 01 LocalReserved\n",
+        ),
+        (
+            b"\xb4\x80",
+            Outcome::Refused,
+            b"refused: invalid data at offset 1: Insufficient data\n",
+        ),
+        (
+            b"",
+            Outcome::Refused,
+            b"refused: invalid data at offset 0: Insufficient data\n",
+        ),
+        (
+            b"\x40",
+            Outcome::Refused,
+            b"refused: invalid data at offset 0: Invalid data: Invalid item tag 0b1000000\n",
+        ),
+    ];
+    all_show(&rt, Command::Items, &rows)
+}
+
+// Each header of the standard's tables, with one byte of data where it takes some.
+#[test]
+fn names_of_all_items(rt: HostRuntime) -> Result<(), Fail> {
+    let rows: [Row<'_>; 3] = [
+        (
+            b"\x81\x02\x91\x02\xb1\x02\xa1\x01\xc0",
+            Outcome::Done,
+            b"0 81 02 Input\n2 91 02 Output\n4 b1 02 Feature\n6 a1 01 Collection\n8 c0 EndCollection\n",
+        ),
+        (
+            b"\x05\x01\x15\x00\x25\x01\x35\x00\x45\x01\x55\x0e\x65\x11\x75\x08\x85\x01\x95\x02\xa4\xb4\xc4",
+            Outcome::Done,
+            b"0 05 01 UsagePage\n2 15 00 LogicalMinimum\n4 25 01 LogicalMaximum\n6 35 00 PhysicalMinimum\n8 45 01 PhysicalMaximum\n10 55 0e UnitExponent\n12 65 11 Unit\n14 75 08 ReportSize\n16 85 01 ReportId\n18 95 02 ReportCount\n20 a4 Push\n21 b4 Pop\n22 c4 GlobalReserved\n",
+        ),
+        (
+            b"\x0b\x30\x00\x01\x00\x09\x30\x19\x01\x29\x02\x39\x01\x49\x02\x59\x03\x79\x04\x89\x05\x99\x06\xa9\x01\xf9\x00",
+            Outcome::Done,
+            b"0 0b 30 00 01 00 Usage\n5 09 30 UsageId\n7 19 01 UsageMinimum\n9 29 02 UsageMaximum\n11 39 01 DesignatorIndex\n13 49 02 DesignatorMinimum\n15 59 03 DesignatorMaximum\n17 79 04 StringIndex\n19 89 05 StringMinimum\n21 99 06 StringMaximum\n23 a9 01 Delimiter\n25 f9 00 LocalReserved\n",
+        ),
+    ];
+    all_show(&rt, Command::Items, &rows)
+}
+
+#[test]
+fn descriptors_written_anew(rt: HostRuntime) -> Result<(), Fail> {
+    let rows: [Row<'_>; 6] = [
+        (
+            b"\x06\x01\x00\xc4\x0a\x30\x00\xfc\x17\x00\x00\x00\x00\xa0\xc1\x55",
+            Outcome::Done,
+            b"05 01 09 30 15 00 a1 00 c0\n",
+        ),
+        (b"\x06\x01\x00\xb4", Outcome::Done, b"05 01 b4\n"),
+        (b"\x0b\x30\x00\x00\x00", Outcome::Done, b"0b 30 00 00 00\n"),
+        (b"\xc4\xfc", Outcome::Done, b"\n"),
+        (
+            b"\x03",
+            Outcome::Refused,
+            b"refused: invalid data at offset 0: Insufficient data\n",
+        ),
+        (
+            b"",
+            Outcome::Refused,
+            b"refused: invalid data at offset 0: Insufficient data\n",
+        ),
+    ];
+    all_show(&rt, Command::Rebuild, &rows)
 }
 
 #[test]

@@ -1,6 +1,7 @@
 //! A run of the program: its inputs are read, and then its text is written.
 ghost use Rattle.std.specs.Prelude.{◌≡◌, ◌⊎◌, true, false, IfSome, IsErrOf, IsTrue, OnOk};
 ghost use Rattle.std.specs.Io.KnownBytes.{IsAtEnd};
+ghost use Rattle.hidreport_program.specs.Command.{reads_report, report_given};
 ghost use Rattle.hidreport_program.specs.Output.{output};
 ghost use Rattle.hidreport_program.specs.Run.{BeganWriting, Wrote};
 
@@ -11,7 +12,8 @@ use super::output::text_of;
 use super::transfer::{read_to_end, write_all};
 use std::alloc::Global;
 
-/// Reads a descriptor and then a report to their ends, and writes what `command` says of them.
+/// Reads a descriptor to its end, then a report where `command` reads one, and writes what the
+/// command says of them. A report that isn't read is left as it is.
 ///
 /// Answers `Done` after the command's text, and `Refused` after a line that says why there is
 /// none. Refuses with `Read` where a reader has failed and with `OutOfMemory` where memory ran
@@ -26,22 +28,28 @@ pub fn run<D: Source, R: Source, K: Sink>(
 ) -> Result<Outcome, RunFault>
     ensures descriptor_end { BeganWriting result → IsAtEnd (D.left descriptor.new) }
     ensures descriptor_sound { BeganWriting result → D.has_failed descriptor.new ≡ false }
-    ensures report_end { BeganWriting result → IsAtEnd (R.left report.new) }
-    ensures report_sound { BeganWriting result → R.has_failed report.new ≡ false }
+    ensures report_end { reads_report command ≡ true → BeganWriting result
+        → IsAtEnd (R.left report.new) }
+    ensures report_sound { reads_report command ≡ true → BeganWriting result
+        → R.has_failed report.new ≡ false }
+    ensures report_unread { reads_report command ≡ false → report.new ≡ report.old }
     // A report is read only after a whole descriptor.
     ensures order { IsTrue (D.has_failed descriptor.new) → report.new ≡ report.old }
-    ensures read_fault { IsErrOf result RunFault.Read
-        → (D.has_failed descriptor.new ≡ true) ⊎ (R.has_failed report.new ≡ true) }
+    ensures read_fault { IsErrOf result RunFault.Read → (D.has_failed descriptor.new ≡ true)
+        ⊎ ((reads_report command ≡ true) × (R.has_failed report.new ≡ true)) }
     ensures write_fault { IsErrOf result RunFault.Write → K.has_failed out.new ≡ true }
     ensures out_sound { OnOk result (K.has_failed out.new ≡ false) }
     ensures unwritten { ¬ BeganWriting result → out.new ≡ out.old }
     // Where the readers tell their bytes, this is the text of what was read.
     ensures written { IfSome (D.left descriptor.old) (λ description.
-        IfSome (R.left report.old) (λ bytes.
+        IfSome (report_given command (R.left report.old)) (λ bytes.
         Wrote result (output command description bytes) (K.taken out.old) (K.taken out.new))) }
 {
     let description = read_to_end(alloc, descriptor)?;
-    let bytes = read_to_end(alloc, report)?;
+    let mut bytes = Vec::new(alloc);
+    if command.reads_report() {
+        bytes = read_to_end(alloc, report)?;
+    }
     let Ok(written) = text_of(alloc, command, &description, &bytes) else {
         return Err(RunFault::OutOfMemory);
     };

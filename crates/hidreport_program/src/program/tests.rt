@@ -26,14 +26,31 @@ fn values_and_two_files(rt: HostRuntime) -> Result<(), Fail> {
 }
 
 #[test]
+fn a_descriptor_alone(rt: HostRuntime) -> Result<(), Fail> {
+    let command = command_for(rt.alloc(), &["items", "mouse"])?;
+    assert_eq!(rt; command, Some(Command::Items));
+    let command = command_for(rt.alloc(), &["rebuild", "mouse"])?;
+    assert_eq!(rt; command, Some(Command::Rebuild));
+    Ok(())
+}
+
+#[test]
 fn other_words(rt: HostRuntime) -> Result<(), Fail> {
     assert_eq!(rt; command_for(rt.alloc(), &[])?, None);
     assert_eq!(rt; command_for(rt.alloc(), &["values"])?, None);
     assert_eq!(rt; command_for(rt.alloc(), &["values", "mouse"])?, None);
     let command = command_for(rt.alloc(), &["values", "mouse", "report", "more"])?;
     assert_eq!(rt; command, None);
-    assert_eq!(rt; command_for(rt.alloc(), &["items", "mouse"])?, None);
-    assert_eq!(rt; command_for(rt.alloc(), &["rebuild", "mouse"])?, None);
+    assert_eq!(rt; command_for(rt.alloc(), &["items"])?, None);
+    assert_eq!(rt;
+        command_for(rt.alloc(), &["items", "mouse", "report"])?,
+        None
+    );
+    assert_eq!(rt; command_for(rt.alloc(), &["rebuild"])?, None);
+    assert_eq!(rt;
+        command_for(rt.alloc(), &["rebuild", "mouse", "report"])?,
+        None
+    );
     assert_eq!(rt;
         command_for(rt.alloc(), &["value", "mouse", "report"])?,
         None

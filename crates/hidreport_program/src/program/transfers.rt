@@ -152,9 +152,17 @@ fn words_name_the_files(rt: HostRuntime) -> Result<(), Fail> {
     let request = request_of(&words).ok_or("no request")?;
     assert_eq!(rt; request.command, Command::Values);
     assert_eq!(rt; request.file, "-");
-    assert_eq!(rt; request.report, "two words");
+    assert_eq!(rt; request.report, Some("two words"));
     words.push(String::from_str(rt.alloc(), "more")?)?;
     assert!(rt; request_of(&words).is_none());
     assert!(rt; request_of(&[]).is_none());
+    for name in ["items", "rebuild"] {
+        let mut words = Vec::new(rt.alloc());
+        words.push(String::from_str(rt.alloc(), name)?)?;
+        words.push(String::from_str(rt.alloc(), "mouse")?)?;
+        let request = request_of(&words).ok_or("no request")?;
+        assert_eq!(rt; request.file, "mouse");
+        assert_eq!(rt; request.report, None);
+    }
     Ok(())
 }

@@ -4,6 +4,7 @@ use Rattle.hidreport_lists.specs.Answer.{Answers, Refusal, Refuses}
 use Rattle.hidreport.specs.Records.{DescriptorRecord}
 use Rattle.hidreport.proofs.ParseLemmas.{parse-grammar, parse-meaning}
 use Rattle.hidreport.proofs.SegmentLemmas.{parse-struck}
+use Rattle.hidreport.proofs.KeptItems.{parse-kept, parse-rebuilt}
 use Rattle.hidreport.proofs.descriptor.ReportDescriptor.try_from.Goals as goal
 
 pub returns-in_err-items-clause-exact : goal.returns-in_err-items-clause-exact
@@ -38,3 +39,20 @@ pub returns-clause-struck : goal.returns-clause-struck
 returns-clause-struck c =
     λ entries front inside rest e m is.
     sym (parse-struck c.args.bytes.now entries front inside rest e m is) ∙ returns-clause-exact c
+
+pub returns-in_err-items-clause-rebuilt : goal.returns-in_err-items-clause-rebuilt
+returns-in_err-items-clause-rebuilt c = parse-rebuilt c.args.bytes.now
+
+pub returns-in_err-reports-clause-kept : goal.returns-in_err-reports-clause-kept
+returns-in_err-reports-clause-kept c =
+    λ entries i.
+    subst (λ (r : Result DescriptorRecord Refusal). Answers c.from_residual-in_err-reports.result r) (parse-kept c.args.bytes.now entries i) (returns-in_err-reports-clause-exact c)
+
+pub returns-in_err-reports-clause-rebuilt : goal.returns-in_err-reports-clause-rebuilt
+returns-in_err-reports-clause-rebuilt c = parse-rebuilt c.args.bytes.now
+
+pub returns-clause-kept : goal.returns-clause-kept
+returns-clause-kept c = λ entries i. sym (parse-kept c.args.bytes.now entries i) ∙ returns-clause-exact c
+
+pub returns-clause-rebuilt : goal.returns-clause-rebuilt
+returns-clause-rebuilt c = parse-rebuilt c.args.bytes.now

@@ -1,0 +1,47 @@
+-- A descriptor written anew (Sections 6.2.2.1 and 6.2.2.2): the items that today's standard gives a
+-- meaning, each in its canonical spelling.
+use Rattle.std.specs.Prelude.{◌≡◌, ℕ, ◌+◌, List, [], ◌∷◌, length, map, filter, flat_map}
+use Rattle.std.specs.Prelude.{Result, Ok, Err, Vec}
+use Rattle.std.specs.Global.{Global}
+use Rattle.hidreport_items.specs.Answer.{Fault}
+use Rattle.hidreport_items.specs.Canonical.{IsCanonical}
+use Rattle.hidreport_items.specs.Kept.{is_kept}
+use Rattle.hidreport_items.specs.Writing.{item_bytes}
+use Rattle.hidreport_items.specs.declared.item.ItemType.{ItemType}
+use Rattle.hidreport_lists.specs.Answer.{Refusal, Refuses}
+use Rattle.hidreport_lists.specs.Entry.{Entry}
+use Rattle.hidreport_lists.specs.declared.error.ParserError.{ParserError}
+
+-- what is spelled, without where and how
+abbrev pub items_of : List Entry → List ItemType
+items_of entries = map (λ e. e.item) entries
+
+-- those of them that aren't of a kind which the standard keeps for later
+abbrev pub kept : List Entry → List Entry
+kept entries = filter (λ e. is_kept e.item) entries
+
+-- these items in the bytes that are written for them, the first at the offset
+abbrev pub respelled : ℕ → List ItemType → List Entry
+respelled offset [] = []
+respelled offset (x ∷ xs) =
+    record { offset = offset; bytes = item_bytes x; item = x }
+    ∷ respelled (offset + length (item_bytes x)) xs
+
+-- the canonical bytes of the kept items, joined
+abbrev pub rebuilt : List Entry → List ℕ
+rebuilt entries = flat_map item_bytes (items_of (kept entries))
+
+-- the same, or the fault of bytes that are no items
+abbrev pub rebuilding : Result (List Entry) (ℕ × Fault) → Result (List ℕ) (ℕ × Fault)
+rebuilding (Ok entries) = Ok (rebuilt entries)
+rebuilding (Err fault) = Err fault
+
+-- each item stands in its canonical spelling
+abbrev pub AreCanonical : List Entry → Type 0
+AreCanonical [] = Unit {0}
+AreCanonical (e ∷ entries) = IsCanonical e.bytes e.item × AreCanonical entries
+
+-- the answer is these bytes, or this refusal
+abbrev pub AnswersBytes : Result (Vec ℕ Global) ParserError → Result (List ℕ) Refusal → Type 0
+AnswersBytes (Ok written) answer = answer ≡ Ok written.items
+AnswersBytes (Err e) answer = Refuses e answer

@@ -1,0 +1,70 @@
+ghost use Rattle.std.specs.Prelude.{◌≡◌, ◌≢◌, ◌↔◌, ◌++◌, ℕ, List, [], Ok, IfOk, flat_map};
+ghost use Rattle.hidreport_items.specs.Kept.{is_kept};
+ghost use Rattle.hidreport_items.specs.Spelling.{item_of};
+ghost use Rattle.hidreport_items.specs.Writing.{item_bytes};
+ghost use Rattle.hidreport_lists.specs.Entry.{Entry};
+ghost use Rattle.hidreport_lists.specs.Itemising.{as_refusal, itemise, Itemises, joined};
+ghost use Rattle.hidreport_lists.specs.Rebuilt.{AnswersBytes, AreCanonical, items_of, kept};
+ghost use Rattle.hidreport_lists.specs.Rebuilt.{rebuilding, rebuilt, respelled};
+
+use crate::error::ParserError;
+use crate::list::{ReportDescriptorItem, ReportDescriptorItems};
+use crate::short_item::Item;
+use hidreport_items::{GlobalItem, ItemType, LocalItem};
+use std::alloc::{AllocError, Global};
+
+/// A descriptor written anew (Section 6.2.2.2): its items in order, without those of a kind that
+/// the standard keeps for later, each in its canonical spelling, the shortest one with data.
+///
+/// Bytes that are no items are refused as `ReportDescriptorItems::try_from` refuses them.
+/// `OutOfMemory` comes only where a growth is refused. The answer is empty where no item is kept.
+///
+/// The answer, where not empty, itemises to just the kept items (`again`), and is what rebuilding
+/// it gives (`itself`). Two descriptors are rebuilt alike just where they keep the same items
+/// (`alike`).
+pub fn rebuild(alloc: Global, bytes: &[u8]) -> Result<Vec<u8>, ParserError>
+    ensures exact { AnswersBytes result (as_refusal (rebuilding (itemise item_of bytes.now))) }
+    ensures canonical { (entries : List Entry) → Itemises item_of bytes.now entries
+        → IfOk result (λ bytes. (joined (respelled 0 (items_of (kept entries))) ≡ bytes.items)
+        × AreCanonical (respelled 0 (items_of (kept entries)))) }
+    ensures again { (entries : List Entry) → Itemises item_of bytes.now entries
+        → IfOk result (λ bytes. bytes.items ≢ []
+        → Itemises item_of bytes.items (respelled 0 (items_of (kept entries)))) }
+    ensures itself { IfOk result (λ bytes. bytes.items ≢ []
+        → rebuilding (itemise item_of bytes.items) ≡ Ok bytes.items) }
+    ensures alike { (other : List ℕ) (entries others : List Entry)
+        → Itemises item_of bytes.now entries → Itemises item_of other others
+        → (rebuilt entries ≡ rebuilt others) ↔ (items_of (kept entries) ≡ items_of (kept others)) }
+{
+    let items = ReportDescriptorItems::try_from(alloc, bytes)?;
+    Ok(rebuilt(alloc, items.as_slice())?)
+}
+
+/// The bytes of the items that are kept, joined.
+fn rebuilt(alloc: Global, items: &[ReportDescriptorItem]) -> Result<Vec<u8>, AllocError>
+    ensures { IfOk result (λ bytes. bytes.items ≡ rebuilt items.now) }
+{
+    let mut bytes = Vec::new(alloc);
+    for entry in items {
+        let item = entry.item().item_type();
+        if is_kept(&item) {
+            match item.as_bytes(alloc) {
+                Ok(written) => bytes.extend_from_slice(written.as_slice())?,
+                Err(_refused) => return Err(AllocError),
+            }
+        }
+    }
+    Ok(bytes)
+}
+
+/// Whether an item is of a kind that the standard of today gives a meaning.
+fn is_kept(item: &ItemType) -> bool
+    ensures { result ≡ is_kept item.now }
+{
+    match item {
+        ItemType::Global(GlobalItem::Reserved) => false,
+        ItemType::Local(LocalItem::Reserved { .. }) => false,
+        ItemType::Reserved => false,
+        _ => true,
+    }
+}
