@@ -67,6 +67,8 @@ fails_to_write() {
 cd "$scratch"
 : > empty
 printf '\005' > cut
+printf '\005\001' > page
+printf '\304\374' > reserved
 mkdir folder
 
 status=0
@@ -75,7 +77,17 @@ judge 'values' 0 "$crate/stdout" out
 shows 'a refused descriptor' 1 'refused: invalid data at offset 0: Insufficient data' values cut "$report"
 shows 'an empty descriptor' 1 'refused: invalid data at offset 0: Empty report descriptor' values empty "$report"
 shows 'no report' 1 'refused: no report' values "$mouse" empty
+shows 'items' 0 '0 05 01 UsagePage' items page
+shows 'items of a refused descriptor' 1 'refused: invalid data at offset 0: Insufficient data' items cut
+shows 'items of no bytes' 1 'refused: invalid data at offset 0: Insufficient data' items empty
+shows 'rebuild' 0 '05 01 15 81 25 7f 75 08 95 02 09 30 09 31 81 02' rebuild "$mouse"
+shows 'rebuild of what is never kept' 0 '' rebuild reserved
+shows 'rebuild of a refused descriptor' 1 'refused: invalid data at offset 0: Insufficient data' rebuild cut
 shows 'no words' 2 "$usage"
+shows 'items of nothing' 2 "$usage" items
+shows 'items of two files' 2 "$usage" items "$mouse" "$report"
+shows 'rebuild of nothing' 2 "$usage" rebuild
+shows 'rebuild of two files' 2 "$usage" rebuild "$mouse" "$report"
 shows 'a word too few' 2 "$usage" values "$mouse"
 shows 'a word too many' 2 "$usage" values "$mouse" "$report" "$report"
 shows 'an unknown word' 2 "$usage" value "$mouse" "$report"
@@ -83,6 +95,9 @@ shows 'another case' 2 "$usage" VALUES "$mouse" "$report"
 shows 'a word for help' 2 "$usage" --help
 shows 'a missing descriptor' 2 'fault: open' values missing "$report"
 shows 'a missing report' 2 'fault: open' values "$mouse" missing
+shows 'items of a missing file' 2 'fault: open' items missing
+shows 'rebuild of a missing file' 2 'fault: open' rebuild missing
+shows 'items of a folder' 2 'fault: read' items folder
 shows 'wrong words before missing files' 2 "$usage" values missing missing missing
 shows 'a folder for a descriptor' 2 'fault: read' values folder "$report"
 shows 'a folder for a report' 2 'fault: read' values "$mouse" folder
@@ -92,6 +107,8 @@ status=0
 "$program" values "$mouse" - > out 2> errors < empty || status=$?
 judge 'a file named -' 0 "$crate/stdout" out
 fails_to_write 'values' values "$mouse" "$report"
+fails_to_write 'items' items "$mouse"
+fails_to_write 'rebuild' rebuild "$mouse"
 fails_to_write 'a refusal' values cut "$report"
 fails_to_write 'wrong words' values
 fails_to_write 'a missing file' values missing "$report"

@@ -1,3 +1,4 @@
 pub mod Hex
 pub mod Mouse
+pub mod Rebuilt
 pub mod Summary

@@ -9,5 +9,6 @@ pub mod mouse_reports;
 pub mod places;
 pub mod push_and_pop;
 pub mod reading;
+pub mod rebuilding;
 pub mod segments;
 pub mod usages;

@@ -1,3 +1,4 @@
 pub mod Texts
 pub mod Transfers
 pub mod Words
+pub mod SomeText

@@ -1,5 +1,5 @@
 -- The lines that the program writes. Each ends with a newline, which is the byte 10.
-use Rattle.std.specs.Prelude.{ℕ, ℤ, Bool, pos, ◌-◌, if◌then◌else◌, List, [], ◌∷◌, ◌++◌, flat_map, Option, Some, None, Result, Ok, Err, length, replicate, codes, decimal, false}
+use Rattle.std.specs.Prelude.{ℕ, ℤ, pos, ◌-◌, if◌then◌else◌, List, [], ◌∷◌, ◌++◌, flat_map, Option, Some, None, Result, Ok, Err, length, replicate, codes, decimal, false}
 use Rattle.std.specs.Fmt.{radix_digits, signed_decimal}
 use Rattle.std.specs.Int.{w32, cast_signed}
 use Rattle.hidreport_lists.specs.Answer.{Refusal, InvalidAt, Bounds, Mismatch}

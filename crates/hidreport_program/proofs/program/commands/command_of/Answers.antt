@@ -3,7 +3,17 @@ use Rattle.std.specs.Prelude.{codes}
 use Rattle.hidreport_program.proofs.Words.{form_of_first}
 use Rattle.hidreport_program.proofs.program.commands.command_of.Goals as goal
 
+pub returns-in-len2-clause-asked : goal.returns-in-len2-clause-asked
+returns-in-len2-clause-asked c =
+    let named : string_bytes c.name-item.result ≡ codes "items" = search rules in
+    form_of_first string_bytes c.args.words.now c.name-item.result _ 2 (omega arith) (omega arith) c.name-item.is named
+
 pub returns-in-len3-clause-asked : goal.returns-in-len3-clause-asked
 returns-in-len3-clause-asked c =
-    let named : string_bytes c.name-item.result ≡ codes "values" = search rules in
-    form_of_first string_bytes c.args.words.now c.name-item.result _ 3 (omega arith) (omega arith) c.name-item.is named
+    let named : string_bytes c.name-item-then-words-lt4.result ≡ codes "values" = search rules in
+    form_of_first string_bytes c.args.words.now c.name-item-then-words-lt4.result _ 3 (omega arith) (omega arith) c.name-item-then-words-lt4.is named
+
+pub returns-in-len2-2-clause-asked : goal.returns-in-len2-2-clause-asked
+returns-in-len2-2-clause-asked c =
+    let named : string_bytes c.name-item-then-words-lt3.result ≡ codes "rebuild" = search rules in
+    form_of_first string_bytes c.args.words.now c.name-item-then-words-lt3.result _ 2 (omega arith) (omega arith) c.name-item-then-words-lt3.is named

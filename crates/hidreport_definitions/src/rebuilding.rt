@@ -1,0 +1,34 @@
+//! Descriptors written anew, and what they mean.
+ghost use Rattle.std.specs.Prelude.{◌≡◌, List, [], ◌∷◌, Option, None, Ok, Err, codes};
+ghost use Rattle.hidreport.specs.Answer.{InvalidAt};
+ghost use Rattle.hidreport.specs.ItemAnswer.{Insufficient};
+ghost use Rattle.hidreport_definitions.specs.Summary.{Variable, Report, summary, inputs};
+ghost use Rattle.hidreport_definitions.specs.Rebuilt.{again, kept_bytes};
+
+/// An item of a reserved kind is left out, every other is written in its shortest spelling with data.
+pub fn kept_items_are_written_shortly()
+    ensures shorter { again (codes "06 01 00 c4 0a 30 00 fc 17 00 00 00 00 a0 c1 55")
+        ≡ kept_bytes (codes "05 01 09 30 15 00 a1 00 c0") }
+    ensures page_of_its_own { again (codes "0b 30 00 00 00") ≡ kept_bytes (codes "0b 30 00 00 00") }
+    ensures idle_items_stay { again (codes "39 01 a9 01 a4 b4 f9 01")
+        ≡ kept_bytes (codes "39 01 a9 01 a4 b4") }
+    ensures nothing_kept { again (codes "c4 fc") ≡ kept_bytes [] }
+    ensures no_item { again (codes "03") ≡ Err (0, Insufficient) }
+    ensures no_bytes { again [] ≡ Err (0, Insufficient) }
+    ensures signs { again (codes "16 ff ff 26 ff 00 27 80 00 00 00")
+        ≡ kept_bytes (codes "15 ff 26 ff 00 26 80 00") }
+{}
+
+/// Both read as the same reports, or have the same fault at the same item, each at its offset.
+pub fn the_meaning_stays()
+    ensures fault_before { summary (codes "06 01 00 b4")
+        ≡ Err (InvalidAt 3 (codes "Too many Pops, not enough Pushes")) }
+    ensures fault_behind { summary (codes "05 01 b4")
+        ≡ Err (InvalidAt 2 (codes "Too many Pops, not enough Pushes")) }
+    ensures reserved_among_the_locals { summary (codes "05 01 75 08 95 01 09 30 f9 01 c4 fc 81 02")
+        ≡ inputs (Report None 8 (Variable 0 8 0x00010030 ∷ []) ∷ []) }
+    ensures rebuilt { again (codes "05 01 75 08 95 01 09 30 f9 01 c4 fc 81 02")
+        ≡ kept_bytes (codes "05 01 75 08 95 01 09 30 81 02") }
+    ensures without_them { summary (codes "05 01 75 08 95 01 09 30 81 02")
+        ≡ inputs (Report None 8 (Variable 0 8 0x00010030 ∷ []) ∷ []) }
+{}
