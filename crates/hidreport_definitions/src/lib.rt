@@ -4,10 +4,12 @@
 pub mod attributes;
 pub mod collections;
 pub mod faults;
+pub mod items;
 pub mod laws;
 pub mod mouse_reports;
 pub mod places;
 pub mod push_and_pop;
 pub mod reading;
 pub mod segments;
+pub mod units;
 pub mod usages;

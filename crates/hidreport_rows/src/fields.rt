@@ -206,6 +206,20 @@ fn padding_of_the_greatest_size(rt: HostRuntime) -> Result<(), Fail> {
 }
 
 #[test]
+fn a_report_may_end_at_the_greatest_place(rt: HostRuntime) -> Result<(), Fail> {
+    let bytes =
+        b"\x77\xff\xff\xff\xff\x97\xff\xff\xff\xff\x81\x01\x75\x02\x81\x01\x75\x01\x95\x01\x81\x01";
+    let descriptor = ReportDescriptor::try_from(rt.alloc(), &bytes[..16])?;
+    let reports = descriptor.input_reports();
+    assert_eq!(rt; reports.len(), 1);
+    assert_eq!(rt; reports[0].size_in_bits(), usize::MAX);
+    assert_eq!(rt; reports[0].size_in_bytes(), 1 << 61);
+    let one_bit_more = ReportDescriptor::try_from(rt.alloc(), bytes);
+    assert!(rt; matches!(one_bit_more, Err(ParserError::OutOfBounds)));
+    Ok(())
+}
+
+#[test]
 fn a_value_lies_across_five_bytes(rt: HostRuntime) -> Result<(), Fail> {
     let descriptor = ReportDescriptor::try_from(rt.alloc(), ACROSS_FIVE_BYTES)?;
     let field = input_field(&descriptor, 1)

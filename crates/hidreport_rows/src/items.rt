@@ -176,5 +176,8 @@ fn parts_of_a_short_item(rt: HostRuntime) -> Result<(), Fail> {
     let id = ShortItem::from_item_type(alloc, &ItemType::from(ReportId::from(0x1a)))?;
     assert_eq!(rt; id.bytes(), b"\x85\x1a".as_slice());
     assert_eq!(rt; id.data().ok_or("no data")?.to_u8(alloc)?, 0x1a);
+    let reserved = ShortItem::try_from(alloc, b"\xfe\x02\x01")?;
+    assert_eq!(rt; reserved.size(), 3);
+    assert!(rt; !reserved.is_long_item());
     Ok(())
 }
