@@ -7,7 +7,7 @@ ghost use Rattle.hidreport.specs.Flags.{flags_of};
 ghost use Rattle.hidreport.specs.ItemType.TheVariants as item;
 ghost use Rattle.hidreport.specs.MainItem.TheVariants as main;
 ghost use Rattle.hidreport.specs.MeaningFault.{PastBounds};
-ghost use Rattle.hidreport_definitions.specs.Summary.{Variable, Constant, Report, summary, inputs, no_reports, found, numbered, one_bit};
+ghost use Rattle.hidreport_definitions.specs.Summary.{Variable, Constant, Report, summary, inputs, no_reports, all_numbers, announced_by, found, input_reports, numbered, one_bit};
 
 /// A report id that comes later begins a second report, and the first, which has no id, is found for any byte.
 pub fn a_report_without_id_is_found_for_any_byte()
@@ -75,4 +75,11 @@ pub fn ids_have_32_bits()
     ensures one_collection_more { item_fault (numbered 0 0x100000000) one_bit (item.Main
         (main.Collection kind.Physical))
         ≡ Some PastBounds }
+{}
+
+/// Fields are numbered from 0 in the order of the items; an array has one number, however many values it has.
+pub fn an_array_has_one_number()
+    ensures { all_numbers (input_reports (announced_by
+        (codes "05 01 75 04 95 02 09 30 81 00 95 01 09 31 81 02")))
+        ≡ (0, []) ∷ (1, []) ∷ [] }
 {}

@@ -158,6 +158,17 @@ fn elements_of_an_array_are_signed(rt: HostRuntime) -> Result<(), Fail> {
 }
 
 #[test]
+fn an_array_has_one_number(rt: HostRuntime) -> Result<(), Fail> {
+    let bytes = b"\x05\x01\x75\x04\x95\x02\x09\x30\x81\x00\x95\x01\x09\x31\x81\x02";
+    let descriptor = ReportDescriptor::try_from(rt.alloc(), bytes)?;
+    for (place, number) in [0u32, 1].iter().enumerate() {
+        let field = input_field(&descriptor, place).ok_or("no field")?;
+        assert_eq!(rt; u32::from(field.id()), *number);
+    }
+    Ok(())
+}
+
+#[test]
 fn reading_follows_a_changed_array(rt: HostRuntime) -> Result<(), Fail> {
     let descriptor = ReportDescriptor::try_from(rt.alloc(), NIBBLES)?;
     let field = input_field(&descriptor, 0)

@@ -75,6 +75,8 @@ fn items_made_by_hand(rt: HostRuntime) -> Result<(), Fail> {
         Err(HidError::InsufficientData) => {}
         _ => panic!(rt; "a long item is no short one"),
     }
+    assert!(rt; ItemType::Long.as_bytes(alloc)?.is_empty());
+    assert!(rt; ItemType::Reserved.as_bytes(alloc)?.is_empty());
     let bound = ItemType::from(LogicalMinimum::from(128));
     assert_eq!(rt;
         bound.as_bytes(alloc)?.as_slice(),
