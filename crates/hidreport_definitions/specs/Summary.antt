@@ -1,11 +1,16 @@
 -- What a descriptor announces, in short, for the rows.
 use Rattle.std.specs.Prelude.{ℕ, ℤ, pos, ◌+◌, ◌*◌, Bool, true, false, List, [], ◌∷◌, map, flat_map, Option, None, Some, option_map, Result, Ok, Err}
 use Rattle.hidreport.specs.Answer.{Refusal}
+use Rattle.hidreport.specs.Faults.{Counts}
+use Rattle.hidreport.specs.GlobalItem.TheVariants as global
+use Rattle.hidreport.specs.InForce.{Force, force}
+use Rattle.hidreport.specs.ItemType.TheVariants as item
 use Rattle.hidreport.specs.Lookup.{find_report}
 use Rattle.hidreport.specs.Meaning.{parse}
 use Rattle.hidreport.specs.Reading.{ValueRecord, reads}
 use Rattle.hidreport.specs.Records.{Attributes, CollectionRecord, FieldPlace, FieldRecord, VariableRecord, ArrayRecord, ConstantRecord, ReportRecord, DescriptorRecord}
 use Rattle.hidreport.specs.UsageNumber.{usage_number}
+use Rattle.hidreport.specs.UsageRange.{RangeRecord}
 use Rattle.hidreport.specs.Usages.{make_usage}
 use Rattle.hidreport_definitions.specs.Hex.{hex}
 
@@ -154,3 +159,15 @@ abbrev pub of_report : ℕ → FieldRecord → FieldRecord
 of_report id (VariableRecord place usage shared) = VariableRecord (with_report_id place id) usage shared
 of_report id (ArrayRecord place usages is_range count shared) = ArrayRecord (with_report_id place id) usages is_range count shared
 of_report id (ConstantRecord place) = ConstantRecord (with_report_id place id)
+
+-- so many fields and so many collections before an item, and nothing else
+abbrev pub numbered : ℕ → ℕ → Counts
+numbered fields collections = record { level = 0; depth = 0; collections = collections; fields = fields; start = 0 }
+
+-- in force are a size of one bit and a count of one
+abbrev pub one_bit : Force
+one_bit = force (item.Global (global.ReportSize 1) ∷ item.Global (global.ReportCount 1) ∷ []) 2
+
+-- the range of usages 4 to 7 of page 7
+abbrev pub four_keys : RangeRecord
+four_keys = record { first = make_usage 7 4; last = make_usage 7 7 }

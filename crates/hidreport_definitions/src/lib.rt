@@ -4,6 +4,7 @@
 pub mod attributes;
 pub mod collections;
 pub mod faults;
+pub mod items;
 pub mod laws;
 pub mod mouse_reports;
 pub mod places;
@@ -11,4 +12,5 @@ pub mod push_and_pop;
 pub mod reading;
 pub mod rebuilding;
 pub mod segments;
+pub mod units;
 pub mod usages;

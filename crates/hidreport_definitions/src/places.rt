@@ -1,7 +1,13 @@
 //! In which report a field lies, and where.
 ghost use Rattle.std.specs.Prelude.{◌≡◌, List, [], ◌∷◌, Option, None, Some, codes};
 ghost use Rattle.hidreport.specs.Answer.{Bounds, InvalidAt};
-ghost use Rattle.hidreport_definitions.specs.Summary.{Variable, Constant, Report, summary, inputs, no_reports, found};
+ghost use Rattle.hidreport.specs.CollectionItem.TheVariants as kind;
+ghost use Rattle.hidreport.specs.Faults.{item_fault};
+ghost use Rattle.hidreport.specs.Flags.{flags_of};
+ghost use Rattle.hidreport.specs.ItemType.TheVariants as item;
+ghost use Rattle.hidreport.specs.MainItem.TheVariants as main;
+ghost use Rattle.hidreport.specs.MeaningFault.{PastBounds};
+ghost use Rattle.hidreport_definitions.specs.Summary.{Variable, Constant, Report, summary, inputs, no_reports, all_numbers, announced_by, found, input_reports, numbered, one_bit};
 
 /// A report id that comes later begins a second report, and the first, which has no id, is found for any byte.
 pub fn a_report_without_id_is_found_for_any_byte()
@@ -53,4 +59,27 @@ pub fn fields_of_a_report_follow_each_other()
         (codes "05 01 75 08 95 01 85 01 09 30 81 02 85 02 09 31 81 02 85 01 09 32 81 02")
         ≡ inputs (Report (Some 1) 24 (Variable 8 16 0x00010030 ∷ Variable 16 24 0x00010032 ∷ [])
         ∷ Report (Some 2) 16 (Variable 8 16 0x00010031 ∷ []) ∷ []) }
+{}
+
+/// 2^32 fields have an id of their own, and as many collections; one more is refused.
+pub fn ids_have_32_bits()
+    ensures last_field { item_fault (numbered 0xffffffff 0) one_bit (item.Main
+        (main.Input (flags_of 1)))
+        ≡ None }
+    ensures one_field_more { item_fault (numbered 0x100000000 0) one_bit (item.Main
+        (main.Input (flags_of 1)))
+        ≡ Some PastBounds }
+    ensures last_collection { item_fault (numbered 0 0xffffffff) one_bit (item.Main
+        (main.Collection kind.Physical))
+        ≡ None }
+    ensures one_collection_more { item_fault (numbered 0 0x100000000) one_bit (item.Main
+        (main.Collection kind.Physical))
+        ≡ Some PastBounds }
+{}
+
+/// Fields are numbered from 0 in the order of the items; an array has one number, however many values it has.
+pub fn an_array_has_one_number()
+    ensures { all_numbers (input_reports (announced_by
+        (codes "05 01 75 04 95 02 09 30 81 00 95 01 09 31 81 02")))
+        ≡ (0, []) ∷ (1, []) ∷ [] }
 {}

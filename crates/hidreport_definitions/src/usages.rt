@@ -1,10 +1,12 @@
 //! Which usages the fields of an item have.
-ghost use Rattle.std.specs.Prelude.{◌≡◌, pos, List, [], ◌∷◌, Option, None, codes, true, false};
+ghost use Rattle.std.specs.Prelude.{◌≡◌, ◌↔◌, pos, Contains, List, [], ◌∷◌, Option, None, IsSome, codes, true, false};
 ghost use Rattle.hidreport.specs.CollectionItem.TheVariants as kind;
 ghost use Rattle.hidreport.specs.Answer.{InvalidAt};
 ghost use Rattle.hidreport.specs.Records.{ArrayRecord};
+ghost use Rattle.hidreport.specs.declared.field.usage.Usage.{Usage};
+ghost use Rattle.hidreport.specs.UsageRange.{HasExactly, usage_within};
 ghost use Rattle.hidreport.specs.Usages.{make_usage, range_from};
-ghost use Rattle.hidreport_definitions.specs.Summary.{Report, Variable, announced_by, inputs, no_reports, place_of, summary, unset};
+ghost use Rattle.hidreport_definitions.specs.Summary.{Report, Variable, announced_by, inputs, no_reports, four_keys, place_of, summary, unset};
 
 /// Fields beyond the usages take the last one.
 pub fn the_last_usage_is_repeated()
@@ -118,4 +120,10 @@ pub fn fields_take_usages_in_order()
         ≡ inputs (Report None 16 (Variable 0 8 0x00010031 ∷ Variable 8 16 0x00010030 ∷ []) ∷ []) }
     ensures more_than_fields { summary (codes "05 01 09 30 09 31 75 08 95 01 81 02")
         ≡ inputs (Report None 8 (Variable 0 8 0x00010030 ∷ []) ∷ []) }
+{}
+
+/// The law of a range applied: the range from usage 4 to 7 has just the four usages that gave it.
+pub fn a_range_has_the_usages_that_gave_it()
+    ensures { HasExactly four_keys (range_from 7 4 4)
+        → (u : Usage) → IsSome (usage_within four_keys u) ↔ Contains (range_from 7 4 4) u }
 {}

@@ -158,6 +158,17 @@ fn elements_of_an_array_are_signed(rt: HostRuntime) -> Result<(), Fail> {
 }
 
 #[test]
+fn an_array_has_one_number(rt: HostRuntime) -> Result<(), Fail> {
+    let bytes = b"\x05\x01\x75\x04\x95\x02\x09\x30\x81\x00\x95\x01\x09\x31\x81\x02";
+    let descriptor = ReportDescriptor::try_from(rt.alloc(), bytes)?;
+    for (place, number) in [0u32, 1].iter().enumerate() {
+        let field = input_field(&descriptor, place).ok_or("no field")?;
+        assert_eq!(rt; u32::from(field.id()), *number);
+    }
+    Ok(())
+}
+
+#[test]
 fn reading_follows_a_changed_array(rt: HostRuntime) -> Result<(), Fail> {
     let descriptor = ReportDescriptor::try_from(rt.alloc(), NIBBLES)?;
     let field = input_field(&descriptor, 0)
@@ -202,6 +213,20 @@ fn padding_of_the_greatest_size(rt: HostRuntime) -> Result<(), Fail> {
     assert!(rt; field.usages().is_empty());
     let twice = ReportDescriptor::try_from(rt.alloc(), bytes);
     assert!(rt; matches!(twice, Err(ParserError::OutOfBounds)));
+    Ok(())
+}
+
+#[test]
+fn a_report_may_end_at_the_greatest_place(rt: HostRuntime) -> Result<(), Fail> {
+    let bytes =
+        b"\x77\xff\xff\xff\xff\x97\xff\xff\xff\xff\x81\x01\x75\x02\x81\x01\x75\x01\x95\x01\x81\x01";
+    let descriptor = ReportDescriptor::try_from(rt.alloc(), &bytes[..16])?;
+    let reports = descriptor.input_reports();
+    assert_eq!(rt; reports.len(), 1);
+    assert_eq!(rt; reports[0].size_in_bits(), usize::MAX);
+    assert_eq!(rt; reports[0].size_in_bytes(), 1 << 61);
+    let one_bit_more = ReportDescriptor::try_from(rt.alloc(), bytes);
+    assert!(rt; matches!(one_bit_more, Err(ParserError::OutOfBounds)));
     Ok(())
 }
 

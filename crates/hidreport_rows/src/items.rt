@@ -75,6 +75,8 @@ fn items_made_by_hand(rt: HostRuntime) -> Result<(), Fail> {
         Err(HidError::InsufficientData) => {}
         _ => panic!(rt; "a long item is no short one"),
     }
+    assert!(rt; ItemType::Long.as_bytes(alloc)?.is_empty());
+    assert!(rt; ItemType::Reserved.as_bytes(alloc)?.is_empty());
     let bound = ItemType::from(LogicalMinimum::from(128));
     assert_eq!(rt;
         bound.as_bytes(alloc)?.as_slice(),
@@ -176,5 +178,8 @@ fn parts_of_a_short_item(rt: HostRuntime) -> Result<(), Fail> {
     let id = ShortItem::from_item_type(alloc, &ItemType::from(ReportId::from(0x1a)))?;
     assert_eq!(rt; id.bytes(), b"\x85\x1a".as_slice());
     assert_eq!(rt; id.data().ok_or("no data")?.to_u8(alloc)?, 0x1a);
+    let reserved = ShortItem::try_from(alloc, b"\xfe\x02\x01")?;
+    assert_eq!(rt; reserved.size(), 3);
+    assert!(rt; !reserved.is_long_item());
     Ok(())
 }

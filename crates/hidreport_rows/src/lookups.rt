@@ -76,6 +76,14 @@ fn usages_within_a_range(rt: HostRuntime) -> Result<(), Fail> {
     Ok(())
 }
 
+#[test]
+fn usages_are_equal_by_page_and_id(rt: HostRuntime) {
+    let usage = Usage::from(0x0001_0005);
+    assert!(rt; usage == Usage::from_page_and_id(UsagePage::from(1), UsageId::from(5)));
+    assert!(rt; usage != Usage::from(0x0002_0005));
+    assert!(rt; usage != Usage::from(0x0001_0006));
+}
+
 /// What a hasher that was given just `value` ends with.
 fn hash_of<T: Hash>(value: &T) -> u64 {
     let mut hasher = DefaultHasher::new();
