@@ -5,10 +5,9 @@
 set -eu
 
 . "$(dirname "$0")/needs.sh"
+. "$(dirname "$0")/probe.sh"
 need_rt second_setting
-repository=${1:-$(dirname "$0")/..}
-scratch=$(mktemp -d)
-trap 'rm -rf "$scratch"' EXIT
+make_probe second_setting "${1:-$(dirname "$0")/..}" hidreport_types hidreport_items
 
 # A flag on each line: the setter that turns it on and the state that it makes, and the same that leave it off.
 # The compiler prints at most twenty errors, so the nine are tried in two parts.
@@ -21,28 +20,6 @@ second_part='no_preferred_state IBNoPreferred preferred_state IBPreferred
 null IBNull no_null IBNoNull
 buffered_bytes IBBuffered bitfield IBBitfield
 volatile IBVolatile non_volatile IBNonVolatile'
-
-# A repository of its own: the sources of the items, and a crate `probe` above them.
-git init -q "$scratch"
-for crate in hidreport_types hidreport_items; do
-    mkdir -p "$scratch/crates/$crate"
-    for part in src specs proofs; do
-        if [ -d "$repository/crates/$crate/$part" ]; then
-            cp -r "$repository/crates/$crate/$part" "$scratch/crates/$crate"
-        fi
-    done
-    grep "^$crate:" "$repository/crates.txt" >> "$scratch/crates.txt"
-done
-echo 'probe: hidreport_items' >> "$scratch/crates.txt"
-mkdir -p "$scratch/crates/probe/src"
-probe="$scratch/crates/probe/src/lib.rt"
-wanted="$scratch/wanted"
-
-fail() {
-    echo "second_setting: $1" >&2
-    cat >&2
-    exit 1
-}
 
 # A source that builds an item and tests it; functions are added to it, each on a line of its own.
 begin() {
@@ -65,17 +42,7 @@ add() {
 
 # The function that was added last is refused, since something was said of the flag before.
 refuse() {
-    line=$(wc -l < "$probe")
-    echo "src/lib.rt:$line: the trait bound \`$1: IBUnsaid\` is not satisfied" >> "$wanted"
-}
-
-answer() {
-    (cd "$scratch/crates/probe" && rt try --test 2>&1) || true
-}
-
-# The errors of an answer, each with its line and without its column.
-errors_of() {
-    echo "$1" | sed -n 's/^\(src[^:]*:[0-9]*\):[0-9]*: error\[unsatisfied-bound\]/\1/p; /error\[unsatisfied-bound\]/d; /error/p'
+    want_refusal "$1" IBUnsaid
 }
 
 # Behind each of the two setters of a flag both are refused, for no other reason.
@@ -89,9 +56,7 @@ refused() {
     done << FLAGS
 $1
 FLAGS
-    said=$(answer)
-    errors_of "$said" | cmp -s - "$wanted" ||
-        errors_of "$said" | diff "$wanted" - | fail "a second setting is not refused, or something else is"
+    expect_refusals 'a second setting is not refused, or something else is'
     echo "$(wc -l < "$wanted") second settings: refused"
 }
 
@@ -109,9 +74,7 @@ accepted() {
 $first_part
 $second_part
 FLAGS
-    said=$(answer)
-    echo "$said" | grep -q '^test result: ok\. 1 passed' ||
-        echo "$said" | fail "a first setting is not accepted"
+    expect_success 'a first setting is not accepted'
     echo "$(grep -c '^pub fn' "$probe") first settings: accepted"
 }
 

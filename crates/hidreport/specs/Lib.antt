@@ -38,6 +38,7 @@ pub use Rattle.hidreport_items.specs.declared.main_item.CollectionItem
 pub use Rattle.hidreport_items.specs.declared.main_item.MainItem
 pub use Rattle.hidreport_lists.specs.Answer
 pub use Rattle.hidreport_lists.specs.Data
+pub use Rattle.hidreport_lists.specs.DescriptorBuilder
 pub use Rattle.hidreport_lists.specs.Entry
 pub use Rattle.hidreport_lists.specs.Itemising
 pub use Rattle.hidreport_lists.specs.Messages

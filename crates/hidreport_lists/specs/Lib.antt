@@ -1,5 +1,6 @@
 pub mod Answer
 pub mod Data
+pub mod DescriptorBuilder
 pub mod Entry
 pub mod Itemising
 pub mod Messages

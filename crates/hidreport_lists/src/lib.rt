@@ -2,6 +2,9 @@
 #![tactic(auto)]
 
 mod data;
+mod descriptor_builder;
+mod descriptor_builder_rules;
+mod descriptor_builder_state;
 mod error;
 mod fault;
 mod laws;
@@ -10,6 +13,17 @@ mod rebuilding;
 mod short_item;
 
 pub use data::ItemData;
+pub use descriptor_builder::ReportDescriptorBuilder;
+pub use descriptor_builder_rules::{MayBuild, MayClose, MayOpen, MayPop, MayPush};
+pub use descriptor_builder_state::{
+    ReportDescriptorBuilderC1, ReportDescriptorBuilderC1Push, ReportDescriptorBuilderC2,
+    ReportDescriptorBuilderC2Push, ReportDescriptorBuilderC3, ReportDescriptorBuilderC3Push,
+    ReportDescriptorBuilderC4, ReportDescriptorBuilderC4Push, ReportDescriptorBuilderC5,
+    ReportDescriptorBuilderC5Push, ReportDescriptorBuilderC6, ReportDescriptorBuilderC6Push,
+    ReportDescriptorBuilderC7, ReportDescriptorBuilderC7Push, ReportDescriptorBuilderC8,
+    ReportDescriptorBuilderC8Push, ReportDescriptorBuilderState, ReportDescriptorBuilderToplevel,
+    ReportDescriptorBuilderToplevelPush,
+};
 pub use error::ParserError;
 pub use laws::bytes_are_items_or_have_a_fault;
 pub use list::{ReportDescriptorItem, ReportDescriptorItems};

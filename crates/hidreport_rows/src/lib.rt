@@ -8,6 +8,8 @@ mod collections;
 #[cfg(test)]
 mod copies;
 #[cfg(test)]
+mod descriptor_builder;
+#[cfg(test)]
 mod fields;
 pub mod generic;
 #[cfg(test)]
