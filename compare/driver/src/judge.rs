@@ -88,6 +88,6 @@ fn run_reason(theirs: &str, ours: &str) -> Option<&'static str> {
         return (ours == format!("refused at {place}: {message}\n"))
             .then_some("are usages without a page, at which parsing panics there");
     }
-    (message.starts_with("attempt to ") && ours == "refused: out of bounds\n")
+    (message == "attempt to add with overflow" && ours == "refused: out of bounds\n")
         .then_some("are sums of sizes that overflow there")
 }

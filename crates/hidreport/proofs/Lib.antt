@@ -8,6 +8,8 @@ pub mod LevelLemmas
 pub mod OpenLemmas
 pub mod WalkLemmas
 pub mod AllKept
+pub mod TilingLemmas
+pub mod TilingWalk
 pub mod UsageLemmas
 pub mod ReportList
 pub mod FieldLemmas

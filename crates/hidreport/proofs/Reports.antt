@@ -15,13 +15,13 @@ use Rattle.hidreport.specs.Records.{FieldRecord, ReportRecord}
 use Rattle.hidreport.proofs.Walk.{or_false}
 
 -- keys that compare alike are one
-same_key-equal : (a b : Option ℕ) → same_key a b ≡ true → a ≡ b
+pub same_key-equal : (a b : Option ℕ) → same_key a b ≡ true → a ≡ b
 same_key-equal None None h = refl
 same_key-equal (Some a) (Some b) h = ap Some (grind (arith, common_steps))
 same_key-equal None (Some b) h = cc
 same_key-equal (Some a) None h = cc
 
-same_key-refl : (a : Option ℕ) → same_key a a ≡ true
+pub same_key-refl : (a : Option ℕ) → same_key a a ≡ true
 same_key-refl None = refl
 same_key-refl (Some a) = grind (arith, common_steps)
 

@@ -14,6 +14,7 @@ pub mod Reading
 pub mod Records
 pub mod Segments
 pub mod Usages
+pub mod Tiling
 pub mod UsageNumber
 pub mod UsageRange
 pub mod Visibility

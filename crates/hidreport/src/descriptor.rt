@@ -1,4 +1,4 @@
-ghost use Rattle.std.specs.Prelude.{◌≡◌, ◌≢◌, ◌+◌, ◌++◌, [], List, length, map, option_copied};
+ghost use Rattle.std.specs.Prelude.{◌≡◌, ◌≢◌, ◌+◌, ◌++◌, [], IfOk, List, length, map, option_copied};
 ghost use Rattle.hidreport_items.specs.Spelling.{item_of};
 ghost use Rattle.hidreport_items.specs.declared.item.ItemType.{ItemType};
 ghost use Rattle.hidreport_lists.specs.Answer.{Answers};
@@ -8,6 +8,7 @@ ghost use Rattle.hidreport_lists.specs.Rebuilt.{items_of, kept, rebuilt, respell
 ghost use Rattle.hidreport.specs.Lookup.{find_report};
 ghost use Rattle.hidreport.specs.Meaning.{at_offset, meaning, parse};
 ghost use Rattle.hidreport.specs.Segments.{IsMatched, moved, with_segment};
+ghost use Rattle.hidreport.specs.Tiling.{IsTiled};
 
 use crate::field::data_item::Direction;
 use crate::parser;
@@ -77,6 +78,7 @@ impl ReportDescriptor {
             → rebuilt entries ≢ []
             → parse (rebuilt entries) ≡ at_offset (respelled 0 (items_of (kept entries)))
             (meaning (items_of (kept entries))) }
+        ensures tiled { IfOk result (λ descriptor. IsTiled descriptor) }
     {
         if bytes.is_empty() {
             return Err(parser::empty_descriptor(alloc));

@@ -5,6 +5,7 @@ use Rattle.hidreport.specs.Records.{DescriptorRecord}
 use Rattle.hidreport.proofs.ParseLemmas.{parse-grammar, parse-meaning}
 use Rattle.hidreport.proofs.SegmentLemmas.{parse-struck}
 use Rattle.hidreport.proofs.KeptItems.{parse-kept, parse-rebuilt}
+use Rattle.hidreport.proofs.TilingWalk.{parse-tiled}
 use Rattle.hidreport.proofs.descriptor.ReportDescriptor.try_from.Goals as goal
 
 pub returns-in_err-items-clause-exact : goal.returns-in_err-items-clause-exact
@@ -56,3 +57,6 @@ returns-clause-kept c = λ entries i. sym (parse-kept c.args.bytes.now entries i
 
 pub returns-clause-rebuilt : goal.returns-clause-rebuilt
 returns-clause-rebuilt c = parse-rebuilt c.args.bytes.now
+
+pub returns-clause-tiled : goal.returns-clause-tiled
+returns-clause-tiled c = parse-tiled c.args.bytes.now _ (returns-clause-exact c)

@@ -1,0 +1,97 @@
+-- How fields fill their reports (Sections 5.6 and 6.2.2.4), and what has a number of its own.
+use Rattle.std.specs.Prelude.{◌≡◌, ◌≢◌, ◌⊎◌, true, false, ℕ, ◌+◌, ◌*◌, ◌<◌, ◌≤◌, ◌==◌, List, [], ◌∷◌, ◌++◌, flat_map, count_by, drop, slice_get, Option, None, Some}
+use Rattle.hidreport.specs.Making.{same_key}
+use Rattle.hidreport.specs.Places.{id_bits}
+use Rattle.hidreport.specs.Reading.{element_width, own_id}
+use Rattle.hidreport.specs.Records.{CollectionRecord, FieldPlace, FieldRecord, VariableRecord, ArrayRecord, ConstantRecord, ReportRecord, DescriptorRecord}
+use Rattle.hidreport.specs.Usages.{range_from}
+use Rattle.hidreport.specs.declared.field.usage.Usage.{Usage}
+
+-- P holds of each
+abbrev pub Each : {A : Type 0} → (A → Type 0) → List A → Type 0
+Each P [] = Unit {0}
+Each P (x ∷ xs) = P x × Each P xs
+
+abbrev pub place_of : FieldRecord → FieldPlace
+place_of (VariableRecord place usage shared) = place
+place_of (ArrayRecord place usages is_range count shared) = place
+place_of (ConstantRecord place) = place
+
+-- the collections that a field lies in; padding carries none
+abbrev pub collections_of : FieldRecord → List CollectionRecord
+collections_of (VariableRecord place usage shared) = shared.collections
+collections_of (ArrayRecord place usages is_range count shared) = shared.collections
+collections_of (ConstantRecord place) = []
+
+-- the first field begins at a bit, each other where the one before ends, and the last ends at another; none is empty
+abbrev pub Covers : ℕ → List FieldRecord → ℕ → Type 0
+Covers first [] end = first ≡ end
+Covers first (f ∷ fields) end = ((place_of f).first ≡ first) × (first < (place_of f).end)
+    × Covers (place_of f).end fields end
+
+-- the elements of an array have all its bits
+abbrev pub HasNoRest : FieldRecord → Type 0
+HasNoRest (VariableRecord place usage shared) = Unit {0}
+HasNoRest (ArrayRecord place usages is_range count shared) =
+    place.first + element_width place.first place.end count * count ≡ place.end
+HasNoRest (ConstantRecord place) = Unit {0}
+
+-- a field is read from the bytes of this report alone, or from any
+abbrev pub IsOf : Option ℕ → FieldRecord → Type 0
+IsOf id field = (own_id field ≡ None) ⊎ (own_id field ≡ id)
+
+-- a minimum and a maximum gave these usages
+pub record IsRangeOf (usages : List Usage) : Type 0 where
+  pub page : ℕ
+  pub low : ℕ
+  pub count : ℕ
+  pub is : usages ≡ range_from page low count
+
+-- an array of a range has the usages that its minimum and its maximum gave
+abbrev pub HasRange : FieldRecord → Type 0
+HasRange (VariableRecord place usage shared) = Unit {0}
+HasRange (ArrayRecord place usages true count shared) = IsRangeOf usages
+HasRange (ArrayRecord place usages false count shared) = Unit {0}
+HasRange (ConstantRecord place) = Unit {0}
+
+-- the fields have all bits of the report behind its id, each bit one field, and are read from its bytes
+pub record IsFilled (report : ReportRecord) : Type 0 where
+  pub some : report.fields ≢ []
+  pub covers : Covers (id_bits report.id) report.fields report.size
+  pub elements : Each HasNoRest report.fields
+  pub own : Each (IsOf report.id) report.fields
+  pub ranges : Each HasRange report.fields
+
+-- at most one report has an id, and at most one, the first, has none
+pub record HaveOwnIds (reports : List ReportRecord) : Type 0 where
+  pub once : (id : Option ℕ) → count_by (λ r. same_key r.id id) reports ≤ 1
+  pub first : Each (λ (r : ReportRecord). r.id ≢ None) (drop 1 reports)
+
+-- all fields of these reports
+abbrev pub fields_in_all : List ReportRecord → List FieldRecord
+fields_in_all reports = flat_map (λ r. r.fields) reports
+
+abbrev pub reports_in_all : DescriptorRecord → List ReportRecord
+reports_in_all d = d.input ++ (d.output ++ d.feature)
+
+-- at most one field has a number
+abbrev pub HaveOwnNumbers : List FieldRecord → Type 0
+HaveOwnNumbers fields = (n : ℕ) → count_by (λ f. (place_of f).id == n) fields ≤ 1
+
+-- a collection stands in the list at the index that is its number
+abbrev pub IsListed : List CollectionRecord → CollectionRecord → Type 0
+IsListed collections c = slice_get collections c.id ≡ Some c
+
+-- there is one list of collections, in which each that a field lies in stands at its number
+abbrev pub HaveOwnCollections : List FieldRecord → Type 0
+HaveOwnCollections fields = (collections : List CollectionRecord)
+    × Each (λ f. Each (IsListed collections) (collections_of f)) fields
+
+-- what holds of the reports of every descriptor
+pub record IsTiled (d : DescriptorRecord) : Type 0 where
+  pub filled : Each IsFilled (reports_in_all d)
+  pub input_ids : HaveOwnIds d.input
+  pub output_ids : HaveOwnIds d.output
+  pub feature_ids : HaveOwnIds d.feature
+  pub numbers : HaveOwnNumbers (fields_in_all (reports_in_all d))
+  pub collections : HaveOwnCollections (fields_in_all (reports_in_all d))
