@@ -1,4 +1,5 @@
 pub mod LookupLemmas
+pub mod BitLaws
 pub mod BitLemmas
 pub mod Walk
 pub mod Reports
@@ -14,6 +15,7 @@ pub mod UsageLemmas
 pub mod ReportList
 pub mod FieldLemmas
 pub mod DataLemmas
+pub mod OwnReports
 pub mod ParseLemmas
 pub mod RangeLemmas
 pub mod ElementLemmas

@@ -3,6 +3,8 @@ use Rattle.std.proofs.Common.{◌≡◌, ℕ, zero, suc, ◌+◌, ◌-◌, ◌%�
 use Rattle.std.specs.Prelude.{◌==◌, slice_get}
 use Rattle.std.proofs.lemmas.Bool.Decides.{nat_tests}
 use Rattle.hidreport.specs.Usages.{make_usage, range_from}
+use Rattle.hidreport.specs.Records.{Attributes, ArrayRecord, FieldPlace}
+use Rattle.hidreport.specs.Tiling.{HasRange, IsRangeOf}
 use Rattle.hidreport.specs.UsageRange.{RangeRecord, HasExactly, last_usage, range_of, usage_within}
 use Rattle.hidreport.specs.declared.field.usage.Usage.{Usage}
 
@@ -83,10 +85,11 @@ exact_range r us page low first counts each u =
     )
 
 -- so has the range of a list of usages
-pub range_of-exact : (b : Bool) (us : List Usage) (r : RangeRecord) → Some r ≡ range_of b us → HasExactly r us
-range_of-exact false us r h = cc
-range_of-exact true [] r h = cc
-range_of-exact true (x ∷ us) r h = λ page low count made counts.
+pub range_of-exact : (b : Bool) (us : List Usage) (r : RangeRecord) → Some r ≡ range_of b us → IsRangeOf us → HasExactly r us
+range_of-exact false us r h g = cc
+range_of-exact true [] r h g = cc
+range_of-exact true (x ∷ us) r h g = λ counts.
+    let page = g.page in let low = g.low in let count = g.count in let made = g.is in
     let is : r ≡ record { first = x; last = last_usage x us } = cc in
     let size : length (x ∷ us) ≡ count = ap (λ (l : List Usage). length l) made ∙ length-range_from page low count in
     let each : (k : ℕ) (d : Usage) → k < length (x ∷ us) → get_or (x ∷ us) k d ≡ make_usage page ((low + k) % 65536) =
@@ -99,3 +102,8 @@ range_of-exact true (x ∷ us) r h = λ page low count made counts.
     let last_id = ap (λ (v : Usage). v.usage_id) last in
     exact_range r (x ∷ us) page (low % 65536) first (sym (ap (λ n. n + length (x ∷ us)) first_id) ∙ counts)
     (λ k d below. each k d below ∙ ap (make_usage page) (id_counts low k (omega (arith, first_id, last_id, counts, below))))
+
+-- the usages of an array of a range
+pub has-range : (b : Bool) (place : FieldPlace) (us : List Usage) (count : ℕ) (shared : Attributes) → b ≡ true → HasRange (ArrayRecord place us b count shared) → IsRangeOf us
+has-range true place us count shared e h = h
+has-range false place us count shared e h = cc

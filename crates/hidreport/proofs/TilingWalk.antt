@@ -220,9 +220,12 @@ tiled-end known h k =
       output_ids = k.own Output;
       feature_ids = k.own Feature;
       numbers = λ n. omega (arith, total-all n h.descriptor, k.once n);
-      collections = (known, each-flat (λ f. Each (IsListed known) (collections_of f)) (reports_in_all h.descriptor)
-          (each-more (IsGood known) (λ r. Each (λ f. Each (IsListed known) (collections_of f)) r.fields) (reports_in_all h.descriptor)
-          (λ r g. each-more (IsWell known r.id) (λ f. Each (IsListed known) (collections_of f)) r.fields (λ f w. w.1) g.2) good));
+      collections = (
+        known,
+        each-flat (λ f. Each (IsListed known) (collections_of f)) (reports_in_all h.descriptor)
+            (each-more (IsGood known) (λ r. Each (λ f. Each (IsListed known) (collections_of f)) r.fields) (reports_in_all h.descriptor)
+            (λ r g. each-more (IsWell known r.id) (λ f. Each (IsListed known) (collections_of f)) r.fields (λ f w. w.1) g.2) good),
+      );
     }
 
 abbrev Announces : Result DescriptorRecord (ℕ × MeaningFault) → DescriptorRecord → Type 0

@@ -1,4 +1,5 @@
 pub mod BitValue
+pub mod Bits
 pub mod Faults
 pub mod Fields
 pub mod InForce

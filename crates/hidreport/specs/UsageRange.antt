@@ -1,6 +1,6 @@
 -- The range of an array's usages (Section 6.2.2.8): from its first usage to its last, all on the page of the first.
 use Rattle.std.specs.Prelude.{◌≡◌, ℕ, ◌+◌, Bool, true, false, ◌&&◌, ◌==◌, nat_le, if◌then◌else◌, List, [], ◌∷◌, length, Contains, Option, None, Some, IsSome, ◌↔◌}
-use Rattle.hidreport.specs.Usages.{make_usage, range_from}
+use Rattle.hidreport.specs.Usages.{make_usage}
 use Rattle.hidreport.specs.declared.field.usage.Usage.{Usage}
 
 pub record RangeRecord : Type 0 where
@@ -31,7 +31,7 @@ range_of false us = None
 range_of true [] = None
 range_of true (u ∷ us) = Some (record { first = u; last = last_usage u us })
 
--- usages of a minimum and a maximum that are as many as the ids from the first to the last: the range has just these
+-- usages that are as many as the ids from the first to the last: the range has just these
 abbrev pub HasExactly : RangeRecord → List Usage → Type 0
-HasExactly r us = (page low count : ℕ) → us ≡ range_from page low count → r.first.usage_id + length us ≡ r.last.usage_id + 1
+HasExactly r us = r.first.usage_id + length us ≡ r.last.usage_id + 1
     → (u : Usage) → IsSome (usage_within r u) ↔ Contains us u

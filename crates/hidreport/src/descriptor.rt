@@ -1,14 +1,16 @@
-ghost use Rattle.std.specs.Prelude.{◌≡◌, ◌≢◌, ◌+◌, ◌++◌, [], IfOk, List, length, map, option_copied};
+ghost use Rattle.std.specs.Prelude.{◌≡◌, ◌≢◌, ◌+◌, ◌++◌, [], Err, IfOk, IfSome, List, length, map, option_copied};
 ghost use Rattle.hidreport_items.specs.Spelling.{item_of};
 ghost use Rattle.hidreport_items.specs.declared.item.ItemType.{ItemType};
-ghost use Rattle.hidreport_lists.specs.Answer.{Answers};
+ghost use Rattle.hidreport_lists.specs.Answer.{Answers, Mismatch};
 ghost use Rattle.hidreport_lists.specs.Entry.{Entry};
 ghost use Rattle.hidreport_lists.specs.Itemising.{itemise, Itemises};
 ghost use Rattle.hidreport_lists.specs.Rebuilt.{items_of, kept, rebuilt, respelled};
 ghost use Rattle.hidreport.specs.Lookup.{find_report};
 ghost use Rattle.hidreport.specs.Meaning.{at_offset, meaning, parse};
+ghost use Rattle.hidreport.specs.Reading.{reads};
+ghost use Rattle.hidreport.specs.Records.{FieldRecord};
 ghost use Rattle.hidreport.specs.Segments.{IsMatched, moved, with_segment};
-ghost use Rattle.hidreport.specs.Tiling.{IsTiled};
+ghost use Rattle.hidreport.specs.Tiling.{Each, IsTiled};
 
 use crate::field::data_item::Direction;
 use crate::parser;
@@ -36,7 +38,8 @@ impl Model for ReportDescriptor {
 impl ReportDescriptor {
     /// A descriptor without reports. It takes no memory.
     pub fn empty(alloc: Global) -> ReportDescriptor
-        ensures { result ≡ record { input = []; output = []; feature = [] } }
+        ensures none { result ≡ record { input = []; output = []; feature = [] } }
+        ensures tiled { IsTiled result }
     {
         ReportDescriptor {
             reports: Reports::new(alloc),
@@ -65,6 +68,9 @@ impl ReportDescriptor {
     /// is what the kept items mean, a fault at the offset of its item. The bytes that `hid::rebuild`
     /// writes for them are read as the same reports, or refused with the same fault at the same
     /// item, whose offset is its own in each (`rebuilt`).
+    ///
+    /// Fields have all bits of their reports behind the id, and each bit one field; each report,
+    /// field and collection has an id of its own; and a range gave just its usages (`tiled`).
     pub fn try_from(alloc: Global, bytes: &[u8]) -> Result<ReportDescriptor, ParserError>
         ensures exact { Answers result (parse bytes.now) }
         ensures struck { (entries : List Entry) (front inside rest : List ItemType)
@@ -111,22 +117,31 @@ impl ReportDescriptor {
 
     /// The input report that a report's bytes are of (Section 5.6): the first where it has no id,
     /// else the one with the first byte as its id. `None` where there is none, or no bytes.
+    ///
+    /// No field of the report answers `MismatchingReportId` on these bytes, for a descriptor that
+    /// was read or is empty (`own`, by `tiled` of `try_from` and of `empty`).
     pub fn find_input_report(&self, bytes: &[u8]) -> Option<&RDescReport>
-        ensures { option_copied result ≡ find_report self.now.input bytes.now }
+        ensures found { option_copied result ≡ find_report self.now.input bytes.now }
+        ensures own { IsTiled self.now → IfSome (option_copied result) (λ report.
+            Each (λ (field : FieldRecord). reads field bytes.now ≢ Err Mismatch) report.fields) }
     {
         find_report(self.input_reports(), bytes)
     }
 
     /// The output report that a report's bytes are of, as `find_input_report` says.
     pub fn find_output_report(&self, bytes: &[u8]) -> Option<&RDescReport>
-        ensures { option_copied result ≡ find_report self.now.output bytes.now }
+        ensures found { option_copied result ≡ find_report self.now.output bytes.now }
+        ensures own { IsTiled self.now → IfSome (option_copied result) (λ report.
+            Each (λ (field : FieldRecord). reads field bytes.now ≢ Err Mismatch) report.fields) }
     {
         find_report(self.output_reports(), bytes)
     }
 
     /// The feature report that a report's bytes are of, as `find_input_report` says.
     pub fn find_feature_report(&self, bytes: &[u8]) -> Option<&RDescReport>
-        ensures { option_copied result ≡ find_report self.now.feature bytes.now }
+        ensures found { option_copied result ≡ find_report self.now.feature bytes.now }
+        ensures own { IsTiled self.now → IfSome (option_copied result) (λ report.
+            Each (λ (field : FieldRecord). reads field bytes.now ≢ Err Mismatch) report.fields) }
     {
         find_report(self.feature_reports(), bytes)
     }

@@ -4,6 +4,7 @@ ghost use Rattle.hidreport.specs.CollectionItem.TheVariants as kind;
 ghost use Rattle.hidreport.specs.Answer.{InvalidAt};
 ghost use Rattle.hidreport.specs.Records.{ArrayRecord};
 ghost use Rattle.hidreport.specs.declared.field.usage.Usage.{Usage};
+ghost use Rattle.hidreport.specs.Tiling.{IsRangeOf};
 ghost use Rattle.hidreport.specs.UsageRange.{HasExactly, usage_within};
 ghost use Rattle.hidreport.specs.Usages.{make_usage, range_from};
 ghost use Rattle.hidreport_definitions.specs.Summary.{Report, Variable, announced_by, inputs, no_reports, four_keys, place_of, summary, unset};
@@ -124,6 +125,7 @@ pub fn fields_take_usages_in_order()
 
 /// The law of a range applied: the range from usage 4 to 7 has just the four usages that gave it.
 pub fn a_range_has_the_usages_that_gave_it()
-    ensures { HasExactly four_keys (range_from 7 4 4)
+    ensures gave { IsRangeOf (range_from 7 4 4) }
+    ensures exactly { HasExactly four_keys (range_from 7 4 4)
         → (u : Usage) → IsSome (usage_within four_keys u) ↔ Contains (range_from 7 4 4) u }
 {}

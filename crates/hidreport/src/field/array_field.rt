@@ -1,7 +1,9 @@
 ghost use Rattle.std.specs.Prelude.{◌≡◌, ◌≢◌, ◌<◌, pos, int_lt, IfErr, IfOk, IfSome, IsOk, OnOk};
 ghost use Rattle.hidreport_lists.specs.Answer.{Answers, Refuses};
+ghost use Rattle.hidreport.specs.Bits.{FixesBits};
 ghost use Rattle.hidreport.specs.Reading.{AnswersBy, element_of, reads, reads_element, values_of};
 ghost use Rattle.hidreport.specs.Records.{is_of_range, usages_in};
+ghost use Rattle.hidreport.specs.Tiling.{HasRange};
 ghost use Rattle.hidreport.specs.UsageRange.{range_of, HasExactly};
 ghost use Rattle.hidreport.specs.Views.{array_attributes, array_record};
 
@@ -75,12 +77,13 @@ impl ArrayField {
     /// The range of the usages, from the first to the last, where a minimum and a maximum gave
     /// them (Section 6.2.2.8). `None` where they were given one by one.
     ///
-    /// Where the last id less the first is one less than the number of usages, the range has
-    /// exactly these usages.
+    /// Where the last id less the first is one less than the number of usages, as it is whenever
+    /// minimum and maximum have the same upper 16 bits, the range has exactly these usages
+    /// (`listed`; a field that was read meets its premise by `tiled` of `try_from`).
     pub fn usage_range(&self) -> Option<UsageRange>
         ensures range { let field = array_record self.now in
             result ≡ range_of (is_of_range field) (usages_in field) }
-        ensures listed { IfSome result (λ range.
+        ensures listed { HasRange (array_record self.now) → IfSome result (λ range.
             HasExactly range (usages_in (array_record self.now))) }
     {
         if !self.is_usage_range {
@@ -112,9 +115,13 @@ impl ArrayField {
     /// more than 32 and one that ends behind the bytes are `OutOfBounds`. Memory is taken for the
     /// values alone, once they are known to be there; where it is refused the answer is
     /// `OutOfMemory`.
+    ///
+    /// Where two reports have values, these are equal just where the bits of all elements are
+    /// (`fixed`).
     pub fn extract(&self, bytes: &[u8]) -> Result<Vec<FieldValue>, ParserError>
         ensures answer { AnswersBy (λ values. values.items) result
             (reads (array_record self.now) bytes.now) }
+        ensures fixed { FixesBits (array_record self.now) bytes.now }
         ensures memory { result ≡ Err ParserError.OutOfMemory
             → IsOk (reads (array_record self.now) bytes.now) }
     {

@@ -1,4 +1,5 @@
 ghost use Rattle.std.specs.Prelude.{◌≡◌, ◌≢◌, [], ◌∷◌, pos, int_lt, IfOk};
+ghost use Rattle.hidreport.specs.Bits.{FixesBits};
 ghost use Rattle.hidreport.specs.Reading.{AnswersBy, reads};
 ghost use Rattle.hidreport.specs.Views.{variable_attributes, variable_record};
 
@@ -67,9 +68,12 @@ impl VariableField {
     /// For a field with a report id, no bytes are `OutOfBounds`, and another first byte is
     /// `MismatchingReportId`. Then an empty or reversed range of bits, one of more than 32 bits
     /// and one that ends behind the bytes are `OutOfBounds`. It takes no memory.
+    ///
+    /// Where two reports have values, these are equal just where all bits of the range are (`fixed`).
     pub fn extract(&self, bytes: &[u8]) -> Result<FieldValue, ParserError>
         ensures answer { AnswersBy (λ value. value ∷ []) result
             (reads (variable_record self.now) bytes.now) }
+        ensures fixed { FixesBits (variable_record self.now) bytes.now }
         ensures memory { result ≢ Err ParserError.OutOfMemory }
     {
         check_id(self.report_id, bytes)?;

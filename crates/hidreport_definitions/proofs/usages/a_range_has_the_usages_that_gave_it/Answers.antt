@@ -2,4 +2,7 @@ use Rattle.std.proofs.Common.{refl}
 use Rattle.hidreport_definitions.proofs.usages.a_range_has_the_usages_that_gave_it.Goals as goal
 
 pub returns : goal.returns
-returns c = λ exactly u. exactly 7 4 4 refl refl u
+returns c = record {
+  gave = record { page = 7; low = 4; count = 4; is = refl };
+  exactly = λ exactly u. exactly refl u;
+}

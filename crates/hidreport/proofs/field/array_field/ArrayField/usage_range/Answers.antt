@@ -1,6 +1,7 @@
 use Rattle.std.proofs.Common.{◌≡◌, ◌-◌, Bool, true, List, Some, length, ap, sym, ◌∙◌}
 use Rattle.std.specs.Prelude.{slice_get}
-use Rattle.hidreport.proofs.RangeLemmas.{range_of-ends, range_of-exact}
+use Rattle.hidreport.proofs.RangeLemmas.{has-range, range_of-ends, range_of-exact}
+use Rattle.hidreport.specs.Views.{array_attributes, array_place}
 use Rattle.hidreport.specs.UsageRange.{RangeRecord, range_of}
 use Rattle.hidreport.specs.declared.field.usage.Usage.{Usage}
 use Rattle.hidreport.proofs.field.array_field.ArrayField.usage_range.Goals as goal
@@ -15,4 +16,7 @@ returns-clause-range c =
     ∙ sym (ap (λ (b : Bool). range_of b usages) is_range ∙ range_of-ends usages c.in_ok-first.first.now c.in_ok-last.last.now first last)
 
 pub returns-clause-listed : goal.returns-clause-listed
-returns-clause-listed c = range_of-exact c.args.self.now.is_usage_range c.args.self.now.usages.items c.new.result (returns-clause-range c)
+returns-clause-listed c = λ ranged.
+    let is_range : c.args.self.now.is_usage_range ≡ true = cc in
+    range_of-exact c.args.self.now.is_usage_range c.args.self.now.usages.items c.new.result (returns-clause-range c)
+    (has-range c.args.self.now.is_usage_range (array_place c.args.self.now) c.args.self.now.usages.items c.args.self.now.report_count (array_attributes c.args.self.now) is_range ranged)
