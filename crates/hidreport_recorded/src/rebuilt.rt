@@ -123,3 +123,30 @@ fn recorded_descriptors_mean_the_same_when_rebuilt(rt: HostRuntime) -> Result<()
     assert!(rt; count > 400);
     Ok(())
 }
+
+#[test]
+fn the_shortest_bytes_stay_as_they_are(rt: HostRuntime) -> Result<(), Fail> {
+    let (mouse, _report) = WORKED[0].split_once(" ").ok_or("no report")?;
+    for digits in [mouse, WORKED[1], "0b30000000"] {
+        let bytes = bytes_of(rt.alloc(), digits)?;
+        assert_eq!(rt;
+            rebuild(rt.alloc(), &bytes)?.as_slice(),
+            bytes.as_slice(),
+            "of {digits}"
+        );
+    }
+    Ok(())
+}
+
+#[test]
+fn many_items_are_rebuilt_at_once(rt: HostRuntime) -> Result<(), Fail> {
+    let mut bytes = Vec::new(rt.alloc());
+    for _ in 0..100_000 {
+        bytes.extend_from_slice(b"\x0a\x30\x00\xc4")?;
+    }
+    let rebuilt = rebuild(rt.alloc(), &bytes)?;
+    assert_eq!(rt; rebuilt.len(), 200_000);
+    assert!(rt; rebuilt.starts_with(b"\x09\x30\x09\x30"));
+    assert!(rt; rebuilt.ends_with(b"\x09\x30"));
+    Ok(())
+}
