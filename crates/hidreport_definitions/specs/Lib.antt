@@ -2,3 +2,4 @@ pub mod Hex
 pub mod Mouse
 pub mod Rebuilt
 pub mod Summary
+pub mod Tiled

@@ -1,5 +1,5 @@
 -- What a descriptor announces, in short, for the rows.
-use Rattle.std.specs.Prelude.{ℕ, ℤ, pos, ◌+◌, ◌*◌, Bool, true, false, List, [], ◌∷◌, map, flat_map, Option, None, Some, option_map, Result, Ok, Err}
+use Rattle.std.specs.Prelude.{ℕ, ℤ, pos, true, false, List, [], ◌∷◌, map, flat_map, Option, None, Some, option_map, Result, Ok, Err}
 use Rattle.hidreport.specs.Answer.{Refusal}
 use Rattle.hidreport.specs.Faults.{Counts}
 use Rattle.hidreport.specs.GlobalItem.TheVariants as global

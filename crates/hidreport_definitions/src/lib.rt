@@ -12,5 +12,6 @@ pub mod push_and_pop;
 pub mod reading;
 pub mod rebuilding;
 pub mod segments;
+pub mod tiling;
 pub mod units;
 pub mod usages;

@@ -3,6 +3,8 @@
 
 pub mod descriptors;
 pub mod fields;
+#[cfg(test)]
+mod flips;
 pub mod items;
 pub mod kinds;
 pub mod questions;

@@ -202,6 +202,24 @@ fn reading_follows_a_changed_array(rt: HostRuntime) -> Result<(), Fail> {
 }
 
 #[test]
+fn bits_left_over_are_read_by_no_element(rt: HostRuntime) -> Result<(), Fail> {
+    let descriptor = ReportDescriptor::try_from(rt.alloc(), NIBBLES)?;
+    let mut field = input_field(&descriptor, 0)
+        .and_then(array)
+        .ok_or("no array field")?
+        .clone()?;
+    field.bits = 0..7;
+    let rows: [&[u8]; 2] = [b"\xf1", b"\xb1"];
+    for bytes in rows {
+        let values = field.extract(bytes)?;
+        assert_eq!(rt; values.len(), 2);
+        assert_eq!(rt; i32::from(&values[0]), 1);
+        assert_eq!(rt; i32::from(&values[1]), -2);
+    }
+    Ok(())
+}
+
+#[test]
 fn padding_of_the_greatest_size(rt: HostRuntime) -> Result<(), Fail> {
     let bytes = b"\x77\xff\xff\xff\xff\x97\xff\xff\xff\xff\x81\x01\x81\x01";
     let descriptor = ReportDescriptor::try_from(rt.alloc(), &bytes[..12])?;
@@ -238,10 +256,14 @@ fn a_value_lies_across_five_bytes(rt: HostRuntime) -> Result<(), Fail> {
         .ok_or("no variable field")?;
     assert_eq!(rt; field.bits.start, 4);
     assert_eq!(rt; field.bits.end, 36);
-    assert_eq!(rt;
-        u32::from(field.extract(b"\x0f\x5e\xab\x78\x09")?),
-        0x978a_b5e0
-    );
+    let rows: [(&[u8], u32); 3] = [
+        (b"\x0f\x5e\xab\x78\x09", 0x978a_b5e0),
+        (b"\x00\x5e\xab\x78\xf9", 0x978a_b5e0),
+        (b"\x1f\x5e\xab\x78\x09", 0x978a_b5e1),
+    ];
+    for (bytes, value) in rows {
+        assert_eq!(rt; u32::from(field.extract(bytes)?), value);
+    }
     assert!(rt;
         matches!(
             field.extract(b"\x0f\x5e\xab\x78"),

@@ -53,10 +53,12 @@ fn usages_within_a_range(rt: HostRuntime) -> Result<(), Fail> {
     let range = field.usage_range().ok_or("no range")?;
     assert_eq!(rt; u32::from(range.minimum()), 0x0001_0004);
     assert_eq!(rt; u32::from(range.maximum()), 0x0001_0007);
+    assert_eq!(rt; field.usages().len(), 4);
     let rows = [
         (0x0001_0003, false, false),
         (0x0001_0004, true, true),
         (0x0001_0005, true, true),
+        (0x0001_0006, true, true),
         (0x0001_0007, true, true),
         (0x0001_0008, false, false),
         (0x0002_0005, false, true),

@@ -1,0 +1,42 @@
+-- Descriptors, reports and fields whose tiling rows tell.
+use Rattle.std.specs.Prelude.{ℕ, true, [], ◌∷◌, Option, Some}
+use Rattle.hidreport.specs.CollectionItem.{CollectionItem}
+use Rattle.hidreport.specs.CollectionItem.TheVariants as kind
+use Rattle.hidreport.specs.Records.{Attributes, FieldRecord, VariableRecord, ArrayRecord, ConstantRecord, ReportRecord, DescriptorRecord}
+use Rattle.hidreport.specs.Usages.{make_usage, range_from}
+use Rattle.hidreport_definitions.specs.Summary.{of_report, place_of, unset}
+
+-- what fields share that lie in the Application collection of a keyboard
+abbrev pub in_keyboard : Attributes
+in_keyboard = record unset {
+  collections = record { id = 0; kind = kind.Application; usages = make_usage 1 6 ∷ [] } ∷ [];
+}
+
+-- report 1 of three bits and padding, and report 2 of two keys
+abbrev pub two_reports : DescriptorRecord
+two_reports = record {
+  input =
+      record {
+        id = Some 1;
+        size = 16;
+        fields = of_report 1 (VariableRecord (place_of 0 8 11) (make_usage 1 0x30) in_keyboard)
+            ∷ of_report 1 (ConstantRecord (place_of 1 11 16)) ∷ [];
+      }
+      ∷ record {
+        id = Some 2;
+        size = 24;
+        fields = of_report 2 (ArrayRecord (place_of 2 8 24) (range_from 7 4 4) true 2 in_keyboard) ∷ [];
+      }
+      ∷ [];
+  output = [];
+  feature = [];
+}
+
+-- a report with this id, if any, and no fields
+abbrev pub report_of : Option ℕ → ReportRecord
+report_of id = record { id = id; size = 0; fields = [] }
+
+-- a field in one collection, with this number and of this kind
+abbrev pub field_in : ℕ → CollectionItem → FieldRecord
+field_in id kind = VariableRecord (place_of 0 0 8) (make_usage 1 0x30)
+    (record unset { collections = record { id = id; kind = kind; usages = [] } ∷ [] })
