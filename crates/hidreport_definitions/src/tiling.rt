@@ -48,23 +48,30 @@ pub fn a_report_has_an_id_of_its_own()
     ensures none { HaveOwnIds [] }
     ensures first_without { HaveOwnIds (report_of None ∷ report_of (Some 2) ∷ []) }
     ensures twice { HaveOwnIds (report_of (Some 1) ∷ report_of (Some 1) ∷ []) → ⊥ }
-    ensures apart { HaveOwnIds (report_of (Some 1) ∷ report_of (Some 2) ∷ report_of (Some 1) ∷ []) → ⊥ }
+    ensures apart { HaveOwnIds
+        (report_of (Some 1) ∷ report_of (Some 2) ∷ report_of (Some 1) ∷ []) → ⊥ }
     ensures second_without { HaveOwnIds (report_of (Some 1) ∷ report_of None ∷ []) → ⊥ }
 {}
 
 /// No two fields have one number, and no two collections.
 pub fn a_field_and_a_collection_have_numbers_of_their_own()
     ensures field { HaveOwnNumbers (variable_at 0 4 (pos 0) ∷ []) }
-    ensures two_fields { HaveOwnNumbers (variable_at 0 4 (pos 0) ∷ variable_at 4 8 (pos 0) ∷ []) → ⊥ }
-    ensures collection { HaveOwnCollections (field_in 0 kind.Physical ∷ field_in 0 kind.Physical ∷ []) }
-    ensures two_collections { HaveOwnCollections (field_in 0 kind.Physical ∷ field_in 1 kind.Logical ∷ []) }
-    ensures one_number { HaveOwnCollections (field_in 0 kind.Physical ∷ field_in 0 kind.Logical ∷ []) → ⊥ }
+    ensures two_fields { HaveOwnNumbers
+        (variable_at 0 4 (pos 0) ∷ variable_at 4 8 (pos 0) ∷ []) → ⊥ }
+    ensures collection { HaveOwnCollections
+        (field_in 0 kind.Physical ∷ field_in 0 kind.Physical ∷ []) }
+    ensures two_collections { HaveOwnCollections
+        (field_in 0 kind.Physical ∷ field_in 1 kind.Logical ∷ []) }
+    ensures one_number { HaveOwnCollections
+        (field_in 0 kind.Physical ∷ field_in 0 kind.Logical ∷ []) → ⊥ }
 {}
 
 /// An array of a range has the usages from its minimum to its maximum, all of them.
 pub fn an_array_of_a_range_has_all_its_usages()
     ensures range { HasRange (ArrayRecord (place_of 0 0 8) (range_from 7 4 4) true 1 unset) }
-    ensures single { HasRange (ArrayRecord (place_of 0 0 8) (make_usage 7 4 ∷ make_usage 7 6 ∷ []) false 1 unset) }
-    ensures two_pages { HasRange (ArrayRecord (place_of 0 0 8) (make_usage 7 4 ∷ make_usage 8 5 ∷ []) true 1 unset)
+    ensures single { HasRange (ArrayRecord (place_of 0 0 8)
+        (make_usage 7 4 ∷ make_usage 7 6 ∷ []) false 1 unset) }
+    ensures two_pages { HasRange (ArrayRecord (place_of 0 0 8)
+        (make_usage 7 4 ∷ make_usage 8 5 ∷ []) true 1 unset)
         → ⊥ }
 {}
