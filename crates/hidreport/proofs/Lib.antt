@@ -4,6 +4,7 @@ pub mod BitLemmas
 pub mod Walk
 pub mod Reports
 pub mod IndexedLemmas
+pub mod JournalLemmas
 pub mod KeptItems
 pub mod LevelLemmas
 pub mod OpenLemmas

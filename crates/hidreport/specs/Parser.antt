@@ -1,6 +1,7 @@
 -- What the parser holds and does, as plain data: for proofs alone, no clause of a public call cites it.
 pub mod DataItem
 pub mod Forces
+pub mod Journal
 pub mod Layout
 pub mod Machine
 pub mod Opened

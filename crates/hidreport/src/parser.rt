@@ -8,6 +8,7 @@ ghost use Rattle.hidreport.specs.Parser.Refusals.{IsRefusal};
 mod fault;
 mod globals;
 mod in_force;
+mod journal;
 mod layout;
 mod open_collections;
 mod state;

@@ -7,6 +7,8 @@ pub mod fields;
 mod flips;
 pub mod items;
 pub mod kinds;
+#[cfg(test)]
+mod pushes;
 pub mod questions;
 pub mod readings;
 #[cfg(test)]

@@ -1,39 +1,32 @@
 use crate::parser::globals::Globals;
+use crate::parser::journal::{Entry, Journal};
 use hidreport_items::{GlobalItem, LocalItem};
-use std::alloc::{AllocError, AllocFailed, Global};
+use std::alloc::{AllocError, Global};
 use std::marker::Model;
 
 /// What is in force between two items (Sections 6.2.2.7 and 6.2.2.8), and what each open Push
-/// keeps of it for its Pop.
+/// keeps of it for its Pop: one record of globals, one list of locals, and a journal of what was
+/// replaced inside open Pushes.
 #[derive(Debug, Drop)]
 pub(crate) struct InForce {
     globals: Globals,
     locals: Vec<LocalItem>,
-    kept: Vec<Kept>,
+    journal: Journal,
 }
 
 impl Model for InForce {
+    ghost use Rattle.std.specs.Prelude.{reverse};
     ghost use Rattle.hidreport.specs.Parser.Forces.{Forces, force_of};
+    ghost use Rattle.hidreport.specs.Parser.Journal.{Fits, undone};
 
     ghost Value = { Forces };
 
-    ghost view = { λ f. record { now = force_of f.globals f.locals.items; kept = f.kept.items } };
-}
+    ghost view = { λ f. record {
+      now = force_of f.globals f.locals.items;
+      kept = reverse (undone f.journal f.globals f.locals.items);
+    } };
 
-/// What a Push keeps: the globals and the locals.
-#[derive(Debug, Drop)]
-struct Kept {
-    globals: Globals,
-    locals: Vec<LocalItem>,
-}
-
-impl Model for Kept {
-    ghost use Rattle.hidreport.specs.InForce.{Force};
-    ghost use Rattle.hidreport.specs.Parser.Forces.{force_of};
-
-    ghost Value = { Force };
-
-    ghost view = { λ k. force_of k.globals k.locals.items };
+    ghost invariant = { λ f. Fits f.journal f.locals.items };
 }
 
 impl InForce {
@@ -49,7 +42,7 @@ impl InForce {
         InForce {
             globals: Globals::new(),
             locals: Vec::new(alloc),
-            kept: Vec::new(alloc),
+            journal: Journal::new(alloc),
         }
     }
 
@@ -68,40 +61,42 @@ impl InForce {
     }
 
     /// Sets the value of a global item; a Push, a Pop and a reserved item have none.
-    pub(crate) fn set(&mut self, item: GlobalItem)
-        ensures { self.new ≡ record self.old { now = next_force self.old.now (items.Global item) } }
+    pub(crate) fn set(&mut self, item: GlobalItem) -> Result<(), AllocError>
+        ensures { OnOk result (self.new ≡ record self.old {
+          now = next_force self.old.now (items.Global item);
+        }) }
     {
+        self.journal.note_globals(self.globals)?;
         self.globals.set(item);
+        Ok(())
     }
 
     /// Adds a local item.
-    pub(crate) fn add_local(&mut self, item: LocalItem) -> Result<(), AllocFailed<LocalItem>>
+    pub(crate) fn add_local(&mut self, item: LocalItem) -> Result<(), AllocError>
         ensures { OnOk result (self.new ≡ record self.old {
           now = next_force self.old.now (items.Local item);
         }) }
     {
-        self.locals.push(item)
+        self.locals.push(item)?;
+        Ok(())
     }
 
     /// Ends the locals, as each main item does.
-    pub(crate) fn end_locals(&mut self)
-        ensures { self.new ≡ record self.old { now = record self.old.now { locals = [] } } }
+    pub(crate) fn end_locals(&mut self) -> Result<(), AllocError>
+        ensures { OnOk result (self.new ≡ record self.old {
+          now = record self.old.now { locals = [] };
+        }) }
     {
-        self.locals.clear();
+        self.journal.end_locals(&mut self.locals)
     }
 
     /// Keeps what is in force for the Pop of a Push.
-    pub(crate) fn push(&mut self, alloc: Global) -> Result<(), AllocError>
+    pub(crate) fn push(&mut self) -> Result<(), AllocError>
         ensures { OnOk result (self.new ≡ record self.old {
           kept = self.old.kept ++ self.old.now ∷ [];
         }) }
     {
-        let locals = Vec::from_slice(alloc, &self.locals)?;
-        self.kept.push(Kept {
-            globals: self.globals,
-            locals,
-        })?;
-        Ok(())
+        self.journal.push(self.locals.len())
     }
 
     /// Brings back what the last open Push kept, and answers whether a Push was open.
@@ -113,13 +108,16 @@ impl InForce {
         } }
         ensures none { result ≡ false → self.old.kept ≡ [] }
     {
-        match self.kept.pop() {
-            Some(kept) => {
-                self.globals = kept.globals;
-                self.locals = kept.locals;
-                true
+        while let Some(entry) = self.journal.undo() {
+            match entry {
+                Entry::Globals(old) => self.globals = old,
+                Entry::Locals(old) => self.locals = old,
+                Entry::Push(locals) => {
+                    self.locals.truncate(locals);
+                    return true;
+                }
             }
-            None => false,
         }
+        false
     }
 }

@@ -60,7 +60,7 @@ impl State {
         ensures err { IfErr result (λ e. IsFaultOf e (fault_in self.old item)) }
     {
         match item {
-            ItemType::Global(item) => self.take_global(alloc, item)?,
+            ItemType::Global(item) => self.take_global(item)?,
             ItemType::Local(item) => self.in_force.add_local(item)?,
             ItemType::Main(item) => self.take_main(alloc, item)?,
             ItemType::Long | ItemType::Reserved => {}
@@ -69,18 +69,18 @@ impl State {
     }
 
     /// A Push keeps what is in force, a Pop brings it back, any other item sets a value.
-    fn take_global(&mut self, alloc: Global, item: GlobalItem) -> Result<(), Fault>
+    fn take_global(&mut self, item: GlobalItem) -> Result<(), Fault>
         ensures ok { OnOk result (step self.old (ItemType.Global item) ≡ Ok self.new) }
         ensures err { IfErr result (λ e. IsFaultOf e (fault_in self.old (ItemType.Global item))) }
     {
         match item {
-            GlobalItem::Push => self.in_force.push(alloc)?,
+            GlobalItem::Push => self.in_force.push()?,
             GlobalItem::Pop => {
                 if !self.in_force.pop() {
                     return Err(Fault::TooManyPops);
                 }
             }
-            item => self.in_force.set(item),
+            item => self.in_force.set(item)?,
         }
         Ok(())
     }
@@ -97,7 +97,7 @@ impl State {
             MainItem::Collection(item) => self.open_collection(alloc, item)?,
             MainItem::EndCollection => self.close_collection()?,
         }
-        self.in_force.end_locals();
+        self.in_force.end_locals()?;
         Ok(())
     }
 

@@ -1,0 +1,13 @@
+use Rattle.std.proofs.Common.{◌≡◌, length}
+use Rattle.hidreport.specs.Parser.Journal.{Fits, undone}
+use Rattle.hidreport.proofs.parser.in_force.InForce.pop.Given as goal
+
+-- what was taken back so far changes nothing that is kept
+abbrev pub invariant-loop-entry : goal.invariant-loop-entry
+invariant-loop-entry l =
+    (undone l.self-inside.journal l.self-inside.globals l.self-inside.locals.items
+    ≡ undone l.initial.self-inside.journal l.initial.self-inside.globals l.initial.self-inside.locals.items)
+    × Fits l.self-inside.journal l.self-inside.locals.items
+
+abbrev pub decreases-loop-entry : goal.decreases-loop-entry
+decreases-loop-entry l = length l.self-inside.journal

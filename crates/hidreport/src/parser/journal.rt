@@ -1,0 +1,100 @@
+use crate::parser::globals::Globals;
+use hidreport_items::LocalItem;
+use std::alloc::{AllocError, Global};
+use std::marker::Model;
+use std::mem;
+
+/// What the changes inside open Pushes replaced, so that each Pop can take them back
+/// (Section 6.2.2.7). Outside every Push it is empty: nothing has to be taken back.
+#[derive(Debug, Drop)]
+pub(crate) struct Journal {
+    entries: Vec<Entry>,
+}
+
+/// What one change replaced, or where a Push stands.
+#[derive(Debug, Drop)]
+pub(crate) enum Entry {
+    /// A Push, and how many local items were in force there: those that are added behind it are
+    /// cut off again. Its Pop drops it, last of all that it takes back.
+    Push(usize),
+    /// The globals before one of them was set. The Pop brings them back and drops it.
+    Globals(Globals),
+    /// The local items that a main item ended, moved here. The Pop moves them back.
+    Locals(Vec<LocalItem>),
+}
+
+impl Model for Journal {
+    ghost use Rattle.std.specs.Prelude.{List, map, reverse};
+    ghost use Rattle.hidreport.specs.Parser.Journal.{Change, change_of};
+
+    ghost Value = { List Change };
+
+    ghost view = { λ j. reverse (map change_of j.entries.items) };
+}
+
+impl Journal {
+    ghost use Rattle.std.specs.Prelude.{◌≡◌, [], ◌∷◌, Some, None, true, false, IfSome, OnErr, OnOk, IsNone};
+    ghost use Rattle.hidreport.specs.Parser.Journal.{change_of, noted, Opened, WasGlobals, WasLocals};
+
+    /// No Push is open.
+    pub(crate) fn new(alloc: Global) -> Journal
+        ensures { result ≡ [] }
+    {
+        Journal {
+            entries: Vec::new(alloc),
+        }
+    }
+
+    /// Whether a Push is open.
+    pub(crate) fn is_open(&self) -> bool
+        ensures closed { result ≡ false → self.now ≡ [] }
+        ensures open { result ≡ true → self.now ≡ [] → ⊥ }
+    {
+        !self.entries.is_empty()
+    }
+
+    /// Opens a Push where so many local items are in force.
+    pub(crate) fn push(&mut self, locals: usize) -> Result<(), AllocError>
+        ensures ok { OnOk result (self.new ≡ Opened locals ∷ self.old) }
+        ensures err { OnErr result (self.new ≡ self.old) }
+    {
+        self.entries.push(Entry::Push(locals))?;
+        Ok(())
+    }
+
+    /// Remembers the globals before one is set, where a Push is open.
+    pub(crate) fn note_globals(&mut self, globals: Globals) -> Result<(), AllocError>
+        ensures ok { OnOk result (self.new ≡ noted (WasGlobals globals) self.old) }
+        ensures err { OnErr result (self.new ≡ self.old) }
+    {
+        if self.is_open() {
+            self.entries.push(Entry::Globals(globals))?;
+        }
+        Ok(())
+    }
+
+    /// Ends the local items. Where a Push is open they are moved into the journal.
+    pub(crate) fn end_locals(&mut self, locals: &mut Vec<LocalItem>) -> Result<(), AllocError>
+        ensures ok { OnOk result (self.new ≡ noted (WasLocals locals.old.items) self.old) }
+        ensures ended { OnOk result (locals.new.items ≡ []) }
+        ensures err { OnErr result ((self.new ≡ self.old) × (locals.new.items ≡ locals.old.items)) }
+    {
+        if !self.is_open() {
+            locals.clear();
+            return Ok(());
+        }
+        self.entries.reserve(1)?;
+        let alloc = *locals.allocator();
+        let ended = mem::replace(locals, Vec::new(alloc));
+        self.entries.push(Entry::Locals(ended))?;
+        Ok(())
+    }
+
+    /// Takes the newest entry; none where no Push is open.
+    pub(crate) fn undo(&mut self) -> Option<Entry>
+        ensures some { IfSome result (λ entry. self.old ≡ change_of entry ∷ self.new) }
+        ensures none { IsNone result → (self.old ≡ []) × (self.new ≡ []) }
+    {
+        self.entries.pop()
+    }
+}
