@@ -68,11 +68,12 @@ fn keep(case: Case, longest: usize, runs: &mut Vec<(Case, String)>) {
     }
 }
 
-/// A file with one table: the cases, each with its answer.
+/// A file with one table: the cases, each with its answer, a line of source for each.
 fn table(name: &str, cases: &[(Case, String)]) -> String {
     let mut text = format!("//! {HEAD}\npub static {name}: &str = \"\\\n");
     for (case, answer) in cases {
-        let _ = write!(text, "> {}\n{answer}", case.line());
+        let answer = answer.replace('\n', "\\n");
+        let _ = write!(text, "> {}\\n{answer}\\\n", case.line());
     }
     text + "\";\n"
 }
