@@ -51,7 +51,7 @@ fn push_copies_no_usages(rt: HostRuntime) -> Result<(), Fail> {
     Ok(())
 }
 
-// Usages that a main item ends are moved aside and back, and those of the collections' segments are not.
+// Usages that a main item ends inside a segment are moved aside and back, not copied.
 #[test]
 fn many_segments_behind_many_usages(rt: HostRuntime) -> Result<(), Fail> {
     let mut bytes = usages(rt.alloc(), 10_000)?;
