@@ -1,6 +1,6 @@
 -- A value fixes the bits that it is read from.
-use Rattle.std.proofs.Common.{◌≡◌, ◌↔◌, ℕ, zero, suc, ◌+◌, ◌-◌, ◌*◌, ◌^◌, ◌<◌, ◌≤◌, ◌⊎◌, inl, inr, Bool, true, false, cond, ◌||◌, nat_le, nat_lt, List, [], ◌∷◌, Option, None, Some, Result, Ok, Err, refl, sym, ap, ◌∙◌, subst, arith, add-one}
-use Rattle.std.specs.Prelude.{pos, negsuc, ◌-ℤ◌, ◌==◌, length}
+use Rattle.std.proofs.Common.{◌≡◌, ◌↔◌, ℕ, zero, suc, ◌+◌, ◌-◌, ◌*◌, ◌^◌, ◌<◌, ◌≤◌, ◌⊎◌, inl, inr, Bool, true, false, cond, ◌||◌, nat_le, nat_lt, List, [], ◌∷◌, Option, None, Some, Result, Ok, Err, refl, sym, ap, ◌∙◌, subst, arith}
+use Rattle.std.specs.Prelude.{pos, ◌-ℤ◌, ◌==◌, length}
 use Rattle.std.proofs.Math.Pow.{pow_mono}
 use Rattle.std.proofs.Math.Nat.{mul-add}
 use Rattle.std.proofs.lemmas.Bool.Decides.{nat_tests}
@@ -11,20 +11,7 @@ use Rattle.hidreport.specs.Reading.{ValueRecord, before_values, element, element
 use Rattle.hidreport.specs.Records.{FieldRecord, VariableRecord, ArrayRecord, ConstantRecord}
 use Rattle.hidreport.specs.Bits.{AgreeOn, FixesBits, covered}
 use Rattle.hidreport.specs.Tiling.{place_of}
-use Rattle.hidreport.proofs.BitLemmas.{bit_added}
-
-bit-small : (bytes : List ℕ) (n : ℕ) → bit bytes n < 2
-bit-small bytes n = grind (arith, common_steps)
-
-pub sum-small : (bytes : List ℕ) (s w : ℕ) → sum_of_bits bytes s w < 2 ^ w
-sum-small bytes s zero = omega arith
-sum-small bytes s (suc w) =
-    subst (λ n. sum_of_bits bytes s w + bit bytes (s + w) * 2 ^ w < 2 ^ n) (add-one w) (bit_added (sum_of_bits bytes s w) (bit bytes (s + w)) w (sum-small bytes s w) (bit-small bytes (s + w)))
-
-zero-or-one : (b : ℕ) → b < 2 → (b ≡ 0) ⊎ (b ≡ 1)
-zero-or-one zero lt = inl refl
-zero-or-one (suc zero) lt = inr refl
-zero-or-one (suc (suc b)) lt = absurd (omega (arith, lt))
+use Rattle.hidreport.proofs.BitLemmas.{below-word, bit-small, plain-word, sum-small, zero-or-one}
 
 -- a number below P, and P once or not at all: the sum tells both
 abbrev Told : ℕ → ℕ → ℕ → ℕ → Type 0
@@ -63,18 +50,6 @@ sum-same bytes other s (suc w) agree =
     ∙ ap (λ n. sum_of_bits other s w + n * 2 ^ w) (agree w (omega arith))
 
 -- a signed value as 32 bits
-
-below-word : (x p : ℕ) → x < p → as_word (pos x -ℤ pos p) ≡ 2 ^ 32 - (p - x)
-below-word x zero lt = absurd (omega (arith, lt))
-below-word x (suc p) lt =
-    let t : nat_lt x (suc p) ≡ true = grind (arith, nat_tests) in
-    ap (λ b. as_word (cond b (negsuc (suc p - suc x)) (pos (x - suc p)))) t
-    ∙ ap (λ n. 2 ^ 32 - n) (let n : suc p - suc x + 1 ≡ suc p - x = omega (arith, lt) in n)
-
--- nothing taken away
-plain-word : (x P : ℕ) → as_word (pos x -ℤ pos (0 * P)) ≡ x
-plain-word x P = let none : 0 * P ≡ 0 = omega arith in ap (λ n. as_word (pos x -ℤ pos n)) none ∙ (let e : x + 0 ≡ x = omega arith in e)
-
 signed-by : (x y P b c : ℕ) → (b ≡ 0) ⊎ (b ≡ 1) → (c ≡ 0) ⊎ (c ≡ 1) → x < P → y < P → P ≤ 2 ^ 31
     → as_word (pos x -ℤ pos (b * P)) ≡ as_word (pos y -ℤ pos (c * P)) → Told x y b c
 signed-by x y P b c (inl p) (inl q) u v le e =

@@ -53,6 +53,8 @@ elements_from-error first end count s bytes more j errors.OutOfBounds within h =
 elements_from-error first end count s bytes more j errors.MismatchingReportId within h =
     let other = element_refusal first end count s bytes j _ h in cc
 elements_from-error first end count s bytes more j errors.OutOfMemory within h = tt
+elements_from-error first end count s bytes more j (errors.BudgetExceeded offset) within h =
+    let other = element_refusal first end count s bytes j _ h in cc
 
 -- one more at the end
 before_values-next : (a : Result ValueRecord Refusal) (b c : Result (List ValueRecord) Refusal) (xs : List ValueRecord) (x : ValueRecord) → before_values a b ≡ Ok xs

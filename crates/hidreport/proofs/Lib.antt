@@ -1,6 +1,7 @@
 pub mod LookupLemmas
 pub mod BitLaws
 pub mod BitLemmas
+pub mod WordLemmas
 pub mod Walk
 pub mod Reports
 pub mod IndexedLemmas
@@ -10,6 +11,8 @@ pub mod LevelLemmas
 pub mod OpenLemmas
 pub mod WalkLemmas
 pub mod AllKept
+pub mod BudgetBounds
+pub mod BudgetWalk
 pub mod TilingLemmas
 pub mod TilingWalk
 pub mod UsageLemmas
@@ -17,6 +20,7 @@ pub mod ReportList
 pub mod FieldLemmas
 pub mod DataLemmas
 pub mod OwnReports
+pub mod WeightLemmas
 pub mod ParseLemmas
 pub mod RangeLemmas
 pub mod ElementLemmas

@@ -1,22 +1,25 @@
 -- From the walk over the entries to the answer.
-use Rattle.std.proofs.Common.{◌≡◌, ◌≢◌, ℕ, zero, suc, ◌+◌, ◌<◌, ◌≤◌, List, [], ◌∷◌, length, get_or, drop, map, Option, None, Some, IfSome, Result, Ok, Err, refl, sym, ap, ◌∙◌, subst, arith, add-one}
+use Rattle.std.proofs.Common.{◌≡◌, ◌≢◌, ℕ, zero, suc, ◌+◌, ◌<◌, ◌≤◌, false, List, [], ◌∷◌, length, get_or, drop, map, Option, None, Some, IfSome, Result, Ok, Err, refl, sym, ap, ◌∙◌, subst, arith, add-one}
 use Rattle.hidreport_items.specs.Answer.{Fault as ReadFault}
 use Rattle.hidreport_items.specs.Spelling.{item_of}
 use Rattle.hidreport_items.specs.declared.item.ItemType.{ItemType}
-use Rattle.hidreport_lists.specs.Answer.{Refusal, InvalidAt, Bounds, Refuses}
+use Rattle.hidreport_lists.specs.Answer.{Refusal, InvalidAt, Bounds, OverBudget, Refuses}
 use Rattle.hidreport_lists.specs.Entry.{Entry}
 use Rattle.hidreport_lists.specs.Itemising.{itemise, as_refusal}
 use Rattle.hidreport_lists.specs.Messages.{grammar_message}
 use Rattle.hidreport_lists.specs.declared.error.ParserError.{ParserError}
 use Rattle.hidreport_lists.specs.declared.error.ParserError.TheVariants as errors
-use Rattle.hidreport.specs.InForce.{force}
+use Rattle.hidreport.specs.Budget.{parse_items_within, parse_within}
+use Rattle.hidreport.specs.InForce.{first_of, force}
 use Rattle.hidreport.specs.MeaningFault.{MeaningFault}
-use Rattle.hidreport.specs.Parser.Machine.{Held, fault_in, next_held, unless_fault, step, go_on, nothing_held, walk}
-use Rattle.hidreport.specs.Meaning.{meaning, parse, parse_items, at_offset, offset_at, refusal_at}
+use Rattle.hidreport.specs.Parser.Budget.{is_past, left_behind, past_fault, stop_in, walk_within, weight_in}
+use Rattle.hidreport.specs.Parser.Machine.{Held, all_kept, fault_in, next_held, unless_fault, step, go_on, nothing_held}
+use Rattle.hidreport.specs.Meaning.{parse, parse_items, at_offset, offset_at, refusal_at}
 use Rattle.hidreport.specs.Records.{DescriptorRecord}
 use Rattle.hidreport.specs.Parser.Refusals.{IsFaultOf, IsRefusal, fault_named}
 use Rattle.hidreport.specs.declared.parser.fault.Fault.{Fault}
 use Rattle.hidreport.proofs.AllKept.{walk-meaning}
+use Rattle.hidreport.proofs.BudgetWalk.{walk-unlimited, walk-within}
 
 -- the items of the entries
 abbrev pub items_of : List Entry → List ItemType
@@ -38,31 +41,43 @@ drop-end [] (suc i) le = refl
 drop-end (x ∷ xs) zero le = absurd (omega arith)
 drop-end (x ∷ xs) (suc i) le = let less : length xs ≤ i = omega arith in drop-end xs i less
 
--- the meaning is what the walk over the rest gives
-meaning-walked : (entries : List Entry) (i : ℕ) (h : Held)
-    → walk h i (drop i (items_of entries)) ≡ walk nothing_held 0 (items_of entries) → meaning (items_of entries) ≡ walk h i (drop i (items_of entries))
-meaning-walked entries i h walked = sym (walk-meaning (items_of entries)) ∙ sym walked
+abbrev step_of : Result Held MeaningFault → Result Held MeaningFault
+step_of r = r
+
+-- an item that stops the walk neither by a fault nor by its weight
+goes-on : (left : Option ℕ) (h next : Held) (x : ItemType) (o : Option MeaningFault) → fault_in h x ≡ o → step h x ≡ Ok next → is_past left (weight_in h x) ≡ false
+    → unless_fault (stop_in left h x) (next_held h x) ≡ Ok next
+goes-on left h next x None faultless stepped within =
+    ap (λ o. unless_fault (first_of o (past_fault (is_past left (weight_in h x)))) (next_held h x)) faultless
+    ∙ ap (λ b. unless_fault (past_fault b) (next_held h x)) within
+    ∙ ap (λ o. unless_fault o (next_held h x)) (sym faultless) ∙ stepped
+goes-on left h next x (Some f) fault stepped within =
+    let bad : step_of (Err f) ≡ step_of (Ok next) = sym (ap (λ o. unless_fault o (next_held h x)) fault) ∙ stepped in cc
 
 -- one item further
-pub walked-on : (entries : List Entry) (i : ℕ) (e : Entry) (h next : Held) → i < length entries → e ≡ get_or entries i e → step h e.item ≡ Ok next
-    → walk h i (drop i (items_of entries)) ≡ walk next (i + 1) (drop (i + 1) (items_of entries))
-walked-on entries i e h next lt here stepped =
-    ap (walk h i) (drop-item entries i e lt here) ∙ ap (λ r. go_on r i (λ n. walk n (i + 1) (drop (suc i) (items_of entries)))) stepped
-    ∙ ap (λ k. walk next (i + 1) (drop k (items_of entries))) (sym (add-one i))
+pub walked-on : (entries : List Entry) (i : ℕ) (e : Entry) (left behind : Option ℕ) (h next : Held) → i < length entries → e ≡ get_or entries i e
+    → step h e.item ≡ Ok next → is_past left (weight_in h e.item) ≡ false → behind ≡ left_behind left (weight_in h e.item)
+    → walk_within left h i (drop i (items_of entries)) ≡ walk_within behind next (i + 1) (drop (i + 1) (items_of entries))
+walked-on entries i e left behind h next lt here stepped within is =
+    ap (walk_within left h i) (drop-item entries i e lt here)
+    ∙ ap (λ r. go_on r i (λ n. walk_within (left_behind left (weight_in h e.item)) n (i + 1) (drop (suc i) (items_of entries)))) (goes-on left h next e.item (fault_in h e.item) refl stepped within)
+    ∙ ap (λ l. walk_within l next (i + 1) (drop (suc i) (items_of entries))) (sym is)
+    ∙ ap (λ k. walk_within behind next (i + 1) (drop k (items_of entries))) (sym (add-one i))
 
--- a fault of an item is the meaning
-pub meaning-fault : (entries : List Entry) (i : ℕ) (e : Entry) (h : Held) (f : MeaningFault) → i < length entries → e ≡ get_or entries i e
-    → walk h i (drop i (items_of entries)) ≡ walk nothing_held 0 (items_of entries)
-    → fault_in h e.item ≡ Some f → at_offset entries (meaning (items_of entries)) ≡ Err (refusal_at e.offset f)
-meaning-fault entries i e h f lt here walked fault =
-    ap (at_offset entries) (meaning-walked entries i h walked ∙ ap (walk h i) (drop-item entries i e lt here)
-    ∙ ap (λ o. go_on (unless_fault o (next_held h e.item)) i (λ n. walk n (i + 1) (drop (suc i) (items_of entries)))) fault)
+-- what stops the walk at an item is the answer
+pub meaning-fault : (entries : List Entry) (limit : Option ℕ) (i : ℕ) (e : Entry) (left : Option ℕ) (h : Held) (f : MeaningFault) → i < length entries → e ≡ get_or entries i e
+    → walk_within left h i (drop i (items_of entries)) ≡ walk_within limit nothing_held 0 (items_of entries)
+    → stop_in left h e.item ≡ Some f → at_offset entries (walk_within limit nothing_held 0 (items_of entries)) ≡ Err (refusal_at e.offset f)
+meaning-fault entries limit i e left h f lt here walked stops =
+    ap (at_offset entries) (sym walked ∙ ap (walk_within left h i) (drop-item entries i e lt here)
+    ∙ ap (λ o. go_on (unless_fault o (next_held h e.item)) i (λ n. walk_within (left_behind left (weight_in h e.item)) n (i + 1) (drop (suc i) (items_of entries)))) stops)
     ∙ ap (λ o. Err (refusal_at o f)) (offset-at entries i e lt here)
 
--- at the end the meaning is what is held
-pub meaning-end : (entries : List Entry) (i : ℕ) (h : Held) → length entries ≤ i
-    → walk h i (drop i (items_of entries)) ≡ walk nothing_held 0 (items_of entries) → at_offset entries (meaning (items_of entries)) ≡ Ok h.descriptor
-meaning-end entries i h end walked = ap (at_offset entries) (meaning-walked entries i h walked ∙ ap (walk h i) (drop-end entries i end))
+-- at the end the answer is what is held
+pub meaning-end : (entries : List Entry) (limit : Option ℕ) (i : ℕ) (left : Option ℕ) (h : Held) → length entries ≤ i
+    → walk_within left h i (drop i (items_of entries)) ≡ walk_within limit nothing_held 0 (items_of entries)
+    → at_offset entries (walk_within limit nothing_held 0 (items_of entries)) ≡ Ok h.descriptor
+meaning-end entries limit i left h end walked = ap (at_offset entries) (sym walked ∙ ap (walk_within left h i) (drop-end entries i end))
 
 -- an error that says a refusal is every answer that is this refusal
 pub refuses-as : {A : Type 0} (e : ParserError) (r : Refusal) (answer : Result A Refusal) → IsRefusal e r → answer ≡ Err r → Refuses e answer
@@ -70,6 +85,7 @@ refuses-as (errors.InvalidData offset message) r answer says is = let same : r �
 refuses-as errors.OutOfBounds r answer says is = let same : r ≡ Bounds = cc in is ∙ ap Err same
 refuses-as errors.MismatchingReportId r answer says is = let same : r ≡ _ = cc in is ∙ ap Err same
 refuses-as errors.OutOfMemory r answer says is = tt
+refuses-as (errors.BudgetExceeded offset) r answer says is = let same : r ≡ OverBudget offset = cc in is ∙ ap Err same
 
 -- the parser's fault at its item's offset is the answer
 refuses-named : {A : Type 0} (o : Option MeaningFault) (offset : ℕ) (e : ParserError) (found : Option MeaningFault) (answer : Result A Refusal)
@@ -92,12 +108,14 @@ ok_refuses (errors.InvalidData offset message) x answer h = cc
 ok_refuses errors.OutOfBounds x answer h = cc
 ok_refuses errors.MismatchingReportId x answer h = cc
 ok_refuses errors.OutOfMemory x answer h = tt
+ok_refuses (errors.BudgetExceeded offset) x answer h = cc
 
 err_refuses : (e : ParserError) (r : Refusal) → Refuses {A = List Entry} e (Err r) → Refuses {A = DescriptorRecord} e (Err r)
 err_refuses (errors.InvalidData offset message) r h = let same : r ≡ InvalidAt offset _ = cc in ap Err same
 err_refuses errors.OutOfBounds r h = let same : r ≡ Bounds = cc in ap Err same
 err_refuses errors.MismatchingReportId r h = let same : r ≡ _ = cc in ap Err same
 err_refuses errors.OutOfMemory r h = tt
+err_refuses (errors.BudgetExceeded offset) r h = let same : r ≡ OverBudget offset = cc in ap Err same
 
 grammar-refuses : (e : ParserError) (r : Result (List Entry) (ℕ × ReadFault)) → Refuses e (as_refusal r) → Refuses e (parse_items force r)
 grammar-refuses e (Ok entries) h = ok_refuses e entries (parse_items force (Ok entries)) h
@@ -111,7 +129,28 @@ items_ok : (r : Result (List Entry) (ℕ × ReadFault)) (entries : List Entry) �
 items_ok (Ok xs) entries h = let same : xs ≡ entries = cc in ap Ok same
 items_ok (Err fault) entries h = cc
 
--- else the meaning of the items is
+-- else the walk over the items is
 pub parse-meaning : (bytes : List ℕ) (entries : List Entry) → bytes ≢ [] → as_refusal (itemise item_of bytes) ≡ Ok entries
-    → parse bytes ≡ at_offset entries (meaning (items_of entries))
-parse-meaning bytes entries some h = parse-some bytes some ∙ ap (parse_items force) (items_ok (itemise item_of bytes) entries h)
+    → parse bytes ≡ at_offset entries (walk_within None nothing_held 0 (items_of entries))
+parse-meaning bytes entries some h =
+    parse-some bytes some ∙ ap (parse_items force) (items_ok (itemise item_of bytes) entries h)
+    ∙ ap (at_offset entries) (sym (walk-unlimited all_kept nothing_held 0 (items_of entries) ∙ walk-meaning (items_of entries)))
+
+-- the same under a limit
+
+within-some : (limit : ℕ) (bytes : List ℕ) → bytes ≢ [] → parse_within limit bytes ≡ parse_items_within force limit (itemise item_of bytes)
+within-some limit [] some = absurd (some refl)
+within-some limit (b ∷ bs) some = refl
+
+grammar-within : (limit : ℕ) (e : ParserError) (r : Result (List Entry) (ℕ × ReadFault)) → Refuses e (as_refusal r) → Refuses e (parse_items_within force limit r)
+grammar-within limit e (Ok entries) h = ok_refuses e entries (parse_items_within force limit (Ok entries)) h
+grammar-within limit e (Err fault) h = err_refuses e (InvalidAt fault.0 (grammar_message fault.1)) h
+
+pub within-grammar : (limit : ℕ) (bytes : List ℕ) (e : ParserError) → bytes ≢ [] → Refuses e (as_refusal (itemise item_of bytes)) → Refuses e (parse_within limit bytes)
+within-grammar limit bytes e some h = subst (λ (r : Result DescriptorRecord Refusal). Refuses e r) (sym (within-some limit bytes some)) (grammar-within limit e (itemise item_of bytes) h)
+
+pub within-meaning : (limit : ℕ) (bytes : List ℕ) (entries : List Entry) → bytes ≢ [] → as_refusal (itemise item_of bytes) ≡ Ok entries
+    → parse_within limit bytes ≡ at_offset entries (walk_within (Some limit) nothing_held 0 (items_of entries))
+within-meaning limit bytes entries some h =
+    within-some limit bytes some ∙ ap (parse_items_within force limit) (items_ok (itemise item_of bytes) entries h)
+    ∙ ap (at_offset entries) (sym (walk-within limit (items_of entries)))

@@ -90,12 +90,12 @@ counts-held force kept items k h x leveled held =
     let s : start_of force (data_of x) items k ≡ start_for (data_of x) h = start-for force kept items k h (data_of x) held in
     cc
 
-fault-held : (force : ℕ → Force) (kept : ℕ → List Force) (items : List ItemType) (k : ℕ) (h : Held) (x : ItemType) → ((n : ℕ) → length (kept n) ≡ level items n) → Holds force kept items k h
+pub fault-held : (force : ℕ → Force) (kept : ℕ → List Force) (items : List ItemType) (k : ℕ) (h : Held) (x : ItemType) → ((n : ℕ) → length (kept n) ≡ level items n) → Holds force kept items k h
     → fault force items k x ≡ item_fault (counts_in h x) h.force x
 fault-held force kept items k h x leveled held =
     ap (λ n. item_fault n (force k) x) (counts-held force kept items k h x leveled held) ∙ ap (λ f. item_fault (counts_in h x) f x) (sym held.in_force)
 
-fields-held : (force : ℕ → Force) (kept : ℕ → List Force) (items : List ItemType) (k : ℕ) (h : Held) (d : Direction) (x : ItemType) → Holds force kept items k h
+pub fields-held : (force : ℕ → Force) (kept : ℕ → List Force) (items : List ItemType) (k : ℕ) (h : Held) (d : Direction) (x : ItemType) → Holds force kept items k h
     → fields_at force d items (k, x) ≡ fields_of h.force h.opened h.fields (start_in d h) (data_of x) (extent h.force)
 fields-held force kept items k h d x held =
     ap (λ cs. fields_of (force k) cs (fields_before force items k) (start force d items k) (data_of x) (extent (force k))) (sym held.inside)
@@ -299,7 +299,7 @@ pop-deep h item.Long e faultless = cc
 pop-deep h item.Reserved e faultless = cc
 
 -- what is held goes on by one item
-holds-next : (restored : Restoring) (force : ℕ → Force) (kept : ℕ → List Force) (items front rest : List ItemType) (h : Held) (x : ItemType) → Follows restored force kept items
+pub holds-next : (restored : Restoring) (force : ℕ → Force) (kept : ℕ → List Force) (items front rest : List ItemType) (h : Held) (x : ItemType) → Follows restored force kept items
     → items ≡ front ++ x ∷ rest → Holds force kept items (length front) h → fault_in h x ≡ None → Holds force kept items (suc (length front)) (next_held_by restored h x)
 holds-next restored force kept items front rest h x follows e held faultless =
     let k = length front in
@@ -339,7 +339,7 @@ descriptor-of r i o f p q s =
     let first : r ≡ record { input = i; output = r.output; feature = r.feature } = ap (λ a. record { input = a; output = r.output; feature = r.feature }) p in
     first ∙ ap (λ a. record { input = i; output = a; feature = r.feature }) q ∙ ap (λ a. record { input = i; output = o; feature = a }) s
 
-at-end : (force : ℕ → Force) (kept : ℕ → List Force) (items : List ItemType) (h : Held) → Holds force kept items (length items) h → h.descriptor ≡ descriptor force items
+pub at-end : (force : ℕ → Force) (kept : ℕ → List Force) (items : List ItemType) (h : Held) → Holds force kept items (length items) h → h.descriptor ≡ descriptor force items
 at-end force kept items h held = descriptor-of h.descriptor (reports force Input items) (reports force Output items) (reports force Feature items) (held.listed Input) (held.listed Output) (held.listed Feature)
 
 walk-from : (restored : Restoring) (force : ℕ → Force) (kept : ℕ → List Force) (items front rest : List ItemType) (h : Held) → Follows restored force kept items
@@ -360,7 +360,7 @@ walk-from restored force kept items front (x ∷ xs) h follows e held =
     subst (λ n. walk_by restored (next_held_by restored h x) n xs ≡ unless_first (first_fault force items (enumerate_from n xs)) (descriptor force items)) size_one
     (walk-from restored force kept items (front ++ x ∷ []) xs (next_held_by restored h x) follows more next))
 
-holds-nothing : (restored : Restoring) (force : ℕ → Force) (kept : ℕ → List Force) (items : List ItemType) → Follows restored force kept items → Holds force kept items 0 nothing_held
+pub holds-nothing : (restored : Restoring) (force : ℕ → Force) (kept : ℕ → List Force) (items : List ItemType) → Follows restored force kept items → Holds force kept items 0 nothing_held
 holds-nothing restored force kept items follows = record {
   in_force = follows.begins;
   rests = rests-nothing items;

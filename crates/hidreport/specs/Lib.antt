@@ -1,5 +1,7 @@
 pub mod BitValue
+pub mod CollectionUsages
 pub mod Bits
+pub mod Budget
 pub mod Faults
 pub mod Fields
 pub mod InForce
@@ -20,6 +22,7 @@ pub mod UsageNumber
 pub mod UsageRange
 pub mod Visibility
 pub mod Views
+pub mod Weight
 -- what public clauses cite of the crates below, so that a user names this one alone
 pub use Rattle.hidreport_types.specs.UnitTable
 pub use Rattle.hidreport_types.specs.UnitText

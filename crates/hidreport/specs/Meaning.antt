@@ -4,7 +4,7 @@ use Rattle.std.specs.List.{enumerate_from, list_any}
 use Rattle.hidreport_items.specs.Answer.{Fault}
 use Rattle.hidreport_items.specs.Spelling.{item_of}
 use Rattle.hidreport_items.specs.declared.item.ItemType.{ItemType}
-use Rattle.hidreport_lists.specs.Answer.{Refusal, InvalidAt, Bounds}
+use Rattle.hidreport_lists.specs.Answer.{Refusal, InvalidAt, Bounds, OverBudget}
 use Rattle.hidreport_lists.specs.Entry.{Entry}
 use Rattle.hidreport_lists.specs.Itemising.{itemise}
 use Rattle.hidreport_lists.specs.Messages.{grammar_message}
@@ -13,7 +13,7 @@ use Rattle.hidreport.specs.Fields.{fields_at}
 use Rattle.hidreport.specs.InForce.{Force, force}
 use Rattle.hidreport.specs.Kinds.{Indexed, Direction, Input, Output, Feature}
 use Rattle.hidreport.specs.Making.{key, makers, makers_of, same_key}
-use Rattle.hidreport.specs.MeaningFault.{MeaningFault, text}
+use Rattle.hidreport.specs.MeaningFault.{MeaningFault, PastBudget, text}
 use Rattle.hidreport.specs.Places.{end_before}
 use Rattle.hidreport.specs.Records.{ReportRecord, DescriptorRecord}
 
@@ -88,6 +88,7 @@ refusal_by offset None = Bounds
 
 -- a fault of meaning as a parser says it
 abbrev pub refusal_at : ℕ → MeaningFault → Refusal
+refusal_at offset PastBudget = OverBudget offset
 refusal_at offset fault = refusal_by offset (text fault)
 
 -- a fault with its item's offset in place of its index

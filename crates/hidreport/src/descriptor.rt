@@ -1,16 +1,18 @@
-ghost use Rattle.std.specs.Prelude.{◌≡◌, ◌≢◌, ◌+◌, ◌++◌, [], Err, IfOk, IfSome, List, length, map, option_copied};
+ghost use Rattle.std.specs.Prelude.{◌≡◌, ◌≢◌, ◌≤◌, ◌+◌, ◌++◌, [], Err, Ok, IfOk, IfSome, List, length, map, option_copied};
 ghost use Rattle.hidreport_items.specs.Spelling.{item_of};
 ghost use Rattle.hidreport_items.specs.declared.item.ItemType.{ItemType};
 ghost use Rattle.hidreport_lists.specs.Answer.{Answers, Mismatch};
 ghost use Rattle.hidreport_lists.specs.Entry.{Entry};
 ghost use Rattle.hidreport_lists.specs.Itemising.{itemise, Itemises};
 ghost use Rattle.hidreport_lists.specs.Rebuilt.{items_of, kept, rebuilt, respelled};
+ghost use Rattle.hidreport.specs.Budget.{parse_within};
 ghost use Rattle.hidreport.specs.Lookup.{find_report};
 ghost use Rattle.hidreport.specs.Meaning.{at_offset, meaning, parse};
 ghost use Rattle.hidreport.specs.Reading.{reads};
 ghost use Rattle.hidreport.specs.Records.{FieldRecord};
 ghost use Rattle.hidreport.specs.Segments.{IsMatched, moved, with_segment};
 ghost use Rattle.hidreport.specs.Tiling.{Each, IsTiled};
+ghost use Rattle.hidreport.specs.Weight.{descriptor_weight};
 
 use crate::field::data_item::Direction;
 use crate::parser;
@@ -90,7 +92,36 @@ impl ReportDescriptor {
             return Err(parser::empty_descriptor(alloc));
         }
         let items = ReportDescriptorItems::try_from(alloc, bytes)?;
-        let reports = parser::reports_of(alloc, items.as_slice())?;
+        let reports = parser::reports_of(alloc, items.as_slice(), None)?;
+        Ok(ReportDescriptor { reports })
+    }
+
+    /// The same under a budget, for bytes that nobody vouches for: it lists at most `limit` of what
+    /// a descriptor can ask for in a few bytes.
+    ///
+    /// A field counts 1, with the usages of an array and, for each collection that the field
+    /// carries, 1 and the usages of that; padding counts 1 alone. So does what an item opens: 1 for
+    /// a collection, and its usages. Before anything of an item is listed, what it counts is known
+    /// from the numbers in force; with the first item that makes the sum pass `limit` the answer is
+    /// `BudgetExceeded` with that item's offset. It is as `try_from` says where the bytes are
+    /// empty or have an item that can't be read, where no item passes the limit, and where the
+    /// first fault stands at that item or before it. What is read counts at most `limit` together
+    /// (`bounded`).
+    pub fn try_from_within(
+        alloc: Global,
+        bytes: &[u8],
+        limit: usize,
+    ) -> Result<ReportDescriptor, ParserError>
+        ensures exact { Answers result (parse_within limit bytes.now) }
+        ensures bounded { IfOk result (λ descriptor. descriptor_weight descriptor ≤ limit) }
+        ensures plain { IfOk result (λ descriptor. parse bytes.now ≡ Ok descriptor) }
+        ensures tiled { IfOk result (λ descriptor. IsTiled descriptor) }
+    {
+        if bytes.is_empty() {
+            return Err(parser::empty_descriptor(alloc));
+        }
+        let entries = ReportDescriptorItems::try_from(alloc, bytes)?;
+        let reports = parser::reports_of(alloc, entries.as_slice(), Some(limit))?;
         Ok(ReportDescriptor { reports })
     }
 

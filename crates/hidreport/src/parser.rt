@@ -2,19 +2,26 @@
 ghost use Rattle.std.specs.Prelude.{◌≡◌, map};
 ghost use Rattle.hidreport_lists.specs.Answer.{Answers, InvalidAt};
 ghost use Rattle.hidreport_lists.specs.Entry.{Entry};
-ghost use Rattle.hidreport.specs.Meaning.{at_offset, empty_descriptor, meaning};
+ghost use Rattle.hidreport.specs.Meaning.{at_offset, empty_descriptor};
+ghost use Rattle.hidreport.specs.Parser.Budget.{walk_within};
+ghost use Rattle.hidreport.specs.Parser.Machine.{nothing_held};
 ghost use Rattle.hidreport.specs.Parser.Refusals.{IsRefusal};
 
+mod budget;
 mod fault;
 mod globals;
 mod in_force;
 mod journal;
 mod layout;
+mod open_collection;
 mod open_collections;
+mod slot;
 mod state;
+mod usage_bounds;
 mod usages;
 
 use crate::report::reports::Reports;
+use budget::Budget;
 use fault::invalid_data;
 use hidreport_lists::{Item, ParserError, ReportDescriptorItem};
 use state::State;
@@ -27,17 +34,20 @@ pub(crate) fn empty_descriptor(alloc: Global) -> ParserError
     invalid_data(alloc, 0, "Empty report descriptor")
 }
 
-/// The reports that the items announce.
+/// The reports that the items announce, where listing them weighs no more than the limit, if any.
 pub(crate) fn reports_of(
     alloc: Global,
     items: &[ReportDescriptorItem],
+    limit: Option<usize>,
 ) -> Result<Reports, ParserError>
     ensures { Answers result
-        (at_offset items.now (meaning (map (λ (e : Entry). e.item) items.now))) }
+        (at_offset items.now
+        (walk_within limit nothing_held 0 (map (λ (e : Entry). e.item) items.now))) }
 {
     let mut state = State::new(alloc);
+    let mut budget = Budget::new(limit);
     for entry in items {
-        match state.take(alloc, entry.item().item_type()) {
+        match state.take(alloc, &mut budget, entry.item().item_type()) {
             Ok(()) => {}
             Err(fault) => return Err(fault.at(alloc, entry.offset())),
         }

@@ -3,3 +3,4 @@ pub mod Mouse
 pub mod Rebuilt
 pub mod Summary
 pub mod Tiled
+pub mod Within

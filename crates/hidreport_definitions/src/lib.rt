@@ -2,6 +2,7 @@
 #![tactic(auto)]
 
 pub mod attributes;
+pub mod budgets;
 pub mod collections;
 pub mod faults;
 pub mod items;

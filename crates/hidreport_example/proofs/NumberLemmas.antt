@@ -3,7 +3,7 @@ use Rattle.std.proofs.Common.{◌≡◌, ℕ, suc, ◌+◌, ◌<◌, List, [], �
 use Rattle.std.proofs.Math.Seq.{drop-cons}
 use Rattle.std.proofs.lemmas.List.{map-append, map_more, take-append-drop}
 use Rattle.std.specs.Prelude.{ℤ}
-use Rattle.hidreport.specs.Answer.{Refusal, InvalidAt, Bounds, Mismatch, Refuses}
+use Rattle.hidreport.specs.Answer.{Refusal, InvalidAt, Bounds, Mismatch, OverBudget, Refuses}
 use Rattle.hidreport.specs.ParserError.{ParserError}
 use Rattle.hidreport.specs.ParserError.TheVariants as errors
 use Rattle.hidreport.specs.Views.{field_record}
@@ -63,3 +63,4 @@ values-fail bytes fs i x (errors.InvalidData offset message) ns lt here so_far r
 values-fail bytes fs i x errors.OutOfBounds ns lt here so_far r = fails-with bytes fs i x Bounds ns lt here so_far r
 values-fail bytes fs i x errors.MismatchingReportId ns lt here so_far r = fails-with bytes fs i x Mismatch ns lt here so_far r
 values-fail bytes fs i x errors.OutOfMemory ns lt here so_far r = tt
+values-fail bytes fs i x (errors.BudgetExceeded offset) ns lt here so_far r = fails-with bytes fs i x (OverBudget offset) ns lt here so_far r

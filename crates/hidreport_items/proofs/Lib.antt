@@ -3,3 +3,4 @@ pub mod Texts
 pub mod Words
 pub mod FlagWords
 pub mod CanonicalLemmas
+pub mod Written

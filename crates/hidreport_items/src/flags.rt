@@ -1,12 +1,10 @@
 ghost use Rattle.std.specs.Prelude.{◌≡◌, not};
-ghost use Rattle.hidreport_items.specs.Answer.{GivesInPlace};
 ghost use Rattle.hidreport_items.specs.Flags.{Flags, flags_of};
+ghost use Rattle.hidreport_items.specs.InPlace.{told};
 ghost use Rattle.hidreport_items.specs.Spelling.{output_item};
 
-use crate::error::HidError;
-use crate::message::size_fault;
+use crate::item_fault::ItemFault;
 use crate::number::{is_flag_set, is_short_length, word};
-use std::alloc::Global;
 use std::marker::Model;
 
 /// The flags that Input, Output and Feature items share (Section 6.2.2.5).
@@ -151,14 +149,14 @@ impl Model for ItemFlags {
 
 impl ItemFlags {
     /// The flags that these data bytes spell, all nine.
-    pub(crate) fn from_data(alloc: Global, bytes: &[u8]) -> Result<ItemFlags, HidError>
-        ensures { GivesInPlace result (output_item bytes.now) }
+    pub(crate) fn from_data(bytes: &[u8]) -> Result<ItemFlags, ItemFault>
+        ensures { told result ≡ output_item bytes.now }
     {
         if bytes.is_empty() {
-            return Err(HidError::InsufficientData);
+            return Err(ItemFault::TooFew);
         }
         if !is_short_length(bytes.len()) {
-            return Err(size_fault(alloc, bytes.len()));
+            return Err(ItemFault::Length(bytes.len()));
         }
         Ok(ItemFlags::from_word(word(bytes)))
     }

@@ -1,10 +1,13 @@
 ghost use Rattle.hidreport_items.specs.Answer.{GivesInPlace, Writes};
+ghost use Rattle.hidreport_items.specs.InPlace.{told};
 ghost use Rattle.std.specs.Prelude.{◌≡◌};
 ghost use Rattle.hidreport_items.specs.Spelling.{global_item, read_with};
 ghost use Rattle.hidreport_items.specs.Writing.{global_bytes, global_prefix};
 
 use crate::error::HidError;
-use crate::message::size_fault;
+use crate::item_bytes::ItemBytes;
+use crate::item_fault::ItemFault;
+use crate::message::with_message;
 use crate::number::{is_short_length, signed, word};
 use crate::writing::{count, signed_item, unsigned, with_header};
 use hidreport_types::{
@@ -71,7 +74,7 @@ impl GlobalItem {
         let Some((header, data_bytes)) = bytes.split_first() else {
             return Err(HidError::InsufficientData);
         };
-        GlobalItem::from_parts(alloc, *header, data_bytes)
+        with_message(alloc, GlobalItem::from_parts(*header, data_bytes))
     }
 
     /// The header without its size code (Section 6.2.2.7); `0xC4` for `Reserved`.
@@ -104,33 +107,36 @@ impl GlobalItem {
     pub fn as_bytes(&self, alloc: Global) -> Result<Vec<u8>, HidError>
         ensures { Writes result (global_bytes self.now) }
     {
+        self.written().to_vec(alloc)
+    }
+
+    /// The bytes that are written for the item, in place.
+    pub(crate) fn written(&self) -> ItemBytes
+        ensures { result ≡ global_bytes self.now }
+    {
         match self {
-            GlobalItem::UsagePage(page) => unsigned(alloc, 0x04, u32::from(u16::from(page))),
-            GlobalItem::LogicalMinimum(bound) => signed_item(alloc, 0x14, i32::from(bound)),
-            GlobalItem::LogicalMaximum(bound) => signed_item(alloc, 0x24, i32::from(bound)),
-            GlobalItem::PhysicalMinimum(bound) => signed_item(alloc, 0x34, i32::from(bound)),
-            GlobalItem::PhysicalMaximum(bound) => signed_item(alloc, 0x44, i32::from(bound)),
-            GlobalItem::UnitExponent(exponent) => signed_item(alloc, 0x54, i32::from(exponent)),
-            GlobalItem::Unit(unit) => unsigned(alloc, 0x64, u32::from(unit)),
-            GlobalItem::ReportSize(size) => count(alloc, 0x74, usize::from(size)),
-            GlobalItem::ReportId(id) => with_header(alloc, 0x84, &[u8::from(id)]),
-            GlobalItem::ReportCount(number) => count(alloc, 0x94, usize::from(number)),
-            GlobalItem::Push => with_header(alloc, 0xa4, &[]),
-            GlobalItem::Pop => with_header(alloc, 0xb4, &[]),
-            GlobalItem::Reserved => with_header(alloc, 0xc4, &[]),
+            GlobalItem::UsagePage(page) => unsigned(0x04, u32::from(u16::from(page))),
+            GlobalItem::LogicalMinimum(bound) => signed_item(0x14, i32::from(bound)),
+            GlobalItem::LogicalMaximum(bound) => signed_item(0x24, i32::from(bound)),
+            GlobalItem::PhysicalMinimum(bound) => signed_item(0x34, i32::from(bound)),
+            GlobalItem::PhysicalMaximum(bound) => signed_item(0x44, i32::from(bound)),
+            GlobalItem::UnitExponent(exponent) => signed_item(0x54, i32::from(exponent)),
+            GlobalItem::Unit(unit) => unsigned(0x64, u32::from(unit)),
+            GlobalItem::ReportSize(size) => count(0x74, usize::from(size)),
+            GlobalItem::ReportId(id) => with_header(0x84, &[u8::from(id)]),
+            GlobalItem::ReportCount(number) => count(0x94, usize::from(number)),
+            GlobalItem::Push => with_header(0xa4, &[]),
+            GlobalItem::Pop => with_header(0xb4, &[]),
+            GlobalItem::Reserved => with_header(0xc4, &[]),
         }
     }
 
     /// The global item with this header and data.
-    pub(crate) fn from_parts(
-        alloc: Global,
-        header: u8,
-        bytes: &[u8],
-    ) -> Result<GlobalItem, HidError>
-        ensures { GivesInPlace result (global_item header bytes.now) }
+    pub(crate) fn from_parts(header: u8, bytes: &[u8]) -> Result<GlobalItem, ItemFault>
+        ensures { told result ≡ global_item header bytes.now }
     {
         if !is_short_length(bytes.len()) {
-            return Err(size_fault(alloc, bytes.len()));
+            return Err(ItemFault::Length(bytes.len()));
         }
         let number = word(bytes);
         match header & 0xfc {
@@ -141,7 +147,7 @@ impl GlobalItem {
             0x44 => Ok(GlobalItem::PhysicalMaximum(PhysicalMaximum::from(signed(bytes)))),
             0x54 => Ok(GlobalItem::UnitExponent(UnitExponent::from(signed(bytes)))),
             0x64 => Ok(GlobalItem::Unit(Unit::from(number))),
-            0x74 | 0x84 | 0x94 if bytes.is_empty() => Err(HidError::InsufficientData),
+            0x74 | 0x84 | 0x94 if bytes.is_empty() => Err(ItemFault::TooFew),
             0x74 => Ok(GlobalItem::ReportSize(ReportSize::from(number as usize))),
             0x84 => Ok(GlobalItem::ReportId(ReportId::from((number & 0xff) as u8))),
             0x94 => Ok(GlobalItem::ReportCount(ReportCount::from(number as usize))),

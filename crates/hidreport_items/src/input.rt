@@ -1,11 +1,15 @@
 ghost use Rattle.std.specs.Prelude.{◌≡◌, false};
 ghost use Rattle.hidreport_items.specs.Answer.{GivesInPlace, Writes};
+ghost use Rattle.hidreport_items.specs.InPlace.{told};
 ghost use Rattle.hidreport_items.specs.Spelling.{input_item, read_with};
 ghost use Rattle.hidreport_items.specs.Writing.{main_bytes};
 ghost use Rattle.hidreport_items.specs.declared.main_item.MainItem.TheVariants.{Input};
 
 use crate::error::HidError;
 use crate::flags::{ItemFlags, MainDataItem};
+use crate::item_bytes::ItemBytes;
+use crate::item_fault::ItemFault;
+use crate::message::with_message;
 use crate::writing::flags;
 use std::alloc::Global;
 use std::marker::Model;
@@ -43,7 +47,7 @@ impl InputItem {
         let Some((_header, data_bytes)) = bytes.split_first() else {
             return Err(HidError::InsufficientData);
         };
-        InputItem::from_data(alloc, data_bytes)
+        with_message(alloc, InputItem::from_data(data_bytes))
     }
 
     /// The item's bytes: the header, and the flags in one byte, or in two where it is of buffered
@@ -53,14 +57,21 @@ impl InputItem {
     pub fn as_bytes(&self, alloc: Global) -> Result<Vec<u8>, HidError>
         ensures { Writes result (main_bytes (Input self.now)) }
     {
-        flags(alloc, 0x80, self.flags)
+        self.written().to_vec(alloc)
+    }
+
+    /// The bytes that are written for the item, in place.
+    pub(crate) fn written(&self) -> ItemBytes
+        ensures { result ≡ main_bytes (Input self.now) }
+    {
+        flags(0x80, self.flags)
     }
 
     /// The item that these data bytes spell.
-    pub(crate) fn from_data(alloc: Global, bytes: &[u8]) -> Result<InputItem, HidError>
-        ensures { GivesInPlace result (input_item bytes.now) }
+    pub(crate) fn from_data(bytes: &[u8]) -> Result<InputItem, ItemFault>
+        ensures { told result ≡ input_item bytes.now }
     {
-        Ok(InputItem::from_flags(ItemFlags::from_data(alloc, bytes)?))
+        Ok(InputItem::from_flags(ItemFlags::from_data(bytes)?))
     }
 
     /// The item with these flags; it has no flag 7.

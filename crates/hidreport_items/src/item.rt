@@ -1,4 +1,5 @@
 ghost use Rattle.hidreport_items.specs.Answer.{GivesInPlace, Writes};
+ghost use Rattle.hidreport_items.specs.InPlace.{told};
 ghost use Rattle.hidreport_items.specs.Writing.{item_bytes};
 ghost use Rattle.std.specs.Prelude.{◌≡◌, true, ℕ, IfOk, List, Ok};
 ghost use Rattle.hidreport_items.specs.Canonical.{IsCanonical};
@@ -7,8 +8,11 @@ ghost use Rattle.hidreport_items.specs.Spelling.{item_of, read_with, Spells};
 
 use crate::error::HidError;
 use crate::global::GlobalItem;
+use crate::item_bytes::ItemBytes;
+use crate::item_fault::ItemFault;
 use crate::local::LocalItem;
 use crate::main_item::MainItem;
+use crate::message::with_message;
 use std::alloc::Global;
 
 /// Any item of a report descriptor (Section 6.2.2).
@@ -43,7 +47,7 @@ impl ItemType {
         let Some((header, data_bytes)) = bytes.split_first() else {
             return Err(HidError::InsufficientData);
         };
-        ItemType::from_parts(alloc, *header, data_bytes)
+        with_message(alloc, read_item(*header, data_bytes))
     }
 
     /// The item's bytes, those of the item that it is; none for `Long` and `Reserved`.
@@ -58,29 +62,36 @@ impl ItemType {
         ensures read_back { (spelling : List ℕ) → Spells spelling self.now → is_kept self.now ≡ true
             → IfOk result (λ bytes. read_with item_of bytes.items ≡ Ok self.now) }
     {
-        self.written(alloc)
+        write_item(self).to_vec(alloc)
     }
+}
 
-    fn written(&self, alloc: Global) -> Result<Vec<u8>, HidError>
-        ensures { Writes result (item_bytes self.now) }
-    {
-        match self {
-            ItemType::Main(item) => item.as_bytes(alloc),
-            ItemType::Global(item) => item.as_bytes(alloc),
-            ItemType::Local(item) => item.as_bytes(alloc),
-            ItemType::Long | ItemType::Reserved => Ok(Vec::new(alloc)),
-        }
+/// The bytes that are written for an item (Section 6.2.2.2), in place; none for `Long` and
+/// `Reserved`. `as_bytes` answers the same as a list.
+pub fn write_item(item: &ItemType) -> ItemBytes
+    ensures { result ≡ item_bytes item.now }
+{
+    match item {
+        ItemType::Main(item) => item.written(),
+        ItemType::Global(item) => item.written(),
+        ItemType::Local(item) => item.written(),
+        ItemType::Long | ItemType::Reserved => ItemBytes::none(),
     }
+}
 
-    /// The item with this header and data, whatever its type.
-    fn from_parts(alloc: Global, header: u8, bytes: &[u8]) -> Result<ItemType, HidError>
-        ensures { GivesInPlace result (item_of header bytes.now) }
-    {
-        match header >> 2 & 0x03 {
-            0 => Ok(ItemType::Main(MainItem::from_parts(alloc, header, bytes)?)),
-            1 => Ok(ItemType::Global(GlobalItem::from_parts(alloc, header, bytes)?)),
-            2 => Ok(ItemType::Local(LocalItem::from_parts(alloc, header, bytes)?)),
-            _ => Ok(ItemType::Reserved),
-        }
+/// The item with this header and data, all that there is, whatever its type (Section 6.2.2.2);
+/// takes no memory.
+///
+/// The refusals are those of `ItemType::try_from` without their messages: `TooFew` where data is
+/// missing, `Length` where there is data of another length, `Tag` where a main item has another tag
+/// than the five.
+pub fn read_item(header: u8, data_bytes: &[u8]) -> Result<ItemType, ItemFault>
+    ensures { told result ≡ item_of header data_bytes.now }
+{
+    match header >> 2 & 0x03 {
+        0 => Ok(ItemType::Main(MainItem::from_parts(header, data_bytes)?)),
+        1 => Ok(ItemType::Global(GlobalItem::from_parts(header, data_bytes)?)),
+        2 => Ok(ItemType::Local(LocalItem::from_parts(header, data_bytes)?)),
+        _ => Ok(ItemType::Reserved),
     }
 }

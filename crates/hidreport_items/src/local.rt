@@ -1,10 +1,13 @@
 ghost use Rattle.std.specs.Prelude.{◌≡◌, ◌+◌, ◌*◌};
 ghost use Rattle.hidreport_items.specs.Answer.{GivesInPlace, Writes};
+ghost use Rattle.hidreport_items.specs.InPlace.{told};
 ghost use Rattle.hidreport_items.specs.Writing.{local_bytes, local_prefix};
 ghost use Rattle.hidreport_items.specs.Spelling.{local_item, usage_item, read_with};
 
 use crate::error::HidError;
-use crate::message::size_fault;
+use crate::item_bytes::ItemBytes;
+use crate::item_fault::ItemFault;
+use crate::message::with_message;
 use crate::number::{is_short_length, word};
 use crate::writing::{four_bytes, unsigned, with_header};
 use hidreport_types::{
@@ -70,7 +73,7 @@ impl LocalItem {
         let Some((header, data_bytes)) = bytes.split_first() else {
             return Err(HidError::InsufficientData);
         };
-        LocalItem::from_parts(alloc, *header, data_bytes)
+        with_message(alloc, LocalItem::from_parts(*header, data_bytes))
     }
 
     /// The header without its size code (Section 6.2.2.8); `0xF8` for every `Reserved`.
@@ -101,31 +104,38 @@ impl LocalItem {
     pub fn as_bytes(&self, alloc: Global) -> Result<Vec<u8>, HidError>
         ensures { Writes result (local_bytes self.now) }
     {
+        self.written().to_vec(alloc)
+    }
+
+    /// The bytes that are written for the item, in place.
+    pub(crate) fn written(&self) -> ItemBytes
+        ensures { result ≡ local_bytes self.now }
+    {
         match self {
-            LocalItem::Usage(page, id) => four_bytes(alloc, 0x08, usage_number(*page, *id)),
-            LocalItem::UsageId(id) => unsigned(alloc, 0x08, u32::from(u16::from(id))),
-            LocalItem::UsageMinimum(usage) => unsigned(alloc, 0x18, u32::from(usage)),
-            LocalItem::UsageMaximum(usage) => unsigned(alloc, 0x28, u32::from(usage)),
-            LocalItem::DesignatorIndex(index) => unsigned(alloc, 0x38, u32::from(index)),
-            LocalItem::DesignatorMinimum(index) => unsigned(alloc, 0x48, u32::from(index)),
-            LocalItem::DesignatorMaximum(index) => unsigned(alloc, 0x58, u32::from(index)),
-            LocalItem::StringIndex(index) => unsigned(alloc, 0x78, u32::from(index)),
-            LocalItem::StringMinimum(index) => unsigned(alloc, 0x88, u32::from(index)),
-            LocalItem::StringMaximum(index) => unsigned(alloc, 0x98, u32::from(index)),
-            LocalItem::Delimiter(delimiter) => unsigned(alloc, 0xa8, u32::from(delimiter)),
-            LocalItem::Reserved { value } => with_header(alloc, 0xf8, &[*value]),
+            LocalItem::Usage(page, id) => four_bytes(0x08, usage_number(*page, *id)),
+            LocalItem::UsageId(id) => unsigned(0x08, u32::from(u16::from(id))),
+            LocalItem::UsageMinimum(usage) => unsigned(0x18, u32::from(usage)),
+            LocalItem::UsageMaximum(usage) => unsigned(0x28, u32::from(usage)),
+            LocalItem::DesignatorIndex(index) => unsigned(0x38, u32::from(index)),
+            LocalItem::DesignatorMinimum(index) => unsigned(0x48, u32::from(index)),
+            LocalItem::DesignatorMaximum(index) => unsigned(0x58, u32::from(index)),
+            LocalItem::StringIndex(index) => unsigned(0x78, u32::from(index)),
+            LocalItem::StringMinimum(index) => unsigned(0x88, u32::from(index)),
+            LocalItem::StringMaximum(index) => unsigned(0x98, u32::from(index)),
+            LocalItem::Delimiter(delimiter) => unsigned(0xa8, u32::from(delimiter)),
+            LocalItem::Reserved { value } => with_header(0xf8, &[*value]),
         }
     }
 
     /// The local item with this header and data.
-    pub(crate) fn from_parts(alloc: Global, header: u8, bytes: &[u8]) -> Result<LocalItem, HidError>
-        ensures { GivesInPlace result (local_item header bytes.now) }
+    pub(crate) fn from_parts(header: u8, bytes: &[u8]) -> Result<LocalItem, ItemFault>
+        ensures { told result ≡ local_item header bytes.now }
     {
         if bytes.is_empty() {
-            return Err(HidError::InsufficientData);
+            return Err(ItemFault::TooFew);
         }
         if !is_short_length(bytes.len()) {
-            return Err(size_fault(alloc, bytes.len()));
+            return Err(ItemFault::Length(bytes.len()));
         }
         let number = word(bytes);
         Ok(match header & 0xfc {

@@ -1,5 +1,6 @@
 ghost use Rattle.std.specs.Prelude.{◌≡◌, [], MatchResult, Ok};
 ghost use Rattle.hidreport_items.specs.Answer.{GivesInPlace, Writes};
+ghost use Rattle.hidreport_items.specs.InPlace.{told};
 ghost use Rattle.hidreport_items.specs.Writing.{main_bytes};
 ghost use Rattle.hidreport_items.specs.declared.error.HidError.TheVariants.{InsufficientData};
 ghost use Rattle.hidreport_items.specs.Spelling.{main_item, collection_item, collection_of};
@@ -8,7 +9,9 @@ ghost use Rattle.hidreport_items.specs.Spelling.{kind_number, first_or_zero, rea
 use crate::error::HidError;
 use crate::feature::FeatureItem;
 use crate::input::InputItem;
-use crate::message::tag_fault;
+use crate::item_bytes::ItemBytes;
+use crate::item_fault::ItemFault;
+use crate::message::with_message;
 use crate::output::OutputItem;
 use crate::writing::with_header;
 use std::alloc::Global;
@@ -139,7 +142,14 @@ impl CollectionItem {
     pub fn as_bytes(&self, alloc: Global) -> Result<Vec<u8>, HidError>
         ensures { Writes result (main_bytes (MainItem.Collection self.now)) }
     {
-        with_header(alloc, 0xa0, &[u8::from(self)])
+        self.written().to_vec(alloc)
+    }
+
+    /// The bytes that are written for the item, in place.
+    pub(crate) fn written(&self) -> ItemBytes
+        ensures { result ≡ main_bytes (MainItem.Collection self.now) }
+    {
+        with_header(0xa0, &[u8::from(self)])
     }
 
     /// The kind of the first data byte; a collection without data is physical.
@@ -169,7 +179,7 @@ impl MainItem {
         let Some((header, data_bytes)) = bytes.split_first() else {
             return Err(HidError::InsufficientData);
         };
-        MainItem::from_parts(alloc, *header, data_bytes)
+        with_message(alloc, MainItem::from_parts(*header, data_bytes))
     }
 
     /// The item's bytes, those of the item that it is; EndCollection is its header alone
@@ -179,26 +189,33 @@ impl MainItem {
     pub fn as_bytes(&self, alloc: Global) -> Result<Vec<u8>, HidError>
         ensures { Writes result (main_bytes self.now) }
     {
+        self.written().to_vec(alloc)
+    }
+
+    /// The bytes that are written for the item, in place.
+    pub(crate) fn written(&self) -> ItemBytes
+        ensures { result ≡ main_bytes self.now }
+    {
         match self {
-            MainItem::Input(item) => item.as_bytes(alloc),
-            MainItem::Output(item) => item.as_bytes(alloc),
-            MainItem::Feature(item) => item.as_bytes(alloc),
-            MainItem::Collection(item) => item.as_bytes(alloc),
-            MainItem::EndCollection => with_header(alloc, 0xc0, &[]),
+            MainItem::Input(item) => item.written(),
+            MainItem::Output(item) => item.written(),
+            MainItem::Feature(item) => item.written(),
+            MainItem::Collection(item) => item.written(),
+            MainItem::EndCollection => with_header(0xc0, &[]),
         }
     }
 
     /// The main item with this header and data.
-    pub(crate) fn from_parts(alloc: Global, header: u8, bytes: &[u8]) -> Result<MainItem, HidError>
-        ensures { GivesInPlace result (main_item header bytes.now) }
+    pub(crate) fn from_parts(header: u8, bytes: &[u8]) -> Result<MainItem, ItemFault>
+        ensures { told result ≡ main_item header bytes.now }
     {
         match header & 0xfc {
-            0x80 => Ok(MainItem::Input(InputItem::from_data(alloc, bytes)?)),
-            0x90 => Ok(MainItem::Output(OutputItem::from_data(alloc, bytes)?)),
+            0x80 => Ok(MainItem::Input(InputItem::from_data(bytes)?)),
+            0x90 => Ok(MainItem::Output(OutputItem::from_data(bytes)?)),
             0xa0 => Ok(MainItem::Collection(CollectionItem::from_data(bytes))),
-            0xb0 => Ok(MainItem::Feature(FeatureItem::from_data(alloc, bytes)?)),
+            0xb0 => Ok(MainItem::Feature(FeatureItem::from_data(bytes)?)),
             0xc0 => Ok(MainItem::EndCollection),
-            _ => Err(tag_fault(alloc, header)),
+            _ => Err(ItemFault::Tag(header)),
         }
     }
 }

@@ -1,27 +1,54 @@
-ghost use Rattle.std.specs.Prelude.{◌≡◌, ◌-◌, ◌%◌, IfOk, MatchResult, string_bytes};
-ghost use Rattle.hidreport_items.specs.Answer.{IsFault};
+ghost use Rattle.std.specs.Prelude.{◌≡◌, ◌-◌, ◌%◌, Err, IfOk, MatchResult, string_bytes};
+ghost use Rattle.hidreport_items.specs.Answer.{FailsInPlace, GivesInPlace, IsFault};
+ghost use Rattle.hidreport_items.specs.InPlace.{told, told_fault};
 ghost use Rattle.hidreport_items.specs.Messages.{size_message, tag_message};
 ghost use Rattle.hidreport_items.specs.Spelling.{prefix};
 
 use crate::error::HidError;
+use crate::item_fault::ItemFault;
 use std::alloc::{AllocError, Global};
 
+/// What was read, or the error that says why nothing was.
+///
+/// `OutOfMemory` comes only where there is no memory for a message.
+pub fn with_message<T: Drop>(alloc: Global, read: Result<T, ItemFault>) -> Result<T, HidError>
+    ensures { GivesInPlace result (told read) }
+{
+    match read {
+        Ok(item) => Ok(item),
+        Err(fault) => Err(error_of(alloc, fault)),
+    }
+}
+
+/// The error that says why nothing was read.
+///
+/// `OutOfMemory` comes only where there is no memory for a message.
+pub fn error_of(alloc: Global, fault: ItemFault) -> HidError
+    ensures { FailsInPlace {A = Unit {0}} result (Err (told_fault fault)) }
+{
+    match fault {
+        ItemFault::TooFew => HidError::InsufficientData,
+        ItemFault::Length(length) => size_fault(alloc, length),
+        ItemFault::Tag(header) => tag_fault(alloc, header),
+    }
+}
+
 /// The refusal of data of a length that no short item has.
-pub(crate) fn size_fault(alloc: Global, length: usize) -> HidError
+fn size_fault(alloc: Global, length: usize) -> HidError
     ensures { IsFault result (size_message length) }
 {
     fault(size_text(alloc, length))
 }
 
 /// The refusal of a main item's header whose tag isn't one of the five.
-pub(crate) fn tag_fault(alloc: Global, header: u8) -> HidError
+fn tag_fault(alloc: Global, header: u8) -> HidError
     ensures { IsFault result (tag_message (prefix header)) }
 {
     fault(tag_text(alloc, header & 0xfc))
 }
 
 /// Data that is refused with this message, or want of memory for it.
-pub(crate) fn fault(message: Result<String, AllocError>) -> HidError
+fn fault(message: Result<String, AllocError>) -> HidError
     ensures { MatchResult message
         (λ t. IsFault result (string_bytes t))
         (λ _. result ≡ HidError.OutOfMemory) }

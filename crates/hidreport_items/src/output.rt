@@ -1,11 +1,15 @@
 ghost use Rattle.std.specs.Prelude.{◌≡◌, not};
 ghost use Rattle.hidreport_items.specs.Answer.{GivesInPlace, Writes};
+ghost use Rattle.hidreport_items.specs.InPlace.{told};
 ghost use Rattle.hidreport_items.specs.Spelling.{output_item, read_with};
 ghost use Rattle.hidreport_items.specs.Writing.{main_bytes};
 ghost use Rattle.hidreport_items.specs.declared.main_item.MainItem.TheVariants.{Output};
 
 use crate::error::HidError;
 use crate::flags::{ItemFlags, MainDataItem};
+use crate::item_bytes::ItemBytes;
+use crate::item_fault::ItemFault;
+use crate::message::with_message;
 use crate::writing::flags;
 use std::alloc::Global;
 use std::marker::Model;
@@ -39,7 +43,7 @@ impl OutputItem {
         let Some((_header, data_bytes)) = bytes.split_first() else {
             return Err(HidError::InsufficientData);
         };
-        OutputItem::from_data(alloc, data_bytes)
+        with_message(alloc, OutputItem::from_data(data_bytes))
     }
 
     /// The item's bytes: the header, and the flags in one byte, or in two where it is of buffered
@@ -49,14 +53,21 @@ impl OutputItem {
     pub fn as_bytes(&self, alloc: Global) -> Result<Vec<u8>, HidError>
         ensures { Writes result (main_bytes (Output self.now)) }
     {
-        flags(alloc, 0x90, self.flags)
+        self.written().to_vec(alloc)
+    }
+
+    /// The bytes that are written for the item, in place.
+    pub(crate) fn written(&self) -> ItemBytes
+        ensures { result ≡ main_bytes (Output self.now) }
+    {
+        flags(0x90, self.flags)
     }
 
     /// The item that these data bytes spell.
-    pub(crate) fn from_data(alloc: Global, bytes: &[u8]) -> Result<OutputItem, HidError>
-        ensures { GivesInPlace result (output_item bytes.now) }
+    pub(crate) fn from_data(bytes: &[u8]) -> Result<OutputItem, ItemFault>
+        ensures { told result ≡ output_item bytes.now }
     {
-        Ok(OutputItem::from_flags(ItemFlags::from_data(alloc, bytes)?))
+        Ok(OutputItem::from_flags(ItemFlags::from_data(bytes)?))
     }
 
     /// The item with these flags.

@@ -8,7 +8,7 @@ use Rattle.std.proofs.Math.Seq.{take-append_seam, drop-append_seam}
 use Rattle.hidreport_items.specs.Answer.{Fault, Insufficient}
 use Rattle.hidreport_items.specs.Spelling.{announced, AreBytes}
 use Rattle.hidreport_items.specs.declared.item.ItemType.{ItemType}
-use Rattle.hidreport_lists.specs.Answer.{InvalidAt, Bounds, Mismatch, Answers}
+use Rattle.hidreport_lists.specs.Answer.{InvalidAt, Bounds, Mismatch, OverBudget, Answers}
 use Rattle.hidreport_lists.specs.Entry.{Entry}
 use Rattle.hidreport_lists.specs.Itemising.{Reader, Reads, joined, AreInPlace, AreRead, Itemises, IsFaultAt, IsGrammarFault, item_at, with_entry, items_from, itemise, as_refusal}
 use Rattle.hidreport_lists.specs.Messages.{grammar_message}
@@ -240,6 +240,10 @@ not_mismatch : {A : Type 0} (r : Result A (ℕ × Fault)) → as_refusal r ≡ E
 not_mismatch (Ok x) e = cc
 not_mismatch (Err f) e = cc
 
+not_over_budget : {A : Type 0} (r : Result A (ℕ × Fault)) (offset : ℕ) → as_refusal r ≡ Err (OverBudget offset) → ⊥
+not_over_budget (Ok x) offset e = cc
+not_over_budget (Err f) offset e = cc
+
 not_empty-ok : (read : Reader) (bytes : List ℕ) (entries : List Entry) → itemise read bytes ≡ Ok entries → bytes ≢ []
 not_empty-ok read [] entries e none = let s : ⊥ = cc in s
 not_empty-ok read (b ∷ bs) entries e none = let s : ⊥ = cc in s
@@ -272,6 +276,7 @@ answer-fault read bytes (Err (parser.InvalidData offset message)) are exact some
 answer-fault read bytes (Err parser.OutOfBounds) are exact some = not_bounds (itemise read bytes) exact
 answer-fault read bytes (Err parser.MismatchingReportId) are exact some = not_mismatch (itemise read bytes) exact
 answer-fault read bytes (Err parser.OutOfMemory) are exact some = tt
+answer-fault read bytes (Err (parser.BudgetExceeded offset)) are exact some = not_over_budget (itemise read bytes) offset exact
 
 pub answer-only_fault : (read : Reader) (bytes : List ℕ) (answer : Result (List Entry) ParserError)
     → Answers answer (as_refusal (itemise read bytes)) → (offset : ℕ) (fault : Fault) → IsFaultAt read bytes offset fault

@@ -1,12 +1,13 @@
 -- One item at a time: the items of the rest behind those that were cut off before.
-use Rattle.std.proofs.Common.{◌≡◌, ◌≢◌, ℕ, zero, suc, ◌+◌, ◌<◌, ◌≤◌, Bool, true, false, cond, List, [], ◌∷◌, ◌++◌, length, take, drop, Result, Ok, Err, None, IfSome, string_bytes, refl, sym, ap, ◌∙◌, subst, arith, nat_lt, length-take, append_assoc, one-add}
+use Rattle.std.proofs.Common.{◌≡◌, ◌≢◌, ℕ, zero, suc, ◌+◌, ◌<◌, ◌≤◌, Bool, true, false, cond, List, [], ◌∷◌, ◌++◌, length, take, drop, Result, Ok, Err, None, IfSome, string_bytes, refl, sym, ap, ◌∙◌, subst, arith, nat_lt, length-take, append_assoc}
+use Rattle.std.proofs.Math.Seq.{take-length}
 use Rattle.std.proofs.lemmas.Grind.{common_steps}
 use Rattle.hidreport_items.specs.Answer.{Fault, Invalid, Insufficient, FailsInPlace}
-use Rattle.hidreport_items.proofs.Reading.{fails_read_as}
+use Rattle.hidreport_items.proofs.Written.{IsRead, NoneOrAnItem, written-read}
 use Rattle.hidreport_items.specs.declared.error.HidError.{HidError}
 use Rattle.hidreport_items.specs.declared.error.HidError.TheVariants as errors
-use Rattle.hidreport_items.specs.Spelling.{item_of, read_with}
-use Rattle.hidreport_items.specs.Spelling.{announced, read_as}
+use Rattle.hidreport_items.specs.Spelling.{announced, item_of, read_as}
+use Rattle.hidreport_items.specs.Writing.{item_bytes}
 use Rattle.hidreport_items.specs.declared.item.ItemType.{ItemType}
 use Rattle.hidreport_lists.specs.Entry.{Spelled, Entry}
 use Rattle.hidreport_lists.specs.Answer.{Refusal, InvalidAt, Refuses, IsInvalidAt, fault_of}
@@ -14,10 +15,6 @@ use Rattle.hidreport_lists.specs.Itemising.{Reader, item_at, with_entry, items_f
 use Rattle.hidreport_lists.specs.Messages.{grammar_message}
 use Rattle.hidreport_lists.specs.declared.error.ParserError.{ParserError}
 use Rattle.hidreport_lists.specs.declared.error.ParserError.TheVariants as parser
-
--- the header and the data that it announces
-pub take-header : (bytes : List ℕ) (h : ℕ) (after : List ℕ) (n : ℕ) → bytes ≡ h ∷ after → take (1 + n) bytes ≡ h ∷ take n after
-take-header bytes h after n e = rw (e, one-add) refl
 
 -- a choice whose first answer is a fault
 pub chosen_ok : {A E : Type 0} (b : Bool) (e : E) (r : Result A E) (x : A) → cond b (Err e) r ≡ Ok x → (b ≡ false) × (r ≡ Ok x)
@@ -39,33 +36,34 @@ enough n a e = grind (arith, common_steps)
 pub not_short : (n a : ℕ) → a ≤ n → nat_lt n a ≡ false
 not_short n a e = grind (arith, common_steps)
 
+never-read : {A : Type 0} (r : Result A Fault) (fault : Fault) → IsRead r → r ≡ Err fault → ⊥
+never-read (Ok x) fault is e = cc
+never-read (Err d) fault is e = is
+
 pub item_at-enough : (read : Reader) (h : ℕ) (bs : List ℕ) → announced h ≤ length bs → item_at read h bs ≡ read h (take (announced h) bs)
 item_at-enough read h bs le = ap (λ b. cond b (Err Insufficient) (read h (take (announced h) bs))) (not_short (length bs) (announced h) le)
 
--- what is read of a header and its data is what is read of the first bytes
-pub item_at-first : (bytes : List ℕ) (h : ℕ) (after : List ℕ) (a : ℕ) → bytes ≡ h ∷ after → a ≡ announced h → a ≤ length after
-    → item_at item_of h after ≡ read_with item_of (take (1 + a) bytes)
-item_at-first bytes h after a e ea le =
-    let enough_bytes : announced h ≤ length after = subst (λ n. n ≤ length after) ea le in
-    item_at-enough item_of h after enough_bytes ∙ ap (λ n. item_of h (take n after)) (sym ea) ∙ ap (read_with item_of) (sym (take-header bytes h after a e))
-
--- the item and its bytes, where the header and its data are read as it
-pub short_item-ok : (bytes : List ℕ) (h : ℕ) (after : List ℕ) (a : ℕ) (x : ItemType) → bytes ≡ h ∷ after → a ≡ announced h → a ≤ length after
-    → read_with item_of (take (1 + a) bytes) ≡ Ok x → short_item item_of bytes ≡ Ok (record { bytes = take (1 + a) bytes; item = x })
-short_item-ok bytes h after a x e ea le r =
-    let spelled : ItemType → Spelled = λ y. record { bytes = h ∷ take (announced h) after; item = y } in
-    ap (short_item item_of) e
-    ∙ ap (read_as spelled) (item_at-first bytes h after a e ea le ∙ r)
-    ∙ ap (λ (l : List ℕ). Ok (record { bytes = l; item = x })) (ap (λ n. h ∷ take n after) (sym ea) ∙ sym (take-header bytes h after a e))
-
 -- a fault of the header and its data is the item's
-pub short_item-fails : (bytes : List ℕ) (h : ℕ) (after : List ℕ) (a : ℕ) (e : HidError) → bytes ≡ h ∷ after → a ≡ announced h → a ≤ length after
-    → FailsInPlace e (read_with item_of (take (1 + a) bytes)) → FailsInPlace e (short_item item_of bytes)
-short_item-fails bytes h after a error e ea le f =
-    let spelled : ItemType → Spelled = λ y. record { bytes = h ∷ take (announced h) after; item = y } in
-    let same : item_at item_of h after ≡ read_with item_of (take (1 + a) bytes) = item_at-first bytes h after a e ea le in
-    let part : FailsInPlace error (item_at item_of h after) = subst (λ (r : Result ItemType Fault). FailsInPlace error r) (sym same) f in
-    subst (λ (l : List ℕ). FailsInPlace error (short_item item_of l)) (sym e) (fails_read_as spelled (item_at item_of h after) error part)
+pub short_item-err : (h : ℕ) (after : List ℕ) (a : ℕ) (fault : Fault) → a ≡ announced h → a ≤ length after → Err fault ≡ item_of h (take a after)
+    → Err fault ≡ short_item item_of (h ∷ after)
+short_item-err h after a fault is room e =
+    let enough_bytes : announced h ≤ length after = subst (λ n. n ≤ length after) is room in
+    let same : item_at item_of h after ≡ Err fault = item_at-enough item_of h after enough_bytes ∙ ap (λ n. item_of h (take n after)) (sym is) ∙ sym e in
+    sym (ap (read_as (λ x. record { bytes = h ∷ take (announced h) after; item = x })) same)
+
+-- what is written for an item has no fault but that there is nothing
+written-fault : (bytes : List ℕ) (fault : Fault) → NoneOrAnItem bytes → short_item item_of bytes ≡ Err fault → fault ≡ Insufficient
+written-fault [] fault are e = cc
+written-fault (h ∷ bs) fault are e =
+    let room : announced h ≤ length bs = omega (arith, are.0) in
+    let same : take (announced h) bs ≡ bs = subst (λ n. take n bs ≡ bs) are.0 (take-length bs) in
+    absurd (never-read (item_of h bs) fault are.1 (
+    ap (item_of h) (sym same)
+    ∙ sym (item_at-enough item_of h bs room)
+    ∙ read_as_err (λ y. record { bytes = h ∷ take (announced h) bs; item = y }) (item_at item_of h bs) fault e))
+
+pub item-fault : (x : ItemType) (fault : Fault) → short_item item_of (item_bytes x) ≡ Err fault → short_item item_of (item_bytes x) ≡ Err Insufficient
+item-fault x fault e = e ∙ ap Err (written-fault (item_bytes x) fault (written-read x) e)
 
 -- the items before, and then those of the rest
 abbrev pub with_front : List Entry → Result (List Entry) (ℕ × Fault) → Result (List Entry) (ℕ × Fault)
@@ -133,6 +131,7 @@ refuses-invalid (parser.InvalidData at text) offset message answer named e = e �
 refuses-invalid parser.OutOfBounds offset message answer named e = absurd named
 refuses-invalid parser.MismatchingReportId offset message answer named e = absurd named
 refuses-invalid parser.OutOfMemory offset message answer named e = tt
+refuses-invalid (parser.BudgetExceeded at) offset message answer named e = absurd named
 
 -- bytes of which the first stands at 0
 pub itemise-some : (read : Reader) (bytes : List ℕ) → bytes ≢ [] → itemise read bytes ≡ items_from read 0 0 bytes
@@ -145,6 +144,13 @@ fault-whole : (bytes rest : List ℕ) (front : List Entry) (offset : ℕ) (fault
     → short_item item_of rest ≡ Err fault → as_refusal (itemise item_of bytes) ≡ Err (InvalidAt offset (grammar_message fault))
 fault-whole bytes rest front offset fault some more same e =
     ap as_refusal (itemise-some item_of bytes some ∙ sym same ∙ ap (with_front front) (items_from-fault offset rest fault more e))
+
+-- an error of a fault is one of each answer that is this fault
+pub fails-as : (A : Type 0) (e : HidError) (f : Fault) → FailsInPlace {A = Unit {0}} e (Err f) → FailsInPlace {A = A} e (Err f)
+fails-as A (errors.InvalidData message) f h = let same : f ≡ Invalid (string_bytes message) = cc in ap Err same
+fails-as A errors.InsufficientData f h = let same : f ≡ Insufficient = cc in ap Err same
+fails-as A errors.OutOfMemory (Invalid text) h = h
+fails-as A errors.OutOfMemory Insufficient h = h
 
 -- the reader's error, placed, is the answer
 pub refuses-fault : (bytes rest : List ℕ) (front : List Entry) (offset : ℕ) (fault : HidError) (error : ParserError) → bytes ≢ [] → rest ≢ []

@@ -150,3 +150,5 @@ refuses-rebuilding parser.OutOfBounds (Err fault) f = cc
 refuses-rebuilding parser.MismatchingReportId (Ok entries) f = cc
 refuses-rebuilding parser.MismatchingReportId (Err fault) f = cc
 refuses-rebuilding parser.OutOfMemory r f = tt
+refuses-rebuilding (parser.BudgetExceeded offset) (Ok entries) f = cc
+refuses-rebuilding (parser.BudgetExceeded offset) (Err fault) f = cc

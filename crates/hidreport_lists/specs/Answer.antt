@@ -8,11 +8,12 @@ use Rattle.hidreport_lists.specs.declared.error.ParserError.TheVariants as error
 
 -- why a descriptor or a report is refused: data is wrong at an offset, for the reason that the
 -- message gives; something passes what can be counted or lies outside the bytes; the bytes are of
--- another report
+-- another report; the item at an offset passes the limit of a budget
 pub data Refusal : Type 0 where
   InvalidAt : ℕ → List ℕ → Refusal
   Bounds : Refusal
   Mismatch : Refusal
+  OverBudget : ℕ → Refusal
 
 -- the error is this refusal; want of memory says nothing
 abbrev pub Refuses : {A : Type 0} → ParserError → Result A Refusal → Type 0
@@ -21,6 +22,7 @@ Refuses (errors.InvalidData offset message) answer =
 Refuses errors.OutOfBounds answer = answer ≡ Err Bounds
 Refuses errors.MismatchingReportId answer = answer ≡ Err Mismatch
 Refuses errors.OutOfMemory answer = Unit {0}
+Refuses (errors.BudgetExceeded offset) answer = answer ≡ Err (OverBudget offset)
 
 -- the answer is what the definition gives
 abbrev pub Answers : {A : Type 0} → Result A ParserError → Result A Refusal → Type 0
@@ -34,6 +36,7 @@ IsInvalidAt (errors.InvalidData at text) offset message =
 IsInvalidAt errors.OutOfBounds offset message = ⊥
 IsInvalidAt errors.MismatchingReportId offset message = ⊥
 IsInvalidAt errors.OutOfMemory offset message = Unit {0}
+IsInvalidAt (errors.BudgetExceeded at) offset message = ⊥
 
 -- what a reader's error says of the bytes; want of memory says nothing
 abbrev pub fault_of : HidError → Option Fault

@@ -69,6 +69,7 @@ IsGrammarFault read bytes (errors.InvalidData offset message) =
 IsGrammarFault read bytes errors.OutOfBounds = ⊥
 IsGrammarFault read bytes errors.MismatchingReportId = ⊥
 IsGrammarFault read bytes errors.OutOfMemory = Unit {0}
+IsGrammarFault read bytes (errors.BudgetExceeded offset) = ⊥
 
 -- an item before others, unless it or they can't be read
 abbrev pub with_entry : ℕ → List ℕ → Result ItemType Fault → Result (List Entry) (ℕ × Fault)

@@ -14,6 +14,7 @@ use crate::descriptor_builder_state::{
 };
 use hidreport_items::{
     CollectionItem, FeatureItem, GlobalItem, HidError, InputItem, ItemType, MainItem, OutputItem,
+    write_item,
 };
 use hidreport_types::{UsageId, UsagePage};
 use std::alloc::Global;
@@ -201,9 +202,10 @@ fn have_bytes(items: &[ItemType]) -> bool
 fn joined_bytes(alloc: Global, items: &[ItemType]) -> Result<Vec<u8>, HidError>
     ensures { Writes result (flat_map item_bytes items.now) }
 {
-    let mut bytes = Vec::new(alloc);
+    // Most items are a header and one byte.
+    let mut bytes = Vec::with_capacity(alloc, 2 * items.len())?;
     for item in items {
-        bytes.append(&mut item.as_bytes(alloc)?)?;
+        bytes.extend_from_slice(write_item(item).as_slice())?;
     }
     Ok(bytes)
 }

@@ -27,6 +27,13 @@ pub enum ParserError {
     /// A growth was refused; nothing is said of the bytes.
     #[error("out of memory")]
     OutOfMemory,
+
+    /// Under a budget: with this item more would be listed than the budget's limit.
+    #[error("budget exceeded at offset {offset}")]
+    BudgetExceeded {
+        /// The place of the item's first byte, counted in bytes from 0.
+        offset: usize,
+    },
 }
 
 impl From<AllocError> for ParserError {

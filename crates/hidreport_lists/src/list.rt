@@ -3,14 +3,15 @@ ghost use Rattle.hidreport_items.specs.Answer.{Fault};
 ghost use Rattle.hidreport_items.specs.Spelling.{item_of};
 ghost use Rattle.hidreport_lists.specs.Answer.{Answers, InvalidAt};
 ghost use Rattle.hidreport_lists.specs.Entry.{Entry};
+ghost use Rattle.hidreport_lists.specs.Headers.{headers_from};
 ghost use Rattle.hidreport_lists.specs.Itemising.{as_refusal, itemise, Itemises, IsFaultAt};
 ghost use Rattle.hidreport_lists.specs.Itemising.{IsGrammarFault};
 ghost use Rattle.hidreport_lists.specs.Messages.{grammar_message};
 
 use crate::error::ParserError;
 use crate::fault::fault_at;
-use crate::short_item::{Item, ShortItem};
-use hidreport_items::HidError;
+use crate::short_item::{Item, ShortItem, announced};
+use hidreport_items::{HidError, error_of};
 use std::alloc::Global;
 use std::marker::Model;
 
@@ -80,18 +81,18 @@ impl ReportDescriptorItems {
         if bytes.is_empty() {
             return Err(fault_at(alloc, 0, HidError::InsufficientData));
         }
-        let mut items = Vec::new(alloc);
+        let mut items = Vec::with_capacity(alloc, item_count(bytes))?;
         let mut offset = 0;
         let mut rest = bytes;
         while !rest.is_empty() {
-            match ShortItem::try_from(alloc, rest) {
+            match ShortItem::read(rest) {
                 Ok(item) => {
                     let size = item.size();
                     items.push(ReportDescriptorItem { offset, item })?;
                     offset += size;
                     rest = rest.split_at(size).1;
                 }
-                Err(fault) => return Err(fault_at(alloc, offset, fault)),
+                Err(fault) => return Err(fault_at(alloc, offset, error_of(alloc, fault))),
             }
         }
         Ok(ReportDescriptorItems { items })
@@ -103,4 +104,17 @@ impl ReportDescriptorItems {
     {
         self.items.as_slice()
     }
+}
+
+/// How many items begin in the bytes, by their headers alone; the last of them may lack data.
+fn item_count(bytes: &[u8]) -> usize
+    ensures { result ≡ headers_from 0 bytes.now }
+{
+    let mut count = 0;
+    let mut index = 0;
+    while index < bytes.len() {
+        index += 1 + announced(bytes[index]);
+        count += 1;
+    }
+    count
 }

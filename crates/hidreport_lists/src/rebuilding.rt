@@ -10,7 +10,7 @@ ghost use Rattle.hidreport_lists.specs.Rebuilt.{rebuilding, rebuilt, respelled};
 use crate::error::ParserError;
 use crate::list::{ReportDescriptorItem, ReportDescriptorItems};
 use crate::short_item::Item;
-use hidreport_items::{GlobalItem, ItemType, LocalItem};
+use hidreport_items::{GlobalItem, ItemType, LocalItem, write_item};
 use std::alloc::{AllocError, Global};
 
 /// A descriptor written anew (Section 6.2.2.2): its items in order, without those of a kind that
@@ -37,21 +37,22 @@ pub fn rebuild(alloc: Global, bytes: &[u8]) -> Result<Vec<u8>, ParserError>
         → (rebuilt entries ≡ rebuilt others) ↔ (items_of (kept entries) ≡ items_of (kept others)) }
 {
     let items = ReportDescriptorItems::try_from(alloc, bytes)?;
-    Ok(rebuilt(alloc, items.as_slice())?)
+    Ok(rebuilt(alloc, bytes.len(), items.as_slice())?)
 }
 
-/// The bytes of the items that are kept, joined.
-fn rebuilt(alloc: Global, items: &[ReportDescriptorItem]) -> Result<Vec<u8>, AllocError>
+/// The bytes of the items that are kept, joined, in a list that begins with this room.
+fn rebuilt(
+    alloc: Global,
+    room: usize,
+    items: &[ReportDescriptorItem],
+) -> Result<Vec<u8>, AllocError>
     ensures { IfOk result (λ bytes. bytes.items ≡ rebuilt items.now) }
 {
-    let mut bytes = Vec::new(alloc);
+    let mut bytes = Vec::with_capacity(alloc, room)?;
     for entry in items {
         let item = entry.item().item_type();
         if is_kept(&item) {
-            match item.as_bytes(alloc) {
-                Ok(written) => bytes.extend_from_slice(written.as_slice())?,
-                Err(_refused) => return Err(AllocError),
-            }
+            bytes.extend_from_slice(write_item(&item).as_slice())?;
         }
     }
     Ok(bytes)

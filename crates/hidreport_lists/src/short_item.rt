@@ -1,5 +1,7 @@
-ghost use Rattle.std.specs.Prelude.{◌≡◌, ◌≤◌, ◌/◌, ◌%◌, Bool, false, List, ℕ, drop, length, take};
-ghost use Rattle.hidreport_items.specs.Answer.{Gives, GivesInPlace};
+ghost use Rattle.std.specs.Prelude.{◌≡◌, ◌≢◌, ◌≤◌, ◌/◌, ◌%◌, Bool, false, Err, List, ℕ, drop};
+ghost use Rattle.std.specs.Prelude.{length};
+ghost use Rattle.hidreport_items.specs.Answer.{GivesInPlace};
+ghost use Rattle.hidreport_items.specs.InPlace.{told};
 ghost use Rattle.hidreport_items.specs.Spelling.{item_of};
 ghost use Rattle.hidreport_items.specs.Spelling.{announced, first_or_zero};
 ghost use Rattle.hidreport_items.specs.Writing.{item_bytes};
@@ -8,7 +10,9 @@ ghost use Rattle.hidreport_lists.specs.Data.{some_data};
 ghost use Rattle.hidreport_lists.specs.Itemising.{short_item};
 
 use crate::data::ItemData;
-use hidreport_items::{HidError, ItemType};
+use hidreport_items::{
+    HidError, ItemBytes, ItemFault, ItemType, read_item, with_message, write_item,
+};
 use std::alloc::Global;
 use std::marker::Model;
 
@@ -61,20 +65,16 @@ pub trait Item {
 /// An item of at most five bytes: a header, and 0, 1, 2 or 4 bytes of data (Section 6.2.2.2).
 #[derive(Debug, Drop)]
 pub struct ShortItem {
-    bytes: [u8; 5],
-    size: usize,
+    bytes: ItemBytes,
     item: ItemType,
 }
 
 impl Model for ShortItem {
-    ghost use Rattle.std.specs.Prelude.{◌≤◌, length, take};
     ghost use Rattle.hidreport_lists.specs.Entry.{Spelled};
 
     ghost Value = { Spelled };
 
-    ghost view = { λ s. record { bytes = take s.size s.bytes; item = s.item } };
-
-    ghost invariant = { λ s. (s.size ≤ 5) × (s.size ≤ length s.bytes) };
+    ghost view = { λ s. record { bytes = s.bytes; item = s.item } };
 }
 
 impl ShortItem {
@@ -85,33 +85,39 @@ impl ShortItem {
     pub fn try_from(alloc: Global, bytes: &[u8]) -> Result<ShortItem, HidError>
         ensures { GivesInPlace result (short_item item_of bytes.now) }
     {
+        with_message(alloc, ShortItem::read(bytes))
+    }
+
+    /// The short item that `as_bytes` of this item spells; takes no memory.
+    ///
+    /// `Long` and `Reserved` spell none: `InsufficientData`. There is no other refusal.
+    pub fn from_item_type(item: &ItemType) -> Result<ShortItem, HidError>
+        ensures exact { GivesInPlace result (short_item item_of (item_bytes item.now)) }
+        ensures memory { result ≢ Err HidError.OutOfMemory }
+    {
+        match ShortItem::read(write_item(item).as_slice()) {
+            Ok(item) => Ok(item),
+            Err(_no_bytes) => Err(HidError::InsufficientData),
+        }
+    }
+
+    /// What `try_from` answers, without a message.
+    pub(crate) fn read(bytes: &[u8]) -> Result<ShortItem, ItemFault>
+        ensures { told result ≡ short_item item_of bytes.now }
+    {
         let Some((header, after)) = bytes.split_first() else {
-            return Err(HidError::InsufficientData);
+            return Err(ItemFault::TooFew);
         };
         let announced = announced(*header);
         if after.len() < announced {
-            return Err(HidError::InsufficientData);
+            return Err(ItemFault::TooFew);
         }
-        let spelled = &bytes[..1 + announced];
-        let item = ItemType::try_from(alloc, spelled)?;
+        let data_bytes = &after[..announced];
+        let item = read_item(*header, data_bytes)?;
         Ok(ShortItem {
-            bytes: padded(spelled),
-            size: 1 + announced,
+            bytes: ItemBytes::new(*header, data_bytes),
             item,
         })
-    }
-}
-
-impl ShortItem {
-    /// The short item that `as_bytes` of this item spells.
-    ///
-    /// `Long` and `Reserved` spell none: `InsufficientData`. `OutOfMemory` comes only where a
-    /// growth is refused.
-    pub fn from_item_type(alloc: Global, item: &ItemType) -> Result<ShortItem, HidError>
-        ensures { Gives result (short_item item_of (item_bytes item.now)) }
-    {
-        let bytes = item.as_bytes(alloc)?;
-        ShortItem::try_from(alloc, &bytes)
     }
 }
 
@@ -127,7 +133,7 @@ impl Item for ShortItem {
     ghost is_long = { λ s. false };
 
     fn size(&self) -> usize {
-        self.size
+        self.bytes().len()
     }
 
     fn item_type(&self) -> ItemType {
@@ -150,7 +156,7 @@ impl Item for ShortItem {
     }
 
     fn bytes(&self) -> &[u8] {
-        &self.bytes[..self.size]
+        self.bytes.as_slice()
     }
 
     fn data(&self) -> Option<ItemData<'_>> {
@@ -162,7 +168,7 @@ impl Item for ShortItem {
 }
 
 /// How many data bytes a header announces: its size codes 0, 1, 2 and 3 mean 0, 1, 2 and 4.
-fn announced(header: u8) -> usize
+pub(crate) fn announced(header: u8) -> usize
     ensures within { result ≤ 4 }
     ensures value { result ≡ announced header }
 {
@@ -170,14 +176,4 @@ fn announced(header: u8) -> usize
         3 => 4,
         code => code as usize,
     }
-}
-
-/// The bytes, and zeros behind them up to five.
-fn padded(bytes: &[u8]) -> [u8; 5]
-    requires { length bytes.now ≤ 5 }
-    ensures { take (length bytes.now) result ≡ bytes.now }
-{
-    let mut padded = [0; 5];
-    padded[..bytes.len()].copy_from_slice(bytes);
-    padded
 }

@@ -2,7 +2,7 @@
 use Rattle.std.specs.Prelude.{ℕ, ℤ, pos, ◌-◌, if◌then◌else◌, List, [], ◌∷◌, ◌++◌, flat_map, Option, Some, None, Result, Ok, Err, length, replicate, codes, decimal, false}
 use Rattle.std.specs.Fmt.{radix_digits, signed_decimal}
 use Rattle.std.specs.Int.{w32, cast_signed}
-use Rattle.hidreport_lists.specs.Answer.{Refusal, InvalidAt, Bounds, Mismatch}
+use Rattle.hidreport_lists.specs.Answer.{Refusal, InvalidAt, Bounds, Mismatch, OverBudget}
 use Rattle.hidreport.specs.Reading.{ValueRecord, reads}
 use Rattle.hidreport.specs.Records.{FieldPlace, FieldRecord, VariableRecord, ArrayRecord, ConstantRecord}
 use Rattle.hidreport.specs.UsageNumber.{usage_number}
@@ -61,6 +61,8 @@ refusal_line (InvalidAt offset message) =
     codes "refused: invalid data at offset " ++ (decimal offset ++ (codes ": " ++ (message ++ newline)))
 refusal_line Bounds = codes "refused: out of bounds" ++ newline
 refusal_line Mismatch = codes "refused: out of bounds" ++ newline
+refusal_line (OverBudget offset) =
+    codes "refused: budget exceeded at offset " ++ (decimal offset ++ newline)
 
 -- no report has bytes like these
 abbrev pub no_report_line : List ℕ

@@ -1,19 +1,20 @@
 -- What a command writes of the bytes that it read, and how it ends.
 use Rattle.std.specs.Prelude.{ℕ, List, ◌++◌, flat_map, Option, Some, None, Result, Ok, Err, string_bytes}
 use Rattle.hidreport_items.specs.Spelling.{item_of}
-use Rattle.hidreport_lists.specs.Answer.{Refusal, InvalidAt, Bounds, Mismatch}
+use Rattle.hidreport_lists.specs.Answer.{Refusal, InvalidAt, Bounds, Mismatch, OverBudget}
 use Rattle.hidreport_lists.specs.Entry.{Entry}
 use Rattle.hidreport_lists.specs.Itemising.{as_refusal, itemise}
 use Rattle.hidreport_lists.specs.Rebuilt.{rebuilding}
 use Rattle.hidreport_lists.specs.declared.error.ParserError.{ParserError}
 use Rattle.hidreport_lists.specs.declared.error.ParserError.TheVariants as errors
+use Rattle.hidreport.specs.Budget.{parse_within}
 use Rattle.hidreport.specs.Lookup.{find_report}
 use Rattle.hidreport.specs.Meaning.{parse}
 use Rattle.hidreport.specs.Records.{ReportRecord, DescriptorRecord}
 use Rattle.hidreport_program.specs.ItemLines.{items_text}
 use Rattle.hidreport_program.specs.Lines.{line_of_field, report_line, refusal_line, no_report_line, rebuilt_line}
 use Rattle.hidreport_program.specs.declared.program.commands.Command.{Command}
-use Rattle.hidreport_program.specs.declared.program.commands.Command.TheVariants.{Items, Values, Rebuild}
+use Rattle.hidreport_program.specs.declared.program.commands.Command.TheVariants.{Items, Values, ValuesWithin, Rebuild}
 use Rattle.hidreport_program.specs.declared.program.ending.Outcome.{Outcome}
 use Rattle.hidreport_program.specs.declared.program.ending.Outcome.TheVariants.{Done, Refused}
 
@@ -49,6 +50,8 @@ rebuild_output (Err refusal) = record { text = refusal_line refusal; outcome = R
 unfoldable pub output : Command → List ℕ → List ℕ → Output
 output Items descriptor bytes = items_output (as_refusal (itemise item_of descriptor))
 output Values descriptor bytes = values_output (parse descriptor) bytes
+output (ValuesWithin limit) descriptor bytes =
+    values_output (parse_within limit descriptor) bytes
 output Rebuild descriptor bytes =
     rebuild_output (as_refusal (rebuilding (itemise item_of descriptor)))
 
@@ -58,3 +61,4 @@ refusal_of (errors.InvalidData offset message) = Some (InvalidAt offset (string_
 refusal_of errors.OutOfBounds = Some Bounds
 refusal_of errors.MismatchingReportId = Some Mismatch
 refusal_of errors.OutOfMemory = None
+refusal_of (errors.BudgetExceeded offset) = Some (OverBudget offset)

@@ -8,6 +8,7 @@ mod failing;
 pub mod faults;
 mod fields;
 mod items;
+mod limits;
 mod numbers;
 mod output;
 pub mod requests;

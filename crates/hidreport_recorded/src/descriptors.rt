@@ -55,6 +55,7 @@ pub fn add_refusal(text: &mut String, error: &ParserError) -> Result<(), AllocEr
         }
         ParserError::OutOfBounds => writeln!(text, "refused: out of bounds"),
         ParserError::MismatchingReportId => writeln!(text, "refused: another report id"),
+        ParserError::BudgetExceeded { offset } => writeln!(text, "refused at {offset}: budget"),
         ParserError::OutOfMemory => Err(AllocError),
     }
 }

@@ -1,6 +1,8 @@
 //! What the library answers, written out as text, and what recorded runs of the Rust crate say of it.
 #![tactic(auto)]
 
+#[cfg(test)]
+mod cuts;
 pub mod descriptors;
 pub mod fields;
 #[cfg(test)]

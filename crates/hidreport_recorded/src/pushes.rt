@@ -1,5 +1,5 @@
-//! Push and Pop in great numbers: what is in force isn't copied.
-use hidreport::{Field, Report, ReportDescriptor, VariableField};
+//! Great numbers: what is in force isn't copied at a Push, and what no field needs isn't listed.
+use hidreport::{Field, ParserError, Report, ReportDescriptor, VariableField};
 use std::alloc::{AllocError, Global};
 use std::test::Fail;
 
@@ -40,6 +40,14 @@ fn has_one_field(alloc: Global, bytes: &[u8]) -> bool {
     field.bits.start == 0 && field.bits.end == 8 && u32::from(field.usage) == 0x0001_0030
 }
 
+/// Whether the bytes are accepted and announce nothing.
+fn has_no_reports(alloc: Global, bytes: &[u8]) -> bool {
+    match ReportDescriptor::try_from(alloc, bytes) {
+        Ok(descriptor) => descriptor.input_reports().is_empty(),
+        Err(_) => false,
+    }
+}
+
 // Copies of the list would hold 2^34 usages.
 #[test]
 fn push_copies_no_usages(rt: HostRuntime) -> Result<(), Fail> {
@@ -69,5 +77,23 @@ fn nested_pushes_that_set_a_size(rt: HostRuntime) -> Result<(), Fail> {
     repeat(&mut bytes, b"\xb4", 50_000)?;
     bytes.extend_from_slice(b"\x81\x02")?;
     assert!(rt; has_one_field(rt.alloc(), &bytes));
+    Ok(())
+}
+
+// The wide range is no field's, so it is never listed: a list of it at each of them is 2^24 usages.
+#[test]
+fn collections_over_a_wide_range_that_no_field_needs(rt: HostRuntime) -> Result<(), Fail> {
+    let mut bytes = Vec::from_slice(rt.alloc(), b"\x05\x01\x1b\0\0\0\0\x2b\xff\xff\xff\0")?;
+    repeat(&mut bytes, b"\xa4\xa1\0\xb4", 1_020)?;
+    assert!(rt; has_no_reports(rt.alloc(), &bytes));
+    Ok(())
+}
+
+// Room for all fields is asked at once, and no machine has it.
+#[test]
+fn more_fields_than_there_is_memory_for(rt: HostRuntime) -> Result<(), Fail> {
+    let bytes = b"\x05\x01\x09\x30\x75\x01\x97\xff\xff\xff\xff\x81\x02";
+    let refused = ReportDescriptor::try_from(rt.alloc(), bytes);
+    assert!(rt; matches!(refused, Err(ParserError::OutOfMemory)));
     Ok(())
 }

@@ -118,6 +118,7 @@ fn add_refusal(text: &mut String, error: &ParserError) -> Result<(), AllocError>
         ParserError::InvalidData { .. } => text.push_str("invalid"),
         ParserError::OutOfBounds => text.push_str("outside"),
         ParserError::MismatchingReportId => text.push_str("another"),
+        ParserError::BudgetExceeded { .. } => text.push_str("budget"),
         ParserError::OutOfMemory => Err(AllocError),
     }
 }

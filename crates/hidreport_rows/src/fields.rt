@@ -187,6 +187,10 @@ fn reading_follows_a_changed_array(rt: HostRuntime) -> Result<(), Fail> {
         changed.bits = start..end;
         changed.report_count = ReportCount::from(count);
         assert!(rt; matches!(changed.extract(b"\xf1"), Err(ParserError::OutOfBounds)));
+        for index in [0, 1, count] {
+            let value = changed.extract_one(b"\xf1", index);
+            assert!(rt; matches!(value, Err(ParserError::OutOfBounds)));
+        }
     }
     let mut unsigned = field.clone()?;
     unsigned.logical_minimum = LogicalMinimum::from(0);
@@ -194,10 +198,33 @@ fn reading_follows_a_changed_array(rt: HostRuntime) -> Result<(), Fail> {
     assert_eq!(rt; values.len(), 2);
     assert_eq!(rt; u32::from(&values[0]), 1);
     assert_eq!(rt; u32::from(&values[1]), 15);
-    let mut empty = field.clone()?;
+    Ok(())
+}
+
+#[test]
+fn an_array_of_no_elements_has_no_values(rt: HostRuntime) -> Result<(), Fail> {
+    let descriptor = ReportDescriptor::try_from(rt.alloc(), NIBBLES)?;
+    let mut empty = input_field(&descriptor, 0)
+        .and_then(array)
+        .ok_or("no array field")?
+        .clone()?;
     empty.report_count = ReportCount::from(0);
-    assert!(rt; empty.extract(b"")?.is_empty());
-    assert!(rt; matches!(empty.extract_one(b"\xf1", 0), Err(ParserError::OutOfBounds)));
+    let last = usize::MAX;
+    let ranges = [
+        (0, 8),
+        (5, 2),
+        (0, 0),
+        (0, last),
+        (last - 8, last),
+        (last, 0),
+    ];
+    for (start, end) in ranges {
+        empty.bits = start..end;
+        assert!(rt; empty.extract(b"\xf1")?.is_empty());
+        assert!(rt; empty.extract(b"")?.is_empty());
+        assert!(rt; matches!(empty.extract_one(b"\xf1", 0), Err(ParserError::OutOfBounds)));
+        assert!(rt; matches!(empty.extract_one(b"", 0), Err(ParserError::OutOfBounds)));
+    }
     Ok(())
 }
 

@@ -1,28 +1,19 @@
-//! Worked descriptors, tables and generic callers: what the library answers.
+//! Worked descriptors: what the library answers of them.
 #![tactic(auto)]
 
 #[cfg(test)]
-mod builder;
+mod budgets;
 #[cfg(test)]
 mod collections;
 #[cfg(test)]
 mod copies;
 #[cfg(test)]
-mod descriptor_builder;
-#[cfg(test)]
 mod fields;
-pub mod generic;
-#[cfg(test)]
-mod into_items;
-#[cfg(test)]
-mod items;
 #[cfg(test)]
 mod lookups;
 #[cfg(test)]
-mod numbers_read;
+mod memory;
 #[cfg(test)]
 mod segments;
 #[cfg(test)]
 mod tests;
-#[cfg(test)]
-mod units;

@@ -2,7 +2,7 @@
 use Rattle.std.specs.Prelude.{◌≡◌, Option, None, Some, Result, Ok, Err, IfSome}
 use Rattle.hidreport_lists.specs.Answer.{Refusal, Refuses}
 use Rattle.hidreport_lists.specs.declared.error.ParserError.{ParserError}
-use Rattle.hidreport.specs.MeaningFault.{MeaningFault, TooManyPops, TooManyEnds, MissingUsageMaximum, MissingUsagePage, MissingUsages, PastBounds}
+use Rattle.hidreport.specs.MeaningFault.{MeaningFault, TooManyPops, TooManyEnds, MissingUsageMaximum, MissingUsagePage, MissingUsages, PastBounds, PastBudget}
 use Rattle.hidreport.specs.declared.parser.fault.Fault.{Fault}
 use Rattle.hidreport.specs.declared.parser.fault.Fault.TheVariants as faults
 
@@ -14,6 +14,7 @@ fault_named faults.MissingUsageMaximum = Some MissingUsageMaximum
 fault_named faults.MissingUsagePage = Some MissingUsagePage
 fault_named faults.MissingUsages = Some MissingUsages
 fault_named faults.OutOfBounds = Some PastBounds
+fault_named faults.BudgetExceeded = Some PastBudget
 fault_named faults.OutOfMemory = None
 
 -- the fault of an item is this one; want of memory says nothing

@@ -1,5 +1,5 @@
 -- The parser's usages of an item.
-use Rattle.std.specs.Prelude.{◌≡◌, ◌<◌, ℕ, ◌+◌, ◌-◌, true, false, if◌then◌else◌, length, Option, None, Some, Result, Ok, Err}
+use Rattle.std.specs.Prelude.{◌≡◌, ◌<◌, ℕ, ◌+◌, ◌-◌, true, false, if◌then◌else◌, length, List, [], ◌∷◌, Option, None, Some, Result, Ok, Err}
 use Rattle.hidreport_items.specs.Flags.{Flags}
 use Rattle.hidreport_items.specs.declared.local.LocalItem.{LocalItem}
 use Rattle.hidreport_items.specs.declared.local.LocalItem.TheVariants as local
@@ -8,6 +8,7 @@ use Rattle.hidreport.specs.InForce.{Force}
 use Rattle.hidreport.specs.MeaningFault.{MeaningFault, MissingUsagePage}
 use Rattle.hidreport.specs.Usages.{UsageList, make_usage, range_from, usages_of}
 use Rattle.hidreport.specs.declared.field.usage.Usage.{Usage}
+use Rattle.hidreport.specs.declared.parser.usage_bounds.UsageBounds.{UsageBounds}
 use Rattle.hidreport.specs.declared.parser.usages.Usages.{Usages}
 use Rattle.hidreport.specs.declared.parser.usages.Usages.TheVariants as usages
 
@@ -21,13 +22,15 @@ one_usage page (local.Usage own id) = Ok (Some (make_usage own id))
 one_usage page (local.UsageId id) = usage_on page id
 one_usage page _ = Ok None
 
+-- those from a minimum to a maximum
+abbrev pub between : UsageBounds → List Usage
+between b = range_from b.page b.minimum (b.maximum + 1 - b.minimum)
+
 -- the usages as the definition has them
 abbrev pub usage_list : Usages → UsageList
-usage_list (usages.Range page minimum maximum) = record {
-  usages = range_from page minimum (maximum + 1 - minimum);
-  is_range = true;
-}
-usage_list (usages.Single us) = record { usages = us.items; is_range = false }
+usage_list (usages.Range bounds) = record { usages = between bounds; is_range = true }
+usage_list (usages.One u) = record { usages = u ∷ []; is_range = false }
+usage_list (usages.Several us) = record { usages = us.items; is_range = false }
 
 -- the fault of a data item's usages; a constant item has none
 abbrev pub usages_fault : Flags → Force → Option MeaningFault

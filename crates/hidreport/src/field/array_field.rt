@@ -1,7 +1,8 @@
-ghost use Rattle.std.specs.Prelude.{◌≡◌, ◌≢◌, ◌<◌, pos, int_lt, IfErr, IfOk, IfSome, IsOk, OnOk};
+ghost use Rattle.std.specs.Prelude.{◌≡◌, ◌≢◌, ◌+◌, ◌*◌, ◌^◌, ◌<◌, pos, int_lt, IfErr, IfOk, IfSome, IsOk, OnOk};
 ghost use Rattle.hidreport_lists.specs.Answer.{Answers, Refuses};
 ghost use Rattle.hidreport.specs.Bits.{FixesBits};
-ghost use Rattle.hidreport.specs.Reading.{AnswersBy, element_of, reads, reads_element, values_of};
+ghost use Rattle.hidreport.specs.Reading.{AnswersBy, element_of, element_width, reads, reads_element};
+ghost use Rattle.hidreport.specs.Reading.{values_of};
 ghost use Rattle.hidreport.specs.Records.{is_of_range, usages_in};
 ghost use Rattle.hidreport.specs.Tiling.{HasRange};
 ghost use Rattle.hidreport.specs.UsageRange.{range_of, HasExactly};
@@ -142,7 +143,7 @@ impl ArrayField {
             return Err(ParserError::OutOfBounds);
         }
         check_id(self.report_id, bytes)?;
-        self.element(bytes, idx)
+        self.element(bytes, self.element_width(), idx)
     }
 
     /// The same field once more, with a list of usages of its own; both share the list of
@@ -176,17 +177,21 @@ impl ArrayField {
         ensures memory { result ≡ Err ParserError.OutOfMemory
             → IsOk (values_of (array_record self.now) bytes.now) }
     {
-        self.check_elements(bytes)?;
         let count = usize::from(self.report_count);
+        let width = self.element_width();
+        self.check_elements(bytes, width)?;
         let mut values = Vec::with_capacity(*self.usages.allocator(), count)?;
         for idx in 0..count {
-            values.push(self.element(bytes, idx)?)?;
+            values.push_reserved(self.element(bytes, width, idx)?);
         }
         Ok(values)
     }
 
     /// Refuses where some element can't be read: where the last one can, so can those before it.
-    fn check_elements(&self, bytes: &[u8]) -> Result<(), ParserError>
+    fn check_elements(&self, bytes: &[u8], width: usize) -> Result<(), ParserError>
+        requires width { 0 < self.now.report_count → width
+            ≡ element_width self.now.bits.start self.now.bits.end self.now.report_count }
+        requires counted { self.now.bits.start + width * self.now.report_count < 2 ^ 64 }
         ensures readable { OnOk result (IsOk (values_of (array_record self.now) bytes.now)) }
         ensures refused { IfErr result (λ e.
             Refuses e (values_of (array_record self.now) bytes.now)) }
@@ -196,17 +201,31 @@ impl ArrayField {
         if count == 0 {
             return Ok(());
         }
-        self.element(bytes, count - 1)?;
+        self.element(bytes, width, count - 1)?;
         Ok(())
     }
 
-    /// The value of an element that is there, whatever the report's id.
-    fn element(&self, bytes: &[u8], idx: usize) -> Result<FieldValue, ParserError>
-        requires { idx < self.now.report_count }
+    /// How many bits an element has: the field's bits divided by the count, if it isn't 0.
+    fn element_width(&self) -> usize
+        ensures width { 0 < self.now.report_count → result
+            ≡ element_width self.now.bits.start self.now.bits.end self.now.report_count }
+        ensures counted { self.now.bits.start + result * self.now.report_count < 2 ^ 64 }
+    {
+        let width = self.bits.end.saturating_sub(self.bits.start);
+        width
+            .checked_div(usize::from(self.report_count))
+            .unwrap_or(0)
+    }
+
+    /// The value of an element that is there, of so many bits, whatever the report's id.
+    fn element(&self, bytes: &[u8], width: usize, idx: usize) -> Result<FieldValue, ParserError>
+        requires there { idx < self.now.report_count }
+        requires width { width
+            ≡ element_width self.now.bits.start self.now.bits.end self.now.report_count }
+        requires counted { self.now.bits.start + width * self.now.report_count < 2 ^ 64 }
         ensures answer { Answers result (element_of (array_record self.now) bytes.now idx) }
         ensures memory { result ≢ Err ParserError.OutOfMemory }
     {
-        let width = self.bits.end.saturating_sub(self.bits.start) / usize::from(self.report_count);
         let first = self.bits.start + width * idx;
         read_bits(bytes, &(first..first + width), self.is_signed())
     }

@@ -9,6 +9,7 @@ use hidreport_items::CollectionItem;
 use std::alloc::AllocError;
 use std::hash::{Hash, Hasher};
 use std::marker::Model;
+use std::slice;
 use std::sync::ArcSlice;
 
 /// The number of a collection, counted from 0 in the order of the descriptor.
@@ -41,6 +42,39 @@ impl CollectionId {
     }
 }
 
+/// The usages of a collection: one by itself, or a list that is shared.
+#[derive(Debug, Drop)]
+pub(crate) enum CollectionUsages {
+    One(Usage),
+    List(ArcSlice<Usage>),
+}
+
+impl CollectionUsages {
+    ghost use Rattle.std.specs.Prelude.{◌≡◌, IfOk};
+    ghost use Rattle.hidreport.specs.CollectionUsages.{collection_usages};
+
+    /// The usages as a slice.
+    pub(crate) fn as_slice(&self) -> &[Usage]
+        ensures { result.now ≡ collection_usages self.now }
+    {
+        match self {
+            CollectionUsages::One(usage) => slice::from_ref(usage),
+            CollectionUsages::List(usages) => usages.as_slice(),
+        }
+    }
+
+    /// The same usages once more; a list is shared. It takes no memory; an `AllocError` comes only
+    /// where a list would have 2^63 owners.
+    pub(crate) fn clone(&self) -> Result<CollectionUsages, AllocError>
+        ensures { IfOk result (λ copy. collection_usages copy ≡ collection_usages self.now) }
+    {
+        match self {
+            CollectionUsages::One(usage) => Ok(CollectionUsages::One(*usage)),
+            CollectionUsages::List(usages) => Ok(CollectionUsages::List(usages.clone()?)),
+        }
+    }
+}
+
 /// A group of fields that belong together (Section 6.2.2.6).
 ///
 /// Two collections are equal where their ids are.
@@ -48,11 +82,11 @@ impl CollectionId {
 pub struct Collection {
     id: CollectionId,
     collection_type: CollectionItem,
-    usages: ArcSlice<Usage>,
+    usages: CollectionUsages,
 }
 
 impl Model for Collection {
-    ghost use Rattle.std.specs.Arc.{arc_slice_items};
+    ghost use Rattle.hidreport.specs.CollectionUsages.{collection_usages};
     ghost use Rattle.hidreport.specs.Records.{CollectionRecord};
 
     ghost Value = { CollectionRecord };
@@ -60,23 +94,23 @@ impl Model for Collection {
     ghost view = { λ c. record {
       id = c.id;
       kind = c.collection_type;
-      usages = arc_slice_items c.usages;
+      usages = collection_usages c.usages;
     } };
 }
 
 impl Collection {
-    ghost use Rattle.std.specs.Arc.{arc_slice_items};
+    ghost use Rattle.hidreport.specs.CollectionUsages.{collection_usages};
 
     /// The collection with these parts.
     pub(crate) fn new(
         id: CollectionId,
         collection_type: CollectionItem,
-        usages: ArcSlice<Usage>,
+        usages: CollectionUsages,
     ) -> Collection
         ensures { result ≡ record {
           id = id;
           kind = collection_type;
-          usages = arc_slice_items usages;
+          usages = collection_usages usages;
         } }
     {
         Collection {

@@ -1,7 +1,8 @@
 ghost use Rattle.std.specs.Prelude.{◌≡◌, ◌≢◌, true, Ok, ◌+◌, ◌*◌, ◌<◌, ◌≤◌, ◌/◌, ◌%◌, ◌^◌, length};
 ghost use Rattle.std.specs.Int.{w8, w16, w32, cast_signed};
+ghost use Rattle.hidreport_items.specs.Numbers.{word};
 ghost use Rattle.hidreport_lists.specs.Answer.{Answers};
-ghost use Rattle.hidreport.specs.BitValue.{bit, sum_of_bits, value, as_word};
+ghost use Rattle.hidreport.specs.BitValue.{sum_of_bits, value, as_word};
 ghost use Rattle.hidreport.specs.Reading.{read_bits, with_id};
 
 use hidreport_lists::ParserError;
@@ -137,28 +138,32 @@ impl From<FieldValue> for i8 {
     }
 }
 
-/// A bit of a report, counted from the lowest of byte 0 on.
-fn bit(bytes: &[u8], n: usize) -> u32
-    requires { n < 8 * length bytes.now }
-    ensures value { result ≡ bit bytes.now n }
-    ensures small { result < 2 }
+/// At most five bytes as one number, the first as the lowest.
+fn word(bytes: &[u8]) -> u64
+    requires { length bytes.now ≤ 5 }
+    ensures { result ≡ word bytes.now }
 {
-    u32::from(bytes[n / 8] >> (n % 8) & 1)
+    match bytes {
+        [] => 0,
+        [a] => u64::from(*a),
+        [a, b] => u64::from(u16::from_le_bytes([*a, *b])),
+        [a, b, c] => u64::from(u32::from_le_bytes([*a, *b, *c, 0])),
+        [a, b, c, d] => u64::from(u32::from_le_bytes([*a, *b, *c, *d])),
+        [a, b, c, d, e, ..] => u64::from_le_bytes([*a, *b, *c, *d, *e, 0, 0, 0]),
+    }
 }
 
-/// The bits from `first` on as one number, the first as the lowest.
-fn sum_of_bits(bytes: &[u8], first: usize, width: usize) -> u32
+/// The bits from `first` on as one number, the first as the lowest: the few bytes that they
+/// touch, without the bits below and behind.
+fn sum_of_bits(bytes: &[u8], first: usize, width: usize) -> u64
     requires narrow { width ≤ 32 }
     requires within { first + width ≤ 8 * length bytes.now }
     requires counted { first + width < 2 ^ 64 }
     ensures value { result ≡ sum_of_bits bytes.now first width }
     ensures small { result < 2 ^ width }
 {
-    let mut sum = 0u64;
-    for i in 0..width {
-        sum += u64::from(bit(bytes, first + i)) << i;
-    }
-    sum as u32
+    let touched = &bytes[first / 8..(first + width).div_ceil(8)];
+    word(touched) >> (first % 8) & ((1 << width) - 1)
 }
 
 /// The same with the sign of its top bit, as 32 bits.
@@ -169,11 +174,11 @@ fn signed_bits(bytes: &[u8], first: usize, width: usize) -> u32
     requires counted { first + width < 2 ^ 64 }
     ensures { result ≡ as_word (value bytes.now first width true) }
 {
-    let sum = sum_of_bits(bytes, first, width - 1);
-    if bit(bytes, first + width - 1) == 0 {
-        sum
+    let sum = sum_of_bits(bytes, first, width);
+    if sum < 1 << (width - 1) {
+        sum as u32
     } else {
-        u32::MAX - ((1u64 << (width - 1)) - 1 - u64::from(sum)) as u32
+        ((1 << 32) - (1 << width) + sum) as u32
     }
 }
 
@@ -195,7 +200,7 @@ pub(crate) fn read_bits(
     let value = if is_signed {
         signed_bits(bytes, first, width)
     } else {
-        sum_of_bits(bytes, first, width)
+        sum_of_bits(bytes, first, width) as u32
     };
     Ok(FieldValue { is_signed, value })
 }

@@ -28,6 +28,9 @@ pub(crate) enum Fault {
     /// A count passes its limit.
     OutOfBounds,
 
+    /// The item is past the limit of a budget.
+    BudgetExceeded,
+
     /// A growth was refused.
     OutOfMemory,
 }
@@ -62,6 +65,7 @@ impl Fault {
             Fault::MissingUsagePage => "Missing UsagePage in globals",
             Fault::MissingUsages => "Missing Usages for main item",
             Fault::OutOfBounds => return ParserError::OutOfBounds,
+            Fault::BudgetExceeded => return ParserError::BudgetExceeded { offset },
             Fault::OutOfMemory => return ParserError::OutOfMemory,
         };
         invalid_data(alloc, offset, text)

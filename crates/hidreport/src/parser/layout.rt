@@ -10,12 +10,13 @@ use crate::field::constant_field::ConstantField;
 use crate::field::data_item::DataItem;
 use crate::field::variable_field::VariableField;
 use crate::field::{Field, FieldId};
+use crate::parser::budget::{Budget, weight_of_each};
 use crate::parser::fault::Fault;
 use crate::parser::globals::Globals;
 use crate::parser::in_force::InForce;
+use crate::parser::slot::{size_at, slot_of};
 use crate::parser::state::State;
 use crate::parser::usages::{Usages, usages_of};
-use crate::report::reports::{size_at, slot_of};
 use hidreport_types::{LogicalMaximum, LogicalMinimum, ReportCount};
 use std::alloc::{AllocError, Global};
 use std::ops::Range;
@@ -25,19 +26,29 @@ use std::sync::ArcSlice;
 const FIELD_IDS: u64 = 1 << 32;
 
 impl State {
-    ghost use Rattle.std.specs.Prelude.{◌≡◌, None, IfErr, OnOk};
+    ghost use Rattle.std.specs.Prelude.{◌≡◌, false, None, IfErr, OnOk};
+    ghost use Rattle.hidreport.specs.Parser.Budget.{is_past, left_behind, stop_in, weight_in};
     ghost use Rattle.hidreport.specs.Parser.DataItem.{as_item};
     ghost use Rattle.hidreport.specs.Parser.Machine.{fault_in, next_held};
     ghost use Rattle.hidreport.specs.Parser.Refusals.{IsFaultOf};
 
     /// Adds the fields of a data item to their report, which is made at need.
-    pub(crate) fn add_data(&mut self, alloc: Global, item: DataItem) -> Result<(), Fault>
+    pub(crate) fn add_data(
+        &mut self,
+        alloc: Global,
+        budget: &mut Budget,
+        item: DataItem,
+    ) -> Result<(), Fault>
         ensures faultless { OnOk result (fault_in self.old (as_item item) ≡ None) }
+        ensures within { OnOk result
+            (is_past budget.old (weight_in self.old (as_item item)) ≡ false) }
+        ensures left { OnOk result (budget.new
+            ≡ left_behind budget.old (weight_in self.old (as_item item))) }
         ensures held { OnOk result (self.new ≡ record self.old {
           descriptor = (next_held self.old (as_item item)).descriptor;
           fields = (next_held self.old (as_item item)).fields;
         }) }
-        ensures err { IfErr result (λ e. IsFaultOf e (fault_in self.old (as_item item))) }
+        ensures err { IfErr result (λ e. IsFaultOf e (stop_in budget.old self.old (as_item item))) }
     {
         let globals = *self.in_force.globals();
         let Some((size, count)) = globals.extent() else {
@@ -52,6 +63,8 @@ impl State {
         if field_count > FIELD_IDS || self.field_count > FIELD_IDS - field_count {
             return Err(Fault::OutOfBounds);
         }
+        let each = weight_of_each(&item, &usages, self.collections.weight());
+        budget.spend(item.field_count(count), each)?;
         let layout = Layout {
             globals,
             item,
@@ -61,8 +74,7 @@ impl State {
             size,
             count,
         };
-        let fields = layout.fields(alloc, usages)?;
-        self.reports.add(alloc, item.direction, slot, bits, fields)?;
+        self.reports.add(alloc, slot, bits, &layout, usages)?;
         self.field_count += field_count;
         Ok(())
     }
@@ -76,10 +88,10 @@ fn needed_usages(alloc: Global, item: &DataItem, in_force: &InForce) -> Result<U
         IsFaultOf e (usages_fault (item_flags item.now) in_force.now.now)) }
 {
     if item.is_constant {
-        return Ok(Usages::Single(Vec::new(alloc)));
+        return Ok(Usages::Several(Vec::new(alloc)));
     }
     let usages = usages_of(alloc, in_force)?;
-    if usages.is_empty() {
+    if usages.count() == 0 {
         return Err(Fault::MissingUsages);
     }
     Ok(usages)
@@ -101,10 +113,10 @@ fn bits_within(start: usize, size: usize, count: usize) -> Result<usize, Fault>
 
 /// What the fields of one item have in common.
 #[derive(Drop)]
-struct Layout {
+pub(crate) struct Layout {
     globals: Globals,
-    item: DataItem,
-    collections: ArcSlice<Collection>,
+    pub(crate) item: DataItem,
+    collections: Option<ArcSlice<Collection>>,
     first_id: u64,
     first_bit: usize,
     size: usize,
@@ -112,33 +124,35 @@ struct Layout {
 }
 
 impl Layout {
-    ghost use Rattle.std.specs.Prelude.{◌≡◌, ◌+◌, ◌*◌, ◌<◌, ◌≤◌, ◌^◌, false, []};
-    ghost use Rattle.std.specs.Prelude.{Some, length, IfOk, map};
-    ghost use Rattle.hidreport.specs.Fields.{each_from, field_count, make_place};
-    ghost use Rattle.hidreport.specs.Parser.Layout.{laid_out, shared_of, variable_of};
+    ghost use Rattle.std.specs.Arc.{arc_slice_items};
+    ghost use Rattle.std.specs.Prelude.{◌≡◌, ◌+◌, ◌++◌, ◌*◌, ◌<◌, ◌≤◌, ◌^◌, []};
+    ghost use Rattle.std.specs.Prelude.{Some, length, IfOk, OnOk, map};
+    ghost use Rattle.hidreport.specs.Fields.{each_from, make_place};
+    ghost use Rattle.hidreport.specs.Parser.Layout.{IsPossible, laid_out, shared_list, shared_of};
+    ghost use Rattle.hidreport.specs.Parser.Layout.{variable_of};
     ghost use Rattle.hidreport.specs.Parser.Usages.{usage_list};
-    ghost use Rattle.hidreport.specs.Records.{ArrayRecord, ConstantRecord, FieldRecord};
-    ghost use Rattle.hidreport.specs.Views.{field_record, item_flags};
+    ghost use Rattle.hidreport.specs.Records.{ArrayRecord, ConstantRecord};
+    ghost use Rattle.hidreport.specs.Views.{field_record};
 
-    /// The item's fields.
-    fn fields(&self, alloc: Global, usages: Usages) -> Result<Vec<Field>, AllocError>
-        requires ids { self.now.first_id + field_count (item_flags self.now.item) self.now.count
-            ≤ 2 ^ 32 }
-        requires bits { self.now.first_bit + self.now.size * self.now.count < 2 ^ 64 }
-        requires count { self.now.globals.report_count ≡ Some self.now.count }
-        requires usages { self.now.item.is_constant ≡ false
-            → 0 < length (usage_list usages).usages }
-        ensures { IfOk result (λ fields.
-            map field_record fields.items ≡ laid_out self.now (usage_list usages)) }
+    /// Adds the item's fields to those that are there.
+    pub(crate) fn add_fields(
+        &self,
+        alloc: Global,
+        usages: Usages,
+        fields: &mut Vec<Field>,
+    ) -> Result<(), AllocError>
+        requires { IsPossible self.now (usage_list usages) }
+        ensures { OnOk result (map field_record fields.new.items
+            ≡ map field_record fields.old.items ++ laid_out self.now (usage_list usages)) }
     {
         if self.item.is_constant {
-            return Ok(vec![in alloc; self.constant_field()]?);
+            fields.push(self.constant_field())?;
+        } else if self.item.is_variable {
+            self.add_variable_fields(alloc, &usages, fields)?;
+        } else {
+            fields.push(self.array_field(alloc, usages)?)?;
         }
-        if self.item.is_variable {
-            return self.variable_fields(alloc, &usages);
-        }
-        let field = self.array_field(alloc, usages)?;
-        Ok(vec![in alloc; field]?)
+        Ok(())
     }
 
     /// The padding.
@@ -155,31 +169,37 @@ impl Layout {
         })
     }
 
-    /// The fields of a variable item.
-    fn variable_fields(&self, alloc: Global, usages: &Usages) -> Result<Vec<Field>, AllocError>
+    /// Adds the fields of a variable item, for which the room is asked at once.
+    fn add_variable_fields(
+        &self,
+        alloc: Global,
+        usages: &Usages,
+        fields: &mut Vec<Field>,
+    ) -> Result<(), AllocError>
         requires ids { self.now.first_id + self.now.count ≤ 2 ^ 32 }
         requires bits { self.now.first_bit + self.now.size * self.now.count < 2 ^ 64 }
         requires usages { 0 < length (usage_list usages.now).usages }
-        ensures { IfOk result (λ fields. map field_record fields.items
-            ≡ each_from (variable_of self.now (usage_list usages.now)) 0 self.now.count) }
+        ensures { OnOk result (map field_record fields.new.items ≡ map field_record fields.old.items
+            ++ each_from (variable_of self.now (usage_list usages.now)) 0 self.now.count) }
     {
-        let mut fields = Vec::new(alloc);
+        fields.reserve(self.count)?;
         for c in 0..self.count {
-            fields.push(self.variable_field(usages, c)?)?;
+            let collections = self.shared_collections(alloc)?;
+            fields.push_reserved(self.variable_field(collections, usages, c));
         }
-        Ok(fields)
+        Ok(())
     }
 
-    /// Field number `c` of a variable item.
-    fn variable_field(&self, usages: &Usages, c: usize) -> Result<Field, AllocError>
+    /// Field number `c` of a variable item, in these collections.
+    fn variable_field(&self, collections: ArcSlice<Collection>, usages: &Usages, c: usize) -> Field
         requires ids { self.now.first_id + c < 2 ^ 32 }
         requires bits { self.now.first_bit + self.now.size * (c + 1) < 2 ^ 64 }
         requires usages { 0 < length (usage_list usages.now).usages }
-        ensures { IfOk result (λ field.
-            field_record field ≡ variable_of self.now (usage_list usages.now) c) }
+        requires collections { arc_slice_items collections ≡ shared_list self.now.collections }
+        ensures { field_record result ≡ variable_of self.now (usage_list usages.now) c }
     {
         let globals = &self.globals;
-        Ok(Field::Variable(VariableField {
+        Field::Variable(VariableField {
             id: FieldId::new((self.first_id + c as u64) as u32),
             report_id: globals.report_id,
             bits: self.bits(c),
@@ -190,9 +210,9 @@ impl Layout {
             physical_maximum: globals.physical_maximum(),
             unit: globals.unit,
             unit_exponent: globals.unit_exponent,
-            collections: self.collections.clone()?,
+            collections,
             item: self.item,
-        }))
+        })
     }
 
     /// The field of an array item, which has all the usages.
@@ -220,9 +240,20 @@ impl Layout {
             physical_maximum: globals.physical_maximum(),
             unit: globals.unit,
             unit_exponent: globals.unit_exponent,
-            collections: self.collections.clone()?,
+            collections: self.shared_collections(alloc)?,
             item: self.item,
         }))
+    }
+
+    /// The collections that the item's fields lie in.
+    fn shared_collections(&self, alloc: Global) -> Result<ArcSlice<Collection>, AllocError>
+        ensures { IfOk result (λ shared.
+            arc_slice_items shared ≡ shared_list self.now.collections) }
+    {
+        match &self.collections {
+            Some(shared) => shared.clone(),
+            None => ArcSlice::from_vec(Vec::new(alloc)),
+        }
     }
 
     /// The bits of field number `c` of a variable item.

@@ -1,8 +1,9 @@
 ghost use Rattle.std.specs.Prelude.{◌≡◌, IfOk};
 
-use crate::field::collection::{Collection, CollectionId};
+use crate::field::collection::Collection;
 use crate::field::data_item::DataItem;
-use crate::field::usage::Usage;
+use crate::parser::open_collection::OpenCollection;
+use crate::parser::usages::Usages;
 use hidreport_items::CollectionItem;
 use std::alloc::{AllocError, Global};
 use std::marker::Model;
@@ -13,26 +14,33 @@ use std::sync::ArcSlice;
 /// Fields share a list of them, which is kept as long as no collection opens or closes.
 #[derive(Debug, Drop)]
 pub(crate) struct OpenCollections {
-    open: Vec<Collection>,
+    open: Vec<OpenCollection>,
     count: u64,
+    weight: u128,
     shared: Option<ArcSlice<Collection>>,
 }
 
 impl Model for OpenCollections {
     ghost use Rattle.std.specs.Arc.{arc_slice_items};
-    ghost use Rattle.std.specs.Prelude.{◌≡◌, IfSome};
+    ghost use Rattle.std.specs.Prelude.{◌≡◌, ◌≤◌, ◌*◌, ◌^◌, IfSome, sum_by};
     ghost use Rattle.hidreport.specs.Parser.Opened.{Opened};
+    ghost use Rattle.hidreport.specs.Weight.{collection_weight};
 
     ghost Value = { Opened };
 
     ghost view = { λ o. record { list = o.open.items; count = o.count } };
 
-    ghost invariant = { λ o. IfSome o.shared (λ s. arc_slice_items s ≡ o.open.items) };
+    ghost invariant = { λ o. IfSome o.shared (λ s. arc_slice_items s ≡ o.open.items)
+        × (o.weight ≡ sum_by collection_weight o.open.items)
+        × (o.weight ≤ o.count * 2 ^ 64) × (o.count ≤ 2 ^ 32) };
 }
 
 impl OpenCollections {
     ghost use Rattle.std.specs.Arc.{arc_slice_items};
-    ghost use Rattle.std.specs.Prelude.{◌≡◌, ◌<◌, ◌+◌, ◌-◌, ◌^◌, true, false, [], ◌∷◌, ◌++◌, length, take, IfOk, OnOk};
+    ghost use Rattle.std.specs.Prelude.{◌≡◌, ◌<◌, ◌+◌, ◌-◌, ◌^◌, ◌≤◌, true, false, [], ◌∷◌, ◌++◌, length, sum_by, take, IfOk, OnOk};
+    ghost use Rattle.hidreport.specs.Parser.Layout.{shared_list};
+    ghost use Rattle.hidreport.specs.Parser.Usages.{usage_list};
+    ghost use Rattle.hidreport.specs.Weight.{collection_weight};
 
     /// None is open.
     pub(crate) fn new(alloc: Global) -> OpenCollections
@@ -41,6 +49,7 @@ impl OpenCollections {
         OpenCollections {
             open: Vec::new(alloc),
             count: 0,
+            weight: 0,
             shared: None,
         }
     }
@@ -52,27 +61,36 @@ impl OpenCollections {
         self.count
     }
 
+    /// What they weigh together in a field (see `try_from_within`).
+    pub(crate) fn weight(&self) -> u128
+        ensures weight { result ≡ sum_by collection_weight self.now.list }
+        ensures bound { result ≤ 2 ^ 96 }
+    {
+        self.weight
+    }
+
     /// Opens one with these parts and the next number.
     pub(crate) fn open(
         &mut self,
         collection_type: CollectionItem,
-        usages: ArcSlice<Usage>,
+        usages: Usages,
     ) -> Result<(), AllocError>
         requires { self.old.count < 2 ^ 32 }
         ensures { OnOk result (self.new ≡ record {
           list = self.old.list ++ record {
             id = self.old.count;
             kind = collection_type;
-            usages = arc_slice_items usages;
+            usages = (usage_list usages).usages;
           } ∷ [];
           count = self.old.count + 1;
         }) }
     {
-        let id = CollectionId::new(self.count as u32);
+        let collection = OpenCollection::new(self.count as u32, collection_type, usages)?;
+        let weight = self.weight + collection.weight();
         self.shared = None;
-        let collection = Collection::new(id, collection_type, usages);
         self.open.push(collection)?;
         self.count += 1;
+        self.weight = weight;
         Ok(())
     }
 
@@ -85,7 +103,11 @@ impl OpenCollections {
         ensures none { result ≡ false → self.old.list ≡ [] }
     {
         self.shared = None;
-        self.open.pop().is_some()
+        let Some(closed) = self.open.pop() else {
+            return false;
+        };
+        self.weight -= closed.weight();
+        true
     }
 
     /// The list of them for the fields of an item; padding lies in none, so none is made for it.
@@ -93,15 +115,15 @@ impl OpenCollections {
         &mut self,
         alloc: Global,
         item: &DataItem,
-    ) -> Result<ArcSlice<Collection>, AllocError>
+    ) -> Result<Option<ArcSlice<Collection>>, AllocError>
         ensures all { IfOk result (λ shared.
-            item.now.is_constant ≡ false → arc_slice_items shared ≡ self.old.list) }
+            item.now.is_constant ≡ false → shared_list shared ≡ self.old.list) }
         ensures same { self.new ≡ self.old }
     {
         if item.is_constant {
-            return ArcSlice::from_vec(Vec::new(alloc));
+            return Ok(None);
         }
-        self.share(alloc)
+        Ok(Some(self.share(alloc)?))
     }
 
     /// The list of them that fields share.
@@ -112,19 +134,20 @@ impl OpenCollections {
         if let Some(shared) = &self.shared {
             return shared.clone();
         }
-        let shared = ArcSlice::from_vec(copies(alloc, &self.open)?)?;
+        let shared = ArcSlice::from_vec(carried(alloc, &mut self.open)?)?;
         self.shared = Some(shared.clone()?);
         Ok(shared)
     }
 }
 
-/// The same collections once more.
-fn copies(alloc: Global, collections: &[Collection]) -> Result<Vec<Collection>, AllocError>
-    ensures { IfOk result (λ copies. copies.items ≡ collections.now) }
+/// The collections as fields carry them.
+fn carried(alloc: Global, opened: &mut [OpenCollection]) -> Result<Vec<Collection>, AllocError>
+    ensures all { IfOk result (λ collections. collections.items ≡ opened.old) }
+    ensures same { opened.new ≡ opened.old }
 {
-    let mut copies = Vec::with_capacity(alloc, collections.len())?;
-    for collection in collections {
-        copies.push(collection.clone()?)?;
+    let mut collections = Vec::with_capacity(alloc, opened.len())?;
+    for collection in opened.iter_mut() {
+        collections.push_reserved(collection.carried(alloc)?);
     }
-    Ok(copies)
+    Ok(collections)
 }

@@ -1,4 +1,5 @@
 use crate::field::data_item::DataItem;
+use crate::parser::budget::Budget;
 use crate::parser::fault::Fault;
 use crate::parser::in_force::InForce;
 use crate::parser::open_collections::OpenCollections;
@@ -7,7 +8,6 @@ use crate::report::reports::Reports;
 use hidreport_items::{CollectionItem, GlobalItem, ItemType, MainItem};
 use std::alloc::Global;
 use std::marker::Model;
-use std::sync::ArcSlice;
 
 /// How many collections have an id.
 const COLLECTION_IDS: u64 = 1 << 32;
@@ -37,7 +37,8 @@ impl Model for State {
 }
 
 impl State {
-    ghost use Rattle.std.specs.Prelude.{◌≡◌, ◌+◌, None, Ok, IfErr, OnOk};
+    ghost use Rattle.std.specs.Prelude.{◌≡◌, ◌+◌, false, None, Ok, IfErr, OnOk};
+    ghost use Rattle.hidreport.specs.Parser.Budget.{is_past, left_behind, stop_in, weight_in};
     ghost use Rattle.hidreport.specs.Parser.Machine.{fault_in, next_opened, nothing_held, step};
     ghost use Rattle.hidreport.specs.Parser.Refusals.{IsFaultOf};
     ghost use Rattle.hidreport.specs.Parser.DataItem.{collection, end_collection};
@@ -55,14 +56,21 @@ impl State {
     }
 
     /// Goes on by one item.
-    pub(crate) fn take(&mut self, alloc: Global, item: ItemType) -> Result<(), Fault>
+    pub(crate) fn take(
+        &mut self,
+        alloc: Global,
+        budget: &mut Budget,
+        item: ItemType,
+    ) -> Result<(), Fault>
         ensures ok { OnOk result (step self.old item ≡ Ok self.new) }
-        ensures err { IfErr result (λ e. IsFaultOf e (fault_in self.old item)) }
+        ensures within { OnOk result (is_past budget.old (weight_in self.old item) ≡ false) }
+        ensures left { OnOk result (budget.new ≡ left_behind budget.old (weight_in self.old item)) }
+        ensures err { IfErr result (λ e. IsFaultOf e (stop_in budget.old self.old item)) }
     {
         match item {
             ItemType::Global(item) => self.take_global(item)?,
             ItemType::Local(item) => self.in_force.add_local(item)?,
-            ItemType::Main(item) => self.take_main(alloc, item)?,
+            ItemType::Main(item) => self.take_main(alloc, budget, item)?,
             ItemType::Long | ItemType::Reserved => {}
         }
         Ok(())
@@ -86,15 +94,20 @@ impl State {
     }
 
     /// The locals end with the item.
-    fn take_main(&mut self, alloc: Global, item: MainItem) -> Result<(), Fault>
+    fn take_main(&mut self, alloc: Global, budget: &mut Budget, item: MainItem) -> Result<(), Fault>
         ensures ok { OnOk result (step self.old (ItemType.Main item) ≡ Ok self.new) }
-        ensures err { IfErr result (λ e. IsFaultOf e (fault_in self.old (ItemType.Main item))) }
+        ensures within { OnOk result
+            (is_past budget.old (weight_in self.old (ItemType.Main item)) ≡ false) }
+        ensures left { OnOk result (budget.new
+            ≡ left_behind budget.old (weight_in self.old (ItemType.Main item))) }
+        ensures err { IfErr result (λ e.
+            IsFaultOf e (stop_in budget.old self.old (ItemType.Main item))) }
     {
         match item {
-            MainItem::Input(item) => self.add_data(alloc, DataItem::from(item))?,
-            MainItem::Output(item) => self.add_data(alloc, DataItem::from(item))?,
-            MainItem::Feature(item) => self.add_data(alloc, DataItem::from(item))?,
-            MainItem::Collection(item) => self.open_collection(alloc, item)?,
+            MainItem::Input(item) => self.add_data(alloc, budget, DataItem::from(item))?,
+            MainItem::Output(item) => self.add_data(alloc, budget, DataItem::from(item))?,
+            MainItem::Feature(item) => self.add_data(alloc, budget, DataItem::from(item))?,
+            MainItem::Collection(item) => self.open_collection(alloc, budget, item)?,
             MainItem::EndCollection => self.close_collection()?,
         }
         self.in_force.end_locals()?;
@@ -102,19 +115,29 @@ impl State {
     }
 
     /// Opens a collection with the usages in force.
-    fn open_collection(&mut self, alloc: Global, item: CollectionItem) -> Result<(), Fault>
+    fn open_collection(
+        &mut self,
+        alloc: Global,
+        budget: &mut Budget,
+        item: CollectionItem,
+    ) -> Result<(), Fault>
         ensures faultless { OnOk result (fault_in self.old (collection item) ≡ None) }
+        ensures within { OnOk result
+            (is_past budget.old (weight_in self.old (collection item)) ≡ false) }
+        ensures left { OnOk result (budget.new
+            ≡ left_behind budget.old (weight_in self.old (collection item))) }
         ensures held { OnOk result (self.new ≡ record self.old {
           opened = next_opened self.old (collection item);
           collections = self.old.collections + 1;
         }) }
-        ensures err { IfErr result (λ e. IsFaultOf e (fault_in self.old (collection item))) }
+        ensures err { IfErr result (λ e.
+            IsFaultOf e (stop_in budget.old self.old (collection item))) }
     {
         let usages = usages_of(alloc, &self.in_force)?;
         if self.collections.count() >= COLLECTION_IDS {
             return Err(Fault::OutOfBounds);
         }
-        let usages = ArcSlice::from_vec(usages.into_list(alloc)?)?;
+        budget.spend(1, 1 + usages.count() as u128)?;
         self.collections.open(item, usages)?;
         Ok(())
     }

@@ -1,44 +1,44 @@
 //! The usages of an item (Section 6.2.2.8).
-ghost use Rattle.std.specs.Prelude.{◌≡◌, ◌+◌, ◌-◌, ◌%◌, IfOk};
+ghost use Rattle.std.specs.Prelude.{◌≡◌};
 ghost use Rattle.hidreport.specs.Parser.Refusals.{Finds};
 ghost use Rattle.hidreport.specs.Parser.Usages.{one_usage, usage_list};
-ghost use Rattle.hidreport.specs.Usages.{last_local, make_usage, maximum_of, minimum_of, range_from, single_usages, usages_of};
+ghost use Rattle.hidreport.specs.Usages.{as_single, last_local, maximum_of, minimum_of};
+ghost use Rattle.hidreport.specs.Usages.{single_usages, usages_of};
 
 use crate::field::usage::Usage;
 use crate::parser::fault::Fault;
 use crate::parser::in_force::InForce;
+use crate::parser::usage_bounds::UsageBounds;
 use hidreport_items::LocalItem;
-use hidreport_types::{UsageId, UsageMaximum, UsageMinimum, UsagePage};
+use hidreport_types::{UsageMaximum, UsageMinimum, UsagePage};
 use std::alloc::{AllocError, Global};
 
 /// The usages of an item: those from a minimum to a maximum, which aren't listed, or single ones.
 #[derive(Debug, Drop)]
 pub(crate) enum Usages {
-    /// The low 16 bits of each number from the minimum to the maximum, each under the page.
-    Range {
-        page: UsagePage,
-        minimum: u32,
-        maximum: u32,
-    },
-    Single(Vec<Usage>),
+    /// From a minimum to a maximum.
+    Range(UsageBounds),
+
+    /// One by itself.
+    One(Usage),
+
+    /// None, or several, one by one.
+    Several(Vec<Usage>),
 }
 
 impl Usages {
-    ghost use Rattle.std.specs.Prelude.{◌≡◌, ◌<◌, ◌==◌, length, IfOk};
+    ghost use Rattle.std.specs.Prelude.{◌≡◌, ◌<◌, ◌==◌, ◌++◌, ◌∷◌, [], false, length, IfOk};
     ghost use Rattle.hidreport.specs.Fields.{usage_at};
     ghost use Rattle.hidreport.specs.Parser.Usages.{usage_list};
 
-    /// Whether there are none.
-    pub(crate) fn is_empty(&self) -> bool
-        ensures { result ≡ (length (usage_list self.now).usages == 0) }
+    /// How many there are.
+    pub(crate) fn count(&self) -> u64
+        ensures { result ≡ length (usage_list self.now).usages }
     {
         match self {
-            Usages::Range {
-                minimum,
-                maximum,
-                ..
-            } => minimum > maximum,
-            Usages::Single(usages) => usages.is_empty(),
+            Usages::Range(bounds) => bounds.count(),
+            Usages::One(_) => 1,
+            Usages::Several(usages) => usages.len() as u64,
         }
     }
 
@@ -46,7 +46,7 @@ impl Usages {
     pub(crate) fn is_range(&self) -> bool
         ensures { result ≡ (usage_list self.now).is_range }
     {
-        matches!(self, Usages::Range { .. })
+        matches!(self, Usages::Range(_))
     }
 
     /// Usage number `c`, or the last one where there are fewer.
@@ -55,15 +55,9 @@ impl Usages {
         ensures { result ≡ usage_at (usage_list self.now).usages c }
     {
         match self {
-            Usages::Range {
-                page,
-                minimum,
-                maximum,
-            } => {
-                let behind = c.min((maximum - minimum) as usize);
-                usage_of(*page, minimum + behind as u32)
-            }
-            Usages::Single(usages) => usages[c.min(usages.len() - 1)],
+            Usages::Range(bounds) => bounds.at(c),
+            Usages::One(usage) => *usage,
+            Usages::Several(usages) => usages[c.min(usages.len() - 1)],
         }
     }
 
@@ -72,38 +66,29 @@ impl Usages {
         ensures { IfOk result (λ list. list.items ≡ (usage_list self).usages) }
     {
         match self {
-            Usages::Range {
-                page,
-                minimum,
-                maximum,
-            } => range_list(alloc, page, minimum, maximum),
-            Usages::Single(usages) => Ok(usages),
+            Usages::Range(bounds) => bounds.list(alloc),
+            Usages::One(usage) => Vec::from_slice(alloc, &[usage]),
+            Usages::Several(usages) => Ok(usages),
         }
     }
-}
 
-/// The usage with the low 16 bits of this number on the page.
-fn usage_of(page: UsagePage, number: u32) -> Usage
-    ensures { result ≡ make_usage page (number % 65536) }
-{
-    Usage::from_page_and_id(page, UsageId::from((number & 0xffff) as u16))
-}
-
-/// The usages from the minimum to the maximum.
-fn range_list(
-    alloc: Global,
-    page: UsagePage,
-    minimum: u32,
-    maximum: u32,
-) -> Result<Vec<Usage>, AllocError>
-    ensures { IfOk result (λ list. list.items ≡ range_from page minimum (maximum + 1 - minimum)) }
-{
-    let count = (u64::from(maximum) + 1).saturating_sub(u64::from(minimum)) as usize;
-    let mut list = Vec::with_capacity(alloc, count)?;
-    for behind in 0..count {
-        list.push(usage_of(page, minimum + behind as u32))?;
+    /// Single usages with one more.
+    fn with(self, alloc: Global, usage: Usage) -> Result<Usages, AllocError>
+        requires { (usage_list self).is_range ≡ false }
+        ensures { IfOk result (λ usages. usage_list usages ≡ record (usage_list self) {
+          usages = (usage_list self).usages ++ usage ∷ [];
+        }) }
+    {
+        match self {
+            Usages::Range(_) => unreachable!(),
+            Usages::One(first) => Ok(Usages::Several(Vec::from_slice(alloc, &[first, usage])?)),
+            Usages::Several(usages) if usages.is_empty() => Ok(Usages::One(usage)),
+            Usages::Several(mut usages) => {
+                usages.push(usage)?;
+                Ok(Usages::Several(usages))
+            }
+        }
     }
-    Ok(list)
 }
 
 /// The usages that what is in force gives an item.
@@ -116,7 +101,7 @@ pub(crate) fn usages_of(alloc: Global, in_force: &InForce) -> Result<Usages, Fau
     let locals = in_force.locals();
     let page = in_force.globals().usage_page;
     let Some(minimum) = last_minimum(locals) else {
-        return Ok(Usages::Single(single_usages(alloc, page, locals)?));
+        return single_usages(alloc, page, locals);
     };
     let Some(maximum) = last_maximum(locals) else {
         return Err(Fault::MissingUsageMaximum);
@@ -124,11 +109,11 @@ pub(crate) fn usages_of(alloc: Global, in_force: &InForce) -> Result<Usages, Fau
     let Some(page) = page else {
         return Err(Fault::MissingUsagePage);
     };
-    Ok(Usages::Range {
+    Ok(Usages::Range(UsageBounds {
         page,
         minimum: u32::from(minimum),
         maximum: u32::from(maximum),
-    })
+    }))
 }
 
 /// The last minimum.
@@ -162,13 +147,13 @@ fn single_usages(
     alloc: Global,
     page: Option<UsagePage>,
     locals: &[LocalItem],
-) -> Result<Vec<Usage>, Fault>
-    ensures { Finds (λ us. us.items) result (single_usages page locals.now) }
+) -> Result<Usages, Fault>
+    ensures { Finds usage_list result (as_single (single_usages page locals.now)) }
 {
-    let mut usages = Vec::new(alloc);
+    let mut usages = Usages::Several(Vec::new(alloc));
     for local in locals {
         if let Some(usage) = single_usage(&page, *local)? {
-            usages.push(usage)?;
+            usages = usages.with(alloc, usage)?;
         }
     }
     Ok(usages)

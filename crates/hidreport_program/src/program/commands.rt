@@ -2,6 +2,8 @@
 ghost use Rattle.std.specs.Prelude.{◌≡◌, IfSome, IsNone, map, string_bytes};
 ghost use Rattle.hidreport_program.specs.Command.{AsksFor, reads_report};
 
+use super::limits::limit_of;
+
 /// What the program is asked to do.
 #[derive(Debug, Clone, Copy, PartialEq)]
 pub enum Command {
@@ -9,6 +11,8 @@ pub enum Command {
     Items,
     /// The fields of a report, with their values.
     Values,
+    /// The same, unless listing the descriptor's fields passes this limit.
+    ValuesWithin(usize),
     /// The canonical bytes of a descriptor's items.
     Rebuild,
 }
@@ -19,7 +23,7 @@ impl Command {
         ensures { result ≡ reads_report self }
     {
         match self {
-            Command::Values => true,
+            Command::Values | Command::ValuesWithin(_) => true,
             Command::Items | Command::Rebuild => false,
         }
     }
@@ -28,8 +32,10 @@ impl Command {
 /// The command that `words` ask for, the words after the program's name.
 ///
 /// It is the one whose name is the first word, with one more word for `items` and `rebuild`, the
-/// name of a file, and two for `values`.
-/// Answers `None` for all other words: none, an unknown first word, one missing or one too many.
+/// name of a file, two for `values`, and for `values-within` a limit before these two: one or more
+/// ASCII digits, of a number that a `usize` holds.
+/// Answers `None` for all other words: none, an unknown first word, one missing or one too many,
+/// another limit.
 pub fn command_of(words: &[String]) -> Option<Command>
     ensures asked { IfSome result (AsksFor (map string_bytes words.now)) }
     ensures wrong { IsNone result → (command : Command)
@@ -38,6 +44,9 @@ pub fn command_of(words: &[String]) -> Option<Command>
     match words {
         [name, _] if name.as_str() == "items" => Some(Command::Items),
         [name, _, _] if name.as_str() == "values" => Some(Command::Values),
+        [name, limit, _, _] if name.as_str() == "values-within" => {
+            Some(Command::ValuesWithin(limit_of(limit.as_str())?))
+        }
         [name, _] if name.as_str() == "rebuild" => Some(Command::Rebuild),
         _ => None,
     }

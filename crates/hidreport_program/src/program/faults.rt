@@ -31,7 +31,9 @@ pub fn line_of(fault: Fault) -> &'static str
     ensures { result.now ≡ fault_line fault }
 {
     match fault {
-        Fault::Arguments => "usage: hidreport items FILE | values FILE REPORT | rebuild FILE",
+        Fault::Arguments => {
+            "usage: hidreport items FILE | values FILE REPORT | values-within LIMIT FILE REPORT | rebuild FILE"
+        }
         Fault::Open => "fault: open",
         Fault::Run(RunFault::Read) => "fault: read",
         Fault::Run(RunFault::Write) => "fault: write",

@@ -45,6 +45,7 @@ pub fn text_of(
     match command {
         Command::Items => items(alloc, descriptor),
         Command::Values => values(alloc, descriptor, report),
+        Command::ValuesWithin(limit) => values_within(alloc, limit, descriptor, report),
         Command::Rebuild => rebuilt(alloc, descriptor),
     }
 }
@@ -101,6 +102,25 @@ fn values(alloc: Global, descriptor: &[u8], report: &[u8]) -> Result<Written, Al
     }
 }
 
+/// What `values-within` writes of a descriptor's and a report's bytes.
+#[tactic(auto, unfolding(crate::specs::Output::output))]
+fn values_within(
+    alloc: Global,
+    limit: usize,
+    descriptor: &[u8],
+    report: &[u8],
+) -> Result<Written, AllocError>
+    ensures text { IfOk result (λ w. string_bytes w.text
+        ≡ (output (Command.ValuesWithin limit) descriptor.now report.now).text) }
+    ensures outcome { IfOk result (λ w. w.outcome
+        ≡ (output (Command.ValuesWithin limit) descriptor.now report.now).outcome) }
+{
+    match ReportDescriptor::try_from_within(alloc, descriptor, limit) {
+        Ok(announced) => found(alloc, &announced, report),
+        Err(error) => refused(alloc, &error),
+    }
+}
+
 /// The values of the input report that `bytes` are of, or that there is none.
 fn found(alloc: Global, descriptor: &ReportDescriptor, bytes: &[u8]) -> Result<Written, AllocError>
     ensures text { IfOk result (λ w.
@@ -145,6 +165,9 @@ fn refusal_text(alloc: Global, error: &ParserError) -> Result<String, AllocError
         }
         ParserError::OutOfBounds | ParserError::MismatchingReportId => {
             String::from_str(alloc, "refused: out of bounds\n")
+        }
+        ParserError::BudgetExceeded { offset } => {
+            format!(in alloc; "refused: budget exceeded at offset {offset}\n")
         }
         ParserError::OutOfMemory => Err(AllocError),
     }

@@ -351,6 +351,32 @@ fn usages_with_pages_of_their_own(rt: HostRuntime) {
     shows(&rt, descriptor, report, Outcome::Done, text);
 }
 
+#[test]
+fn values_under_a_budget(rt: HostRuntime) -> Result<(), Fail> {
+    let rows: [(usize, Outcome, &[u8]); 4] = [
+        (usize::MAX, Outcome::Done, TWO_AXES_TEXT),
+        (2, Outcome::Done, TWO_AXES_TEXT),
+        (
+            1,
+            Outcome::Refused,
+            b"refused: budget exceeded at offset 14\n",
+        ),
+        (
+            0,
+            Outcome::Refused,
+            b"refused: budget exceeded at offset 14\n",
+        ),
+    ];
+    for (limit, outcome, text) in rows {
+        let mut written = Vec::new(rt.alloc());
+        let command = Command::ValuesWithin(limit);
+        let answer = run_on(rt.alloc(), command, TWO_AXES, b"\x05\xfb", &mut written);
+        assert_eq!(rt; answer, Ok(outcome));
+        assert_eq!(rt; written.as_slice(), text);
+    }
+    Ok(())
+}
+
 // Six reads give the descriptor, three bytes a read, and a seventh its end.
 #[test]
 fn failed_read_writes_nothing(rt: HostRuntime) -> Result<(), Fail> {

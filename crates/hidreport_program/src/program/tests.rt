@@ -35,6 +35,55 @@ fn a_descriptor_alone(rt: HostRuntime) -> Result<(), Fail> {
 }
 
 #[test]
+fn values_within_a_limit(rt: HostRuntime) -> Result<(), Fail> {
+    let rows = [
+        ("0", 0),
+        ("8", 8),
+        ("000008", 8),
+        ("65536", 65_536),
+        ("18446744073709551615", usize::MAX),
+        ("00018446744073709551615", usize::MAX),
+    ];
+    for (limit, number) in rows {
+        let words = ["values-within", limit, "mouse", "report"];
+        let command = command_for(rt.alloc(), &words)?;
+        assert_eq!(rt; command, Some(Command::ValuesWithin(number)));
+    }
+    let wrong = [
+        "",
+        "+5",
+        "-5",
+        "5 ",
+        " 5",
+        "1e3",
+        "0x10",
+        "5.0",
+        "five",
+        "+",
+        "18446744073709551616",
+        "99999999999999999999999",
+    ];
+    for limit in wrong {
+        let words = ["values-within", limit, "mouse", "report"];
+        assert_eq!(rt; command_for(rt.alloc(), &words)?, None);
+    }
+    assert_eq!(rt;
+        command_for(rt.alloc(), &["values-within", "8", "mouse"])?,
+        None
+    );
+    let command = command_for(
+        rt.alloc(),
+        &["values-within", "8", "mouse", "report", "more"],
+    )?;
+    assert_eq!(rt; command, None);
+    assert_eq!(rt;
+        command_for(rt.alloc(), &["values", "8", "mouse", "report"])?,
+        None
+    );
+    Ok(())
+}
+
+#[test]
 fn other_words(rt: HostRuntime) -> Result<(), Fail> {
     assert_eq!(rt; command_for(rt.alloc(), &[])?, None);
     assert_eq!(rt; command_for(rt.alloc(), &["values"])?, None);

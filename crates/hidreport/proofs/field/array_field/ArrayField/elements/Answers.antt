@@ -14,5 +14,8 @@ returns-in_err-element-clause-answer c =
 pub loop-idx-preserved : goal.loop-idx-preserved
 loop-idx-preserved c =
     let f = c.args.self.now in
-    let is_signed = int_lt f.logical_minimum (pos 0) in
-    rw c.in_ok-push.ensures.items (elements_from-more f.bits.start f.bits.end f.report_count is_signed c.args.bytes.now c.loop-idx.idx c.loop-idx.values.items c.in_ok-element.field-0 c.loop-idx.invariant c.in_ok-element.ensures.answer)
+    let is_signed = int_lt f.logical_minimum (pos 0) in (
+      rw c.push_reserved.ensures.items (elements_from-more f.bits.start f.bits.end f.report_count is_signed c.args.bytes.now c.loop-idx.idx c.loop-idx.values.items c.in_ok-element.field-0 c.loop-idx.invariant.0 c.in_ok-element.ensures.answer),
+      omega (arith, c.push_reserved.ensures.len, c.loop-idx.invariant.1),
+      omega (arith, c.push_reserved.ensures.capacity, c.loop-idx.invariant.2),
+    )

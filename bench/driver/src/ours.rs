@@ -1,0 +1,50 @@
+//! This library, by the static library `bench`.
+use crate::facts::{Facts, Frames};
+
+// As ../../ours/lib.source has them: a slice is a pointer and a length, and an allocator is nothing.
+#[link(name = "bench", kind = "static")]
+#[link(name = "libc_c", kind = "static")]
+unsafe extern "C" {
+    fn bench_itemise(bytes: *const u8, length: usize) -> usize;
+    fn bench_parse(bytes: *const u8, length: usize) -> usize;
+    fn bench_rebuild(bytes: *const u8, length: usize) -> usize;
+    fn bench_facts(bytes: *const u8, length: usize) -> Facts;
+    fn bench_read(
+        bytes: *const u8,
+        length: usize,
+        frames: *const u8,
+        frames_length: usize,
+        frame_size: usize,
+        rounds: usize,
+    ) -> u64;
+}
+
+pub fn itemise(bytes: &[u8]) -> usize {
+    // SAFETY: pointer and length are those of one slice, here and below.
+    unsafe { bench_itemise(bytes.as_ptr(), bytes.len()) }
+}
+
+pub fn parse(bytes: &[u8]) -> usize {
+    unsafe { bench_parse(bytes.as_ptr(), bytes.len()) }
+}
+
+pub fn rebuild(bytes: &[u8]) -> usize {
+    unsafe { bench_rebuild(bytes.as_ptr(), bytes.len()) }
+}
+
+pub fn facts(bytes: &[u8]) -> Facts {
+    unsafe { bench_facts(bytes.as_ptr(), bytes.len()) }
+}
+
+pub fn read(bytes: &[u8], frames: &Frames, rounds: usize) -> u64 {
+    unsafe {
+        bench_read(
+            bytes.as_ptr(),
+            bytes.len(),
+            frames.bytes.as_ptr(),
+            frames.bytes.len(),
+            frames.size,
+            rounds,
+        )
+    }
+}

@@ -1,0 +1,64 @@
+-- The walk under a budget: what of it is left between two items, and what an item spends.
+use Rattle.std.specs.Prelude.{ℕ, ◌+◌, ◌-◌, nat_lt, Bool, true, false, if◌then◌else◌, List, [], ◌∷◌, length, sum_by, Option, None, Some, Result, Ok, Err}
+use Rattle.hidreport_items.specs.Flags.{Flags}
+use Rattle.hidreport_items.specs.declared.main_item.CollectionItem.{CollectionItem}
+use Rattle.hidreport_items.specs.declared.item.ItemType.{ItemType}
+use Rattle.hidreport.specs.Fields.{fields_of, list_or_none}
+use Rattle.hidreport.specs.InForce.{Force, first_of}
+use Rattle.hidreport.specs.Kinds.{Direction, collection_of, data_of}
+use Rattle.hidreport.specs.Making.{extent}
+use Rattle.hidreport.specs.MeaningFault.{MeaningFault, PastBudget}
+use Rattle.hidreport.specs.Parser.Machine.{Held, Restoring, all_kept, fault_in, go_on, next_held_by, start_in, unless_fault}
+use Rattle.hidreport.specs.Records.{DescriptorRecord}
+use Rattle.hidreport.specs.Usages.{usages_of}
+use Rattle.hidreport.specs.Weight.{field_weight}
+
+-- the collection that an item opens
+abbrev pub weight_opened_in : Held → Option CollectionItem → ℕ
+weight_opened_in h None = 0
+weight_opened_in h (Some kind) = 1 + length (list_or_none (usages_of h.force)).usages
+
+-- the fields that a data item makes
+abbrev pub weight_made_in : Held → Option (Direction × Flags) → ℕ
+weight_made_in h None = 0
+weight_made_in h (Some x) = sum_by field_weight
+    (fields_of h.force h.opened h.fields (start_in x.0 h) (Some x) (extent h.force))
+
+-- the weight of an item without a fault, from what is held
+abbrev pub weight_in : Held → ItemType → ℕ
+weight_in h x = weight_opened_in h (collection_of x) + weight_made_in h (data_of x)
+
+-- the weight passes what is left; none is without a limit
+abbrev pub is_past : Option ℕ → ℕ → Bool
+is_past None weight = false
+is_past (Some left) weight = nat_lt left weight
+
+-- what is left behind the item
+abbrev pub left_behind : Option ℕ → ℕ → Option ℕ
+left_behind None weight = None
+left_behind (Some left) weight = Some (left - weight)
+
+abbrev pub past_fault : Bool → Option MeaningFault
+past_fault true = Some PastBudget
+past_fault false = None
+
+-- why the walk ends at the item: its fault, or else its weight
+abbrev pub stop_in : Option ℕ → Held → ItemType → Option MeaningFault
+stop_in left h x = first_of (fault_in h x) (past_fault (is_past left (weight_in h x)))
+
+-- the walk over the items from index k on, where so much is left
+abbrev pub walk_within_by : Restoring → Option ℕ → Held → ℕ → List ItemType
+    → Result DescriptorRecord (ℕ × MeaningFault)
+walk_within_by restored left h k [] = Ok h.descriptor
+walk_within_by restored left h k (x ∷ xs) =
+    go_on (unless_fault (stop_in left h x) (next_held_by restored h x)) k
+    (λ next. walk_within_by restored (left_behind left (weight_in h x)) next (k + 1) xs)
+
+-- the same where a Pop brings back all that its Push kept
+abbrev pub walk_within : Option ℕ → Held → ℕ → List ItemType → Result DescriptorRecord (ℕ × MeaningFault)
+walk_within = walk_within_by all_kept
+
+-- how much each of an item's fields weighs, with so many usages and the collections around it
+abbrev pub weight_of_each : Flags → ℕ → ℕ → ℕ
+weight_of_each flags usages around =
+    if flags.constant then 1 else (if flags.variable then 1 + around else 1 + (usages + around))

@@ -1,0 +1,63 @@
+-- Weight: how many fields, usages of arrays and collections around fields an item makes a parser list, with the
+-- usages of these collections; and the usages of a collection that is opened.
+use Rattle.std.specs.Prelude.{ℕ, ◌+◌, suc, nat_lt, List, length, sum_by, find, Option, None, Some}
+use Rattle.std.specs.List.{enumerate_from}
+use Rattle.hidreport_items.specs.Flags.{Flags}
+use Rattle.hidreport_items.specs.declared.main_item.CollectionItem.{CollectionItem}
+use Rattle.hidreport_items.specs.declared.item.ItemType.{ItemType}
+use Rattle.hidreport.specs.Faults.{fault}
+use Rattle.hidreport.specs.Fields.{collection_record, fields_at}
+use Rattle.hidreport.specs.InForce.{Force}
+use Rattle.hidreport.specs.Kinds.{Indexed, Direction, collection_of, data_of}
+use Rattle.hidreport.specs.MeaningFault.{MeaningFault}
+use Rattle.hidreport.specs.Records.{CollectionRecord, FieldRecord, VariableRecord, ArrayRecord, ConstantRecord, ReportRecord, DescriptorRecord}
+use Rattle.hidreport.specs.Visibility.{before}
+
+-- a collection weighs 1 and its usages
+abbrev pub collection_weight : CollectionRecord → ℕ
+collection_weight c = 1 + length c.usages
+
+-- a field weighs 1, the usages of an array, and the collections that it carries; padding carries none
+abbrev pub field_weight : FieldRecord → ℕ
+field_weight (VariableRecord place usage shared) = 1 + sum_by collection_weight shared.collections
+field_weight (ArrayRecord place usages is_range count shared) =
+    1 + (length usages + sum_by collection_weight shared.collections)
+field_weight (ConstantRecord place) = 1
+
+-- the collection that an item opens
+abbrev pub weight_opened : (ℕ → Force) → Option CollectionItem → List ItemType → Indexed → ℕ
+weight_opened force None items p = 0
+weight_opened force (Some kind) items p = collection_weight (collection_record force items p)
+
+-- the fields that a data item makes
+abbrev pub weight_made : (ℕ → Force) → Option (Direction × Flags) → List ItemType → Indexed → ℕ
+weight_made force None items p = 0
+weight_made force (Some x) items p = sum_by field_weight (fields_at force x.0 items p)
+
+-- an item with a fault weighs nothing
+abbrev pub unless_faulty : Option MeaningFault → ℕ → ℕ
+unless_faulty None weight = weight
+unless_faulty (Some fault) weight = 0
+
+-- the weight of the item x at k
+abbrev pub weight : (ℕ → Force) → List ItemType → ℕ → ItemType → ℕ
+weight force items k x = unless_faulty (fault force items k x)
+    (weight_opened force (collection_of x) items (k, x) + weight_made force (data_of x) items (k, x))
+
+-- the weight of the items before k
+abbrev pub weight_before : (ℕ → Force) → List ItemType → ℕ → ℕ
+weight_before force items k = sum_by (λ p. weight force items p.0 p.1) (before items k)
+
+-- the first item with which the weight passes the limit
+abbrev pub first_past : (ℕ → Force) → ℕ → List ItemType → Option Indexed
+first_past force limit items =
+    find (λ p. nat_lt limit (weight_before force items (suc p.0))) (enumerate_from 0 items)
+
+-- the fields of a report together
+abbrev pub report_weight : ReportRecord → ℕ
+report_weight r = sum_by field_weight r.fields
+
+-- the fields of a descriptor together
+abbrev pub descriptor_weight : DescriptorRecord → ℕ
+descriptor_weight d =
+    sum_by report_weight d.input + (sum_by report_weight d.output + sum_by report_weight d.feature)

@@ -1,0 +1,156 @@
+//! The report that a data item adds its fields to (Sections 5.6 and 6.2.2.7).
+ghost use Rattle.std.specs.Prelude.{◌≡◌, ◌+◌, ◌<◌, ◌^◌, OnOk};
+ghost use Rattle.hidreport.specs.InForce.{first_of};
+ghost use Rattle.hidreport.specs.Making.{same_key};
+ghost use Rattle.hidreport.specs.Parser.Layout.{IsPossible, laid_out};
+ghost use Rattle.hidreport.specs.Parser.Machine.{added_to, first_id, index_in, size_in};
+ghost use Rattle.hidreport.specs.Parser.Usages.{usage_list};
+ghost use Rattle.hidreport.specs.Places.{id_bits};
+
+use crate::field::data_item::Direction;
+use crate::parser::layout::Layout;
+use crate::parser::usages::Usages;
+use crate::report::RDescReport;
+use crate::report::reports::Reports;
+use hidreport_types::ReportId;
+use std::alloc::{AllocError, Global};
+
+impl Reports {
+    ghost use Rattle.std.specs.Prelude.{◌≡◌, ◌+◌, ◌<◌, ◌^◌, OnOk};
+    ghost use Rattle.hidreport.specs.Parser.Layout.{IsPossible, laid_out};
+    ghost use Rattle.hidreport.specs.Parser.Machine.{added_to, index_in, reports_in, size_in, with_reports};
+    ghost use Rattle.hidreport.specs.Parser.Usages.{usage_list};
+    ghost use Rattle.hidreport.specs.Views.{direction_of};
+
+    /// Adds an item's fields, which take so many bits, to the report that `slot` names.
+    pub(crate) fn add(
+        &mut self,
+        alloc: Global,
+        slot: Slot,
+        bits: usize,
+        layout: &Layout,
+        usages: Usages,
+    ) -> Result<(), AllocError>
+        requires slot { let old = reports_in (direction_of layout.now.item.direction) self.old in
+            slot.index ≡ index_in slot.key old }
+        requires bits { let old = reports_in (direction_of layout.now.item.direction) self.old in
+            size_in slot.key old + bits < 2 ^ 64 }
+        requires possible { IsPossible layout.now (usage_list usages) }
+        ensures { let old = reports_in (direction_of layout.now.item.direction) self.old in
+            OnOk result (self.new ≡ with_reports (direction_of layout.now.item.direction)
+            (added_to slot.key bits (laid_out layout.now (usage_list usages)) old) self.old) }
+    {
+        match layout.item.direction {
+            Direction::Input => add_fields(alloc, &mut self.input, slot, bits, layout, usages),
+            Direction::Output => add_fields(alloc, &mut self.output, slot, bits, layout, usages),
+            Direction::Feature => add_fields(alloc, &mut self.feature, slot, bits, layout, usages),
+        }
+    }
+}
+
+/// The id of a report and its index, which is the number of reports where it has to be made.
+#[derive(Clone, Copy)]
+pub(crate) struct Slot {
+    pub(crate) key: Option<ReportId>,
+    pub(crate) index: usize,
+}
+
+/// The report that a field with this id in force goes to: without one to the first.
+pub(crate) fn slot_of(reports: &[RDescReport], id: Option<ReportId>) -> Slot
+    ensures key { result.key ≡ first_of id (first_id reports.now) }
+    ensures index { result.index ≡ index_in result.key reports.now }
+{
+    let key = key_of(reports, id);
+    let index = report_index(reports, &key);
+    Slot { key, index }
+}
+
+/// The id of the report that a field with this id in force goes to.
+fn key_of(reports: &[RDescReport], id: Option<ReportId>) -> Option<ReportId>
+    ensures { result ≡ first_of id (first_id reports.now) }
+{
+    match (id, reports.first()) {
+        (Some(id), _) => Some(id),
+        (None, Some(first)) => first.id,
+        (None, None) => None,
+    }
+}
+
+/// Whether a report has this id.
+fn has_key(report: &RDescReport, key: &Option<ReportId>) -> bool
+    ensures { result ≡ same_key report.now.id key.now }
+{
+    match (&report.id, key) {
+        (None, None) => true,
+        (Some(own), Some(key)) => own == key,
+        _ => false,
+    }
+}
+
+/// The index of the report with this id, or the number of reports where it has to be made.
+fn report_index(reports: &[RDescReport], key: &Option<ReportId>) -> usize
+    ensures { result ≡ index_in key.now reports.now }
+{
+    for (index, report) in reports.iter().enumerate() {
+        if has_key(report, key) {
+            return index;
+        }
+    }
+    reports.len()
+}
+
+/// A report with an id begins with one byte for it.
+fn id_bits(id: Option<ReportId>) -> usize
+    ensures { result ≡ id_bits id }
+{
+    match id {
+        None => 0,
+        Some(_) => 8,
+    }
+}
+
+/// Where the report that `slot` names ends so far.
+pub(crate) fn size_at(reports: &[RDescReport], slot: Slot) -> usize
+    requires { slot.index ≡ index_in slot.key reports.now }
+    ensures { result ≡ size_in slot.key reports.now }
+{
+    if slot.index < reports.len() {
+        let report = &reports[slot.index];
+        report.size
+    } else {
+        id_bits(slot.key)
+    }
+}
+
+/// Adds an item's fields, which take so many bits, to the report that `slot` names; it is made at
+/// need.
+fn add_fields(
+    alloc: Global,
+    reports: &mut Vec<RDescReport>,
+    slot: Slot,
+    bits: usize,
+    layout: &Layout,
+    usages: Usages,
+) -> Result<(), AllocError>
+    requires slot { slot.index ≡ index_in slot.key reports.old.items }
+    requires bits { size_in slot.key reports.old.items + bits < 2 ^ 64 }
+    requires possible { IsPossible layout.now (usage_list usages) }
+    ensures { OnOk result (reports.new.items
+        ≡ added_to slot.key bits (laid_out layout.now (usage_list usages)) reports.old.items) }
+{
+    if slot.index < reports.len() {
+        let report = &mut reports[slot.index];
+        layout.add_fields(alloc, usages, &mut report.fields)?;
+        report.size += bits;
+        return Ok(());
+    }
+    let size = id_bits(slot.key) + bits;
+    let mut fields = Vec::new(alloc);
+    layout.add_fields(alloc, usages, &mut fields)?;
+    reports.push(RDescReport {
+        id: slot.key,
+        size,
+        fields,
+    })?;
+    Ok(())
+}

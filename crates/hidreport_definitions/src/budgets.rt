@@ -1,0 +1,49 @@
+//! Descriptors under a budget: what an item weighs, and where a limit is passed.
+ghost use Rattle.std.specs.Prelude.{◌≡◌, true, codes};
+ghost use Rattle.hidreport.specs.Answer.{InvalidAt, OverBudget};
+ghost use Rattle.hidreport_definitions.specs.Within.{is_read_within, within};
+
+/// Three fields are within a limit of 3 and not of 2; no item is within a limit of 0.
+pub fn fields_weigh_one_each()
+    ensures just { is_read_within 3 (codes "05 01 09 30 75 08 95 03 81 02") ≡ true }
+    ensures past { within 2 (codes "05 01 09 30 75 08 95 03 81 02") ≡ Err (OverBudget 8) }
+    ensures nothing { is_read_within 0 (codes "05 01") ≡ true }
+{}
+
+/// A collection weighs 1 and its usages where it is opened, and again in each field that carries it.
+pub fn collections_weigh_in_each_field()
+    ensures just { is_read_within 8
+        (codes "05 01 09 02 a1 01 09 30 75 08 95 02 81 02 c0") ≡ true }
+    ensures in_a_field { within 7 (codes "05 01 09 02 a1 01 09 30 75 08 95 02 81 02 c0")
+        ≡ Err (OverBudget 12) }
+    ensures opened { within 1 (codes "05 01 09 02 a1 01 09 30 75 08 95 02 81 02 c0")
+        ≡ Err (OverBudget 4) }
+{}
+
+/// A collection that is closed weighs no more.
+pub fn closed_collections_weigh_nothing()
+    ensures just { is_read_within 4
+        (codes "05 01 09 02 a1 01 c0 09 30 75 08 95 02 81 02") ≡ true }
+    ensures past { within 3 (codes "05 01 09 02 a1 01 c0 09 30 75 08 95 02 81 02")
+        ≡ Err (OverBudget 13) }
+{}
+
+/// An array weighs its usages, padding weighs 1.
+pub fn arrays_weigh_their_usages()
+    ensures just { is_read_within 6 (codes "05 07 19 01 29 05 75 08 95 07 81 00") ≡ true }
+    ensures past { within 5 (codes "05 07 19 01 29 05 75 08 95 07 81 00") ≡ Err (OverBudget 10) }
+    ensures padding { is_read_within 1 (codes "75 01 95 ff 81 01") ≡ true }
+    ensures padding_too { within 0 (codes "75 01 95 ff 81 01") ≡ Err (OverBudget 4) }
+{}
+
+/// A fault at the item that passes the limit comes first, as does one before it and an item that
+/// can't be read; a fault behind it isn't seen.
+pub fn faults_up_to_the_item_come_first()
+    ensures at_the_item { within 0 (codes "05 01 19 05 29 02 75 08 95 01 81 02")
+        ≡ Err (InvalidAt 10 (codes "Missing Usages for main item")) }
+    ensures grammar { within 0 (codes "75 01 95 01 81 01 05")
+        ≡ Err (InvalidAt 6 (codes "Insufficient data")) }
+    ensures behind { within 0 (codes "75 01 95 01 81 01 c0") ≡ Err (OverBudget 4) }
+    ensures before { within 0 (codes "c0 75 01 95 01 81 01")
+        ≡ Err (InvalidAt 0 (codes "Too many EndCollection")) }
+{}

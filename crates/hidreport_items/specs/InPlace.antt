@@ -1,0 +1,18 @@
+-- What a reader answers that makes no message.
+use Rattle.std.specs.Prelude.{Result, Ok, Err}
+use Rattle.hidreport_items.specs.Answer.{Fault, Invalid, Insufficient}
+use Rattle.hidreport_items.specs.Messages.{size_message, tag_message}
+use Rattle.hidreport_items.specs.Spelling.{prefix}
+use Rattle.hidreport_items.specs.declared.item_fault.ItemFault.{ItemFault}
+use Rattle.hidreport_items.specs.declared.item_fault.ItemFault.TheVariants as faults
+
+-- the fault with the text of its message
+abbrev pub told_fault : ItemFault → Fault
+told_fault faults.TooFew = Insufficient
+told_fault (faults.Length n) = Invalid (size_message n)
+told_fault (faults.Tag header) = Invalid (tag_message (prefix header))
+
+-- what was read, a fault by its message
+abbrev pub told : {A : Type 0} → Result A ItemFault → Result A Fault
+told (Ok x) = Ok x
+told (Err fault) = Err (told_fault fault)

@@ -1,0 +1,12 @@
+/// Why a header and data are no item (Section 6.2.2.2), before a message says it.
+#[derive(Clone, Copy, Debug, PartialEq)]
+pub enum ItemFault {
+    /// There are fewer bytes than the item needs.
+    TooFew,
+
+    /// So many data bytes are none of the lengths that the item's data has.
+    Length(usize),
+
+    /// The header is that of a main item, and its tag is none of the five.
+    Tag(u8),
+}
