@@ -33,7 +33,7 @@ fn is_within<R: Abort + AllocGlobal>(rt: &R, bytes: &[u8], limit: usize, fields:
     };
     let mut count = 0;
     for report in descriptor.input_reports() {
-        count += report.fields().len();
+        count = count.saturating_add(report.fields().len());
     }
     assert_eq!(rt; count, fields);
 }
