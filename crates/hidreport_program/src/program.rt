@@ -11,6 +11,8 @@ mod items;
 mod limits;
 mod numbers;
 mod output;
+#[cfg(test)]
+mod refused;
 pub mod requests;
 #[cfg(test)]
 mod rows;

@@ -144,6 +144,7 @@ impl ArrayField {
         }
         check_id(self.report_id, bytes)?;
         self.element(bytes, self.element_width(), idx)
+            .ok_or(ParserError::OutOfBounds)
     }
 
     /// The same field once more, with a list of usages of its own; both share the list of
@@ -182,7 +183,10 @@ impl ArrayField {
         self.check_elements(bytes, width)?;
         let mut values = Vec::with_capacity(*self.usages.allocator(), count)?;
         for idx in 0..count {
-            values.push_reserved(self.element(bytes, width, idx)?);
+            let Some(value) = self.element(bytes, width, idx) else {
+                return Err(ParserError::OutOfBounds);
+            };
+            values.push_reserved(value);
         }
         Ok(values)
     }
@@ -198,10 +202,9 @@ impl ArrayField {
         ensures memory { result ≢ Err ParserError.OutOfMemory }
     {
         let count = usize::from(self.report_count);
-        if count == 0 {
-            return Ok(());
+        if count > 0 && self.element(bytes, width, count - 1).is_none() {
+            return Err(ParserError::OutOfBounds);
         }
-        self.element(bytes, width, count - 1)?;
         Ok(())
     }
 
@@ -218,13 +221,15 @@ impl ArrayField {
     }
 
     /// The value of an element that is there, of so many bits, whatever the report's id.
-    fn element(&self, bytes: &[u8], width: usize, idx: usize) -> Result<FieldValue, ParserError>
+    fn element(&self, bytes: &[u8], width: usize, idx: usize) -> Option<FieldValue>
         requires there { idx < self.now.report_count }
         requires width { width
             ≡ element_width self.now.bits.start self.now.bits.end self.now.report_count }
         requires counted { self.now.bits.start + width * self.now.report_count < 2 ^ 64 }
-        ensures answer { Answers result (element_of (array_record self.now) bytes.now idx) }
-        ensures memory { result ≢ Err ParserError.OutOfMemory }
+        ensures value { IfSome result (λ value.
+            element_of (array_record self.now) bytes.now idx ≡ Ok value) }
+        ensures outside { IsNone result
+            → element_of (array_record self.now) bytes.now idx ≡ Err Bounds }
     {
         let first = self.bits.start + width * idx;
         read_bits(bytes, &(first..first + width), self.is_signed())

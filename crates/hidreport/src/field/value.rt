@@ -182,19 +182,18 @@ fn signed_bits(bytes: &[u8], first: usize, width: usize) -> u32
     }
 }
 
-/// The value of a range of bits: at least one, at most 32, all of them in the bytes.
-pub(crate) fn read_bits(
-    bytes: &[u8],
-    bits: &Range<usize>,
-    is_signed: bool,
-) -> Result<FieldValue, ParserError>
-    ensures answer { Answers result (read_bits bits.now.start bits.now.end is_signed bytes.now) }
-    ensures memory { result ≢ Err ParserError.OutOfMemory }
+/// The value of a range of bits: at least one, at most 32, all of them in the bytes. `None` where
+/// they aren't.
+pub(crate) fn read_bits(bytes: &[u8], bits: &Range<usize>, is_signed: bool) -> Option<FieldValue>
+    ensures value { IfSome result (λ value.
+        read_bits bits.now.start bits.now.end is_signed bytes.now ≡ Ok value) }
+    ensures outside { IsNone result
+        → read_bits bits.now.start bits.now.end is_signed bytes.now ≡ Err Bounds }
 {
     let first = bits.start;
     let end = bits.end;
     if end <= first || end - first > 32 || end.div_ceil(8) > bytes.len() {
-        return Err(ParserError::OutOfBounds);
+        return None;
     }
     let width = end - first;
     let value = if is_signed {
@@ -202,7 +201,7 @@ pub(crate) fn read_bits(
     } else {
         sum_of_bits(bytes, first, width) as u32
     };
-    Ok(FieldValue { is_signed, value })
+    Some(FieldValue { is_signed, value })
 }
 
 /// Bytes are read by a field with an id only where they begin with it.

@@ -77,7 +77,7 @@ impl VariableField {
         ensures memory { result ≢ Err ParserError.OutOfMemory }
     {
         check_id(self.report_id, bytes)?;
-        read_bits(bytes, &self.bits, self.is_signed())
+        read_bits(bytes, &self.bits, self.is_signed()).ok_or(ParserError::OutOfBounds)
     }
 
     /// The same field once more; both share the list of collections. It takes no memory; an
