@@ -2,9 +2,7 @@
 use Rattle.std.proofs.Common.{◌≡◌, ℕ, zero, suc, ◌+◌, ◌-◌, ◌*◌, ◌<◌, ◌≤◌, Bool, true, false, cond, ◌||◌, nat_le, nat_lt, IsOk, is_ok, List, [], ◌∷◌, ◌++◌, length, Result, Ok, Err, refl, ap, sym, ◌∙◌, arith}
 use Rattle.std.proofs.Math.Nat.{mul-le-mul_left}
 use Rattle.std.proofs.lemmas.Bool.Decides.{nat_tests}
-use Rattle.hidreport_lists.specs.Answer.{Refusal, Bounds, Refuses}
-use Rattle.hidreport_lists.specs.declared.error.ParserError.{ParserError}
-use Rattle.hidreport_lists.specs.declared.error.ParserError.TheVariants as errors
+use Rattle.hidreport_lists.specs.Answer.{Refusal, Bounds}
 use Rattle.hidreport.specs.Reading.{ValueRecord, before_values, element, elements_from, element_width}
 
 -- an element is refused as out of bounds alone
@@ -41,20 +39,12 @@ elements_from-refused first end count s bytes index (suc more) (suc j) within h 
     before_refused (element first end count s bytes index) (elements_from first end count s bytes (index + 1) more) (element_refusal first end count s bytes index)
     (elements_from-refused first end count s bytes (index + 1) more j fewer (e ∙ h))
 
--- an error that refuses an element refuses all
-pub elements_from-error : (first end count : ℕ) (s : Bool) (bytes : List ℕ) (more j : ℕ) (e : ParserError) → j < more
-    → Refuses e (element first end count s bytes j) → Refuses e (elements_from first end count s bytes 0 more)
-elements_from-error first end count s bytes more j (errors.InvalidData offset message) within h =
-    let other = element_refusal first end count s bytes j _ h in cc
-elements_from-error first end count s bytes more j errors.OutOfBounds within h =
+-- the same from the first element on
+pub elements_from-outside : (first end count : ℕ) (s : Bool) (bytes : List ℕ) (more j : ℕ) → j < more
+    → element first end count s bytes j ≡ Err Bounds → elements_from first end count s bytes 0 more ≡ Err Bounds
+elements_from-outside first end count s bytes more j within h =
     let here : 0 + j ≡ j = omega arith in
-    let e = ap (λ i. element first end count s bytes i) here in
-    elements_from-refused first end count s bytes 0 more j within (e ∙ h)
-elements_from-error first end count s bytes more j errors.MismatchingReportId within h =
-    let other = element_refusal first end count s bytes j _ h in cc
-elements_from-error first end count s bytes more j errors.OutOfMemory within h = tt
-elements_from-error first end count s bytes more j (errors.BudgetExceeded offset) within h =
-    let other = element_refusal first end count s bytes j _ h in cc
+    elements_from-refused first end count s bytes 0 more j within (ap (λ i. element first end count s bytes i) here ∙ h)
 
 -- one more at the end
 before_values-next : (a : Result ValueRecord Refusal) (b c : Result (List ValueRecord) Refusal) (xs : List ValueRecord) (x : ValueRecord) → before_values a b ≡ Ok xs

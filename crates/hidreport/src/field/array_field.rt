@@ -1,5 +1,6 @@
-ghost use Rattle.std.specs.Prelude.{◌≡◌, ◌≢◌, ◌+◌, ◌*◌, ◌^◌, ◌<◌, pos, int_lt, IfErr, IfOk, IfSome, IsOk, OnOk};
-ghost use Rattle.hidreport_lists.specs.Answer.{Answers, Refuses};
+ghost use Rattle.std.specs.Prelude.{◌≡◌, ◌≢◌, ◌+◌, ◌*◌, ◌^◌, ◌<◌, pos, int_lt, IfErr, IfOk, IfSome};
+ghost use Rattle.std.specs.Prelude.{IsNone, IsOk, OnOk};
+ghost use Rattle.hidreport_lists.specs.Answer.{Answers, Bounds, Refuses};
 ghost use Rattle.hidreport.specs.Bits.{FixesBits};
 ghost use Rattle.hidreport.specs.Reading.{AnswersBy, element_of, element_width, reads, reads_element};
 ghost use Rattle.hidreport.specs.Reading.{values_of};
@@ -202,10 +203,13 @@ impl ArrayField {
         ensures memory { result ≢ Err ParserError.OutOfMemory }
     {
         let count = usize::from(self.report_count);
-        if count > 0 && self.element(bytes, width, count - 1).is_none() {
-            return Err(ParserError::OutOfBounds);
+        if count == 0 {
+            return Ok(());
         }
-        Ok(())
+        match self.element(bytes, width, count - 1) {
+            Some(_) => Ok(()),
+            None => Err(ParserError::OutOfBounds),
+        }
     }
 
     /// How many bits an element has: the field's bits divided by the count, if it isn't 0.
