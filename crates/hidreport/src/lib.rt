@@ -1,4 +1,5 @@
 //! HID report descriptors parsed into reports and fields, and values read from reports.
+//! Licence: MIT (LICENSE); a port of the Rust crate `hidreport` 0.6.0.
 #![tactic(auto)]
 
 mod descriptor;

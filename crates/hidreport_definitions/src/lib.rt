@@ -1,4 +1,5 @@
 //! What the definitions say of single descriptors, and laws of them. Nothing here runs.
+//! Licence: MIT (LICENSE); a port of the Rust crate `hidreport` 0.6.0.
 #![tactic(auto)]
 
 pub mod attributes;

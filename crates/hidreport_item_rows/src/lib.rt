@@ -1,4 +1,5 @@
 //! Numbers, items and builders: what the library answers, and generic callers over every data item.
+//! Licence: MIT (LICENSE); a port of the Rust crate `hidreport` 0.6.0.
 #![tactic(auto)]
 
 #[cfg(test)]

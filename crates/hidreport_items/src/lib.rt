@@ -1,4 +1,5 @@
 //! The items of a report descriptor, and how they are read.
+//! Licence: MIT (LICENSE); a port of the Rust crate `hidreport` 0.6.0.
 #![tactic(auto)]
 
 mod builder_state;

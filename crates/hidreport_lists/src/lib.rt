@@ -1,4 +1,5 @@
 //! Short items and lists of them, cut from the bytes of a report descriptor.
+//! Licence: MIT (LICENSE); a port of the Rust crate `hidreport` 0.6.0.
 #![tactic(auto)]
 
 mod data;

@@ -1,4 +1,5 @@
 //! What the library answers, written out as text, and what recorded runs of the Rust crate say of it.
+//! Licence: MIT (LICENSE); a port of the Rust crate `hidreport` 0.6.0.
 #![tactic(auto)]
 
 #[cfg(test)]

@@ -1,4 +1,5 @@
 //! The numbers that a report descriptor carries, each as a type of its own.
+//! Licence: MIT (LICENSE); a port of the Rust crate `hidreport` 0.6.0.
 #![tactic(auto)]
 
 mod decimal;
