@@ -1,8 +1,9 @@
 //! A copy of every kind of field and of a collection has the parts of what it was made from.
-use hidreport::{
-    ArrayField, Collection, ConstantField, Field, FieldAttributes, ParserError, Report,
-    ReportDescriptor, VariableField,
-};
+use crate::readings::{Reading, is_read};
+use crate::same::{are_same_fields, is_same_collection};
+use crate::wanted::input_field;
+use hidreport::{Collection, Field, FieldAttributes, Report, ReportDescriptor};
+use std::alloc::AllocError;
 use std::test::Fail;
 
 /// An array, padding and a variable field in two collections, with bounds, a unit and flags.
@@ -12,25 +13,84 @@ const THREE_KINDS: &[u8] =
 /// An array and a variable field in a feature report, with every flag but the first.
 const EVERY_FLAG: &[u8] = b"\x05\x01\x75\x08\x95\x01\x09\x30\xb2\xfc\x01\x09\x31\xb2\xfe\x01";
 
-fn field_at(descriptor: &ReportDescriptor, place: usize) -> Option<&Field> {
-    descriptor.input_reports().first()?.fields().get(place)
+/// A field in an Application and a Logical collection, behind a Physical one.
+const BEHIND_A_CLOSED_ONE: &[u8] =
+    b"\x05\x01\x09\x02\xa1\x01\xa1\x00\xc0\xa1\x02\x75\x08\x95\x01\x09\x30\x81\x02";
+
+/// A copy of the field inside.
+fn copy_inside(field: &Field) -> Result<Field, AllocError> {
+    match field {
+        Field::Variable(field) => Ok(Field::Variable(field.clone()?)),
+        Field::Array(field) => Ok(Field::Array(field.clone()?)),
+        Field::Constant(field) => Ok(Field::Constant(field.clone())),
+    }
 }
 
-fn are_same_collections(a: &[Collection], b: &[Collection]) -> bool {
-    a == b
-        && a.iter().zip(b).all(|(a, b)| {
-            a.collection_type() == b.collection_type() && a.usages() == b.usages()
-        })
+fn is_copied(field: &Field, other: &Field) -> bool {
+    match field.clone() {
+        Ok(copy) => are_same_fields(field, &copy) && !are_same_fields(other, &copy),
+        Err(_refused) => false,
+    }
 }
 
-fn have_same_flags<F: FieldAttributes>(a: &F, b: &F) -> bool {
-    a.is_relative() == b.is_relative()
-        && a.wraps() == b.wraps()
-        && a.is_nonlinear() == b.is_nonlinear()
-        && a.has_no_preferred_state() == b.has_no_preferred_state()
-        && a.has_null_state() == b.has_null_state()
-        && a.is_buffered_bytes() == b.is_buffered_bytes()
-        && a.is_volatile() == b.is_volatile()
+fn is_copied_inside(field: &Field, other: &Field) -> bool {
+    match copy_inside(field) {
+        Ok(copy) => are_same_fields(field, &copy) && !are_same_fields(other, &copy),
+        Err(_refused) => false,
+    }
+}
+
+fn are_told_apart(field: Option<&Field>, other: Option<&Field>) -> bool {
+    match (field, other) {
+        (Some(field), Some(other)) => is_copied(field, other) && is_copied_inside(field, other),
+        _ => false,
+    }
+}
+
+#[test]
+fn copies_of_fields_have_their_parts(rt: HostRuntime) -> Result<(), Fail> {
+    let descriptor = ReportDescriptor::try_from(rt.alloc(), THREE_KINDS)?;
+    for (place, other) in [(0, 1), (1, 0), (2, 0)] {
+        let field = input_field(&descriptor, place);
+        let other = input_field(&descriptor, other);
+        assert!(rt; are_told_apart(field, other), "of field {place}");
+    }
+    Ok(())
+}
+
+/// The second collection's copy is as it, and not as the first.
+fn is_second_copied(first: &Collection, second: &Collection) -> bool {
+    match second.clone() {
+        Ok(copy) => {
+            is_same_collection(&copy, second)
+                && copy != *first
+                && copy.id().clone() == *second.id()
+                && *first.id() < copy.id().clone()
+        }
+        Err(_refused) => false,
+    }
+}
+
+fn has_copied_collection(field: Option<&Field>) -> bool {
+    match field {
+        Some(field) => match field.collections() {
+            [first, second] => is_second_copied(first, second),
+            _ => false,
+        },
+        None => false,
+    }
+}
+
+#[test]
+fn copies_of_collections_have_their_parts(rt: HostRuntime) -> Result<(), Fail> {
+    for (bytes, place) in [(THREE_KINDS, 2), (BEHIND_A_CLOSED_ONE, 0)] {
+        let descriptor = ReportDescriptor::try_from(rt.alloc(), bytes)?;
+        assert!(rt;
+            has_copied_collection(input_field(&descriptor, place)),
+            "at {place}"
+        );
+    }
+    Ok(())
 }
 
 fn has_every_flag<F: FieldAttributes>(field: &F) -> bool {
@@ -43,141 +103,60 @@ fn has_every_flag<F: FieldAttributes>(field: &F) -> bool {
         && field.is_volatile() == Some(true)
 }
 
-fn are_same_arrays(a: &ArrayField, b: &ArrayField) -> bool {
-    a.bits.start == b.bits.start
-        && a.bits.end == b.bits.end
-        && a.usages() == b.usages()
-        && a.is_usage_range() == b.is_usage_range()
-        && a.report_count == b.report_count
-        && a.logical_minimum == b.logical_minimum
-        && a.logical_maximum == b.logical_maximum
-        && a.physical_minimum == b.physical_minimum
-        && a.physical_maximum == b.physical_maximum
-        && a.unit == b.unit
-        && a.unit_exponent == b.unit_exponent
-        && are_same_collections(&a.collections, &b.collections)
-        && have_same_flags(a, b)
-}
-
-fn are_same_variables(a: &VariableField, b: &VariableField) -> bool {
-    a.bits.start == b.bits.start
-        && a.bits.end == b.bits.end
-        && a.usage == b.usage
-        && a.logical_minimum == b.logical_minimum
-        && a.logical_maximum == b.logical_maximum
-        && a.physical_minimum == b.physical_minimum
-        && a.physical_maximum == b.physical_maximum
-        && a.unit == b.unit
-        && a.unit_exponent == b.unit_exponent
-        && are_same_collections(&a.collections, &b.collections)
-        && have_same_flags(a, b)
-}
-
-fn are_same_constants(a: &ConstantField, b: &ConstantField) -> bool {
-    a.bits.start == b.bits.start && a.bits.end == b.bits.end && a.usages() == b.usages()
-}
-
-fn are_same_fields(a: &Field, b: &Field) -> bool {
-    a.id() == b.id()
-        && match (a, b) {
-            (Field::Variable(a), Field::Variable(b)) => are_same_variables(a, b),
-            (Field::Array(a), Field::Array(b)) => are_same_arrays(a, b),
-            (Field::Constant(a), Field::Constant(b)) => are_same_constants(a, b),
-            _ => false,
-        }
-}
-
-#[test]
-fn copies_of_fields_have_their_parts(rt: HostRuntime) -> Result<(), Fail> {
-    let descriptor = ReportDescriptor::try_from(rt.alloc(), THREE_KINDS)?;
-    for place in 0..3 {
-        let field = field_at(&descriptor, place).ok_or("no field")?;
-        let copy = field.clone()?;
-        assert!(rt; are_same_fields(field, &copy), "of field {place}");
-        let other_place = if place == 0 { 1 } else { 0 };
-        let other = field_at(&descriptor, other_place).ok_or("no field")?;
-        assert!(rt; !are_same_fields(other, &copy), "of field {place}");
+fn copies_have_flags(fields: &[Field]) -> bool {
+    let [Field::Array(array), Field::Variable(variable)] = fields else {
+        return false;
+    };
+    match (array.clone(), variable.clone()) {
+        (Ok(array), Ok(variable)) => has_every_flag(&array) && has_every_flag(&variable),
+        _ => false,
     }
-    Ok(())
-}
-
-#[test]
-fn copies_of_each_kind_have_its_parts(rt: HostRuntime) -> Result<(), Fail> {
-    let descriptor = ReportDescriptor::try_from(rt.alloc(), THREE_KINDS)?;
-    let Some(Field::Array(array)) = field_at(&descriptor, 0) else {
-        panic!(rt; "no array field");
-    };
-    assert!(rt; are_same_arrays(array, &array.clone()?));
-    let Some(Field::Constant(constant)) = field_at(&descriptor, 1) else {
-        panic!(rt; "no constant field");
-    };
-    assert!(rt; are_same_constants(constant, &constant.clone()));
-    let Some(Field::Variable(variable)) = field_at(&descriptor, 2) else {
-        panic!(rt; "no variable field");
-    };
-    assert!(rt; are_same_variables(variable, &variable.clone()?));
-    assert_eq!(rt; variable.collections.len(), 2);
-    let copy = variable.collections[1].clone()?;
-    assert!(rt; copy == variable.collections[1]);
-    assert!(rt; copy != variable.collections[0]);
-    assert_eq!(rt;
-        copy.collection_type(),
-        variable.collections[1].collection_type()
-    );
-    assert_eq!(rt; copy.usages(), variable.collections[1].usages());
-    assert_eq!(rt; copy.id().clone(), *variable.collections[1].id());
-    Ok(())
 }
 
 #[test]
 fn copies_have_every_flag(rt: HostRuntime) -> Result<(), Fail> {
     let descriptor = ReportDescriptor::try_from(rt.alloc(), EVERY_FLAG)?;
-    let fields = descriptor
-        .feature_reports()
-        .first()
-        .ok_or("no report")?
-        .fields();
-    let Some(Field::Array(array)) = fields.get(0) else {
-        panic!(rt; "no array field");
-    };
-    assert!(rt; has_every_flag(&array.clone()?));
-    let Some(Field::Variable(variable)) = fields.get(1) else {
-        panic!(rt; "no variable field");
-    };
-    assert!(rt; has_every_flag(&variable.clone()?));
+    let report = descriptor.feature_reports().first();
+    assert!(rt; report.is_some_and(|report| copies_have_flags(report.fields())));
     Ok(())
+}
+
+/// A field's place, a report, and what the field and its copy read there.
+static READINGS: [(usize, &[u8], Reading); 4] = [
+    (0, b"\x09\x21", Reading::Values(&[1, 2])),
+    (0, b"\x08\x21", Reading::MismatchingReportId),
+    (2, b"\x09\x21\x00\x05", Reading::Values(&[5])),
+    (2, b"\x08\x21\x00\x05", Reading::MismatchingReportId),
+];
+
+fn are_read(field: Option<&Field>, report: &[u8], wanted: &Reading) -> bool {
+    let Some(field) = field else {
+        return false;
+    };
+    match copy_inside(field) {
+        Ok(copy) => is_read(field, report, wanted) && is_read(&copy, report, wanted),
+        Err(_refused) => false,
+    }
 }
 
 #[test]
 fn copies_read_their_own_report_alone(rt: HostRuntime) -> Result<(), Fail> {
     let descriptor = ReportDescriptor::try_from(rt.alloc(), THREE_KINDS)?;
-    let Some(Field::Array(array)) = field_at(&descriptor, 0) else {
-        panic!(rt; "no array field");
-    };
-    let copy = array.clone()?;
-    assert_eq!(rt; copy.extract(b"\x09\x21")?.len(), 2);
-    assert!(rt;
-        matches!(
-            copy.extract(b"\x08\x21"),
-            Err(ParserError::MismatchingReportId)
-        )
-    );
-    let Some(Field::Variable(variable)) = field_at(&descriptor, 2) else {
-        panic!(rt; "no variable field");
-    };
-    let copy = variable.clone()?;
-    let bytes = b"\x09\x21\x00\x05";
-    assert_eq!(rt;
-        i32::from(copy.extract(bytes)?),
-        i32::from(variable.extract(bytes)?)
-    );
-    assert!(rt;
-        matches!(
-            copy.extract(b"\x08\x21\x00\x05"),
-            Err(ParserError::MismatchingReportId)
-        )
-    );
+    for (place, report, wanted) in &READINGS {
+        let field = input_field(&descriptor, *place);
+        assert!(rt; are_read(field, report, wanted), "of {report:?}");
+    }
     Ok(())
+}
+
+fn are_equal_of_two_types(a: Option<&Field>, b: Option<&Field>) -> bool {
+    let (Some(a), Some(b)) = (a, b) else {
+        return false;
+    };
+    match (a.collections(), b.collections()) {
+        ([a], [b]) => a == b && a.collection_type() != b.collection_type(),
+        _ => false,
+    }
 }
 
 // As in the Rust crate, where only the ids are compared.
@@ -187,11 +166,6 @@ fn collections_are_equal_where_their_ids_are(rt: HostRuntime) -> Result<(), Fail
     let logical = b"\x05\x01\x09\x02\xa1\x02\x75\x08\x95\x01\x09\x30\x81\x02";
     let physical = ReportDescriptor::try_from(rt.alloc(), physical)?;
     let logical = ReportDescriptor::try_from(rt.alloc(), logical)?;
-    let a = field_at(&physical, 0).ok_or("no field")?.collections();
-    let b = field_at(&logical, 0).ok_or("no field")?.collections();
-    let a = a.first().ok_or("no collection")?;
-    let b = b.first().ok_or("no collection")?;
-    assert!(rt; a.collection_type() != b.collection_type());
-    assert!(rt; a == b);
+    assert!(rt; are_equal_of_two_types(input_field(&physical, 0), input_field(&logical, 0)));
     Ok(())
 }

@@ -8,12 +8,20 @@ mod collections;
 #[cfg(test)]
 mod copies;
 #[cfg(test)]
-mod fields;
+mod descriptors;
 #[cfg(test)]
 mod lookups;
 #[cfg(test)]
 mod memory;
 #[cfg(test)]
+mod readings;
+#[cfg(test)]
+mod refusals;
+#[cfg(test)]
+mod same;
+#[cfg(test)]
 mod segments;
 #[cfg(test)]
-mod tests;
+mod texts;
+#[cfg(test)]
+mod wanted;

@@ -1,6 +1,9 @@
-//! Lookups that find and that don't; copies, hashes, and the list that fields share.
+//! Lookups that find and that don't; hashes, and the list that fields share.
+use crate::collections::ALL_USAGES;
+use crate::readings::NIBBLES;
+use crate::wanted::input_field;
 use hidreport::types::{UsageId, UsagePage};
-use hidreport::{ArrayField, Field, RDescReport, Report, ReportDescriptor, ReportId, Usage};
+use hidreport::{Field, RDescReport, Report, ReportDescriptor, ReportId, Usage, UsageRange};
 use std::hash::{DefaultHasher, Hash, Hasher};
 use std::sync::ArcSlice;
 use std::test::Fail;
@@ -9,70 +12,139 @@ use std::test::Fail;
 const THREE_IDS: &[u8] =
     b"\x05\x01\x75\x08\x95\x01\x85\x01\x09\x30\x91\x02\x85\x02\x09\x31\xb1\x02\x85\x03\x09\x32\x91\x02";
 
+/// An input report without id, and input report 2.
+const JOINED: &[u8] = b"\x05\x01\x75\x08\x95\x01\x09\x30\x81\x02\x85\x02\x09\x31\x81\x02";
+
+/// Input report 5, whose id was set inside a segment.
+const ID_TAKEN_BACK: &[u8] =
+    b"\x05\x01\x75\x08\x95\x01\xa4\x85\x05\x09\x30\x81\x02\xb4\x09\x31\x81\x02";
+
 /// An array of the usages 00010004 to 00010007, in an Application collection.
 const FOUR_KEYS: &[u8] =
     b"\x05\x01\x09\x06\xa1\x01\x19\x04\x29\x07\x75\x08\x95\x01\x81\x00\x81\x01\x75\x01\x95\x03\x09\x30\x81\x02";
 
-fn id_of(report: Option<&RDescReport>) -> Option<u8> {
-    report?.report_id().map(u8::from)
+const WRAPPING: &[u8] = b"\x05\x01\x1b\xff\xff\x00\x00\x2b\x01\x00\x01\x00\x75\x08\x95\x01\x81\x00";
+
+/// The id of a report that is found, and its size in bits.
+type Found = Option<(Option<u8>, usize)>;
+
+/// A descriptor, a report, and the input, the output and the feature report that are found for it.
+static LOOKUPS: [(&[u8], &[u8], Found, Found, Found); 7] = [
+    (THREE_IDS, b"\x01\x00", None, Some((Some(1), 16)), None),
+    (THREE_IDS, b"\x03\x00", None, Some((Some(3), 16)), None),
+    (THREE_IDS, b"\x02\x00", None, None, Some((Some(2), 16))),
+    (THREE_IDS, b"\x04", None, None, None),
+    (THREE_IDS, b"", None, None, None),
+    (JOINED, b"\x02\x00", Some((None, 8)), None, None),
+    (ID_TAKEN_BACK, b"\x07\x11\x22", None, None, None),
+];
+
+fn is_found(report: Option<&RDescReport>, wanted: &Found) -> bool {
+    match (report, wanted) {
+        (Some(report), Some((id, bits))) => {
+            report.report_id().map(u8::from) == *id && report.size_in_bits() == *bits
+        }
+        (None, None) => true,
+        _ => false,
+    }
 }
 
 #[test]
-fn reports_of_each_direction_by_id(rt: HostRuntime) -> Result<(), Fail> {
-    let descriptor = ReportDescriptor::try_from(rt.alloc(), THREE_IDS)?;
-    let rows: [(&[u8], Option<u8>, Option<u8>); 5] = [
-        (b"\x01\x00", Some(1), None),
-        (b"\x03\x00", Some(3), None),
-        (b"\x02\x00", None, Some(2)),
-        (b"\x04", None, None),
-        (b"", None, None),
-    ];
-    for (bytes, output, feature) in rows {
-        assert_eq!(rt; id_of(descriptor.find_output_report(bytes)), output);
-        assert_eq!(rt; id_of(descriptor.find_feature_report(bytes)), feature);
-        assert!(rt; descriptor.find_input_report(bytes).is_none());
+fn reports_are_found_by_their_bytes(rt: HostRuntime) -> Result<(), Fail> {
+    for (bytes, report, input, output, feature) in &LOOKUPS {
+        let descriptor = ReportDescriptor::try_from(rt.alloc(), bytes)?;
+        assert!(rt;
+            is_found(descriptor.find_input_report(report), input),
+            "{report:?}"
+        );
+        assert!(rt;
+            is_found(descriptor.find_output_report(report), output),
+            "{report:?}"
+        );
+        assert!(rt;
+            is_found(descriptor.find_feature_report(report), feature),
+            "{report:?}"
+        );
     }
     Ok(())
 }
 
-fn field_at(descriptor: &ReportDescriptor, place: usize) -> Option<&Field> {
-    descriptor.input_reports().first()?.fields().get(place)
+/// A usage of page 1 or 2, whether the range has it, and whether the range has its id on page 1.
+type Key = (u32, bool, bool);
+
+/// An array's descriptor, how many usages it has, the ends of its range, and usages that are looked up in that.
+static USAGE_RANGES: [(&[u8], usize, Option<(u32, u32)>, &[Key]); 4] = [
+    (
+        FOUR_KEYS,
+        4,
+        Some((0x0001_0004, 0x0001_0007)),
+        &[
+            (0x0001_0003, false, false),
+            (0x0001_0004, true, true),
+            (0x0001_0005, true, true),
+            (0x0001_0006, true, true),
+            (0x0001_0007, true, true),
+            (0x0001_0008, false, false),
+            (0x0002_0005, false, true),
+        ],
+    ),
+    (
+        WRAPPING,
+        3,
+        Some((0x0001_ffff, 0x0001_0001)),
+        &[(0x0001_ffff, false, false)],
+    ),
+    (ALL_USAGES, 255, Some((0x0001_0001, 0x0001_00ff)), &[]),
+    (NIBBLES, 1, None, &[]),
+];
+
+fn is_looked_up(range: &UsageRange, key: &Key) -> bool {
+    let (number, is_within, has_id) = key;
+    let usage = Usage::from(*number);
+    let by_id = Usage::from_page_and_id(UsagePage::from(1), usage.usage_id);
+    let is_id_found = match range.lookup_id(usage.usage_id) {
+        Some(found) => *has_id && found == by_id,
+        None => !*has_id,
+    };
+    match range.lookup_usage(&usage) {
+        Some(found) => is_id_found && *is_within && u32::from(found) == *number,
+        None => is_id_found && !*is_within,
+    }
 }
 
-fn array(field: &Field) -> Option<&ArrayField> {
-    match field {
-        Field::Array(field) => Some(field),
-        _ => None,
+fn has_keys(range: &UsageRange, keys: &[Key]) -> bool {
+    for key in keys {
+        if !is_looked_up(range, key) {
+            return false;
+        }
+    }
+    true
+}
+
+fn is_range(range: Option<&UsageRange>, ends: &Option<(u32, u32)>, keys: &[Key]) -> bool {
+    match (range, ends) {
+        (Some(range), Some((minimum, maximum))) => {
+            u32::from(range.minimum()) == *minimum
+                && u32::from(range.maximum()) == *maximum
+                && has_keys(range, keys)
+        }
+        (None, None) => true,
+        _ => false,
     }
 }
 
 #[test]
-fn usages_within_a_range(rt: HostRuntime) -> Result<(), Fail> {
-    let descriptor = ReportDescriptor::try_from(rt.alloc(), FOUR_KEYS)?;
-    let field = array(field_at(&descriptor, 0).ok_or("no field")?).ok_or("no array")?;
-    let range = field.usage_range().ok_or("no range")?;
-    assert_eq!(rt; u32::from(range.minimum()), 0x0001_0004);
-    assert_eq!(rt; u32::from(range.maximum()), 0x0001_0007);
-    assert_eq!(rt; field.usages().len(), 4);
-    let rows = [
-        (0x0001_0003, false, false),
-        (0x0001_0004, true, true),
-        (0x0001_0005, true, true),
-        (0x0001_0006, true, true),
-        (0x0001_0007, true, true),
-        (0x0001_0008, false, false),
-        (0x0002_0005, false, true),
-    ];
-    for (number, is_within, has_id) in rows {
-        let usage = Usage::from(number);
-        let found = range.lookup_usage(&usage).map(u32::from);
-        assert_eq!(rt; found, if is_within { Some(number) } else { None });
-        let page = UsagePage::from(1);
-        let id = UsageId::from((number & 0xffff) as u16);
-        let expected = Usage::from_page_and_id(page, id);
-        assert_eq!(rt;
-            range.lookup_id(id),
-            if has_id { Some(expected) } else { None }
+fn usages_are_looked_up_in_ranges(rt: HostRuntime) -> Result<(), Fail> {
+    for (bytes, count, ends, keys) in &USAGE_RANGES {
+        let descriptor = ReportDescriptor::try_from(rt.alloc(), bytes)?;
+        let Some(Field::Array(field)) = input_field(&descriptor, 0) else {
+            panic!(rt; "no array with the range {ends:?}");
+        };
+        let is_counted = field.usages().len() == *count && field.is_usage_range() == ends.is_some();
+        assert!(rt; is_counted, "{ends:?}");
+        assert!(rt;
+            is_range(field.usage_range().as_ref(), ends, keys),
+            "{ends:?}"
         );
     }
     Ok(())
@@ -93,32 +165,62 @@ fn hash_of<T: Hash>(value: &T) -> u64 {
     hasher.finish()
 }
 
+/// The hash of a collection is that of its id, which is this number.
+fn is_hashed_as(field: &Field, number: u32) -> bool {
+    match field.collections() {
+        [collection] => {
+            hash_of(collection) == hash_of(collection.id())
+                && hash_of(collection) == hash_of(&number)
+        }
+        _ => false,
+    }
+}
+
+fn are_hashed_by_number(first: &Field, third: &Field) -> bool {
+    hash_of(&third.id()) == hash_of(&u32::from(third.id()))
+        && hash_of(&third.id()) != hash_of(&first.id())
+}
+
+fn has_hashes(descriptor: &ReportDescriptor) -> bool {
+    match descriptor.input_reports() {
+        [report] => match report.fields() {
+            [first, _, third, ..] => is_hashed_as(first, 0) && are_hashed_by_number(first, third),
+            _ => false,
+        },
+        _ => false,
+    }
+}
+
 // As in the Rust crate, whose hashes are those of the one number inside.
 #[test]
 fn hashes_are_those_of_the_numbers(rt: HostRuntime) -> Result<(), Fail> {
-    assert_eq!(rt; hash_of(&ReportId::from(5)), hash_of(&5u8));
-    assert_ne!(rt; hash_of(&ReportId::from(5)), hash_of(&ReportId::from(6)));
+    let five = hash_of(&ReportId::from(5));
+    assert_eq!(rt; five, hash_of(&5u8));
+    assert_ne!(rt; five, hash_of(&ReportId::from(6)));
     let descriptor = ReportDescriptor::try_from(rt.alloc(), FOUR_KEYS)?;
-    let first = field_at(&descriptor, 0).ok_or("no field")?;
-    let third = field_at(&descriptor, 2).ok_or("no field")?;
-    assert_eq!(rt; hash_of(&third.id()), hash_of(&u32::from(third.id())));
-    assert_ne!(rt; hash_of(&third.id()), hash_of(&first.id()));
-    let collection = first.collections().first().ok_or("no collection")?;
-    assert_eq!(rt; hash_of(collection), hash_of(collection.id()));
-    assert_eq!(rt; hash_of(collection), hash_of(&0u32));
+    assert!(rt; has_hashes(&descriptor));
     Ok(())
+}
+
+/// Whether the field's list of two collections is shared by so many fields, and by a copy.
+fn is_shared(field: &Field, count: usize) -> bool {
+    let Field::Variable(field) = field else {
+        return false;
+    };
+    let is_shared = field.collections.len() == 2
+        && ArcSlice::strong_count(&field.collections) == count;
+    match field.clone() {
+        Ok(copy) => is_shared
+            && ArcSlice::strong_count(&copy.collections) == count.saturating_add(1),
+        Err(_refused) => false,
+    }
 }
 
 #[test]
 fn fields_of_an_item_share_one_list_of_collections(rt: HostRuntime) -> Result<(), Fail> {
     let bytes = b"\x05\x01\x09\x06\xa1\x01\xa1\x00\x75\x01\x96\xe8\x03\x09\x30\x81\x02";
     let descriptor = ReportDescriptor::try_from(rt.alloc(), bytes)?;
-    let Some(Field::Variable(field)) = field_at(&descriptor, 999) else {
-        panic!(rt; "no variable field");
-    };
-    assert_eq!(rt; field.collections.len(), 2);
-    assert_eq!(rt; ArcSlice::strong_count(&field.collections), 1000);
-    let copy = field.clone()?;
-    assert_eq!(rt; ArcSlice::strong_count(&copy.collections), 1001);
+    let field = input_field(&descriptor, 999);
+    assert!(rt; field.is_some_and(|field| is_shared(field, 1000)));
     Ok(())
 }
