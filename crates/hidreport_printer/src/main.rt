@@ -1,0 +1,85 @@
+//! Prints what reports and fields the named report descriptors announce.
+#![tactic(auto)]
+
+mod fields;
+
+use anyhow::{Context, Result, ensure};
+use fields::print_field;
+use hidreport::{Collection, Field, RDescReport, Report, ReportDescriptor};
+use std::rt::{Env, Files};
+use std::{env, fs};
+
+/// What a descriptor may list at most, since nobody vouches for the file.
+const LIMIT: usize = 65_536;
+
+fn main(rt: HostRuntime) -> Result<()> {
+    let names = env::args(&rt)?.skip(1);
+    ensure!(names.len() != 0, "usage: hidreport_printer DESCRIPTOR..");
+    for name in names {
+        print_descriptor(&rt, &name).context(format_args!("{name}"))?;
+    }
+    Ok(())
+}
+
+/// Prints the reports of the three directions.
+fn print_descriptor<R: AllocGlobal + Files + Print>(rt: &R, name: &str) -> Result<()> {
+    let bytes = fs::read(rt, name)?;
+    let descriptor = ReportDescriptor::try_from_within(rt.alloc(), &bytes, LIMIT)?;
+    println!(rt; "{name}")?;
+    print_reports(rt, "input", descriptor.input_reports())?;
+    print_reports(rt, "output", descriptor.output_reports())?;
+    print_reports(rt, "feature", descriptor.feature_reports())
+}
+
+fn print_reports<R: Print>(rt: &R, direction: &str, reports: &[RDescReport]) -> Result<()> {
+    for report in reports {
+        print!(rt; "  {direction} report")?;
+        if let Some(id) = report.report_id() {
+            print!(rt; " {id}")?;
+        }
+        println!(rt; ", {} bits", report.size_in_bits())?;
+        print_fields(rt, report.fields())?;
+    }
+    Ok(())
+}
+
+/// Prints the fields, each inside its collections. Padding lies in none: it stands where the field
+/// before it does.
+fn print_fields<R: Print>(rt: &R, fields: &[Field]) -> Result<()> {
+    let mut open: &[Collection] = &[];
+    for field in fields {
+        if !matches!(field, Field::Constant(_)) {
+            print_opened(rt, open, field.collections())?;
+            open = field.collections();
+        }
+        indent(rt, open.len())?;
+        print_field(rt, field)?;
+    }
+    Ok(())
+}
+
+/// Prints the collections around a field in which the field before it doesn't lie.
+fn print_opened<R: Print>(rt: &R, before: &[Collection], around: &[Collection]) -> Result<()> {
+    let shared = before
+        .iter()
+        .zip(around)
+        .take_while(|(a, b)| a == b)
+        .count();
+    for (depth, collection) in around.iter().enumerate().skip(shared) {
+        indent(rt, depth)?;
+        print!(rt; "{:?}", collection.collection_type())?;
+        for usage in collection.usages() {
+            print!(rt; " {:08x}", u32::from(usage))?;
+        }
+        println!(rt; "")?;
+    }
+    Ok(())
+}
+
+fn indent<R: Print>(rt: &R, depth: usize) -> Result<()> {
+    print!(rt; "    ")?;
+    for _ in 0..depth {
+        print!(rt; "  ")?;
+    }
+    Ok(())
+}

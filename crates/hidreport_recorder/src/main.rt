@@ -1,0 +1,64 @@
+//! Decodes reports, a line of hex digits each, by the descriptor of their device.
+#![tactic(auto)]
+
+use anyhow::{Context, Result};
+use hidreport::{ArrayField, Field, FieldValue, Report, ReportDescriptor, Usage};
+use std::rt::{Env, Files};
+use std::{env, fs};
+
+fn main(rt: HostRuntime) -> Result<()> {
+    let name = env::args(&rt)?.nth(1);
+    let name = name.context("usage: hidreport_recorder DESCRIPTOR < REPORTS")?;
+    let descriptor = ReportDescriptor::try_from(rt.alloc(), &fs::read(&rt, &name)?)?;
+    for line in rt.lines(rt.alloc()) {
+        print_report(&rt, &descriptor, &hex::decode(rt.alloc(), line?)?)?;
+    }
+    Ok(())
+}
+
+/// Prints a report's id, where it has one, and a usage and a value for each control.
+fn print_report<R: Print>(rt: &R, descriptor: &ReportDescriptor, bytes: &[u8]) -> Result<()> {
+    let report = descriptor
+        .find_input_report(bytes)
+        .context("no such report")?;
+    print!(rt; "report")?;
+    if let Some(id) = report.report_id() {
+        print!(rt; " {id}")?;
+    }
+    for field in report.fields() {
+        match field {
+            Field::Variable(field) => {
+                let usage = u32::from(field.usage);
+                print!(rt; " {usage:08x}={}", number_of(field.extract(bytes)?))?;
+            }
+            Field::Array(field) => {
+                for value in field.extract(bytes)? {
+                    if let Some(usage) = chosen(field, value) {
+                        print!(rt; " {:08x}=1", u32::from(usage))?;
+                    }
+                }
+            }
+            Field::Constant(_) => {}
+        }
+    }
+    println!(rt; "")?;
+    Ok(())
+}
+
+/// The usage that a value of an array chooses: the logical minimum stands for the first. Usage 0 of
+/// a page is no control.
+fn chosen(field: &ArrayField, value: FieldValue) -> Option<Usage> {
+    let first = i64::from(i32::from(field.logical_minimum));
+    let place = number_of(value).checked_sub(first)?;
+    let usage = field.usages().get(usize::try_from(place).ok()?)?;
+    (u16::from(usage.usage_id) != 0).then_some(*usage)
+}
+
+/// The number that a value is: below 0 only where its field is signed.
+fn number_of(value: FieldValue) -> i64 {
+    if value.is_signed() {
+        i64::from(i32::from(value))
+    } else {
+        i64::from(u32::from(value))
+    }
+}
