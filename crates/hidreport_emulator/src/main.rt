@@ -36,7 +36,7 @@ fn print_field<R: Print>(rt: &R, field: &Field) -> Result<()> {
         Field::Variable(field) => {
             print!(rt; " {:08x}", u32::from(field.usage))?;
             print!(rt; " {} to {}", field.logical_minimum, field.logical_maximum)?;
-            println!(rt; ": {}", i32::from(field.extract(&REPORT)?))?;
+            println!(rt; ": {}", i64::from(field.extract(&REPORT)?))?;
         }
         Field::Array(_) => println!(rt; " array")?,
         Field::Constant(_) => println!(rt; " constant")?,

@@ -3,6 +3,7 @@
 #![tactic(auto)]
 
 pub mod plain;
+pub mod pressed;
 #[cfg(test)]
 mod tests;
 pub mod values;

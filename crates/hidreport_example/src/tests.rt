@@ -1,5 +1,7 @@
-use crate::{plain, values};
-use hidreport::ParserError;
+use crate::{plain, pressed, values};
+use hidreport::{ArrayField, Field, FieldValue, ParserError, Report, ReportDescriptor};
+use std::alloc::Global;
+use std::test::Fail;
 
 /// The axes of a mouse, a byte each.
 const TWO_AXES: &[u8] = b"\x05\x01\x15\x81\x25\x7f\x75\x08\x95\x02\x09\x30\x09\x31\x81\x02";
@@ -24,4 +26,89 @@ fn no_bytes_are_of_no_report(rt: HostRuntime) -> Result<(), ParserError> {
 fn a_short_report_is_refused(rt: HostRuntime) {
     let read = plain::values(rt.alloc(), TWO_AXES, b"\x05");
     assert!(rt; matches!(read, Err(ParserError::OutOfBounds)));
+}
+
+/// The value of the first field in a report.
+fn first_value(alloc: Global, descriptor: &[u8], bytes: &[u8]) -> Result<FieldValue, Fail> {
+    let descriptor = ReportDescriptor::try_from(alloc, descriptor)?;
+    let report = descriptor.find_input_report(bytes).ok_or("no report")?;
+    match report.fields().first() {
+        Some(Field::Variable(field)) => Ok(field.extract(bytes)?),
+        _ => Err(Fail::from("no variable field")),
+    }
+}
+
+#[test]
+fn an_unsigned_number_of_32_bits_is_above_0(rt: HostRuntime) -> Result<(), Fail> {
+    let unsigned = b"\x05\x01\x75\x20\x95\x01\x09\x30\x81\x02";
+    let value = first_value(rt.alloc(), unsigned, b"\xfe\xff\xff\xff")?;
+    assert_eq!(rt; i64::from(value), 4_294_967_294);
+    assert_eq!(rt; i32::from(value), -2);
+    let signed = b"\x05\x01\x15\xff\x75\x20\x95\x01\x09\x30\x81\x02";
+    let value = first_value(rt.alloc(), signed, b"\xfe\xff\xff\xff")?;
+    assert_eq!(rt; i64::from(value), -2);
+    assert_eq!(rt; u32::from(value), 4_294_967_294);
+    Ok(())
+}
+
+#[test]
+fn collections_are_numbered_from_0(rt: HostRuntime) -> Result<(), Fail> {
+    let nested = b"\x05\x01\xa1\x01\xa1\x00\x75\x08\x95\x01\x09\x30\x81\x02\xc0\xc0";
+    let descriptor = ReportDescriptor::try_from(rt.alloc(), nested)?;
+    let report = descriptor.find_input_report(b"\x00").ok_or("no report")?;
+    let field = report.fields().first().ok_or("no field")?;
+    let [outer, inner] = field.collections() else {
+        panic!(rt; "not two collections");
+    };
+    assert_eq!(rt; u32::from(outer.id()), 0);
+    assert_eq!(rt; u32::from(inner.id().clone()), 1);
+    Ok(())
+}
+
+/// The usages that the values of the first field, an array, stand for: 0 for none.
+fn pressed_usages(alloc: Global, descriptor: &[u8], bytes: &[u8]) -> Result<Vec<u32>, Fail> {
+    let descriptor = ReportDescriptor::try_from(alloc, descriptor)?;
+    let report = descriptor.find_input_report(bytes).ok_or("no report")?;
+    match report.fields().first() {
+        Some(Field::Array(field)) => Ok(usages_of(alloc, field, bytes)?),
+        _ => Err(Fail::from("no array")),
+    }
+}
+
+fn usages_of(alloc: Global, field: &ArrayField, bytes: &[u8]) -> Result<Vec<u32>, ParserError> {
+    let mut numbers = Vec::new(alloc);
+    for value in field.extract(bytes)? {
+        numbers.push(match pressed::usage_of(field, value) {
+            Some(usage) => u32::from(usage),
+            None => 0,
+        })?;
+    }
+    Ok(numbers)
+}
+
+// Keys, and eight buttons from the logical minimum 0 or 1 on (Section 6.2.2.5).
+#[test]
+fn values_of_an_array_stand_for_usages(rt: HostRuntime) -> Result<(), Fail> {
+    let rows: [(&[u8], &[u8], &[u32]); 3] = [
+        (
+            b"\x05\x07\x19\x00\x29\x65\x15\x00\x25\x65\x75\x08\x95\x06\x81\x00",
+            b"\x00\x00\x04\x00\x65\x66",
+            &[0x0007_0000, 0x0007_0000, 0x0007_0004, 0x0007_0000, 0x0007_0065, 0],
+        ),
+        (
+            b"\x05\x09\x19\x01\x29\x08\x15\x00\x25\x07\x75\x08\x95\x03\x81\x00",
+            b"\x00\x02\x08",
+            &[0x0009_0001, 0x0009_0003, 0],
+        ),
+        (
+            b"\x05\x09\x19\x01\x29\x08\x15\x01\x25\x08\x75\x08\x95\x03\x81\x00",
+            b"\x00\x01\x08",
+            &[0, 0x0009_0001, 0x0009_0008],
+        ),
+    ];
+    for (descriptor, bytes, wanted) in rows {
+        let usages = pressed_usages(rt.alloc(), descriptor, bytes)?;
+        assert_eq!(rt; usages.as_slice(), wanted);
+    }
+    Ok(())
 }

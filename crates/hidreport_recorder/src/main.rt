@@ -29,7 +29,7 @@ fn print_report<R: Print>(rt: &R, descriptor: &ReportDescriptor, bytes: &[u8]) -
         match field {
             Field::Variable(field) => {
                 let usage = u32::from(field.usage);
-                print!(rt; " {usage:08x}={}", number_of(field.extract(bytes)?))?;
+                print!(rt; " {usage:08x}={}", i64::from(field.extract(bytes)?))?;
             }
             Field::Array(field) => {
                 for value in field.extract(bytes)? {
@@ -49,16 +49,7 @@ fn print_report<R: Print>(rt: &R, descriptor: &ReportDescriptor, bytes: &[u8]) -
 /// a page is no control.
 fn chosen(field: &ArrayField, value: FieldValue) -> Option<Usage> {
     let first = i64::from(i32::from(field.logical_minimum));
-    let place = number_of(value).checked_sub(first)?;
+    let place = i64::from(value).checked_sub(first)?;
     let usage = field.usages().get(usize::try_from(place).ok()?)?;
     (u16::from(usage.usage_id) != 0).then_some(*usage)
-}
-
-/// The number that a value is: below 0 only where its field is signed.
-fn number_of(value: FieldValue) -> i64 {
-    if value.is_signed() {
-        i64::from(i32::from(value))
-    } else {
-        i64::from(u32::from(value))
-    }
 }

@@ -2,7 +2,7 @@
 #![tactic(auto)]
 
 use anyhow::{Context, Result};
-use hidreport::{Field, FieldValue, Report, ReportDescriptor, Usage};
+use hidreport::{Field, Report, ReportDescriptor, Usage};
 use std::rt::{Env, Files};
 use std::{env, fmt, fs};
 
@@ -29,7 +29,7 @@ fn print_report<R: Print>(rt: &R, descriptor: &ReportDescriptor, bytes: &[u8]) -
         if let Field::Variable(field) = field
             && let Some(control) = Control::of(field.usage)
         {
-            let number = number_of(field.extract(bytes)?);
+            let number = i64::from(field.extract(bytes)?);
             print!(rt; " {}={number}", control.swapped())?;
         }
     }
@@ -74,14 +74,5 @@ impl fmt::Display for Control {
             Control::Y => write!(f, "y"),
             Control::Button(number) => write!(f, "button{number}"),
         }
-    }
-}
-
-/// The number that a value is: below 0 only where its field is signed.
-fn number_of(value: FieldValue) -> i64 {
-    if value.is_signed() {
-        i64::from(i32::from(value))
-    } else {
-        i64::from(u32::from(value))
     }
 }

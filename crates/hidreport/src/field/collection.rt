@@ -42,6 +42,22 @@ impl CollectionId {
     }
 }
 
+impl From<&CollectionId> for u32 {
+    ghost from_gives = { λ id number. number ≡ id.now };
+
+    fn from(collection_id: &CollectionId) -> u32 {
+        collection_id.0
+    }
+}
+
+impl From<CollectionId> for u32 {
+    ghost from_gives = { λ id number. number ≡ id };
+
+    fn from(id: CollectionId) -> u32 {
+        u32::from(&id)
+    }
+}
+
 /// The usages of a collection: one by itself, or a list that is shared.
 #[derive(Debug, Drop)]
 pub(crate) enum CollectionUsages {

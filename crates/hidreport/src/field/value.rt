@@ -1,5 +1,5 @@
 ghost use Rattle.std.specs.Prelude.{◌≡◌, ◌≢◌, true, Err, Ok, ◌+◌, ◌*◌, ◌<◌, ◌≤◌, ◌/◌, ◌%◌, ◌^◌};
-ghost use Rattle.std.specs.Prelude.{length, IfSome, IsNone};
+ghost use Rattle.std.specs.Prelude.{if◌then◌else◌, length, pos, IfSome, IsNone};
 ghost use Rattle.std.specs.Int.{w8, w16, w32, cast_signed};
 ghost use Rattle.hidreport_items.specs.Numbers.{word};
 ghost use Rattle.hidreport_lists.specs.Answer.{Answers, Bounds};
@@ -136,6 +136,29 @@ impl From<FieldValue> for i8 {
 
     fn from(value: FieldValue) -> i8 {
         i8::from(&value)
+    }
+}
+
+/// The number itself: below 0 only where the value is signed.
+impl From<&FieldValue> for i64 {
+    ghost from_gives = { λ value number. number ≡ (if value.now.is_signed
+        then cast_signed w32 value.now.word else pos value.now.word) };
+
+    fn from(field_value: &FieldValue) -> i64 {
+        if field_value.is_signed {
+            i64::from(i32::from(field_value))
+        } else {
+            i64::from(u32::from(field_value))
+        }
+    }
+}
+
+impl From<FieldValue> for i64 {
+    ghost from_gives = { λ value number. number ≡ (if value.is_signed
+        then cast_signed w32 value.word else pos value.word) };
+
+    fn from(value: FieldValue) -> i64 {
+        i64::from(&value)
     }
 }
 
