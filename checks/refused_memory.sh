@@ -14,7 +14,8 @@ make_probe refused_memory "$repository" hidreport_types hidreport_items hidrepor
 # More allocations than the calls make together.
 all=200
 
-cp "$repository/crates/hidreport_rows/src/memory.rt" "$scratch/crates/probe/src"
+rows="$repository/crates/hidreport_rows/src"
+cp -r "$rows/memory.rt" "$rows/memory" "$scratch/crates/probe/src"
 cat > "$probe" << SOURCE
 #![tactic(auto)]
 
