@@ -70,7 +70,8 @@ judge() {
     echo "refused memory, $2: $last allocations, $wanting of them answered by want of memory, the others as where it is ample"
 }
 
-cp "$repository/crates/hidreport_rows/src/memory.rt" "$scratch/crates/probe/src"
+rows="$repository/crates/hidreport_rows/src"
+cp -r "$rows/memory.rt" "$rows/memory" "$scratch/crates/probe/src"
 cat > "$probe" << SOURCE
 #![tactic(auto)]
 

@@ -2,6 +2,7 @@ pub mod BitValue
 pub mod CollectionUsages
 pub mod Bits
 pub mod Budget
+pub mod Choosing
 pub mod Faults
 pub mod Fields
 pub mod InForce

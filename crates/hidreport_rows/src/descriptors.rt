@@ -11,7 +11,7 @@ const TWO_AXES: &[u8] = b"\x05\x01\x15\x81\x25\x7f\x75\x08\x95\x02\x09\x30\x09\x
 /// Three output fields of one bit.
 const INDICATORS: &[u8] = b"\x05\x08\x19\x01\x29\x03\x45\x05\x75\x01\x95\x03\x91\xa2";
 
-static ROWS: [Row; 12] = [
+static ROWS: [Row; 13] = [
     Row(
         "two axes",
         TWO_AXES,
@@ -184,6 +184,23 @@ static ROWS: [Row; 12] = [
                 8,
                 1,
                 &[WantedField(Array(&[0x0001_0030]), 0, 0, 8, &[])],
+            )],
+            &[],
+            &[],
+        ),
+    ),
+    Row(
+        "a field of 32 bits across five bytes",
+        b"\x05\x01\x75\x04\x95\x01\x81\x01\x75\x20\x09\x30\x81\x02",
+        Reports(
+            &[WantedReport(
+                None,
+                36,
+                5,
+                &[
+                    WantedField(Constant, 0, 0, 4, &[]),
+                    WantedField(Variable(0x0001_0030), 1, 4, 36, &[]),
+                ],
             )],
             &[],
             &[],

@@ -1,6 +1,6 @@
 //! Lookups that find and that don't; hashes, and the list that fields share.
+use crate::arrays::NIBBLES;
 use crate::collections::ALL_USAGES;
-use crate::readings::NIBBLES;
 use crate::wanted::input_field;
 use hidreport::types::{UsageId, UsagePage};
 use hidreport::{Field, RDescReport, Report, ReportDescriptor, ReportId, Usage, UsageRange};

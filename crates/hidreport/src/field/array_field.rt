@@ -2,6 +2,7 @@ ghost use Rattle.std.specs.Prelude.{◌≡◌, ◌≢◌, ◌+◌, ◌*◌, ◌^
 ghost use Rattle.std.specs.Prelude.{IsNone, IsOk, OnOk};
 ghost use Rattle.hidreport_lists.specs.Answer.{Answers, Bounds, Refuses};
 ghost use Rattle.hidreport.specs.Bits.{FixesBits};
+ghost use Rattle.hidreport.specs.Choosing.{usage_chosen, value_number};
 ghost use Rattle.hidreport.specs.Reading.{AnswersBy, element_of, element_width, reads, reads_element};
 ghost use Rattle.hidreport.specs.Reading.{values_of};
 ghost use Rattle.hidreport.specs.Records.{is_of_range, usages_in};
@@ -101,6 +102,23 @@ impl ArrayField {
         ensures { result ≡ is_of_range (array_record self.now) }
     {
         self.is_usage_range
+    }
+
+    /// The usage that a value of the field stands for (Section 6.2.2.5): the one whose index, counted
+    /// from 0, is the value less the logical minimum. `None` where the value lies outside the logical
+    /// bounds, as it does where no usage is meant, and where no usage has the index.
+    pub fn usage_of(&self, value: FieldValue) -> Option<Usage>
+        ensures { result ≡ usage_chosen (usages_in (array_record self.now))
+            self.now.logical_minimum self.now.logical_maximum (value_number value) }
+    {
+        let number = i64::from(value);
+        let minimum = i64::from(i32::from(self.logical_minimum));
+        let maximum = i64::from(i32::from(self.logical_maximum));
+        if number < minimum || maximum < number {
+            return None;
+        }
+        let index = (number - minimum).unsigned_abs() as usize;
+        self.usages.get(index).copied()
     }
 
     /// Whether the values can be below 0: the logical minimum is.

@@ -1,9 +1,10 @@
 ghost use Rattle.std.specs.Prelude.{◌≡◌, ◌≢◌, true, Err, Ok, ◌+◌, ◌*◌, ◌<◌, ◌≤◌, ◌/◌, ◌%◌, ◌^◌};
-ghost use Rattle.std.specs.Prelude.{if◌then◌else◌, length, pos, IfSome, IsNone};
+ghost use Rattle.std.specs.Prelude.{length, IfSome, IsNone};
 ghost use Rattle.std.specs.Int.{w8, w16, w32, cast_signed};
 ghost use Rattle.hidreport_items.specs.Numbers.{word};
 ghost use Rattle.hidreport_lists.specs.Answer.{Answers, Bounds};
 ghost use Rattle.hidreport.specs.BitValue.{sum_of_bits, value, as_word};
+ghost use Rattle.hidreport.specs.Choosing.{value_number};
 ghost use Rattle.hidreport.specs.Reading.{read_bits, with_id};
 
 use hidreport_lists::ParserError;
@@ -141,8 +142,7 @@ impl From<FieldValue> for i8 {
 
 /// The number itself: below 0 only where the value is signed.
 impl From<&FieldValue> for i64 {
-    ghost from_gives = { λ value number. number ≡ (if value.now.is_signed
-        then cast_signed w32 value.now.word else pos value.now.word) };
+    ghost from_gives = { λ value number. number ≡ value_number value.now };
 
     fn from(field_value: &FieldValue) -> i64 {
         if field_value.is_signed {
@@ -154,8 +154,7 @@ impl From<&FieldValue> for i64 {
 }
 
 impl From<FieldValue> for i64 {
-    ghost from_gives = { λ value number. number ≡ (if value.is_signed
-        then cast_signed w32 value.word else pos value.word) };
+    ghost from_gives = { λ value number. number ≡ value_number value };
 
     fn from(value: FieldValue) -> i64 {
         i64::from(&value)

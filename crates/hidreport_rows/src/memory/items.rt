@@ -1,0 +1,211 @@
+//! Items that are read, written and built.
+use crate::memory::{Answer, Refusal};
+use hidreport::hid::{
+    CollectionItem, FeatureItem, GlobalItem, HidError, InputItem, Item, ItemBuilder, ItemData,
+    ItemType, LocalItem, MainItem, OutputItem, ReportDescriptorBuilder, ReportDescriptorBuilderC2,
+    ReportDescriptorItems, ShortItem, rebuild,
+};
+use hidreport::types::{
+    LogicalMaximum, LogicalMinimum, ReportCount, ReportSize, Unit, UsageId, UsagePage,
+};
+use std::alloc::Global;
+
+/// An item that is read and written, the bytes that are written, and the message of a refusal.
+pub(crate) static ITEMS: [(&[u8], &[u8], &str); 9] = [
+    (b"\x16\x80\x00", b"\x16\x80\x00", ""),
+    (b"\x0b\x30\x00\x00\x00", b"\x0b\x30\x00\x00\x00", ""),
+    (b"\x93\xaa\x01\x00\x00", b"\x92\xaa\x01", ""),
+    (b"\xc0", b"\xc0", ""),
+    (b"\xa1\x01", b"\xa1\x01", ""),
+    (b"\x81\x01\x02\x03", b"", "Size 3 cannot happen"),
+    (b"\xa4\x00\x00\x00", b"", "Size 3 cannot happen"),
+    (b"\x00", b"", "Invalid item tag 0b000000"),
+    (b"\x40", b"", "Invalid item tag 0b1000000"),
+];
+
+pub(crate) fn item_is_answered(
+    alloc: Global,
+    bytes: &[u8],
+    written: &[u8],
+    message: &str,
+) -> Answer {
+    match ItemType::try_from(alloc, bytes) {
+        Ok(item) => Ok(item.as_bytes(alloc)?.as_slice() == written),
+        Err(HidError::InvalidData { message: said }) => Ok(said.as_str() == message),
+        Err(error) => Err(Refusal::from(error)),
+    }
+}
+
+/// A kind of items with a reader and a writer of its own.
+enum Kind {
+    Input,
+    Output,
+    Feature,
+    Main,
+    Global,
+    Local,
+    Physical,
+}
+
+/// An item of each kind, which is written as it is read.
+static KINDS: [(Kind, &[u8]); 7] = [
+    (Kind::Input, b"\x81\x02"),
+    (Kind::Output, b"\x91\x80"),
+    (Kind::Feature, b"\xb1\x02"),
+    (Kind::Main, b"\xc0"),
+    (Kind::Global, b"\x75\x08"),
+    (Kind::Local, b"\x09\x30"),
+    (Kind::Physical, b"\xa1\x00"),
+];
+
+fn written(alloc: Global, kind: &Kind, bytes: &[u8]) -> Result<Vec<u8>, HidError> {
+    match kind {
+        Kind::Input => InputItem::try_from(alloc, bytes)?.as_bytes(alloc),
+        Kind::Output => OutputItem::try_from(alloc, bytes)?.as_bytes(alloc),
+        Kind::Feature => FeatureItem::try_from(alloc, bytes)?.as_bytes(alloc),
+        Kind::Main => MainItem::try_from(alloc, bytes)?.as_bytes(alloc),
+        Kind::Global => GlobalItem::try_from(alloc, bytes)?.as_bytes(alloc),
+        Kind::Local => LocalItem::try_from(alloc, bytes)?.as_bytes(alloc),
+        Kind::Physical => CollectionItem::Physical.as_bytes(alloc),
+    }
+}
+
+/// Whether these bytes are written.
+fn are_bytes(written: Result<Vec<u8>, HidError>, wanted: &[u8]) -> Answer {
+    match written {
+        Ok(bytes) => Ok(bytes.as_slice() == wanted),
+        Err(error) => Err(Refusal::from(error)),
+    }
+}
+
+pub(crate) fn items_are_written(alloc: Global) -> Answer {
+    for (kind, bytes) in &KINDS {
+        if !are_bytes(written(alloc, kind, bytes), bytes)? {
+            return Ok(false);
+        }
+    }
+    Ok(true)
+}
+
+/// A number of a unit, and how many units it has.
+pub(crate) static UNITS: [(u32, usize); 5] = [
+    (0xE121, 3),
+    (0x00F0_D121, 4),
+    (0xE012, 2),
+    (0x1005, 1),
+    (0, 0),
+];
+
+pub(crate) fn has_units(alloc: Global, number: u32, wanted: usize) -> Answer {
+    match Unit::from(number).units(alloc)? {
+        Some(units) => Ok(units.len() == wanted),
+        None => Ok(wanted == 0),
+    }
+}
+
+/// What is said of the data of `75 08`: its number, its byte, and its bytes.
+fn is_eight(alloc: Global, data: &ItemData) -> Answer {
+    Ok(
+        data.to_u32(alloc)? == 8
+            && data.to_u8(alloc)? == 8
+            && data.to_vec(alloc)?.as_slice() == b"\x08".as_slice(),
+    )
+}
+
+/// Two bytes are no byte.
+fn is_no_byte(answer: Result<u8, HidError>) -> Answer {
+    match answer {
+        Err(HidError::InvalidData { message }) => {
+            Ok(message.as_str() == "Cannot convert 2 bytes to u8")
+        }
+        Err(error) => Err(Refusal::from(error)),
+        Ok(_byte) => Ok(false),
+    }
+}
+
+pub(crate) fn data_is_answered(alloc: Global) -> Answer {
+    match ShortItem::try_from(alloc, b"\x75\x08")?.data() {
+        Some(data) => is_eight(alloc, &data),
+        None => Ok(false),
+    }
+}
+
+pub(crate) fn long_data_is_refused(alloc: Global) -> Answer {
+    match ShortItem::try_from(alloc, b"\x76\x08\x00")?.data() {
+        Some(data) => is_no_byte(data.to_u8(alloc)),
+        None => Ok(false),
+    }
+}
+
+/// What a builder makes of an Output and a Feature.
+fn output_and_feature(alloc: Global) -> Result<Vec<u8>, HidError> {
+    ReportDescriptorBuilder::new(alloc)
+        .output(ItemBuilder::new().output())?
+        .feature(ItemBuilder::new().feature())?
+        .build()
+}
+
+pub(crate) fn each_kind_is_built(alloc: Global) -> Answer {
+    are_bytes(output_and_feature(alloc), b"\x91\x00\xb1\x00")
+}
+
+pub(crate) fn rebuilding_is_answered(alloc: Global) -> Answer {
+    let bytes = b"\x06\x01\x00\xc4\x0a\x30\x00\xfc\x17\x00\x00\x00\x00\xa0\xc1\x55";
+    let wanted = b"\x05\x01\x09\x30\x15\x00\xa1\x00\xc0";
+    Ok(
+        ReportDescriptorItems::try_from(alloc, bytes)?
+            .as_slice()
+            .len()
+            == 7
+            && ShortItem::try_from(alloc, b"\x05\x01\x09")?.size() == 2
+            && rebuild(alloc, bytes)?.as_slice() == wanted.as_slice(),
+    )
+}
+
+/// A builder in two open collections.
+fn in_two_collections(
+    alloc: Global,
+) -> Result<ReportDescriptorBuilder<ReportDescriptorBuilderC2>, HidError> {
+    ReportDescriptorBuilder::new(alloc)
+        .usage_page(UsagePage::from(1))?
+        .usage_id(UsageId::from(2))?
+        .open_collection(CollectionItem::Application)?
+        .open_collection(CollectionItem::Physical)
+}
+
+/// The builder with a range of numbers inside a segment.
+fn with_segment(
+    builder: ReportDescriptorBuilder<ReportDescriptorBuilderC2>,
+) -> Result<ReportDescriptorBuilder<ReportDescriptorBuilderC2>, HidError> {
+    builder
+        .push()?
+        .append(ItemType::from(LogicalMinimum::from(0)))?
+        .append(ItemType::from(LogicalMaximum::from(128)))?
+        .pop()
+}
+
+/// The builder's bytes with two axes, once its collections are closed.
+fn with_axes(
+    builder: ReportDescriptorBuilder<ReportDescriptorBuilderC2>,
+) -> Result<Vec<u8>, HidError> {
+    builder
+        .append(ItemType::from(ReportCount::from(2)))?
+        .append(ItemType::from(ReportSize::from(8)))?
+        .usage_id(UsageId::from(0x30))?
+        .usage_id(UsageId::from(0x31))?
+        .input(ItemBuilder::new().variable().absolute().input())?
+        .close_collection()?
+        .close_collection()?
+        .build()
+}
+
+/// A device of two axes.
+fn two_axes(alloc: Global) -> Result<Vec<u8>, HidError> {
+    with_axes(with_segment(in_two_collections(alloc)?)?)
+}
+
+pub(crate) fn building_is_answered(alloc: Global) -> Answer {
+    let wanted =
+        b"\x05\x01\x09\x02\xa1\x01\xa1\x00\xa4\x15\x00\x26\x80\x00\xb4\x95\x02\x75\x08\x09\x30\x09\x31\x81\x02\xc0\xc0";
+    are_bytes(two_axes(alloc), wanted)
+}
