@@ -3,7 +3,6 @@
 #![tactic(auto)]
 
 pub mod plain;
-pub mod pressed;
 #[cfg(test)]
 mod tests;
 pub mod values;

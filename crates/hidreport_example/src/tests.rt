@@ -1,4 +1,4 @@
-use crate::{plain, pressed, values};
+use crate::{plain, values};
 use hidreport::{ArrayField, Field, FieldValue, ParserError, Report, ReportDescriptor};
 use std::alloc::Global;
 use std::test::Fail;
@@ -78,7 +78,7 @@ fn pressed_usages(alloc: Global, descriptor: &[u8], bytes: &[u8]) -> Result<Vec<
 fn usages_of(alloc: Global, field: &ArrayField, bytes: &[u8]) -> Result<Vec<u32>, ParserError> {
     let mut numbers = Vec::new(alloc);
     for value in field.extract(bytes)? {
-        numbers.push(match pressed::usage_of(field, value) {
+        numbers.push(match field.usage_of(value) {
             Some(usage) => u32::from(usage),
             None => 0,
         })?;

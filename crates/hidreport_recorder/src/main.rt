@@ -2,7 +2,7 @@
 #![tactic(auto)]
 
 use anyhow::{Context, Result};
-use hidreport::{ArrayField, Field, FieldValue, Report, ReportDescriptor, Usage};
+use hidreport::{ArrayField, Field, FieldValue, Report, ReportDescriptor};
 use std::rt::{Env, Files};
 use std::{env, fs};
 
@@ -34,7 +34,7 @@ fn print_report<R: Print>(rt: &R, descriptor: &ReportDescriptor, bytes: &[u8]) -
             Field::Array(field) => {
                 for value in field.extract(bytes)? {
                     if let Some(usage) = chosen(field, value) {
-                        print!(rt; " {:08x}=1", u32::from(usage))?;
+                        print!(rt; " {usage:08x}=1")?;
                     }
                 }
             }
@@ -45,11 +45,8 @@ fn print_report<R: Print>(rt: &R, descriptor: &ReportDescriptor, bytes: &[u8]) -
     Ok(())
 }
 
-/// The usage that a value of an array chooses: the logical minimum stands for the first. Usage 0 of
-/// a page is no control.
-fn chosen(field: &ArrayField, value: FieldValue) -> Option<Usage> {
-    let first = i64::from(i32::from(field.logical_minimum));
-    let place = i64::from(value).checked_sub(first)?;
-    let usage = field.usages().get(usize::try_from(place).ok()?)?;
-    (u16::from(usage.usage_id) != 0).then_some(*usage)
+/// The usage that a value of an array stands for; usage 0 of a page is no control.
+fn chosen(field: &ArrayField, value: FieldValue) -> Option<u32> {
+    let usage = u32::from(field.usage_of(value)?);
+    (usage & 0xffff != 0).then_some(usage)
 }

@@ -6,6 +6,7 @@ use crate::wanted::{
 };
 use hidreport::CollectionType::{Application, Physical};
 use hidreport::ReportDescriptor;
+use std::process::Abort;
 use std::test::Fail;
 
 /// A name, a descriptor's parts, a limit, and the answer within it.
@@ -231,7 +232,7 @@ static LIMITS: [BudgetRow; 20] = [
     ),
 ];
 
-static FAULTS: [BudgetRow; 15] = [
+static FAULTS: [BudgetRow; 5] = [
     BudgetRow(
         "a fault at the item comes first",
         &[(NO_USAGES, 1)],
@@ -257,6 +258,10 @@ static FAULTS: [BudgetRow; 15] = [
         3,
         Refused(10, "Too many EndCollection"),
     ),
+];
+
+// None of these usages is listed, though a collection has them.
+static COLLECTIONS: [BudgetRow; 6] = [
     BudgetRow(
         "a collection of 2^32 usages",
         ONE_COLLECTION,
@@ -292,6 +297,9 @@ static FAULTS: [BudgetRow; 15] = [
         1 << 49,
         Exceeded(262_160),
     ),
+];
+
+static USAGES: [BudgetRow; 2] = [
     BudgetRow(
         "an array of 2^32 usages",
         &[(WIDE_RANGE, 1), (b"\x75\x08\x95\x01\x81\x00", 1)],
@@ -304,6 +312,9 @@ static FAULTS: [BudgetRow; 15] = [
         1 << 32,
         Exceeded(16),
     ),
+];
+
+static FIELDS: [BudgetRow; 2] = [
     BudgetRow("2^32 fields", &[(MANY_FIELDS, 1)], 1000, Exceeded(11)),
     BudgetRow(
         "2^32 fields, one more than the limit",
@@ -313,12 +324,36 @@ static FAULTS: [BudgetRow; 15] = [
     ),
 ];
 
-#[test]
-fn the_item_that_passes_the_limit_is_named(rt: HostRuntime) -> Result<(), Fail> {
-    for BudgetRow(name, parts, limit, wanted) in LIMITS.iter().chain(&FAULTS) {
+fn are_answered<R: Abort + AllocGlobal>(rt: &R, rows: &[BudgetRow]) -> Result<(), Fail> {
+    for BudgetRow(name, parts, limit, wanted) in rows {
         let bytes = joined(rt.alloc(), parts)?;
         let answer = ReportDescriptor::try_from_within(rt.alloc(), &bytes, *limit);
         assert!(rt; is_wanted(&answer, wanted), "{name}");
     }
     Ok(())
+}
+
+#[test]
+fn the_item_that_passes_the_limit_is_named(rt: HostRuntime) -> Result<(), Fail> {
+    are_answered(&rt, &LIMITS)
+}
+
+#[test]
+fn faults_at_the_item_come_first(rt: HostRuntime) -> Result<(), Fail> {
+    are_answered(&rt, &FAULTS)
+}
+
+#[test]
+fn budget_weighs_before_listing_collections(rt: HostRuntime) -> Result<(), Fail> {
+    are_answered(&rt, &COLLECTIONS)
+}
+
+#[test]
+fn budget_weighs_before_listing_usages(rt: HostRuntime) -> Result<(), Fail> {
+    are_answered(&rt, &USAGES)
+}
+
+#[test]
+fn budget_weighs_before_listing_fields(rt: HostRuntime) -> Result<(), Fail> {
+    are_answered(&rt, &FIELDS)
 }
