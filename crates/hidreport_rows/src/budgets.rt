@@ -6,7 +6,7 @@ use crate::wanted::{
 };
 use hidreport::CollectionType::{Application, Physical};
 use hidreport::ReportDescriptor;
-use std::test::Fail;
+use std::alloc::Global;
 
 /// A name, a descriptor's parts, a limit, and the answer within it.
 struct BudgetRow(&'static str, Parts, usize, Wanted);
@@ -313,12 +313,20 @@ static FAULTS: [BudgetRow; 15] = [
     ),
 ];
 
-#[test]
-fn the_item_that_passes_the_limit_is_named(rt: HostRuntime) -> Result<(), Fail> {
-    for BudgetRow(name, parts, limit, wanted) in LIMITS.iter().chain(&FAULTS) {
-        let bytes = joined(rt.alloc(), parts)?;
-        let answer = ReportDescriptor::try_from_within(rt.alloc(), &bytes, *limit);
-        assert!(rt; is_wanted(&answer, wanted), "{name}");
+fn is_answered_within(alloc: Global, row: &BudgetRow) -> bool {
+    let BudgetRow(_name, parts, limit, wanted) = row;
+    match joined(alloc, parts) {
+        Ok(bytes) => is_wanted(
+            &ReportDescriptor::try_from_within(alloc, &bytes, *limit),
+            wanted,
+        ),
+        Err(_refused) => false,
     }
-    Ok(())
+}
+
+#[test]
+fn the_item_that_passes_the_limit_is_named(rt: HostRuntime) {
+    for row in LIMITS.iter().chain(&FAULTS) {
+        assert!(rt; is_answered_within(rt.alloc(), row), "{}", row.0);
+    }
 }
