@@ -16,3 +16,5 @@ mod numbers_read;
 mod printing;
 #[cfg(test)]
 mod units;
+#[cfg(test)]
+mod written;
