@@ -1,5 +1,6 @@
 //! Items that are built from their flags.
 use crate::generic::{each_flag_has_one_state, is_plain_button};
+use crate::written::are_bytes;
 use hidreport::hid::{FeatureItem, InputItem, ItemBuilder, MainDataItem, OutputItem};
 use std::test::Fail;
 
@@ -32,24 +33,31 @@ fn input_with_every_flag() -> InputItem {
 }
 
 #[test]
-fn built_items_are_written_with_the_flags_that_were_said(rt: HostRuntime) -> Result<(), Fail> {
+fn built_items_are_written_with_the_flags_that_were_said(rt: HostRuntime) {
     let alloc = rt.alloc();
     let constant = ItemBuilder::new().constant().output();
+    assert!(rt; are_bytes(constant.as_bytes(alloc), b"\x91\x01"));
     let relative_array = ItemBuilder::new().array().relative().feature();
+    assert!(rt; are_bytes(relative_array.as_bytes(alloc), b"\xb1\x04"));
     let input_bytes = ItemBuilder::new().volatile().buffered_bytes().input();
+    assert!(rt; are_bytes(input_bytes.as_bytes(alloc), b"\x82\x00\x01"));
     let volatile_bytes = ItemBuilder::new().volatile().buffered_bytes().feature();
-    let rows: [(Vec<u8>, &[u8]); 6] = [
-        (constant.as_bytes(alloc)?, b"\x91\x01"),
-        (relative_array.as_bytes(alloc)?, b"\xb1\x04"),
-        (input_bytes.as_bytes(alloc)?, b"\x82\x00\x01"),
-        (volatile_bytes.as_bytes(alloc)?, b"\xb2\x80\x01"),
-        (output_with_every_flag().as_bytes(alloc)?, b"\x92\xff\x01"),
-        (input_with_every_flag().as_bytes(alloc)?, b"\x82\x7f\x01"),
-    ];
-    for (built, bytes) in rows {
-        assert_eq!(rt; built.as_slice(), bytes);
-    }
-    Ok(())
+    assert!(rt; are_bytes(volatile_bytes.as_bytes(alloc), b"\xb2\x80\x01"));
+    assert!(rt; are_bytes(output_with_every_flag().as_bytes(alloc), b"\x92\xff\x01"));
+    assert!(rt; are_bytes(input_with_every_flag().as_bytes(alloc), b"\x82\x7f\x01"));
+}
+
+fn has_five_flags(item: &OutputItem) -> bool {
+    item.is_variable()
+        && item.wraps()
+        && item.has_no_preferred_state()
+        && item.is_volatile()
+        && item.is_buffered_bytes()
+        && item.is_data()
+        && item.is_absolute()
+        && item.is_linear()
+        && item.has_no_null_state()
+        && !item.is_nonvolatile()
 }
 
 #[test]
@@ -61,24 +69,10 @@ fn an_output_with_five_flags(rt: HostRuntime) -> Result<(), Fail> {
         .volatile()
         .buffered_bytes()
         .output();
-    assert!(rt; item.is_variable());
-    assert!(rt; item.wraps());
-    assert!(rt; item.has_no_preferred_state());
-    assert!(rt; item.is_volatile());
-    assert!(rt; item.is_buffered_bytes());
-    assert!(rt; item.is_data());
-    assert!(rt; item.is_absolute());
-    assert!(rt; item.is_linear());
-    assert!(rt; item.has_no_null_state());
-    assert!(rt; !item.is_nonvolatile());
-    assert_eq!(rt;
-        item.as_bytes(rt.alloc())?.as_slice(),
-        b"\x92\xaa\x01".as_slice()
-    );
-    assert_eq!(rt;
-        OutputItem::try_from(rt.alloc(), b"\x93\xaa\x01\x00\x00")?,
-        item
-    );
+    assert!(rt; has_five_flags(&item));
+    assert!(rt; are_bytes(item.as_bytes(rt.alloc()), b"\x92\xaa\x01"));
+    let read = OutputItem::try_from(rt.alloc(), b"\x93\xaa\x01\x00\x00")?;
+    assert_eq!(rt; read, item);
     Ok(())
 }
 

@@ -1,14 +1,15 @@
 //! Descriptors that are built item by item.
+use crate::written::are_bytes;
 use hidreport::hid::{
     CollectionItem, HidError, ItemBuilder, ItemType, LocalItem, ReportDescriptorBuilder,
-    ReportDescriptorBuilderState,
+    ReportDescriptorBuilderC8, ReportDescriptorBuilderState,
 };
 use hidreport::types::{
     LogicalMaximum, LogicalMinimum, ReportCount, ReportSize, UsageId, UsageMaximum, UsageMinimum,
     UsagePage,
 };
 use hidreport::{Field, Report, ReportDescriptor, Usage};
-use std::alloc::{AllocError, Global};
+use std::alloc::Global;
 use std::test::Fail;
 
 /// The builder with these items behind its own, whatever is open.
@@ -48,43 +49,42 @@ fn only(alloc: Global, item: ItemType) -> Result<Vec<u8>, HidError> {
     ReportDescriptorBuilder::new(alloc).append(item)?.build()
 }
 
+fn pushed_and_popped(alloc: Global) -> Result<Vec<u8>, HidError> {
+    ReportDescriptorBuilder::new(alloc).push()?.pop()?.build()
+}
+
 #[test]
-fn a_few_items(rt: HostRuntime) -> Result<(), Fail> {
+fn a_few_items(rt: HostRuntime) {
     let alloc = rt.alloc();
-    let empty = ReportDescriptorBuilder::new(alloc);
-    let pushed = ReportDescriptorBuilder::new(alloc).push()?.pop()?;
+    assert!(rt; are_bytes(ReportDescriptorBuilder::new(alloc).build(), b""));
+    assert!(rt; are_bytes(pushed_and_popped(alloc), b"\xa4\xb4"));
     let reserved = ItemType::from(LocalItem::Reserved { value: 0xf8 });
+    assert!(rt; are_bytes(only(alloc, reserved), b"\xf9\xf8"));
     let usage = ItemType::from((UsagePage::from(1), UsageId::from(0x30)));
-    let rows: [(Vec<u8>, &[u8]); 4] = [
-        (empty.build()?, b""),
-        (pushed.build()?, b"\xa4\xb4"),
-        (only(alloc, reserved)?, b"\xf9\xf8"),
-        (only(alloc, usage)?, b"\x0b\x30\x00\x01\x00"),
-    ];
-    for (built, bytes) in rows {
-        assert_eq!(rt; built.as_slice(), bytes);
-    }
-    Ok(())
+    assert!(rt; are_bytes(only(alloc, usage), b"\x0b\x30\x00\x01\x00"));
+}
+
+/// The item between two others.
+fn between(alloc: Global, item: ItemType) -> Result<Vec<u8>, HidError> {
+    ReportDescriptorBuilder::new(alloc)
+        .usage_page(UsagePage::from(1))?
+        .append(item)?
+        .usage_id(UsageId::from(2))?
+        .build()
 }
 
 #[test]
-fn items_without_bytes_are_refused(rt: HostRuntime) -> Result<(), Fail> {
-    let alloc = rt.alloc();
+fn items_without_bytes_are_refused(rt: HostRuntime) {
     for item in [ItemType::Reserved, ItemType::Long] {
-        assert!(rt; matches!(only(alloc, item), Err(HidError::InsufficientData)));
-        let between = ReportDescriptorBuilder::new(alloc)
-            .usage_page(UsagePage::from(1))?
-            .append(item)?
-            .usage_id(UsageId::from(2))?;
-        assert!(rt; matches!(between.build(), Err(HidError::InsufficientData)));
+        assert!(rt; matches!(only(rt.alloc(), item), Err(HidError::InsufficientData)));
+        assert!(rt; matches!(between(rt.alloc(), item), Err(HidError::InsufficientData)));
     }
-    Ok(())
 }
 
-#[test]
-fn eight_collections_and_a_push(rt: HostRuntime) -> Result<(), Fail> {
+/// A builder in eight open collections.
+fn inmost(alloc: Global) -> Result<ReportDescriptorBuilder<ReportDescriptorBuilderC8>, HidError> {
     let physical = CollectionItem::Physical;
-    let inmost = ReportDescriptorBuilder::new(rt.alloc())
+    ReportDescriptorBuilder::new(alloc)
         .open_collection(physical)?
         .open_collection(physical)?
         .open_collection(physical)?
@@ -92,8 +92,14 @@ fn eight_collections_and_a_push(rt: HostRuntime) -> Result<(), Fail> {
         .open_collection(physical)?
         .open_collection(physical)?
         .open_collection(physical)?
-        .open_collection(physical)?;
-    let outmost = inmost
+        .open_collection(physical)
+}
+
+/// The builder's bytes with a Push and its Pop, once all collections are closed.
+fn outmost(
+    builder: ReportDescriptorBuilder<ReportDescriptorBuilderC8>,
+) -> Result<Vec<u8>, HidError> {
+    builder
         .push()?
         .pop()?
         .close_collection()?
@@ -103,13 +109,15 @@ fn eight_collections_and_a_push(rt: HostRuntime) -> Result<(), Fail> {
         .close_collection()?
         .close_collection()?
         .close_collection()?
-        .close_collection()?;
-    assert_eq!(rt;
-        outmost.build()?.as_slice(),
-        b"\xa1\x00\xa1\x00\xa1\x00\xa1\x00\xa1\x00\xa1\x00\xa1\x00\xa1\x00\xa4\xb4\
-          \xc0\xc0\xc0\xc0\xc0\xc0\xc0\xc0"
-            .as_slice()
-    );
+        .close_collection()?
+        .build()
+}
+
+#[test]
+fn eight_collections_and_a_push(rt: HostRuntime) -> Result<(), Fail> {
+    let bytes = b"\xa1\x00\xa1\x00\xa1\x00\xa1\x00\xa1\x00\xa1\x00\xa1\x00\xa1\x00\xa4\xb4\
+          \xc0\xc0\xc0\xc0\xc0\xc0\xc0\xc0";
+    assert!(rt; are_bytes(outmost(inmost(rt.alloc())?), bytes));
     Ok(())
 }
 
@@ -202,37 +210,23 @@ fn axes(alloc: Global) -> Result<Vec<u8>, HidError> {
 }
 
 #[test]
-fn devices(rt: HostRuntime) -> Result<(), Fail> {
+fn devices(rt: HostRuntime) {
     let alloc = rt.alloc();
-    let rows: [(Vec<u8>, &[u8]); 4] = [
-        (
-            mouse(alloc)?,
-            b"\x05\x01\x09\x02\xa1\x01\x09\x01\xa1\x00\x05\x09\x19\x01\x29\x03\x15\x00\
+    let bytes = b"\x05\x01\x09\x02\xa1\x01\x09\x01\xa1\x00\x05\x09\x19\x01\x29\x03\x15\x00\
               \x25\x01\x95\x03\x75\x01\x81\x02\x95\x01\x75\x05\x81\x01\x05\x01\x09\x30\
-              \x09\x31\x15\x81\x25\x7f\x95\x02\x75\x08\x81\x06\xc0\xc0",
-        ),
-        (
-            keyboard(alloc)?,
-            b"\x05\x01\x09\x06\xa1\x01\x05\x07\x19\xe0\x29\xe7\x15\x00\x25\x01\x75\x01\
+              \x09\x31\x15\x81\x25\x7f\x95\x02\x75\x08\x81\x06\xc0\xc0";
+    assert!(rt; are_bytes(mouse(alloc), bytes));
+    let bytes = b"\x05\x01\x09\x06\xa1\x01\x05\x07\x19\xe0\x29\xe7\x15\x00\x25\x01\x75\x01\
               \x95\x08\x81\x02\x95\x01\x75\x08\x81\x01\x95\x05\x75\x01\x05\x08\x19\x01\
               \x29\x05\x91\x02\x95\x01\x75\x03\x91\x01\x95\x06\x75\x08\x15\x00\x25\x65\
-              \x05\x07\x19\x00\x29\x65\x81\x00\xc0",
-        ),
-        (
-            settings(alloc)?,
-            b"\x06\x00\xff\x0a\x02\x01\xa1\x02\xa4\x09\x03\x16\x7f\xff\x27\x00\x80\x00\x00\
-              \x96\x00\x01\x75\x18\xb1\x82\xb4\xb2\x00\x01\xc0",
-        ),
-        (
-            axes(alloc)?,
-            b"\x05\x01\x09\x02\xa1\x01\xa1\x00\xa4\x15\x00\x26\x80\x00\xb4\x95\x02\x75\x08\
-              \x09\x30\x09\x31\x81\x02\xc0\xc0",
-        ),
-    ];
-    for (built, bytes) in rows {
-        assert_eq!(rt; built.as_slice(), bytes);
-    }
-    Ok(())
+              \x05\x07\x19\x00\x29\x65\x81\x00\xc0";
+    assert!(rt; are_bytes(keyboard(alloc), bytes));
+    let bytes = b"\x06\x00\xff\x0a\x02\x01\xa1\x02\xa4\x09\x03\x16\x7f\xff\x27\x00\x80\x00\x00\
+              \x96\x00\x01\x75\x18\xb1\x82\xb4\xb2\x00\x01\xc0";
+    assert!(rt; are_bytes(settings(alloc), bytes));
+    let bytes = b"\x05\x01\x09\x02\xa1\x01\xa1\x00\xa4\x15\x00\x26\x80\x00\xb4\x95\x02\x75\x08\
+              \x09\x30\x09\x31\x81\x02\xc0\xc0";
+    assert!(rt; are_bytes(axes(alloc), bytes));
 }
 
 /// An array of two bytes on the page of keys, with these usages.
@@ -248,42 +242,52 @@ fn array_of(alloc: Global, usages: &[ItemType]) -> Result<Vec<u8>, HidError> {
         .build()
 }
 
-fn numbers(alloc: Global, usages: &[Usage]) -> Result<Vec<u32>, AllocError> {
-    let mut numbers = Vec::new(alloc);
-    for usage in usages {
-        numbers.push(u32::from(*usage))?;
+fn are_usages(usages: &[Usage], wanted: &[u32]) -> bool {
+    for (usage, number) in usages.iter().zip(wanted) {
+        if u32::from(usage) != *number {
+            return false;
+        }
     }
-    Ok(numbers)
+    usages.len() == wanted.len()
+}
+
+/// Whether the one field of the first report is an array of these usages, told to be a range or not.
+fn has_array(descriptor: &ReportDescriptor, is_range: bool, listed: &[u32]) -> bool {
+    let [report, ..] = descriptor.input_reports() else {
+        return false;
+    };
+    match report.fields() {
+        [Field::Array(field)] => {
+            field.is_usage_range() == is_range
+                && field.usage_range().is_some() == is_range
+                && are_usages(field.usages(), listed)
+        }
+        _ => false,
+    }
+}
+
+fn is_told(alloc: Global, items: &[ItemType], is_range: bool, listed: &[u32]) -> bool {
+    let Ok(bytes) = array_of(alloc, items) else {
+        return false;
+    };
+    match ReportDescriptor::try_from(alloc, &bytes) {
+        Ok(descriptor) => has_array(&descriptor, is_range, listed),
+        Err(_error) => false,
+    }
+}
+
+fn usage(id: u16) -> ItemType {
+    ItemType::from(UsageId::from(id))
 }
 
 #[test]
-fn arrays_tell_a_range_from_single_usages(rt: HostRuntime) -> Result<(), Fail> {
+fn arrays_tell_a_range_from_single_usages(rt: HostRuntime) {
     let alloc = rt.alloc();
-    let first = ItemType::from(UsageId::from(4));
-    let second = ItemType::from(UsageId::from(9));
-    let rows: [(&[ItemType], bool, &[u32]); 4] = [
-        (
-            &usages(4, 6),
-            true,
-            &[0x0007_0004, 0x0007_0005, 0x0007_0006],
-        ),
-        (
-            &[second, first, second],
-            false,
-            &[0x0007_0009, 0x0007_0004, 0x0007_0009],
-        ),
-        (&usages(0xe9, 0xe9), true, &[0x0007_00e9]),
-        (&[first], false, &[0x0007_0004]),
-    ];
-    for (items, is_range, listed) in rows {
-        let descriptor = ReportDescriptor::try_from(alloc, &array_of(alloc, items)?)?;
-        let report = descriptor.input_reports().first().ok_or("no report")?;
-        let [Field::Array(field)] = report.fields() else {
-            panic!(rt; "no array field alone");
-        };
-        assert_eq!(rt; field.is_usage_range(), is_range);
-        assert_eq!(rt; field.usage_range().is_some(), is_range);
-        assert_eq!(rt; numbers(alloc, field.usages())?.as_slice(), listed);
-    }
-    Ok(())
+    let three = [0x0007_0004, 0x0007_0005, 0x0007_0006];
+    assert!(rt; is_told(alloc, &usages(4, 6), true, &three));
+    let twice = [0x0007_0009, 0x0007_0004, 0x0007_0009];
+    let singles = [usage(9), usage(4), usage(9)];
+    assert!(rt; is_told(alloc, &singles, false, &twice));
+    assert!(rt; is_told(alloc, &usages(0xe9, 0xe9), true, &[0x0007_00e9]));
+    assert!(rt; is_told(alloc, &[usage(4)], false, &[0x0007_0004]));
 }

@@ -17,3 +17,5 @@ mod numbers_read;
 mod printing;
 #[cfg(test)]
 mod units;
+#[cfg(test)]
+mod written;

@@ -1,4 +1,5 @@
 //! Numbers in bytes and in ranges of bits, as runs of the Rust crate gave them.
+use crate::written::are_bytes;
 use hidreport::hid::{GlobalItem, HidError, Item, ItemType, ShortItem};
 use hidreport::types::{LogicalMinimum, UnitExponent, UsageMaximum, UsagePage};
 use hidreport::{Field, FieldValue, Report, ReportDescriptor, VariableField};
@@ -134,88 +135,94 @@ fn signed_of(alloc: Global, bytes: &[u8]) -> Result<i32, HidError> {
     }
 }
 
+/// A short item, and its data as an unsigned and as a signed number.
+static DATA: [(&[u8], u32, i32); 21] = [
+    (b"\x17\x01\x02\x03\x04", 0x0403_0201, 0x0403_0201),
+    (b"\x15\x7f", 127, 127),
+    (b"\x15\x80", 128, -128),
+    (b"\x15\xff", 255, -1),
+    (b"\x15\x00", 0, 0),
+    (b"\x15\x01", 1, 1),
+    (b"\x16\xff\x7f", 32767, 32767),
+    (b"\x16\x00\x80", 32768, -32768),
+    (b"\x16\xff\xff", 65535, -1),
+    (b"\x16\x80\x00", 128, 128),
+    (b"\x16\x01\x00", 1, 1),
+    (b"\x16\x34\x12", 4660, 4660),
+    (b"\x16\xcc\xed", 60876, -4660),
+    (b"\x16\x00\x00", 0, 0),
+    (b"\x17\xff\xff\xff\x7f", 0x7fff_ffff, i32::MAX),
+    (b"\x17\x00\x00\x00\x80", 0x8000_0000, i32::MIN),
+    (b"\x17\xff\xff\xff\xff", 0xffff_ffff, -1),
+    (b"\x17\x01\x00\x00\x00", 1, 1),
+    (b"\x17\x78\x56\x34\x12", 0x1234_5678, 305419896),
+    (b"\x17\x88\xa9\xcb\xed", 0xedcb_a988, -305419896),
+    (b"\x17\x00\x00\x00\x00", 0, 0),
+];
+
 #[test]
 fn data_bytes_as_numbers(rt: HostRuntime) -> Result<(), Fail> {
-    let rows: [(&[u8], u32, i32); 21] = [
-        (b"\x17\x01\x02\x03\x04", 0x0403_0201, 0x0403_0201),
-        (b"\x15\x7f", 127, 127),
-        (b"\x15\x80", 128, -128),
-        (b"\x15\xff", 255, -1),
-        (b"\x15\x00", 0, 0),
-        (b"\x15\x01", 1, 1),
-        (b"\x16\xff\x7f", 32767, 32767),
-        (b"\x16\x00\x80", 32768, -32768),
-        (b"\x16\xff\xff", 65535, -1),
-        (b"\x16\x80\x00", 128, 128),
-        (b"\x16\x01\x00", 1, 1),
-        (b"\x16\x34\x12", 4660, 4660),
-        (b"\x16\xcc\xed", 60876, -4660),
-        (b"\x16\x00\x00", 0, 0),
-        (b"\x17\xff\xff\xff\x7f", 0x7fff_ffff, i32::MAX),
-        (b"\x17\x00\x00\x00\x80", 0x8000_0000, i32::MIN),
-        (b"\x17\xff\xff\xff\xff", 0xffff_ffff, -1),
-        (b"\x17\x01\x00\x00\x00", 1, 1),
-        (b"\x17\x78\x56\x34\x12", 0x1234_5678, 305419896),
-        (b"\x17\x88\xa9\xcb\xed", 0xedcb_a988, -305419896),
-        (b"\x17\x00\x00\x00\x00", 0, 0),
-    ];
-    for (bytes, unsigned, signed) in rows {
-        assert_eq!(rt; unsigned_of(rt.alloc(), bytes)?, unsigned);
-        assert_eq!(rt; signed_of(rt.alloc(), bytes)?, signed);
+    for (bytes, unsigned, signed) in &DATA {
+        assert_eq!(rt; unsigned_of(rt.alloc(), bytes)?, *unsigned);
+        assert_eq!(rt; signed_of(rt.alloc(), bytes)?, *signed);
     }
     Ok(())
 }
 
-#[test]
-fn signed_numbers_in_their_least_bytes(rt: HostRuntime) -> Result<(), Fail> {
-    let rows: [(i32, &[u8]); 13] = [
-        (1, b"\x15\x01"),
-        (127, b"\x15\x7f"),
-        (128, b"\x16\x80\x00"),
-        (255, b"\x16\xff\x00"),
-        (256, b"\x16\x00\x01"),
-        (-1, b"\x15\xff"),
-        (-128, b"\x15\x80"),
-        (-129, b"\x16\x7f\xff"),
-        (32766, b"\x16\xfe\x7f"),
-        (32767, b"\x16\xff\x7f"),
-        (32768, b"\x17\x00\x80\x00\x00"),
-        (2147483646, b"\x17\xfe\xff\xff\x7f"),
-        (-32769, b"\x17\xff\x7f\xff\xff"),
-    ];
-    for (number, bytes) in rows {
-        let written = ItemType::from(LogicalMinimum::from(number)).as_bytes(rt.alloc())?;
-        assert_eq!(rt; written.as_slice(), bytes);
-    }
-    Ok(())
-}
+static SIGNED: [(i32, &[u8]); 13] = [
+    (1, b"\x15\x01"),
+    (127, b"\x15\x7f"),
+    (128, b"\x16\x80\x00"),
+    (255, b"\x16\xff\x00"),
+    (256, b"\x16\x00\x01"),
+    (-1, b"\x15\xff"),
+    (-128, b"\x15\x80"),
+    (-129, b"\x16\x7f\xff"),
+    (32766, b"\x16\xfe\x7f"),
+    (32767, b"\x16\xff\x7f"),
+    (32768, b"\x17\x00\x80\x00\x00"),
+    (2147483646, b"\x17\xfe\xff\xff\x7f"),
+    (-32769, b"\x17\xff\x7f\xff\xff"),
+];
 
 #[test]
-fn unsigned_numbers_in_their_least_bytes(rt: HostRuntime) -> Result<(), Fail> {
-    let rows: [(u32, &[u8]); 7] = [
-        (1, b"\x29\x01"),
-        (255, b"\x29\xff"),
-        (256, b"\x2a\x00\x01"),
-        (65535, b"\x2a\xff\xff"),
-        (0x1_0000, b"\x2b\x00\x00\x01\x00"),
-        (0x100_0000, b"\x2b\x00\x00\x00\x01"),
-        (u32::MAX, b"\x2b\xff\xff\xff\xff"),
-    ];
-    for (number, bytes) in rows {
-        let written = ItemType::from(UsageMaximum::from(number)).as_bytes(rt.alloc())?;
-        assert_eq!(rt; written.as_slice(), bytes);
+fn signed_numbers_in_their_least_bytes(rt: HostRuntime) {
+    for (number, bytes) in &SIGNED {
+        let item = ItemType::from(LogicalMinimum::from(*number));
+        assert!(rt; are_bytes(item.as_bytes(rt.alloc()), bytes), "of {number}");
     }
-    let pages: [(u16, &[u8]); 4] = [
-        (1, b"\x05\x01"),
-        (255, b"\x05\xff"),
-        (256, b"\x06\x00\x01"),
-        (65535, b"\x06\xff\xff"),
-    ];
-    for (number, bytes) in pages {
-        let written = ItemType::from(UsagePage::from(number)).as_bytes(rt.alloc())?;
-        assert_eq!(rt; written.as_slice(), bytes);
+}
+
+static UNSIGNED: [(u32, &[u8]); 7] = [
+    (1, b"\x29\x01"),
+    (255, b"\x29\xff"),
+    (256, b"\x2a\x00\x01"),
+    (65535, b"\x2a\xff\xff"),
+    (0x1_0000, b"\x2b\x00\x00\x01\x00"),
+    (0x100_0000, b"\x2b\x00\x00\x00\x01"),
+    (u32::MAX, b"\x2b\xff\xff\xff\xff"),
+];
+
+static PAGES: [(u16, &[u8]); 4] = [
+    (1, b"\x05\x01"),
+    (255, b"\x05\xff"),
+    (256, b"\x06\x00\x01"),
+    (65535, b"\x06\xff\xff"),
+];
+
+#[test]
+fn unsigned_numbers_in_their_least_bytes(rt: HostRuntime) {
+    for (number, bytes) in &UNSIGNED {
+        let item = ItemType::from(UsageMaximum::from(*number));
+        assert!(rt; are_bytes(item.as_bytes(rt.alloc()), bytes), "of {number}");
     }
-    Ok(())
+    for (number, bytes) in &PAGES {
+        let item = ItemType::from(UsagePage::from(*number));
+        assert!(rt;
+            are_bytes(item.as_bytes(rt.alloc()), bytes),
+            "of page {number}"
+        );
+    }
 }
 
 #[test]

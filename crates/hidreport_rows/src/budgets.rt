@@ -6,8 +6,8 @@ use crate::wanted::{
 };
 use hidreport::CollectionType::{Application, Physical};
 use hidreport::ReportDescriptor;
+use std::alloc::Global;
 use std::process::Abort;
-use std::test::Fail;
 
 /// A name, a descriptor's parts, a limit, and the answer within it.
 struct BudgetRow(&'static str, Parts, usize, Wanted);
@@ -324,36 +324,44 @@ static FIELDS: [BudgetRow; 2] = [
     ),
 ];
 
-fn are_answered<R: Abort + AllocGlobal>(rt: &R, rows: &[BudgetRow]) -> Result<(), Fail> {
-    for BudgetRow(name, parts, limit, wanted) in rows {
-        let bytes = joined(rt.alloc(), parts)?;
-        let answer = ReportDescriptor::try_from_within(rt.alloc(), &bytes, *limit);
-        assert!(rt; is_wanted(&answer, wanted), "{name}");
+fn is_answered_within(alloc: Global, row: &BudgetRow) -> bool {
+    let BudgetRow(_name, parts, limit, wanted) = row;
+    match joined(alloc, parts) {
+        Ok(bytes) => is_wanted(
+            &ReportDescriptor::try_from_within(alloc, &bytes, *limit),
+            wanted,
+        ),
+        Err(_refused) => false,
     }
-    Ok(())
+}
+
+fn are_answered<R: Abort + AllocGlobal>(rt: &R, rows: &[BudgetRow]) {
+    for row in rows {
+        assert!(rt; is_answered_within(rt.alloc(), row), "{}", row.0);
+    }
 }
 
 #[test]
-fn the_item_that_passes_the_limit_is_named(rt: HostRuntime) -> Result<(), Fail> {
-    are_answered(&rt, &LIMITS)
+fn the_item_that_passes_the_limit_is_named(rt: HostRuntime) {
+    are_answered(&rt, &LIMITS);
 }
 
 #[test]
-fn faults_at_the_item_come_first(rt: HostRuntime) -> Result<(), Fail> {
-    are_answered(&rt, &FAULTS)
+fn faults_at_the_item_come_first(rt: HostRuntime) {
+    are_answered(&rt, &FAULTS);
 }
 
 #[test]
-fn budget_weighs_before_listing_collections(rt: HostRuntime) -> Result<(), Fail> {
-    are_answered(&rt, &COLLECTIONS)
+fn budget_weighs_before_listing_collections(rt: HostRuntime) {
+    are_answered(&rt, &COLLECTIONS);
 }
 
 #[test]
-fn budget_weighs_before_listing_usages(rt: HostRuntime) -> Result<(), Fail> {
-    are_answered(&rt, &USAGES)
+fn budget_weighs_before_listing_usages(rt: HostRuntime) {
+    are_answered(&rt, &USAGES);
 }
 
 #[test]
-fn budget_weighs_before_listing_fields(rt: HostRuntime) -> Result<(), Fail> {
-    are_answered(&rt, &FIELDS)
+fn budget_weighs_before_listing_fields(rt: HostRuntime) {
+    are_answered(&rt, &FIELDS);
 }

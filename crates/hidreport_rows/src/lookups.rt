@@ -29,7 +29,9 @@ const WRAPPING: &[u8] = b"\x05\x01\x1b\xff\xff\x00\x00\x2b\x01\x00\x01\x00\x75\x
 type Found = Option<(Option<u8>, usize)>;
 
 /// A descriptor, a report, and the input, the output and the feature report that are found for it.
-static LOOKUPS: [(&[u8], &[u8], Found, Found, Found); 7] = [
+type LookupRow = (&'static [u8], &'static [u8], Found, Found, Found);
+
+static LOOKUPS: [LookupRow; 7] = [
     (THREE_IDS, b"\x01\x00", None, Some((Some(1), 16)), None),
     (THREE_IDS, b"\x03\x00", None, Some((Some(3), 16)), None),
     (THREE_IDS, b"\x02\x00", None, None, Some((Some(2), 16))),
@@ -49,22 +51,18 @@ fn is_found(report: Option<&RDescReport>, wanted: &Found) -> bool {
     }
 }
 
+fn are_found(descriptor: &ReportDescriptor, row: &LookupRow) -> bool {
+    let (_bytes, report, input, output, feature) = row;
+    is_found(descriptor.find_input_report(report), input)
+        && is_found(descriptor.find_output_report(report), output)
+        && is_found(descriptor.find_feature_report(report), feature)
+}
+
 #[test]
 fn reports_are_found_by_their_bytes(rt: HostRuntime) -> Result<(), Fail> {
-    for (bytes, report, input, output, feature) in &LOOKUPS {
-        let descriptor = ReportDescriptor::try_from(rt.alloc(), bytes)?;
-        assert!(rt;
-            is_found(descriptor.find_input_report(report), input),
-            "{report:?}"
-        );
-        assert!(rt;
-            is_found(descriptor.find_output_report(report), output),
-            "{report:?}"
-        );
-        assert!(rt;
-            is_found(descriptor.find_feature_report(report), feature),
-            "{report:?}"
-        );
+    for row in &LOOKUPS {
+        let descriptor = ReportDescriptor::try_from(rt.alloc(), row.0)?;
+        assert!(rt; are_found(&descriptor, row), "of {:?}", row.1);
     }
     Ok(())
 }
@@ -73,7 +71,9 @@ fn reports_are_found_by_their_bytes(rt: HostRuntime) -> Result<(), Fail> {
 type Key = (u32, bool, bool);
 
 /// An array's descriptor, how many usages it has, the ends of its range, and usages that are looked up in that.
-static USAGE_RANGES: [(&[u8], usize, Option<(u32, u32)>, &[Key]); 4] = [
+type RangeRow = (&'static [u8], usize, Option<(u32, u32)>, &'static [Key]);
+
+static USAGE_RANGES: [RangeRow; 4] = [
     (
         FOUR_KEYS,
         4,
@@ -133,18 +133,27 @@ fn is_range(range: Option<&UsageRange>, ends: &Option<(u32, u32)>, keys: &[Key])
     }
 }
 
+/// Whether the field is an array of so many usages, with this range.
+fn has_range(field: Option<&Field>, row: &RangeRow) -> bool {
+    let (_bytes, count, ends, keys) = row;
+    match field {
+        Some(Field::Array(field)) => {
+            field.usages().len() == *count
+                && field.is_usage_range() == ends.is_some()
+                && is_range(field.usage_range().as_ref(), ends, keys)
+        }
+        _ => false,
+    }
+}
+
 #[test]
 fn usages_are_looked_up_in_ranges(rt: HostRuntime) -> Result<(), Fail> {
-    for (bytes, count, ends, keys) in &USAGE_RANGES {
-        let descriptor = ReportDescriptor::try_from(rt.alloc(), bytes)?;
-        let Some(Field::Array(field)) = input_field(&descriptor, 0) else {
-            panic!(rt; "no array with the range {ends:?}");
-        };
-        let is_counted = field.usages().len() == *count && field.is_usage_range() == ends.is_some();
-        assert!(rt; is_counted, "{ends:?}");
+    for row in &USAGE_RANGES {
+        let descriptor = ReportDescriptor::try_from(rt.alloc(), row.0)?;
         assert!(rt;
-            is_range(field.usage_range().as_ref(), ends, keys),
-            "{ends:?}"
+            has_range(input_field(&descriptor, 0), row),
+            "of {} usages",
+            row.1
         );
     }
     Ok(())
