@@ -1,4 +1,5 @@
 //! Makes a mouse's report descriptor, reads it back, and reads a report by it.
+//! Licence: MIT (LICENSE); a port of the Rust crate `hidreport` 0.6.0.
 #![tactic(auto)]
 
 use anyhow::{Context, Result};

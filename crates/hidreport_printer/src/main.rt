@@ -1,4 +1,5 @@
 //! Prints what reports and fields the named report descriptors announce.
+//! Licence: MIT (LICENSE); a port of the Rust crate `hidreport` 0.6.0.
 #![tactic(auto)]
 
 mod fields;
@@ -9,26 +10,20 @@ use hidreport::{Collection, Field, RDescReport, Report, ReportDescriptor};
 use std::rt::{Env, Files};
 use std::{env, fs};
 
-/// What a descriptor may list at most, since nobody vouches for the file.
-const LIMIT: usize = 65_536;
-
 fn main(rt: HostRuntime) -> Result<()> {
     let names = env::args(&rt)?.skip(1);
     ensure!(names.len() != 0, "usage: hidreport_printer DESCRIPTOR..");
     for name in names {
-        print_descriptor(&rt, &name).context(format_args!("{name}"))?;
+        let bytes = fs::read(&rt, &name).context(format_args!("{name}"))?;
+        // Nobody vouches for a file: it lists no more than this.
+        let descriptor = ReportDescriptor::try_from_within(rt.alloc(), &bytes, 65_536);
+        let descriptor = descriptor.context(format_args!("{name}"))?;
+        println!(rt; "{name}")?;
+        print_reports(&rt, "input", descriptor.input_reports())?;
+        print_reports(&rt, "output", descriptor.output_reports())?;
+        print_reports(&rt, "feature", descriptor.feature_reports())?;
     }
     Ok(())
-}
-
-/// Prints the reports of the three directions.
-fn print_descriptor<R: AllocGlobal + Files + Print>(rt: &R, name: &str) -> Result<()> {
-    let bytes = fs::read(rt, name)?;
-    let descriptor = ReportDescriptor::try_from_within(rt.alloc(), &bytes, LIMIT)?;
-    println!(rt; "{name}")?;
-    print_reports(rt, "input", descriptor.input_reports())?;
-    print_reports(rt, "output", descriptor.output_reports())?;
-    print_reports(rt, "feature", descriptor.feature_reports())
 }
 
 fn print_reports<R: Print>(rt: &R, direction: &str, reports: &[RDescReport]) -> Result<()> {

@@ -1,4 +1,5 @@
 //! Decodes reports, a line of hex digits each, by the descriptor of their device.
+//! Licence: MIT (LICENSE); a port of the Rust crate `hidreport` 0.6.0.
 #![tactic(auto)]
 
 use anyhow::{Context, Result};

@@ -1,4 +1,5 @@
 //! Reads a mouse's reports with X and Y swapped, and with its first two buttons swapped.
+//! Licence: MIT (LICENSE); a port of the Rust crate `hidreport` 0.6.0.
 #![tactic(auto)]
 
 use anyhow::{Context, Result};

@@ -1,4 +1,5 @@
 //! Worked descriptors: what the library answers of them.
+//! Licence: MIT (LICENSE); a port of the Rust crate `hidreport` 0.6.0.
 #![tactic(auto)]
 
 #[cfg(test)]
