@@ -13,7 +13,7 @@ repository=${1:-$(dirname "$0")/..}
 make_probe refused_memory "$repository" hidreport_types hidreport_items hidreport_lists hidreport
 
 # More allocations than the calls make together.
-all=200
+all=300
 
 # The tests of a module beside `refusals`, which has a function `count_refused`.
 write_refusals() {
@@ -71,12 +71,14 @@ judge() {
 }
 
 rows="$repository/crates/hidreport_rows/src"
-cp -r "$rows/memory.rt" "$rows/memory" "$scratch/crates/probe/src"
+cp -r "$rows/memory.rt" "$rows/memory" "$rows/mouse.rt" "$scratch/crates/probe/src"
 cat > "$probe" << SOURCE
 #![tactic(auto)]
 
 #[cfg(test)]
 mod memory;
+#[cfg(test)]
+mod mouse;
 #[cfg(test)]
 mod refusals;
 SOURCE

@@ -17,6 +17,8 @@ mod lookups;
 #[cfg(test)]
 mod memory;
 #[cfg(test)]
+mod mouse;
+#[cfg(test)]
 mod readings;
 #[cfg(test)]
 mod refusals;

@@ -1,5 +1,5 @@
 //! Push and Pop: what comes back, and what doesn't.
-use crate::collections::MOUSE;
+use crate::mouse::MOUSE;
 use crate::same::are_same_fields;
 use crate::wanted::Kind::Variable;
 use crate::wanted::Wanted::Reports;
@@ -179,7 +179,8 @@ fn is_unchanged(alloc: Global, mouse: &ReportDescriptor, offset: usize) -> bool 
         return false;
     };
     match ReportDescriptor::try_from(alloc, &bytes) {
-        Ok(changed) => bytes.len() == MOUSE.len() + 6 && are_same_descriptors(mouse, &changed),
+        Ok(changed) => bytes.len() == MOUSE.len().saturating_add(6)
+            && are_same_descriptors(mouse, &changed),
         Err(_) => false,
     }
 }
@@ -200,8 +201,8 @@ fn first_changed(
 
 #[test]
 fn a_segment_without_fields_changes_no_report(rt: HostRuntime) -> Result<(), Fail> {
-    let mouse = ReportDescriptor::try_from(rt.alloc(), &MOUSE)?;
-    let items = ReportDescriptorItems::try_from(rt.alloc(), &MOUSE)?;
+    let mouse = ReportDescriptor::try_from(rt.alloc(), MOUSE)?;
+    let items = ReportDescriptorItems::try_from(rt.alloc(), MOUSE)?;
     assert!(rt; items.as_slice().len() > 100);
     assert_eq!(rt; first_changed(rt.alloc(), &mouse, items.as_slice()), None);
     Ok(())

@@ -10,7 +10,7 @@ use crate::parser::usages::Usages;
 use std::marker::Model;
 
 /// How much a parse may still list, in what `try_from_within` counts; without a limit, anything.
-#[derive(Debug, Drop)]
+#[derive(Drop)]
 pub(crate) struct Budget {
     left: Option<usize>,
 }

@@ -8,7 +8,7 @@ use hidreport_lists::ParserError;
 use std::alloc::{AllocError, AllocFailed, Global};
 
 /// Why an item has no meaning where it stands (Sections 6.2.2.4 to 6.2.2.8), or want of memory.
-#[derive(Clone, Copy, Debug)]
+#[derive(Clone, Copy)]
 pub(crate) enum Fault {
     /// No Push is open that could be undone.
     TooManyPops,

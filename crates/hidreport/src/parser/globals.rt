@@ -5,7 +5,7 @@ use hidreport_types::{
 };
 
 /// The values of global items that are in force (Section 6.2.2.7).
-#[derive(Clone, Copy, Debug)]
+#[derive(Clone, Copy)]
 pub(crate) struct Globals {
     pub(crate) usage_page: Option<UsagePage>,
     pub(crate) logical_minimum: Option<LogicalMinimum>,

@@ -7,7 +7,7 @@ use std::marker::Model;
 /// What is in force between two items (Sections 6.2.2.7 and 6.2.2.8), and what each open Push
 /// keeps of it for its Pop: one record of globals, one list of locals, and a journal of what was
 /// replaced inside open Pushes.
-#[derive(Debug, Drop)]
+#[derive(Drop)]
 pub(crate) struct InForce {
     globals: Globals,
     locals: Vec<LocalItem>,

@@ -6,13 +6,13 @@ use std::mem;
 
 /// What the changes inside open Pushes replaced, so that each Pop can take them back
 /// (Section 6.2.2.7). Outside every Push it is empty: nothing has to be taken back.
-#[derive(Debug, Drop)]
+#[derive(Drop)]
 pub(crate) struct Journal {
     entries: Vec<Entry>,
 }
 
 /// What one change replaced, or where a Push stands.
-#[derive(Debug, Drop)]
+#[derive(Drop)]
 pub(crate) enum Entry {
     /// A Push, and how many local items were in force there: those that are added behind it are
     /// cut off again. Its Pop drops it, last of all that it takes back.

@@ -8,7 +8,7 @@ use std::sync::ArcSlice;
 
 /// A collection that is open (Section 6.2.2.6). The usages between a minimum and a maximum are
 /// listed only where a field lies in it; the fields share the list.
-#[derive(Debug, Drop)]
+#[derive(Drop)]
 pub(crate) struct OpenCollection {
     number: u32,
     collection_type: CollectionItem,
@@ -16,7 +16,7 @@ pub(crate) struct OpenCollection {
 }
 
 /// The usages of an open collection.
-#[derive(Debug, Drop)]
+#[derive(Drop)]
 pub(crate) enum OpenUsages {
     /// Those between a minimum and a maximum, which no field has needed yet.
     Waiting(UsageBounds),

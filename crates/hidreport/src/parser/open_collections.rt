@@ -12,7 +12,7 @@ use std::sync::ArcSlice;
 /// The collections that are open, outermost first (Section 6.2.2.6).
 ///
 /// Fields share a list of them, which is kept as long as no collection opens or closes.
-#[derive(Debug, Drop)]
+#[derive(Drop)]
 pub(crate) struct OpenCollections {
     open: Vec<OpenCollection>,
     count: u64,

@@ -13,7 +13,7 @@ use std::marker::Model;
 const COLLECTION_IDS: u64 = 1 << 32;
 
 /// What the items so far have set, opened and made.
-#[derive(Debug, Drop)]
+#[derive(Drop)]
 pub(crate) struct State {
     pub(crate) in_force: InForce,
     pub(crate) reports: Reports,

@@ -7,7 +7,7 @@ use std::alloc::{AllocError, Global};
 
 /// A minimum and a maximum of usages, and their page (Section 6.2.2.8). The usages are the low 16
 /// bits of each number from the one to the other, each under the page; they aren't listed.
-#[derive(Clone, Copy, Debug)]
+#[derive(Clone, Copy)]
 pub(crate) struct UsageBounds {
     pub(crate) page: UsagePage,
     pub(crate) minimum: u32,

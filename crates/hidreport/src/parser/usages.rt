@@ -14,7 +14,7 @@ use hidreport_types::{UsageMaximum, UsageMinimum, UsagePage};
 use std::alloc::{AllocError, Global};
 
 /// The usages of an item: those from a minimum to a maximum, which aren't listed, or single ones.
-#[derive(Debug, Drop)]
+#[derive(Drop)]
 pub(crate) enum Usages {
     /// From a minimum to a maximum.
     Range(UsageBounds),

@@ -1,5 +1,6 @@
 //! Descriptors that are read, and their fields, copied and read.
 use crate::memory::{Answer, Refusal};
+use crate::mouse::MOUSE;
 use hidreport::{
     ArrayField, Collection, Field, FieldValue, ParserError, Report, ReportDescriptor, VariableField,
 };
@@ -13,7 +14,7 @@ pub(crate) enum Wanted {
     OutOfBounds,
 }
 
-pub(crate) static DESCRIPTORS: [(&[u8], Wanted); 15] = [
+pub(crate) static DESCRIPTORS: [(&[u8], Wanted); 16] = [
     (
         b"\x05\x01\x15\x81\x25\x7f\x75\x08\x95\x02\x09\x30\x09\x31\x81\x02",
         Wanted::Fields(2),
@@ -62,6 +63,7 @@ pub(crate) static DESCRIPTORS: [(&[u8], Wanted); 15] = [
         b"\x05\x01\x09\x02\xa1\x01\x15\x00\x26\xff\x00\x75\x08\x95\x03\x1b\x01\x00\x01\x00\x2b\xff\x00\x01\x00\x81\x00\xc0",
         Wanted::Fields(1),
     ),
+    (MOUSE, Wanted::Fields(11)),
 ];
 
 /// How many fields the input reports have; a clone of each has its number.
