@@ -1,5 +1,6 @@
 //! What a field of a report is.
 ghost use Rattle.std.specs.Prelude.{◌≡◌, IfOk};
+ghost use Rattle.hidreport.specs.Reading.{own_id};
 ghost use Rattle.hidreport.specs.Views.{field_bits, field_collections, field_id, field_record};
 
 pub(crate) mod array_field;
@@ -15,6 +16,7 @@ pub(crate) mod variable_field;
 use array_field::ArrayField;
 use collection::Collection;
 use constant_field::ConstantField;
+use hidreport_types::ReportId;
 use std::alloc::AllocError;
 use std::marker::Model;
 use std::ops::Range;
@@ -92,6 +94,18 @@ impl Field {
             Field::Variable(field) => &field.bits,
             Field::Array(field) => &field.bits,
             Field::Constant(field) => &field.bits,
+        }
+    }
+
+    /// The id that a report's first byte has to be for the field to be read (Section 5.6); `None`
+    /// where it is read from any report, as padding is.
+    pub fn report_id(&self) -> Option<ReportId>
+        ensures { result ≡ own_id (field_record self.now) }
+    {
+        match self {
+            Field::Variable(field) => field.report_id,
+            Field::Array(field) => field.report_id,
+            Field::Constant(_) => None,
         }
     }
 

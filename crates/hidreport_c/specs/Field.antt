@@ -1,0 +1,117 @@
+-- A field as C has it: all its parts as numbers, 0 or off for what isn't there.
+use Rattle.std.specs.Prelude.{ℕ, pos, ◌-◌, Bool, false, List, [], ◌∷◌, length, slice_get, is_some, unwrap_or, Option, None, Some, option_map}
+use Rattle.hidreport.specs.Reading.{own_id}
+use Rattle.hidreport.specs.Records.{CollectionRecord, FieldPlace, Attributes, FieldRecord, VariableRecord, ArrayRecord, ConstantRecord}
+use Rattle.hidreport.specs.UsageNumber.{usage_number}
+use Rattle.hidreport.specs.declared.field.usage.Usage.{Usage}
+use Rattle.hidreport_c.specs.declared.field.HidreportCollections.{HidreportCollections}
+use Rattle.hidreport_c.specs.declared.field.HidreportField.{HidreportField}
+use Rattle.hidreport_c.specs.declared.field.HidreportFlags.{HidreportFlags}
+use Rattle.hidreport_c.specs.declared.field.HidreportMeasures.{HidreportMeasures}
+use Rattle.hidreport_c.specs.declared.field.HidreportUsages.{HidreportUsages}
+
+-- the number of a usage in a list
+abbrev pub usage_at : List Usage → ℕ → ℕ
+usage_at usages index = unwrap_or (option_map usage_number (slice_get usages index)) 0
+
+-- how many usages there are, the first and the last of them, and whether a minimum and a maximum gave them
+abbrev pub usages_as_c : List Usage → Bool → HidreportUsages
+usages_as_c usages is_range = record {
+  count = length usages;
+  first = usage_at usages 0;
+  last = usage_at usages (length usages - 1);
+  is_range = is_range;
+}
+
+-- bounds and unit
+abbrev pub measures_as_c : Attributes → HidreportMeasures
+measures_as_c shared = record {
+  logical_minimum = shared.logical_minimum;
+  logical_maximum = shared.logical_maximum;
+  physical_minimum = unwrap_or shared.physical_minimum (pos 0);
+  physical_maximum = unwrap_or shared.physical_maximum (pos 0);
+  unit = unwrap_or shared.unit 0;
+  unit_exponent = unwrap_or shared.unit_exponent (pos 0);
+  has_physical_minimum = is_some shared.physical_minimum;
+  has_physical_maximum = is_some shared.physical_maximum;
+  has_unit = is_some shared.unit;
+  has_unit_exponent = is_some shared.unit_exponent;
+}
+
+-- the flags of the field's item
+abbrev pub flags_as_c : Attributes → HidreportFlags
+flags_as_c shared = record {
+  is_relative = shared.relative;
+  wraps = shared.wrap;
+  is_nonlinear = shared.nonlinear;
+  has_no_preferred_state = shared.no_preferred_state;
+  has_null_state = shared.null_state;
+  is_buffered_bytes = shared.buffered_bytes;
+  is_volatile = unwrap_or shared.volatile false;
+}
+
+-- the number of a collection in a list
+abbrev pub collection_at : List CollectionRecord → ℕ → ℕ
+collection_at collections index = unwrap_or (option_map (λ c. c.id) (slice_get collections index)) 0
+
+-- how many collections the field lies in, and the innermost of them
+abbrev pub collections_as_c : List CollectionRecord → HidreportCollections
+collections_as_c collections = record {
+  count = length collections;
+  innermost = collection_at collections (length collections - 1);
+}
+
+-- padding has no data
+abbrev pub nothing_measured : HidreportMeasures
+nothing_measured = record {
+  logical_minimum = pos 0;
+  logical_maximum = pos 0;
+  physical_minimum = pos 0;
+  physical_maximum = pos 0;
+  unit = 0;
+  unit_exponent = pos 0;
+  has_physical_minimum = false;
+  has_physical_maximum = false;
+  has_unit = false;
+  has_unit_exponent = false;
+}
+
+abbrev pub nothing_set : HidreportFlags
+nothing_set = record {
+  is_relative = false;
+  wraps = false;
+  is_nonlinear = false;
+  has_no_preferred_state = false;
+  has_null_state = false;
+  is_buffered_bytes = false;
+  is_volatile = false;
+}
+
+-- a field at this place and with this id of its own, of this kind and with so many values
+abbrev pub placed : FieldPlace → Option ℕ → ℕ → ℕ → HidreportUsages → HidreportMeasures → HidreportFlags → HidreportCollections → HidreportField
+placed place id kind values usages measures flags collections = record {
+  number = place.id;
+  kind = kind;
+  first_bit = place.first;
+  end_bit = place.end;
+  value_count = values;
+  usages = usages;
+  measures = measures;
+  collections = collections;
+  flags = flags;
+  has_report_id = is_some id;
+  report_id = unwrap_or id 0;
+}
+
+abbrev pub with_data : FieldPlace → ℕ → ℕ → List Usage → Bool → Attributes → HidreportField
+with_data place kind values usages is_range shared =
+    placed place place.report_id kind values (usages_as_c usages is_range)
+    (measures_as_c shared) (flags_as_c shared) (collections_as_c shared.collections)
+
+-- a field of any kind: 0 is variable, 1 an array, 2 padding, which is read from any report
+abbrev pub as_c : FieldRecord → HidreportField
+as_c (VariableRecord place usage shared) = with_data place 0 1 (usage ∷ []) false shared
+as_c (ArrayRecord place usages is_range count shared) =
+    with_data place 1 count usages is_range shared
+as_c (ConstantRecord place) =
+    placed place None 2 0 (usages_as_c [] false) nothing_measured nothing_set (collections_as_c [])

@@ -1,0 +1,15 @@
+-- Refusals as C has them: a number for each kind.
+use Rattle.std.specs.Prelude.{ℕ, Result, Ok, Err}
+use Rattle.hidreport.specs.Answer.{Refusal, InvalidAt, Bounds, Mismatch, OverBudget}
+
+-- 0 is no refusal, 4 is want of memory
+abbrev pub status_of : Refusal → ℕ
+status_of (InvalidAt offset message) = 1
+status_of Bounds = 2
+status_of Mismatch = 3
+status_of (OverBudget offset) = 5
+
+-- the number of the refusal in its place
+abbrev pub by_status : {A : Type 0} → Result A Refusal → Result A ℕ
+by_status (Ok x) = Ok x
+by_status (Err refusal) = Err (status_of refusal)

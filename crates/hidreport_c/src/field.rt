@@ -1,0 +1,319 @@
+ghost use Rattle.std.specs.Arc.{arc_slice_items};
+ghost use Rattle.std.specs.Prelude.{◌≡◌, pos, unwrap_or};
+ghost use Rattle.hidreport.specs.Views.{array_attributes, field_record, variable_attributes};
+ghost use Rattle.hidreport_c.specs.Field.{as_c, collections_as_c, flags_as_c, measures_as_c};
+ghost use Rattle.hidreport_c.specs.Field.{nothing_measured, nothing_set, usages_as_c};
+
+use hidreport::{
+    ArrayField, Collection, Field, FieldAttributes, PhysicalMaximum, PhysicalMinimum, Unit,
+    UnitExponent, Usage, VariableField,
+};
+
+/// `kind` of a field with one value.
+const VARIABLE: u32 = 0;
+
+/// `kind` of a field with several values, each of which chooses among usages.
+const ARRAY: u32 = 1;
+
+/// `kind` of padding.
+const CONSTANT: u32 = 2;
+
+/// The usages of a field (`struct hidreport_usages`): page and id as one number, the page in the
+/// upper 16 bits.
+#[repr(C)]
+#[derive(Clone, Copy)]
+pub struct HidreportUsages {
+    /// How many there are: one of a variable field, none of padding.
+    pub count: usize,
+    /// The first, 0 where there is none.
+    pub first: u32,
+    /// The last, 0 where there is none.
+    pub last: u32,
+    /// Whether a minimum and a maximum gave them.
+    pub is_range: bool,
+}
+
+/// The bounds and the unit of a field (`struct hidreport_measures`). A number whose flag is off is 0.
+#[repr(C)]
+#[derive(Clone, Copy)]
+pub struct HidreportMeasures {
+    /// The least value; values are signed where it is below 0.
+    pub logical_minimum: i32,
+    /// The greatest value.
+    pub logical_maximum: i32,
+    /// What the least value stands for.
+    pub physical_minimum: i32,
+    /// What the greatest value stands for.
+    pub physical_maximum: i32,
+    /// The unit of the physical bounds.
+    pub unit: u32,
+    /// The power of ten of the unit.
+    pub unit_exponent: i32,
+    /// Whether there is a physical minimum.
+    pub has_physical_minimum: bool,
+    /// Whether there is a physical maximum.
+    pub has_physical_maximum: bool,
+    /// Whether there is a unit.
+    pub has_unit: bool,
+    /// Whether there is an exponent.
+    pub has_unit_exponent: bool,
+}
+
+/// The flags of a field's item (`struct hidreport_flags`), all off for padding.
+#[repr(C)]
+#[derive(Clone, Copy)]
+pub struct HidreportFlags {
+    /// A value is a change since the last report.
+    pub is_relative: bool,
+    /// A value past one bound goes on at the other.
+    pub wraps: bool,
+    /// Values aren't linear in what was measured.
+    pub is_nonlinear: bool,
+    /// The control doesn't come back to a state when it is let go.
+    pub has_no_preferred_state: bool,
+    /// The control has a state in which it sends no meaningful data.
+    pub has_null_state: bool,
+    /// The field is a stream of bytes.
+    pub is_buffered_bytes: bool,
+    /// The device may change the value without the host; off in an input report.
+    pub is_volatile: bool,
+}
+
+/// The collections that a field lies in (`struct hidreport_collections`).
+#[repr(C)]
+#[derive(Clone, Copy)]
+pub struct HidreportCollections {
+    /// How many there are; padding lies in none.
+    pub count: usize,
+    /// The number of the innermost one, 0 where there is none.
+    pub innermost: u32,
+}
+
+/// A field as C has it (`struct hidreport_field`): all its parts are plain numbers.
+#[repr(C)]
+#[derive(Clone, Copy)]
+pub struct HidreportField {
+    /// The field's number in the descriptor.
+    pub number: u32,
+    /// 0 a variable field, 1 an array, 2 padding.
+    pub kind: u32,
+    /// The first of the field's bits in its report.
+    pub first_bit: usize,
+    /// The bit behind the last.
+    pub end_bit: usize,
+    /// How many values it has: 1, those of an array, or none of padding.
+    pub value_count: usize,
+    /// Its usages.
+    pub usages: HidreportUsages,
+    /// Its bounds and its unit.
+    pub measures: HidreportMeasures,
+    /// The collections that it lies in.
+    pub collections: HidreportCollections,
+    /// The flags of its item.
+    pub flags: HidreportFlags,
+    /// Whether only a report that begins with `report_id` is read.
+    pub has_report_id: bool,
+    /// That id, 0 where there is none.
+    pub report_id: u8,
+}
+
+impl HidreportField {
+    /// The field with all its parts.
+    pub(crate) fn new(field: &Field) -> HidreportField
+        ensures { result ≡ as_c (field_record field.now) }
+    {
+        let bits = field.bits();
+        let report_id = field.report_id();
+        HidreportField {
+            number: u32::from(field.id()),
+            kind: kind_of(field),
+            first_bit: bits.start,
+            end_bit: bits.end,
+            value_count: value_count_of(field),
+            usages: usages_of(field),
+            measures: measures_of(field),
+            collections: collections_of(field.collections()),
+            flags: flags_of(field),
+            has_report_id: report_id.is_some(),
+            report_id: match report_id {
+                Some(id) => u8::from(id),
+                None => 0,
+            },
+        }
+    }
+}
+
+fn kind_of(field: &Field) -> u32
+    ensures { result ≡ (as_c (field_record field.now)).kind }
+{
+    match field {
+        Field::Variable(_) => VARIABLE,
+        Field::Array(_) => ARRAY,
+        Field::Constant(_) => CONSTANT,
+    }
+}
+
+fn value_count_of(field: &Field) -> usize
+    ensures { result ≡ (as_c (field_record field.now)).value_count }
+{
+    match field {
+        Field::Variable(_) => 1,
+        Field::Array(array) => usize::from(array.report_count),
+        Field::Constant(_) => 0,
+    }
+}
+
+fn usages_of(field: &Field) -> HidreportUsages
+    ensures { result ≡ (as_c (field_record field.now)).usages }
+{
+    match field {
+        Field::Variable(variable) => usages_in(&[variable.usage], false),
+        Field::Array(array) => usages_in(array.usages(), array.is_usage_range()),
+        Field::Constant(_) => usages_in(&[], false),
+    }
+}
+
+fn usages_in(usages: &[Usage], is_range: bool) -> HidreportUsages
+    ensures { result ≡ usages_as_c usages.now is_range }
+{
+    HidreportUsages {
+        count: usages.len(),
+        first: usages.first().map_or(0, |usage| u32::from(usage)),
+        last: usages.last().map_or(0, |usage| u32::from(usage)),
+        is_range,
+    }
+}
+
+fn measures_of(field: &Field) -> HidreportMeasures
+    ensures { result ≡ (as_c (field_record field.now)).measures }
+{
+    match field {
+        Field::Variable(variable) => measures_of_variable(variable),
+        Field::Array(array) => measures_of_array(array),
+        Field::Constant(_) => HidreportMeasures {
+            logical_minimum: 0,
+            logical_maximum: 0,
+            physical_minimum: 0,
+            physical_maximum: 0,
+            unit: 0,
+            unit_exponent: 0,
+            has_physical_minimum: false,
+            has_physical_maximum: false,
+            has_unit: false,
+            has_unit_exponent: false,
+        },
+    }
+}
+
+fn measures_of_variable(field: &VariableField) -> HidreportMeasures
+    ensures { result ≡ measures_as_c (variable_attributes field.now) }
+{
+    HidreportMeasures {
+        logical_minimum: i32::from(field.logical_minimum),
+        logical_maximum: i32::from(field.logical_maximum),
+        physical_minimum: minimum_or_0(field.physical_minimum),
+        physical_maximum: maximum_or_0(field.physical_maximum),
+        unit: unit_or_0(field.unit),
+        unit_exponent: exponent_or_0(field.unit_exponent),
+        has_physical_minimum: field.physical_minimum.is_some(),
+        has_physical_maximum: field.physical_maximum.is_some(),
+        has_unit: field.unit.is_some(),
+        has_unit_exponent: field.unit_exponent.is_some(),
+    }
+}
+
+fn measures_of_array(field: &ArrayField) -> HidreportMeasures
+    ensures { result ≡ measures_as_c (array_attributes field.now) }
+{
+    HidreportMeasures {
+        logical_minimum: i32::from(field.logical_minimum),
+        logical_maximum: i32::from(field.logical_maximum),
+        physical_minimum: minimum_or_0(field.physical_minimum),
+        physical_maximum: maximum_or_0(field.physical_maximum),
+        unit: unit_or_0(field.unit),
+        unit_exponent: exponent_or_0(field.unit_exponent),
+        has_physical_minimum: field.physical_minimum.is_some(),
+        has_physical_maximum: field.physical_maximum.is_some(),
+        has_unit: field.unit.is_some(),
+        has_unit_exponent: field.unit_exponent.is_some(),
+    }
+}
+
+fn minimum_or_0(minimum: Option<PhysicalMinimum>) -> i32
+    ensures { result ≡ unwrap_or minimum (pos 0) }
+{
+    match minimum {
+        Some(minimum) => i32::from(minimum),
+        None => 0,
+    }
+}
+
+fn maximum_or_0(maximum: Option<PhysicalMaximum>) -> i32
+    ensures { result ≡ unwrap_or maximum (pos 0) }
+{
+    match maximum {
+        Some(maximum) => i32::from(maximum),
+        None => 0,
+    }
+}
+
+fn unit_or_0(unit: Option<Unit>) -> u32
+    ensures { result ≡ unwrap_or unit 0 }
+{
+    match unit {
+        Some(unit) => u32::from(unit),
+        None => 0,
+    }
+}
+
+fn exponent_or_0(exponent: Option<UnitExponent>) -> i32
+    ensures { result ≡ unwrap_or exponent (pos 0) }
+{
+    match exponent {
+        Some(exponent) => i32::from(exponent),
+        None => 0,
+    }
+}
+
+fn flags_of(field: &Field) -> HidreportFlags
+    ensures { result ≡ (as_c (field_record field.now)).flags }
+{
+    match field {
+        Field::Variable(variable) => attributes_of(variable),
+        Field::Array(array) => attributes_of(array),
+        Field::Constant(_) => HidreportFlags {
+            is_relative: false,
+            wraps: false,
+            is_nonlinear: false,
+            has_no_preferred_state: false,
+            has_null_state: false,
+            is_buffered_bytes: false,
+            is_volatile: false,
+        },
+    }
+}
+
+fn attributes_of<F: FieldAttributes>(field: &F) -> HidreportFlags
+    ensures { result ≡ flags_as_c (F.attributes field.now) }
+{
+    HidreportFlags {
+        is_relative: field.is_relative(),
+        wraps: field.wraps(),
+        is_nonlinear: field.is_nonlinear(),
+        has_no_preferred_state: field.has_no_preferred_state(),
+        has_null_state: field.has_null_state(),
+        is_buffered_bytes: field.is_buffered_bytes(),
+        is_volatile: field.is_volatile().unwrap_or(false),
+    }
+}
+
+fn collections_of(collections: &[Collection]) -> HidreportCollections
+    ensures { result ≡ collections_as_c collections.now }
+{
+    HidreportCollections {
+        count: collections.len(),
+        innermost: collections
+            .last()
+            .map_or(0, |collection| u32::from(collection.id())),
+    }
+}

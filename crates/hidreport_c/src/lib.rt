@@ -1,0 +1,10 @@
+//! The library for programs in C: descriptors described, reports found and read.
+//! Licence: MIT (LICENSE); a port of the Rust crate `hidreport` 0.6.0.
+#![tactic(auto)]
+
+mod answer;
+mod describe;
+mod field;
+mod items;
+mod status;
+mod value;

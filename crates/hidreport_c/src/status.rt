@@ -1,0 +1,19 @@
+//! Refusals as C has them: a number for each kind.
+
+/// No refusal.
+pub(crate) const ACCEPTED: u32 = 0;
+
+/// An item can't be read, or has no meaning where it stands.
+pub(crate) const INVALID_DATA: u32 = 1;
+
+/// A report's end or a count passes what can be counted, or a field lies outside the bytes.
+pub(crate) const OUT_OF_BOUNDS: u32 = 2;
+
+/// The first byte isn't the id of the report that the field belongs to.
+pub(crate) const MISMATCHING_REPORT_ID: u32 = 3;
+
+/// Memory was refused.
+pub(crate) const OUT_OF_MEMORY: u32 = 4;
+
+/// More would be listed than a budget's limit.
+pub(crate) const BUDGET_EXCEEDED: u32 = 5;

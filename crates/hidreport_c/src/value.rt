@@ -1,0 +1,98 @@
+ghost use Rattle.std.specs.Prelude.{◌≡◌, ◌+◌, ◌*◌, ◌<◌, ◌^◌, Err, Ok, IfSome, IsNone};
+ghost use Rattle.hidreport.specs.Answer.{Bounds};
+ghost use Rattle.hidreport.specs.Reading.{element_width};
+ghost use Rattle.hidreport.specs.Records.{FieldRecord};
+ghost use Rattle.hidreport_c.specs.Field.{as_c};
+ghost use Rattle.hidreport_c.specs.Status.{by_status};
+ghost use Rattle.hidreport_c.specs.Value.{as_value, element_at, extracted, value_at};
+
+use crate::field::HidreportField;
+use crate::status::{ACCEPTED, MISMATCHING_REPORT_ID, OUT_OF_BOUNDS};
+use hidreport::FieldValue;
+
+/// A value of a field, or why there is none (`struct hidreport_value`).
+#[repr(C)]
+#[derive(Clone, Copy)]
+pub struct HidreportValue {
+    /// The number, 0 where it is refused.
+    pub number: i64,
+    /// 0, or the number of the refusal.
+    pub status: u32,
+}
+
+/// The value `index` of a field, counted from 0, in a report that has these bytes (Sections 5.6
+/// and 5.8). It takes no memory.
+///
+/// An index that isn't below the number of values, a report without bytes for a field with an id,
+/// and bits that don't lie in the bytes are refused with 2; another first byte than the field's id
+/// with 3. Whatever numbers the field has, nothing else is read. Of a field that the library
+/// described it is the value that `extract` reads (`extract`).
+#[unsafe(no_mangle)]
+pub extern "C" fn hidreport_value(
+    field: &HidreportField,
+    report: &[u8],
+    index: usize,
+) -> HidreportValue
+    ensures value { result ≡ as_value (value_at field.now report.now index) }
+    ensures extract { (read : FieldRecord) → field.now ≡ as_c read
+        → result ≡ as_value (extracted read report.now index) }
+{
+    field.value(report, index)
+}
+
+impl HidreportField {
+    /// One of the field's values as C has it.
+    fn value(&self, report: &[u8], index: usize) -> HidreportValue
+        ensures { result ≡ as_value (value_at self.now report.now index) }
+    {
+        match self.read(report, index) {
+            Ok(value) => HidreportValue {
+                number: i64::from(value),
+                status: ACCEPTED,
+            },
+            Err(status) => HidreportValue { number: 0, status },
+        }
+    }
+
+    /// One of the field's values, or the number of its refusal.
+    pub(crate) fn read(&self, report: &[u8], index: usize) -> Result<FieldValue, u32>
+        ensures { result ≡ by_status (value_at self.now report.now index) }
+    {
+        if index >= self.value_count {
+            return Err(OUT_OF_BOUNDS);
+        }
+        if self.has_report_id {
+            match report.first() {
+                None => return Err(OUT_OF_BOUNDS),
+                Some(first) if *first != self.report_id => return Err(MISMATCHING_REPORT_ID),
+                Some(_) => {}
+            }
+        }
+        self.element(report, self.element_width(), index)
+            .ok_or(OUT_OF_BOUNDS)
+    }
+
+    /// How many bits a value has: the field's bits divided by the number of values, if it isn't 0.
+    fn element_width(&self) -> usize
+        ensures width { 0 < self.now.value_count → result
+            ≡ element_width self.now.first_bit self.now.end_bit self.now.value_count }
+        ensures counted { self.now.first_bit + result * self.now.value_count < 2 ^ 64 }
+    {
+        let width = self.end_bit.saturating_sub(self.first_bit);
+        width.checked_div(self.value_count).unwrap_or(0)
+    }
+
+    /// A value that is there, of so many bits, whatever the report's id.
+    fn element(&self, report: &[u8], width: usize, index: usize) -> Option<FieldValue>
+        requires there { index < self.now.value_count }
+        requires width { width
+            ≡ element_width self.now.first_bit self.now.end_bit self.now.value_count }
+        requires counted { self.now.first_bit + width * self.now.value_count < 2 ^ 64 }
+        ensures value { IfSome result (λ value. element_at self.now report.now index ≡ Ok value) }
+        ensures outside { IsNone result → element_at self.now report.now index ≡ Err Bounds }
+    {
+        let first = self.first_bit + width * index;
+        let bits = first..first + width;
+        FieldValue::from_bits(report, &bits, self.measures.logical_minimum < 0)
+    }
+}
