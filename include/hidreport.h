@@ -127,6 +127,10 @@ struct hidreport_answer hidreport_rebuild(const uint8_t *descriptor, size_t leng
 struct hidreport_value hidreport_value(const struct hidreport_field *field, const uint8_t *report,
                                        size_t report_length, size_t index);
 
+/* All values of a field in such a report, in order: none written where one of them is refused. */
+struct hidreport_answer hidreport_values(const struct hidreport_field *field, const uint8_t *report,
+                                         size_t report_length, int64_t *values, size_t room);
+
 #ifdef __cplusplus
 }
 #endif

@@ -1,14 +1,14 @@
 -- A field that was described, read by its description.
-use Rattle.std.proofs.Common.{◌≡◌, ℕ, zero, suc, ◌+◌, ◌-◌, ◌*◌, ◌/◌, ◌<◌, ◌≤◌, Bool, true, false, cond, nat_lt, nat_le, ◌||◌, List, [], ◌∷◌, length, Option, None, Some, is_some, Result, Ok, Err, refl, ap, sym, ◌∙◌, ◌⊎◌, inl, inr, arith}
+use Rattle.std.proofs.Common.{◌≡◌, ℕ, zero, suc, ◌+◌, ◌-◌, ◌*◌, ◌/◌, ◌<◌, ◌≤◌, Bool, true, false, cond, nat_lt, nat_le, ◌||◌, List, [], ◌∷◌, Option, None, Some, is_some, Result, Ok, Err, refl, ap, sym, ◌∙◌, ◌⊎◌, inl, inr, arith}
 use Rattle.std.proofs.Math.Dec.{leb}
 use Rattle.std.proofs.lemmas.Bool.{le-leb}
 use Rattle.std.proofs.lemmas.Bool.Decides.{leb_tells}
 use Rattle.std.specs.Prelude.{◌==◌, unwrap_or, if◌then◌else◌}
 use Rattle.hidreport.specs.Answer.{Refusal, Bounds, Mismatch}
 use Rattle.hidreport.specs.Reading.{ValueRecord, element, is_signed, one_value, read_bits, with_id}
-use Rattle.hidreport.specs.Records.{Attributes, FieldPlace, FieldRecord, VariableRecord, ArrayRecord, ConstantRecord}
+use Rattle.hidreport.specs.Records.{FieldRecord, VariableRecord, ArrayRecord, ConstantRecord}
 use Rattle.hidreport_c.specs.Field.{as_c}
-use Rattle.hidreport_c.specs.Value.{extracted, id_of, only, value_at}
+use Rattle.hidreport_c.specs.Value.{extracted, only, value_at}
 
 -- the id, by whether there is one
 id-again : (id : Option ℕ) → (if is_some id then Some (unwrap_or id 0) else None) ≡ id

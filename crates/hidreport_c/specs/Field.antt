@@ -1,6 +1,5 @@
 -- A field as C has it: all its parts as numbers, 0 or off for what isn't there.
-use Rattle.std.specs.Prelude.{ℕ, pos, ◌-◌, Bool, false, List, [], ◌∷◌, length, slice_get, is_some, unwrap_or, Option, None, Some, option_map}
-use Rattle.hidreport.specs.Reading.{own_id}
+use Rattle.std.specs.Prelude.{ℕ, pos, ◌-◌, Bool, false, List, [], ◌∷◌, length, slice_get, is_some, unwrap_or, Option, None, option_map}
 use Rattle.hidreport.specs.Records.{CollectionRecord, FieldPlace, Attributes, FieldRecord, VariableRecord, ArrayRecord, ConstantRecord}
 use Rattle.hidreport.specs.UsageNumber.{usage_number}
 use Rattle.hidreport.specs.declared.field.usage.Usage.{Usage}

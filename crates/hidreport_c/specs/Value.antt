@@ -1,8 +1,8 @@
 -- A value of a field, read by the field as C has it (Sections 5.6 and 5.8).
-use Rattle.std.specs.Prelude.{ℕ, pos, int_lt, nat_lt, zero, suc, Bool, if◌then◌else◌, List, [], ◌∷◌, Option, None, Some, Result, Ok, Err}
+use Rattle.std.specs.Prelude.{ℕ, pos, int_lt, nat_lt, zero, suc, if◌then◌else◌, List, [], ◌∷◌, map, ℤ, Option, None, Some, Result, Ok, Err}
 use Rattle.hidreport.specs.Answer.{Refusal, Bounds}
 use Rattle.hidreport.specs.Choosing.{value_number}
-use Rattle.hidreport.specs.Reading.{ValueRecord, element, reads, reads_element, with_id}
+use Rattle.hidreport.specs.Reading.{ValueRecord, element, elements_from, reads, reads_element, with_id}
 use Rattle.hidreport.specs.Records.{FieldRecord, VariableRecord, ArrayRecord, ConstantRecord}
 use Rattle.hidreport_c.specs.Status.{status_of}
 use Rattle.hidreport_c.specs.declared.field.HidreportField.{HidreportField}
@@ -42,3 +42,22 @@ extracted (VariableRecord place usage shared) bytes (suc n) = Err Bounds
 extracted (ArrayRecord place usages is_range count shared) bytes index =
     reads_element (ArrayRecord place usages is_range count shared) bytes index
 extracted (ConstantRecord place) bytes index = Err Bounds
+
+-- the numbers of values
+abbrev pub numbers : Result (List ValueRecord) Refusal → Result (List ℤ) Refusal
+numbers (Ok values) = Ok (map value_number values)
+numbers (Err refusal) = Err refusal
+
+-- all values of the field, whatever the report's id
+abbrev pub elements_at : HidreportField → List ℕ → Result (List ValueRecord) Refusal
+elements_at f bytes = elements_from f.first_bit f.end_bit f.value_count
+    (int_lt f.measures.logical_minimum (pos 0)) bytes 0 f.value_count
+
+-- all values of the field in a report that has these bytes
+abbrev pub values_at : HidreportField → List ℕ → Result (List ValueRecord) Refusal
+values_at f bytes = with_id (id_of f) bytes (elements_at f bytes)
+
+-- that there are some
+abbrev pub accepted : {A : Type 0} → Result A Refusal → Result (Unit {0}) Refusal
+accepted (Ok x) = Ok tt
+accepted (Err refusal) = Err refusal

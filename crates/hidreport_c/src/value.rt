@@ -1,11 +1,14 @@
-ghost use Rattle.std.specs.Prelude.{◌≡◌, ◌+◌, ◌*◌, ◌<◌, ◌^◌, Err, Ok, IfSome, IsNone};
+ghost use Rattle.std.specs.Prelude.{◌≡◌, ◌+◌, ◌*◌, ◌<◌, ◌^◌, Err, Ok, IfSome, IsNone, IsOk};
 ghost use Rattle.hidreport.specs.Answer.{Bounds};
-ghost use Rattle.hidreport.specs.Reading.{element_width};
+ghost use Rattle.hidreport.specs.Reading.{element_width, reads, with_id};
 ghost use Rattle.hidreport.specs.Records.{FieldRecord};
+ghost use Rattle.hidreport_c.specs.Answer.{as_answer, listed, written};
 ghost use Rattle.hidreport_c.specs.Field.{as_c};
 ghost use Rattle.hidreport_c.specs.Status.{by_status};
-ghost use Rattle.hidreport_c.specs.Value.{as_value, element_at, extracted, value_at};
+ghost use Rattle.hidreport_c.specs.Value.{accepted, as_value, element_at, elements_at, extracted};
+ghost use Rattle.hidreport_c.specs.Value.{id_of, numbers, value_at, values_at};
 
+use crate::answer::HidreportAnswer;
 use crate::field::HidreportField;
 use crate::status::{ACCEPTED, MISMATCHING_REPORT_ID, OUT_OF_BOUNDS};
 use hidreport::FieldValue;
@@ -40,6 +43,34 @@ pub extern "C" fn hidreport_value(
     field.value(report, index)
 }
 
+/// All values of a field, in order, in a report that has these bytes. As many as there is room for
+/// are written; the answer is how many there are. It takes no memory.
+///
+/// They are refused as `hidreport_value` says of the first that is, where there are some, and then
+/// nothing is written. Of a field that the library described they are the values that `extract`
+/// reads (`extract`).
+#[unsafe(no_mangle)]
+pub extern "C" fn hidreport_values(
+    field: &HidreportField,
+    report: &[u8],
+    values: &mut [i64],
+) -> HidreportAnswer
+    ensures answer { result ≡ as_answer (numbers (values_at field.now report.now)) }
+    ensures written { values.new
+        ≡ written (listed (numbers (values_at field.now report.now))) values.old }
+    ensures extract { (read : FieldRecord) → field.now ≡ as_c read
+        → values_at field.now report.now ≡ reads read report.now }
+{
+    match field.check_values(report) {
+        Ok(()) => field.write_values(report, values),
+        Err(status) => HidreportAnswer {
+            count: 0,
+            offset: 0,
+            status,
+        },
+    }
+}
+
 impl HidreportField {
     /// One of the field's values as C has it.
     fn value(&self, report: &[u8], index: usize) -> HidreportValue
@@ -61,15 +92,64 @@ impl HidreportField {
         if index >= self.value_count {
             return Err(OUT_OF_BOUNDS);
         }
-        if self.has_report_id {
-            match report.first() {
-                None => return Err(OUT_OF_BOUNDS),
-                Some(first) if *first != self.report_id => return Err(MISMATCHING_REPORT_ID),
-                Some(_) => {}
-            }
-        }
+        self.check_id(report)?;
         self.element(report, self.element_width(), index)
             .ok_or(OUT_OF_BOUNDS)
+    }
+
+    /// Bytes are read by a field with an id only where they begin with it.
+    fn check_id(&self, report: &[u8]) -> Result<(), u32>
+        ensures { result ≡ by_status (with_id (id_of self.now) report.now (Ok tt)) }
+    {
+        if !self.has_report_id {
+            return Ok(());
+        }
+        match report.first() {
+            None => Err(OUT_OF_BOUNDS),
+            Some(first) if *first != self.report_id => Err(MISMATCHING_REPORT_ID),
+            Some(_) => Ok(()),
+        }
+    }
+
+    /// Whether all values can be read: where the last one can, so can those before it.
+    fn check_values(&self, report: &[u8]) -> Result<(), u32>
+        ensures { result ≡ by_status (accepted (values_at self.now report.now)) }
+    {
+        self.check_id(report)?;
+        self.check_elements(report)
+    }
+
+    /// The same whatever the report's id.
+    fn check_elements(&self, report: &[u8]) -> Result<(), u32>
+        ensures { result ≡ by_status (accepted (elements_at self.now report.now)) }
+    {
+        if self.value_count == 0 {
+            return Ok(());
+        }
+        match self.element(report, self.element_width(), self.value_count - 1) {
+            Some(_) => Ok(()),
+            None => Err(OUT_OF_BOUNDS),
+        }
+    }
+
+    /// Writes as many values as there is room for.
+    fn write_values(&self, report: &[u8], values: &mut [i64]) -> HidreportAnswer
+        requires { IsOk (elements_at self.now report.now) }
+        ensures answer { result ≡ as_answer (numbers (elements_at self.now report.now)) }
+        ensures written { values.new
+            ≡ written (listed (numbers (elements_at self.now report.now))) values.old }
+    {
+        let width = self.element_width();
+        for index in 0..self.value_count.min(values.len()) {
+            if let Some(value) = self.element(report, width, index) {
+                values[index] = i64::from(value);
+            }
+        }
+        HidreportAnswer {
+            count: self.value_count,
+            offset: 0,
+            status: ACCEPTED,
+        }
     }
 
     /// How many bits a value has: the field's bits divided by the number of values, if it isn't 0.
