@@ -1,0 +1,96 @@
+//! `include/hidreport.h` in Rust.
+#[repr(C)]
+#[derive(Clone, Copy, Debug, PartialEq)]
+pub struct Answer {
+    pub count: usize,
+    pub offset: usize,
+    pub status: u32,
+}
+
+#[repr(C)]
+#[derive(Clone, Copy, Debug, Default, PartialEq)]
+pub struct Usages {
+    pub count: usize,
+    pub first: u32,
+    pub last: u32,
+    pub is_range: bool,
+}
+
+#[repr(C)]
+#[derive(Clone, Copy, Debug, Default, PartialEq)]
+pub struct Measures {
+    pub logical_minimum: i32,
+    pub logical_maximum: i32,
+    pub physical_minimum: i32,
+    pub physical_maximum: i32,
+    pub unit: u32,
+    pub unit_exponent: i32,
+    pub has_physical_minimum: bool,
+    pub has_physical_maximum: bool,
+    pub has_unit: bool,
+    pub has_unit_exponent: bool,
+}
+
+#[repr(C)]
+#[derive(Clone, Copy, Debug, Default, PartialEq)]
+pub struct Collections {
+    pub count: usize,
+    pub innermost: u32,
+}
+
+#[repr(C)]
+#[derive(Clone, Copy, Debug, Default, PartialEq)]
+pub struct Flags {
+    pub is_relative: bool,
+    pub wraps: bool,
+    pub is_nonlinear: bool,
+    pub has_no_preferred_state: bool,
+    pub has_null_state: bool,
+    pub is_buffered_bytes: bool,
+    pub is_volatile: bool,
+}
+
+#[repr(C)]
+#[derive(Clone, Copy, Debug, Default, PartialEq)]
+pub struct Field {
+    pub number: u32,
+    pub kind: u32,
+    pub first_bit: usize,
+    pub end_bit: usize,
+    pub value_count: usize,
+    pub usages: Usages,
+    pub measures: Measures,
+    pub collections: Collections,
+    pub flags: Flags,
+    pub has_report_id: bool,
+    pub report_id: u8,
+}
+
+#[link(name = "hidreport_c", kind = "static")]
+#[link(name = "libc_c", kind = "static")]
+extern "C" {
+    pub fn hidreport_find(
+        descriptor: *const u8,
+        length: usize,
+        direction: u32,
+        report: *const u8,
+        report_length: usize,
+        fields: *mut Field,
+        room: usize,
+    ) -> Answer;
+
+    pub fn hidreport_message(
+        descriptor: *const u8,
+        length: usize,
+        text: *mut u8,
+        room: usize,
+    ) -> Answer;
+
+    pub fn hidreport_values(
+        field: *const Field,
+        report: *const u8,
+        report_length: usize,
+        values: *mut i64,
+        room: usize,
+    ) -> Answer;
+}
