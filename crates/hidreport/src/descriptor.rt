@@ -49,7 +49,9 @@ impl ReportDescriptor {
         }
     }
 
-    /// The reports that the bytes of a report descriptor announce (Section 6.2.2).
+    /// The reports that the bytes of a report descriptor announce (Section 6.2.2). A Push keeps
+    /// local items with the values of global ones, as the Rust crate has it; for values of global
+    /// items alone, as hosts have it, see `try_from_globals_only`.
     ///
     /// Refused are, the first of these that there is: no bytes at all, `InvalidData` at 0,
     /// `Empty report descriptor`; an item that can't be read, as `ReportDescriptorItems::try_from`
@@ -179,7 +181,7 @@ impl ReportDescriptor {
     /// else the one with the first byte as its id. `None` where there is none, or no bytes.
     ///
     /// No field of the report answers `MismatchingReportId` on these bytes, for a descriptor that
-    /// was read or is empty (`own`, by `tiled` of `try_from` and of `empty`).
+    /// was read or is empty (`own`, by `tiled` of the calls that read it and of `empty`).
     pub fn find_input_report(&self, bytes: &[u8]) -> Option<&RDescReport>
         ensures found { option_copied result ≡ find_report self.now.input bytes.now }
         ensures own { IsTiled self.now → IfSome (option_copied result) (λ report.
