@@ -25,7 +25,7 @@ if [ ! -x "$program" ]; then
     exit 2
 fi
 
-usage='usage: hidreport items FILE | values FILE REPORT | values-within LIMIT FILE REPORT | rebuild FILE'
+usage='usage: hidreport items FILE | values FILE REPORT | values-within LIMIT FILE REPORT | values-globals FILE REPORT | rebuild FILE'
 passed=0
 
 # What is shown, the status and the one line that are wanted, and the words; the output is $scratch/out where it isn't told.
@@ -85,6 +85,11 @@ shows 'a limit with a sign' 2 "$usage" values-within +5 "$mouse" "$report"
 shows 'an empty limit' 2 "$usage" values-within '' "$mouse" "$report"
 shows 'a limit past all numbers' 2 "$usage" values-within 18446744073709551616 "$mouse" "$report"
 shows 'a limit alone' 2 "$usage" values-within 5 "$mouse"
+status=0
+"$program" values-globals "$mouse" "$report" > out 2> errors || status=$?
+judge 'values where a Push keeps globals' 0 "$crate/stdout" out
+shows 'a refused descriptor where a Push keeps globals' 1 'refused: invalid data at offset 0: Insufficient data' values-globals cut "$report"
+shows 'values where a Push keeps globals, of one file' 2 "$usage" values-globals "$mouse"
 shows 'items' 0 '0 05 01 UsagePage' items page
 shows 'items of a refused descriptor' 1 'refused: invalid data at offset 0: Insufficient data' items cut
 shows 'items of no bytes' 1 'refused: invalid data at offset 0: Insufficient data' items empty

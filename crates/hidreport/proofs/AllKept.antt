@@ -6,11 +6,11 @@ use Rattle.hidreport_items.specs.declared.local.LocalItem.{LocalItem}
 use Rattle.hidreport_items.specs.declared.item.ItemType.{ItemType}
 use Rattle.hidreport.specs.InForce.{Force, force}
 use Rattle.hidreport.specs.Kinds.{is_push, is_pop}
-use Rattle.hidreport.specs.Meaning.{meaning}
-use Rattle.hidreport.specs.Parser.Machine.{all_kept, last_force, next_force, nothing_held, walk}
+use Rattle.hidreport.specs.Parser.Machine.{last_force, next_force}
 use Rattle.hidreport.specs.Visibility.{level}
+use Rattle.hidreport.specs.declared.parser.keeping.Keeping.TheVariants as keepings
 use Rattle.hidreport.proofs.LevelLemmas.{Rests, kept, length-kept, Stepped, plain-step, push-step, pop-step}
-use Rattle.hidreport.proofs.WalkLemmas.{Steps, Follows, walk-follows}
+use Rattle.hidreport.proofs.WalkLemmas.{Steps, Follows}
 
 push_is_no_pop : (x : ItemType) → is_push x ≡ true → is_pop x ≡ false
 push_is_no_pop (item.Global global.Push) e = refl
@@ -35,7 +35,7 @@ push-force f item.Reserved e = cc
 steps-by : (a b : Bool) (items : List ItemType) (k : ℕ) (x : ItemType) (f : Force) (saved : List Force) → is_push x ≡ a → is_pop x ≡ b
     → f ≡ cond b (last_force (force items k) (kept items k)) (next_force (force items k) x)
     → saved ≡ cond b (take (length (kept items k) - 1) (kept items k)) (cond a (kept items k ++ force items k ∷ []) (kept items k))
-    → Stepped items k f saved → Steps all_kept (force items) (kept items) items k x
+    → Stepped items k f saved → Steps keepings.All (force items) (kept items) items k x
 steps-by a b items k x f saved push pop is keeps stepped = record {
   in_force_next = stepped.in_force_next ∙ is ∙ ap (λ c. cond c (last_force (force items k) (kept items k)) (next_force (force items k) x)) (sym pop);
   kept_next = stepped.kept_next ∙ keeps
@@ -45,7 +45,7 @@ steps-by a b items k x f saved push pop is keeps stepped = record {
 }
 
 all-by : (a b : Bool) (items front rest : List ItemType) (x : ItemType) → items ≡ front ++ x ∷ rest → Rests items (length front)
-    → (is_pop x ≡ true → 0 < level items (length front)) → is_push x ≡ a → is_pop x ≡ b → Steps all_kept (force items) (kept items) items (length front) x
+    → (is_pop x ≡ true → 0 < level items (length front)) → is_push x ≡ a → is_pop x ≡ b → Steps keepings.All (force items) (kept items) items (length front) x
 all-by true true items front rest x e rests deep push pop = let no = push_is_no_pop x push in cc
 all-by false true items front rest x e rests deep push pop =
     steps-by false true items (length front) x _ _ push pop refl refl (pop-step items front rest x e rests push pop (deep pop) (force items (length front)))
@@ -54,14 +54,10 @@ all-by true false items front rest x e rests deep push pop =
 all-by false false items front rest x e rests deep push pop =
     steps-by false false items (length front) x _ _ push pop refl refl (plain-step items front rest x e rests push pop)
 
-pub all-follows : (items : List ItemType) → Follows all_kept (force items) (kept items) items
+pub all-follows : (items : List ItemType) → Follows keepings.All (force items) (kept items) items
 all-follows items = record {
   begins = refl;
   empty = refl;
   leveled = length-kept items;
   goes_on = λ front rest x e rests deep. all-by (is_push x) (is_pop x) items front rest x e rests deep refl refl;
 }
-
--- the walk gives the meaning
-pub walk-meaning : (items : List ItemType) → walk nothing_held 0 items ≡ meaning items
-walk-meaning items = walk-follows all_kept force (kept items) items (all-follows items)

@@ -1,5 +1,5 @@
 -- What is announced under a limit weighs no more than it.
-use Rattle.std.proofs.Common.{◌≡◌, ℕ, suc, ◌+◌, ◌-◌, ◌≤◌, Bool, true, false, cond, ◌&&◌, List, [], ◌∷◌, ◌++◌, length, Option, None, Some, is_some, Result, Ok, Err, refl, sym, ap, ◌∙◌, subst, arith}
+use Rattle.std.proofs.Common.{◌≡◌, ℕ, ◌+◌, ◌-◌, ◌≤◌, Bool, true, false, cond, ◌&&◌, List, [], ◌∷◌, ◌++◌, Option, None, Some, is_some, Result, Ok, Err, refl, sym, ap, ◌∙◌, arith}
 use Rattle.std.specs.Prelude.{nat_lt, sum_by}
 use Rattle.std.proofs.lemmas.Bool.Decides.{nat_tests}
 use Rattle.std.proofs.lemmas.Grind.{common_steps}
@@ -14,14 +14,15 @@ use Rattle.hidreport_lists.specs.Rebuilt.{items_of}
 use Rattle.hidreport.specs.Budget.{is_faulty_by, meaning_within_by, parse_items_within, parse_within, unless_past}
 use Rattle.hidreport.specs.Fields.{fields_of}
 use Rattle.hidreport.specs.InForce.{first_of, force}
-use Rattle.hidreport.specs.Kinds.{Indexed, Direction, Input, Output, Feature, data_of, goes, collection_of}
+use Rattle.hidreport.specs.Kinds.{Indexed, Direction, Input, Output, Feature, data_of, goes}
 use Rattle.hidreport.specs.Making.{extent, same_key}
 use Rattle.hidreport.specs.Meaning.{at_offset, meaning, parse, parse_items}
 use Rattle.hidreport.specs.MeaningFault.{MeaningFault, PastBudget}
-use Rattle.hidreport.specs.Parser.Budget.{is_past, left_behind, past_fault, stop_in, walk_within, walk_within_by, weight_in, weight_made_in, weight_opened_in}
-use Rattle.hidreport.specs.Parser.Machine.{Held, Restoring, added_to, adds, all_kept, fault_in, go_on, key_in, next_held_by, next_reports, nothing_held, reports_in, start_in, unless_fault}
+use Rattle.hidreport.specs.Parser.Budget.{past_fault, walk_within, weight_in, weight_made_in}
+use Rattle.hidreport.specs.Parser.Machine.{Held, added_to, adds, fault_in, go_on, key_in, next_held, next_reports, nothing_held, reports_in, start_in, unless_fault}
 use Rattle.hidreport.specs.Places.{bits_of}
 use Rattle.hidreport.specs.Records.{DescriptorRecord, FieldRecord, ReportRecord}
+use Rattle.hidreport.specs.declared.parser.keeping.Keeping.TheVariants as keepings
 use Rattle.hidreport.specs.Weight.{descriptor_weight, field_weight, first_past, report_weight}
 use Rattle.hidreport.proofs.BudgetWalk.{walk-within}
 
@@ -77,8 +78,8 @@ one-direction h (Some (Output, flags)) =
 one-direction h (Some (Feature, flags)) =
     let part = part-le (is_some (extent h.force)) (sum_by field_weight (fields_of h.force h.opened h.fields (start_in Feature h) (Some (Feature, flags)) (extent h.force))) in omega (arith, part)
 
-next-weight : (restored : Restoring) (h : Held) (x : ItemType) → descriptor_weight (next_held_by restored h x).descriptor ≤ descriptor_weight h.descriptor + weight_in h x
-next-weight restored h x =
+next-weight : (h : Held) (x : ItemType) → descriptor_weight (next_held h x).descriptor ≤ descriptor_weight h.descriptor + weight_in h x
+next-weight h x =
     let i = next-by (adds Input h x) Input h x refl in
     let o = next-by (adds Output h x) Output h x refl in
     let f = next-by (adds Feature h x) Feature h x refl in
@@ -89,30 +90,30 @@ abbrev pub Announces : Result DescriptorRecord (ℕ × MeaningFault) → Descrip
 Announces r d = r ≡ Ok d
 
 -- an item where the walk goes on is within what is left
-bounded-by : (o : Option MeaningFault) (b : Bool) (restored : Restoring) (h : Held) (k left : ℕ) (x : ItemType) (xs : List ItemType) (d : DescriptorRecord) → fault_in h x ≡ o → nat_lt left (weight_in h x) ≡ b
-    → Announces (walk_within_by restored (Some left) h k (x ∷ xs)) d
-    → (weight_in h x ≤ left → Announces (walk_within_by restored (Some (left - weight_in h x)) (next_held_by restored h x) (k + 1) xs) d → descriptor_weight d ≤ descriptor_weight h.descriptor + left)
+bounded-by : (o : Option MeaningFault) (b : Bool) (h : Held) (k left : ℕ) (x : ItemType) (xs : List ItemType) (d : DescriptorRecord) → fault_in h x ≡ o → nat_lt left (weight_in h x) ≡ b
+    → Announces (walk_within (Some left) h k (x ∷ xs)) d
+    → (weight_in h x ≤ left → Announces (walk_within (Some (left - weight_in h x)) (next_held h x) (k + 1) xs) d → descriptor_weight d ≤ descriptor_weight h.descriptor + left)
     → descriptor_weight d ≤ descriptor_weight h.descriptor + left
-bounded-by (Some f) b restored h k left x xs d e past is later =
-    let bad : Announces (Err (k, f)) d = sym (ap (λ o. go_on (unless_fault (first_of o (past_fault (nat_lt left (weight_in h x)))) (next_held_by restored h x)) k (λ n. walk_within_by restored (Some (left - weight_in h x)) n (k + 1) xs)) e) ∙ is in cc
-bounded-by None true restored h k left x xs d e past is later =
-    let bad : Announces (Err (k, PastBudget)) d = sym (ap (λ o. go_on (unless_fault (first_of o (past_fault (nat_lt left (weight_in h x)))) (next_held_by restored h x)) k (λ n. walk_within_by restored (Some (left - weight_in h x)) n (k + 1) xs)) e
-    ∙ ap (λ b. go_on (unless_fault (past_fault b) (next_held_by restored h x)) k (λ n. walk_within_by restored (Some (left - weight_in h x)) n (k + 1) xs)) past) ∙ is in cc
-bounded-by None false restored h k left x xs d e past is later =
+bounded-by (Some f) b h k left x xs d e past is later =
+    let bad : Announces (Err (k, f)) d = sym (ap (λ o. go_on (unless_fault (first_of o (past_fault (nat_lt left (weight_in h x)))) (next_held h x)) k (λ n. walk_within (Some (left - weight_in h x)) n (k + 1) xs)) e) ∙ is in cc
+bounded-by None true h k left x xs d e past is later =
+    let bad : Announces (Err (k, PastBudget)) d = sym (ap (λ o. go_on (unless_fault (first_of o (past_fault (nat_lt left (weight_in h x)))) (next_held h x)) k (λ n. walk_within (Some (left - weight_in h x)) n (k + 1) xs)) e
+    ∙ ap (λ b. go_on (unless_fault (past_fault b) (next_held h x)) k (λ n. walk_within (Some (left - weight_in h x)) n (k + 1) xs)) past) ∙ is in cc
+bounded-by None false h k left x xs d e past is later =
     later (grind (arith, nat_tests))
-    (sym (ap (λ o. go_on (unless_fault (first_of o (past_fault (nat_lt left (weight_in h x)))) (next_held_by restored h x)) k (λ n. walk_within_by restored (Some (left - weight_in h x)) n (k + 1) xs)) e
-    ∙ ap (λ b. go_on (unless_fault (past_fault b) (next_held_by restored h x)) k (λ n. walk_within_by restored (Some (left - weight_in h x)) n (k + 1) xs)) past) ∙ is)
+    (sym (ap (λ o. go_on (unless_fault (first_of o (past_fault (nat_lt left (weight_in h x)))) (next_held h x)) k (λ n. walk_within (Some (left - weight_in h x)) n (k + 1) xs)) e
+    ∙ ap (λ b. go_on (unless_fault (past_fault b) (next_held h x)) k (λ n. walk_within (Some (left - weight_in h x)) n (k + 1) xs)) past) ∙ is)
 
-bounded-from : (restored : Restoring) (h : Held) (k left : ℕ) (xs : List ItemType) (d : DescriptorRecord) → Announces (walk_within_by restored (Some left) h k xs) d
+bounded-from : (h : Held) (k left : ℕ) (xs : List ItemType) (d : DescriptorRecord) → Announces (walk_within (Some left) h k xs) d
     → descriptor_weight d ≤ descriptor_weight h.descriptor + left
-bounded-from restored h k left [] d is =
+bounded-from h k left [] d is =
     let same : h.descriptor ≡ d = cc in
     let weighs : descriptor_weight h.descriptor ≡ descriptor_weight d = ap descriptor_weight same in omega (arith, weighs)
-bounded-from restored h k left (x ∷ xs) d is =
-    bounded-by (fault_in h x) (nat_lt left (weight_in h x)) restored h k left x xs d refl refl is
+bounded-from h k left (x ∷ xs) d is =
+    bounded-by (fault_in h x) (nat_lt left (weight_in h x)) h k left x xs d refl refl is
     (λ fits rest.
-    let later = bounded-from restored (next_held_by restored h x) (k + 1) (left - weight_in h x) xs d rest in
-    let grown = next-weight restored h x in
+    let later = bounded-from (next_held h x) (k + 1) (left - weight_in h x) xs d rest in
+    let grown = next-weight h x in
     omega (arith, fits, later, grown))
 
 found-ok : (entries : List Entry) (r : Result DescriptorRecord (ℕ × MeaningFault)) (d : DescriptorRecord) → at_offset entries r ≡ Ok d → Announces r d
@@ -121,8 +122,8 @@ found-ok entries (Err first) d e = cc
 
 bounded-items : (limit : ℕ) (r : Result (List Entry) (ℕ × Fault)) (d : DescriptorRecord) → parse_items_within force limit r ≡ Ok d → descriptor_weight d ≤ limit
 bounded-items limit (Ok entries) d e =
-    let bound = bounded-from all_kept nothing_held 0 limit (items_of entries) d (walk-within limit (items_of entries) ∙ found-ok entries (meaning_within_by force limit (items_of entries)) d e) in
-    let none : descriptor_weight nothing_held.descriptor ≡ 0 = omega arith in
+    let bound = bounded-from (nothing_held keepings.All) 0 limit (items_of entries) d (walk-within limit (items_of entries) ∙ found-ok entries (meaning_within_by force limit (items_of entries)) d e) in
+    let none : descriptor_weight (nothing_held keepings.All).descriptor ≡ 0 = omega arith in
     omega (arith, bound, none)
 bounded-items limit (Err fault) d e = cc
 

@@ -16,11 +16,13 @@ use Rattle.hidreport.specs.Kinds.{Indexed, Direction, collection_of, data_of}
 use Rattle.hidreport.specs.Making.{extent}
 use Rattle.hidreport.specs.Meaning.{PushReading, descriptor, fault_here, first_fault, unless_first}
 use Rattle.hidreport.specs.MeaningFault.{MeaningFault, PastBudget}
-use Rattle.hidreport.specs.Parser.Budget.{is_past, left_behind, past_fault, stop_in, walk_within, walk_within_by, weight_in, weight_made_in, weight_opened_in}
-use Rattle.hidreport.specs.Parser.Machine.{Held, Restoring, all_kept, fault_in, go_on, next_held_by, nothing_held, start_in, unless_fault, walk_by}
+use Rattle.hidreport.specs.Parser.Budget.{past_fault, walk_within, weight_in, weight_made_in, weight_opened_in}
+use Rattle.hidreport.specs.Parser.Machine.{Held, fault_in, go_on, next_held, nothing_held, start_in, unless_fault, walk}
 use Rattle.hidreport.specs.Records.{DescriptorRecord}
 use Rattle.hidreport.specs.Usages.{usages_of}
 use Rattle.hidreport.specs.Visibility.{before, level}
+use Rattle.hidreport.specs.declared.parser.keeping.Keeping.{Keeping}
+use Rattle.hidreport.specs.declared.parser.keeping.Keeping.TheVariants as keepings
 use Rattle.hidreport.specs.Weight.{field_weight, unless_faulty, weight, weight_before, weight_made, weight_opened}
 use Rattle.hidreport.proofs.AllKept.{all-follows}
 use Rattle.hidreport.proofs.LevelLemmas.{kept}
@@ -122,37 +124,37 @@ within_from force items limit k xs =
     unless_past (past_from force items limit k xs) (unless_first (first_fault force items (enumerate_from k xs)) (descriptor force items))
 
 -- one item, by its fault and by whether it passes the limit
-within-by : (o : Option MeaningFault) (b : Bool) (restored : Restoring) (force : ℕ → Force) (items : List ItemType) (limit left k : ℕ) (h : Held) (x : ItemType) (xs : List ItemType)
+within-by : (o : Option MeaningFault) (b : Bool) (force : ℕ → Force) (items : List ItemType) (limit left k : ℕ) (h : Held) (x : ItemType) (xs : List ItemType)
     → fault force items k x ≡ fault_in h x → fault_in h x ≡ o
     → (fault_in h x ≡ None → nat_lt limit (weight_before force items (suc k)) ≡ nat_lt left (weight_in h x))
     → nat_lt left (weight_in h x) ≡ b
     → (fault_in h x ≡ None → nat_lt left (weight_in h x) ≡ false
-    → walk_within_by restored (Some (left - weight_in h x)) (next_held_by restored h x) (k + 1) xs ≡ within_from force items limit (k + 1) xs)
-    → walk_within_by restored (Some left) h k (x ∷ xs) ≡ within_from force items limit k (x ∷ xs)
-within-by (Some f) b restored force items limit left k h x xs same e past is rest =
-    ap (λ o. go_on (unless_fault (first_of o (past_fault (nat_lt left (weight_in h x)))) (next_held_by restored h x)) k (λ next. walk_within_by restored (Some (left - weight_in h x)) next (k + 1) xs)) e
+    → walk_within (Some (left - weight_in h x)) (next_held h x) (k + 1) xs ≡ within_from force items limit (k + 1) xs)
+    → walk_within (Some left) h k (x ∷ xs) ≡ within_from force items limit k (x ∷ xs)
+within-by (Some f) b force items limit left k h x xs same e past is rest =
+    ap (λ o. go_on (unless_fault (first_of o (past_fault (nat_lt left (weight_in h x)))) (next_held h x)) k (λ next. walk_within (Some (left - weight_in h x)) next (k + 1) xs)) e
     ∙ sym (ap (λ o. unless_past (past_from force items limit k (x ∷ xs)) (unless_first (fault_here o k (first_fault force items (enumerate_from (k + 1) xs))) (descriptor force items))) (same ∙ e)
     ∙ faulty-first (past_from force items limit k (x ∷ xs)) k f (find-from (λ (p : Indexed). nat_lt limit (weight_before force items (suc p.0))) k k (x ∷ xs) (omega arith)))
-within-by None true restored force items limit left k h x xs same e past is rest =
-    ap (λ o. go_on (unless_fault (first_of o (past_fault (nat_lt left (weight_in h x)))) (next_held_by restored h x)) k (λ next. walk_within_by restored (Some (left - weight_in h x)) next (k + 1) xs)) e
-    ∙ ap (λ b. go_on (unless_fault (past_fault b) (next_held_by restored h x)) k (λ next. walk_within_by restored (Some (left - weight_in h x)) next (k + 1) xs)) is
+within-by None true force items limit left k h x xs same e past is rest =
+    ap (λ o. go_on (unless_fault (first_of o (past_fault (nat_lt left (weight_in h x)))) (next_held h x)) k (λ next. walk_within (Some (left - weight_in h x)) next (k + 1) xs)) e
+    ∙ ap (λ b. go_on (unless_fault (past_fault b) (next_held h x)) k (λ next. walk_within (Some (left - weight_in h x)) next (k + 1) xs)) is
     ∙ sym (ap (λ o. unless_past (past_from force items limit k (x ∷ xs)) (unless_first (fault_here o k (first_fault force items (enumerate_from (k + 1) xs))) (descriptor force items))) (same ∙ e)
     ∙ ap (λ b. unless_past (cond b (Some (k, x)) (past_from force items limit (k + 1) xs)) (unless_first (first_fault force items (enumerate_from (k + 1) xs)) (descriptor force items))) (past e ∙ is)
     ∙ past-first (first_fault force items (enumerate_from (k + 1) xs)) k x (descriptor force items) (fault-from force items (suc k) (k + 1) xs (omega arith)))
-within-by None false restored force items limit left k h x xs same e past is rest =
-    ap (λ o. go_on (unless_fault (first_of o (past_fault (nat_lt left (weight_in h x)))) (next_held_by restored h x)) k (λ next. walk_within_by restored (Some (left - weight_in h x)) next (k + 1) xs)) e
-    ∙ ap (λ b. go_on (unless_fault (past_fault b) (next_held_by restored h x)) k (λ next. walk_within_by restored (Some (left - weight_in h x)) next (k + 1) xs)) is
+within-by None false force items limit left k h x xs same e past is rest =
+    ap (λ o. go_on (unless_fault (first_of o (past_fault (nat_lt left (weight_in h x)))) (next_held h x)) k (λ next. walk_within (Some (left - weight_in h x)) next (k + 1) xs)) e
+    ∙ ap (λ b. go_on (unless_fault (past_fault b) (next_held h x)) k (λ next. walk_within (Some (left - weight_in h x)) next (k + 1) xs)) is
     ∙ rest e is
     ∙ sym (ap (λ o. unless_past (past_from force items limit k (x ∷ xs)) (unless_first (fault_here o k (first_fault force items (enumerate_from (k + 1) xs))) (descriptor force items))) (same ∙ e)
     ∙ ap (λ b. unless_past (cond b (Some (k, x)) (past_from force items limit (k + 1) xs)) (unless_first (first_fault force items (enumerate_from (k + 1) xs)) (descriptor force items))) (past e ∙ is))
 
-within-walk : (restored : Restoring) (force : ℕ → Force) (kept : ℕ → List Force) (items front rest : List ItemType) (h : Held) (limit : ℕ) → Follows restored force kept items
-    → items ≡ front ++ rest → Holds force kept items (length front) h → weight_before force items (length front) ≤ limit
-    → walk_within_by restored (Some (limit - weight_before force items (length front))) h (length front) rest ≡ within_from force items limit (length front) rest
-within-walk restored force kept items front [] h limit follows e held room =
+within-walk : (keeping : Keeping) (force : ℕ → Force) (kept : ℕ → List Force) (items front rest : List ItemType) (h : Held) (limit : ℕ) → Follows keeping force kept items
+    → h.keeping ≡ keeping → items ≡ front ++ rest → Holds force kept items (length front) h → weight_before force items (length front) ≤ limit
+    → walk_within (Some (limit - weight_before force items (length front))) h (length front) rest ≡ within_from force items limit (length front) rest
+within-walk keeping force kept items front [] h limit follows reads e held room =
     let whole : items ≡ front = e ∙ append-nil front in
     ap Ok (at-end force kept items h (subst (λ n. Holds force kept items n h) (ap length (sym whole)) held))
-within-walk restored force kept items front (x ∷ xs) h limit follows e held room =
+within-walk keeping force kept items front (x ∷ xs) h limit follows reads e held room =
     let k = length front in
     let spent = weight_before force items k in
     let w = weight_in h x in
@@ -161,41 +163,41 @@ within-walk restored force kept items front (x ∷ xs) h limit follows e held ro
     let size_one : length (front ++ x ∷ []) ≡ k + 1 = size ∙ sym (add-one k) in
     let heavier : fault_in h x ≡ None → weight_before force items (suc k) ≡ spent + w =
     λ faultless. weight-next force items front xs x e ∙ ap (λ n. spent + n) (weight-held force kept items k h x follows.leveled held faultless) in
-    within-by (fault_in h x) (nat_lt (limit - spent) w) restored force items limit (limit - spent) k h x xs
+    within-by (fault_in h x) (nat_lt (limit - spent) w) force items limit (limit - spent) k h x xs
     (fault-held force kept items k h x follows.leveled held) refl
     (λ faultless. ap (nat_lt limit) (heavier faultless) ∙ past-left limit spent w room) refl
     (λ faultless within.
-    let next : Holds force kept items (length (front ++ x ∷ [])) (next_held_by restored h x) =
-    subst (λ n. Holds force kept items n (next_held_by restored h x)) (sym size) (holds-next restored force kept items front xs h x follows e held faultless) in
+    let next : Holds force kept items (length (front ++ x ∷ [])) (next_held h x) =
+    subst (λ n. Holds force kept items n (next_held h x)) (sym size) (holds-next keeping force kept items front xs h x follows reads e held faultless) in
     let spent_next : weight_before force items (length (front ++ x ∷ [])) ≡ spent + w = ap (weight_before force items) size ∙ heavier faultless in
     let fits : w ≤ limit - spent = grind (arith, nat_tests) in
     let room_next : weight_before force items (length (front ++ x ∷ [])) ≤ limit = omega (arith, spent_next, fits, room) in
     let left_next : limit - weight_before force items (length (front ++ x ∷ [])) ≡ limit - spent - w = omega (arith, spent_next, fits, room) in
-    let walked = within-walk restored force kept items (front ++ x ∷ []) xs (next_held_by restored h x) limit follows more next room_next in
-    ap (λ l. walk_within_by restored (Some l) (next_held_by restored h x) (k + 1) xs) (sym left_next)
-    ∙ ap (λ n. walk_within_by restored (Some (limit - weight_before force items (length (front ++ x ∷ [])))) (next_held_by restored h x) n xs) (sym size_one)
+    let walked = within-walk keeping force kept items (front ++ x ∷ []) xs (next_held h x) limit follows reads more next room_next in
+    ap (λ l. walk_within (Some l) (next_held h x) (k + 1) xs) (sym left_next)
+    ∙ ap (λ n. walk_within (Some (limit - weight_before force items (length (front ++ x ∷ [])))) (next_held h x) n xs) (sym size_one)
     ∙ walked ∙ ap (λ n. within_from force items limit n xs) size_one)
 
 -- the walk under a limit is the meaning under it, by each reading that the walk follows
-pub walk-follows-within : (restored : Restoring) (reading : PushReading) (saved : ℕ → List Force) (items : List ItemType) (limit : ℕ) → Follows restored (reading items) saved items
-    → walk_within_by restored (Some limit) nothing_held 0 items ≡ meaning_within_by reading limit items
-walk-follows-within restored reading saved items limit follows =
+pub walk-follows-within : (keeping : Keeping) (reading : PushReading) (saved : ℕ → List Force) (items : List ItemType) (limit : ℕ) → Follows keeping (reading items) saved items
+    → walk_within (Some limit) (nothing_held keeping) 0 items ≡ meaning_within_by reading limit items
+walk-follows-within keeping reading saved items limit follows =
     let all : limit ≡ limit - 0 = omega arith in
-    ap (λ n. walk_within_by restored (Some n) nothing_held 0 items) all
-    ∙ within-walk restored (reading items) saved items [] items nothing_held limit follows refl (holds-nothing restored (reading items) saved items follows) (omega arith)
+    ap (λ n. walk_within (Some n) (nothing_held keeping) 0 items) all
+    ∙ within-walk keeping (reading items) saved items [] items (nothing_held keeping) limit follows refl refl (holds-nothing keeping (reading items) saved items follows) (omega arith)
 
 -- where Push keeps globals and locals
-pub walk-within : (limit : ℕ) (items : List ItemType) → walk_within (Some limit) nothing_held 0 items ≡ meaning_within_by force limit items
-walk-within limit items = walk-follows-within all_kept force (kept items) items limit (all-follows items)
+pub walk-within : (limit : ℕ) (items : List ItemType) → walk_within (Some limit) (nothing_held keepings.All) 0 items ≡ meaning_within_by force limit items
+walk-within limit items = walk-follows-within keepings.All force (kept items) items limit (all-follows items)
 
-unlimited-by : (o : Option MeaningFault) (restored : Restoring) (h : Held) (k : ℕ) (xs : List ItemType) → walk_within_by restored None h (k + 1) xs ≡ walk_by restored h (k + 1) xs
-    → go_on (unless_fault o h) k (λ next. walk_within_by restored None next (k + 1) xs) ≡ go_on (unless_fault o h) k (λ next. walk_by restored next (k + 1) xs)
-unlimited-by None restored h k xs rest = rest
-unlimited-by (Some f) restored h k xs rest = refl
+unlimited-by : (o : Option MeaningFault) (h : Held) (k : ℕ) (xs : List ItemType) → walk_within None h (k + 1) xs ≡ walk h (k + 1) xs
+    → go_on (unless_fault o h) k (λ next. walk_within None next (k + 1) xs) ≡ go_on (unless_fault o h) k (λ next. walk next (k + 1) xs)
+unlimited-by None h k xs rest = rest
+unlimited-by (Some f) h k xs rest = refl
 
 -- without a limit it is the plain walk
-pub walk-unlimited : (restored : Restoring) (h : Held) (k : ℕ) (xs : List ItemType) → walk_within_by restored None h k xs ≡ walk_by restored h k xs
-walk-unlimited restored h k [] = refl
-walk-unlimited restored h k (x ∷ xs) =
-    ap (λ o. go_on (unless_fault o (next_held_by restored h x)) k (λ next. walk_within_by restored None next (k + 1) xs)) (first_of-none (fault_in h x))
-    ∙ unlimited-by (fault_in h x) restored (next_held_by restored h x) k xs (walk-unlimited restored (next_held_by restored h x) (k + 1) xs)
+pub walk-unlimited : (h : Held) (k : ℕ) (xs : List ItemType) → walk_within None h k xs ≡ walk h k xs
+walk-unlimited h k [] = refl
+walk-unlimited h k (x ∷ xs) =
+    ap (λ o. go_on (unless_fault o (next_held h x)) k (λ next. walk_within None next (k + 1) xs)) (first_of-none (fault_in h x))
+    ∙ unlimited-by (fault_in h x) (next_held h x) k xs (walk-unlimited (next_held h x) (k + 1) xs)

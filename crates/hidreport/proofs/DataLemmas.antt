@@ -14,7 +14,7 @@ use Rattle.hidreport.specs.MeaningFault.{MeaningFault, TooManyPops}
 use Rattle.hidreport.specs.Parser.DataItem.{item_with}
 use Rattle.hidreport.specs.Fields.{make_fields, attributes, field_count, list_or_none}
 use Rattle.hidreport.specs.InForce.{Force, first_of}
-use Rattle.hidreport.specs.Parser.Machine.{Held, step, unless_fault, last_force, next_force, next_held, key_in, start_in, size_in, first_id, added_to, reports_in, with_reports}
+use Rattle.hidreport.specs.Parser.Machine.{Held, brought_back, kept_of, step, unless_fault, last_force, next_force, next_held, key_in, start_in, size_in, first_id, added_to, reports_in, with_reports}
 use Rattle.hidreport.specs.Making.{extent}
 use Rattle.hidreport.specs.Records.{CollectionRecord, DescriptorRecord, FieldRecord, ReportRecord}
 use Rattle.hidreport.specs.Parser.Usages.{HasUsages, usage_list}
@@ -88,12 +88,12 @@ held_result h = Ok h
 
 -- what is held behind an item that makes nothing and has no fault
 pub quiet : (h : Held) (f : Force) (kept : List Force)
-    → held_result (record { force = f; kept = kept; descriptor = h.descriptor; fields = h.fields + 0; opened = h.opened ++ []; collections = h.collections + 0 })
+    → held_result (record { keeping = h.keeping; force = f; kept = kept; descriptor = h.descriptor; fields = h.fields + 0; opened = h.opened ++ []; collections = h.collections + 0 })
     ≡ held_result (record h { force = f; kept = kept })
 quiet h f kept =
-    ap (λ n. held_result (record { force = f; kept = kept; descriptor = h.descriptor; fields = n; opened = h.opened ++ []; collections = h.collections + 0 })) (add-zero h.fields)
-    ∙ ap (λ l. held_result (record { force = f; kept = kept; descriptor = h.descriptor; fields = h.fields; opened = l; collections = h.collections + 0 })) (append-nil h.opened)
-    ∙ ap (λ n. held_result (record { force = f; kept = kept; descriptor = h.descriptor; fields = h.fields; opened = h.opened; collections = n })) (add-zero h.collections)
+    ap (λ n. held_result (record { keeping = h.keeping; force = f; kept = kept; descriptor = h.descriptor; fields = n; opened = h.opened ++ []; collections = h.collections + 0 })) (add-zero h.fields)
+    ∙ ap (λ l. held_result (record { keeping = h.keeping; force = f; kept = kept; descriptor = h.descriptor; fields = h.fields; opened = l; collections = h.collections + 0 })) (append-nil h.opened)
+    ∙ ap (λ n. held_result (record { keeping = h.keeping; force = f; kept = kept; descriptor = h.descriptor; fields = h.fields; opened = h.opened; collections = n })) (add-zero h.collections)
 
 -- a global item is set, where it is neither Push nor Pop
 pub step-global : (h : Held) (g : GlobalItem) → g ≢ global.Push → g ≢ global.Pop
@@ -106,10 +106,10 @@ same-force : (f : Force) (locals : List LocalItem) → locals ≡ f.locals → r
 same-force f locals e = ap (λ l. record f { locals = l }) e
 
 -- a Push keeps what is in force
-pub step-push : (h : Held) → step h (item.Global global.Push) ≡ Ok (record h { kept = h.kept ++ h.force ∷ [] })
+pub step-push : (h : Held) → step h (item.Global global.Push) ≡ Ok (record h { kept = h.kept ++ kept_of h.keeping h.force ∷ [] })
 step-push h =
-    quiet h (next_force h.force (item.Global global.Push)) (h.kept ++ h.force ∷ [])
-    ∙ ap (λ (f : Force). held_result (record h { force = f; kept = h.kept ++ h.force ∷ [] })) (same-force h.force (h.force.locals ++ []) (append-nil h.force.locals))
+    quiet h (next_force h.force (item.Global global.Push)) (h.kept ++ kept_of h.keeping h.force ∷ [])
+    ∙ ap (λ (f : Force). held_result (record h { force = f; kept = h.kept ++ kept_of h.keeping h.force ∷ [] })) (same-force h.force (h.force.locals ++ []) (append-nil h.force.locals))
 
 pops-by : (b : Bool) (h : Held) → (length h.kept == 0) ≡ b → 0 < length h.kept
     → unless_fault (cond (length h.kept == 0) (Some TooManyPops) None) (next_held h (item.Global global.Pop)) ≡ held_result (next_held h (item.Global global.Pop))
@@ -118,9 +118,9 @@ pops-by false h e some = ap (λ b. unless_fault (cond b (Some TooManyPops) None)
 
 -- a Pop brings it back
 pub step-pop : (h : Held) → 0 < length h.kept
-    → step h (item.Global global.Pop) ≡ Ok (record h { force = last_force h.force h.kept; kept = take (length h.kept - 1) h.kept })
+    → step h (item.Global global.Pop) ≡ Ok (record h { force = brought_back h.keeping h.force (last_force h.force h.kept); kept = take (length h.kept - 1) h.kept })
 step-pop h some =
-    pops-by (length h.kept == 0) h refl some ∙ quiet h (last_force h.force h.kept) (take (length h.kept - 1) h.kept)
+    pops-by (length h.kept == 0) h refl some ∙ quiet h (brought_back h.keeping h.force (last_force h.force h.kept)) (take (length h.kept - 1) h.kept)
 
 -- the last of a list
 pub last_force-end : (f g : Force) (gs : List Force) → last_force f (gs ++ g ∷ []) ≡ g

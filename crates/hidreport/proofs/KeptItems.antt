@@ -23,15 +23,17 @@ use Rattle.std.specs.Prelude.{◌*◌, ◌||◌, nat_lt, nat_le}
 use Rattle.hidreport.specs.Faults.{Counts, item_fault, data_fault, needed_usages_fault, usage_fault, limit_fault, last_end, id_count}
 use Rattle.hidreport.specs.Places.{bits_of}
 use Rattle.hidreport.specs.Fields.{field_count, fields_made, fields_of, list_or_none, make_fields, attributes}
-use Rattle.hidreport.specs.InForce.{Force, first_of, force}
+use Rattle.hidreport.specs.InForce.{Force, first_of}
 use Rattle.hidreport.specs.Kinds.{Direction, Input, Output, Feature, data_of, is_main, is_pop, is_push, is_end_collection, collection_of, local_of}
 use Rattle.hidreport.specs.Making.{extent}
-use Rattle.hidreport.specs.Meaning.{meaning, parse, parse_items, at_offset, offset_at, refusal_at}
+use Rattle.hidreport.specs.Meaning.{PushReading, meaning_by, parse_by, parse_items, at_offset, offset_at, refusal_at}
 use Rattle.hidreport.specs.MeaningFault.{MeaningFault}
 use Rattle.hidreport.specs.Records.{CollectionRecord, ReportRecord}
 use Rattle.hidreport.specs.Usages.{UsageList, usages_of, usages_by, last_local, single_usages, before_usages, on_page, range_usages, as_single, minimum_of, maximum_of}
-use Rattle.hidreport.specs.Parser.Machine.{Held, Restoring, all_kept, adds, added_to, key_in, start_in, start_for, counts_in, fault_in, last_force, next_force, held_force, next_kept, next_held_by, next_opened, next_reports, new_collection, nothing_held, unless_fault, go_on, walk_by}
-use Rattle.hidreport.proofs.AllKept.{walk-meaning}
+use Rattle.hidreport.specs.Parser.Machine.{Held, adds, brought_back, kept_of, added_to, key_in, start_in, start_for, counts_in, fault_in, last_force, next_force, held_force, next_kept, next_held, next_opened, next_reports, new_collection, nothing_held, unless_fault, go_on, walk}
+use Rattle.hidreport.specs.declared.parser.keeping.Keeping.{Keeping}
+use Rattle.hidreport.specs.declared.parser.keeping.Keeping.TheVariants as keepings
+use Rattle.hidreport.proofs.Readings.{reading_of, walk-meaning}
 
 -- the local item isn't of the reserved kind
 abbrev pub is_kept_local : LocalItem → Bool
@@ -55,10 +57,6 @@ collections_fault n = limit_fault (nat_le id_count n.collections)
 
 abbrev bits_in : Held → ℕ
 bits_in h = bits_of (extent h.force)
-
--- what a Pop brings back without reserved local items is what it brings back, without them
-abbrev pub Respects : Restoring → Type 0
-Respects restored = (f g : Force) → restored (thin_force f) (thin_force g) ≡ thin_force (restored f g)
 
 -- reserved local items name no usages
 
@@ -154,11 +152,21 @@ last-thin : (f : Force) (ts : List Force) → last_force (thin_force f) (map thi
 last-thin f [] = refl
 last-thin f (t ∷ ts) = last-thin t ts
 
-held-by : (b : Bool) (restored : Restoring) (h : Held) (x : ItemType) → Respects restored → is_kept x ≡ true
-    → cond b (restored (thin_force h.force) (last_force (thin_force h.force) (map thin_force h.kept))) (next_force (thin_force h.force) x)
-    ≡ thin_force (cond b (restored h.force (last_force h.force h.kept)) (next_force h.force x))
-held-by true restored h x respects e = ap (restored (thin_force h.force)) (last-thin h.force h.kept) ∙ respects h.force (last_force h.force h.kept)
-held-by false restored h x respects e = force-thin h.force x e
+-- what a Pop brings back without reserved local items is what it brings back, without them
+back-thin : (keeping : Keeping) (f g : Force) → brought_back keeping (thin_force f) (thin_force g) ≡ thin_force (brought_back keeping f g)
+back-thin keepings.All f g = refl
+back-thin keepings.Globals f g = refl
+
+-- so is what a Push keeps
+push-thin : (keeping : Keeping) (f : Force) → kept_of keeping (thin_force f) ≡ thin_force (kept_of keeping f)
+push-thin keepings.All f = refl
+push-thin keepings.Globals f = refl
+
+held-by : (b : Bool) (h : Held) (x : ItemType) → is_kept x ≡ true
+    → cond b (brought_back h.keeping (thin_force h.force) (last_force (thin_force h.force) (map thin_force h.kept))) (next_force (thin_force h.force) x)
+    ≡ thin_force (cond b (brought_back h.keeping h.force (last_force h.force h.kept)) (next_force h.force x))
+held-by true h x e = ap (brought_back h.keeping (thin_force h.force)) (last-thin h.force h.kept) ∙ back-thin h.keeping h.force (last_force h.force h.kept)
+held-by false h x e = force-thin h.force x e
 
 abbrev shorter : List Force → List Force
 shorter ts = take (length ts - 1) ts
@@ -166,23 +174,25 @@ shorter ts = take (length ts - 1) ts
 shorter-thin : (ts : List Force) → shorter (map thin_force ts) ≡ map thin_force (shorter ts)
 shorter-thin ts = ap (λ n. take (n - 1) (map thin_force ts)) (length-map ts thin_force) ∙ take-map thin_force (length ts - 1) ts
 
-kept-by : (a b : Bool) (f : Force) (ts : List Force)
-    → cond a (shorter (map thin_force ts)) (cond b (map thin_force ts ++ thin_force f ∷ []) (map thin_force ts)) ≡ map thin_force (cond a (shorter ts) (cond b (ts ++ f ∷ []) ts))
-kept-by true b f ts = shorter-thin ts
-kept-by false true f ts = sym (map-append thin_force ts (f ∷ []))
-kept-by false false f ts = refl
+kept-by : (a b : Bool) (keeping : Keeping) (f : Force) (ts : List Force)
+    → cond a (shorter (map thin_force ts)) (cond b (map thin_force ts ++ kept_of keeping (thin_force f) ∷ []) (map thin_force ts))
+    ≡ map thin_force (cond a (shorter ts) (cond b (ts ++ kept_of keeping f ∷ []) ts))
+kept-by true b keeping f ts = shorter-thin ts
+kept-by false true keeping f ts =
+    ap (λ (g : Force). map thin_force ts ++ g ∷ []) (push-thin keeping f) ∙ sym (map-append thin_force ts (kept_of keeping f ∷ []))
+kept-by false false keeping f ts = refl
 
-next-thin : (restored : Restoring) (h : Held) (x : ItemType) → Respects restored → is_kept x ≡ true → next_held_by restored (thin h) x ≡ thin (next_held_by restored h x)
-next-thin restored h x respects e =
+next-thin : (h : Held) (x : ItemType) → is_kept x ≡ true → next_held (thin h) x ≡ thin (next_held h x)
+next-thin h x e =
     let made : Force → List Force → List ReportRecord → List ReportRecord → List ReportRecord → List CollectionRecord → ℕ → Held =
-    λ f ts i o t cs n. record { force = f; kept = ts; descriptor = record { input = i; output = o; feature = t }; fields = h.fields + fields_made (data_of x) (extent h.force); opened = cs; collections = n } in
+    λ f ts i o t cs n. record { keeping = h.keeping; force = f; kept = ts; descriptor = record { input = i; output = o; feature = t }; fields = h.fields + fields_made (data_of x) (extent h.force); opened = cs; collections = n } in
     let t = thin h in
-    ap (λ f. made f (next_kept t x) (next_reports Input t x) (next_reports Output t x) (next_reports Feature t x) (next_opened t x) (h.collections + length (new_collection t (collection_of x)))) (held-by (is_pop x) restored h x respects e)
-    ∙ ap (λ ts. made (thin_force (held_force restored h x)) ts (next_reports Input t x) (next_reports Output t x) (next_reports Feature t x) (next_opened t x) (h.collections + length (new_collection t (collection_of x)))) (kept-by (is_pop x) (is_push x) h.force h.kept)
-    ∙ ap (λ i. made (thin_force (held_force restored h x)) (map thin_force (next_kept h x)) i (next_reports Output t x) (next_reports Feature t x) (next_opened t x) (h.collections + length (new_collection t (collection_of x)))) (reports-thin Input h x)
-    ∙ ap (λ o. made (thin_force (held_force restored h x)) (map thin_force (next_kept h x)) (next_reports Input h x) o (next_reports Feature t x) (next_opened t x) (h.collections + length (new_collection t (collection_of x)))) (reports-thin Output h x)
-    ∙ ap (λ r. made (thin_force (held_force restored h x)) (map thin_force (next_kept h x)) (next_reports Input h x) (next_reports Output h x) r (next_opened t x) (h.collections + length (new_collection t (collection_of x)))) (reports-thin Feature h x)
-    ∙ ap (λ c. made (thin_force (held_force restored h x)) (map thin_force (next_kept h x)) (next_reports Input h x) (next_reports Output h x) (next_reports Feature h x)
+    ap (λ f. made f (next_kept t x) (next_reports Input t x) (next_reports Output t x) (next_reports Feature t x) (next_opened t x) (h.collections + length (new_collection t (collection_of x)))) (held-by (is_pop x) h x e)
+    ∙ ap (λ ts. made (thin_force (held_force h x)) ts (next_reports Input t x) (next_reports Output t x) (next_reports Feature t x) (next_opened t x) (h.collections + length (new_collection t (collection_of x)))) (kept-by (is_pop x) (is_push x) h.keeping h.force h.kept)
+    ∙ ap (λ i. made (thin_force (held_force h x)) (map thin_force (next_kept h x)) i (next_reports Output t x) (next_reports Feature t x) (next_opened t x) (h.collections + length (new_collection t (collection_of x)))) (reports-thin Input h x)
+    ∙ ap (λ o. made (thin_force (held_force h x)) (map thin_force (next_kept h x)) (next_reports Input h x) o (next_reports Feature t x) (next_opened t x) (h.collections + length (new_collection t (collection_of x)))) (reports-thin Output h x)
+    ∙ ap (λ r. made (thin_force (held_force h x)) (map thin_force (next_kept h x)) (next_reports Input h x) (next_reports Output h x) r (next_opened t x) (h.collections + length (new_collection t (collection_of x)))) (reports-thin Feature h x)
+    ∙ ap (λ c. made (thin_force (held_force h x)) (map thin_force (next_kept h x)) (next_reports Input h x) (next_reports Output h x) (next_reports Feature h x)
     (cond (is_end_collection x) (take (length h.opened - 1) h.opened) (h.opened ++ c)) (h.collections + length c)) (new-thin h (collection_of x))
 
 -- an item that isn't kept has no fault and changes nothing but reserved locals
@@ -198,24 +208,24 @@ not-kept-fault h item.Reserved e = refl
 
 -- what is held with other locals, where nothing else changes
 idle-thin : (h : Held) (locals : List LocalItem) → filter is_kept_local locals ≡ filter is_kept_local h.force.locals
-    → thin (record { force = record h.force { locals = locals }; kept = h.kept; descriptor = h.descriptor; fields = h.fields + 0; opened = h.opened ++ []; collections = h.collections + 0 }) ≡ thin h
+    → thin (record { keeping = h.keeping; force = record h.force { locals = locals }; kept = h.kept; descriptor = h.descriptor; fields = h.fields + 0; opened = h.opened ++ []; collections = h.collections + 0 }) ≡ thin h
 idle-thin h locals e =
     let made : List LocalItem → ℕ → List CollectionRecord → ℕ → Held =
-    λ l n cs m. record { force = record h.force { locals = l }; kept = map thin_force h.kept; descriptor = h.descriptor; fields = n; opened = cs; collections = m } in
+    λ l n cs m. record { keeping = h.keeping; force = record h.force { locals = l }; kept = map thin_force h.kept; descriptor = h.descriptor; fields = n; opened = cs; collections = m } in
     ap (λ l. made l (h.fields + 0) (h.opened ++ []) (h.collections + 0)) e
     ∙ ap (λ n. made (filter is_kept_local h.force.locals) n (h.opened ++ []) (h.collections + 0)) (add-zero h.fields)
     ∙ ap (λ cs. made (filter is_kept_local h.force.locals) h.fields cs (h.collections + 0)) (append-nil h.opened)
     ∙ ap (λ m. made (filter is_kept_local h.force.locals) h.fields h.opened m) (add-zero h.collections)
 
-not-kept-thin : (restored : Restoring) (h : Held) (x : ItemType) → is_kept x ≡ false → thin (next_held_by restored h x) ≡ thin h
-not-kept-thin restored h (item.Main y) e = cc
-not-kept-thin restored h (item.Global global.Reserved) e = idle-thin h (h.force.locals ++ []) (ap (filter is_kept_local) (append-nil h.force.locals))
-not-kept-thin restored h (item.Global g) e = cc
-not-kept-thin restored h (item.Local (local.Reserved n)) e =
+not-kept-thin : (h : Held) (x : ItemType) → is_kept x ≡ false → thin (next_held h x) ≡ thin h
+not-kept-thin h (item.Main y) e = cc
+not-kept-thin h (item.Global global.Reserved) e = idle-thin h (h.force.locals ++ []) (ap (filter is_kept_local) (append-nil h.force.locals))
+not-kept-thin h (item.Global g) e = cc
+not-kept-thin h (item.Local (local.Reserved n)) e =
     idle-thin h (h.force.locals ++ local.Reserved n ∷ []) (filter-append is_kept_local h.force.locals (local.Reserved n ∷ []) ∙ append-nil (filter is_kept_local h.force.locals))
-not-kept-thin restored h (item.Local y) e = cc
-not-kept-thin restored h item.Long e = cc
-not-kept-thin restored h item.Reserved e = idle-thin h (h.force.locals ++ []) (ap (filter is_kept_local) (append-nil h.force.locals))
+not-kept-thin h (item.Local y) e = cc
+not-kept-thin h item.Long e = cc
+not-kept-thin h item.Reserved e = idle-thin h (h.force.locals ++ []) (ap (filter is_kept_local) (append-nil h.force.locals))
 
 -- the walk over all items and that over the kept ones, faults at their own offsets
 
@@ -223,76 +233,78 @@ offset-behind : (front rest : List Entry) (e : Entry) → offset_at (front ++ e 
 offset-behind [] rest e = refl
 offset-behind (f ∷ front) rest e = offset-behind front rest e
 
-abbrev Walks : Restoring → List Entry → List Entry → List Entry → Held → Type 0
-Walks restored front some rest h =
-    at_offset (front ++ rest) (walk_by restored h (length front) (items_of rest)) ≡ at_offset (some ++ kept rest) (walk_by restored (thin h) (length some) (items_of (kept rest)))
+abbrev Walks : List Entry → List Entry → List Entry → Held → Type 0
+Walks front some rest h =
+    at_offset (front ++ rest) (walk h (length front) (items_of rest)) ≡ at_offset (some ++ kept rest) (walk (thin h) (length some) (items_of (kept rest)))
 
 -- the faults of an item at two places
-fault-by : (o : Option MeaningFault) (restored : Restoring) (front some es fs : List Entry) (e : Entry) (h g : Held) → fault_in h e.item ≡ o → fault_in g e.item ≡ o
-    → (o ≡ None → at_offset (front ++ e ∷ es) (walk_by restored (next_held_by restored h e.item) (length front + 1) (items_of es))
-    ≡ at_offset (some ++ e ∷ fs) (walk_by restored (next_held_by restored g e.item) (length some + 1) (items_of fs)))
-    → at_offset (front ++ e ∷ es) (walk_by restored h (length front) (items_of (e ∷ es))) ≡ at_offset (some ++ e ∷ fs) (walk_by restored g (length some) (items_of (e ∷ fs)))
-fault-by None restored front some es fs e h g p q later =
-    ap (λ o. at_offset (front ++ e ∷ es) (go_on (unless_fault o (next_held_by restored h e.item)) (length front) (λ n. walk_by restored n (length front + 1) (items_of es)))) p
+fault-by : (o : Option MeaningFault) (front some es fs : List Entry) (e : Entry) (h g : Held) → fault_in h e.item ≡ o → fault_in g e.item ≡ o
+    → (o ≡ None → at_offset (front ++ e ∷ es) (walk (next_held h e.item) (length front + 1) (items_of es))
+    ≡ at_offset (some ++ e ∷ fs) (walk (next_held g e.item) (length some + 1) (items_of fs)))
+    → at_offset (front ++ e ∷ es) (walk h (length front) (items_of (e ∷ es))) ≡ at_offset (some ++ e ∷ fs) (walk g (length some) (items_of (e ∷ fs)))
+fault-by None front some es fs e h g p q later =
+    ap (λ o. at_offset (front ++ e ∷ es) (go_on (unless_fault o (next_held h e.item)) (length front) (λ n. walk n (length front + 1) (items_of es)))) p
     ∙ later refl
-    ∙ sym (ap (λ o. at_offset (some ++ e ∷ fs) (go_on (unless_fault o (next_held_by restored g e.item)) (length some) (λ n. walk_by restored n (length some + 1) (items_of fs)))) q)
-fault-by (Some fault) restored front some es fs e h g p q later =
-    ap (λ o. at_offset (front ++ e ∷ es) (go_on (unless_fault o (next_held_by restored h e.item)) (length front) (λ n. walk_by restored n (length front + 1) (items_of es)))) p
+    ∙ sym (ap (λ o. at_offset (some ++ e ∷ fs) (go_on (unless_fault o (next_held g e.item)) (length some) (λ n. walk n (length some + 1) (items_of fs)))) q)
+fault-by (Some fault) front some es fs e h g p q later =
+    ap (λ o. at_offset (front ++ e ∷ es) (go_on (unless_fault o (next_held h e.item)) (length front) (λ n. walk n (length front + 1) (items_of es)))) p
     ∙ ap (λ n. Err (refusal_at n fault)) (offset-behind front es e ∙ sym (offset-behind some fs e))
-    ∙ sym (ap (λ o. at_offset (some ++ e ∷ fs) (go_on (unless_fault o (next_held_by restored g e.item)) (length some) (λ n. walk_by restored n (length some + 1) (items_of fs)))) q)
+    ∙ sym (ap (λ o. at_offset (some ++ e ∷ fs) (go_on (unless_fault o (next_held g e.item)) (length some) (λ n. walk n (length some + 1) (items_of fs)))) q)
 
 -- one entry further on a side
-further : (restored : Restoring) (front es : List Entry) (e : Entry) (h : Held)
-    → at_offset (front ++ e ∷ es) (walk_by restored h (length front + 1) (items_of es)) ≡ at_offset ((front ++ e ∷ []) ++ es) (walk_by restored h (length (front ++ e ∷ [])) (items_of es))
-further restored front es e h =
+further : (front es : List Entry) (e : Entry) (h : Held)
+    → at_offset (front ++ e ∷ es) (walk h (length front + 1) (items_of es)) ≡ at_offset ((front ++ e ∷ []) ++ es) (walk h (length (front ++ e ∷ [])) (items_of es))
+further front es e h =
     let size : length front + 1 ≡ length (front ++ e ∷ []) = grind (arith, common_steps) in
-    ap (λ l. at_offset l (walk_by restored h (length front + 1) (items_of es))) (sym (append_assoc front (e ∷ []) es))
-    ∙ ap (λ n. at_offset ((front ++ e ∷ []) ++ es) (walk_by restored h n (items_of es))) size
+    ap (λ l. at_offset l (walk h (length front + 1) (items_of es))) (sym (append_assoc front (e ∷ []) es))
+    ∙ ap (λ n. at_offset ((front ++ e ∷ []) ++ es) (walk h n (items_of es))) size
 
-walk-by : (b : Bool) (restored : Restoring) (front some es : List Entry) (e : Entry) (h : Held) → Respects restored → is_kept e.item ≡ b
-    → ((front some : List Entry) (h : Held) → Walks restored front some es h)
-    → at_offset (front ++ e ∷ es) (walk_by restored h (length front) (items_of (e ∷ es)))
-    ≡ at_offset (some ++ cond b (e ∷ kept es) (kept es)) (walk_by restored (thin h) (length some) (items_of (cond b (e ∷ kept es) (kept es))))
-walk-by true restored front some es e h respects is later =
-    fault-by (fault_in h e.item) restored front some es (kept es) e h (thin h) refl (fault-thin h e.item)
-    (λ faultless. further restored front es e (next_held_by restored h e.item)
-    ∙ later (front ++ e ∷ []) (some ++ e ∷ []) (next_held_by restored h e.item)
-    ∙ ap (λ n. at_offset ((some ++ e ∷ []) ++ kept es) (walk_by restored n (length (some ++ e ∷ [])) (items_of (kept es)))) (sym (next-thin restored h e.item respects is))
-    ∙ sym (further restored some (kept es) e (next_held_by restored (thin h) e.item)))
-walk-by false restored front some es e h respects is later =
-    ap (λ o. at_offset (front ++ e ∷ es) (go_on (unless_fault o (next_held_by restored h e.item)) (length front) (λ n. walk_by restored n (length front + 1) (items_of es)))) (not-kept-fault h e.item is)
-    ∙ further restored front es e (next_held_by restored h e.item)
-    ∙ later (front ++ e ∷ []) some (next_held_by restored h e.item)
-    ∙ ap (λ n. at_offset (some ++ kept es) (walk_by restored n (length some) (items_of (kept es)))) (not-kept-thin restored h e.item is)
+walk-by : (b : Bool) (front some es : List Entry) (e : Entry) (h : Held) → is_kept e.item ≡ b
+    → ((front some : List Entry) (h : Held) → Walks front some es h)
+    → at_offset (front ++ e ∷ es) (walk h (length front) (items_of (e ∷ es)))
+    ≡ at_offset (some ++ cond b (e ∷ kept es) (kept es)) (walk (thin h) (length some) (items_of (cond b (e ∷ kept es) (kept es))))
+walk-by true front some es e h is later =
+    fault-by (fault_in h e.item) front some es (kept es) e h (thin h) refl (fault-thin h e.item)
+    (λ faultless. further front es e (next_held h e.item)
+    ∙ later (front ++ e ∷ []) (some ++ e ∷ []) (next_held h e.item)
+    ∙ ap (λ n. at_offset ((some ++ e ∷ []) ++ kept es) (walk n (length (some ++ e ∷ [])) (items_of (kept es)))) (sym (next-thin h e.item is))
+    ∙ sym (further some (kept es) e (next_held (thin h) e.item)))
+walk-by false front some es e h is later =
+    ap (λ o. at_offset (front ++ e ∷ es) (go_on (unless_fault o (next_held h e.item)) (length front) (λ n. walk n (length front + 1) (items_of es)))) (not-kept-fault h e.item is)
+    ∙ further front es e (next_held h e.item)
+    ∙ later (front ++ e ∷ []) some (next_held h e.item)
+    ∙ ap (λ n. at_offset (some ++ kept es) (walk n (length some) (items_of (kept es)))) (not-kept-thin h e.item is)
 
-walk-from : (restored : Restoring) (front some rest : List Entry) (h : Held) → Respects restored → Walks restored front some rest h
-walk-from restored front some [] h respects = refl
-walk-from restored front some (e ∷ es) h respects =
-    walk-by (is_kept e.item) restored front some es e h respects refl (λ f s n. walk-from restored f s es n respects)
+walk-from : (front some rest : List Entry) (h : Held) → Walks front some rest h
+walk-from front some [] h = refl
+walk-from front some (e ∷ es) h =
+    walk-by (is_kept e.item) front some es e h refl (λ f s n. walk-from f s es n)
 
 -- the walk over the kept items gives the same, faults at the offsets of their items
-pub walk-kept : (restored : Restoring) (entries : List Entry) → Respects restored
-    → at_offset entries (walk_by restored nothing_held 0 (items_of entries)) ≡ at_offset (kept entries) (walk_by restored nothing_held 0 (items_of (kept entries)))
-walk-kept restored entries respects = walk-from restored [] [] entries nothing_held respects
+pub walk-kept : (keeping : Keeping) (entries : List Entry)
+    → at_offset entries (walk (nothing_held keeping) 0 (items_of entries)) ≡ at_offset (kept entries) (walk (nothing_held keeping) 0 (items_of (kept entries)))
+walk-kept keeping entries = walk-from [] [] entries (nothing_held keeping)
 
-pub meaning-kept : (entries : List Entry) → at_offset entries (meaning (items_of entries)) ≡ at_offset (kept entries) (meaning (items_of (kept entries)))
-meaning-kept entries =
-    ap (at_offset entries) (sym (walk-meaning (items_of entries)))
-    ∙ walk-kept all_kept entries (λ f g. refl)
-    ∙ ap (at_offset (kept entries)) (walk-meaning (items_of (kept entries)))
+pub meaning-kept : (keeping : Keeping) (entries : List Entry)
+    → at_offset entries (meaning_by (reading_of keeping) (items_of entries)) ≡ at_offset (kept entries) (meaning_by (reading_of keeping) (items_of (kept entries)))
+meaning-kept keeping entries =
+    ap (at_offset entries) (sym (walk-meaning keeping (items_of entries)))
+    ∙ walk-kept keeping entries
+    ∙ ap (at_offset (kept entries)) (walk-meaning keeping (items_of (kept entries)))
 
-parse-items : (bytes : List ℕ) (entries : List Entry) → Itemises item_of bytes entries → parse bytes ≡ at_offset entries (meaning (items_of entries))
-parse-items [] entries i = absurd (i.some refl)
-parse-items (b ∷ bs) entries i = ap (parse_items force) (itemise-items item_of (b ∷ bs) entries i)
+parse-items : (reading : PushReading) (bytes : List ℕ) (entries : List Entry) → Itemises item_of bytes entries → parse_by reading bytes ≡ at_offset entries (meaning_by reading (items_of entries))
+parse-items reading [] entries i = absurd (i.some refl)
+parse-items reading (b ∷ bs) entries i = ap (parse_items reading) (itemise-items item_of (b ∷ bs) entries i)
 
 -- the bytes of a descriptor are read as their kept items
-pub parse-kept : (bytes : List ℕ) (entries : List Entry) → Itemises item_of bytes entries → parse bytes ≡ at_offset (kept entries) (meaning (items_of (kept entries)))
-parse-kept bytes entries i = parse-items bytes entries i ∙ meaning-kept entries
+pub parse-kept : (keeping : Keeping) (bytes : List ℕ) (entries : List Entry) → Itemises item_of bytes entries
+    → parse_by (reading_of keeping) bytes ≡ at_offset (kept entries) (meaning_by (reading_of keeping) (items_of (kept entries)))
+parse-kept keeping bytes entries i = parse-items (reading_of keeping) bytes entries i ∙ meaning-kept keeping entries
 
 -- and so are the bytes that are written for these
-pub parse-rebuilt : (bytes : List ℕ) (entries : List Entry) → Itemises item_of bytes entries → rebuilt entries ≢ []
-    → parse (rebuilt entries) ≡ at_offset (respelled 0 (items_of (kept entries))) (meaning (items_of (kept entries)))
-parse-rebuilt bytes entries i some =
+pub parse-rebuilt : (reading : PushReading) (bytes : List ℕ) (entries : List Entry) → Itemises item_of bytes entries → rebuilt entries ≢ []
+    → parse_by reading (rebuilt entries) ≡ at_offset (respelled 0 (items_of (kept entries))) (meaning_by reading (items_of (kept entries)))
+parse-rebuilt reading bytes entries i some =
     let xs = items_of (kept entries) in
-    parse-items (rebuilt entries) (respelled 0 xs) (itemises-again xs (are_kept entries i.each) some)
-    ∙ ap (λ l. at_offset (respelled 0 xs) (meaning l)) (respelled-items xs 0)
+    parse-items reading (rebuilt entries) (respelled 0 xs) (itemises-again xs (are_kept entries i.each) some)
+    ∙ ap (λ l. at_offset (respelled 0 xs) (meaning_by reading l)) (respelled-items xs 0)

@@ -11,6 +11,9 @@ pub mod LevelLemmas
 pub mod OpenLemmas
 pub mod WalkLemmas
 pub mod AllKept
+pub mod GlobalsAlone
+pub mod Readings
+pub mod NoPush
 pub mod BudgetBounds
 pub mod BudgetWalk
 pub mod TilingLemmas

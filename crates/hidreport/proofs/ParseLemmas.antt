@@ -12,13 +12,15 @@ use Rattle.hidreport_lists.specs.declared.error.ParserError.TheVariants as error
 use Rattle.hidreport.specs.Budget.{parse_items_within, parse_within}
 use Rattle.hidreport.specs.InForce.{first_of, force}
 use Rattle.hidreport.specs.MeaningFault.{MeaningFault}
-use Rattle.hidreport.specs.Parser.Budget.{is_past, left_behind, past_fault, stop_in, walk_within, weight_in}
-use Rattle.hidreport.specs.Parser.Machine.{Held, all_kept, fault_in, next_held, unless_fault, step, go_on, nothing_held}
-use Rattle.hidreport.specs.Meaning.{parse, parse_items, at_offset, offset_at, refusal_at}
+use Rattle.hidreport.specs.Parser.Budget.{is_past, left_behind, past_fault, stop_in, walk_bytes, walk_items, walk_within, weight_in}
+use Rattle.hidreport.specs.Parser.Machine.{Held, fault_in, next_held, unless_fault, step, go_on, nothing_held}
+use Rattle.hidreport.specs.Meaning.{parse_by, parse_items, at_offset, offset_at, refusal_at}
 use Rattle.hidreport.specs.Records.{DescriptorRecord}
 use Rattle.hidreport.specs.Parser.Refusals.{IsFaultOf, IsRefusal, fault_named}
 use Rattle.hidreport.specs.declared.parser.fault.Fault.{Fault}
-use Rattle.hidreport.proofs.AllKept.{walk-meaning}
+use Rattle.hidreport.specs.declared.parser.keeping.Keeping.{Keeping}
+use Rattle.hidreport.specs.declared.parser.keeping.Keeping.TheVariants as keepings
+use Rattle.hidreport.proofs.Readings.{reading_of, walk-meaning}
 use Rattle.hidreport.proofs.BudgetWalk.{walk-unlimited, walk-within}
 
 -- the items of the entries
@@ -65,19 +67,19 @@ walked-on entries i e left behind h next lt here stepped within is =
     ∙ ap (λ k. walk_within behind next (i + 1) (drop k (items_of entries))) (sym (add-one i))
 
 -- what stops the walk at an item is the answer
-pub meaning-fault : (entries : List Entry) (limit : Option ℕ) (i : ℕ) (e : Entry) (left : Option ℕ) (h : Held) (f : MeaningFault) → i < length entries → e ≡ get_or entries i e
-    → walk_within left h i (drop i (items_of entries)) ≡ walk_within limit nothing_held 0 (items_of entries)
-    → stop_in left h e.item ≡ Some f → at_offset entries (walk_within limit nothing_held 0 (items_of entries)) ≡ Err (refusal_at e.offset f)
-meaning-fault entries limit i e left h f lt here walked stops =
+pub meaning-fault : (first : Held) (entries : List Entry) (limit : Option ℕ) (i : ℕ) (e : Entry) (left : Option ℕ) (h : Held) (f : MeaningFault) → i < length entries → e ≡ get_or entries i e
+    → walk_within left h i (drop i (items_of entries)) ≡ walk_within limit first 0 (items_of entries)
+    → stop_in left h e.item ≡ Some f → at_offset entries (walk_within limit first 0 (items_of entries)) ≡ Err (refusal_at e.offset f)
+meaning-fault first entries limit i e left h f lt here walked stops =
     ap (at_offset entries) (sym walked ∙ ap (walk_within left h i) (drop-item entries i e lt here)
     ∙ ap (λ o. go_on (unless_fault o (next_held h e.item)) i (λ n. walk_within (left_behind left (weight_in h e.item)) n (i + 1) (drop (suc i) (items_of entries)))) stops)
     ∙ ap (λ o. Err (refusal_at o f)) (offset-at entries i e lt here)
 
 -- at the end the answer is what is held
-pub meaning-end : (entries : List Entry) (limit : Option ℕ) (i : ℕ) (left : Option ℕ) (h : Held) → length entries ≤ i
-    → walk_within left h i (drop i (items_of entries)) ≡ walk_within limit nothing_held 0 (items_of entries)
-    → at_offset entries (walk_within limit nothing_held 0 (items_of entries)) ≡ Ok h.descriptor
-meaning-end entries limit i left h end walked = ap (at_offset entries) (sym walked ∙ ap (walk_within left h i) (drop-end entries i end))
+pub meaning-end : (first : Held) (entries : List Entry) (limit : Option ℕ) (i : ℕ) (left : Option ℕ) (h : Held) → length entries ≤ i
+    → walk_within left h i (drop i (items_of entries)) ≡ walk_within limit first 0 (items_of entries)
+    → at_offset entries (walk_within limit first 0 (items_of entries)) ≡ Ok h.descriptor
+meaning-end first entries limit i left h end walked = ap (at_offset entries) (sym walked ∙ ap (walk_within left h i) (drop-end entries i end))
 
 -- an error that says a refusal is every answer that is this refusal
 pub refuses-as : {A : Type 0} (e : ParserError) (r : Refusal) (answer : Result A Refusal) → IsRefusal e r → answer ≡ Err r → Refuses e answer
@@ -99,9 +101,9 @@ pub refuses-fault : {A : Type 0} (fault : Fault) (offset : ℕ) (e : ParserError
     → ((f : MeaningFault) → found ≡ Some f → answer ≡ Err (refusal_at offset f)) → Refuses e answer
 refuses-fault fault offset e found answer is named memory given = refuses-named (fault_named fault) offset e found answer is named memory given
 
-parse-some : (bytes : List ℕ) → bytes ≢ [] → parse bytes ≡ parse_items force (itemise item_of bytes)
-parse-some [] some = absurd (some refl)
-parse-some (b ∷ bs) some = refl
+walk-some : (keeping : Keeping) (limit : Option ℕ) (bytes : List ℕ) → bytes ≢ [] → walk_bytes keeping limit bytes ≡ walk_items keeping limit (itemise item_of bytes)
+walk-some keeping limit [] some = absurd (some refl)
+walk-some keeping limit (b ∷ bs) some = refl
 
 ok_refuses : {A B : Type 0} (e : ParserError) (x : A) (answer : Result B Refusal) → Refuses {A = A} e (Ok x) → Refuses e answer
 ok_refuses (errors.InvalidData offset message) x answer h = cc
@@ -117,40 +119,40 @@ err_refuses errors.MismatchingReportId r h = let same : r ≡ _ = cc in ap Err s
 err_refuses errors.OutOfMemory r h = tt
 err_refuses (errors.BudgetExceeded offset) r h = let same : r ≡ OverBudget offset = cc in ap Err same
 
-grammar-refuses : (e : ParserError) (r : Result (List Entry) (ℕ × ReadFault)) → Refuses e (as_refusal r) → Refuses e (parse_items force r)
-grammar-refuses e (Ok entries) h = ok_refuses e entries (parse_items force (Ok entries)) h
-grammar-refuses e (Err fault) h = err_refuses e (InvalidAt fault.0 (grammar_message fault.1)) h
+grammar-refuses : (keeping : Keeping) (limit : Option ℕ) (e : ParserError) (r : Result (List Entry) (ℕ × ReadFault)) → Refuses e (as_refusal r) → Refuses e (walk_items keeping limit r)
+grammar-refuses keeping limit e (Ok entries) h = ok_refuses e entries (walk_items keeping limit (Ok entries)) h
+grammar-refuses keeping limit e (Err fault) h = err_refuses e (InvalidAt fault.0 (grammar_message fault.1)) h
 
 -- a grammar fault is the answer
-pub parse-grammar : (bytes : List ℕ) (e : ParserError) → bytes ≢ [] → Refuses e (as_refusal (itemise item_of bytes)) → Refuses e (parse bytes)
-parse-grammar bytes e some h = subst (λ (r : Result DescriptorRecord Refusal). Refuses e r) (sym (parse-some bytes some)) (grammar-refuses e (itemise item_of bytes) h)
+pub bytes-grammar : (keeping : Keeping) (limit : Option ℕ) (bytes : List ℕ) (e : ParserError) → bytes ≢ [] → Refuses e (as_refusal (itemise item_of bytes)) → Refuses e (walk_bytes keeping limit bytes)
+bytes-grammar keeping limit bytes e some h =
+    subst (λ (r : Result DescriptorRecord Refusal). Refuses e r) (sym (walk-some keeping limit bytes some)) (grammar-refuses keeping limit e (itemise item_of bytes) h)
 
 items_ok : (r : Result (List Entry) (ℕ × ReadFault)) (entries : List Entry) → as_refusal r ≡ Ok entries → r ≡ Ok entries
 items_ok (Ok xs) entries h = let same : xs ≡ entries = cc in ap Ok same
 items_ok (Err fault) entries h = cc
 
 -- else the walk over the items is
-pub parse-meaning : (bytes : List ℕ) (entries : List Entry) → bytes ≢ [] → as_refusal (itemise item_of bytes) ≡ Ok entries
-    → parse bytes ≡ at_offset entries (walk_within None nothing_held 0 (items_of entries))
-parse-meaning bytes entries some h =
-    parse-some bytes some ∙ ap (parse_items force) (items_ok (itemise item_of bytes) entries h)
-    ∙ ap (at_offset entries) (sym (walk-unlimited all_kept nothing_held 0 (items_of entries) ∙ walk-meaning (items_of entries)))
+pub bytes-walked : (keeping : Keeping) (limit : Option ℕ) (bytes : List ℕ) (entries : List Entry) → bytes ≢ [] → as_refusal (itemise item_of bytes) ≡ Ok entries
+    → walk_bytes keeping limit bytes ≡ at_offset entries (walk_within limit (nothing_held keeping) 0 (items_of entries))
+bytes-walked keeping limit bytes entries some h = walk-some keeping limit bytes some ∙ ap (walk_items keeping limit) (items_ok (itemise item_of bytes) entries h)
 
--- the same under a limit
+-- without a limit this is the parse by the reading
 
-within-some : (limit : ℕ) (bytes : List ℕ) → bytes ≢ [] → parse_within limit bytes ≡ parse_items_within force limit (itemise item_of bytes)
-within-some limit [] some = absurd (some refl)
-within-some limit (b ∷ bs) some = refl
+plain-items : (keeping : Keeping) (r : Result (List Entry) (ℕ × ReadFault)) → walk_items keeping None r ≡ parse_items (reading_of keeping) r
+plain-items keeping (Ok entries) = ap (at_offset entries) (walk-unlimited (nothing_held keeping) 0 (items_of entries) ∙ walk-meaning keeping (items_of entries))
+plain-items keeping (Err fault) = refl
 
-grammar-within : (limit : ℕ) (e : ParserError) (r : Result (List Entry) (ℕ × ReadFault)) → Refuses e (as_refusal r) → Refuses e (parse_items_within force limit r)
-grammar-within limit e (Ok entries) h = ok_refuses e entries (parse_items_within force limit (Ok entries)) h
-grammar-within limit e (Err fault) h = err_refuses e (InvalidAt fault.0 (grammar_message fault.1)) h
+pub plain-bytes : (keeping : Keeping) (bytes : List ℕ) → walk_bytes keeping None bytes ≡ parse_by (reading_of keeping) bytes
+plain-bytes keeping [] = refl
+plain-bytes keeping (b ∷ bs) = plain-items keeping (itemise item_of (b ∷ bs))
 
-pub within-grammar : (limit : ℕ) (bytes : List ℕ) (e : ParserError) → bytes ≢ [] → Refuses e (as_refusal (itemise item_of bytes)) → Refuses e (parse_within limit bytes)
-within-grammar limit bytes e some h = subst (λ (r : Result DescriptorRecord Refusal). Refuses e r) (sym (within-some limit bytes some)) (grammar-within limit e (itemise item_of bytes) h)
+-- under a limit it is the parse under it
 
-pub within-meaning : (limit : ℕ) (bytes : List ℕ) (entries : List Entry) → bytes ≢ [] → as_refusal (itemise item_of bytes) ≡ Ok entries
-    → parse_within limit bytes ≡ at_offset entries (walk_within (Some limit) nothing_held 0 (items_of entries))
-within-meaning limit bytes entries some h =
-    within-some limit bytes some ∙ ap (parse_items_within force limit) (items_ok (itemise item_of bytes) entries h)
-    ∙ ap (at_offset entries) (sym (walk-within limit (items_of entries)))
+limited-items : (limit : ℕ) (r : Result (List Entry) (ℕ × ReadFault)) → walk_items keepings.All (Some limit) r ≡ parse_items_within force limit r
+limited-items limit (Ok entries) = ap (at_offset entries) (walk-within limit (items_of entries))
+limited-items limit (Err fault) = refl
+
+pub limited-bytes : (limit : ℕ) (bytes : List ℕ) → walk_bytes keepings.All (Some limit) bytes ≡ parse_within limit bytes
+limited-bytes limit [] = refl
+limited-bytes limit (b ∷ bs) = limited-items limit (itemise item_of (b ∷ bs))

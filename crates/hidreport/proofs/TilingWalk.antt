@@ -10,17 +10,18 @@ use Rattle.hidreport_lists.specs.Entry.{Entry}
 use Rattle.hidreport_lists.specs.Itemising.{itemise}
 use Rattle.hidreport_lists.specs.Rebuilt.{items_of}
 use Rattle.hidreport.specs.Fields.{attributes, fields_made, fields_of, list_or_none}
-use Rattle.hidreport.specs.InForce.{Force, first_of, force}
+use Rattle.hidreport.specs.InForce.{Force, first_of}
 use Rattle.hidreport.specs.Kinds.{Direction, Input, Output, Feature, data_of, goes, is_end_collection, collection_of}
 use Rattle.hidreport.specs.Making.{extent}
-use Rattle.hidreport.specs.Meaning.{at_offset, meaning, parse, parse_items}
+use Rattle.hidreport.specs.Meaning.{at_offset, meaning_by, parse_by, parse_items}
 use Rattle.hidreport.specs.MeaningFault.{MeaningFault}
-use Rattle.hidreport.specs.Parser.Machine.{Held, first_id, Restoring, adds, added_to, all_kept, fault_in, key_in, new_collection, next_held_by, next_reports, nothing_held, reports_in, start_in, unless_fault, go_on, walk_by}
+use Rattle.hidreport.specs.Parser.Machine.{Held, first_id, adds, added_to, fault_in, key_in, new_collection, next_held, next_reports, nothing_held, reports_in, start_in, unless_fault, go_on, walk}
 use Rattle.hidreport.specs.Places.{bits_of}
 use Rattle.hidreport.specs.Records.{CollectionRecord, DescriptorRecord, FieldRecord, ReportRecord}
 use Rattle.hidreport.specs.Tiling.{Each, collections_of, HasNoRest, HasRange, HaveOwnIds, IsFilled, IsListed, IsOf, IsTiled, fields_in_all, reports_in_all}
 use Rattle.hidreport.specs.Usages.{usages_of}
-use Rattle.hidreport.proofs.AllKept.{walk-meaning}
+use Rattle.hidreport.specs.declared.parser.keeping.Keeping.{Keeping}
+use Rattle.hidreport.proofs.Readings.{reading_of, walk-meaning}
 use Rattle.hidreport.proofs.TilingLemmas.{IsGood, IsMade, IsWell, ranged, added-good, added-own, each-append, each-more, each-take, extent-some, fresh, less-or-not, made, numbered, numbered-added, with_number, with_number-append}
 
 -- lists of collections
@@ -167,16 +168,16 @@ opened-by false known h new l m = each-append (IsListed known) h.opened new l m
 counted-more : (known new : List CollectionRecord) → length (known ++ new) ≡ length known + length new
 counted-more known new = grind (arith, common_steps)
 
-keeps-next : (restored : Restoring) (known : List CollectionRecord) (h : Held) (x : ItemType) → Keeps known h → Keeps (known ++ new_collection h (collection_of x)) (next_held_by restored h x)
-keeps-next restored known h x k =
+keeps-next : (known : List CollectionRecord) (h : Held) (x : ItemType) → Keeps known h → Keeps (known ++ new_collection h (collection_of x)) (next_held h x)
+keeps-next known h x k =
     let new = new_collection h (collection_of x) in
     record {
-      filled = λ d. elim d as (λ d. Each (IsGood (known ++ new)) (reports_in d (next_held_by restored h x).descriptor)) [
+      filled = λ d. elim d as (λ d. Each (IsGood (known ++ new)) (reports_in d (next_held h x).descriptor)) [
         | Input ↦ all-good known new (next_reports Input h x) (good-next known Input h x k)
         | Output ↦ all-good known new (next_reports Output h x) (good-next known Output h x k)
         | Feature ↦ all-good known new (next_reports Feature h x) (good-next known Feature h x k)
       ];
-      own = λ d. elim d as (λ d. HaveOwnIds (reports_in d (next_held_by restored h x).descriptor)) [
+      own = λ d. elim d as (λ d. HaveOwnIds (reports_in d (next_held h x).descriptor)) [
         | Input ↦ own-by (adds Input h x) Input h x (k.own Input)
         | Output ↦ own-by (adds Output h x) Output h x (k.own Output)
         | Feature ↦ own-by (adds Feature h x) Feature h x (k.own Feature)
@@ -231,27 +232,27 @@ tiled-end known h k =
 abbrev Announces : Result DescriptorRecord (ℕ × MeaningFault) → DescriptorRecord → Type 0
 Announces r d = r ≡ Ok d
 
-tiled-by : (o : Option MeaningFault) (restored : Restoring) (h : Held) (k : ℕ) (x : ItemType) (xs : List ItemType) (d : DescriptorRecord) → fault_in h x ≡ o
-    → Announces (walk_by restored h k (x ∷ xs)) d → (Announces (walk_by restored (next_held_by restored h x) (k + 1) xs) d → IsTiled d) → IsTiled d
-tiled-by None restored h k x xs d e is later =
-    later (sym (ap (λ o. go_on (unless_fault o (next_held_by restored h x)) k (λ n. walk_by restored n (k + 1) xs)) e) ∙ is)
-tiled-by (Some fault) restored h k x xs d e is later =
-    let bad : Announces (Err (k, fault)) d = sym (ap (λ o. go_on (unless_fault o (next_held_by restored h x)) k (λ n. walk_by restored n (k + 1) xs)) e) ∙ is in cc
+tiled-by : (o : Option MeaningFault) (h : Held) (k : ℕ) (x : ItemType) (xs : List ItemType) (d : DescriptorRecord) → fault_in h x ≡ o
+    → Announces (walk h k (x ∷ xs)) d → (Announces (walk (next_held h x) (k + 1) xs) d → IsTiled d) → IsTiled d
+tiled-by None h k x xs d e is later =
+    later (sym (ap (λ o. go_on (unless_fault o (next_held h x)) k (λ n. walk n (k + 1) xs)) e) ∙ is)
+tiled-by (Some fault) h k x xs d e is later =
+    let bad : Announces (Err (k, fault)) d = sym (ap (λ o. go_on (unless_fault o (next_held h x)) k (λ n. walk n (k + 1) xs)) e) ∙ is in cc
 
-tiled-from : (restored : Restoring) (known : List CollectionRecord) (h : Held) (k : ℕ) (items : List ItemType) (d : DescriptorRecord) → Keeps known h
-    → Announces (walk_by restored h k items) d → IsTiled d
-tiled-from restored known h k [] d keeps is = let same : h.descriptor ≡ d = cc in subst IsTiled same (tiled-end known h keeps)
-tiled-from restored known h k (x ∷ xs) d keeps is =
-    tiled-by (fault_in h x) restored h k x xs d refl is
-    (λ rest. tiled-from restored (known ++ new_collection h (collection_of x)) (next_held_by restored h x) (k + 1) xs d (keeps-next restored known h x keeps) rest)
+tiled-from : (known : List CollectionRecord) (h : Held) (k : ℕ) (items : List ItemType) (d : DescriptorRecord) → Keeps known h
+    → Announces (walk h k items) d → IsTiled d
+tiled-from known h k [] d keeps is = let same : h.descriptor ≡ d = cc in subst IsTiled same (tiled-end known h keeps)
+tiled-from known h k (x ∷ xs) d keeps is =
+    tiled-by (fault_in h x) h k x xs d refl is
+    (λ rest. tiled-from (known ++ new_collection h (collection_of x)) (next_held h x) (k + 1) xs d (keeps-next known h x keeps) rest)
 
 none-own : HaveOwnIds []
 none-own = record { once = λ id. omega arith; first = tt }
 
-keeps-nothing : Keeps [] nothing_held
-keeps-nothing = record {
-  filled = λ d. elim d as (λ d. Each (IsGood []) (reports_in d nothing_held.descriptor)) [ Input ↦ tt | Output ↦ tt | Feature ↦ tt ];
-  own = λ d. elim d as (λ d. HaveOwnIds (reports_in d nothing_held.descriptor)) [ Input ↦ none-own | Output ↦ none-own | Feature ↦ none-own ];
+keeps-nothing : (keeping : Keeping) → Keeps [] (nothing_held keeping)
+keeps-nothing keeping = record {
+  filled = λ d. elim d as (λ d. Each (IsGood []) (reports_in d (nothing_held keeping).descriptor)) [ Input ↦ tt | Output ↦ tt | Feature ↦ tt ];
+  own = λ d. elim d as (λ d. HaveOwnIds (reports_in d (nothing_held keeping).descriptor)) [ Input ↦ none-own | Output ↦ none-own | Feature ↦ none-own ];
   once = λ n. omega arith;
   unused = λ n le. refl;
   counted = refl;
@@ -259,18 +260,20 @@ keeps-nothing = record {
 }
 
 -- whatever a Pop brings back
-pub walk-tiled : (restored : Restoring) (items : List ItemType) (d : DescriptorRecord) → walk_by restored nothing_held 0 items ≡ Ok d → IsTiled d
-walk-tiled restored items d is = tiled-from restored [] nothing_held 0 items d keeps-nothing is
+pub walk-tiled : (keeping : Keeping) (items : List ItemType) (d : DescriptorRecord) → walk (nothing_held keeping) 0 items ≡ Ok d → IsTiled d
+walk-tiled keeping items d is = tiled-from [] (nothing_held keeping) 0 items d (keeps-nothing keeping) is
 
 found-ok : (entries : List Entry) (r : Result DescriptorRecord (ℕ × MeaningFault)) (d : DescriptorRecord) → at_offset entries r ≡ Ok d → r ≡ Ok d
 found-ok entries (Ok announced) d e = let same : announced ≡ d = cc in ap Ok same
 found-ok entries (Err first) d e = cc
 
-tiled-items : (r : Result (List Entry) (ℕ × Fault)) (d : DescriptorRecord) → parse_items force r ≡ Ok d → IsTiled d
-tiled-items (Ok entries) d e = walk-tiled all_kept (items_of entries) d (walk-meaning (items_of entries) ∙ found-ok entries (meaning (items_of entries)) d e)
-tiled-items (Err fault) d e = cc
+tiled-items : (keeping : Keeping) (r : Result (List Entry) (ℕ × Fault)) (d : DescriptorRecord) → parse_items (reading_of keeping) r ≡ Ok d → IsTiled d
+tiled-items keeping (Ok entries) d e =
+    let xs = items_of entries in
+    walk-tiled keeping xs d (walk-meaning keeping xs ∙ found-ok entries (meaning_by (reading_of keeping) xs) d e)
+tiled-items keeping (Err fault) d e = cc
 
 -- the reports of a descriptor that is read
-pub parse-tiled : (bytes : List ℕ) (d : DescriptorRecord) → parse bytes ≡ Ok d → IsTiled d
-parse-tiled [] d e = cc
-parse-tiled (b ∷ bs) d e = tiled-items (itemise item_of (b ∷ bs)) d e
+pub parse-tiled : (keeping : Keeping) (bytes : List ℕ) (d : DescriptorRecord) → parse_by (reading_of keeping) bytes ≡ Ok d → IsTiled d
+parse-tiled keeping [] d e = cc
+parse-tiled keeping (b ∷ bs) d e = tiled-items keeping (itemise item_of (b ∷ bs)) d e

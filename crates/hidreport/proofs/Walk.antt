@@ -144,7 +144,7 @@ unended_locals-main ps k x below main =
     ap (filter_map (λ (p : Indexed). local_of p.1)) (filter-append (λ (p : Indexed). not (is_ended qs p)) ps ((k, x) ∷ []) ∙ ap (λ l. l ++ unended qs ((k, x) ∷ [])) (ended-all ps ps k x below main))
     ∙ last_no_local (not (is_ended qs (k, x))) k x (main_is_no_local x main)
 
-unended_locals-next : (b : Bool) (ps : List Indexed) (k : ℕ) (x : ItemType) → AreBelow k ps → is_main x ≡ b
+pub unended_locals-next : (b : Bool) (ps : List Indexed) (k : ℕ) (x : ItemType) → AreBelow k ps → is_main x ≡ b
     → unended_locals (ps ++ (k, x) ∷ []) ≡ (cond b [] (unended_locals ps ++ option_to_list (local_of x)))
 unended_locals-next true ps k x below main = unended_locals-main ps k x below main
 unended_locals-next false ps k x below main = unended_locals-plain ps k x below main

@@ -18,7 +18,7 @@ use Rattle.hidreport.specs.Faults.{item_fault, fault, counts, start_of}
 use Rattle.hidreport.specs.Fields.{fields_at, fields_of, fields_made, fields_before, collections_at, collection_record, list_or_none}
 use Rattle.hidreport.specs.InForce.{Force, first_of}
 use Rattle.hidreport.specs.Kinds.{Indexed, Direction, Input, Output, Feature, data_of, goes, is_push, is_pop, is_collection, is_end_collection, collection_of}
-use Rattle.hidreport.specs.Parser.Machine.{Held, Restoring, reports_of, size_in, first_id, added_to, reports_in, key_in, start_in, start_for, counts_in, fault_in, adds, next_force, last_force, next_reports, next_opened, new_collection, next_held_by, unless_fault, nothing_held, go_on, walk_by}
+use Rattle.hidreport.specs.Parser.Machine.{Held, brought_back, kept_of, nothing_in_force, reports_of, size_in, first_id, added_to, reports_in, key_in, start_in, start_for, counts_in, fault_in, adds, next_force, last_force, next_reports, next_opened, new_collection, next_held, unless_fault, nothing_held, go_on, walk}
 use Rattle.hidreport.specs.Making.{extent, key, makers, first_report_id}
 use Rattle.hidreport.specs.Meaning.{PushReading, meaning_by, unless_first, first_fault, fault_here, reports, descriptor}
 use Rattle.hidreport.specs.MeaningFault.{MeaningFault, TooManyEnds, TooManyPops}
@@ -27,6 +27,7 @@ use Rattle.hidreport.specs.Places.{start, bits_of}
 use Rattle.hidreport.specs.Records.{CollectionRecord, FieldRecord, ReportRecord, DescriptorRecord}
 use Rattle.hidreport.specs.Usages.{usages_of}
 use Rattle.hidreport.specs.Visibility.{before, level}
+use Rattle.hidreport.specs.declared.parser.keeping.Keeping.{Keeping}
 use Rattle.hidreport.proofs.Walk.{before-next, count-next, first_of-none}
 use Rattle.hidreport.proofs.LevelLemmas.{Rests, rests-nothing}
 use Rattle.hidreport.proofs.OpenLemmas.{Stands, stands-nothing, open-length, plain-next, opened-next, closed-next}
@@ -38,18 +39,18 @@ reports_before force d items k =
     reports_of (λ p. key force d items p.0) (λ p. bits_of (extent (force p.0))) (fields_at force d items) (makers force d items k)
 
 -- what is in force behind an item, and what the open Pushes keep there
-pub record Steps (restored : Restoring) (force : ℕ → Force) (kept : ℕ → List Force) (items : List ItemType) (k : ℕ) (x : ItemType) : Type 0 where
-  pub in_force_next : force (suc k) ≡ cond (is_pop x) (restored (force k) (last_force (force k) (kept k))) (next_force (force k) x)
-  pub kept_next : kept (suc k) ≡ cond (is_pop x) (take (length (kept k) - 1) (kept k)) (cond (is_push x) (kept k ++ force k ∷ []) (kept k))
+pub record Steps (keeping : Keeping) (force : ℕ → Force) (kept : ℕ → List Force) (items : List ItemType) (k : ℕ) (x : ItemType) : Type 0 where
+  pub in_force_next : force (suc k) ≡ cond (is_pop x) (brought_back keeping (force k) (last_force (force k) (kept k))) (next_force (force k) x)
+  pub kept_next : kept (suc k) ≡ cond (is_pop x) (take (length (kept k) - 1) (kept k)) (cond (is_push x) (kept k ++ kept_of keeping (force k) ∷ []) (kept k))
   pub rests_next : Rests items (suc k)
 
 -- All that the walk asks of a reading of Push and Pop: what is in force before the first item and behind each one.
-pub record Follows (restored : Restoring) (force : ℕ → Force) (kept : ℕ → List Force) (items : List ItemType) : Type 0 where
-  pub begins : nothing_held.force ≡ force 0
-  pub empty : nothing_held.kept ≡ kept 0
+pub record Follows (keeping : Keeping) (force : ℕ → Force) (kept : ℕ → List Force) (items : List ItemType) : Type 0 where
+  pub begins : nothing_in_force ≡ force 0
+  pub empty : (nothing_held keeping).kept ≡ kept 0
   pub leveled : (k : ℕ) → length (kept k) ≡ level items k
   pub goes_on : (front rest : List ItemType) (x : ItemType) → items ≡ front ++ x ∷ rest → Rests items (length front)
-      → (is_pop x ≡ true → 0 < level items (length front)) → Steps restored force kept items (length front) x
+      → (is_pop x ≡ true → 0 < level items (length front)) → Steps keeping force kept items (length front) x
 
 -- what is held at k is what the definitions say of the items before k
 pub record Holds (force : ℕ → Force) (kept : ℕ → List Force) (items : List ItemType) (k : ℕ) (h : Held) : Type 0 where
@@ -203,10 +204,10 @@ numbered-next force kept items front rest h x e held =
     let joined : fields_before force items (suc k) ≡ h.fields + fields_made o a = omega (arith, in_next, out_next, feature_next, one, old) in
     joined ∙ ap (λ g. h.fields + fields_made o (extent g)) (sym held.in_force)
 
-in_direction : (restored : Restoring) (d : Direction) (h : Held) (x : ItemType) → reports_in d (next_held_by restored h x).descriptor ≡ next_reports d h x
-in_direction restored Input h x = refl
-in_direction restored Output h x = refl
-in_direction restored Feature h x = refl
+in_direction : (d : Direction) (h : Held) (x : ItemType) → reports_in d (next_held h x).descriptor ≡ next_reports d h x
+in_direction Input h x = refl
+in_direction Output h x = refl
+in_direction Feature h x = refl
 
 -- the open collections, with one more item
 record OpenedNext (force : ℕ → Force) (items : List ItemType) (k : ℕ) (h : Held) (x : ItemType) : Type 0 where
@@ -299,22 +300,24 @@ pop-deep h item.Long e faultless = cc
 pop-deep h item.Reserved e faultless = cc
 
 -- what is held goes on by one item
-pub holds-next : (restored : Restoring) (force : ℕ → Force) (kept : ℕ → List Force) (items front rest : List ItemType) (h : Held) (x : ItemType) → Follows restored force kept items
-    → items ≡ front ++ x ∷ rest → Holds force kept items (length front) h → fault_in h x ≡ None → Holds force kept items (suc (length front)) (next_held_by restored h x)
-holds-next restored force kept items front rest h x follows e held faultless =
+pub holds-next : (keeping : Keeping) (force : ℕ → Force) (kept : ℕ → List Force) (items front rest : List ItemType) (h : Held) (x : ItemType) → Follows keeping force kept items
+    → h.keeping ≡ keeping → items ≡ front ++ x ∷ rest → Holds force kept items (length front) h → fault_in h x ≡ None → Holds force kept items (suc (length front)) (next_held h x)
+holds-next keeping force kept items front rest h x follows reads e held faultless =
     let k = length front in
     let opened = opened-by (collection_of x) (is_end_collection x) force kept items front rest h x e held faultless refl refl in
     let deep : is_pop x ≡ true → 0 < level items k = λ pop. omega (arith, pop-deep h x pop faultless, ap length held.keeps, follows.leveled k) in
     let stepped = follows.goes_on front rest x e held.rests deep in
     record {
-      in_force = ap (λ f. cond (is_pop x) (restored f (last_force f h.kept)) (next_force f x)) held.in_force
-          ∙ ap (λ l. cond (is_pop x) (restored (force k) (last_force (force k) l)) (next_force (force k) x)) held.keeps ∙ sym stepped.in_force_next;
+      in_force = ap (λ r. cond (is_pop x) (brought_back r h.force (last_force h.force h.kept)) (next_force h.force x)) reads
+          ∙ ap (λ f. cond (is_pop x) (brought_back keeping f (last_force f h.kept)) (next_force f x)) held.in_force
+          ∙ ap (λ l. cond (is_pop x) (brought_back keeping (force k) (last_force (force k) l)) (next_force (force k) x)) held.keeps ∙ sym stepped.in_force_next;
       rests = stepped.rests_next;
-      keeps = ap (λ l. cond (is_pop x) (take (length l - 1) l) (cond (is_push x) (l ++ h.force ∷ []) l)) held.keeps
-          ∙ ap (λ f. cond (is_pop x) (take (length (kept k) - 1) (kept k)) (cond (is_push x) (kept k ++ f ∷ []) (kept k))) held.in_force ∙ sym stepped.kept_next;
-      listed = λ d. in_direction restored d h x ∙ sym (listed-next force kept items front rest h x d e held);
+      keeps = ap (λ r. cond (is_pop x) (take (length h.kept - 1) h.kept) (cond (is_push x) (h.kept ++ kept_of r h.force ∷ []) h.kept)) reads
+          ∙ ap (λ l. cond (is_pop x) (take (length l - 1) l) (cond (is_push x) (l ++ kept_of keeping h.force ∷ []) l)) held.keeps
+          ∙ ap (λ f. cond (is_pop x) (take (length (kept k) - 1) (kept k)) (cond (is_push x) (kept k ++ kept_of keeping f ∷ []) (kept k))) held.in_force ∙ sym stepped.kept_next;
+      listed = λ d. in_direction d h x ∙ sym (listed-next force kept items front rest h x d e held);
       first = λ d. first-by (goes d (data_of x) && is_some (extent (force (length front)))) force kept items front rest h x d e held refl
-          ∙ ap first_id (listed-next force kept items front rest h x d e held ∙ sym (in_direction restored d h x));
+          ∙ ap first_id (listed-next force kept items front rest h x d e held ∙ sym (in_direction d h x));
       numbered = sym (numbered-next force kept items front rest h x e held);
       stands = opened.stands;
       inside = opened.inside;
@@ -323,15 +326,15 @@ holds-next restored force kept items front rest h x follows e held faultless =
     }
 
 -- the fault of the item, and what the rest gives where it has none
-walked-by : (o : Option MeaningFault) (restored : Restoring) (force : ℕ → Force) (items : List ItemType) (k : ℕ) (h : Held) (x : ItemType) (xs : List ItemType) (all : DescriptorRecord)
+walked-by : (o : Option MeaningFault) (force : ℕ → Force) (items : List ItemType) (k : ℕ) (h : Held) (x : ItemType) (xs : List ItemType) (all : DescriptorRecord)
     → fault force items k x ≡ fault_in h x → fault_in h x ≡ o
-    → (fault_in h x ≡ None → walk_by restored (next_held_by restored h x) (k + 1) xs ≡ unless_first (first_fault force items (enumerate_from (k + 1) xs)) all)
-    → walk_by restored h k (x ∷ xs) ≡ unless_first (first_fault force items (enumerate_from k (x ∷ xs))) all
-walked-by None restored force items k h x xs all same e rest =
-    ap (λ f. go_on (unless_fault f (next_held_by restored h x)) k (λ next. walk_by restored next (k + 1) xs)) e ∙ rest e
+    → (fault_in h x ≡ None → walk (next_held h x) (k + 1) xs ≡ unless_first (first_fault force items (enumerate_from (k + 1) xs)) all)
+    → walk h k (x ∷ xs) ≡ unless_first (first_fault force items (enumerate_from k (x ∷ xs))) all
+walked-by None force items k h x xs all same e rest =
+    ap (λ f. go_on (unless_fault f (next_held h x)) k (λ next. walk next (k + 1) xs)) e ∙ rest e
     ∙ sym (ap (λ f. unless_first (fault_here f k (first_fault force items (enumerate_from (k + 1) xs))) all) (same ∙ e))
-walked-by (Some f) restored force items k h x xs all same e rest =
-    ap (λ f. go_on (unless_fault f (next_held_by restored h x)) k (λ next. walk_by restored next (k + 1) xs)) e
+walked-by (Some f) force items k h x xs all same e rest =
+    ap (λ f. go_on (unless_fault f (next_held h x)) k (λ next. walk next (k + 1) xs)) e
     ∙ sym (ap (λ f. unless_first (fault_here f k (first_fault force items (enumerate_from (k + 1) xs))) all) (same ∙ e))
 
 descriptor-of : (r : DescriptorRecord) (i o f : List ReportRecord) → r.input ≡ i → r.output ≡ o → r.feature ≡ f → r ≡ record { input = i; output = o; feature = f }
@@ -342,31 +345,31 @@ descriptor-of r i o f p q s =
 pub at-end : (force : ℕ → Force) (kept : ℕ → List Force) (items : List ItemType) (h : Held) → Holds force kept items (length items) h → h.descriptor ≡ descriptor force items
 at-end force kept items h held = descriptor-of h.descriptor (reports force Input items) (reports force Output items) (reports force Feature items) (held.listed Input) (held.listed Output) (held.listed Feature)
 
-walk-from : (restored : Restoring) (force : ℕ → Force) (kept : ℕ → List Force) (items front rest : List ItemType) (h : Held) → Follows restored force kept items
-    → items ≡ front ++ rest → Holds force kept items (length front) h
-    → walk_by restored h (length front) rest ≡ unless_first (first_fault force items (enumerate_from (length front) rest)) (descriptor force items)
-walk-from restored force kept items front [] h follows e held =
+walk-from : (keeping : Keeping) (force : ℕ → Force) (kept : ℕ → List Force) (items front rest : List ItemType) (h : Held) → Follows keeping force kept items
+    → h.keeping ≡ keeping → items ≡ front ++ rest → Holds force kept items (length front) h
+    → walk h (length front) rest ≡ unless_first (first_fault force items (enumerate_from (length front) rest)) (descriptor force items)
+walk-from keeping force kept items front [] h follows reads e held =
     let whole : items ≡ front = e ∙ append-nil front in
     ap Ok (at-end force kept items h (subst (λ n. Holds force kept items n h) (ap length (sym whole)) held))
-walk-from restored force kept items front (x ∷ xs) h follows e held =
+walk-from keeping force kept items front (x ∷ xs) h follows reads e held =
     let k = length front in
     let more : items ≡ (front ++ x ∷ []) ++ xs = e ∙ sym (append_assoc front (x ∷ []) xs) in
     let size : length (front ++ x ∷ []) ≡ suc k = grind (arith, common_steps) in
     let size_one : length (front ++ x ∷ []) ≡ k + 1 = size ∙ sym (add-one k) in
-    walked-by (fault_in h x) restored force items k h x xs (descriptor force items) (fault-held force kept items k h x follows.leveled held) refl
+    walked-by (fault_in h x) force items k h x xs (descriptor force items) (fault-held force kept items k h x follows.leveled held) refl
     (λ faultless.
-    let next : Holds force kept items (length (front ++ x ∷ [])) (next_held_by restored h x) =
-    subst (λ n. Holds force kept items n (next_held_by restored h x)) (sym size) (holds-next restored force kept items front xs h x follows e held faultless) in
-    subst (λ n. walk_by restored (next_held_by restored h x) n xs ≡ unless_first (first_fault force items (enumerate_from n xs)) (descriptor force items)) size_one
-    (walk-from restored force kept items (front ++ x ∷ []) xs (next_held_by restored h x) follows more next))
+    let next : Holds force kept items (length (front ++ x ∷ [])) (next_held h x) =
+    subst (λ n. Holds force kept items n (next_held h x)) (sym size) (holds-next keeping force kept items front xs h x follows reads e held faultless) in
+    subst (λ n. walk (next_held h x) n xs ≡ unless_first (first_fault force items (enumerate_from n xs)) (descriptor force items)) size_one
+    (walk-from keeping force kept items (front ++ x ∷ []) xs (next_held h x) follows reads more next))
 
-pub holds-nothing : (restored : Restoring) (force : ℕ → Force) (kept : ℕ → List Force) (items : List ItemType) → Follows restored force kept items → Holds force kept items 0 nothing_held
-holds-nothing restored force kept items follows = record {
+pub holds-nothing : (keeping : Keeping) (force : ℕ → Force) (kept : ℕ → List Force) (items : List ItemType) → Follows keeping force kept items → Holds force kept items 0 (nothing_held keeping)
+holds-nothing keeping force kept items follows = record {
   in_force = follows.begins;
   rests = rests-nothing items;
   keeps = follows.empty;
-  listed = λ d. elim d as (λ d. reports_in d nothing_held.descriptor ≡ reports_before force d items 0) [ Input ↦ refl | Output ↦ refl | Feature ↦ refl ];
-  first = λ d. elim d as (λ d. first_report_id force (makers force d items 0) ≡ first_id (reports_in d nothing_held.descriptor)) [ Input ↦ refl | Output ↦ refl | Feature ↦ refl ];
+  listed = λ d. elim d as (λ d. reports_in d (nothing_held keeping).descriptor ≡ reports_before force d items 0) [ Input ↦ refl | Output ↦ refl | Feature ↦ refl ];
+  first = λ d. elim d as (λ d. first_report_id force (makers force d items 0) ≡ first_id (reports_in d (nothing_held keeping).descriptor)) [ Input ↦ refl | Output ↦ refl | Feature ↦ refl ];
   numbered = refl;
   stands = stands-nothing items;
   inside = refl;
@@ -374,7 +377,7 @@ holds-nothing restored force kept items follows = record {
 }
 
 -- the walk gives the meaning, by each reading that it follows
-pub walk-follows : (restored : Restoring) (reading : PushReading) (kept : ℕ → List Force) (items : List ItemType) → Follows restored (reading items) kept items
-    → walk_by restored nothing_held 0 items ≡ meaning_by reading items
-walk-follows restored reading kept items follows =
-    walk-from restored (reading items) kept items [] items nothing_held follows refl (holds-nothing restored (reading items) kept items follows)
+pub walk-follows : (keeping : Keeping) (reading : PushReading) (kept : ℕ → List Force) (items : List ItemType) → Follows keeping (reading items) kept items
+    → walk (nothing_held keeping) 0 items ≡ meaning_by reading items
+walk-follows keeping reading kept items follows =
+    walk-from keeping (reading items) kept items [] items (nothing_held keeping) follows refl refl (holds-nothing keeping (reading items) kept items follows)

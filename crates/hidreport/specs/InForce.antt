@@ -5,7 +5,7 @@ use Rattle.std.specs.List.{list_any}
 use Rattle.hidreport_items.specs.declared.item.ItemType.{ItemType}
 use Rattle.hidreport_items.specs.declared.local.LocalItem.{LocalItem}
 use Rattle.hidreport.specs.Kinds.{Indexed, is_main, local_of, usage_page_of, logical_minimum_of, logical_maximum_of, physical_minimum_of, physical_maximum_of, unit_exponent_of, unit_of, report_size_of, report_id_of, report_count_of}
-use Rattle.hidreport.specs.Visibility.{visible}
+use Rattle.hidreport.specs.Visibility.{before, visible}
 
 -- the first of two values that is there
 abbrev pub first_of : {A : Type 0} → Option A → Option A → Option A
@@ -29,6 +29,10 @@ global tag items k = last_value tag (visible items k)
 -- the local items at k: no visible main item stands between them and k
 abbrev pub locals : List ItemType → ℕ → List LocalItem
 locals items k = unended_locals (visible items k)
+
+-- the same where a Push is of globals alone: no main item stands between them and k, whatever Push and Pop do
+abbrev pub locals_globals_only : List ItemType → ℕ → List LocalItem
+locals_globals_only items k = unended_locals (before items k)
 
 -- all that is in force at an index
 pub record Force : Type 0 where
@@ -59,3 +63,7 @@ force items k = record {
   report_count = global report_count_of items k;
   locals = locals items k;
 }
+
+-- what is in force at k where a Push is of globals alone
+abbrev pub force_globals_only : List ItemType → ℕ → Force
+force_globals_only items k = record (force items k) { locals = locals_globals_only items k }

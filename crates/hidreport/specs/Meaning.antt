@@ -10,7 +10,7 @@ use Rattle.hidreport_lists.specs.Itemising.{itemise}
 use Rattle.hidreport_lists.specs.Messages.{grammar_message}
 use Rattle.hidreport.specs.Faults.{fault}
 use Rattle.hidreport.specs.Fields.{fields_at}
-use Rattle.hidreport.specs.InForce.{Force, force}
+use Rattle.hidreport.specs.InForce.{Force, force, force_globals_only}
 use Rattle.hidreport.specs.Kinds.{Indexed, Direction, Input, Output, Feature}
 use Rattle.hidreport.specs.Making.{key, makers, makers_of, same_key}
 use Rattle.hidreport.specs.MeaningFault.{MeaningFault, PastBudget, text}
@@ -77,6 +77,10 @@ meaning_by reading items = unless_first
 abbrev pub meaning : List ItemType → Result DescriptorRecord (ℕ × MeaningFault)
 meaning = meaning_by force
 
+-- the same where Push keeps globals alone
+abbrev pub meaning_globals_only : List ItemType → Result DescriptorRecord (ℕ × MeaningFault)
+meaning_globals_only = meaning_by force_globals_only
+
 -- the offset of the entry at an index
 abbrev pub offset_at : List Entry → ℕ → ℕ
 offset_at entries k = unwrap_or (option_map (λ e. e.offset) (slice_get entries k)) 0
@@ -114,3 +118,7 @@ parse_by reading (b ∷ bs) = parse_items reading (itemise item_of (b ∷ bs))
 -- the same where Push keeps globals and locals
 abbrev pub parse : List ℕ → Result DescriptorRecord Refusal
 parse = parse_by force
+
+-- the same where Push keeps globals alone
+abbrev pub parse_globals_only : List ℕ → Result DescriptorRecord Refusal
+parse_globals_only = parse_by force_globals_only

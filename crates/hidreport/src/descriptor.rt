@@ -7,18 +7,19 @@ ghost use Rattle.hidreport_lists.specs.Itemising.{itemise, Itemises};
 ghost use Rattle.hidreport_lists.specs.Rebuilt.{items_of, kept, rebuilt, respelled};
 ghost use Rattle.hidreport.specs.Budget.{parse_within};
 ghost use Rattle.hidreport.specs.Lookup.{find_report};
-ghost use Rattle.hidreport.specs.Meaning.{at_offset, meaning, parse};
+ghost use Rattle.hidreport.specs.Meaning.{at_offset, meaning, meaning_globals_only, parse, parse_globals_only};
 ghost use Rattle.hidreport.specs.Reading.{reads};
 ghost use Rattle.hidreport.specs.Records.{FieldRecord};
-ghost use Rattle.hidreport.specs.Segments.{IsMatched, moved, with_segment};
+ghost use Rattle.hidreport.specs.Segments.{HasNoLocal, HasNoPush, IsMatched, moved, with_segment};
 ghost use Rattle.hidreport.specs.Tiling.{Each, IsTiled};
 ghost use Rattle.hidreport.specs.Weight.{descriptor_weight};
 
 use crate::field::data_item::Direction;
 use crate::parser;
+use crate::parser::keeping::Keeping;
 use crate::report::RDescReport;
 use crate::report::reports::{Reports, find_report};
-use hidreport_lists::{ParserError, ReportDescriptorItems};
+use hidreport_lists::ParserError;
 use std::alloc::Global;
 use std::marker::Model;
 
@@ -48,7 +49,9 @@ impl ReportDescriptor {
         }
     }
 
-    /// The reports that the bytes of a report descriptor announce (Section 6.2.2).
+    /// The reports that the bytes of a report descriptor announce (Section 6.2.2). A Push keeps
+    /// local items with the values of global ones, as the Rust crate has it; for values of global
+    /// items alone, as hosts have it, see `try_from_globals_only`.
     ///
     /// Refused are, the first of these that there is: no bytes at all, `InvalidData` at 0,
     /// `Empty report descriptor`; an item that can't be read, as `ReportDescriptorItems::try_from`
@@ -88,11 +91,7 @@ impl ReportDescriptor {
             (meaning (items_of (kept entries))) }
         ensures tiled { IfOk result (λ descriptor. IsTiled descriptor) }
     {
-        if bytes.is_empty() {
-            return Err(parser::empty_descriptor(alloc));
-        }
-        let items = ReportDescriptorItems::try_from(alloc, bytes)?;
-        let reports = parser::reports_of(alloc, items.as_slice(), None)?;
+        let reports = parser::parse(alloc, bytes, Keeping::All, None)?;
         Ok(ReportDescriptor { reports })
     }
 
@@ -117,11 +116,43 @@ impl ReportDescriptor {
         ensures plain { IfOk result (λ descriptor. parse bytes.now ≡ Ok descriptor) }
         ensures tiled { IfOk result (λ descriptor. IsTiled descriptor) }
     {
-        if bytes.is_empty() {
-            return Err(parser::empty_descriptor(alloc));
-        }
-        let entries = ReportDescriptorItems::try_from(alloc, bytes)?;
-        let reports = parser::reports_of(alloc, entries.as_slice(), Some(limit))?;
+        let reports = parser::parse(alloc, bytes, Keeping::All, Some(limit))?;
+        Ok(ReportDescriptor { reports })
+    }
+
+    /// The reports where a Push keeps the values of global items alone, and locals go on through
+    /// Push and Pop: Section 6.2.2.7 speaks of the global item state table, and Linux and Chromium
+    /// read it so.
+    ///
+    /// Refused is what `try_from` refuses, with its messages and in its order, over what is in
+    /// force by this reading. Where there is no Push the two agree (`agree`). A Push, items without
+    /// a main item and without a local item in which each Push has its Pop, and the Pop of that
+    /// Push change nothing (`struck`). What `try_from` says of kept items and of the bytes that
+    /// `hid::rebuild` writes for them, of fields and of ids, holds here, too (`kept`, `rebuilt`,
+    /// `tiled`).
+    pub fn try_from_globals_only(
+        alloc: Global,
+        bytes: &[u8],
+    ) -> Result<ReportDescriptor, ParserError>
+        ensures exact { Answers result (parse_globals_only bytes.now) }
+        ensures agree { (entries : List Entry) → itemise item_of bytes.now ≡ Ok entries
+            → HasNoPush (items_of entries) → parse_globals_only bytes.now ≡ parse bytes.now }
+        ensures struck { (entries : List Entry) (front inside rest : List ItemType)
+            → itemise item_of bytes.now ≡ Ok entries → IsMatched inside → HasNoLocal inside
+            → map (λ (e : Entry). e.item) entries ≡ with_segment front inside rest
+            → Answers result (at_offset entries
+            (moved (length front) (length inside + 2) (meaning_globals_only (front ++ rest)))) }
+        ensures kept { (entries : List Entry) → Itemises item_of bytes.now entries
+            → Answers result
+            (at_offset (kept entries) (meaning_globals_only (items_of (kept entries)))) }
+        ensures rebuilt { (entries : List Entry) → Itemises item_of bytes.now entries
+            → rebuilt entries ≢ []
+            → parse_globals_only (rebuilt entries)
+            ≡ at_offset (respelled 0 (items_of (kept entries)))
+            (meaning_globals_only (items_of (kept entries))) }
+        ensures tiled { IfOk result (λ descriptor. IsTiled descriptor) }
+    {
+        let reports = parser::parse(alloc, bytes, Keeping::Globals, None)?;
         Ok(ReportDescriptor { reports })
     }
 
@@ -150,7 +181,7 @@ impl ReportDescriptor {
     /// else the one with the first byte as its id. `None` where there is none, or no bytes.
     ///
     /// No field of the report answers `MismatchingReportId` on these bytes, for a descriptor that
-    /// was read or is empty (`own`, by `tiled` of `try_from` and of `empty`).
+    /// was read or is empty (`own`, by `tiled` of the calls that read it and of `empty`).
     pub fn find_input_report(&self, bytes: &[u8]) -> Option<&RDescReport>
         ensures found { option_copied result ≡ find_report self.now.input bytes.now }
         ensures own { IsTiled self.now → IfSome (option_copied result) (λ report.

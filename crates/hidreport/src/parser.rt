@@ -3,7 +3,7 @@ ghost use Rattle.std.specs.Prelude.{◌≡◌, map};
 ghost use Rattle.hidreport_lists.specs.Answer.{Answers, InvalidAt};
 ghost use Rattle.hidreport_lists.specs.Entry.{Entry};
 ghost use Rattle.hidreport.specs.Meaning.{at_offset, empty_descriptor};
-ghost use Rattle.hidreport.specs.Parser.Budget.{walk_within};
+ghost use Rattle.hidreport.specs.Parser.Budget.{walk_bytes, walk_within};
 ghost use Rattle.hidreport.specs.Parser.Machine.{nothing_held};
 ghost use Rattle.hidreport.specs.Parser.Refusals.{IsRefusal};
 
@@ -12,6 +12,7 @@ mod fault;
 mod globals;
 mod in_force;
 mod journal;
+pub(crate) mod keeping;
 mod layout;
 mod open_collection;
 mod open_collections;
@@ -23,28 +24,48 @@ mod usages;
 use crate::report::reports::Reports;
 use budget::Budget;
 use fault::invalid_data;
-use hidreport_lists::{Item, ParserError, ReportDescriptorItem};
+use hidreport_lists::{Item, ParserError, ReportDescriptorItem, ReportDescriptorItems};
+use keeping::Keeping;
 use state::State;
 use std::alloc::Global;
 
+/// The reports that the bytes of a descriptor announce where a Push keeps this, and where listing
+/// them weighs no more than the limit, if any.
+pub(crate) fn parse(
+    alloc: Global,
+    bytes: &[u8],
+    keeping: Keeping,
+    limit: Option<usize>,
+) -> Result<Reports, ParserError>
+    ensures { Answers result (walk_bytes keeping limit bytes.now) }
+{
+    if bytes.is_empty() {
+        return Err(empty_descriptor(alloc));
+    }
+    let items = ReportDescriptorItems::try_from(alloc, bytes)?;
+    reports_of(alloc, items.as_slice(), keeping, limit)
+}
+
 /// The refusal of no bytes at all.
-pub(crate) fn empty_descriptor(alloc: Global) -> ParserError
+fn empty_descriptor(alloc: Global) -> ParserError
     ensures { IsRefusal result (InvalidAt 0 empty_descriptor) }
 {
     invalid_data(alloc, 0, "Empty report descriptor")
 }
 
-/// The reports that the items announce, where listing them weighs no more than the limit, if any.
-pub(crate) fn reports_of(
+/// The reports that the items announce where a Push keeps this, and where listing them weighs no
+/// more than the limit, if any.
+fn reports_of(
     alloc: Global,
     items: &[ReportDescriptorItem],
+    keeping: Keeping,
     limit: Option<usize>,
 ) -> Result<Reports, ParserError>
     ensures { Answers result
         (at_offset items.now
-        (walk_within limit nothing_held 0 (map (λ (e : Entry). e.item) items.now))) }
+        (walk_within limit (nothing_held keeping) 0 (map (λ (e : Entry). e.item) items.now))) }
 {
-    let mut state = State::new(alloc);
+    let mut state = State::new(alloc, keeping);
     let mut budget = Budget::new(limit);
     for entry in items {
         match state.take(alloc, &mut budget, entry.item().item_type()) {

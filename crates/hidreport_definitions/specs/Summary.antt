@@ -6,7 +6,7 @@ use Rattle.hidreport.specs.GlobalItem.TheVariants as global
 use Rattle.hidreport.specs.InForce.{Force, force}
 use Rattle.hidreport.specs.ItemType.TheVariants as item
 use Rattle.hidreport.specs.Lookup.{find_report}
-use Rattle.hidreport.specs.Meaning.{parse}
+use Rattle.hidreport.specs.Meaning.{parse, parse_globals_only}
 use Rattle.hidreport.specs.Reading.{ValueRecord, reads}
 use Rattle.hidreport.specs.Records.{Attributes, CollectionRecord, FieldPlace, FieldRecord, VariableRecord, ArrayRecord, ConstantRecord, ReportRecord, DescriptorRecord}
 use Rattle.hidreport.specs.UsageNumber.{usage_number}
@@ -49,6 +49,10 @@ announced_by text = parse (hex text)
 -- the same in short
 abbrev pub summary : List ℕ → Result DescriptorSummary Refusal
 summary text = in_short (announced_by text)
+
+-- the same in short, where a Push keeps globals alone
+abbrev pub globals_summary : List ℕ → Result DescriptorSummary Refusal
+globals_summary text = in_short (parse_globals_only (hex text))
 
 -- input reports alone
 abbrev pub inputs : List ReportSummary → Result DescriptorSummary Refusal

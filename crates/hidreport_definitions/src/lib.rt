@@ -7,6 +7,7 @@ pub mod budgets;
 pub mod collections;
 pub mod faults;
 pub mod items;
+pub mod keeping;
 pub mod laws;
 pub mod mouse_reports;
 pub mod places;

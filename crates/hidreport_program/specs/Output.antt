@@ -9,12 +9,12 @@ use Rattle.hidreport_lists.specs.declared.error.ParserError.{ParserError}
 use Rattle.hidreport_lists.specs.declared.error.ParserError.TheVariants as errors
 use Rattle.hidreport.specs.Budget.{parse_within}
 use Rattle.hidreport.specs.Lookup.{find_report}
-use Rattle.hidreport.specs.Meaning.{parse}
+use Rattle.hidreport.specs.Meaning.{parse, parse_globals_only}
 use Rattle.hidreport.specs.Records.{ReportRecord, DescriptorRecord}
 use Rattle.hidreport_program.specs.ItemLines.{items_text}
 use Rattle.hidreport_program.specs.Lines.{line_of_field, report_line, refusal_line, no_report_line, rebuilt_line}
 use Rattle.hidreport_program.specs.declared.program.commands.Command.{Command}
-use Rattle.hidreport_program.specs.declared.program.commands.Command.TheVariants.{Items, Values, ValuesWithin, Rebuild}
+use Rattle.hidreport_program.specs.declared.program.commands.Command.TheVariants.{Items, Values, ValuesWithin, ValuesGlobals, Rebuild}
 use Rattle.hidreport_program.specs.declared.program.ending.Outcome.{Outcome}
 use Rattle.hidreport_program.specs.declared.program.ending.Outcome.TheVariants.{Done, Refused}
 
@@ -52,6 +52,7 @@ output Items descriptor bytes = items_output (as_refusal (itemise item_of descri
 output Values descriptor bytes = values_output (parse descriptor) bytes
 output (ValuesWithin limit) descriptor bytes =
     values_output (parse_within limit descriptor) bytes
+output ValuesGlobals descriptor bytes = values_output (parse_globals_only descriptor) bytes
 output Rebuild descriptor bytes =
     rebuild_output (as_refusal (rebuilding (itemise item_of descriptor)))
 

@@ -58,7 +58,7 @@ const SECOND_FEATURES: &[WantedField] = &[
     WantedField(Constant, 17, 13, 16, &[]),
 ];
 
-static WANTED_MOUSE: Wanted = Reports(
+pub(crate) static WANTED_MOUSE: Wanted = Reports(
     &[
         WantedReport(Some(0x1a), 80, 10, FIRST_INPUTS),
         WantedReport(Some(0x1f), 24, 3, SECOND_INPUTS),

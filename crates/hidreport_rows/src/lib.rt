@@ -13,6 +13,8 @@ mod copies;
 #[cfg(test)]
 mod descriptors;
 #[cfg(test)]
+mod keeping;
+#[cfg(test)]
 mod lookups;
 #[cfg(test)]
 mod memory;

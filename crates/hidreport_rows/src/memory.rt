@@ -4,7 +4,10 @@
 mod descriptors;
 mod items;
 
-use descriptors::{DESCRIPTORS, descriptor_is_answered, fields_are_copied, values_are_read};
+use descriptors::{
+    DESCRIPTORS, OF_GLOBALS, descriptor_is_answered, fields_are_copied,
+    globals_descriptor_is_answered, values_are_read,
+};
 use hidreport::ParserError;
 use hidreport::hid::HidError;
 use items::{
@@ -75,6 +78,13 @@ pub(crate) fn count_refused<R: Abort>(rt: &R, alloc: Global) -> usize {
     }
     for (bytes, wanted) in &DESCRIPTORS {
         refused = count(rt, refused, descriptor_is_answered(alloc, bytes, *wanted));
+    }
+    for (bytes, wanted) in &OF_GLOBALS {
+        refused = count(
+            rt,
+            refused,
+            globals_descriptor_is_answered(alloc, bytes, *wanted),
+        );
     }
     refused = count(rt, refused, fields_are_copied(alloc));
     refused = count(rt, refused, values_are_read(alloc));

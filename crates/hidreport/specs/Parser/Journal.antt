@@ -3,7 +3,10 @@ use Rattle.std.specs.Prelude.{ℕ, ◌≤◌, List, [], ◌∷◌, length, take}
 use Rattle.hidreport_items.specs.declared.local.LocalItem.{LocalItem}
 use Rattle.hidreport.specs.InForce.{Force}
 use Rattle.hidreport.specs.Parser.Forces.{force_of}
+use Rattle.hidreport.specs.Parser.Machine.{kept_of}
 use Rattle.hidreport.specs.declared.parser.globals.Globals.{Globals}
+use Rattle.hidreport.specs.declared.parser.keeping.Keeping.{Keeping}
+use Rattle.hidreport.specs.declared.parser.keeping.Keeping.TheVariants as keepings
 use Rattle.hidreport.specs.declared.parser.journal.Entry.{Entry}
 use Rattle.hidreport.specs.declared.parser.journal.Entry.TheVariants as entries
 
@@ -24,17 +27,22 @@ abbrev pub noted : Change → List Change → List Change
 noted change [] = []
 noted change (c ∷ cs) = change ∷ c ∷ cs
 
--- what was in force at each open Push, innermost first: from these globals and locals back
-abbrev pub undone : List Change → Globals → List LocalItem → List Force
-undone [] globals locals = []
-undone (Opened count ∷ cs) globals locals =
-    force_of globals (take count locals) ∷ undone cs globals (take count locals)
-undone (WasGlobals old ∷ cs) globals locals = undone cs old locals
-undone (WasLocals old ∷ cs) globals locals = undone cs globals old
+-- what each open Push keeps, innermost first: of what was in force there, from these globals and locals back
+abbrev pub undone : Keeping → List Change → Globals → List LocalItem → List Force
+undone keeping [] globals locals = []
+undone keeping (Opened count ∷ cs) globals locals =
+    kept_of keeping (force_of globals (take count locals)) ∷ undone keeping cs globals (take count locals)
+undone keeping (WasGlobals old ∷ cs) globals locals = undone keeping cs old locals
+undone keeping (WasLocals old ∷ cs) globals locals = undone keeping cs globals old
 
 -- no Push counted more locals than there are
-abbrev pub Fits : List Change → List LocalItem → Type 0
-Fits [] locals = Unit {0}
-Fits (Opened count ∷ cs) locals = (count ≤ length locals) × Fits cs (take count locals)
-Fits (WasGlobals old ∷ cs) locals = Fits cs locals
-Fits (WasLocals old ∷ cs) locals = Fits cs old
+abbrev pub IsCounted : List Change → List LocalItem → Type 0
+IsCounted [] locals = Unit {0}
+IsCounted (Opened count ∷ cs) locals = (count ≤ length locals) × IsCounted cs (take count locals)
+IsCounted (WasGlobals old ∷ cs) locals = IsCounted cs locals
+IsCounted (WasLocals old ∷ cs) locals = IsCounted cs old
+
+-- the same, where Pushes keep locals
+abbrev pub Fits : Keeping → List Change → List LocalItem → Type 0
+Fits keepings.All cs locals = IsCounted cs locals
+Fits keepings.Globals cs locals = Unit {0}

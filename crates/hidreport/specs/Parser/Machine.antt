@@ -13,6 +13,8 @@ use Rattle.hidreport.specs.MeaningFault.{MeaningFault}
 use Rattle.hidreport.specs.Places.{id_bits, bits_of}
 use Rattle.hidreport.specs.Records.{CollectionRecord, FieldRecord, ReportRecord, DescriptorRecord}
 use Rattle.hidreport.specs.Usages.{usages_of}
+use Rattle.hidreport.specs.declared.parser.keeping.Keeping.{Keeping}
+use Rattle.hidreport.specs.declared.parser.keeping.Keeping.TheVariants as keepings
 use Rattle.hidreport.specs.Kinds.{Indexed, Direction, Input, Output, Feature, data_of, goes, is_main, is_push, is_pop, is_end_collection, collection_of, local_of, usage_page_of, logical_minimum_of, logical_maximum_of, physical_minimum_of, physical_maximum_of, unit_exponent_of, unit_of, report_size_of, report_id_of, report_count_of}
 
 -- a main item ends the locals, a local item is added to them
@@ -71,9 +73,10 @@ added_to id bits fields (r ∷ rs) =
     if same_key r.id id then record { id = r.id; size = r.size + bits; fields = r.fields ++ fields } ∷ rs
     else r ∷ added_to id bits fields rs
 
--- what is held between two items: what is in force, what the open Pushes keep, outermost first, the reports so far
--- and how many fields they have, the open collections, outermost first, and how many were opened
+-- what is held between two items: what a Push keeps, what is in force, what the open Pushes keep, outermost first, the
+-- reports so far and how many fields they have, the open collections, outermost first, and how many were opened
 pub record Held : Type 0 where
+  pub keeping : Keeping
   pub force : Force
   pub kept : List Force
   pub descriptor : DescriptorRecord
@@ -146,29 +149,32 @@ abbrev pub last_force : Force → List Force → Force
 last_force f [] = f
 last_force f (g ∷ gs) = last_force g gs
 
--- what a Pop brings back, from what is in force there and what its Push kept
-abbrev pub Restoring : Type 0
-Restoring = Force → Force → Force
+-- what a Push keeps of what is in force
+abbrev pub kept_of : Keeping → Force → Force
+kept_of keepings.All now = now
+kept_of keepings.Globals now = record now { locals = [] }
 
--- all that the Push kept
-abbrev pub all_kept : Restoring
-all_kept now kept = kept
+-- what a Pop brings back, from what is in force there and what its Push kept
+abbrev pub brought_back : Keeping → Force → Force → Force
+brought_back keepings.All now kept = kept
+brought_back keepings.Globals now kept = record kept { locals = now.locals }
 
 -- what is in force behind the item
-abbrev pub held_force : Restoring → Held → ItemType → Force
-held_force restored h x =
-    if is_pop x then restored h.force (last_force h.force h.kept) else next_force h.force x
+abbrev pub held_force : Held → ItemType → Force
+held_force h x =
+    if is_pop x then brought_back h.keeping h.force (last_force h.force h.kept) else next_force h.force x
 
 -- what the open Pushes keep behind the item
 abbrev pub next_kept : Held → ItemType → List Force
 next_kept h x =
     if is_pop x then take (length h.kept - 1) h.kept
-    else (if is_push x then h.kept ++ h.force ∷ [] else h.kept)
+    else (if is_push x then h.kept ++ kept_of h.keeping h.force ∷ [] else h.kept)
 
 -- what is held behind an item without a fault
-abbrev pub next_held_by : Restoring → Held → ItemType → Held
-next_held_by restored h x = record {
-  force = held_force restored h x;
+abbrev pub next_held : Held → ItemType → Held
+next_held h x = record {
+  keeping = h.keeping;
+  force = held_force h x;
   kept = next_kept h x;
   descriptor = record {
     input = next_reports Input h x;
@@ -189,25 +195,30 @@ abbrev pub fault_in : Held → ItemType → Option MeaningFault
 fault_in h x = item_fault (counts_in h x) h.force x
 
 -- one item further, or its fault
-abbrev pub step_by : Restoring → Held → ItemType → Result Held MeaningFault
-step_by restored h x = unless_fault (fault_in h x) (next_held_by restored h x)
+abbrev pub step : Held → ItemType → Result Held MeaningFault
+step h x = unless_fault (fault_in h x) (next_held h x)
 
--- before the first item
-abbrev pub nothing_held : Held
-nothing_held = record {
-  force = record {
-    usage_page = None;
-    logical_minimum = None;
-    logical_maximum = None;
-    physical_minimum = None;
-    physical_maximum = None;
-    unit_exponent = None;
-    unit = None;
-    report_size = None;
-    report_id = None;
-    report_count = None;
-    locals = [];
-  };
+-- before the first item nothing is in force
+abbrev pub nothing_in_force : Force
+nothing_in_force = record {
+  usage_page = None;
+  logical_minimum = None;
+  logical_maximum = None;
+  physical_minimum = None;
+  physical_maximum = None;
+  unit_exponent = None;
+  unit = None;
+  report_size = None;
+  report_id = None;
+  report_count = None;
+  locals = [];
+}
+
+-- nor is anything kept, made or open
+abbrev pub nothing_held : Keeping → Held
+nothing_held keeping = record {
+  keeping = keeping;
+  force = nothing_in_force;
   kept = [];
   descriptor = record { input = []; output = []; feature = [] };
   fields = 0;
@@ -221,17 +232,6 @@ go_on (Ok h) k rest = rest h
 go_on (Err f) k rest = Err (k, f)
 
 -- the walk over the items from index k on
-abbrev pub walk_by : Restoring → Held → ℕ → List ItemType → Result DescriptorRecord (ℕ × MeaningFault)
-walk_by restored h k [] = Ok h.descriptor
-walk_by restored h k (x ∷ xs) =
-    go_on (step_by restored h x) k (λ next. walk_by restored next (k + 1) xs)
-
--- the same where a Pop brings back all that its Push kept
-abbrev pub next_held : Held → ItemType → Held
-next_held = next_held_by all_kept
-
-abbrev pub step : Held → ItemType → Result Held MeaningFault
-step = step_by all_kept
-
 abbrev pub walk : Held → ℕ → List ItemType → Result DescriptorRecord (ℕ × MeaningFault)
-walk = walk_by all_kept
+walk h k [] = Ok h.descriptor
+walk h k (x ∷ xs) = go_on (step h x) k (λ next. walk next (k + 1) xs)

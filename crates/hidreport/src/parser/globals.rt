@@ -26,11 +26,11 @@ impl Globals {
     ghost use Rattle.hidreport_items.specs.declared.local.LocalItem.{LocalItem};
     ghost use Rattle.hidreport_items.specs.declared.item.ItemType.TheVariants as items;
     ghost use Rattle.hidreport.specs.Parser.Forces.{force_of};
-    ghost use Rattle.hidreport.specs.Parser.Machine.{next_force, nothing_held};
+    ghost use Rattle.hidreport.specs.Parser.Machine.{next_force, nothing_in_force};
 
     /// Nothing is set.
     pub(crate) fn new() -> Globals
-        ensures { force_of result [] ≡ nothing_held.force }
+        ensures { force_of result [] ≡ nothing_in_force }
     {
         Globals {
             usage_page: None,

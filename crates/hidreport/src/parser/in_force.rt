@@ -1,5 +1,6 @@
 use crate::parser::globals::Globals;
 use crate::parser::journal::{Entry, Journal};
+use crate::parser::keeping::Keeping;
 use hidreport_items::{GlobalItem, LocalItem};
 use std::alloc::{AllocError, Global};
 use std::marker::Model;
@@ -9,6 +10,7 @@ use std::marker::Model;
 /// replaced inside open Pushes.
 #[derive(Drop)]
 pub(crate) struct InForce {
+    keeping: Keeping,
     globals: Globals,
     locals: Vec<LocalItem>,
     journal: Journal,
@@ -22,24 +24,26 @@ impl Model for InForce {
     ghost Value = { Forces };
 
     ghost view = { λ f. record {
+      keeping = f.keeping;
       now = force_of f.globals f.locals.items;
-      kept = reverse (undone f.journal f.globals f.locals.items);
+      kept = reverse (undone f.keeping f.journal f.globals f.locals.items);
     } };
 
-    ghost invariant = { λ f. Fits f.journal f.locals.items };
+    ghost invariant = { λ f. Fits f.keeping f.journal f.locals.items };
 }
 
 impl InForce {
     ghost use Rattle.std.specs.Prelude.{◌≡◌, ◌-◌, ◌<◌, [], ◌∷◌, ◌++◌, true, false, length, take, OnOk};
     ghost use Rattle.hidreport_items.specs.declared.item.ItemType.TheVariants as items;
     ghost use Rattle.hidreport.specs.Parser.Forces.{force_of};
-    ghost use Rattle.hidreport.specs.Parser.Machine.{last_force, next_force, nothing_held};
+    ghost use Rattle.hidreport.specs.Parser.Machine.{brought_back, kept_of, last_force, next_force, nothing_in_force};
 
     /// Before the first item.
-    pub(crate) fn new(alloc: Global) -> InForce
-        ensures { result ≡ record { now = nothing_held.force; kept = [] } }
+    pub(crate) fn new(alloc: Global, keeping: Keeping) -> InForce
+        ensures { result ≡ record { keeping = keeping; now = nothing_in_force; kept = [] } }
     {
         InForce {
+            keeping,
             globals: Globals::new(),
             locals: Vec::new(alloc),
             journal: Journal::new(alloc),
@@ -90,30 +94,39 @@ impl InForce {
         self.journal.end_locals(&mut self.locals)
     }
 
-    /// Keeps what is in force for the Pop of a Push.
+    /// Keeps for the Pop of a Push what is in force, of locals and globals or of globals alone.
     pub(crate) fn push(&mut self) -> Result<(), AllocError>
         ensures { OnOk result (self.new ≡ record self.old {
-          kept = self.old.kept ++ self.old.now ∷ [];
+          kept = self.old.kept ++ kept_of self.old.keeping self.old.now ∷ [];
         }) }
     {
         self.journal.push(self.locals.len())
     }
 
-    /// Brings back what the last open Push kept, and answers whether a Push was open.
+    /// Brings back what the last open Push kept, and answers whether a Push was open. Here alone
+    /// it matters what a Push keeps: locals that it doesn't keep go on as they are.
     pub(crate) fn pop(&mut self) -> bool
         ensures open { result ≡ true → 0 < length self.old.kept }
         ensures back { result ≡ true → self.new ≡ record {
-          now = last_force self.old.now self.old.kept;
+          keeping = self.old.keeping;
+          now = brought_back self.old.keeping self.old.now (last_force self.old.now self.old.kept);
           kept = take (length self.old.kept - 1) self.old.kept;
         } }
         ensures none { result ≡ false → self.old.kept ≡ [] }
     {
+        let has_locals = self.keeping.has_locals();
         while let Some(entry) = self.journal.undo() {
             match entry {
                 Entry::Globals(old) => self.globals = old,
-                Entry::Locals(old) => self.locals = old,
+                Entry::Locals(old) => {
+                    if has_locals {
+                        self.locals = old;
+                    }
+                }
                 Entry::Push(locals) => {
-                    self.locals.truncate(locals);
+                    if has_locals {
+                        self.locals.truncate(locals);
+                    }
                     return true;
                 }
             }

@@ -14,12 +14,13 @@ pub(crate) struct Journal {
 /// What one change replaced, or where a Push stands.
 #[derive(Drop)]
 pub(crate) enum Entry {
-    /// A Push, and how many local items were in force there: those that are added behind it are
-    /// cut off again. Its Pop drops it, last of all that it takes back.
+    /// A Push, and how many local items were in force there: where a Push keeps locals, those that
+    /// are added behind it are cut off again. Its Pop drops it, last of all that it takes back.
     Push(usize),
     /// The globals before one of them was set. The Pop brings them back and drops it.
     Globals(Globals),
-    /// The local items that a main item ended, moved here. The Pop moves them back.
+    /// The local items that a main item ended, moved here. The Pop moves them back where a Push
+    /// keeps locals, and drops them else.
     Locals(Vec<LocalItem>),
 }
 

@@ -2,6 +2,7 @@ use crate::field::data_item::DataItem;
 use crate::parser::budget::Budget;
 use crate::parser::fault::Fault;
 use crate::parser::in_force::InForce;
+use crate::parser::keeping::Keeping;
 use crate::parser::open_collections::OpenCollections;
 use crate::parser::usages::usages_of;
 use crate::report::reports::Reports;
@@ -27,6 +28,7 @@ impl Model for State {
     ghost Value = { Held };
 
     ghost view = { λ s. record {
+      keeping = s.in_force.keeping;
       force = s.in_force.now;
       kept = s.in_force.kept;
       descriptor = s.reports;
@@ -44,11 +46,11 @@ impl State {
     ghost use Rattle.hidreport.specs.Parser.DataItem.{collection, end_collection};
 
     /// Before the first item.
-    pub(crate) fn new(alloc: Global) -> State
-        ensures { result ≡ nothing_held }
+    pub(crate) fn new(alloc: Global, keeping: Keeping) -> State
+        ensures { result ≡ nothing_held keeping }
     {
         State {
-            in_force: InForce::new(alloc),
+            in_force: InForce::new(alloc, keeping),
             reports: Reports::new(alloc),
             field_count: 0,
             collections: OpenCollections::new(alloc),

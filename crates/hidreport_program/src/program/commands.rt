@@ -13,6 +13,8 @@ pub enum Command {
     Values,
     /// The same, unless listing the descriptor's fields passes this limit.
     ValuesWithin(usize),
+    /// The same as `Values`, of a descriptor whose Pushes keep globals alone.
+    ValuesGlobals,
     /// The canonical bytes of a descriptor's items.
     Rebuild,
 }
@@ -23,7 +25,7 @@ impl Command {
         ensures { result ≡ reads_report self }
     {
         match self {
-            Command::Values | Command::ValuesWithin(_) => true,
+            Command::Values | Command::ValuesWithin(_) | Command::ValuesGlobals => true,
             Command::Items | Command::Rebuild => false,
         }
     }
@@ -32,8 +34,8 @@ impl Command {
 /// The command that `words` ask for, the words after the program's name.
 ///
 /// It is the one whose name is the first word, with one more word for `items` and `rebuild`, the
-/// name of a file, two for `values`, and for `values-within` a limit before these two: one or more
-/// ASCII digits, of a number that a `usize` holds.
+/// name of a file, two for `values` and `values-globals`, and for `values-within` a limit before
+/// these two: one or more ASCII digits, of a number that a `usize` holds.
 /// Answers `None` for all other words: none, an unknown first word, one missing or one too many,
 /// another limit.
 pub fn command_of(words: &[String]) -> Option<Command>
@@ -47,6 +49,7 @@ pub fn command_of(words: &[String]) -> Option<Command>
         [name, limit, _, _] if name.as_str() == "values-within" => {
             Some(Command::ValuesWithin(limit_of(limit.as_str())?))
         }
+        [name, _, _] if name.as_str() == "values-globals" => Some(Command::ValuesGlobals),
         [name, _] if name.as_str() == "rebuild" => Some(Command::Rebuild),
         _ => None,
     }

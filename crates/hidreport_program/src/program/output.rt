@@ -46,6 +46,7 @@ pub fn text_of(
         Command::Items => items(alloc, descriptor),
         Command::Values => values(alloc, descriptor, report),
         Command::ValuesWithin(limit) => values_within(alloc, limit, descriptor, report),
+        Command::ValuesGlobals => values_globals(alloc, descriptor, report),
         Command::Rebuild => rebuilt(alloc, descriptor),
     }
 }
@@ -116,6 +117,20 @@ fn values_within(
         ≡ (output (Command.ValuesWithin limit) descriptor.now report.now).outcome) }
 {
     match ReportDescriptor::try_from_within(alloc, descriptor, limit) {
+        Ok(announced) => found(alloc, &announced, report),
+        Err(error) => refused(alloc, &error),
+    }
+}
+
+/// What `values-globals` writes of a descriptor's and a report's bytes.
+#[tactic(auto, unfolding(crate::specs::Output::output))]
+fn values_globals(alloc: Global, descriptor: &[u8], report: &[u8]) -> Result<Written, AllocError>
+    ensures text { IfOk result (λ w. string_bytes w.text
+        ≡ (output Command.ValuesGlobals descriptor.now report.now).text) }
+    ensures outcome { IfOk result (λ w. w.outcome
+        ≡ (output Command.ValuesGlobals descriptor.now report.now).outcome) }
+{
+    match ReportDescriptor::try_from_globals_only(alloc, descriptor) {
         Ok(announced) => found(alloc, &announced, report),
         Err(error) => refused(alloc, &error),
     }

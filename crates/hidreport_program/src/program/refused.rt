@@ -23,7 +23,7 @@ const TWO_AXES: &[u8] = b"\x05\x01\x15\x81\x25\x7f\x75\x08\x95\x02\x09\x30\x09\x
 const TWO_AXES_TEXT: &[u8] =
     b"report -- 16\n0..8 variable 00010030 5\n8..16 variable 00010031 -5\n";
 
-static RUNS: [Run; 7] = [
+static RUNS: [Run; 8] = [
     (
         Command::Values,
         TWO_AXES,
@@ -58,6 +58,13 @@ static RUNS: [Run; 7] = [
         b"\x05\xfb",
         Outcome::Refused,
         b"refused: budget exceeded at offset 14\n",
+    ),
+    (
+        Command::ValuesGlobals,
+        b"\x05\x01\x75\x08\x95\x01\xa4\x09\x30\xb4\x81\x02",
+        b"\x2a",
+        Outcome::Done,
+        b"report -- 8\n0..8 variable 00010030 42\n",
     ),
     (
         Command::Items,

@@ -377,6 +377,42 @@ fn values_under_a_budget(rt: HostRuntime) -> Result<(), Fail> {
     Ok(())
 }
 
+// The usage stands inside the segment, and is there behind its Pop where a Push keeps globals alone.
+#[test]
+fn values_where_a_push_keeps_globals(rt: HostRuntime) -> Result<(), Fail> {
+    let inside = b"\x05\x01\x75\x08\x95\x01\xa4\x09\x30\xb4\x81\x02".as_slice();
+    let outside = b"\x05\x01\x75\x08\x95\x01\x09\x30\xa4\x81\x02\xb4\x81\x02".as_slice();
+    let missing = b"refused: invalid data at offset 10: Missing Usages for main item\n".as_slice();
+    let one = b"report -- 8\n0..8 variable 00010030 42\n".as_slice();
+    let two = b"report -- 16\n0..8 variable 00010030 42\n8..16 variable 00010030 7\n".as_slice();
+    let late = b"refused: invalid data at offset 12: Missing Usages for main item\n".as_slice();
+    let rows = [
+        (Command::ValuesGlobals, inside, Outcome::Done, one),
+        (Command::Values, inside, Outcome::Refused, missing),
+        (Command::ValuesGlobals, outside, Outcome::Refused, late),
+        (Command::Values, outside, Outcome::Done, two),
+        (
+            Command::ValuesGlobals,
+            TWO_AXES,
+            Outcome::Done,
+            b"report -- 16\n0..8 variable 00010030 42\n8..16 variable 00010031 7\n".as_slice(),
+        ),
+        (
+            Command::ValuesGlobals,
+            WITH_ID,
+            Outcome::Refused,
+            b"refused: no report\n".as_slice(),
+        ),
+    ];
+    for (command, descriptor, outcome, text) in rows {
+        let mut written = Vec::new(rt.alloc());
+        let answer = run_on(rt.alloc(), command, descriptor, b"\x2a\x07", &mut written);
+        assert_eq!(rt; answer, Ok(outcome));
+        assert_eq!(rt; written.as_slice(), text);
+    }
+    Ok(())
+}
+
 // Six reads give the descriptor, three bytes a read, and a seventh its end.
 #[test]
 fn failed_read_writes_nothing(rt: HostRuntime) -> Result<(), Fail> {

@@ -22,6 +22,8 @@ fn values_and_two_files(rt: HostRuntime) -> Result<(), Fail> {
     assert_eq!(rt; command, Some(Command::Values));
     let command = command_for(rt.alloc(), &["values", "values", "values"])?;
     assert_eq!(rt; command, Some(Command::Values));
+    let command = command_for(rt.alloc(), &["values-globals", "mouse", "report"])?;
+    assert_eq!(rt; command, Some(Command::ValuesGlobals));
     Ok(())
 }
 
@@ -89,6 +91,8 @@ fn other_words(rt: HostRuntime) -> Result<(), Fail> {
     assert_eq!(rt; command_for(rt.alloc(), &["values"])?, None);
     assert_eq!(rt; command_for(rt.alloc(), &["values", "mouse"])?, None);
     let command = command_for(rt.alloc(), &["values", "mouse", "report", "more"])?;
+    assert_eq!(rt; command, None);
+    let command = command_for(rt.alloc(), &["values-globals", "mouse"])?;
     assert_eq!(rt; command, None);
     assert_eq!(rt; command_for(rt.alloc(), &["items"])?, None);
     assert_eq!(rt;

@@ -130,7 +130,7 @@ fn statuses_and_lines(rt: HostRuntime) {
     let rows = [
         (
             Fault::Arguments,
-            "usage: hidreport items FILE | values FILE REPORT | values-within LIMIT FILE REPORT | rebuild FILE",
+            "usage: hidreport items FILE | values FILE REPORT | values-within LIMIT FILE REPORT | values-globals FILE REPORT | rebuild FILE",
         ),
         (Fault::Open, "fault: open"),
         (Fault::Run(RunFault::Read), "fault: read"),

@@ -89,14 +89,41 @@ fn is_refused(error: ParserError, wanted: Wanted) -> Answer {
     }
 }
 
-pub(crate) fn descriptor_is_answered(alloc: Global, bytes: &[u8], wanted: Wanted) -> Answer {
-    match ReportDescriptor::try_from(alloc, bytes) {
+fn is_answer(answer: Result<ReportDescriptor, ParserError>, wanted: Wanted) -> Answer {
+    match answer {
         Ok(descriptor) => {
             let count = count_fields(&descriptor)?;
             Ok(matches!(wanted, Wanted::Fields(fields) if fields == count))
         }
         Err(error) => is_refused(error, wanted),
     }
+}
+
+pub(crate) fn descriptor_is_answered(alloc: Global, bytes: &[u8], wanted: Wanted) -> Answer {
+    is_answer(ReportDescriptor::try_from(alloc, bytes), wanted)
+}
+
+/// A descriptor whose Push keeps globals alone: a usage set inside, and a main item inside that ends it.
+pub(crate) static OF_GLOBALS: [(&[u8], Wanted); 2] = [
+    (
+        b"\x05\x01\x75\x08\x95\x01\xa4\x09\x30\xb4\x81\x02",
+        Wanted::Fields(1),
+    ),
+    (
+        b"\x05\x01\x09\x30\x75\x08\x95\x01\xa4\x81\x02\xb4\x81\x02",
+        Wanted::Refused(12, "Missing Usages for main item"),
+    ),
+];
+
+pub(crate) fn globals_descriptor_is_answered(
+    alloc: Global,
+    bytes: &[u8],
+    wanted: Wanted,
+) -> Answer {
+    is_answer(
+        ReportDescriptor::try_from_globals_only(alloc, bytes),
+        wanted,
+    )
 }
 
 /// The input fields of an array in a collection, which is padded, and of a variable field.

@@ -1,9 +1,9 @@
-use Rattle.std.proofs.Common.{◌≡◌, ◌∙◌, ap, sym, subst, false, None, Ok, Err}
+use Rattle.std.proofs.Common.{◌≡◌, ◌∙◌, ap, sym, subst, false, Ok, Err}
 use Rattle.hidreport_items.specs.declared.item.ItemType.{ItemType}
 use Rattle.hidreport_lists.specs.Entry.{Spelled}
 use Rattle.hidreport.specs.Meaning.{refusal_at}
 use Rattle.hidreport.specs.Parser.Budget.{is_past, left_behind, stop_in, weight_in}
-use Rattle.hidreport.specs.Parser.Machine.{step}
+use Rattle.hidreport.specs.Parser.Machine.{nothing_held, step}
 use Rattle.hidreport.specs.Parser.Refusals.{IsFaultOf}
 use Rattle.hidreport.proofs.ParseLemmas.{walked-on, meaning-fault, meaning-end, refuses-fault}
 use Rattle.hidreport.proofs.parser.reports_of.Goals as goal
@@ -15,7 +15,7 @@ returns-in-Err c =
     let left = c.loop-entry.budget in
     let fault : IsFaultOf c.in-Err.fault (stop_in left h c.entry-item.result.item) = subst (λ (x : ItemType). IsFaultOf c.in-Err.fault (stop_in left h x)) same c.in-Err.ensures.err in
     refuses-fault c.in-Err.fault c.offset.result c.at.result (stop_in left h c.entry-item.result.item) _ fault c.at.ensures.named c.at.ensures.memory
-    (λ f e. meaning-fault c.args.items.now c.args.limit c.loop-entry.entry-index c.entry-item.result left h f c.loop-entry-test.true c.entry-item.is c.loop-entry.invariant e
+    (λ f e. meaning-fault (nothing_held c.args.keeping) c.args.items.now c.args.limit c.loop-entry.entry-index c.entry-item.result left h f c.loop-entry-test.true c.entry-item.is c.loop-entry.invariant e
     ∙ ap (λ o. Err (refusal_at o f)) (sym c.offset.ensures))
 
 pub loop-entry-preserved : goal.loop-entry-preserved
@@ -32,5 +32,5 @@ loop-entry-preserved c =
 
 pub returns : goal.returns
 returns c =
-    meaning-end c.args.items.now c.args.limit c.loop-entry.entry-index c.loop-entry.budget c.loop-entry.state c.loop-entry-test.false c.loop-entry.invariant
+    meaning-end (nothing_held c.args.keeping) c.args.items.now c.args.limit c.loop-entry.entry-index c.loop-entry.budget c.loop-entry.state c.loop-entry-test.false c.loop-entry.invariant
     ∙ ap Ok (sym c.into_reports.ensures)

@@ -8,4 +8,4 @@ use Rattle.hidreport.proofs.parser.reports_of.Given as goal
 abbrev pub invariant-loop-entry : goal.invariant-loop-entry
 invariant-loop-entry l =
     walk_within l.budget l.state l.entry-index (drop l.entry-index (map (λ (e : Entry). e.item) l.items))
-    ≡ walk_within l.fn.limit nothing_held 0 (map (λ (e : Entry). e.item) l.items)
+    ≡ walk_within l.fn.limit (nothing_held l.fn.keeping) 0 (map (λ (e : Entry). e.item) l.items)

@@ -14,6 +14,11 @@ returns-in-len3-clause-asked c =
     let named : string_bytes c.name-item-then-words-lt4.result ≡ codes "values" = search rules in
     form_of_first string_bytes c.args.words.now c.name-item-then-words-lt4.result _ 3 (omega arith) (omega arith) c.name-item-then-words-lt4.is named
 
+pub returns-in-len3-2-clause-asked : goal.returns-in-len3-2-clause-asked
+returns-in-len3-2-clause-asked c =
+    let named : string_bytes c.name-item-then-words-lt4-2.result ≡ codes "values-globals" = search rules in
+    form_of_first string_bytes c.args.words.now c.name-item-then-words-lt4-2.result _ 3 (omega arith) (omega arith) c.name-item-then-words-lt4-2.is named
+
 pub returns-in-len2-2-clause-asked : goal.returns-in-len2-2-clause-asked
 returns-in-len2-2-clause-asked c =
     let named : string_bytes c.name-item-then-words-lt3.result ≡ codes "rebuild" = search rules in

@@ -1,26 +1,52 @@
-use Rattle.std.proofs.Common.{◌≡◌, ◌-◌, ◌∷◌, ◌++◌, [], ◌∙◌, List, length, take, reverse, ap, sym}
-use Rattle.std.proofs.lemmas.List.{reverse-append}
+use Rattle.std.proofs.Common.{◌≡◌, ◌∷◌, ◌∙◌, List, ap, reverse, take}
 use Rattle.hidreport_items.specs.declared.local.LocalItem.{LocalItem}
-use Rattle.hidreport.specs.InForce.{Force}
-use Rattle.hidreport.specs.Parser.Forces.{Forces, force_of}
-use Rattle.hidreport.specs.Parser.Journal.{Change, Opened, change_of, undone}
-use Rattle.hidreport.specs.Parser.Machine.{last_force}
+use Rattle.hidreport.specs.Parser.Forces.{force_of}
+use Rattle.hidreport.specs.Parser.Journal.{Opened, WasLocals, change_of, undone}
 use Rattle.hidreport.specs.declared.parser.journal.Entry.{Entry}
-use Rattle.hidreport.proofs.DataLemmas.{last_force-end, all-but-last}
+use Rattle.hidreport.specs.declared.parser.keeping.Keeping.{Keeping}
+use Rattle.hidreport.specs.declared.parser.keeping.Keeping.TheVariants as keepings
+use Rattle.hidreport.proofs.JournalLemmas.{back-all, back-globals, forces, passed-over, popped, same-bare}
 use Rattle.hidreport.proofs.parser.in_force.InForce.pop.Goals as goal
 
-pub returns-in-Push-clause-back : goal.returns-in-Push-clause-back
-returns-in-Push-clause-back c = λ _.
+pub loop-entry-preserved : goal.loop-entry-preserved
+loop-entry-preserved c =
     let l = c.loop-entry.self-inside in
-    let rest : List Change = c.undo.new.self in
-    let locals : List LocalItem = take c.in-Push.locals l.locals.items in
-    let f : Force = force_of l.globals locals in
-    let fs : List Force = undone rest l.globals locals in
-    let opened : l.journal ≡ Opened c.in-Push.locals ∷ rest = c.in-Some.ensures.some ∙ ap (λ (e : Entry). change_of e ∷ rest) c.in-Push.is in
-    let all = sym (ap (λ (cs : List Change). undone cs l.globals l.locals.items) opened) ∙ c.loop-entry.invariant.0 in
-    let old : Force = c.args.self.now.now in
-    let kept : reverse fs ++ f ∷ [] ≡ c.args.self.now.kept =
-    sym (reverse-append (f ∷ []) fs) ∙ ap (λ (l : List Force). reverse l) all ∙ ap (λ (x : Forces). x.kept) c.self.view_is in
-    ap (λ (ls : List LocalItem). record { now = force_of l.globals ls; kept = reverse (undone rest l.globals ls) }) c.truncate.ensures.items
-    ∙ ap (λ (x : Force). record { now = x; kept = reverse fs }) (sym (last_force-end old f (reverse fs)) ∙ ap (last_force old) kept)
-    ∙ ap (λ (l : List Force). record { now = last_force old c.args.self.now.kept; kept = l }) (sym (all-but-last f (reverse fs)) ∙ ap (λ (l : List Force). take (length l - 1) l) kept)
+    let rest = c.undo.new.self in
+    let newest : l.journal ≡ WasLocals c.in-Locals.old.items ∷ rest = c.in-Some.ensures.some ∙ ap (λ (e : Entry). change_of e ∷ rest) c.in-Locals.is in
+    let bare : l.keeping ≡ keepings.Globals = c.loop-entry.invariant.2 ∙ c.has_locals-has_locals.ensures.globals c.if-has_locals.false in
+    let passed = passed-over l.keeping l.journal rest l.globals l.locals.items c.in-Locals.old.items _ bare newest c.loop-entry.invariant.0 in
+    (passed.0, passed.1, c.loop-entry.invariant.2, c.loop-entry.invariant.3)
+
+pub returns-then-has_locals-2-clause-back : goal.returns-then-has_locals-2-clause-back
+returns-then-has_locals-2-clause-back c = λ _.
+    let l = c.loop-entry.self-inside in
+    let s = c.self.inside in
+    let rest = c.undo.new.self in
+    let now = force_of s.globals s.locals.items in
+    let newest : l.journal ≡ Opened c.in-Push.locals ∷ rest = c.in-Some.ensures.some ∙ ap (λ (e : Entry). change_of e ∷ rest) c.in-Push.is in
+    let same = c.loop-entry.invariant.2 in
+    let all : l.keeping ≡ keepings.All = same ∙ c.has_locals-has_locals.ensures.all c.if-has_locals-2.true in
+    let kept = undone s.keeping s.journal s.globals s.locals.items in
+    let old = ap (λ (r : Keeping). forces r now (reverse kept)) same ∙ c.self.view_is in
+    let cut = c.truncate.ensures.items in
+    popped c.args.self.now l.keeping now (force_of l.globals c.truncate.new.self.items) l.journal rest l.globals l.locals.items c.truncate.new.self.items c.in-Push.locals kept
+    old newest c.loop-entry.invariant.0
+    (ap (λ (ls : List LocalItem). force_of l.globals ls) cut ∙ back-all l.keeping now (force_of l.globals (take c.in-Push.locals l.locals.items)) all)
+    (ap (undone l.keeping rest l.globals) cut)
+
+pub returns-else-has_locals-2-clause-back : goal.returns-else-has_locals-2-clause-back
+returns-else-has_locals-2-clause-back c = λ _.
+    let l = c.loop-entry.self-inside in
+    let s = c.self.inside in
+    let rest = c.undo.new.self in
+    let now = force_of s.globals s.locals.items in
+    let newest : l.journal ≡ Opened c.in-Push.locals ∷ rest = c.in-Some.ensures.some ∙ ap (λ (e : Entry). change_of e ∷ rest) c.in-Push.is in
+    let same = c.loop-entry.invariant.2 in
+    let bare : l.keeping ≡ keepings.Globals = same ∙ c.has_locals-has_locals.ensures.globals c.if-has_locals-2.false in
+    let kept = undone s.keeping s.journal s.globals s.locals.items in
+    let old = ap (λ (r : Keeping). forces r now (reverse kept)) same ∙ c.self.view_is in
+    let left = take c.in-Push.locals l.locals.items in
+    popped c.args.self.now l.keeping now (force_of l.globals l.locals.items) l.journal rest l.globals l.locals.items l.locals.items c.in-Push.locals kept
+    old newest c.loop-entry.invariant.0
+    (back-globals l.keeping now l.globals l.locals.items left bare (c.loop-entry.invariant.3 bare))
+    (same-bare l.keeping rest l.globals l.locals.items left bare)
