@@ -27,7 +27,7 @@ pub enum ItemType {
     /// An item that ends with the next main item.
     Local(LocalItem),
 
-    /// A long item (Section 6.2.2.3); no reader gives one yet.
+    /// A long item (Section 6.2.2.3), whatever its tag and data.
     Long,
 
     /// An item of the type that the standard keeps for later.
@@ -39,8 +39,8 @@ impl ItemType {
     ///
     /// The header's type chooses the reader (Section 6.2.2.2): that of `MainItem`, `GlobalItem` or
     /// `LocalItem`, whose refusals it has; the type that the standard keeps for later is
-    /// `Reserved`, whatever its data. No bytes are `InsufficientData`. `OutOfMemory` comes only
-    /// where there is no memory for a message.
+    /// `Reserved`, or with the header FE `Long` (Section 6.2.2.3), whatever the data. No bytes are
+    /// `InsufficientData`. `OutOfMemory` comes only where there is no memory for a message.
     pub fn try_from(alloc: Global, bytes: &[u8]) -> Result<ItemType, HidError>
         ensures { GivesInPlace result (read_with item_of bytes.now) }
     {
@@ -52,7 +52,7 @@ impl ItemType {
 
     /// The item's bytes, those of the item that it is; none for `Long` and `Reserved`.
     ///
-    /// For an item that bytes can spell, and that isn't of a reserved kind, `ItemType::try_from`
+    /// For an item that bytes can spell, and that is neither long nor of a reserved kind, `ItemType::try_from`
     /// reads these bytes as the item, and no spelling of it with data is shorter. `OutOfMemory`
     /// comes only where a growth is refused.
     pub fn as_bytes(&self, alloc: Global) -> Result<Vec<u8>, HidError>
@@ -92,6 +92,7 @@ pub fn read_item(header: u8, data_bytes: &[u8]) -> Result<ItemType, ItemFault>
         0 => Ok(ItemType::Main(MainItem::from_parts(header, data_bytes)?)),
         1 => Ok(ItemType::Global(GlobalItem::from_parts(header, data_bytes)?)),
         2 => Ok(ItemType::Local(LocalItem::from_parts(header, data_bytes)?)),
+        _ if header == 0xfe => Ok(ItemType::Long),
         _ => Ok(ItemType::Reserved),
     }
 }
