@@ -27,7 +27,8 @@ pub mod hid {
         IBWrap, InputItem, ItemBuilder, ItemType, LocalItem, MainDataItem, MainItem, OutputItem,
     };
     pub use hidreport_lists::{
-        Item, ItemData, MayBuild, MayClose, MayOpen, MayPop, MayPush, ReportDescriptorBuilder,
+        AnyItem, Item, ItemData, LongItem, MayBuild, MayClose, MayOpen, MayPop, MayPush,
+        ReportDescriptorBuilder,
         ReportDescriptorBuilderC1, ReportDescriptorBuilderC1Push, ReportDescriptorBuilderC2,
         ReportDescriptorBuilderC2Push, ReportDescriptorBuilderC3, ReportDescriptorBuilderC3Push,
         ReportDescriptorBuilderC4, ReportDescriptorBuilderC4Push, ReportDescriptorBuilderC5,

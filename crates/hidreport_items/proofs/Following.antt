@@ -51,3 +51,13 @@ following-more h [] rest le = more-by (is_long_header h) (announced h) le
     more-by true a le = absurd (omega arith)
     more-by false a le = refl
 following-more h (b ∷ bs) rest le = refl
+
+-- a beginning that is all that follows the header by what it says
+pub following-within : (h n : ℕ) (bs : List ℕ) → length (take n bs) ≡ following h (take n bs) → following h (take n bs) ≡ following h bs
+following-within h zero bs is = within-by (is_long_header h) (announced h) is
+  where
+    within-by : (b : Bool) (a : ℕ) → 0 ≡ cond b 2 a → cond b 2 a ≡ cond b (2 + first_or_zero bs) a
+    within-by true a is = absurd (omega arith)
+    within-by false a is = refl
+following-within h (suc n) [] is = refl
+following-within h (suc n) (b ∷ bs) is = refl
