@@ -13,6 +13,8 @@ mod copies;
 #[cfg(test)]
 mod descriptors;
 #[cfg(test)]
+mod long_items;
+#[cfg(test)]
 mod lookups;
 #[cfg(test)]
 mod memory;
