@@ -6,18 +6,22 @@ ghost use Rattle.hidreport.specs.Kept.{is_kept};
 ghost use Rattle.hidreport.specs.LocalItem.TheVariants as local;
 ghost use Rattle.hidreport.specs.Spelling.{Spells};
 
-/// Bytes that spell items: in one data byte, in four, and in none.
+/// Bytes that spell items: in one data byte, in four, and in none; long items with two data bytes and
+/// with none.
 pub fn bytes_spell_items()
     ensures one_byte { Spells (0x05 ∷ 0x01 ∷ []) (item.Global (global.UsagePage 1)) }
     ensures four_bytes { Spells (0x07 ∷ 1 ∷ 0 ∷ 2 ∷ 0 ∷ []) (item.Global (global.UsagePage 1)) }
     ensures none { Spells (0xa4 ∷ []) (item.Global global.Push) }
+    ensures long { Spells (0xfe ∷ 2 ∷ 0xf0 ∷ 0xc0 ∷ 0xc0 ∷ []) item.Long }
+    ensures long_without_data { Spells (0xfe ∷ 0 ∷ 0x7f ∷ []) item.Long }
 {}
 
-/// Items that are kept, and those of kinds that the standard keeps for later.
+/// Items that are kept, those of kinds that the standard keeps for later, and long ones.
 pub fn items_are_kept()
     ensures page { is_kept (item.Global (global.UsagePage 1)) ≡ true }
     ensures push { is_kept (item.Global global.Push) ≡ true }
     ensures usage { is_kept (item.Local (local.Usage 1 0x30)) ≡ true }
     ensures later_global { is_kept (item.Global global.Reserved) ≡ false }
     ensures later_local { is_kept (item.Local (local.Reserved 0xf8)) ≡ false }
+    ensures long { is_kept item.Long ≡ false }
 {}
