@@ -6,8 +6,8 @@ ghost use Rattle.hidreport_lists.specs.ShortOrLong.{GivesItem, RefusesInPlace};
 
 use crate::data::ItemData;
 use crate::long_item::LongItem;
-use crate::short_item::{Item, ShortItem, is_long};
-use hidreport_items::{HidError, ItemType};
+use crate::short_item::{Item, ShortItem};
+use hidreport_items::{HidError, ItemType, is_long_header};
 use std::alloc::Global;
 
 /// An item of a descriptor (Section 6.2.2): a short one is held in place, a long one's bytes are a
@@ -29,11 +29,11 @@ impl AnyItem {
     /// `ShortItem::try_from`; a short item takes no memory.
     pub fn try_from(alloc: Global, bytes: &[u8]) -> Result<AnyItem, HidError>
         ensures exact { GivesItem result (front_item item_of bytes.now) }
-        ensures short { is_long_header (first_or_zero bytes.now) ≡ false
+        ensures memory { is_long_header (first_or_zero bytes.now) ≡ false
             → RefusesInPlace result (front_item item_of bytes.now) }
     {
         match bytes {
-            [header, ..] if is_long(*header) => {
+            [header, ..] if is_long_header(*header) => {
                 Ok(AnyItem::Long(LongItem::try_from(alloc, bytes)?))
             }
             _ => Ok(AnyItem::Short(ShortItem::try_from(alloc, bytes)?)),

@@ -6,8 +6,8 @@ ghost use Rattle.hidreport_lists.specs.Data.{long_data, long_tag, some_data};
 ghost use Rattle.hidreport_lists.specs.Itemising.{long_item};
 
 use crate::data::ItemData;
-use crate::short_item::{Item, following, is_long};
-use hidreport_items::{HidError, ItemFault, ItemType, error_of};
+use crate::short_item::{Item, following};
+use hidreport_items::{HidError, ItemFault, ItemType, error_of, is_long_header};
 use std::alloc::Global;
 use std::marker::Model;
 
@@ -39,7 +39,7 @@ impl LongItem {
         let Some((header, after)) = bytes.split_first() else {
             return Err(HidError::InsufficientData);
         };
-        if !is_long(*header) {
+        if !is_long_header(*header) {
             return Err(error_of(alloc, ItemFault::Short));
         }
         let following = following(*header, after);

@@ -1,9 +1,8 @@
-ghost use Rattle.std.specs.Prelude.{◌≡◌, ◌≢◌, ◌≤◌, ◌+◌, ◌%◌, ◌==◌, Bool, false, Err, List, ℕ, length};
+ghost use Rattle.std.specs.Prelude.{◌≡◌, ◌≢◌, ◌≤◌, ◌+◌, ◌%◌, Bool, false, Err, List, ℕ, length};
 ghost use Rattle.hidreport_items.specs.Answer.{GivesInPlace};
 ghost use Rattle.hidreport_items.specs.InPlace.{told};
 ghost use Rattle.hidreport_items.specs.Spelling.{item_of};
 ghost use Rattle.hidreport_items.specs.Spelling.{announced, first_or_zero, following};
-ghost use Rattle.hidreport_items.specs.Spelling.{is_long_header};
 ghost use Rattle.hidreport_items.specs.Writing.{item_bytes};
 ghost use Rattle.hidreport_items.specs.declared.item.ItemType.{ItemType};
 ghost use Rattle.hidreport_lists.specs.Data.{short_data, short_tag, some_data};
@@ -11,7 +10,7 @@ ghost use Rattle.hidreport_lists.specs.Itemising.{short_item};
 
 use crate::data::ItemData;
 use hidreport_items::{
-    HidError, ItemBytes, ItemFault, ItemType, read_item, with_message, write_item,
+    HidError, ItemBytes, ItemFault, ItemType, is_long_header, read_item, with_message, write_item,
 };
 use std::alloc::Global;
 use std::marker::Model;
@@ -110,7 +109,7 @@ impl ShortItem {
         let Some((header, after)) = bytes.split_first() else {
             return Err(ItemFault::TooFew);
         };
-        if is_long(*header) {
+        if is_long_header(*header) {
             return Err(ItemFault::Long);
         }
         let announced = announced(*header);
@@ -172,19 +171,12 @@ impl Item for ShortItem {
     }
 }
 
-/// Whether a header is that of a long item (Section 6.2.2.3).
-pub(crate) fn is_long(header: u8) -> bool
-    ensures { result ≡ is_long_header header }
-{
-    header == 0xfe
-}
-
 /// How many bytes follow a header that has these behind it.
 pub(crate) fn following(header: u8, after: &[u8]) -> usize
     ensures within { result ≤ 257 }
     ensures value { result ≡ following header after.now }
 {
-    if !is_long(header) {
+    if !is_long_header(header) {
         return announced(header);
     }
     match after {
