@@ -9,7 +9,7 @@ use Rattle.hidreport_items.proofs.Following.{short-follow}
 use Rattle.hidreport_items.proofs.Written.{IsRead, NoneOrAnItem, written-read}
 use Rattle.hidreport_items.specs.declared.error.HidError.{HidError}
 use Rattle.hidreport_items.specs.declared.error.HidError.TheVariants as errors
-use Rattle.hidreport_items.specs.Spelling.{announced, following, is_long_header, item_of, read_as}
+use Rattle.hidreport_items.specs.Spelling.{announced, first_or_zero, following, is_long_header, item_of, read_as}
 use Rattle.hidreport_items.specs.Writing.{item_bytes}
 use Rattle.hidreport_items.specs.declared.item.ItemType.{ItemType}
 use Rattle.hidreport_lists.specs.Entry.{Spelled, Entry}
@@ -54,6 +54,13 @@ short-front h bs e = cond-false (is_long_header h) (Err (Invalid long_message)) 
 pub front-read : (h : ℕ) (bs : List ℕ) → following h bs ≤ length bs
     → front_item item_of (h ∷ bs) ≡ read_as (λ x. record { bytes = h ∷ take (following h bs) bs; item = x }) (item_of h (take (following h bs) bs))
 front-read h bs room = ap (read_as (λ x. record { bytes = h ∷ take (following h bs) bs; item = x })) (item_at-enough item_of h bs room)
+
+-- the item at the front begins with the first byte
+pub front-header : (bytes : List ℕ) (s : Spelled) → front_item item_of bytes ≡ Ok s → first_or_zero s.bytes ≡ first_or_zero bytes
+front-header [] s e = cc
+front-header (h ∷ bs) s e =
+    let got = read_as_ok (λ x. record { bytes = h ∷ take (following h bs) bs; item = x }) (item_at item_of h bs) s e in
+    ap (λ (y : Spelled). first_or_zero y.bytes) (sym got.2)
 
 -- a fault of the header and its data is the item's
 pub short_item-err : (h : ℕ) (after : List ℕ) (a : ℕ) (fault : Fault) → is_long_header h ≡ false → a ≡ announced h → a ≤ length after → Err fault ≡ item_of h (take a after)

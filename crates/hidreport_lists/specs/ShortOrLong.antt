@@ -1,6 +1,7 @@
 -- An item that is short or long (Sections 6.2.2.2 and 6.2.2.3).
 use Rattle.std.specs.Prelude.{◌≡◌, ℕ, Bool, true, false, List, Result, Ok, Err}
 use Rattle.hidreport_items.specs.Answer.{Fault, Fails, FailsInPlace}
+use Rattle.hidreport_items.specs.Spelling.{first_or_zero, is_long_header}
 use Rattle.hidreport_items.specs.declared.error.HidError.{HidError}
 use Rattle.hidreport_items.specs.declared.item.ItemType.TheVariants as item
 use Rattle.hidreport_lists.specs.Data.{long_data, long_tag, short_data, short_tag}
@@ -17,6 +18,10 @@ spelled (any.Long bytes) = record { bytes = bytes; item = item.Long }
 abbrev pub is_long_one : AnyItem → Bool
 is_long_one (any.Short item) = false
 is_long_one (any.Long bytes) = true
+
+-- it is one just where the bytes begin with a long item's header
+abbrev pub IsByHeader : AnyItem → List ℕ → Type 0
+IsByHeader item bytes = is_long_one item ≡ is_long_header (first_or_zero bytes)
 
 abbrev pub any_tag : AnyItem → ℕ
 any_tag (any.Short item) = short_tag item.bytes

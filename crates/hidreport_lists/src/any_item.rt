@@ -1,8 +1,8 @@
-ghost use Rattle.std.specs.Prelude.{◌≡◌, false};
+ghost use Rattle.std.specs.Prelude.{◌≡◌, false, IfOk};
 ghost use Rattle.hidreport_items.specs.Spelling.{first_or_zero, is_long_header, item_of};
 ghost use Rattle.hidreport_lists.specs.Itemising.{front_item};
 ghost use Rattle.hidreport_lists.specs.ShortOrLong.{any_data, any_tag, is_long_one, spelled};
-ghost use Rattle.hidreport_lists.specs.ShortOrLong.{GivesItem, RefusesInPlace};
+ghost use Rattle.hidreport_lists.specs.ShortOrLong.{GivesItem, IsByHeader, RefusesInPlace};
 
 use crate::data::ItemData;
 use crate::long_item::LongItem;
@@ -29,6 +29,7 @@ impl AnyItem {
     /// `ShortItem::try_from`; a short item takes no memory.
     pub fn try_from(alloc: Global, bytes: &[u8]) -> Result<AnyItem, HidError>
         ensures exact { GivesItem result (front_item item_of bytes.now) }
+        ensures kind { IfOk result (λ item. IsByHeader item bytes.now) }
         ensures memory { is_long_header (first_or_zero bytes.now) ≡ false
             → RefusesInPlace result (front_item item_of bytes.now) }
     {

@@ -7,7 +7,7 @@ ghost use Rattle.hidreport_lists.specs.Headers.{headers_from};
 ghost use Rattle.hidreport_lists.specs.Itemising.{as_refusal, itemise, Itemises, IsFaultAt};
 ghost use Rattle.hidreport_lists.specs.Itemising.{IsGrammarFault};
 ghost use Rattle.hidreport_lists.specs.Messages.{grammar_message};
-ghost use Rattle.hidreport_lists.specs.ShortOrLong.{spelled};
+ghost use Rattle.hidreport_lists.specs.ShortOrLong.{spelled, IsByHeader};
 ghost use Rattle.hidreport_lists.specs.WithoutLong.{ItemisesShort};
 
 use crate::any_item::AnyItem;
@@ -27,7 +27,7 @@ pub struct ReportDescriptorItem {
 
 impl Model for ReportDescriptorItem {
     ghost use Rattle.hidreport_lists.specs.Entry.{Entry};
-    ghost use Rattle.hidreport_lists.specs.ShortOrLong.{spelled};
+    ghost use Rattle.hidreport_lists.specs.ShortOrLong.{spelled, IsByHeader};
 
     ghost Value = { Entry };
 
@@ -36,6 +36,9 @@ impl Model for ReportDescriptorItem {
       bytes = (spelled i.item).bytes;
       item = (spelled i.item).item;
     } };
+
+    // A long item just where the header is one's.
+    ghost invariant = { λ i. IsByHeader i.item (spelled i.item).bytes };
 }
 
 impl ReportDescriptorItem {
@@ -46,9 +49,11 @@ impl ReportDescriptorItem {
         self.offset
     }
 
-    /// The item.
+    /// The item, a long one just where its header is one's.
     pub fn item(&self) -> &AnyItem
-        ensures { spelled result.now ≡ record { bytes = self.now.bytes; item = self.now.item } }
+        ensures item { spelled result.now
+            ≡ record { bytes = self.now.bytes; item = self.now.item } }
+        ensures kind { IsByHeader result.now self.now.bytes }
     {
         &self.item
     }

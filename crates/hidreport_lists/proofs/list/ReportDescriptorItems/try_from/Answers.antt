@@ -1,17 +1,22 @@
-use Rattle.std.proofs.Common.{◌≡◌, ◌≢◌, ◌+◌, ◌∙◌, [], ◌∷◌, ap, sym, length, length-drop, drop, Ok, Err, arith}
+use Rattle.std.proofs.Common.{◌≡◌, ◌≢◌, ◌+◌, ◌∙◌, [], ◌∷◌, ap, sym, length, length-drop, drop, Ok, Err, subst, arith}
 use Rattle.std.proofs.lemmas.Grind.{common_steps}
-use Rattle.hidreport_items.specs.Spelling.{item_of}
-use Rattle.hidreport_lists.specs.ShortOrLong.{spelled}
+use Rattle.hidreport_items.specs.Spelling.{is_long_header, item_of}
+use Rattle.hidreport_lists.specs.ShortOrLong.{spelled, is_long_one}
 use Rattle.hidreport_lists.specs.Itemising.{items_from}
 use Rattle.hidreport_lists.proofs.Cuts.{are_bytes, answer-done, answer-items, answer-only, answer-fault, answer-only_fault}
 use Rattle.hidreport_lists.proofs.ShortItems.{itemises-so}
-use Rattle.hidreport_lists.proofs.Items.{items_from-item, refuses-fault, with_front, with_front-more, at_offset}
+use Rattle.hidreport_lists.proofs.Items.{front-header, items_from-item, refuses-fault, with_front, with_front-more, at_offset}
 use Rattle.hidreport_lists.proofs.list.ReportDescriptorItems.try_from.Goals as goal
 
 pub split_at-requires : goal.split_at-requires
 split_at-requires c =
     let step = items_from-item c.loop-rest.offset c.loop-rest.rest.now (spelled c.in-Ok.item) c.in-Ok.ensures.exact in
     omega (arith, step.0, c.size-size.ensures)
+
+pub invariant_of-push : goal.invariant_of-push
+invariant_of-push c =
+    let item = c.in-Ok.item in
+    subst (λ n. is_long_one item ≡ is_long_header n) (sym (front-header c.loop-rest.rest.now (spelled item) c.in-Ok.ensures.exact)) c.in-Ok.ensures.kind
 
 pub loop-rest-smaller : goal.loop-rest-smaller
 loop-rest-smaller c =
