@@ -1,4 +1,4 @@
--- Items of kinds that the standard keeps for later are no step of the walk: it is the walk over the kept items.
+-- Long items, and those of kinds that the standard keeps for later, are no step of the walk: it is the walk over the kept items.
 -- A reserved local item stands among the locals, so what is held is compared without these.
 use Rattle.std.proofs.Common.{◌≡◌, ◌≢◌, ℕ, ◌+◌, ◌-◌, Bool, true, false, cond, List, [], ◌∷◌, ◌++◌, length, take, map, filter, Option, None, Some, option_to_list, Result, Err, refl, sym, ap, ◌∙◌, add-zero, append-nil, append_assoc, arith}
 use Rattle.std.proofs.lemmas.Grind.{common_steps}
@@ -203,7 +203,7 @@ not-kept-fault h (item.Global global.Reserved) e = refl
 not-kept-fault h (item.Global g) e = cc
 not-kept-fault h (item.Local (local.Reserved n)) e = refl
 not-kept-fault h (item.Local y) e = cc
-not-kept-fault h item.Long e = cc
+not-kept-fault h item.Long e = refl
 not-kept-fault h item.Reserved e = refl
 
 -- what is held with other locals, where nothing else changes
@@ -224,7 +224,7 @@ not-kept-thin h (item.Global g) e = cc
 not-kept-thin h (item.Local (local.Reserved n)) e =
     idle-thin h (h.force.locals ++ local.Reserved n ∷ []) (filter-append is_kept_local h.force.locals (local.Reserved n ∷ []) ∙ append-nil (filter is_kept_local h.force.locals))
 not-kept-thin h (item.Local y) e = cc
-not-kept-thin h item.Long e = cc
+not-kept-thin h item.Long e = idle-thin h (h.force.locals ++ []) (ap (filter is_kept_local) (append-nil h.force.locals))
 not-kept-thin h item.Reserved e = idle-thin h (h.force.locals ++ []) (ap (filter is_kept_local) (append-nil h.force.locals))
 
 -- the walk over all items and that over the kept ones, faults at their own offsets

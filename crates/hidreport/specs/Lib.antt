@@ -49,4 +49,7 @@ pub use Rattle.hidreport_lists.specs.Entry
 pub use Rattle.hidreport_lists.specs.Itemising
 pub use Rattle.hidreport_lists.specs.Messages
 pub use Rattle.hidreport_lists.specs.Rebuilt
+pub use Rattle.hidreport_lists.specs.ShortOrLong
+pub use Rattle.hidreport_lists.specs.WithoutLong
+pub use Rattle.hidreport_lists.specs.declared.any_item.AnyItem
 pub use Rattle.hidreport_lists.specs.declared.error.ParserError

@@ -69,10 +69,10 @@ impl ReportDescriptor {
     /// change nothing (`struck`): the answer is that of the items around them, a fault at the same
     /// item.
     ///
-    /// Items of kinds that the standard keeps for later change nothing either (`kept`): the answer
-    /// is what the kept items mean, a fault at the offset of its item. The bytes that `hid::rebuild`
-    /// writes for them are read as the same reports, or refused with the same fault at the same
-    /// item, whose offset is its own in each (`rebuilt`).
+    /// Long items, and those of kinds that the standard keeps for later, change nothing either
+    /// (`kept`): the answer is what the kept items mean, a fault at the offset of its item. The bytes
+    /// that `hid::rebuild` writes for them are read as the same reports, or refused with the same
+    /// fault at the same item, whose offset is its own in each (`rebuilt`).
     ///
     /// Fields have all bits of their reports behind the id, and each bit one field; each report,
     /// field and collection has an id of its own; and a range gave just its usages (`tiled`).

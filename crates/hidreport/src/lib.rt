@@ -27,13 +27,13 @@ pub mod hid {
         IBWrap, InputItem, ItemBuilder, ItemType, LocalItem, MainDataItem, MainItem, OutputItem,
     };
     pub use hidreport_lists::{
-        Item, ItemData, MayBuild, MayClose, MayOpen, MayPop, MayPush, ReportDescriptorBuilder,
-        ReportDescriptorBuilderC1, ReportDescriptorBuilderC1Push, ReportDescriptorBuilderC2,
-        ReportDescriptorBuilderC2Push, ReportDescriptorBuilderC3, ReportDescriptorBuilderC3Push,
-        ReportDescriptorBuilderC4, ReportDescriptorBuilderC4Push, ReportDescriptorBuilderC5,
-        ReportDescriptorBuilderC5Push, ReportDescriptorBuilderC6, ReportDescriptorBuilderC6Push,
-        ReportDescriptorBuilderC7, ReportDescriptorBuilderC7Push, ReportDescriptorBuilderC8,
-        ReportDescriptorBuilderC8Push, ReportDescriptorBuilderState,
+        AnyItem, Item, ItemData, LongItem, MayBuild, MayClose, MayOpen, MayPop, MayPush,
+        ReportDescriptorBuilder, ReportDescriptorBuilderC1, ReportDescriptorBuilderC1Push,
+        ReportDescriptorBuilderC2, ReportDescriptorBuilderC2Push, ReportDescriptorBuilderC3,
+        ReportDescriptorBuilderC3Push, ReportDescriptorBuilderC4, ReportDescriptorBuilderC4Push,
+        ReportDescriptorBuilderC5, ReportDescriptorBuilderC5Push, ReportDescriptorBuilderC6,
+        ReportDescriptorBuilderC6Push, ReportDescriptorBuilderC7, ReportDescriptorBuilderC7Push,
+        ReportDescriptorBuilderC8, ReportDescriptorBuilderC8Push, ReportDescriptorBuilderState,
         ReportDescriptorBuilderToplevel, ReportDescriptorBuilderToplevelPush, ReportDescriptorItem,
         ReportDescriptorItems, ShortItem, rebuild,
     };

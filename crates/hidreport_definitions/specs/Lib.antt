@@ -1,3 +1,4 @@
+pub mod Cut
 pub mod Hex
 pub mod Mouse
 pub mod Rebuilt

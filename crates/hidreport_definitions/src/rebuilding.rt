@@ -19,12 +19,25 @@ pub fn kept_items_are_written_shortly()
         ≡ kept_bytes (codes "15 ff 26 ff 00 26 80 00") }
 {}
 
+/// Long items are left out; one that is cut short is a fault.
+pub fn long_items_are_left_out()
+    ensures alone { again (codes "fe 02 01 c0 c0") ≡ kept_bytes [] }
+    ensures without_data { again (codes "fe 00 7f") ≡ kept_bytes [] }
+    ensures in_front { again (codes "fe 03 f0 01 02 03 05 01") ≡ kept_bytes (codes "05 01") }
+    ensures between { again (codes "05 01 fe 01 00 aa b4") ≡ kept_bytes (codes "05 01 b4") }
+    ensures no_length { again (codes "fe") ≡ Err (0, Insufficient) }
+    ensures no_tag { again (codes "fe 01") ≡ Err (0, Insufficient) }
+    ensures cut_data { again (codes "05 01 fe 02 01 c0") ≡ Err (2, Insufficient) }
+{}
+
 /// Both read as the same reports, or have the same fault at the same item, each at its offset.
 pub fn the_meaning_stays()
     ensures fault_before { summary (codes "06 01 00 b4")
         ≡ Err (InvalidAt 3 (codes "Too many Pops, not enough Pushes")) }
     ensures fault_behind { summary (codes "05 01 b4")
         ≡ Err (InvalidAt 2 (codes "Too many Pops, not enough Pushes")) }
+    ensures long_item_before { summary (codes "05 01 fe 01 00 aa b4")
+        ≡ Err (InvalidAt 6 (codes "Too many Pops, not enough Pushes")) }
     ensures reserved_among_the_locals { summary (codes "05 01 75 08 95 01 09 30 f9 01 c4 fc 81 02")
         ≡ inputs (Report None 8 (Variable 0 8 0x00010030 ∷ []) ∷ []) }
     ensures rebuilt { again (codes "05 01 75 08 95 01 09 30 f9 01 c4 fc 81 02")

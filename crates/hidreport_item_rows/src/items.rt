@@ -253,7 +253,7 @@ fn parts_of_a_short_item(rt: HostRuntime) -> Result<(), Fail> {
     );
     let id = ShortItem::from_item_type(&ItemType::from(ReportId::from(0x1a)))?;
     assert!(rt; is_report_id(alloc, &id));
-    let reserved = ShortItem::try_from(alloc, b"\xfe\x02\x01")?;
+    let reserved = ShortItem::try_from(alloc, b"\x7e\x02\x01")?;
     assert!(rt; reserved.size() == 3 && !reserved.is_long_item());
     Ok(())
 }

@@ -12,6 +12,8 @@ mod into_items;
 #[cfg(test)]
 mod items;
 #[cfg(test)]
+mod long_items;
+#[cfg(test)]
 mod numbers_read;
 #[cfg(test)]
 mod printing;

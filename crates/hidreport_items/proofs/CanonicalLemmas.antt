@@ -10,7 +10,7 @@ use Rattle.hidreport_items.specs.Canonical.{IsCanonical, is_bare}
 use Rattle.hidreport_items.specs.Flags.{Flags, flags_of, is_flag_set}
 use Rattle.hidreport_items.specs.Kept.{is_kept}
 use Rattle.hidreport_items.specs.Numbers.{word, signed, is_short_length}
-use Rattle.hidreport_items.specs.Spelling.{announced, prefix, type_of, item_of, main_item, global_item, local_item, usage_item, read_as, with_data, of_short_length, input_item, collection_item, kind_number, first_or_zero, AreBytes, Spells, read_with}
+use Rattle.hidreport_items.specs.Spelling.{announced, following, is_long_header, prefix, type_of, item_of, main_item, global_item, local_item, usage_item, read_as, with_data, of_short_length, input_item, collection_item, kind_number, first_or_zero, AreBytes, Spells, read_with}
 use Rattle.hidreport_items.specs.Writing.{with_header, four_bytes, unsigned_data, signed_data, count_data, flags_data, flags_number, item_bytes, main_bytes, global_bytes, local_bytes}
 use Rattle.hidreport_items.specs.declared.main_item.MainItem.{MainItem}
 use Rattle.hidreport_items.specs.declared.main_item.MainItem.TheVariants as main
@@ -22,6 +22,7 @@ use Rattle.hidreport_items.specs.declared.local.LocalItem.TheVariants as local
 use Rattle.hidreport_items.specs.declared.item.ItemType.{ItemType}
 use Rattle.hidreport_items.specs.declared.item.ItemType.TheVariants as item
 use Rattle.hidreport_items.proofs.Words.{IsLeast, announced-four, by-shape, bytes-behind, word-four, word-unsigned, length-unsigned, unsigned-least, signed-least, signed-again, signed-fits-any, word-fits, unsigned-two, are-one, are-four, are-unsigned, are-signed, HasShape, shape-signed, fits}
+use Rattle.hidreport_items.proofs.Following.{kept-short, small-short}
 use Rattle.hidreport_items.proofs.FlagWords.{flags-again, flags-least, number-le, number-without, word-flags, length-flags, are-flags}
 
 -- what data says of the item that it spells
@@ -65,7 +66,7 @@ abbrev pub Says : List ℕ → ItemType → Type 0
 Says bs (item.Main x) = SaysMain bs x
 Says bs (item.Global x) = SaysGlobal bs x
 Says bs (item.Local x) = SaysLocal bs x
-Says bs item.Long = ⊥
+Says bs item.Long = Unit {0}
 Says bs item.Reserved = Unit {0}
 
 -- what was read says this
@@ -294,51 +295,58 @@ says-local h bs =
 pub says-item : (h : ℕ) (bs : List ℕ) → IfRead (Says bs) (item_of h bs)
 says-item h bs =
     let reserved : Result ItemType Fault = Ok item.Reserved in
-    let of_local : Result ItemType Fault = cond (type_of h == 2) (read_as item.Local (local_item h bs)) reserved in
+    let of_long : Result ItemType Fault = cond (is_long_header h) (Ok item.Long) reserved in
+    let of_local : Result ItemType Fault = cond (type_of h == 2) (read_as item.Local (local_item h bs)) of_long in
     let of_global : Result ItemType Fault = cond (type_of h == 1) (read_as item.Global (global_item h bs)) of_local in
     cond_both (type_of h == 0) (read_as item.Main (main_item h bs)) of_global (IfRead (Says bs)) (λ e. says-as (SaysMain bs) (Says bs) item.Main (main_item h bs) (λ x is. is) (says-main_0 h bs))
     (λ e. cond_both (type_of h == 1) (read_as item.Global (global_item h bs)) of_local (IfRead (Says bs)) (λ e. says-as (SaysGlobal bs) (Says bs) item.Global (global_item h bs) (λ x is. is) (says-global h bs))
-    (λ e. cond_both (type_of h == 2) (read_as item.Local (local_item h bs)) reserved (IfRead (Says bs)) (λ e. says-as (SaysLocal bs) (Says bs) item.Local (local_item h bs) (λ x is. is) (says-local h bs)) (λ e. tt)))
+    (λ e. cond_both (type_of h == 2) (read_as item.Local (local_item h bs)) of_long (IfRead (Says bs)) (λ e. says-as (SaysLocal bs) (Says bs) item.Local (local_item h bs) (λ x is. is) (says-local h bs))
+    (λ e. cond_both (is_long_header h) (Ok item.Long) reserved (IfRead (Says bs)) (λ e. tt) (λ e. tt))))
 
--- what a spelling has behind its header
+-- what a kept item's spelling has behind its header
 pub record Behind (bs : List ℕ) (x : ItemType) : Type 0 where
   pub are : AreBytes bs
   pub short : length bs ≤ 4
   pub known : length bs ≢ 3
   pub says : Says bs x
 
-behind : (h : ℕ) (bs : List ℕ) (x : ItemType) → Spells (h ∷ bs) x → Behind bs x
-behind h bs x s =
+behind : (h : ℕ) (bs : List ℕ) (x : ItemType) → is_kept x ≡ true → Spells (h ∷ bs) x → Behind bs x
+behind h bs x kept s =
     let four = announced-four h in
+    let size : length bs ≡ announced h = s.1 ∙ kept-short h bs x s.2 kept in
     record {
       are = bytes-behind h bs s.0;
-      short = omega (arith, four.0, s.1);
-      known = λ e. four.1 (sym s.1 ∙ e);
+      short = omega (arith, four.0, size);
+      known = λ e. four.1 (sym size ∙ e);
       says = subst (IfRead (Says bs)) s.2 (says-item h bs);
     }
 
 -- data of a header that reads it so spells what it reads
-spelled-by : (p : ℕ) (f : List ℕ → ItemType) (bs : List ℕ) → AreBytes bs → HasShape bs → p ≤ 252
+spelled-by : (p : ℕ) (f : List ℕ → ItemType) (bs : List ℕ) → AreBytes bs → HasShape bs → p < 0xf0
     → announced (p + 1) ≡ 1 → announced (p + 2) ≡ 2 → announced (p + 3) ≡ 4
     → ((a : ℕ) → item_of (p + 1) (a ∷ []) ≡ Ok (f (a ∷ []))) → ((a b : ℕ) → item_of (p + 2) (a ∷ b ∷ []) ≡ Ok (f (a ∷ b ∷ [])))
     → ((a b c d : ℕ) → item_of (p + 3) (a ∷ b ∷ c ∷ d ∷ []) ≡ Ok (f (a ∷ b ∷ c ∷ d ∷ []))) → Spells (with_header p bs) (f bs)
 spelled-by p f bs are shape room one two four read_one read_two read_four =
     by-shape (λ bs. AreBytes bs → Spells (with_header p bs) (f bs)) bs shape.0 shape.1 shape.2
-    (λ a are. (are-behind (p + 1) (a ∷ []) (omega arith) are, sym one, read_one a))
-    (λ a b are. (are-behind (p + 2) (a ∷ b ∷ []) (omega arith) are, sym two, read_two a b))
-    (λ a b c d are. (are-behind (p + 3) (a ∷ b ∷ c ∷ d ∷ []) (omega arith) are, sym four, read_four a b c d))
+    (λ a are. (are-behind (p + 1) (a ∷ []) (omega arith) are, sym (small-short (p + 1) (a ∷ []) (omega arith) ∙ one), read_one a))
+    (λ a b are. (are-behind (p + 2) (a ∷ b ∷ []) (omega arith) are, sym (small-short (p + 2) (a ∷ b ∷ []) (omega arith) ∙ two), read_two a b))
+    (λ a b c d are. (are-behind (p + 3) (a ∷ b ∷ c ∷ d ∷ []) (omega arith) are, sym (small-short (p + 3) (a ∷ b ∷ c ∷ d ∷ []) (omega arith) ∙ four), read_four a b c d))
     are
   where
     are-behind : (h : ℕ) (bs : List ℕ) → h < 256 → AreBytes bs → AreBytes (h ∷ bs)
     are-behind h bs lt are zero d k = lt
     are-behind h bs lt are (suc k) d le = are k d (omega arith)
 
+-- an item that is kept, and says something by its data
+abbrev pub IsSaid : ItemType → Type 0
+IsSaid x = (is_bare x ≡ false) × (is_kept x ≡ true)
+
 -- spelled, and least among all data that says the item
-canonical-by : (x : ItemType) (p : ℕ) (bs : List ℕ) → Spells (with_header p bs) x → is_bare x ≡ false → 0 < length bs
+canonical-by : (x : ItemType) (p : ℕ) (bs : List ℕ) → Spells (with_header p bs) x → IsSaid x → 0 < length bs
     → ((other : List ℕ) → Behind other x → 0 < length other → IsLeast bs other) → IsCanonical (with_header p bs) x
-canonical-by x p bs spells data_bytes some least = record {
+canonical-by x p bs spells said some least = record {
   spells = spells;
-  bare = λ e. cc;
+  bare = λ e. let bad : true ≡ false = sym e ∙ said.0 in cc;
   has_data = λ e. omega arith;
   shortest = shorter;
   smallest = smaller;
@@ -346,15 +354,15 @@ canonical-by x p bs spells data_bytes some least = record {
   where
     shorter : (other : List ℕ) → Spells other x → 1 < length other → length (with_header p bs) ≤ length other
     shorter [] s more = absurd s
-    shorter (h ∷ others) s more = let l = least others (behind h others x s) (omega arith) in omega (arith, l.short)
+    shorter (h ∷ others) s more = let l = least others (behind h others x said.1 s) (omega arith) in omega (arith, l.short)
 
     smaller : (other : List ℕ) → Spells other x → length other ≡ length (with_header p bs) → word bs ≤ word (drop 1 other)
     smaller [] s same = absurd s
-    smaller (h ∷ others) s same = let l = least others (behind h others x s) (omega arith) in l.small (omega arith)
+    smaller (h ∷ others) s same = let l = least others (behind h others x said.1 s) (omega arith) in l.small (omega arith)
 
 -- items that say an unsigned number as it is
-plain-canonical : (p : ℕ) (k : ℕ → ItemType) (n : ℕ) (bs : List ℕ) → Behind bs (k n) → ((l : List ℕ) (m : ℕ) → Says l (k m) → word l ≡ m) → ((m : ℕ) → is_bare (k m) ≡ false)
-    → p ≤ 252 → announced (p + 1) ≡ 1 → announced (p + 2) ≡ 2 → announced (p + 3) ≡ 4
+plain-canonical : (p : ℕ) (k : ℕ → ItemType) (n : ℕ) (bs : List ℕ) → Behind bs (k n) → ((l : List ℕ) (m : ℕ) → Says l (k m) → word l ≡ m) → ((m : ℕ) → IsSaid (k m))
+    → p < 0xf0 → announced (p + 1) ≡ 1 → announced (p + 2) ≡ 2 → announced (p + 3) ≡ 4
     → ((a : ℕ) → item_of (p + 1) (a ∷ []) ≡ Ok (k (word (a ∷ [])))) → ((a b : ℕ) → item_of (p + 2) (a ∷ b ∷ []) ≡ Ok (k (word (a ∷ b ∷ []))))
     → ((a b c d : ℕ) → item_of (p + 3) (a ∷ b ∷ c ∷ d ∷ []) ≡ Ok (k (word (a ∷ b ∷ c ∷ d ∷ [])))) → IsCanonical (with_header p (unsigned_data n)) (k n)
 plain-canonical p k n bs b says bare room one two four read_one read_two read_four =
@@ -365,8 +373,8 @@ plain-canonical p k n bs b says bare room one two four read_one read_two read_fo
     (λ other o some. unsigned-least n other o.are some o.short o.known (omega (arith, says other n o.says)))
 
 -- items that say a signed number
-signed-canonical : (p : ℕ) (k : ℤ → ItemType) (z : ℤ) (bs : List ℕ) → Behind bs (k z) → ((l : List ℕ) (y : ℤ) → Says l (k y) → signed l ≡ y) → ((y : ℤ) → is_bare (k y) ≡ false)
-    → p ≤ 252 → announced (p + 1) ≡ 1 → announced (p + 2) ≡ 2 → announced (p + 3) ≡ 4
+signed-canonical : (p : ℕ) (k : ℤ → ItemType) (z : ℤ) (bs : List ℕ) → Behind bs (k z) → ((l : List ℕ) (y : ℤ) → Says l (k y) → signed l ≡ y) → ((y : ℤ) → IsSaid (k y))
+    → p < 0xf0 → announced (p + 1) ≡ 1 → announced (p + 2) ≡ 2 → announced (p + 3) ≡ 4
     → ((a : ℕ) → item_of (p + 1) (a ∷ []) ≡ Ok (k (signed (a ∷ [])))) → ((a b : ℕ) → item_of (p + 2) (a ∷ b ∷ []) ≡ Ok (k (signed (a ∷ b ∷ []))))
     → ((a b c d : ℕ) → item_of (p + 3) (a ∷ b ∷ c ∷ d ∷ []) ≡ Ok (k (signed (a ∷ b ∷ c ∷ d ∷ [])))) → IsCanonical (with_header p (signed_data z)) (k z)
 signed-canonical p k z bs b says bare room one two four read_one read_two read_four =
@@ -378,7 +386,7 @@ signed-canonical p k z bs b says bare room one two four read_one read_two read_f
 
 -- data items, by their flags
 flags-canonical : (p : ℕ) (k : Flags → ItemType) (f g : Flags) (bs : List ℕ) → ((other : List ℕ) → Behind other (k f) → (g.buffered_bytes ≡ is_flag_set (word other) 8) × (flags_number g ≤ word other))
-    → is_bare (k f) ≡ false → Spells (with_header p (flags_data g)) (k f) → IsCanonical (with_header p (flags_data g)) (k f)
+    → IsSaid (k f) → Spells (with_header p (flags_data g)) (k f) → IsCanonical (with_header p (flags_data g)) (k f)
 flags-canonical p k f g bs says bare spelled =
     canonical-by (k f) p (flags_data g) spelled bare (length-flags g).0
     (λ other o some. let s = says other o in flags-least g other o.are some o.short o.known s.0 s.1)
@@ -394,7 +402,7 @@ canonical-page n bs b =
     canonical-by (item.Global (global.UsagePage n)) 0x04 (unsigned_data n)
     (subst (λ m. Spells (with_header 0x04 (unsigned_data n)) (item.Global (global.UsagePage m))) same
     (spelled-by 0x04 (λ l. item.Global (global.UsagePage (word l % 65536))) (unsigned_data n) (are-unsigned n) (length-unsigned n) (omega arith) refl refl refl (λ a. refl) (λ a b. refl) (λ a b c d. refl)))
-    refl (length-unsigned n).0
+    (refl, refl) (length-unsigned n).0
     (λ other o some. let low : word other % 65536 ≡ n = o.says in unsigned-least n other o.are some o.short o.known (omega arith))
 
 -- one byte
@@ -412,7 +420,7 @@ canonical-id n bs b =
     canonical-by (item.Global (global.ReportId n)) 0x84 (n ∷ [])
     (subst (λ m. Spells (with_header 0x84 (n ∷ [])) (item.Global (global.ReportId m))) same
     (spelled-by 0x84 (λ l. item.Global (global.ReportId (word l % 256))) (n ∷ []) (are-one n few) (byte-shape n) (omega arith) refl refl refl (λ a. refl) (λ a b. refl) (λ a b c d. refl)))
-    refl (omega arith)
+    (refl, refl) (omega arith)
     (λ other o some. byte-least n other some (λ e. let low : word other % 256 ≡ n = o.says in omega arith))
 
 canonical-usage_id : (n : ℕ) (bs : List ℕ) → Behind bs (item.Local (local.UsageId n)) → IsCanonical (with_header 0x08 (unsigned_data n)) (item.Local (local.UsageId n))
@@ -427,7 +435,7 @@ canonical-usage_id n bs b =
     canonical-by (item.Local (local.UsageId n)) 0x08 (unsigned_data n)
     (subst (λ x. Spells (with_header 0x08 (unsigned_data n)) (item.Local x)) is
     (spelled-by 0x08 (λ l. item.Local (usage_item (word l) (length l))) (unsigned_data n) (are-unsigned n) (length-unsigned n) (omega arith) refl refl refl (λ a. refl) (λ a b. refl) (λ a b c d. refl)))
-    refl (length-unsigned n).0
+    (refl, refl) (length-unsigned n).0
     (λ other o some. let low : word other % 65536 ≡ n = o.says in unsigned-least n other o.are some o.short o.known (omega arith))
 
 canonical-usage : (page id : ℕ) (bs : List ℕ) → Behind bs (item.Local (local.Usage page id)) → IsCanonical (with_header 0x08 (four_bytes (page * 65536 + id))) (item.Local (local.Usage page id))
@@ -443,7 +451,7 @@ canonical-usage page id bs b =
     (subst (λ m. Spells (with_header 0x08 (four_bytes number)) (item.Local (local.Usage page m))) low
     (subst (λ m. Spells (with_header 0x08 (four_bytes number)) (item.Local (local.Usage m (word (four_bytes number) % 65536)))) high
     (spelled-by 0x08 (λ l. item.Local (usage_item (word l) (length l))) (four_bytes number) (are-four number) (omega arith, omega arith, λ e. omega arith) (omega arith) refl refl refl (λ a. refl) (λ a b. refl) (λ a b c d. refl))))
-    refl (omega arith)
+    (refl, refl) (omega arith)
     (λ other o some. let own : (length other ≡ 4) × (word other / 65536 ≡ page) × (word other % 65536 ≡ id) = o.says in
     record { short = omega arith; small = λ e. omega (arith, same) })
 
@@ -469,7 +477,7 @@ canonical-collection k bs b =
     canonical-by (item.Main (main.Collection k)) 0xa0 (kind_number k ∷ [])
     (subst (λ x. Spells (with_header 0xa0 (kind_number k ∷ [])) (item.Main (main.Collection x))) again
     (spelled-by 0xa0 (λ l. item.Main (main.Collection (collection_item (first_or_zero l)))) (kind_number k ∷ []) (are-one (kind_number k) small) (byte-shape (kind_number k)) (omega arith) refl refl refl (λ a. refl) (λ a b. refl) (λ a b c d. refl)))
-    refl (omega arith)
+    (refl, refl) (omega arith)
     (λ other o some. byte-least (kind_number k) other some (λ e.
     let own : collection_item (first_or_zero other) ≡ k = o.says in
     let same : kind_number k ≡ first_or_zero other = ap kind_number (sym own) ∙ kind-again (first_or_zero other) (first-small other o.are) in
@@ -479,7 +487,7 @@ canonical-output : (f : Flags) (bs : List ℕ) → Behind bs (item.Main (main.Ou
 canonical-output f bs b =
     flags-canonical 0x90 (λ g. item.Main (main.Output g)) f f bs
     (λ other o. let is : f ≡ flags_of (word other) = o.says in (ap (λ (g : Flags). g.buffered_bytes) is, subst (λ (g : Flags). flags_number g ≤ word other) (sym is) (number-le (word other))))
-    refl
+    (refl, refl)
     (subst (λ g. Spells (with_header 0x90 (flags_data f)) (item.Main (main.Output g))) (ap flags_of (word-flags f) ∙ flags-again f)
     (spelled-by 0x90 (λ l. item.Main (main.Output (flags_of (word l)))) (flags_data f) (are-flags f) (flags-shape f) (omega arith) refl refl refl (λ a. refl) (λ a b. refl) (λ a b c d. refl)))
 
@@ -487,7 +495,7 @@ canonical-feature : (f : Flags) (bs : List ℕ) → Behind bs (item.Main (main.F
 canonical-feature f bs b =
     flags-canonical 0xb0 (λ g. item.Main (main.Feature g)) f f bs
     (λ other o. let is : f ≡ flags_of (word other) = o.says in (ap (λ (g : Flags). g.buffered_bytes) is, subst (λ (g : Flags). flags_number g ≤ word other) (sym is) (number-le (word other))))
-    refl
+    (refl, refl)
     (subst (λ g. Spells (with_header 0xb0 (flags_data f)) (item.Main (main.Feature g))) (ap flags_of (word-flags f) ∙ flags-again f)
     (spelled-by 0xb0 (λ l. item.Main (main.Feature (flags_of (word l)))) (flags_data f) (are-flags f) (flags-shape f) (omega arith) refl refl refl (λ a. refl) (λ a b. refl) (λ a b c d. refl)))
 
@@ -502,7 +510,7 @@ canonical-input f bs b =
     flags-canonical 0x80 (λ g. item.Main (main.Input g)) f (unvolatile f) bs
     (λ other o. let is : f ≡ unvolatile (flags_of (word other)) = o.says in
     (ap (λ (g : Flags). g.buffered_bytes) is, subst (λ (g : Flags). flags_number (unvolatile g) ≤ word other) (sym is) (let a = number-without (flags_of (word other)) in let c = number-le (word other) in omega arith)))
-    refl
+    (refl, refl)
     (subst (λ g. Spells (with_header 0x80 (flags_data (unvolatile f))) (item.Main (main.Input g))) (ap (λ w. unvolatile (flags_of w)) (word-flags (unvolatile f)) ∙ ap unvolatile (flags-again (unvolatile f)) ∙ plain)
     (spelled-by 0x80 (λ l. item.Main (main.Input (unvolatile (flags_of (word l))))) (flags_data (unvolatile f)) (are-flags (unvolatile f)) (flags-shape (unvolatile f)) (omega arith) refl refl refl (λ a. refl) (λ a b. refl) (λ a b c d. refl)))
 
@@ -510,7 +518,7 @@ count-is : (n : ℕ) → n < 2 ^ 32 → count_data n ≡ unsigned_data n
 count-is n small = cond-true (nat_lt n 4294967296) (unsigned_data n) (four_bytes (n % 4294967296)) (lt-ltb n 4294967296 small)
 
 -- an item that says all by its header
-bare-canonical : (x : ItemType) (h : ℕ) → is_bare x ≡ true → h < 256 → announced h ≡ 0 → item_of h [] ≡ Ok x → IsCanonical (h ∷ []) x
+bare-canonical : (x : ItemType) (h : ℕ) → is_bare x ≡ true → h < 256 → following h [] ≡ 0 → item_of h [] ≡ Ok x → IsCanonical (h ∷ []) x
 bare-canonical x h bare small none reads = record {
   spells = (are-one h small, sym none, reads);
   bare = λ e. refl;
@@ -529,22 +537,22 @@ canonical-main main.EndCollection bs b = bare-canonical (item.Main main.EndColle
 
 canonical-global : (x : GlobalItem) (bs : List ℕ) → Behind bs (item.Global x) → is_kept (item.Global x) ≡ true → IsCanonical (global_bytes x) (item.Global x)
 canonical-global (global.UsagePage n) bs b kept = canonical-page n bs b
-canonical-global (global.LogicalMinimum z) bs b kept = signed-canonical 0x14 (λ y. item.Global (global.LogicalMinimum y)) z bs b (λ l y h. h) (λ y. refl) (omega arith) refl refl refl (λ a. refl) (λ a c. refl) (λ a c d e. refl)
-canonical-global (global.LogicalMaximum z) bs b kept = signed-canonical 0x24 (λ y. item.Global (global.LogicalMaximum y)) z bs b (λ l y h. h) (λ y. refl) (omega arith) refl refl refl (λ a. refl) (λ a c. refl) (λ a c d e. refl)
-canonical-global (global.PhysicalMinimum z) bs b kept = signed-canonical 0x34 (λ y. item.Global (global.PhysicalMinimum y)) z bs b (λ l y h. h) (λ y. refl) (omega arith) refl refl refl (λ a. refl) (λ a c. refl) (λ a c d e. refl)
-canonical-global (global.PhysicalMaximum z) bs b kept = signed-canonical 0x44 (λ y. item.Global (global.PhysicalMaximum y)) z bs b (λ l y h. h) (λ y. refl) (omega arith) refl refl refl (λ a. refl) (λ a c. refl) (λ a c d e. refl)
-canonical-global (global.UnitExponent z) bs b kept = signed-canonical 0x54 (λ y. item.Global (global.UnitExponent y)) z bs b (λ l y h. h) (λ y. refl) (omega arith) refl refl refl (λ a. refl) (λ a c. refl) (λ a c d e. refl)
-canonical-global (global.Unit n) bs b kept = plain-canonical 0x64 (λ m. item.Global (global.Unit m)) n bs b (λ l m h. h) (λ m. refl) (omega arith) refl refl refl (λ a. refl) (λ a c. refl) (λ a c d e. refl)
+canonical-global (global.LogicalMinimum z) bs b kept = signed-canonical 0x14 (λ y. item.Global (global.LogicalMinimum y)) z bs b (λ l y h. h) (λ y. (refl, refl)) (omega arith) refl refl refl (λ a. refl) (λ a c. refl) (λ a c d e. refl)
+canonical-global (global.LogicalMaximum z) bs b kept = signed-canonical 0x24 (λ y. item.Global (global.LogicalMaximum y)) z bs b (λ l y h. h) (λ y. (refl, refl)) (omega arith) refl refl refl (λ a. refl) (λ a c. refl) (λ a c d e. refl)
+canonical-global (global.PhysicalMinimum z) bs b kept = signed-canonical 0x34 (λ y. item.Global (global.PhysicalMinimum y)) z bs b (λ l y h. h) (λ y. (refl, refl)) (omega arith) refl refl refl (λ a. refl) (λ a c. refl) (λ a c d e. refl)
+canonical-global (global.PhysicalMaximum z) bs b kept = signed-canonical 0x44 (λ y. item.Global (global.PhysicalMaximum y)) z bs b (λ l y h. h) (λ y. (refl, refl)) (omega arith) refl refl refl (λ a. refl) (λ a c. refl) (λ a c d e. refl)
+canonical-global (global.UnitExponent z) bs b kept = signed-canonical 0x54 (λ y. item.Global (global.UnitExponent y)) z bs b (λ l y h. h) (λ y. (refl, refl)) (omega arith) refl refl refl (λ a. refl) (λ a c. refl) (λ a c d e. refl)
+canonical-global (global.Unit n) bs b kept = plain-canonical 0x64 (λ m. item.Global (global.Unit m)) n bs b (λ l m h. h) (λ m. (refl, refl)) (omega arith) refl refl refl (λ a. refl) (λ a c. refl) (λ a c d e. refl)
 canonical-global (global.ReportSize n) bs b kept =
     let says : word bs ≡ n = b.says in
     let small : n < 2 ^ 32 = omega (arith, word-fits bs b.are b.short b.known) in
     subst (λ l. IsCanonical (with_header 0x74 l) (item.Global (global.ReportSize n))) (sym (count-is n small))
-    (plain-canonical 0x74 (λ m. item.Global (global.ReportSize m)) n bs b (λ l m h. h) (λ m. refl) (omega arith) refl refl refl (λ a. refl) (λ a c. refl) (λ a c d e. refl))
+    (plain-canonical 0x74 (λ m. item.Global (global.ReportSize m)) n bs b (λ l m h. h) (λ m. (refl, refl)) (omega arith) refl refl refl (λ a. refl) (λ a c. refl) (λ a c d e. refl))
 canonical-global (global.ReportCount n) bs b kept =
     let says : word bs ≡ n = b.says in
     let small : n < 2 ^ 32 = omega (arith, word-fits bs b.are b.short b.known) in
     subst (λ l. IsCanonical (with_header 0x94 l) (item.Global (global.ReportCount n))) (sym (count-is n small))
-    (plain-canonical 0x94 (λ m. item.Global (global.ReportCount m)) n bs b (λ l m h. h) (λ m. refl) (omega arith) refl refl refl (λ a. refl) (λ a c. refl) (λ a c d e. refl))
+    (plain-canonical 0x94 (λ m. item.Global (global.ReportCount m)) n bs b (λ l m h. h) (λ m. (refl, refl)) (omega arith) refl refl refl (λ a. refl) (λ a c. refl) (λ a c d e. refl))
 canonical-global (global.ReportId n) bs b kept = canonical-id n bs b
 canonical-global global.Push bs b kept = bare-canonical (item.Global global.Push) 0xa4 refl (omega arith) refl refl
 canonical-global global.Pop bs b kept = bare-canonical (item.Global global.Pop) 0xb4 refl (omega arith) refl refl
@@ -553,27 +561,27 @@ canonical-global global.Reserved bs b kept = cc
 canonical-local : (x : LocalItem) (bs : List ℕ) → Behind bs (item.Local x) → is_kept (item.Local x) ≡ true → IsCanonical (local_bytes x) (item.Local x)
 canonical-local (local.Usage page id) bs b kept = canonical-usage page id bs b
 canonical-local (local.UsageId n) bs b kept = canonical-usage_id n bs b
-canonical-local (local.UsageMinimum n) bs b kept = plain-canonical 0x18 (λ m. item.Local (local.UsageMinimum m)) n bs b (λ l m h. h) (λ m. refl) (omega arith) refl refl refl (λ a. refl) (λ a c. refl) (λ a c d e. refl)
-canonical-local (local.UsageMaximum n) bs b kept = plain-canonical 0x28 (λ m. item.Local (local.UsageMaximum m)) n bs b (λ l m h. h) (λ m. refl) (omega arith) refl refl refl (λ a. refl) (λ a c. refl) (λ a c d e. refl)
-canonical-local (local.DesignatorIndex n) bs b kept = plain-canonical 0x38 (λ m. item.Local (local.DesignatorIndex m)) n bs b (λ l m h. h) (λ m. refl) (omega arith) refl refl refl (λ a. refl) (λ a c. refl) (λ a c d e. refl)
-canonical-local (local.DesignatorMinimum n) bs b kept = plain-canonical 0x48 (λ m. item.Local (local.DesignatorMinimum m)) n bs b (λ l m h. h) (λ m. refl) (omega arith) refl refl refl (λ a. refl) (λ a c. refl) (λ a c d e. refl)
-canonical-local (local.DesignatorMaximum n) bs b kept = plain-canonical 0x58 (λ m. item.Local (local.DesignatorMaximum m)) n bs b (λ l m h. h) (λ m. refl) (omega arith) refl refl refl (λ a. refl) (λ a c. refl) (λ a c d e. refl)
-canonical-local (local.StringIndex n) bs b kept = plain-canonical 0x78 (λ m. item.Local (local.StringIndex m)) n bs b (λ l m h. h) (λ m. refl) (omega arith) refl refl refl (λ a. refl) (λ a c. refl) (λ a c d e. refl)
-canonical-local (local.StringMinimum n) bs b kept = plain-canonical 0x88 (λ m. item.Local (local.StringMinimum m)) n bs b (λ l m h. h) (λ m. refl) (omega arith) refl refl refl (λ a. refl) (λ a c. refl) (λ a c d e. refl)
-canonical-local (local.StringMaximum n) bs b kept = plain-canonical 0x98 (λ m. item.Local (local.StringMaximum m)) n bs b (λ l m h. h) (λ m. refl) (omega arith) refl refl refl (λ a. refl) (λ a c. refl) (λ a c d e. refl)
-canonical-local (local.Delimiter n) bs b kept = plain-canonical 0xa8 (λ m. item.Local (local.Delimiter m)) n bs b (λ l m h. h) (λ m. refl) (omega arith) refl refl refl (λ a. refl) (λ a c. refl) (λ a c d e. refl)
+canonical-local (local.UsageMinimum n) bs b kept = plain-canonical 0x18 (λ m. item.Local (local.UsageMinimum m)) n bs b (λ l m h. h) (λ m. (refl, refl)) (omega arith) refl refl refl (λ a. refl) (λ a c. refl) (λ a c d e. refl)
+canonical-local (local.UsageMaximum n) bs b kept = plain-canonical 0x28 (λ m. item.Local (local.UsageMaximum m)) n bs b (λ l m h. h) (λ m. (refl, refl)) (omega arith) refl refl refl (λ a. refl) (λ a c. refl) (λ a c d e. refl)
+canonical-local (local.DesignatorIndex n) bs b kept = plain-canonical 0x38 (λ m. item.Local (local.DesignatorIndex m)) n bs b (λ l m h. h) (λ m. (refl, refl)) (omega arith) refl refl refl (λ a. refl) (λ a c. refl) (λ a c d e. refl)
+canonical-local (local.DesignatorMinimum n) bs b kept = plain-canonical 0x48 (λ m. item.Local (local.DesignatorMinimum m)) n bs b (λ l m h. h) (λ m. (refl, refl)) (omega arith) refl refl refl (λ a. refl) (λ a c. refl) (λ a c d e. refl)
+canonical-local (local.DesignatorMaximum n) bs b kept = plain-canonical 0x58 (λ m. item.Local (local.DesignatorMaximum m)) n bs b (λ l m h. h) (λ m. (refl, refl)) (omega arith) refl refl refl (λ a. refl) (λ a c. refl) (λ a c d e. refl)
+canonical-local (local.StringIndex n) bs b kept = plain-canonical 0x78 (λ m. item.Local (local.StringIndex m)) n bs b (λ l m h. h) (λ m. (refl, refl)) (omega arith) refl refl refl (λ a. refl) (λ a c. refl) (λ a c d e. refl)
+canonical-local (local.StringMinimum n) bs b kept = plain-canonical 0x88 (λ m. item.Local (local.StringMinimum m)) n bs b (λ l m h. h) (λ m. (refl, refl)) (omega arith) refl refl refl (λ a. refl) (λ a c. refl) (λ a c d e. refl)
+canonical-local (local.StringMaximum n) bs b kept = plain-canonical 0x98 (λ m. item.Local (local.StringMaximum m)) n bs b (λ l m h. h) (λ m. (refl, refl)) (omega arith) refl refl refl (λ a. refl) (λ a c. refl) (λ a c d e. refl)
+canonical-local (local.Delimiter n) bs b kept = plain-canonical 0xa8 (λ m. item.Local (local.Delimiter m)) n bs b (λ l m h. h) (λ m. (refl, refl)) (omega arith) refl refl refl (λ a. refl) (λ a c. refl) (λ a c d e. refl)
 canonical-local (local.Reserved value) bs b kept = cc
 
 canonical-behind : (x : ItemType) (bs : List ℕ) → Behind bs x → is_kept x ≡ true → IsCanonical (item_bytes x) x
 canonical-behind (item.Main x) bs b kept = canonical-main x bs b
 canonical-behind (item.Global x) bs b kept = canonical-global x bs b kept
 canonical-behind (item.Local x) bs b kept = canonical-local x bs b kept
-canonical-behind item.Long bs b kept = absurd b.says
+canonical-behind item.Long bs b kept = cc
 canonical-behind item.Reserved bs b kept = cc
 
 pub canonical : (x : ItemType) (spelling : List ℕ) → Spells spelling x → is_kept x ≡ true → IsCanonical (item_bytes x) x
 canonical x [] s kept = absurd s
-canonical x (h ∷ bs) s kept = canonical-behind x bs (behind h bs x s) kept
+canonical x (h ∷ bs) s kept = canonical-behind x bs (behind h bs x kept s) kept
 
 pub writes-canonical : (r : Result (Vec ℕ Global) HidError) (x : ItemType) → Writes r (item_bytes x)
     → (spelling : List ℕ) → Spells spelling x → is_kept x ≡ true → IfOk r (λ (bytes : Vec ℕ Global). IsCanonical bytes.items x)

@@ -1,7 +1,7 @@
 -- What a reader answers that makes no message.
 use Rattle.std.specs.Prelude.{Result, Ok, Err}
 use Rattle.hidreport_items.specs.Answer.{Fault, Invalid, Insufficient}
-use Rattle.hidreport_items.specs.Messages.{size_message, tag_message}
+use Rattle.hidreport_items.specs.Messages.{size_message, tag_message, long_message, not_long_message}
 use Rattle.hidreport_items.specs.Spelling.{prefix}
 use Rattle.hidreport_items.specs.declared.item_fault.ItemFault.{ItemFault}
 use Rattle.hidreport_items.specs.declared.item_fault.ItemFault.TheVariants as faults
@@ -11,6 +11,8 @@ abbrev pub told_fault : ItemFault → Fault
 told_fault faults.TooFew = Insufficient
 told_fault (faults.Length n) = Invalid (size_message n)
 told_fault (faults.Tag header) = Invalid (tag_message (prefix header))
+told_fault faults.Long = Invalid long_message
+told_fault faults.Short = Invalid not_long_message
 
 -- what was read, a fault by its message
 abbrev pub told : {A : Type 0} → Result A ItemFault → Result A Fault

@@ -1,4 +1,5 @@
--- Items that a standard of today gives a meaning: all but those of kinds that it keeps for later.
+-- Items that a standard of today gives a meaning: all but long ones (Section 6.2.2.3) and those of
+-- kinds that it keeps for later.
 use Rattle.std.specs.Prelude.{Bool, true, false}
 use Rattle.hidreport_items.specs.declared.global.GlobalItem.TheVariants as global
 use Rattle.hidreport_items.specs.declared.local.LocalItem.TheVariants as local
@@ -11,5 +12,5 @@ is_kept (item.Global global.Reserved) = false
 is_kept (item.Global x) = true
 is_kept (item.Local (local.Reserved value)) = false
 is_kept (item.Local x) = true
-is_kept item.Long = true
+is_kept item.Long = false
 is_kept item.Reserved = false

@@ -1,7 +1,7 @@
--- The items that bytes spell (Sections 6.2.2.2 to 6.2.2.8): a header, and exactly the data that it
--- announces.
-use Rattle.std.specs.Prelude.{◌≡◌, ℕ, ◌-◌, ◌/◌, ◌%◌, ◌<◌, ◌==◌, nat_le, false, if◌then◌else◌, List}
-use Rattle.std.specs.Prelude.{[], ◌∷◌, length, All, Result, Ok, Err}
+-- The items that bytes spell (Sections 6.2.2.2 to 6.2.2.8): a header, and exactly the bytes that
+-- have to follow it.
+use Rattle.std.specs.Prelude.{◌≡◌, ℕ, ◌+◌, ◌-◌, ◌/◌, ◌%◌, ◌<◌, ◌==◌, nat_le, Bool, false}
+use Rattle.std.specs.Prelude.{if◌then◌else◌, List, [], ◌∷◌, length, All, Result, Ok, Err}
 use Rattle.hidreport_items.specs.Answer.{Fault, Invalid, Insufficient}
 use Rattle.hidreport_items.specs.Flags.{Flags, flags_of}
 use Rattle.hidreport_items.specs.Messages.{size_message, tag_message}
@@ -20,6 +20,20 @@ use Rattle.hidreport_items.specs.declared.item.ItemType.TheVariants as item
 -- how many data bytes the header announces: size codes 0, 1, 2, 3 mean 0, 1, 2, 4
 abbrev pub announced : ℕ → ℕ
 announced h = if h % 4 == 3 then 4 else h % 4
+
+-- the first data byte, or 0 where there is none
+abbrev pub first_or_zero : List ℕ → ℕ
+first_or_zero [] = 0
+first_or_zero (b ∷ bs) = b
+
+-- the header of a long item (Section 6.2.2.3)
+abbrev pub is_long_header : ℕ → Bool
+is_long_header h = h == 0xfe
+
+-- how many bytes follow a header, by the bytes that stand behind it: of a short item its data; of a
+-- long one the byte that has the length of its data, the tag, and so many data bytes
+abbrev pub following : ℕ → List ℕ → ℕ
+following h bs = if is_long_header h then 2 + first_or_zero bs else announced h
 
 -- bits 2 to 3 of the header: 0 main, 1 global, 2 local, 3 reserved
 abbrev pub type_of : ℕ → ℕ
@@ -82,11 +96,6 @@ kind_number kind.UsageModifier = 6
 kind_number (kind.Reserved n) = n
 kind_number (kind.VendorDefined n) = n
 
--- the first data byte, or 0 where there is none
-abbrev pub first_or_zero : List ℕ → ℕ
-first_or_zero [] = 0
-first_or_zero (b ∷ bs) = b
-
 -- a Collection by its first data byte
 abbrev pub collection_of : List ℕ → Result CollectionItem Fault
 collection_of bs = Ok (collection_item (first_or_zero bs))
@@ -145,7 +154,8 @@ item_of h bs =
     if type_of h == 0 then read_as item.Main (main_item h bs)
     else (if type_of h == 1 then read_as item.Global (global_item h bs)
     else (if type_of h == 2 then read_as item.Local (local_item h bs)
-    else Ok item.Reserved))
+    else (if is_long_header h then Ok item.Long
+    else Ok item.Reserved)))
 
 -- what is read of a header and of all bytes behind it, as many as there are
 abbrev pub read_with : {A : Type 0} → (ℕ → List ℕ → Result A Fault) → List ℕ → Result A Fault
@@ -156,7 +166,7 @@ read_with read (h ∷ bs) = read h bs
 abbrev pub AreBytes : List ℕ → Type 0
 AreBytes bs = All (λ b. b < 256) bs
 
--- the bytes are a header and the data that it announces, and denote the item
+-- the bytes are a header and just those that follow it, and denote the item
 abbrev pub Spells : List ℕ → ItemType → Type 0
 Spells [] x = ⊥
-Spells (h ∷ bs) x = AreBytes (h ∷ bs) × (length bs ≡ announced h) × (item_of h bs ≡ Ok x)
+Spells (h ∷ bs) x = AreBytes (h ∷ bs) × (length bs ≡ following h bs) × (item_of h bs ≡ Ok x)

@@ -1,10 +1,10 @@
 ghost use Rattle.hidreport_items.specs.Answer.{GivesInPlace, Writes};
 ghost use Rattle.hidreport_items.specs.InPlace.{told};
 ghost use Rattle.hidreport_items.specs.Writing.{item_bytes};
-ghost use Rattle.std.specs.Prelude.{◌≡◌, true, ℕ, IfOk, List, Ok};
+ghost use Rattle.std.specs.Prelude.{◌≡◌, ◌==◌, true, ℕ, IfOk, List, Ok};
 ghost use Rattle.hidreport_items.specs.Canonical.{IsCanonical};
 ghost use Rattle.hidreport_items.specs.Kept.{is_kept};
-ghost use Rattle.hidreport_items.specs.Spelling.{item_of, read_with, Spells};
+ghost use Rattle.hidreport_items.specs.Spelling.{is_long_header, item_of, read_with, Spells};
 
 use crate::error::HidError;
 use crate::global::GlobalItem;
@@ -27,7 +27,7 @@ pub enum ItemType {
     /// An item that ends with the next main item.
     Local(LocalItem),
 
-    /// A long item (Section 6.2.2.3); no reader gives one yet.
+    /// A long item (Section 6.2.2.3), whatever its tag and data.
     Long,
 
     /// An item of the type that the standard keeps for later.
@@ -39,8 +39,8 @@ impl ItemType {
     ///
     /// The header's type chooses the reader (Section 6.2.2.2): that of `MainItem`, `GlobalItem` or
     /// `LocalItem`, whose refusals it has; the type that the standard keeps for later is
-    /// `Reserved`, whatever its data. No bytes are `InsufficientData`. `OutOfMemory` comes only
-    /// where there is no memory for a message.
+    /// `Reserved`, or with the header FE `Long` (Section 6.2.2.3), whatever the data. No bytes are
+    /// `InsufficientData`. `OutOfMemory` comes only where there is no memory for a message.
     pub fn try_from(alloc: Global, bytes: &[u8]) -> Result<ItemType, HidError>
         ensures { GivesInPlace result (read_with item_of bytes.now) }
     {
@@ -52,9 +52,9 @@ impl ItemType {
 
     /// The item's bytes, those of the item that it is; none for `Long` and `Reserved`.
     ///
-    /// For an item that bytes can spell, and that isn't of a reserved kind, `ItemType::try_from`
-    /// reads these bytes as the item, and no spelling of it with data is shorter. `OutOfMemory`
-    /// comes only where a growth is refused.
+    /// For an item that bytes can spell, and that is neither long nor of a reserved kind,
+    /// `ItemType::try_from` reads these bytes as the item, and no spelling of it with data is
+    /// shorter. `OutOfMemory` comes only where a growth is refused.
     pub fn as_bytes(&self, alloc: Global) -> Result<Vec<u8>, HidError>
         ensures exact { Writes result (item_bytes self.now) }
         ensures canonical { (spelling : List ℕ) → Spells spelling self.now → is_kept self.now ≡ true
@@ -79,6 +79,13 @@ pub fn write_item(item: &ItemType) -> ItemBytes
     }
 }
 
+/// Whether a header is that of a long item (Section 6.2.2.3).
+pub fn is_long_header(header: u8) -> bool
+    ensures { result ≡ is_long_header header }
+{
+    header == 0xfe
+}
+
 /// The item with this header and data, all that there is, whatever its type (Section 6.2.2.2);
 /// takes no memory.
 ///
@@ -92,6 +99,7 @@ pub fn read_item(header: u8, data_bytes: &[u8]) -> Result<ItemType, ItemFault>
         0 => Ok(ItemType::Main(MainItem::from_parts(header, data_bytes)?)),
         1 => Ok(ItemType::Global(GlobalItem::from_parts(header, data_bytes)?)),
         2 => Ok(ItemType::Local(LocalItem::from_parts(header, data_bytes)?)),
+        _ if is_long_header(header) => Ok(ItemType::Long),
         _ => Ok(ItemType::Reserved),
     }
 }

@@ -9,4 +9,10 @@ pub enum ItemFault {
 
     /// The header is that of a main item, and its tag is none of the five.
     Tag(u8),
+
+    /// The item is a long one, and a short one is asked for (Section 6.2.2.3).
+    Long,
+
+    /// The item is a short one, and a long one is asked for.
+    Short,
 }

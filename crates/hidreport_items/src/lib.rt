@@ -31,7 +31,7 @@ pub use feature::FeatureItem;
 pub use flags::MainDataItem;
 pub use global::GlobalItem;
 pub use input::InputItem;
-pub use item::{ItemType, read_item, write_item};
+pub use item::{ItemType, is_long_header, read_item, write_item};
 pub use item_builder::ItemBuilder;
 pub use item_bytes::ItemBytes;
 pub use item_fault::ItemFault;

@@ -1,6 +1,7 @@
 ghost use Rattle.std.specs.Prelude.{◌≡◌, ◌-◌, ◌%◌, Err, IfOk, MatchResult, string_bytes};
 ghost use Rattle.hidreport_items.specs.Answer.{FailsInPlace, GivesInPlace, IsFault};
 ghost use Rattle.hidreport_items.specs.InPlace.{told, told_fault};
+ghost use Rattle.hidreport_items.specs.Messages.{long_message, not_long_message};
 ghost use Rattle.hidreport_items.specs.Messages.{size_message, tag_message};
 ghost use Rattle.hidreport_items.specs.Spelling.{prefix};
 
@@ -30,6 +31,8 @@ pub fn error_of(alloc: Global, fault: ItemFault) -> HidError
         ItemFault::TooFew => HidError::InsufficientData,
         ItemFault::Length(length) => size_fault(alloc, length),
         ItemFault::Tag(header) => tag_fault(alloc, header),
+        ItemFault::Long => long_fault(alloc),
+        ItemFault::Short => not_long_fault(alloc),
     }
 }
 
@@ -45,6 +48,20 @@ fn tag_fault(alloc: Global, header: u8) -> HidError
     ensures { IsFault result (tag_message (prefix header)) }
 {
     fault(tag_text(alloc, header & 0xfc))
+}
+
+/// The refusal of a long item where a short one is asked for.
+fn long_fault(alloc: Global) -> HidError
+    ensures { IsFault result long_message }
+{
+    fault(String::from_str(alloc, "Item is a long item"))
+}
+
+/// The refusal of a short item where a long one is asked for.
+fn not_long_fault(alloc: Global) -> HidError
+    ensures { IsFault result not_long_message }
+{
+    fault(String::from_str(alloc, "Item is not a long item"))
 }
 
 /// Data that is refused with this message, or want of memory for it.

@@ -6,7 +6,8 @@ use Rattle.std.proofs.lemmas.Grind.{get_or_default_zero}
 use Rattle.std.proofs.lemmas.List.Elements.{All-take, All-drop}
 use Rattle.std.proofs.Math.Seq.{take-append_seam, drop-append_seam}
 use Rattle.hidreport_items.specs.Answer.{Fault, Insufficient}
-use Rattle.hidreport_items.specs.Spelling.{announced, AreBytes}
+use Rattle.hidreport_items.specs.Spelling.{following, AreBytes}
+use Rattle.hidreport_items.proofs.Following.{following-cut, following-more, following-within}
 use Rattle.hidreport_items.specs.declared.item.ItemType.{ItemType}
 use Rattle.hidreport_lists.specs.Answer.{InvalidAt, Bounds, Mismatch, OverBudget, Answers}
 use Rattle.hidreport_lists.specs.Entry.{Entry}
@@ -17,20 +18,22 @@ use Rattle.hidreport_lists.specs.declared.error.ParserError.TheVariants as parse
 use Rattle.hidreport_lists.proofs.Items.{items_from-inside, item_at-enough, chosen_ok, enough, with_front, itemise-some}
 
 -- a header and its data, before other bytes, are the first item
-step-header : (read : Reader) (offset h : ℕ) (bs : List ℕ) (x : ItemType) (rest : List ℕ) → length bs ≡ announced h → read h bs ≡ Ok x
+step-header : (read : Reader) (offset h : ℕ) (bs : List ℕ) (x : ItemType) (rest : List ℕ) → length bs ≡ following h bs → read h bs ≡ Ok x
     → items_from read offset 0 (h ∷ (bs ++ rest)) ≡ with_entry offset (h ∷ bs) (Ok x) (items_from read (offset + length (h ∷ bs)) 0 rest)
 step-header read offset h bs x rest size is =
     let whole = bs ++ rest in
-    let same : take (announced h) whole ≡ bs = subst (λ n. take n whole ≡ bs) size (take-append_seam bs rest) in
-    let behind : drop (announced h) whole ≡ rest = subst (λ n. drop n whole ≡ rest) size (drop-append_seam bs rest) in
-    let room : announced h ≤ length whole = simp length-append (omega arith) in
+    let n = following h whole in
+    let sized : length bs ≡ n = size ∙ sym (following-more h bs rest (let le : following h bs ≤ length bs = omega (arith, size) in le)) in
+    let same : take n whole ≡ bs = subst (λ k. take k whole ≡ bs) sized (take-append_seam bs rest) in
+    let behind : drop n whole ≡ rest = subst (λ k. drop k whole ≡ rest) sized (drop-append_seam bs rest) in
+    let room : n ≤ length whole = simp length-append (omega (arith, sized)) in
     let first : item_at read h whole ≡ Ok x = item_at-enough read h whole room ∙ ap (read h) same ∙ is in
-    let later : items_from read (offset + 1) (announced h) whole ≡ items_from read (offset + length (h ∷ bs)) 0 rest =
-    items_from-inside read (offset + 1) (announced h) whole room
-    ∙ ap (λ n. items_from read n 0 (drop (announced h) whole)) (let e : offset + 1 + announced h ≡ offset + length (h ∷ bs) = omega arith in e)
+    let later : items_from read (offset + 1) n whole ≡ items_from read (offset + length (h ∷ bs)) 0 rest =
+    items_from-inside read (offset + 1) n whole room
+    ∙ ap (λ k. items_from read k 0 (drop n whole)) (let e : offset + 1 + n ≡ offset + length (h ∷ bs) = omega (arith, sized) in e)
     ∙ ap (items_from read (offset + length (h ∷ bs)) 0) behind in
-    ap (λ l. with_entry offset (h ∷ l) (item_at read h whole) (items_from read (offset + 1) (announced h) whole)) same
-    ∙ ap (λ r. with_entry offset (h ∷ bs) r (items_from read (offset + 1) (announced h) whole)) first
+    ap (λ l. with_entry offset (h ∷ l) (item_at read h whole) (items_from read (offset + 1) n whole)) same
+    ∙ ap (λ r. with_entry offset (h ∷ bs) r (items_from read (offset + 1) n whole)) first
     ∙ ap (with_entry offset (h ∷ bs) (Ok x)) later
 
 -- bytes that are read as an item, before other bytes, are the first item
@@ -51,7 +54,7 @@ cut-all read (e ∷ es) offset each places =
 stop-all : (read : Reader) (entries : List Entry) (offset header : ℕ) (after : List ℕ) (fault : Fault) → AreRead read entries → item_at read header after ≡ Err fault
     → items_from read offset 0 (joined entries ++ header ∷ after) ≡ Err (offset + length (joined entries), fault)
 stop-all read [] offset header after fault each why =
-    ap (λ (r : Result ItemType Fault). with_entry offset (header ∷ take (announced header) after) r (items_from read (offset + 1) (announced header) after)) why
+    ap (λ (r : Result ItemType Fault). with_entry offset (header ∷ take (following header after) after) r (items_from read (offset + 1) (following header after) after)) why
     ∙ ap (λ n. Err (n, fault)) (let e : offset ≡ offset + 0 = omega arith in e)
 stop-all read (e ∷ es) offset header after fault each why =
     ap (items_from read offset 0) (append_assoc e.bytes (joined es) (header ∷ after))
@@ -94,23 +97,26 @@ record Stops (read : Reader) (bytes : List ℕ) : Type 0 where
   none : (n : ℕ) (x : ItemType) → Reads read (take n (header ∷ after)) x → ⊥
   why : item_at read header after ≡ Err fault
 
--- a beginning that is read as an item has all the data that its header announces
+-- a beginning that is read as an item has all that follows its header
 none-read : (read : Reader) (h : ℕ) (bs : List ℕ) (fault : Fault) → item_at read h bs ≡ Err fault → (n : ℕ) (x : ItemType) → Reads read (take n (h ∷ bs)) x → ⊥
 none-read read h bs fault why zero x r = r
 none-read read h bs fault why (suc n) x r =
-    let size : min n (length bs) ≡ announced h = sym (length-take n bs) ∙ r.1 in
-    let room : announced h ≤ length bs = omega (arith, size) in
-    let same : take (announced h) bs ≡ take n bs = ap (λ k. take k bs) (sym size) ∙ take_min n bs in
+    let size : min n (length bs) ≡ following h bs = sym (length-take n bs) ∙ r.1 ∙ following-within h n bs r.1 in
+    let room : following h bs ≤ length bs = omega (arith, size) in
+    let same : take (following h bs) bs ≡ take n bs = ap (λ k. take k bs) (sym size) ∙ take_min n bs in
     let is : item_at read h bs ≡ Ok x = item_at-enough read h bs room ∙ ap (read h) same ∙ r.2 in
     let bad : Err fault ≡ Ok x = sym why ∙ is in
     cc
 
 -- what is read at a header is an item, before the rest
-cut-first : (read : Reader) (h : ℕ) (bs : List ℕ) (x : ItemType) → AreBytes (h ∷ bs) → item_at read h bs ≡ Ok x → Reads read (h ∷ take (announced h) bs) x
+cut-first : (read : Reader) (h : ℕ) (bs : List ℕ) (x : ItemType) → AreBytes (h ∷ bs) → item_at read h bs ≡ Ok x → Reads read (h ∷ take (following h bs) bs) x
 cut-first read h bs x bytes is =
-    let got = chosen_ok (nat_lt (length bs) (announced h)) Insufficient (read h (take (announced h) bs)) x is in
-    let room : announced h ≤ length bs = enough (length bs) (announced h) got.0 in
-    (All-take (λ b. b < 256) (suc (announced h)) (h ∷ bs) bytes, simp length-take (omega arith), got.1)
+    let n = following h bs in
+    let got = chosen_ok (nat_lt (length bs) n) Insufficient (read h (take n bs)) x is in
+    let room : n ≤ length bs = enough (length bs) n got.0 in
+    let size : length (take n bs) ≡ n = simp length-take (omega (arith, room)) in
+    let le : following h bs ≤ n = omega arith in
+    (All-take (λ b. b < 256) (suc n) (h ∷ bs) bytes, size ∙ sym (following-cut h n bs le), got.1)
 
 -- one more item in front
 more-cut : (read : Reader) (offset : ℕ) (front : List ℕ) (x : ItemType) (rest : List ℕ) → Reads read front x → Cut read (offset + length front) rest → Cut read offset (front ++ rest)
@@ -138,7 +144,7 @@ Ends read offset bytes = Cut read offset bytes ⊎ Stops read bytes
 
 -- by what the first item is
 ends-item : (read : Reader) (offset h : ℕ) (bs : List ℕ) → AreBytes (h ∷ bs)
-    → ((at : ℕ) → Cut read at (drop (announced h) bs) ⊎ Stops read (drop (announced h) bs))
+    → ((at : ℕ) → Cut read at (drop (following h bs) bs) ⊎ Stops read (drop (following h bs) bs))
     → (r : Result ItemType Fault) → item_at read h bs ≡ r → Cut read offset (h ∷ bs) ⊎ Stops read (h ∷ bs)
 ends-item read offset h bs bytes rest (Err fault) e = inr (record {
   entries = [];
@@ -151,12 +157,12 @@ ends-item read offset h bs bytes rest (Err fault) e = inr (record {
   why = e;
 })
 ends-item read offset h bs bytes rest (Ok x) e =
-    let front : List ℕ = h ∷ take (announced h) bs in
-    let whole : front ++ drop (announced h) bs ≡ h ∷ bs = ap (λ l. h ∷ l) (take-append-drop (announced h) bs) in
+    let front : List ℕ = h ∷ take (following h bs) bs in
+    let whole : front ++ drop (following h bs) bs ≡ h ∷ bs = ap (λ l. h ∷ l) (take-append-drop (following h bs) bs) in
     let first : Reads read front x = cut-first read h bs x bytes e in
     elim (rest (offset + length front)) [
-      | inl c ↦ inl (subst (Cut read offset) whole (more-cut read offset front x (drop (announced h) bs) first c))
-      | inr s ↦ inr (subst (Stops read) whole (more-stops read offset front x (drop (announced h) bs) first s))
+      | inl c ↦ inl (subst (Cut read offset) whole (more-cut read offset front x (drop (following h bs) bs) first c))
+      | inr s ↦ inr (subst (Stops read) whole (more-stops read offset front x (drop (following h bs) bs) first s))
     ]
 
 -- bytes are items to their end, or items up to a fault
@@ -164,8 +170,8 @@ ends : (read : Reader) (n offset : ℕ) (bytes : List ℕ) → length bytes ≤ 
 ends read n offset [] le bytes = inl (record { entries = []; whole = refl; each = tt; places = tt })
 ends read zero offset (h ∷ bs) le bytes = absurd (omega arith)
 ends read (suc n) offset (h ∷ bs) le bytes =
-    let short : length (drop (announced h) bs) ≤ n = simp length-drop (omega arith) in
-    ends-item read offset h bs bytes (λ at. ends read n at (drop (announced h) bs) short (All-drop (λ b. b < 256) (suc (announced h)) (h ∷ bs) bytes)) (item_at read h bs) refl
+    let short : length (drop (following h bs) bs) ≤ n = simp length-drop (omega arith) in
+    ends-item read offset h bs bytes (λ at. ends read n at (drop (following h bs) bs) short (All-drop (λ b. b < 256) (suc (following h bs)) (h ∷ bs) bytes)) (item_at read h bs) refl
 
 -- bytes, of which there are some, are items or have a fault
 pub items_or_fault : (read : Reader) (bytes : List ℕ) → AreBytes bytes → bytes ≢ []

@@ -1,17 +1,20 @@
 -- One item at a time: the items of the rest behind those that were cut off before.
 use Rattle.std.proofs.Common.{◌≡◌, ◌≢◌, ℕ, zero, suc, ◌+◌, ◌<◌, ◌≤◌, Bool, true, false, cond, List, [], ◌∷◌, ◌++◌, length, take, drop, Result, Ok, Err, None, IfSome, string_bytes, refl, sym, ap, ◌∙◌, subst, arith, nat_lt, length-take, append_assoc}
 use Rattle.std.proofs.Math.Seq.{take-length}
+use Rattle.std.proofs.lemmas.Bool.{cond-false}
 use Rattle.std.proofs.lemmas.Grind.{common_steps}
-use Rattle.hidreport_items.specs.Answer.{Fault, Invalid, Insufficient, FailsInPlace}
+use Rattle.hidreport_items.specs.Answer.{Fault, Invalid, Insufficient, Fails}
+use Rattle.hidreport_items.specs.Messages.{long_message}
+use Rattle.hidreport_items.proofs.Following.{short-follow}
 use Rattle.hidreport_items.proofs.Written.{IsRead, NoneOrAnItem, written-read}
 use Rattle.hidreport_items.specs.declared.error.HidError.{HidError}
 use Rattle.hidreport_items.specs.declared.error.HidError.TheVariants as errors
-use Rattle.hidreport_items.specs.Spelling.{announced, item_of, read_as}
+use Rattle.hidreport_items.specs.Spelling.{announced, first_or_zero, following, is_long_header, item_of, read_as}
 use Rattle.hidreport_items.specs.Writing.{item_bytes}
 use Rattle.hidreport_items.specs.declared.item.ItemType.{ItemType}
 use Rattle.hidreport_lists.specs.Entry.{Spelled, Entry}
 use Rattle.hidreport_lists.specs.Answer.{Refusal, InvalidAt, Refuses, IsInvalidAt, fault_of}
-use Rattle.hidreport_lists.specs.Itemising.{Reader, item_at, with_entry, items_from, itemise, as_refusal, short_item}
+use Rattle.hidreport_lists.specs.Itemising.{Reader, item_at, with_entry, items_from, itemise, as_refusal, front_item, short_item}
 use Rattle.hidreport_lists.specs.Messages.{grammar_message}
 use Rattle.hidreport_lists.specs.declared.error.ParserError.{ParserError}
 use Rattle.hidreport_lists.specs.declared.error.ParserError.TheVariants as parser
@@ -40,27 +43,45 @@ never-read : {A : Type 0} (r : Result A Fault) (fault : Fault) → IsRead r → 
 never-read (Ok x) fault is e = cc
 never-read (Err d) fault is e = is
 
-pub item_at-enough : (read : Reader) (h : ℕ) (bs : List ℕ) → announced h ≤ length bs → item_at read h bs ≡ read h (take (announced h) bs)
-item_at-enough read h bs le = ap (λ b. cond b (Err Insufficient) (read h (take (announced h) bs))) (not_short (length bs) (announced h) le)
+pub item_at-enough : (read : Reader) (h : ℕ) (bs : List ℕ) → following h bs ≤ length bs → item_at read h bs ≡ read h (take (following h bs) bs)
+item_at-enough read h bs le = ap (λ b. cond b (Err Insufficient) (read h (take (following h bs) bs))) (not_short (length bs) (following h bs) le)
+
+-- a short item is the one at the front
+pub short-front : (h : ℕ) (bs : List ℕ) → is_long_header h ≡ false → short_item item_of (h ∷ bs) ≡ front_item item_of (h ∷ bs)
+short-front h bs e = cond-false (is_long_header h) (Err (Invalid long_message)) (front_item item_of (h ∷ bs)) e
+
+-- with all that follows its header, it is what is read
+pub front-read : (h : ℕ) (bs : List ℕ) → following h bs ≤ length bs
+    → front_item item_of (h ∷ bs) ≡ read_as (λ x. record { bytes = h ∷ take (following h bs) bs; item = x }) (item_of h (take (following h bs) bs))
+front-read h bs room = ap (read_as (λ x. record { bytes = h ∷ take (following h bs) bs; item = x })) (item_at-enough item_of h bs room)
+
+-- the item at the front begins with the first byte
+pub front-header : (bytes : List ℕ) (s : Spelled) → front_item item_of bytes ≡ Ok s → first_or_zero s.bytes ≡ first_or_zero bytes
+front-header [] s e = cc
+front-header (h ∷ bs) s e =
+    let got = read_as_ok (λ x. record { bytes = h ∷ take (following h bs) bs; item = x }) (item_at item_of h bs) s e in
+    ap (λ (y : Spelled). first_or_zero y.bytes) (sym got.2)
 
 -- a fault of the header and its data is the item's
-pub short_item-err : (h : ℕ) (after : List ℕ) (a : ℕ) (fault : Fault) → a ≡ announced h → a ≤ length after → Err fault ≡ item_of h (take a after)
+pub short_item-err : (h : ℕ) (after : List ℕ) (a : ℕ) (fault : Fault) → is_long_header h ≡ false → a ≡ announced h → a ≤ length after → Err fault ≡ item_of h (take a after)
     → Err fault ≡ short_item item_of (h ∷ after)
-short_item-err h after a fault is room e =
-    let enough_bytes : announced h ≤ length after = subst (λ n. n ≤ length after) is room in
-    let same : item_at item_of h after ≡ Err fault = item_at-enough item_of h after enough_bytes ∙ ap (λ n. item_of h (take n after)) (sym is) ∙ sym e in
-    sym (ap (read_as (λ x. record { bytes = h ∷ take (announced h) after; item = x })) same)
+short_item-err h after a fault short announces room e =
+    let is : a ≡ following h after = announces ∙ sym (short-follow h after short) in
+    let enough_bytes : following h after ≤ length after = subst (λ n. n ≤ length after) is room in
+    let same : item_of h (take (following h after) after) ≡ Err fault = ap (λ n. item_of h (take n after)) (sym is) ∙ sym e in
+    sym (short-front h after short ∙ front-read h after enough_bytes ∙ ap (read_as (λ x. record { bytes = h ∷ take (following h after) after; item = x })) same)
 
 -- what is written for an item has no fault but that there is nothing
 written-fault : (bytes : List ℕ) (fault : Fault) → NoneOrAnItem bytes → short_item item_of bytes ≡ Err fault → fault ≡ Insufficient
 written-fault [] fault are e = cc
 written-fault (h ∷ bs) fault are e =
-    let room : announced h ≤ length bs = omega (arith, are.0) in
-    let same : take (announced h) bs ≡ bs = subst (λ n. take n bs ≡ bs) are.0 (take-length bs) in
-    absurd (never-read (item_of h bs) fault are.1 (
+    let size : length bs ≡ following h bs = are.0 ∙ sym (short-follow h bs are.1) in
+    let room : following h bs ≤ length bs = omega (arith, size) in
+    let same : take (following h bs) bs ≡ bs = subst (λ n. take n bs ≡ bs) size (take-length bs) in
+    absurd (never-read (item_of h bs) fault are.2 (
     ap (item_of h) (sym same)
     ∙ sym (item_at-enough item_of h bs room)
-    ∙ read_as_err (λ y. record { bytes = h ∷ take (announced h) bs; item = y }) (item_at item_of h bs) fault e))
+    ∙ read_as_err (λ y. record { bytes = h ∷ take (following h bs) bs; item = y }) (item_at item_of h bs) fault (sym (short-front h bs are.1) ∙ e)))
 
 pub item-fault : (x : ItemType) (fault : Fault) → short_item item_of (item_bytes x) ≡ Err fault → short_item item_of (item_bytes x) ≡ Err Insufficient
 item-fault x fault e = e ∙ ap Err (written-fault (item_bytes x) fault (written-read x) e)
@@ -97,20 +118,20 @@ items_from-inside read offset (suc inside) (b ∷ bs) le =
     items_from-inside read (offset + 1) inside bs rest ∙ ap (λ n. items_from read n 0 (drop inside bs)) (omega arith)
 
 -- an item that can't be read is the fault
-pub items_from-fault : (offset : ℕ) (bytes : List ℕ) (fault : Fault) → bytes ≢ [] → short_item item_of bytes ≡ Err fault
+pub items_from-fault : (offset : ℕ) (bytes : List ℕ) (fault : Fault) → bytes ≢ [] → front_item item_of bytes ≡ Err fault
     → items_from item_of offset 0 bytes ≡ Err (offset, fault)
 items_from-fault offset [] fault ne e = absurd (ne refl)
 items_from-fault offset (h ∷ bs) fault ne e =
-    ap (λ (r : Result ItemType Fault). with_entry offset (h ∷ take (announced h) bs) r (items_from item_of (offset + 1) (announced h) bs))
-    (read_as_err (λ x. record { bytes = h ∷ take (announced h) bs; item = x }) (item_at item_of h bs) fault e)
+    ap (λ (r : Result ItemType Fault). with_entry offset (h ∷ take (following h bs) bs) r (items_from item_of (offset + 1) (following h bs) bs))
+    (read_as_err (λ x. record { bytes = h ∷ take (following h bs) bs; item = x }) (item_at item_of h bs) fault e)
 
 -- an item that is read stands before the items of the rest
-pub items_from-item : (offset : ℕ) (bytes : List ℕ) (s : Spelled) → short_item item_of bytes ≡ Ok s
+pub items_from-item : (offset : ℕ) (bytes : List ℕ) (s : Spelled) → front_item item_of bytes ≡ Ok s
     → (length s.bytes ≤ length bytes) × (0 < length s.bytes)
     × (items_from item_of offset 0 bytes ≡ with_front (at_offset offset s ∷ []) (items_from item_of (offset + length s.bytes) 0 (drop (length s.bytes) bytes)))
 items_from-item offset [] s e = cc
 items_from-item offset (h ∷ bs) s e =
-    let n = announced h in
+    let n = following h bs in
     let got = read_as_ok (λ x. record { bytes = h ∷ take n bs; item = x }) (item_at item_of h bs) s e in
     let room : n ≤ length bs = enough (length bs) n (chosen_ok (nat_lt (length bs) n) Insufficient (item_of h (take n bs)) got.0 got.1).0 in
     let size : length s.bytes ≡ suc n = ap (λ (y : Spelled). length y.bytes) (sym got.2) ∙ (let e1 : length (h ∷ take n bs) ≡ suc n = simp length-take (omega arith) in e1) in
@@ -141,21 +162,14 @@ itemise-some read (b ∷ bs) ne = refl
 -- the fault of the rest is that of all the bytes
 fault-whole : (bytes rest : List ℕ) (front : List Entry) (offset : ℕ) (fault : Fault) → bytes ≢ [] → rest ≢ []
     → with_front front (items_from item_of offset 0 rest) ≡ items_from item_of 0 0 bytes
-    → short_item item_of rest ≡ Err fault → as_refusal (itemise item_of bytes) ≡ Err (InvalidAt offset (grammar_message fault))
+    → front_item item_of rest ≡ Err fault → as_refusal (itemise item_of bytes) ≡ Err (InvalidAt offset (grammar_message fault))
 fault-whole bytes rest front offset fault some more same e =
     ap as_refusal (itemise-some item_of bytes some ∙ sym same ∙ ap (with_front front) (items_from-fault offset rest fault more e))
-
--- an error of a fault is one of each answer that is this fault
-pub fails-as : (A : Type 0) (e : HidError) (f : Fault) → FailsInPlace {A = Unit {0}} e (Err f) → FailsInPlace {A = A} e (Err f)
-fails-as A (errors.InvalidData message) f h = let same : f ≡ Invalid (string_bytes message) = cc in ap Err same
-fails-as A errors.InsufficientData f h = let same : f ≡ Insufficient = cc in ap Err same
-fails-as A errors.OutOfMemory (Invalid text) h = h
-fails-as A errors.OutOfMemory Insufficient h = h
 
 -- the reader's error, placed, is the answer
 pub refuses-fault : (bytes rest : List ℕ) (front : List Entry) (offset : ℕ) (fault : HidError) (error : ParserError) → bytes ≢ [] → rest ≢ []
     → with_front front (items_from item_of offset 0 rest) ≡ items_from item_of 0 0 bytes
-    → FailsInPlace fault (short_item item_of rest)
+    → Fails fault (front_item item_of rest)
     → IfSome (fault_of fault) (λ f. IsInvalidAt error offset (grammar_message f)) → (fault_of fault ≡ None → error ≡ parser.OutOfMemory)
     → Refuses error (as_refusal (itemise item_of bytes))
 refuses-fault bytes rest front offset (errors.InvalidData message) error some more same e named memory =

@@ -1,13 +1,13 @@
 -- The kept items in their canonical bytes: what they itemise to, and that no other list of kept items has them.
-use Rattle.std.proofs.Common.{◌≡◌, ◌≢◌, ◌↔◌, ℕ, ◌+◌, Bool, true, false, cond, List, [], ◌∷◌, ◌++◌, length, map, filter, flat_map, Result, Ok, Err, IfOk, refl, sym, ap, ◌∙◌, subst}
+use Rattle.std.proofs.Common.{◌≡◌, ◌≢◌, ◌↔◌, ℕ, ◌+◌, Bool, true, false, cond, List, [], ◌∷◌, ◌++◌, length, flat_map, Result, Ok, Err, refl, sym, ap, ◌∙◌, subst}
 use Rattle.hidreport_items.specs.Answer.{Fault}
 use Rattle.hidreport_items.specs.Canonical.{IsCanonical}
 use Rattle.hidreport_items.specs.Kept.{is_kept}
-use Rattle.hidreport_items.specs.Spelling.{item_of, Spells, AreBytes}
+use Rattle.hidreport_items.specs.Spelling.{item_of, Spells}
 use Rattle.hidreport_items.specs.Writing.{item_bytes}
 use Rattle.hidreport_items.specs.declared.item.ItemType.{ItemType}
 use Rattle.hidreport_items.proofs.CanonicalLemmas.{canonical}
-use Rattle.hidreport_lists.specs.Answer.{Refusal, InvalidAt, Refuses}
+use Rattle.hidreport_lists.specs.Answer.{Refusal, Refuses}
 use Rattle.hidreport_lists.specs.Entry.{Entry}
 use Rattle.hidreport_lists.specs.Itemising.{Reads, joined, AreInPlace, AreRead, Itemises, itemise, as_refusal}
 use Rattle.hidreport_lists.specs.Rebuilt.{AreCanonical, items_of, kept, rebuilding, rebuilt, respelled}

@@ -1,8 +1,25 @@
--- The data bytes of an item, and what they are taken for (Section 6.2.2.2).
-use Rattle.std.specs.Prelude.{ℕ, if◌then◌else◌, List, [], ◌∷◌, ◌++◌, length, Option, None, Some}
+-- The tag and the data bytes of an item, and what the data is taken for (Sections 6.2.2.2 and
+-- 6.2.2.3).
+use Rattle.std.specs.Prelude.{ℕ, ◌/◌, if◌then◌else◌, List, [], ◌∷◌, ◌++◌, length, drop}
+use Rattle.std.specs.Prelude.{Option, None, Some}
 use Rattle.std.specs.Prelude.{Result, Ok, Err, codes, decimal}
 use Rattle.hidreport_items.specs.Answer.{Fault, Invalid, Insufficient}
 use Rattle.hidreport_items.specs.Numbers.{word, is_short_length}
+use Rattle.hidreport_items.specs.Spelling.{first_or_zero}
+
+-- a short item's tag is the upper four bits of its header; its data stands behind it
+abbrev pub short_tag : List ℕ → ℕ
+short_tag bytes = first_or_zero bytes / 16
+
+abbrev pub short_data : List ℕ → List ℕ
+short_data bytes = drop 1 bytes
+
+-- a long item's tag is its third byte; its data stands behind it
+abbrev pub long_tag : List ℕ → ℕ
+long_tag bytes = first_or_zero (drop 2 bytes)
+
+abbrev pub long_data : List ℕ → List ℕ
+long_data bytes = drop 3 bytes
 
 -- the data is of a length that no short item has
 abbrev pub length_message : ℕ → List ℕ

@@ -2,7 +2,7 @@
 use Rattle.std.specs.Prelude.{ℕ, List}
 use Rattle.hidreport_items.specs.declared.item.ItemType.{ItemType}
 
--- the bytes of a short item, its header first, and the item that they spell
+-- the bytes of an item, its header first, and the item that they spell
 pub record Spelled : Type 0 where
   pub bytes : List ℕ
   pub item : ItemType

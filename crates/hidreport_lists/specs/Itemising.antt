@@ -3,8 +3,9 @@
 -- `read` gives the item of a header and its data, or why they are none.
 use Rattle.std.specs.Prelude.{◌≡◌, ◌≢◌, ℕ, ◌+◌, zero, suc, nat_lt, if◌then◌else◌, List, [], ◌∷◌}
 use Rattle.std.specs.Prelude.{◌++◌, length, take, flat_map, Result, Ok, Err, string_bytes}
-use Rattle.hidreport_items.specs.Answer.{Fault, Insufficient}
-use Rattle.hidreport_items.specs.Spelling.{announced, AreBytes, read_as}
+use Rattle.hidreport_items.specs.Answer.{Fault, Invalid, Insufficient}
+use Rattle.hidreport_items.specs.Messages.{long_message, not_long_message}
+use Rattle.hidreport_items.specs.Spelling.{following, is_long_header, AreBytes, read_as}
 use Rattle.hidreport_items.specs.declared.item.ItemType.{ItemType}
 use Rattle.hidreport_lists.specs.Answer.{Refusal, InvalidAt}
 use Rattle.hidreport_lists.specs.Entry.{Spelled, Entry}
@@ -16,10 +17,10 @@ use Rattle.hidreport_lists.specs.declared.error.ParserError.TheVariants as error
 abbrev pub Reader : Type 0
 Reader = ℕ → List ℕ → Result ItemType Fault
 
--- the bytes are a header and the data that it announces, and are read as the item
+-- the bytes are a header and just those that follow it, and are read as the item
 abbrev pub Reads : Reader → List ℕ → ItemType → Type 0
 Reads read [] x = ⊥
-Reads read (h ∷ bs) x = AreBytes (h ∷ bs) × (length bs ≡ announced h) × (read h bs ≡ Ok x)
+Reads read (h ∷ bs) x = AreBytes (h ∷ bs) × (length bs ≡ following h bs) × (read h bs ≡ Ok x)
 
 -- the bytes of all these items, joined
 abbrev pub joined : List Entry → List ℕ
@@ -45,8 +46,8 @@ pub record Itemises (read : Reader) (bytes : List ℕ) (entries : List Entry) : 
 -- what the first item of h and the bytes after it is, or why there is none
 abbrev pub item_at : Reader → ℕ → List ℕ → Result ItemType Fault
 item_at read h bs =
-    if nat_lt (length bs) (announced h) then Err Insufficient
-    else read h (take (announced h) bs)
+    if nat_lt (length bs) (following h bs) then Err Insufficient
+    else read h (take (following h bs) bs)
 
 -- The bytes before the offset are items, or none; no beginning of the rest, which isn't empty, is
 -- one, and this is why.
@@ -84,8 +85,8 @@ with_entry offset bytes (Ok x) (Ok entries) =
 abbrev pub items_from : Reader → ℕ → ℕ → List ℕ → Result (List Entry) (ℕ × Fault)
 items_from read offset inside [] = Ok []
 items_from read offset zero (h ∷ bs) =
-    with_entry offset (h ∷ take (announced h) bs) (item_at read h bs)
-    (items_from read (offset + 1) (announced h) bs)
+    with_entry offset (h ∷ take (following h bs) bs) (item_at read h bs)
+    (items_from read (offset + 1) (following h bs) bs)
 items_from read offset (suc inside) (b ∷ bs) = items_from read (offset + 1) inside bs
 
 -- the items of a descriptor, or its grammar fault
@@ -99,7 +100,25 @@ as_refusal (Ok x) = Ok x
 as_refusal (Err fault) = Err (InvalidAt fault.0 (grammar_message fault.1))
 
 -- the item at the front of the bytes, with the bytes that spell it
+abbrev pub front_item : Reader → List ℕ → Result Spelled Fault
+front_item read [] = Err Insufficient
+front_item read (h ∷ bs) =
+    read_as (λ x. record { bytes = h ∷ take (following h bs) bs; item = x }) (item_at read h bs)
+
+-- the same, of a short item alone (Section 6.2.2.2)
 abbrev pub short_item : Reader → List ℕ → Result Spelled Fault
 short_item read [] = Err Insufficient
 short_item read (h ∷ bs) =
-    read_as (λ x. record { bytes = h ∷ take (announced h) bs; item = x }) (item_at read h bs)
+    if is_long_header h then Err (Invalid long_message) else front_item read (h ∷ bs)
+
+-- a header and all that follows it, where these bytes have so much
+abbrev pub whole_item : ℕ → List ℕ → Result (List ℕ) Fault
+whole_item h bs =
+    if nat_lt (length bs) (following h bs) then Err Insufficient
+    else Ok (h ∷ take (following h bs) bs)
+
+-- the bytes of the long item at the front of the bytes (Section 6.2.2.3)
+abbrev pub long_item : List ℕ → Result (List ℕ) Fault
+long_item [] = Err Insufficient
+long_item (h ∷ bs) =
+    if is_long_header h then whole_item h bs else Err (Invalid not_long_message)

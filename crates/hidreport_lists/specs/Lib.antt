@@ -6,3 +6,5 @@ pub mod Headers
 pub mod Itemising
 pub mod Messages
 pub mod Rebuilt
+pub mod ShortOrLong
+pub mod WithoutLong

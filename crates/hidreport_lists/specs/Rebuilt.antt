@@ -16,7 +16,7 @@ use Rattle.hidreport_lists.specs.declared.error.ParserError.{ParserError}
 abbrev pub items_of : List Entry → List ItemType
 items_of entries = map (λ e. e.item) entries
 
--- those of them that aren't of a kind which the standard keeps for later
+-- those of them that are neither long nor of a kind which the standard keeps for later
 abbrev pub kept : List Entry → List Entry
 kept entries = filter (λ e. is_kept e.item) entries
 

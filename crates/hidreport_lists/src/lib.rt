@@ -1,7 +1,8 @@
-//! Short items and lists of them, cut from the bytes of a report descriptor.
+//! Items and lists of them, cut from the bytes of a report descriptor.
 //! Licence: MIT (LICENSE); a port of the Rust crate `hidreport` 0.6.0.
 #![tactic(auto)]
 
+mod any_item;
 mod data;
 mod descriptor_builder;
 mod descriptor_builder_rules;
@@ -10,9 +11,11 @@ mod error;
 mod fault;
 mod laws;
 mod list;
+mod long_item;
 mod rebuilding;
 mod short_item;
 
+pub use any_item::AnyItem;
 pub use data::ItemData;
 pub use descriptor_builder::ReportDescriptorBuilder;
 pub use descriptor_builder_rules::{MayBuild, MayClose, MayOpen, MayPop, MayPush};
@@ -28,5 +31,6 @@ pub use descriptor_builder_state::{
 pub use error::ParserError;
 pub use laws::bytes_are_items_or_have_a_fault;
 pub use list::{ReportDescriptorItem, ReportDescriptorItems};
+pub use long_item::LongItem;
 pub use rebuilding::rebuild;
 pub use short_item::{Item, ShortItem};

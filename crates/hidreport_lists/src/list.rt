@@ -7,11 +7,14 @@ ghost use Rattle.hidreport_lists.specs.Headers.{headers_from};
 ghost use Rattle.hidreport_lists.specs.Itemising.{as_refusal, itemise, Itemises, IsFaultAt};
 ghost use Rattle.hidreport_lists.specs.Itemising.{IsGrammarFault};
 ghost use Rattle.hidreport_lists.specs.Messages.{grammar_message};
+ghost use Rattle.hidreport_lists.specs.ShortOrLong.{spelled, IsByHeader};
+ghost use Rattle.hidreport_lists.specs.WithoutLong.{ItemisesShort};
 
+use crate::any_item::AnyItem;
 use crate::error::ParserError;
 use crate::fault::fault_at;
-use crate::short_item::{Item, ShortItem, announced};
-use hidreport_items::{HidError, error_of};
+use crate::short_item::{Item, following};
+use hidreport_items::HidError;
 use std::alloc::Global;
 use std::marker::Model;
 
@@ -19,15 +22,23 @@ use std::marker::Model;
 #[derive(Debug, Drop)]
 pub struct ReportDescriptorItem {
     offset: usize,
-    item: ShortItem,
+    item: AnyItem,
 }
 
 impl Model for ReportDescriptorItem {
     ghost use Rattle.hidreport_lists.specs.Entry.{Entry};
+    ghost use Rattle.hidreport_lists.specs.ShortOrLong.{spelled, IsByHeader};
 
     ghost Value = { Entry };
 
-    ghost view = { λ i. record { offset = i.offset; bytes = i.item.bytes; item = i.item.item } };
+    ghost view = { λ i. record {
+      offset = i.offset;
+      bytes = (spelled i.item).bytes;
+      item = (spelled i.item).item;
+    } };
+
+    // A long item just where the header is one's.
+    ghost invariant = { λ i. IsByHeader i.item (spelled i.item).bytes };
 }
 
 impl ReportDescriptorItem {
@@ -38,9 +49,11 @@ impl ReportDescriptorItem {
         self.offset
     }
 
-    /// The item.
-    pub fn item(&self) -> &ShortItem
-        ensures { result.now ≡ record { bytes = self.now.bytes; item = self.now.item } }
+    /// The item, a long one just where its header is one's.
+    pub fn item(&self) -> &AnyItem
+        ensures item { spelled result.now
+            ≡ record { bytes = self.now.bytes; item = self.now.item } }
+        ensures kind { IsByHeader result.now self.now.bytes }
     {
         &self.item
     }
@@ -67,6 +80,8 @@ impl ReportDescriptorItems {
     /// The first item that can't be read is `InvalidData` at its offset, with the message
     /// `Insufficient data`, or `Invalid data: ` and the reader's message. No bytes at all are
     /// `InvalidData` at 0, `Insufficient data`. `OutOfMemory` comes only where a growth is refused.
+    ///
+    /// Where a list of short items alone has these bytes, it is the answer (`short`).
     pub fn try_from(alloc: Global, bytes: &[u8]) -> Result<ReportDescriptorItems, ParserError>
         ensures exact { Answers result (as_refusal (itemise item_of bytes.now)) }
         ensures items { IfOk result (λ items. Itemises item_of bytes.now items) }
@@ -77,6 +92,8 @@ impl ReportDescriptorItems {
         ensures only_fault { (offset : ℕ) (fault : Fault)
             → IsFaultAt item_of bytes.now offset fault
             → Answers result (Err (InvalidAt offset (grammar_message fault))) }
+        ensures short { (entries : List Entry)
+            → ItemisesShort item_of bytes.now entries → Answers result (Ok entries) }
     {
         if bytes.is_empty() {
             return Err(fault_at(alloc, 0, HidError::InsufficientData));
@@ -85,14 +102,14 @@ impl ReportDescriptorItems {
         let mut offset = 0;
         let mut rest = bytes;
         while !rest.is_empty() {
-            match ShortItem::read(rest) {
+            match AnyItem::try_from(alloc, rest) {
                 Ok(item) => {
                     let size = item.size();
                     items.push(ReportDescriptorItem { offset, item })?;
                     offset += size;
                     rest = rest.split_at(size).1;
                 }
-                Err(fault) => return Err(fault_at(alloc, offset, error_of(alloc, fault))),
+                Err(fault) => return Err(fault_at(alloc, offset, fault)),
             }
         }
         Ok(ReportDescriptorItems { items })
@@ -106,14 +123,15 @@ impl ReportDescriptorItems {
     }
 }
 
-/// How many items begin in the bytes, by their headers alone; the last of them may lack data.
+/// How many items begin in the bytes, by what follows their headers; the last of them may be cut
+/// short.
 fn item_count(bytes: &[u8]) -> usize
     ensures { result ≡ headers_from 0 bytes.now }
 {
     let mut count = 0;
     let mut index = 0;
     while index < bytes.len() {
-        index += 1 + announced(bytes[index]);
+        index += 1 + following(bytes[index], &bytes[index + 1..]);
         count += 1;
     }
     count

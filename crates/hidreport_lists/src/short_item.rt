@@ -1,22 +1,21 @@
-ghost use Rattle.std.specs.Prelude.{◌≡◌, ◌≢◌, ◌≤◌, ◌/◌, ◌%◌, Bool, false, Err, List, ℕ, drop};
-ghost use Rattle.std.specs.Prelude.{length};
+ghost use Rattle.std.specs.Prelude.{◌≡◌, ◌≢◌, ◌≤◌, ◌+◌, ◌%◌, Bool, false, Err, List, ℕ, length};
 ghost use Rattle.hidreport_items.specs.Answer.{GivesInPlace};
 ghost use Rattle.hidreport_items.specs.InPlace.{told};
 ghost use Rattle.hidreport_items.specs.Spelling.{item_of};
-ghost use Rattle.hidreport_items.specs.Spelling.{announced, first_or_zero};
+ghost use Rattle.hidreport_items.specs.Spelling.{announced, first_or_zero, following};
 ghost use Rattle.hidreport_items.specs.Writing.{item_bytes};
 ghost use Rattle.hidreport_items.specs.declared.item.ItemType.{ItemType};
-ghost use Rattle.hidreport_lists.specs.Data.{some_data};
+ghost use Rattle.hidreport_lists.specs.Data.{short_data, short_tag, some_data};
 ghost use Rattle.hidreport_lists.specs.Itemising.{short_item};
 
 use crate::data::ItemData;
 use hidreport_items::{
-    HidError, ItemBytes, ItemFault, ItemType, read_item, with_message, write_item,
+    HidError, ItemBytes, ItemFault, ItemType, is_long_header, read_item, with_message, write_item,
 };
 use std::alloc::Global;
 use std::marker::Model;
 
-/// An item together with the bytes that spell it (Section 6.2.2.2).
+/// An item together with the bytes that spell it (Sections 6.2.2.2 and 6.2.2.3).
 pub trait Item {
     /// The bytes that spell the item, its header first.
     ghost item_bytes: { Self → List ℕ };
@@ -24,7 +23,7 @@ pub trait Item {
     /// The item that they spell.
     ghost item_meaning: { Self → ItemType };
 
-    /// The tag: of a short item the upper four bits of its header.
+    /// The tag: of a short item the upper four bits of its header, of a long one its third byte.
     ghost item_tag: { Self → ℕ };
 
     /// The data bytes among them.
@@ -41,7 +40,8 @@ pub trait Item {
     fn item_type(&self) -> ItemType
         ensures { result ≡ item_meaning self.now };
 
-    /// The item's tag, of a short item 0 to 15: the upper four bits of the header.
+    /// The item's tag: of a short item 0 to 15, the upper four bits of the header; of a long one
+    /// the byte behind its length.
     fn tag(&self) -> u8
         ensures { result ≡ item_tag self.now };
 
@@ -80,8 +80,9 @@ impl Model for ShortItem {
 impl ShortItem {
     /// The item at the front of the bytes; what comes behind it isn't looked at.
     ///
-    /// No bytes, or fewer than the header announces, are `InsufficientData`; else the refusals are
-    /// those of `ItemType::try_from` of just the announced bytes.
+    /// No bytes are `InsufficientData`. The header FE is `InvalidData`, `Item is a long item`,
+    /// whatever stands behind it. Fewer bytes than the header announces are `InsufficientData`;
+    /// else the refusals are those of `ItemType::try_from` of just the announced bytes.
     pub fn try_from(alloc: Global, bytes: &[u8]) -> Result<ShortItem, HidError>
         ensures { GivesInPlace result (short_item item_of bytes.now) }
     {
@@ -108,6 +109,9 @@ impl ShortItem {
         let Some((header, after)) = bytes.split_first() else {
             return Err(ItemFault::TooFew);
         };
+        if is_long_header(*header) {
+            return Err(ItemFault::Long);
+        }
         let announced = announced(*header);
         if after.len() < announced {
             return Err(ItemFault::TooFew);
@@ -126,9 +130,9 @@ impl Item for ShortItem {
 
     ghost item_meaning = { λ s. s.item };
 
-    ghost item_tag = { λ s. first_or_zero s.bytes / 16 };
+    ghost item_tag = { λ s. short_tag s.bytes };
 
-    ghost item_data = { λ s. drop 1 s.bytes };
+    ghost item_data = { λ s. short_data s.bytes };
 
     ghost is_long = { λ s. false };
 
@@ -167,8 +171,23 @@ impl Item for ShortItem {
     }
 }
 
-/// How many data bytes a header announces: its size codes 0, 1, 2 and 3 mean 0, 1, 2 and 4.
-pub(crate) fn announced(header: u8) -> usize
+/// How many bytes follow a header that has these behind it.
+pub(crate) fn following(header: u8, after: &[u8]) -> usize
+    ensures within { result ≤ 257 }
+    ensures value { result ≡ following header after.now }
+{
+    if !is_long_header(header) {
+        return announced(header);
+    }
+    match after {
+        [] => 2,
+        [length, ..] => 2 + usize::from(*length),
+    }
+}
+
+/// How many data bytes a short item's header announces: its size codes 0, 1, 2 and 3 mean 0, 1, 2
+/// and 4.
+fn announced(header: u8) -> usize
     ensures within { result ≤ 4 }
     ensures value { result ≡ announced header }
 {

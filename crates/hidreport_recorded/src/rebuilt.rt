@@ -7,8 +7,8 @@ use std::alloc::AllocError;
 use std::process::Abort;
 use std::test::Fail;
 
-/// Descriptors with reserved items, long spellings and faults among them, each with a report.
-pub(crate) static WORKED: [&str; 32] = [
+/// Descriptors with reserved and long items, long spellings and faults among them, each with a report.
+pub(crate) static WORKED: [&str; 37] = [
     "05010902a10105010902a102851a0901a100050919012905950575011500250181027503950181010501093009319502751016018026ff7f8106a1028512094895017502150025013501450cb102851a0938350045009501751016018026ff7f8106c0a102851209487502150025013501450cb102350045007504b101851a050c9501751016018026ff7f0a38028106c0c0c0c0050c0901a10105010902a102851f050c0a38029501751016018026ff7f810685170600ff0a06ff0a0fff150025013501450c95027502b1020a04ff3500450095017501b1027503b101c0c0 1a00fffffeff00000000",
     "05011581257f75089502093009318102",
     "00",
@@ -41,6 +41,11 @@ pub(crate) static WORKED: [&str; 32] = [
     "05010902a101c0",
     "05010902a101a100a41500268000b495027508093009318102c0c0",
     "05010902a101150026ff00750895031b010001002bff0001008100c0 0100ff",
+    "fe0201c0c0",
+    "fe01",
+    "fe03f00102030501",
+    "fe007f",
+    "0501fe0100aab4",
 ];
 
 /// An answer without the offset of a refusal, which is another where the items before it are.
@@ -107,7 +112,7 @@ fn worked_descriptors_mean_the_same_when_rebuilt(rt: HostRuntime) -> Result<(), 
     for words in &WORKED {
         count = count.saturating_add(is_rebuilt_alike(&rt, words)?);
     }
-    assert_eq!(rt; count, 27);
+    assert_eq!(rt; count, 29);
     Ok(())
 }
 

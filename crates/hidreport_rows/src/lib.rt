@@ -15,6 +15,8 @@ mod descriptors;
 #[cfg(test)]
 mod keeping;
 #[cfg(test)]
+mod long_items;
+#[cfg(test)]
 mod lookups;
 #[cfg(test)]
 mod memory;

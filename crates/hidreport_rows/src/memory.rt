@@ -12,7 +12,8 @@ use hidreport::ParserError;
 use hidreport::hid::HidError;
 use items::{
     ITEMS, UNITS, building_is_answered, data_is_answered, each_kind_is_built, has_units,
-    item_is_answered, items_are_written, long_data_is_refused, rebuilding_is_answered,
+    item_is_answered, items_are_written, long_data_is_refused, long_items_are_read,
+    long_items_are_told, rebuilding_is_answered, three_bytes_are_refused,
 };
 use std::alloc::{AllocError, Global};
 use std::process::Abort;
@@ -90,6 +91,9 @@ pub(crate) fn count_refused<R: Abort>(rt: &R, alloc: Global) -> usize {
     refused = count(rt, refused, values_are_read(alloc));
     refused = count(rt, refused, data_is_answered(alloc));
     refused = count(rt, refused, long_data_is_refused(alloc));
+    refused = count(rt, refused, long_items_are_read(alloc));
+    refused = count(rt, refused, long_items_are_told(alloc));
+    refused = count(rt, refused, three_bytes_are_refused(alloc));
     refused = count(rt, refused, rebuilding_is_answered(alloc));
     refused = count(rt, refused, each_kind_is_built(alloc));
     count(rt, refused, building_is_answered(alloc))

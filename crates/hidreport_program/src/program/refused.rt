@@ -23,7 +23,7 @@ const TWO_AXES: &[u8] = b"\x05\x01\x15\x81\x25\x7f\x75\x08\x95\x02\x09\x30\x09\x
 const TWO_AXES_TEXT: &[u8] =
     b"report -- 16\n0..8 variable 00010030 5\n8..16 variable 00010031 -5\n";
 
-static RUNS: [Run; 8] = [
+static RUNS: [Run; 10] = [
     (
         Command::Values,
         TWO_AXES,
@@ -74,11 +74,25 @@ static RUNS: [Run; 8] = [
         b"0 05 01 UsagePage\n2 c0 EndCollection\n3 a4 Push\n",
     ),
     (
+        Command::Items,
+        b"\xfe\x02\x01\xc0\xc0",
+        b"",
+        Outcome::Done,
+        b"0 fe 02 01 c0 c0 Long\n",
+    ),
+    (
         Command::Rebuild,
         b"\x06\x01\x00\xc4",
         b"",
         Outcome::Done,
         b"05 01\n",
+    ),
+    (
+        Command::Rebuild,
+        b"\x05\x01\xfe\x01\x00\xaa\xb4",
+        b"",
+        Outcome::Done,
+        b"05 01 b4\n",
     ),
 ];
 

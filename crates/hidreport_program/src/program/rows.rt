@@ -66,7 +66,7 @@ fn all_show<R: Abort + AllocGlobal>(
 
 #[test]
 fn items_of_descriptors(rt: HostRuntime) -> Result<(), Fail> {
-    let rows: [Row<'_>; 5] = [
+    let rows: [Row<'_>; 7] = [
         (
             b"\x05\x01\x09\x02\xa1\x01\xc0",
             Outcome::Done,
@@ -76,6 +76,16 @@ fn items_of_descriptors(rt: HostRuntime) -> Result<(), Fail> {
             b"\xc4\xfc\x69\x01",
             Outcome::Done,
             b"0 c4 GlobalReserved\n1 fc Reserved\n2 69 01 LocalReserved\n",
+        ),
+        (
+            b"\xfe\x02\x01\xc0\xc0",
+            Outcome::Done,
+            b"0 fe 02 01 c0 c0 Long\n",
+        ),
+        (
+            b"\xfe\x01",
+            Outcome::Refused,
+            b"refused: invalid data at offset 0: Insufficient data\n",
         ),
         (
             b"\xb4\x80",
@@ -121,7 +131,7 @@ fn names_of_all_items(rt: HostRuntime) -> Result<(), Fail> {
 
 #[test]
 fn descriptors_written_anew(rt: HostRuntime) -> Result<(), Fail> {
-    let rows: [Row<'_>; 6] = [
+    let rows: [Row<'_>; 8] = [
         (
             b"\x06\x01\x00\xc4\x0a\x30\x00\xfc\x17\x00\x00\x00\x00\xa0\xc1\x55",
             Outcome::Done,
@@ -130,6 +140,12 @@ fn descriptors_written_anew(rt: HostRuntime) -> Result<(), Fail> {
         (b"\x06\x01\x00\xb4", Outcome::Done, b"05 01 b4\n"),
         (b"\x0b\x30\x00\x00\x00", Outcome::Done, b"0b 30 00 00 00\n"),
         (b"\xc4\xfc", Outcome::Done, b"\n"),
+        (b"\xfe\x02\x01\xc0\xc0", Outcome::Done, b"\n"),
+        (
+            b"\x05\x01\xfe\x01\x00\xaa\xb4",
+            Outcome::Done,
+            b"05 01 b4\n",
+        ),
         (
             b"\x03",
             Outcome::Refused,

@@ -14,7 +14,7 @@ pub(crate) enum Wanted {
     OutOfBounds,
 }
 
-pub(crate) static DESCRIPTORS: [(&[u8], Wanted); 16] = [
+pub(crate) static DESCRIPTORS: [(&[u8], Wanted); 21] = [
     (
         b"\x05\x01\x15\x81\x25\x7f\x75\x08\x95\x02\x09\x30\x09\x31\x81\x02",
         Wanted::Fields(2),
@@ -64,6 +64,14 @@ pub(crate) static DESCRIPTORS: [(&[u8], Wanted); 16] = [
         Wanted::Fields(1),
     ),
     (MOUSE, Wanted::Fields(11)),
+    (b"\xfe\x02\x01\xc0\xc0", Wanted::Fields(0)),
+    (b"\xfe\x01", Wanted::Refused(0, "Insufficient data")),
+    (b"\xfe\x03\xf0\x01\x02\x03\x05\x01", Wanted::Fields(0)),
+    (b"\xfe\x00\x7f", Wanted::Fields(0)),
+    (
+        b"\x05\x01\xfe\x01\x00\xaa\xb4",
+        Wanted::Refused(6, "Too many Pops, not enough Pushes"),
+    ),
 ];
 
 /// How many fields the input reports have; a clone of each has its number.

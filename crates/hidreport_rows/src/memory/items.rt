@@ -1,9 +1,9 @@
 //! Items that are read, written and built.
 use crate::memory::{Answer, Refusal};
 use hidreport::hid::{
-    CollectionItem, FeatureItem, GlobalItem, HidError, InputItem, Item, ItemBuilder, ItemData,
-    ItemType, LocalItem, MainItem, OutputItem, ReportDescriptorBuilder, ReportDescriptorBuilderC2,
-    ReportDescriptorItems, ShortItem, rebuild,
+    AnyItem, CollectionItem, FeatureItem, GlobalItem, HidError, InputItem, Item, ItemBuilder,
+    ItemData, ItemType, LocalItem, LongItem, MainItem, OutputItem, ReportDescriptorBuilder,
+    ReportDescriptorBuilderC2, ReportDescriptorItems, ShortItem, rebuild,
 };
 use hidreport::types::{
     LogicalMaximum, LogicalMinimum, ReportCount, ReportSize, Unit, UsageId, UsagePage,
@@ -11,7 +11,7 @@ use hidreport::types::{
 use std::alloc::Global;
 
 /// An item that is read and written, the bytes that are written, and the message of a refusal.
-pub(crate) static ITEMS: [(&[u8], &[u8], &str); 9] = [
+pub(crate) static ITEMS: [(&[u8], &[u8], &str); 10] = [
     (b"\x16\x80\x00", b"\x16\x80\x00", ""),
     (b"\x0b\x30\x00\x00\x00", b"\x0b\x30\x00\x00\x00", ""),
     (b"\x93\xaa\x01\x00\x00", b"\x92\xaa\x01", ""),
@@ -21,6 +21,7 @@ pub(crate) static ITEMS: [(&[u8], &[u8], &str); 9] = [
     (b"\xa4\x00\x00\x00", b"", "Size 3 cannot happen"),
     (b"\x00", b"", "Invalid item tag 0b000000"),
     (b"\x40", b"", "Invalid item tag 0b1000000"),
+    (b"\xfe\x01\x02\x03", b"", ""),
 ];
 
 pub(crate) fn item_is_answered(
@@ -133,6 +134,41 @@ pub(crate) fn data_is_answered(alloc: Global) -> Answer {
 pub(crate) fn long_data_is_refused(alloc: Global) -> Answer {
     match ShortItem::try_from(alloc, b"\x76\x08\x00")?.data() {
         Some(data) => is_no_byte(data.to_u8(alloc)),
+        None => Ok(false),
+    }
+}
+
+/// Whether the answer is refused with this message.
+fn is_told<T: Drop>(answer: Result<T, HidError>, wanted: &str) -> Answer {
+    match answer {
+        Err(HidError::InvalidData { message }) => Ok(message.as_str() == wanted),
+        Err(error) => Err(Refusal::from(error)),
+        Ok(_item) => Ok(false),
+    }
+}
+
+pub(crate) fn long_items_are_read(alloc: Global) -> Answer {
+    let bytes = b"\xfe\x03\xf0\x01\x02\x03\x05\x01";
+    Ok(
+        LongItem::try_from(alloc, bytes)?.size() == 6
+            && AnyItem::try_from(alloc, bytes)?.tag() == 0xf0
+            && AnyItem::try_from(alloc, b"\x05\x01")?.size() == 2,
+    )
+}
+
+pub(crate) fn long_items_are_told(alloc: Global) -> Answer {
+    let short = ShortItem::try_from(alloc, b"\xfe\x00\x7f");
+    let long = LongItem::try_from(alloc, b"\x05\x01");
+    Ok(is_told(short, "Item is a long item")? && is_told(long, "Item is not a long item")?)
+}
+
+/// Three data bytes are neither a number nor a list.
+pub(crate) fn three_bytes_are_refused(alloc: Global) -> Answer {
+    match LongItem::try_from(alloc, b"\xfe\x03\xf0\x01\x02\x03")?.data() {
+        Some(data) => {
+            let text = "Size of 3 cannot happen";
+            Ok(is_told(data.to_u32(alloc), text)? && is_told(data.to_vec(alloc), text)?)
+        }
         None => Ok(false),
     }
 }

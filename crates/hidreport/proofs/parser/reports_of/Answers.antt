@@ -10,7 +10,7 @@ use Rattle.hidreport.proofs.parser.reports_of.Goals as goal
 
 pub returns-in-Err : goal.returns-in-Err
 returns-in-Err c =
-    let same = c.item_type.ensures ∙ ap (λ (s : Spelled). s.item) c.item.ensures in
+    let same = c.item_type.ensures ∙ ap (λ (s : Spelled). s.item) c.item.ensures.item in
     let h = c.loop-entry.state in
     let left = c.loop-entry.budget in
     let fault : IsFaultOf c.in-Err.fault (stop_in left h c.entry-item.result.item) = subst (λ (x : ItemType). IsFaultOf c.in-Err.fault (stop_in left h x)) same c.in-Err.ensures.err in
@@ -20,7 +20,7 @@ returns-in-Err c =
 
 pub loop-entry-preserved : goal.loop-entry-preserved
 loop-entry-preserved c =
-    let same = c.item_type.ensures ∙ ap (λ (s : Spelled). s.item) c.item.ensures in
+    let same = c.item_type.ensures ∙ ap (λ (s : Spelled). s.item) c.item.ensures.item in
     let h = c.loop-entry.state in
     let left = c.loop-entry.budget in
     let x = c.entry-item.result.item in

@@ -1,11 +1,12 @@
-use Rattle.std.proofs.Common.{arith}
-use Rattle.hidreport_lists.proofs.Headers.{headers-step, headers-all}
+use Rattle.std.proofs.Common.{◌+◌, ◌∙◌, ap, arith, get_or}
+use Rattle.hidreport_items.specs.Spelling.{following}
+use Rattle.hidreport_lists.proofs.Headers.{behind, headers-step, headers-all}
 use Rattle.hidreport_lists.proofs.list.item_count.Goals as goal
 
 pub loop-index-preserved : goal.loop-index-preserved
 loop-index-preserved c = record {
   few = omega (arith, c.loop-index.invariant.few);
-  all = headers-step c.args.bytes.now c.loop-index.count c.loop-index.index c.announced.result c.loop-index-test.true c.announced.ensures.value c.loop-index.invariant.all;
+  all = headers-step c.args.bytes.now c.loop-index.count c.loop-index.index c.following.result c.loop-index-test.true (c.following.ensures.value ∙ ap (following (get_or c.args.bytes.now c.loop-index.index 0)) (behind c.args.bytes.now (c.loop-index.index + 1))) c.loop-index.invariant.all;
 }
 
 pub returns : goal.returns

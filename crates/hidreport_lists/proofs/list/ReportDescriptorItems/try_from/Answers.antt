@@ -1,30 +1,34 @@
-use Rattle.std.proofs.Common.{◌≡◌, ◌≢◌, ◌+◌, ◌∙◌, [], ◌∷◌, ap, sym, length, length-drop, drop, subst, Result, Ok, Err, arith}
+use Rattle.std.proofs.Common.{◌≡◌, ◌≢◌, ◌+◌, ◌∙◌, [], ◌∷◌, ap, sym, length, length-drop, drop, Ok, Err, subst, arith}
 use Rattle.std.proofs.lemmas.Grind.{common_steps}
-use Rattle.hidreport_items.specs.Answer.{Fault, FailsInPlace}
-use Rattle.hidreport_items.specs.InPlace.{told_fault}
-use Rattle.hidreport_items.specs.Spelling.{item_of}
-use Rattle.hidreport_lists.specs.Entry.{Spelled}
+use Rattle.hidreport_items.specs.Spelling.{is_long_header, item_of}
+use Rattle.hidreport_lists.specs.ShortOrLong.{spelled, is_long_one}
 use Rattle.hidreport_lists.specs.Itemising.{items_from}
 use Rattle.hidreport_lists.proofs.Cuts.{are_bytes, answer-done, answer-items, answer-only, answer-fault, answer-only_fault}
-use Rattle.hidreport_lists.proofs.Items.{fails-as, items_from-item, refuses-fault, with_front, with_front-more, at_offset}
+use Rattle.hidreport_lists.proofs.ShortItems.{itemises-so}
+use Rattle.hidreport_lists.proofs.Items.{front-header, items_from-item, refuses-fault, with_front, with_front-more, at_offset}
 use Rattle.hidreport_lists.proofs.list.ReportDescriptorItems.try_from.Goals as goal
 
 pub split_at-requires : goal.split_at-requires
 split_at-requires c =
-    let step = items_from-item c.loop-rest.offset c.loop-rest.rest.now c.in-Ok.item (sym c.in-Ok.ensures) in
+    let step = items_from-item c.loop-rest.offset c.loop-rest.rest.now (spelled c.in-Ok.item) c.in-Ok.ensures.exact in
     omega (arith, step.0, c.size-size.ensures)
+
+pub invariant_of-push : goal.invariant_of-push
+invariant_of-push c =
+    let item = c.in-Ok.item in
+    subst (λ n. is_long_one item ≡ is_long_header n) (sym (front-header c.loop-rest.rest.now (spelled item) c.in-Ok.ensures.exact)) c.in-Ok.ensures.kind
 
 pub loop-rest-smaller : goal.loop-rest-smaller
 loop-rest-smaller c =
-    let step = items_from-item c.loop-rest.offset c.loop-rest.rest.now c.in-Ok.item (sym c.in-Ok.ensures) in
+    let step = items_from-item c.loop-rest.offset c.loop-rest.rest.now (spelled c.in-Ok.item) c.in-Ok.ensures.exact in
     rw c.split_at.ensures.back (simp length-drop (omega (arith, step.0, step.1, c.size-size.ensures)))
 
 pub loop-rest-preserved : goal.loop-rest-preserved
 loop-rest-preserved c =
     let offset = c.loop-rest.offset in
     let rest = c.loop-rest.rest.now in
-    let item = c.in-Ok.item in
-    let step = items_from-item offset rest item (sym c.in-Ok.ensures) in
+    let item = spelled c.in-Ok.item in
+    let step = items_from-item offset rest item c.in-Ok.ensures.exact in
     let after : items_from item_of (offset + c.size-size.result) 0 c.split_at.result.1.now ≡ items_from item_of (offset + length item.bytes) 0 (drop (length item.bytes) rest) =
     ap (items_from item_of (offset + c.size-size.result) 0) c.split_at.ensures.back ∙ ap (λ k. items_from item_of (offset + k) 0 (drop k rest)) c.size-size.ensures in
     record {
@@ -40,10 +44,8 @@ pub returns-in-Err-clause-exact : goal.returns-in-Err-clause-exact
 returns-in-Err-clause-exact c =
     let some : c.args.bytes.now ≢ [] = λ e. let l : length c.args.bytes.now ≡ 0 = ap length e in grind (arith, c.is_empty.ensures) in
     let more : c.loop-rest.rest.now ≢ [] = λ e. let l : length c.loop-rest.rest.now ≡ 0 = ap length e in grind (arith, c.is_empty-in-loop-rest.ensures) in
-    refuses-fault c.args.bytes.now c.loop-rest.rest.now c.loop-rest.items.items c.loop-rest.offset c.error_of.result c.fault_at-in-Err.result some more
-    c.loop-rest.invariant.items
-    (subst (λ (r : Result Spelled Fault). FailsInPlace c.error_of.result r) c.in-Err.ensures
-    (fails-as Spelled c.error_of.result (told_fault c.in-Err.fault) c.error_of.ensures)) c.fault_at-in-Err.ensures.named c.fault_at-in-Err.ensures.memory
+    refuses-fault c.args.bytes.now c.loop-rest.rest.now c.loop-rest.items.items c.loop-rest.offset c.in-Err.fault c.fault_at-in-Err.result some more
+    c.loop-rest.invariant.items c.in-Err.ensures.exact c.fault_at-in-Err.ensures.named c.fault_at-in-Err.ensures.memory
 
 pub returns-in-Err-clause-only_items : goal.returns-in-Err-clause-only_items
 returns-in-Err-clause-only_items c =
@@ -74,3 +76,9 @@ returns-clause-only_items c =
 pub returns-clause-only_fault : goal.returns-clause-only_fault
 returns-clause-only_fault c =
     answer-only_fault item_of c.args.bytes.now (Ok c.loop-rest.items.items) (returns-clause-exact c)
+
+pub returns-in-Err-clause-short : goal.returns-in-Err-clause-short
+returns-in-Err-clause-short c = λ entries i. returns-in-Err-clause-only_items c entries (itemises-so item_of c.args.bytes.now entries i)
+
+pub returns-clause-short : goal.returns-clause-short
+returns-clause-short c = λ entries i. returns-clause-only_items c entries (itemises-so item_of c.args.bytes.now entries i)

@@ -1,4 +1,4 @@
-use Rattle.std.proofs.Common.{◌≡◌, Err, List, ℕ, subst, sym}
+use Rattle.std.proofs.Common.{◌≡◌, ◌∙◌, Err, List, ℕ, subst, sym}
 use Rattle.std.proofs.lemmas.Result.{err_from_is_err_and}
 use Rattle.hidreport_items.specs.InPlace.{told_fault}
 use Rattle.hidreport_items.specs.Spelling.{item_of}
@@ -11,4 +11,4 @@ returns-in_err-item c =
     let p = err_from_is_err_and c.from_residual.result c.from_residual.ensures.1 in
     let fault = told_fault c.in_err-item.field-0.0 in
     rw (p.1, p.2) (subst (λ (l : List ℕ). Err fault ≡ short_item item_of l) (sym c.in-Some.ensures.cases.0)
-    (short_item-err c.in-Some.header.now c.in-Some.after.now c.announced-announced.result fault c.announced-announced.ensures.value c.if-after-announced.false c.in_err-item.ensures))
+    (short_item-err c.in-Some.header.now c.in-Some.after.now c.announced-announced.result fault (sym c.is_long_header.ensures ∙ c.if-is_long_header.false) c.announced-announced.ensures.value c.if-after-announced.false c.in_err-item.ensures))
