@@ -115,11 +115,11 @@ struct hidreport_answer hidreport_find(const uint8_t *descriptor, size_t length,
 /* What is wrong with a descriptor, without a zero at the end; no text where it isn't HIDREPORT_INVALID_DATA. */
 struct hidreport_answer hidreport_message(const uint8_t *descriptor, size_t length, uint8_t *text, size_t room);
 
-/* The items of a descriptor. */
+/* The items of a descriptor, short and long. */
 struct hidreport_answer hidreport_items(const uint8_t *descriptor, size_t length, struct hidreport_item *items,
                                         size_t room);
 
-/* A descriptor written anew: its items in order, each in its shortest spelling, without those that are reserved. */
+/* A descriptor written anew: its items in order, each in its shortest spelling, without long and reserved ones. */
 struct hidreport_answer hidreport_rebuild(const uint8_t *descriptor, size_t length, uint8_t *bytes, size_t room);
 
 /* Value `index` of a field, counted from 0, in a report with these bytes. It takes no memory, and reads nothing

@@ -35,9 +35,9 @@ pub extern "C" fn hidreport_items(
     answer(items_listed(alloc, descriptor), items)
 }
 
-/// A descriptor written anew (Section 6.2.2.2), as `hid::rebuild` does: its items without those of
-/// a kind that the standard keeps for later, each in its canonical bytes. They are written and
-/// counted as `hidreport_describe` says, and refused as `hidreport_items` says.
+/// A descriptor written anew (Section 6.2.2.2), as `hid::rebuild` does: its items without long ones
+/// and those of a kind that the standard keeps for later, each in its canonical bytes. They are
+/// written and counted as `hidreport_describe` says, and refused as `hidreport_items` says.
 #[unsafe(no_mangle)]
 pub extern "C" fn hidreport_rebuild(
     alloc: Global,
