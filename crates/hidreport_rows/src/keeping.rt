@@ -1,5 +1,6 @@
 //! What a Push keeps: each descriptor as it is read where that is globals and locals, and where it is globals alone.
-use crate::collections::{MOUSE, WANTED_MOUSE};
+use crate::collections::WANTED_MOUSE;
+use crate::mouse::MOUSE;
 use crate::wanted::Kind::Variable;
 use crate::wanted::Wanted::{Refused, Reports};
 use crate::wanted::{Wanted, WantedCollection, WantedField, WantedReport, is_wanted};
@@ -181,7 +182,7 @@ fn rebuilt_bytes_are_read_as_the_same_reports(rt: HostRuntime) {
 fn a_mouse_without_a_push(rt: HostRuntime) {
     assert!(rt;
         is_wanted(
-            &ReportDescriptor::try_from_globals_only(rt.alloc(), &MOUSE),
+            &ReportDescriptor::try_from_globals_only(rt.alloc(), MOUSE),
             &WANTED_MOUSE,
         )
     );
