@@ -1,12 +1,10 @@
-ghost use Rattle.std.specs.Arc.{arc_slice_items};
-ghost use Rattle.std.specs.Prelude.{◌≡◌, pos, unwrap_or};
-ghost use Rattle.hidreport.specs.Views.{array_attributes, field_record, variable_attributes};
-ghost use Rattle.hidreport_c.specs.Field.{as_c, collections_as_c, flags_as_c, measures_as_c};
-ghost use Rattle.hidreport_c.specs.Field.{nothing_measured, nothing_set, usages_as_c};
+ghost use Rattle.std.specs.Prelude.{◌≡◌, is_some, pos, unwrap_or};
+ghost use Rattle.hidreport.specs.Views.{field_record};
+ghost use Rattle.hidreport_c.specs.Field.{as_c, collections_as_c, flags_as_c, usages_as_c};
 
 use hidreport::{
-    ArrayField, Collection, Field, FieldAttributes, PhysicalMaximum, PhysicalMinimum, Unit,
-    UnitExponent, Usage, VariableField,
+    Collection, Field, FieldAttributes, LogicalMaximum, LogicalMinimum, PhysicalMaximum,
+    PhysicalMinimum, Unit, UnitExponent, Usage,
 };
 
 /// `kind` of a field with one value.
@@ -188,8 +186,16 @@ fn measures_of(field: &Field) -> HidreportMeasures
     ensures { result ≡ (as_c (field_record field.now)).measures }
 {
     match field {
-        Field::Variable(variable) => measures_of_variable(variable),
-        Field::Array(array) => measures_of_array(array),
+        Field::Variable(field) => measures(
+            (field.logical_minimum, field.logical_maximum),
+            (field.physical_minimum, field.physical_maximum),
+            (field.unit, field.unit_exponent),
+        ),
+        Field::Array(field) => measures(
+            (field.logical_minimum, field.logical_maximum),
+            (field.physical_minimum, field.physical_maximum),
+            (field.unit, field.unit_exponent),
+        ),
         Field::Constant(_) => HidreportMeasures {
             logical_minimum: 0,
             logical_maximum: 0,
@@ -205,37 +211,36 @@ fn measures_of(field: &Field) -> HidreportMeasures
     }
 }
 
-fn measures_of_variable(field: &VariableField) -> HidreportMeasures
-    ensures { result ≡ measures_as_c (variable_attributes field.now) }
+/// Bounds and unit, 0 for what isn't there.
+fn measures(
+    logical: (LogicalMinimum, LogicalMaximum),
+    physical: (Option<PhysicalMinimum>, Option<PhysicalMaximum>),
+    unit: (Option<Unit>, Option<UnitExponent>),
+) -> HidreportMeasures
+    ensures { result ≡ record {
+      logical_minimum = logical.0;
+      logical_maximum = logical.1;
+      physical_minimum = unwrap_or physical.0 (pos 0);
+      physical_maximum = unwrap_or physical.1 (pos 0);
+      unit = unwrap_or unit.0 0;
+      unit_exponent = unwrap_or unit.1 (pos 0);
+      has_physical_minimum = is_some physical.0;
+      has_physical_maximum = is_some physical.1;
+      has_unit = is_some unit.0;
+      has_unit_exponent = is_some unit.1;
+    } }
 {
     HidreportMeasures {
-        logical_minimum: i32::from(field.logical_minimum),
-        logical_maximum: i32::from(field.logical_maximum),
-        physical_minimum: minimum_or_0(field.physical_minimum),
-        physical_maximum: maximum_or_0(field.physical_maximum),
-        unit: unit_or_0(field.unit),
-        unit_exponent: exponent_or_0(field.unit_exponent),
-        has_physical_minimum: field.physical_minimum.is_some(),
-        has_physical_maximum: field.physical_maximum.is_some(),
-        has_unit: field.unit.is_some(),
-        has_unit_exponent: field.unit_exponent.is_some(),
-    }
-}
-
-fn measures_of_array(field: &ArrayField) -> HidreportMeasures
-    ensures { result ≡ measures_as_c (array_attributes field.now) }
-{
-    HidreportMeasures {
-        logical_minimum: i32::from(field.logical_minimum),
-        logical_maximum: i32::from(field.logical_maximum),
-        physical_minimum: minimum_or_0(field.physical_minimum),
-        physical_maximum: maximum_or_0(field.physical_maximum),
-        unit: unit_or_0(field.unit),
-        unit_exponent: exponent_or_0(field.unit_exponent),
-        has_physical_minimum: field.physical_minimum.is_some(),
-        has_physical_maximum: field.physical_maximum.is_some(),
-        has_unit: field.unit.is_some(),
-        has_unit_exponent: field.unit_exponent.is_some(),
+        logical_minimum: i32::from(logical.0),
+        logical_maximum: i32::from(logical.1),
+        physical_minimum: minimum_or_0(physical.0),
+        physical_maximum: maximum_or_0(physical.1),
+        unit: unit_or_0(unit.0),
+        unit_exponent: exponent_or_0(unit.1),
+        has_physical_minimum: physical.0.is_some(),
+        has_physical_maximum: physical.1.is_some(),
+        has_unit: unit.0.is_some(),
+        has_unit_exponent: unit.1.is_some(),
     }
 }
 
