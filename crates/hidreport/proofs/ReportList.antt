@@ -4,6 +4,7 @@ use Rattle.hidreport.specs.Parser.Machine.{added_to, index_in, size_in}
 use Rattle.hidreport.specs.Making.{same_key}
 use Rattle.hidreport.specs.Places.{id_bits}
 use Rattle.hidreport.specs.Records.{FieldRecord, ReportRecord}
+use Rattle.hidreport.proofs.Reports.{same_key-refl}
 
 -- a report with more bits and fields
 abbrev pub extended : ReportRecord → ℕ → List FieldRecord → ReportRecord
@@ -64,3 +65,17 @@ pub added_to-found : (key : Option ℕ) (bits : ℕ) (fields : List FieldRecord)
     → (added_to key bits fields rs ≡ set rs i (extended r bits fields)) × (size_in key rs ≡ r.size)
 added_to-found key bits fields rs i r e lt here =
     (added_to-at key bits fields rs i r e lt ∙ ap (λ z. set rs i (extended z bits fields)) (sym here), size_in-at key rs i r e lt ∙ ap (λ (z : ReportRecord). z.size) (sym here))
+
+index-by : (b : Bool) (key : Option ℕ) (bits : ℕ) (fields : List FieldRecord) (r : ReportRecord) (rs : List ReportRecord) → same_key r.id key ≡ b
+    → index_in key (added_to key bits fields rs) ≡ index_in key rs → index_in key (added_to key bits fields (r ∷ rs)) ≡ index_in key (r ∷ rs)
+index-by true key bits fields r rs s rest =
+    ap (λ b. index_in key (cond b (extended r bits fields ∷ rs) (r ∷ added_to key bits fields rs))) s
+    ∙ ap (λ b. cond b 0 (suc (index_in key rs))) (s ∙ sym s)
+index-by false key bits fields r rs s rest =
+    ap (λ b. index_in key (cond b (extended r bits fields ∷ rs) (r ∷ added_to key bits fields rs))) s
+    ∙ ap (λ n. cond (same_key r.id key) 0 (suc n)) rest
+
+-- a report keeps its place when fields are added to it
+pub index_in-added : (key : Option ℕ) (bits : ℕ) (fields : List FieldRecord) (rs : List ReportRecord) → index_in key (added_to key bits fields rs) ≡ index_in key rs
+index_in-added key bits fields [] = ap (λ b. cond b 0 1) (same_key-refl key)
+index_in-added key bits fields (r ∷ rs) = index-by (same_key r.id key) key bits fields r rs refl (index_in-added key bits fields rs)

@@ -16,6 +16,8 @@ pub(crate) mod keeping;
 mod layout;
 mod open_collection;
 mod open_collections;
+mod report_list;
+mod report_lists;
 mod slot;
 mod state;
 mod usage_bounds;

@@ -14,7 +14,6 @@ use crate::parser::budget::{Budget, weight_of_each};
 use crate::parser::fault::Fault;
 use crate::parser::globals::Globals;
 use crate::parser::in_force::InForce;
-use crate::parser::slot::{size_at, slot_of};
 use crate::parser::state::State;
 use crate::parser::usages::{Usages, usages_of};
 use hidreport_types::{LogicalMaximum, LogicalMinimum, ReportCount};
@@ -56,8 +55,8 @@ impl State {
         };
         let usages = needed_usages(alloc, &item, &self.in_force)?;
         let reports = self.reports.of(item.direction);
-        let slot = slot_of(reports, globals.report_id);
-        let first_bit = size_at(reports, slot);
+        let slot = reports.slot_of(globals.report_id);
+        let first_bit = reports.size_at(slot);
         let bits = bits_within(first_bit, size, count)?;
         let field_count = item.field_count(count) as u64;
         if field_count > FIELD_IDS || self.field_count > FIELD_IDS - field_count {
