@@ -14,6 +14,7 @@ mod in_force;
 mod journal;
 pub(crate) mod keeping;
 mod layout;
+mod measures;
 mod open_collection;
 mod open_collections;
 mod report_list;
