@@ -36,24 +36,25 @@ impl State {
         &mut self,
         alloc: Global,
         budget: &mut Budget,
-        item: DataItem,
+        item: &DataItem,
     ) -> Result<(), Fault>
-        ensures faultless { OnOk result (fault_in self.old (as_item item) ≡ None) }
+        ensures faultless { OnOk result (fault_in self.old (as_item item.now) ≡ None) }
         ensures within { OnOk result
-            (is_past budget.old (weight_in self.old (as_item item)) ≡ false) }
+            (is_past budget.old (weight_in self.old (as_item item.now)) ≡ false) }
         ensures left { OnOk result (budget.new
-            ≡ left_behind budget.old (weight_in self.old (as_item item))) }
+            ≡ left_behind budget.old (weight_in self.old (as_item item.now))) }
         ensures held { OnOk result (self.new ≡ record self.old {
-          descriptor = (next_held self.old (as_item item)).descriptor;
-          fields = (next_held self.old (as_item item)).fields;
+          descriptor = (next_held self.old (as_item item.now)).descriptor;
+          fields = (next_held self.old (as_item item.now)).fields;
         }) }
-        ensures err { IfErr result (λ e. IsFaultOf e (stop_in budget.old self.old (as_item item))) }
+        ensures err { IfErr result (λ e.
+            IsFaultOf e (stop_in budget.old self.old (as_item item.now))) }
     {
         let globals = self.in_force.globals();
         let Some((size, count)) = globals.extent() else {
             return Ok(());
         };
-        let usages = needed_usages(alloc, &item, &self.in_force)?;
+        let mut usages = needed_usages(alloc, item, &self.in_force)?;
         let reports = self.reports.of(item.direction);
         let slot = reports.slot_of(globals.report_id);
         let first_bit = reports.size_at(slot);
@@ -62,20 +63,20 @@ impl State {
         if field_count > FIELD_IDS || self.field_count > FIELD_IDS - field_count {
             return Err(Fault::OutOfBounds);
         }
-        let each = weight_of_each(&item, &usages, self.collections.weight());
+        let each = weight_of_each(item, &usages, self.collections.weight());
         budget.spend(item.field_count(count), each)?;
         let layout = Layout {
             report_id: globals.report_id,
             report_count: globals.report_count,
             measures: globals.measures(),
-            item,
-            collections: self.collections.shared_by(alloc, &item)?,
+            item: *item,
+            collections: self.collections.shared_by(alloc, item)?,
             first_id: self.field_count,
             first_bit,
             size,
             count,
         };
-        self.reports.add(alloc, slot, bits, &layout, usages)?;
+        self.reports.add(alloc, slot, bits, &layout, &mut usages)?;
         self.collections.keep(layout.collections);
         self.field_count += field_count;
         Ok(())
@@ -142,17 +143,17 @@ impl Layout {
     pub(crate) fn add_fields(
         &self,
         alloc: Global,
-        usages: Usages,
+        usages: &mut Usages,
         fields: &mut Vec<Field>,
     ) -> Result<(), AllocError>
-        requires { IsPossible self.now (usage_list usages) }
+        requires { IsPossible self.now (usage_list usages.old) }
         ensures { OnOk result (map field_record fields.new.items
-            ≡ map field_record fields.old.items ++ laid_out self.now (usage_list usages)) }
+            ≡ map field_record fields.old.items ++ laid_out self.now (usage_list usages.old)) }
     {
         if self.item.is_constant {
             fields.push(self.constant_field())?;
         } else if self.item.is_variable {
-            self.add_variable_fields(alloc, &usages, fields)?;
+            self.add_variable_fields(alloc, usages, fields)?;
         } else {
             fields.push(self.array_field(alloc, usages)?)?;
         }
@@ -220,14 +221,14 @@ impl Layout {
     }
 
     /// The field of an array item, which has all the usages.
-    fn array_field(&self, alloc: Global, usages: Usages) -> Result<Field, AllocError>
+    fn array_field(&self, alloc: Global, usages: &mut Usages) -> Result<Field, AllocError>
         requires ids { self.now.first_id < 2 ^ 32 }
         requires bits { self.now.first_bit + self.now.size * self.now.count < 2 ^ 64 }
         requires count { self.now.report_count ≡ Some self.now.count }
         ensures { IfOk result (λ field. field_record field ≡ ArrayRecord
             (make_place self.now.first_id self.now.report_id self.now.first_bit
             (self.now.size * self.now.count))
-            (usage_list usages).usages (usage_list usages).is_range self.now.count
+            (usage_list usages.old).usages (usage_list usages.old).is_range self.now.count
             (shared_of self.now)) }
     {
         let measures = &self.measures;
@@ -236,7 +237,7 @@ impl Layout {
             report_id: self.report_id,
             bits: self.all_bits(),
             is_usage_range: usages.is_range(),
-            usages: usages.into_list(alloc)?,
+            usages: usages.take_list(alloc)?,
             report_count: self.report_count.unwrap_or(ReportCount::from(0)),
             logical_minimum: measures.logical_minimum,
             logical_maximum: measures.logical_maximum,

@@ -69,13 +69,13 @@ impl ReportList {
         slot: Slot,
         bits: usize,
         layout: &Layout,
-        usages: Usages,
+        usages: &mut Usages,
     ) -> Result<(), AllocError>
         requires slot { slot.index ≡ index_in slot.key self.old }
         requires bits { size_in slot.key self.old + bits < 2 ^ 64 }
-        requires possible { IsPossible layout.now (usage_list usages) }
+        requires possible { IsPossible layout.now (usage_list usages.old) }
         ensures { OnOk result (self.new
-            ≡ added_to slot.key bits (laid_out layout.now (usage_list usages)) self.old) }
+            ≡ added_to slot.key bits (laid_out layout.now (usage_list usages.old)) self.old) }
     {
         let Slot { key, index } = slot;
         self.last = None;

@@ -107,9 +107,9 @@ impl State {
             IsFaultOf e (stop_in budget.old self.old (ItemType.Main item))) }
     {
         match item {
-            MainItem::Input(item) => self.add_data(alloc, budget, DataItem::from(item))?,
-            MainItem::Output(item) => self.add_data(alloc, budget, DataItem::from(item))?,
-            MainItem::Feature(item) => self.add_data(alloc, budget, DataItem::from(item))?,
+            MainItem::Input(item) => self.add_data(alloc, budget, &DataItem::from(item))?,
+            MainItem::Output(item) => self.add_data(alloc, budget, &DataItem::from(item))?,
+            MainItem::Feature(item) => self.add_data(alloc, budget, &DataItem::from(item))?,
             MainItem::Collection(item) => self.open_collection(alloc, budget, item)?,
             MainItem::EndCollection => self.close_collection()?,
         }

@@ -18,7 +18,7 @@ use Rattle.hidreport.proofs.parser.state.State.add_data.Goals as goal
 pub returns-clause-held : goal.returns-clause-held
 returns-clause-held c =
     let s = c.self.inside in
-    let x = c.args.item in
+    let x = c.args.item.now in
     let h : Held = record {
       keeping = s.in_force.keeping;
       force = s.in_force.now;
@@ -54,7 +54,7 @@ returns-clause-held c =
 pub returns-clause-within : goal.returns-clause-within
 returns-clause-within c =
     let s = c.self.inside in
-    let x = c.args.item in
+    let x = c.args.item.now in
     let h : Held = record {
       keeping = s.in_force.keeping;
       force = s.in_force.now;
@@ -73,7 +73,7 @@ returns-clause-within c =
 pub returns-clause-left : goal.returns-clause-left
 returns-clause-left c =
     let s = c.self.inside in
-    let x = c.args.item in
+    let x = c.args.item.now in
     let h : Held = record {
       keeping = s.in_force.keeping;
       force = s.in_force.now;
@@ -91,9 +91,9 @@ returns-clause-left c =
 
 pub returns-in_err-spend-clause-err : goal.returns-in_err-spend-clause-err
 returns-in_err-spend-clause-err c =
-    let faultless : fault_in c.args.self.now (as_item c.args.item) ≡ None = search rules in
+    let faultless : fault_in c.args.self.now (as_item c.args.item.now) ≡ None = search rules in
     let s = c.self.inside in
-    let x = c.args.item in
+    let x = c.args.item.now in
     let h : Held = record {
       keeping = s.in_force.keeping;
       force = s.in_force.now;
