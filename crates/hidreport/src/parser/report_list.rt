@@ -1,7 +1,7 @@
 ghost use Rattle.std.specs.Prelude.{◌≡◌, ◌+◌, ◌<◌, ◌^◌, OnOk};
 
 use crate::parser::layout::Layout;
-use crate::parser::slot::{Slot, add_fields, size_at, slot_of};
+use crate::parser::slot::{Slot, add_fields, size_at, slot_of, widened};
 use crate::parser::usages::Usages;
 use crate::report::RDescReport;
 use hidreport_types::ReportId;
@@ -10,15 +10,18 @@ use std::marker::Model;
 
 /// The reports of one direction so far, in the order of their first fields (Section 5.6).
 ///
-/// Items of one report mostly follow each other, so the slot of the last one is remembered.
+/// Items of one report mostly follow each other, and ids mostly rise; so the slot of the last item
+/// is remembered, and a number that all ids are below.
 #[derive(Drop)]
 pub(crate) struct ReportList {
     reports: Vec<RDescReport>,
     last: Option<Slot>,
+    ids_below: Option<usize>,
 }
 
 impl Model for ReportList {
-    ghost use Rattle.std.specs.Prelude.{◌≡◌, List, IfSome};
+    ghost use Rattle.std.specs.Prelude.{◌≡◌, ◌*◌, List, IfSome};
+    ghost use Rattle.hidreport.specs.Parser.Ids.{AllBelow};
     ghost use Rattle.hidreport.specs.Parser.Machine.{index_in};
     ghost use Rattle.hidreport.specs.Records.{ReportRecord};
 
@@ -26,7 +29,9 @@ impl Model for ReportList {
 
     ghost view = { λ l. l.reports.items };
 
-    ghost invariant = { λ l. IfSome l.last (λ slot. slot.index ≡ index_in slot.key l.reports.items) };
+    ghost invariant = { λ l.
+        IfSome l.last (λ slot. slot.index ≡ index_in slot.key l.reports.items)
+        × IfSome l.ids_below (λ bound. AllBelow bound l.reports.items) };
 }
 
 impl ReportList {
@@ -43,6 +48,7 @@ impl ReportList {
         ReportList {
             reports: Vec::new(alloc),
             last: None,
+            ids_below: Some(0),
         }
     }
 
@@ -51,7 +57,7 @@ impl ReportList {
         ensures key { result.key ≡ first_of id (first_id self.now) }
         ensures index { result.index ≡ index_in result.key self.now }
     {
-        slot_of(&self.reports, self.last, id)
+        slot_of(&self.reports, self.last, self.ids_below, id)
     }
 
     /// Where the report that `slot` names ends so far.
@@ -78,9 +84,12 @@ impl ReportList {
             ≡ added_to slot.key bits (laid_out layout.now (usage_list usages.old)) self.old) }
     {
         let Slot { key, index } = slot;
+        let ids_below = widened(self.ids_below, &key);
         self.last = None;
+        self.ids_below = None;
         add_fields(alloc, &mut self.reports, slot, bits, layout, usages)?;
         self.last = Some(Slot { key, index });
+        self.ids_below = ids_below;
         Ok(())
     }
 

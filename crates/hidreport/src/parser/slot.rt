@@ -1,7 +1,8 @@
 //! The report that a data item adds its fields to (Sections 5.6 and 6.2.2.7).
-ghost use Rattle.std.specs.Prelude.{◌≡◌, ◌+◌, ◌<◌, ◌^◌, IfSome, OnOk};
+ghost use Rattle.std.specs.Prelude.{◌≡◌, ◌+◌, ◌*◌, ◌<◌, ◌≤◌, ◌^◌, true, IfSome, IsSomeAnd, OnOk};
 ghost use Rattle.hidreport.specs.InForce.{first_of};
 ghost use Rattle.hidreport.specs.Making.{same_key};
+ghost use Rattle.hidreport.specs.Parser.Ids.{AllBelow};
 ghost use Rattle.hidreport.specs.Parser.Layout.{IsPossible, laid_out};
 ghost use Rattle.hidreport.specs.Parser.Machine.{added_to, first_id, index_in, size_in};
 ghost use Rattle.hidreport.specs.Parser.Usages.{usage_list};
@@ -21,9 +22,15 @@ pub(crate) struct Slot {
 }
 
 /// The report that a field with this id in force goes to: without one to the first. Before others
-/// are looked at, it is compared with the slot of the last item.
-pub(crate) fn slot_of(reports: &[RDescReport], last: Option<Slot>, id: Option<ReportId>) -> Slot
-    requires { IfSome last (λ slot. slot.index ≡ index_in slot.key reports.now) }
+/// are looked at, it is compared with the slot of the last item and with what ids are below.
+pub(crate) fn slot_of(
+    reports: &[RDescReport],
+    last: Option<Slot>,
+    ids_below: Option<usize>,
+    id: Option<ReportId>,
+) -> Slot
+    requires last { IfSome last (λ slot. slot.index ≡ index_in slot.key reports.now) }
+    requires below { IfSome ids_below (λ bound. AllBelow bound reports.now) }
     ensures key { result.key ≡ first_of id (first_id reports.now) }
     ensures index { result.index ≡ index_in result.key reports.now }
 {
@@ -36,8 +43,36 @@ pub(crate) fn slot_of(reports: &[RDescReport], last: Option<Slot>, id: Option<Re
             };
         }
     }
+    if is_past(ids_below, &key) {
+        return Slot {
+            key,
+            index: reports.len(),
+        };
+    }
     let index = report_index(reports, &key);
     Slot { key, index }
+}
+
+/// Whether this is an id that all others are below.
+fn is_past(ids_below: Option<usize>, key: &Option<ReportId>) -> bool
+    ensures { result ≡ true →
+        IsSomeAnd ids_below (λ bound. IsSomeAnd key.now (λ id. bound ≤ id)) }
+{
+    match (ids_below, key) {
+        (Some(bound), Some(id)) => bound <= usize::from(u8::from(*id)),
+        _ => false,
+    }
+}
+
+/// A number that all ids and this one are below.
+pub(crate) fn widened(ids_below: Option<usize>, key: &Option<ReportId>) -> Option<usize>
+    ensures { IfSome result (λ above.
+        IsSomeAnd ids_below (λ bound. (bound ≤ above) × IfSome key.now (λ id. id < above))) }
+{
+    match (ids_below, key) {
+        (Some(bound), Some(id)) => Some(bound.max(usize::from(u8::from(*id)) + 1)),
+        (bound, _) => bound,
+    }
 }
 
 /// The id of the report that a field with this id in force goes to.
