@@ -21,8 +21,8 @@ pub(crate) struct Slot {
     pub(crate) index: usize,
 }
 
-/// The report that a field with this id in force goes to: without one to the first. Before others
-/// are looked at, it is compared with the slot of the last item and with what ids are below.
+/// The report that a field with this id in force goes to: without one to the first. The reports are
+/// gone over only where it is neither that of the last slot nor past all ids.
 pub(crate) fn slot_of(
     reports: &[RDescReport],
     last: Option<Slot>,
@@ -53,7 +53,7 @@ pub(crate) fn slot_of(
     Slot { key, index }
 }
 
-/// Whether this is an id that all others are below.
+/// Whether this is an id past all others, so that no report has it yet.
 fn is_past(ids_below: Option<usize>, key: &Option<ReportId>) -> bool
     ensures { result ≡ true →
         IsSomeAnd ids_below (λ bound. IsSomeAnd key.now (λ id. bound ≤ id)) }
@@ -64,7 +64,7 @@ fn is_past(ids_below: Option<usize>, key: &Option<ReportId>) -> bool
     }
 }
 
-/// A number that all ids and this one are below.
+/// A number that this id is below, and all that were below the number before.
 pub(crate) fn widened(ids_below: Option<usize>, key: &Option<ReportId>) -> Option<usize>
     ensures { IfSome result (λ above.
         IsSomeAnd ids_below (λ bound. (bound ≤ above) × IfSome key.now (λ id. id < above))) }
