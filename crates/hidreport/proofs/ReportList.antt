@@ -1,9 +1,13 @@
 -- The report with an id by its place in the list.
-use Rattle.std.proofs.Common.{◌≡◌, ℕ, suc, ◌+◌, ◌<◌, ◌≤◌, Bool, true, false, cond, List, [], ◌∷◌, ◌++◌, length, get_or, set, Option, refl, sym, ap, ◌∙◌, arith}
+use Rattle.std.proofs.Common.{◌≡◌, ℕ, suc, ◌+◌, ◌<◌, ◌≤◌, Bool, true, false, cond, List, [], ◌∷◌, ◌++◌, length, get_or, set, Option, None, Some, IfSome, refl, sym, ap, ◌∙◌, arith}
+use Rattle.std.specs.Prelude.{IsSomeAnd}
+use Rattle.std.proofs.lemmas.Grind.{common_steps}
+use Rattle.hidreport.specs.Parser.Ids.{AllBelow}
 use Rattle.hidreport.specs.Parser.Machine.{added_to, index_in, size_in}
 use Rattle.hidreport.specs.Making.{same_key}
 use Rattle.hidreport.specs.Places.{id_bits}
 use Rattle.hidreport.specs.Records.{FieldRecord, ReportRecord}
+use Rattle.hidreport.proofs.Reports.{same_key-refl}
 
 -- a report with more bits and fields
 abbrev pub extended : ReportRecord → ℕ → List FieldRecord → ReportRecord
@@ -64,3 +68,52 @@ pub added_to-found : (key : Option ℕ) (bits : ℕ) (fields : List FieldRecord)
     → (added_to key bits fields rs ≡ set rs i (extended r bits fields)) × (size_in key rs ≡ r.size)
 added_to-found key bits fields rs i r e lt here =
     (added_to-at key bits fields rs i r e lt ∙ ap (λ z. set rs i (extended z bits fields)) (sym here), size_in-at key rs i r e lt ∙ ap (λ (z : ReportRecord). z.size) (sym here))
+
+index-by : (b : Bool) (key : Option ℕ) (bits : ℕ) (fields : List FieldRecord) (r : ReportRecord) (rs : List ReportRecord) → same_key r.id key ≡ b
+    → index_in key (added_to key bits fields rs) ≡ index_in key rs → index_in key (added_to key bits fields (r ∷ rs)) ≡ index_in key (r ∷ rs)
+index-by true key bits fields r rs s rest =
+    ap (λ b. index_in key (cond b (extended r bits fields ∷ rs) (r ∷ added_to key bits fields rs))) s
+    ∙ ap (λ b. cond b 0 (suc (index_in key rs))) (s ∙ sym s)
+index-by false key bits fields r rs s rest =
+    ap (λ b. index_in key (cond b (extended r bits fields ∷ rs) (r ∷ added_to key bits fields rs))) s
+    ∙ ap (λ n. cond (same_key r.id key) 0 (suc n)) rest
+
+-- a report keeps its place when fields are added to it
+pub index_in-added : (key : Option ℕ) (bits : ℕ) (fields : List FieldRecord) (rs : List ReportRecord) → index_in key (added_to key bits fields rs) ≡ index_in key rs
+index_in-added key bits fields [] = ap (λ b. cond b 0 1) (same_key-refl key)
+index_in-added key bits fields (r ∷ rs) = index-by (same_key r.id key) key bits fields r rs refl (index_in-added key bits fields rs)
+
+absent-by : (b c : Bool) (key : Option ℕ) (bits : ℕ) (fields : List FieldRecord) (n : ℕ) (r : ReportRecord) (rs : List ReportRecord)
+    → same_key r.id (Some n) ≡ b → same_key r.id key ≡ c → cond b 0 (suc (index_in (Some n) rs)) ≡ suc (length rs)
+    → (index_in (Some n) rs ≡ length rs → index_in (Some n) (added_to key bits fields rs) ≡ length (added_to key bits fields rs))
+    → index_in (Some n) (added_to key bits fields (r ∷ rs)) ≡ length (added_to key bits fields (r ∷ rs))
+absent-by true c key bits fields n r rs s t e rest = absurd (omega (arith, e))
+absent-by false true key bits fields n r rs s t e rest =
+    ap (λ b. index_in (Some n) (cond b (extended r bits fields ∷ rs) (r ∷ added_to key bits fields rs))) t
+    ∙ ap (λ b. cond b 0 (suc (index_in (Some n) rs))) s ∙ e
+    ∙ sym (ap (λ b. length (cond b (extended r bits fields ∷ rs) (r ∷ added_to key bits fields rs))) t)
+absent-by false false key bits fields n r rs s t e rest =
+    let tail : index_in (Some n) rs ≡ length rs = omega (arith, e) in
+    ap (λ b. index_in (Some n) (cond b (extended r bits fields ∷ rs) (r ∷ added_to key bits fields rs))) t
+    ∙ ap (λ b. cond b 0 (suc (index_in (Some n) (added_to key bits fields rs)))) s ∙ ap suc (rest tail)
+    ∙ sym (ap (λ b. length (cond b (extended r bits fields ∷ rs) (r ∷ added_to key bits fields rs))) t)
+
+-- a report with another id that isn't there isn't there behind more fields either
+absent-added : (key : Option ℕ) (bits : ℕ) (fields : List FieldRecord) (n : ℕ) (rs : List ReportRecord) → same_key key (Some n) ≡ false
+    → index_in (Some n) rs ≡ length rs → index_in (Some n) (added_to key bits fields rs) ≡ length (added_to key bits fields rs)
+absent-added key bits fields n [] other e = ap (λ b. cond b 0 1) other
+absent-added key bits fields n (r ∷ rs) other e =
+    absent-by (same_key r.id (Some n)) (same_key r.id key) key bits fields n r rs refl refl e (absent-added key bits fields n rs other)
+
+other-key : (key : Option ℕ) (bound n : ℕ) → IfSome key (λ id. id < bound) → bound ≤ n → same_key key (Some n) ≡ false
+other-key None bound n less le = refl
+other-key (Some id) bound n less le = grind (arith, common_steps, less, le)
+
+-- the ids stay below a bound that the new one is below too
+pub below-added : (old new : Option ℕ) (key : Option ℕ) (bits : ℕ) (fields : List FieldRecord) (rs : List ReportRecord) → IfSome old (λ bound. AllBelow bound rs)
+    → IfSome new (λ above. IsSomeAnd old (λ bound. (bound ≤ above) × IfSome key (λ id. id < above)))
+    → IfSome new (λ above. AllBelow above (added_to key bits fields rs))
+below-added old None key bits fields rs known wider = tt
+below-added None (Some above) key bits fields rs known wider = absurd wider
+below-added (Some bound) (Some above) key bits fields rs known wider = λ n le.
+    absent-added key bits fields n rs (other-key key above n wider.1 le) (known n (omega (arith, wider.0, le)))

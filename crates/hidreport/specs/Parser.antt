@@ -4,6 +4,7 @@ pub mod DataItem
 pub mod Forces
 pub mod Journal
 pub mod Layout
+pub mod Ids
 pub mod Machine
 pub mod Opened
 pub mod Refusals

@@ -3,8 +3,7 @@ use Rattle.std.specs.Prelude.{◌≡◌, ℕ, ◌+◌, ◌*◌, ◌^◌, ◌<◌
 use Rattle.std.specs.Arc.{arc_slice_items}
 use Rattle.std.specs.Global.{Global}
 use Rattle.std.specs.declared.sync.ArcSlice.{ArcSlice}
-use Rattle.hidreport.specs.Fields.{field_count, make_place, make_fields, usage_at, attributes}
-use Rattle.hidreport.specs.Parser.Forces.{force_of}
+use Rattle.hidreport.specs.Fields.{field_count, make_place, make_fields, usage_at, attributes_with}
 use Rattle.hidreport.specs.Records.{Attributes, CollectionRecord, FieldRecord, VariableRecord}
 use Rattle.hidreport.specs.Usages.{UsageList}
 use Rattle.hidreport.specs.Views.{direction_of, item_flags}
@@ -17,23 +16,23 @@ shared_list (Some shared) = arc_slice_items shared
 
 -- what the item's fields share
 abbrev pub shared_of : Layout → Attributes
-shared_of l = attributes (force_of l.globals []) (shared_list l.collections)
-    (direction_of l.item.direction) (item_flags l.item)
+shared_of l = attributes_with (direction_of l.item.direction) (item_flags l.item) l.measures
+    (shared_list l.collections)
 
 -- the fields, with these usages
 abbrev pub laid_out : Layout → UsageList → List FieldRecord
-laid_out l us = make_fields l.globals.report_id l.first_id l.first_bit (l.size, l.count)
+laid_out l us = make_fields l.report_id l.first_id l.first_bit (l.size, l.count)
     (item_flags l.item) us (shared_of l)
 
 -- field number c of a variable item
 abbrev pub variable_of : Layout → UsageList → ℕ → FieldRecord
 variable_of l us c = VariableRecord
-    (make_place (l.first_id + c) l.globals.report_id (l.first_bit + c * l.size) l.size)
+    (make_place (l.first_id + c) l.report_id (l.first_bit + c * l.size) l.size)
     (usage_at us.usages c) (shared_of l)
 
 -- the fields have ids, their bits can be counted, and there are usages for them
 pub record IsPossible (l : Layout) (us : UsageList) : Type 0 where
   pub ids : l.first_id + field_count (item_flags l.item) l.count ≤ 2 ^ 32
   pub bits : l.first_bit + l.size * l.count < 2 ^ 64
-  pub count : l.globals.report_count ≡ Some l.count
+  pub count : l.report_count ≡ Some l.count
   pub usages : l.item.is_constant ≡ false → 0 < length us.usages

@@ -1,3 +1,4 @@
+use crate::parser::measures::Measures;
 use hidreport_items::GlobalItem;
 use hidreport_types::{
     LogicalMaximum, LogicalMinimum, PhysicalMaximum, PhysicalMinimum, ReportCount, ReportId,
@@ -21,7 +22,7 @@ pub(crate) struct Globals {
 
 impl Globals {
     ghost use Rattle.std.specs.Prelude.{◌≡◌, List, []};
-    ghost use Rattle.hidreport.specs.Fields.{physical_bound};
+    ghost use Rattle.hidreport.specs.Fields.{measures, physical_bound};
     ghost use Rattle.hidreport.specs.Making.{both_set};
     ghost use Rattle.hidreport_items.specs.declared.local.LocalItem.{LocalItem};
     ghost use Rattle.hidreport_items.specs.declared.item.ItemType.TheVariants as items;
@@ -81,8 +82,22 @@ impl Globals {
         }
     }
 
+    /// What fields with data have of them; logical bounds that aren't set are 0.
+    pub(crate) fn measures(&self) -> Measures
+        ensures { result ≡ measures (force_of self.now []) }
+    {
+        Measures {
+            logical_minimum: self.logical_minimum.unwrap_or(LogicalMinimum::from(0)),
+            logical_maximum: self.logical_maximum.unwrap_or(LogicalMaximum::from(0)),
+            physical_minimum: self.physical_minimum(),
+            physical_maximum: self.physical_maximum(),
+            unit: self.unit,
+            unit_exponent: self.unit_exponent,
+        }
+    }
+
     /// The physical minimum; where just the other physical bound is set it is 0.
-    pub(crate) fn physical_minimum(&self) -> Option<PhysicalMinimum>
+    fn physical_minimum(&self) -> Option<PhysicalMinimum>
         ensures { result ≡ physical_bound self.now.physical_minimum self.now.physical_maximum }
     {
         match (self.physical_minimum, self.physical_maximum) {
@@ -93,7 +108,7 @@ impl Globals {
     }
 
     /// The same of the physical maximum.
-    pub(crate) fn physical_maximum(&self) -> Option<PhysicalMaximum>
+    fn physical_maximum(&self) -> Option<PhysicalMaximum>
         ensures { result ≡ physical_bound self.now.physical_maximum self.now.physical_minimum }
     {
         match (self.physical_maximum, self.physical_minimum) {

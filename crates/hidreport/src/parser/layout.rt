@@ -12,12 +12,11 @@ use crate::field::variable_field::VariableField;
 use crate::field::{Field, FieldId};
 use crate::parser::budget::{Budget, weight_of_each};
 use crate::parser::fault::Fault;
-use crate::parser::globals::Globals;
 use crate::parser::in_force::InForce;
-use crate::parser::slot::{size_at, slot_of};
+use crate::parser::measures::Measures;
 use crate::parser::state::State;
 use crate::parser::usages::{Usages, usages_of};
-use hidreport_types::{LogicalMaximum, LogicalMinimum, ReportCount};
+use hidreport_types::{ReportCount, ReportId};
 use std::alloc::{AllocError, Global};
 use std::ops::Range;
 use std::sync::ArcSlice;
@@ -37,44 +36,48 @@ impl State {
         &mut self,
         alloc: Global,
         budget: &mut Budget,
-        item: DataItem,
+        item: &DataItem,
     ) -> Result<(), Fault>
-        ensures faultless { OnOk result (fault_in self.old (as_item item) ≡ None) }
+        ensures faultless { OnOk result (fault_in self.old (as_item item.now) ≡ None) }
         ensures within { OnOk result
-            (is_past budget.old (weight_in self.old (as_item item)) ≡ false) }
+            (is_past budget.old (weight_in self.old (as_item item.now)) ≡ false) }
         ensures left { OnOk result (budget.new
-            ≡ left_behind budget.old (weight_in self.old (as_item item))) }
+            ≡ left_behind budget.old (weight_in self.old (as_item item.now))) }
         ensures held { OnOk result (self.new ≡ record self.old {
-          descriptor = (next_held self.old (as_item item)).descriptor;
-          fields = (next_held self.old (as_item item)).fields;
+          descriptor = (next_held self.old (as_item item.now)).descriptor;
+          fields = (next_held self.old (as_item item.now)).fields;
         }) }
-        ensures err { IfErr result (λ e. IsFaultOf e (stop_in budget.old self.old (as_item item))) }
+        ensures err { IfErr result (λ e.
+            IsFaultOf e (stop_in budget.old self.old (as_item item.now))) }
     {
-        let globals = *self.in_force.globals();
+        let globals = self.in_force.globals();
         let Some((size, count)) = globals.extent() else {
             return Ok(());
         };
-        let usages = needed_usages(alloc, &item, &self.in_force)?;
+        let mut usages = needed_usages(alloc, item, &self.in_force)?;
         let reports = self.reports.of(item.direction);
-        let slot = slot_of(reports, globals.report_id);
-        let first_bit = size_at(reports, slot);
+        let slot = reports.slot_of(globals.report_id);
+        let first_bit = reports.size_at(slot);
         let bits = bits_within(first_bit, size, count)?;
         let field_count = item.field_count(count) as u64;
         if field_count > FIELD_IDS || self.field_count > FIELD_IDS - field_count {
             return Err(Fault::OutOfBounds);
         }
-        let each = weight_of_each(&item, &usages, self.collections.weight());
+        let each = weight_of_each(item, &usages, self.collections.weight());
         budget.spend(item.field_count(count), each)?;
         let layout = Layout {
-            globals,
-            item,
-            collections: self.collections.shared_by(alloc, &item)?,
+            report_id: globals.report_id,
+            report_count: globals.report_count,
+            measures: globals.measures(),
+            item: *item,
+            collections: self.collections.shared_by(alloc, item)?,
             first_id: self.field_count,
             first_bit,
             size,
             count,
         };
-        self.reports.add(alloc, slot, bits, &layout, usages)?;
+        self.reports.add(alloc, slot, bits, &layout, &mut usages)?;
+        self.collections.keep(layout.collections);
         self.field_count += field_count;
         Ok(())
     }
@@ -114,7 +117,9 @@ fn bits_within(start: usize, size: usize, count: usize) -> Result<usize, Fault>
 /// What the fields of one item have in common.
 #[derive(Drop)]
 pub(crate) struct Layout {
-    globals: Globals,
+    report_id: Option<ReportId>,
+    report_count: Option<ReportCount>,
+    measures: Measures,
     pub(crate) item: DataItem,
     collections: Option<ArcSlice<Collection>>,
     first_id: u64,
@@ -138,17 +143,17 @@ impl Layout {
     pub(crate) fn add_fields(
         &self,
         alloc: Global,
-        usages: Usages,
+        usages: &mut Usages,
         fields: &mut Vec<Field>,
     ) -> Result<(), AllocError>
-        requires { IsPossible self.now (usage_list usages) }
+        requires { IsPossible self.now (usage_list usages.old) }
         ensures { OnOk result (map field_record fields.new.items
-            ≡ map field_record fields.old.items ++ laid_out self.now (usage_list usages)) }
+            ≡ map field_record fields.old.items ++ laid_out self.now (usage_list usages.old)) }
     {
         if self.item.is_constant {
             fields.push(self.constant_field())?;
         } else if self.item.is_variable {
-            self.add_variable_fields(alloc, &usages, fields)?;
+            self.add_variable_fields(alloc, usages, fields)?;
         } else {
             fields.push(self.array_field(alloc, usages)?)?;
         }
@@ -160,11 +165,11 @@ impl Layout {
         requires ids { self.now.first_id < 2 ^ 32 }
         requires bits { self.now.first_bit + self.now.size * self.now.count < 2 ^ 64 }
         ensures { field_record result ≡ ConstantRecord (make_place self.now.first_id
-            self.now.globals.report_id self.now.first_bit (self.now.size * self.now.count)) }
+            self.now.report_id self.now.first_bit (self.now.size * self.now.count)) }
     {
         Field::Constant(ConstantField {
             id: FieldId::new(self.first_id as u32),
-            report_id: self.globals.report_id,
+            report_id: self.report_id,
             bits: self.all_bits(),
         })
     }
@@ -198,48 +203,48 @@ impl Layout {
         requires collections { arc_slice_items collections ≡ shared_list self.now.collections }
         ensures { field_record result ≡ variable_of self.now (usage_list usages.now) c }
     {
-        let globals = &self.globals;
+        let measures = &self.measures;
         Field::Variable(VariableField {
             id: FieldId::new((self.first_id + c as u64) as u32),
-            report_id: globals.report_id,
+            report_id: self.report_id,
             bits: self.bits(c),
             usage: usages.at(c),
-            logical_minimum: globals.logical_minimum.unwrap_or(LogicalMinimum::from(0)),
-            logical_maximum: globals.logical_maximum.unwrap_or(LogicalMaximum::from(0)),
-            physical_minimum: globals.physical_minimum(),
-            physical_maximum: globals.physical_maximum(),
-            unit: globals.unit,
-            unit_exponent: globals.unit_exponent,
+            logical_minimum: measures.logical_minimum,
+            logical_maximum: measures.logical_maximum,
+            physical_minimum: measures.physical_minimum,
+            physical_maximum: measures.physical_maximum,
+            unit: measures.unit,
+            unit_exponent: measures.unit_exponent,
             collections,
             item: self.item,
         })
     }
 
     /// The field of an array item, which has all the usages.
-    fn array_field(&self, alloc: Global, usages: Usages) -> Result<Field, AllocError>
+    fn array_field(&self, alloc: Global, usages: &mut Usages) -> Result<Field, AllocError>
         requires ids { self.now.first_id < 2 ^ 32 }
         requires bits { self.now.first_bit + self.now.size * self.now.count < 2 ^ 64 }
-        requires count { self.now.globals.report_count ≡ Some self.now.count }
+        requires count { self.now.report_count ≡ Some self.now.count }
         ensures { IfOk result (λ field. field_record field ≡ ArrayRecord
-            (make_place self.now.first_id self.now.globals.report_id self.now.first_bit
+            (make_place self.now.first_id self.now.report_id self.now.first_bit
             (self.now.size * self.now.count))
-            (usage_list usages).usages (usage_list usages).is_range self.now.count
+            (usage_list usages.old).usages (usage_list usages.old).is_range self.now.count
             (shared_of self.now)) }
     {
-        let globals = &self.globals;
+        let measures = &self.measures;
         Ok(Field::Array(ArrayField {
             id: FieldId::new(self.first_id as u32),
-            report_id: globals.report_id,
+            report_id: self.report_id,
             bits: self.all_bits(),
             is_usage_range: usages.is_range(),
-            usages: usages.into_list(alloc)?,
-            report_count: globals.report_count.unwrap_or(ReportCount::from(0)),
-            logical_minimum: globals.logical_minimum.unwrap_or(LogicalMinimum::from(0)),
-            logical_maximum: globals.logical_maximum.unwrap_or(LogicalMaximum::from(0)),
-            physical_minimum: globals.physical_minimum(),
-            physical_maximum: globals.physical_maximum(),
-            unit: globals.unit,
-            unit_exponent: globals.unit_exponent,
+            usages: usages.take_list(alloc)?,
+            report_count: self.report_count.unwrap_or(ReportCount::from(0)),
+            logical_minimum: measures.logical_minimum,
+            logical_maximum: measures.logical_maximum,
+            physical_minimum: measures.physical_minimum,
+            physical_maximum: measures.physical_maximum,
+            unit: measures.unit,
+            unit_exponent: measures.unit_exponent,
             collections: self.shared_collections(alloc)?,
             item: self.item,
         }))

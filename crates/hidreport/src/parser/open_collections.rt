@@ -7,6 +7,7 @@ use crate::parser::usages::Usages;
 use hidreport_items::CollectionItem;
 use std::alloc::{AllocError, Global};
 use std::marker::Model;
+use std::mem;
 use std::sync::ArcSlice;
 
 /// The collections that are open, outermost first (Section 6.2.2.6).
@@ -37,7 +38,7 @@ impl Model for OpenCollections {
 
 impl OpenCollections {
     ghost use Rattle.std.specs.Arc.{arc_slice_items};
-    ghost use Rattle.std.specs.Prelude.{◌≡◌, ◌<◌, ◌+◌, ◌-◌, ◌^◌, ◌≤◌, true, false, [], ◌∷◌, ◌++◌, length, sum_by, take, IfOk, OnOk};
+    ghost use Rattle.std.specs.Prelude.{◌≡◌, ◌<◌, ◌+◌, ◌-◌, ◌^◌, ◌≤◌, true, false, [], ◌∷◌, ◌++◌, length, sum_by, take, IfOk, IfSome, OnOk};
     ghost use Rattle.hidreport.specs.Parser.Layout.{shared_list};
     ghost use Rattle.hidreport.specs.Parser.Usages.{usage_list};
     ghost use Rattle.hidreport.specs.Weight.{collection_weight};
@@ -110,7 +111,8 @@ impl OpenCollections {
         true
     }
 
-    /// The list of them for the fields of an item; padding lies in none, so none is made for it.
+    /// The list of them for the fields of an item, until `keep` takes it back; padding lies in none,
+    /// so none is made for it.
     pub(crate) fn shared_by(
         &mut self,
         alloc: Global,
@@ -118,25 +120,27 @@ impl OpenCollections {
     ) -> Result<Option<ArcSlice<Collection>>, AllocError>
         ensures all { IfOk result (λ shared.
             item.now.is_constant ≡ false → shared_list shared ≡ self.old.list) }
+        ensures list { IfOk result (λ shared.
+            IfSome shared (λ list. arc_slice_items list ≡ self.old.list)) }
         ensures same { self.new ≡ self.old }
     {
         if item.is_constant {
             return Ok(None);
         }
-        Ok(Some(self.share(alloc)?))
+        if let Some(shared) = mem::replace(&mut self.shared, None) {
+            return Ok(Some(shared));
+        }
+        Ok(Some(ArcSlice::from_vec(carried(alloc, &mut self.open)?)?))
     }
 
-    /// The list of them that fields share.
-    fn share(&mut self, alloc: Global) -> Result<ArcSlice<Collection>, AllocError>
-        ensures all { IfOk result (λ shared. arc_slice_items shared ≡ self.old.list) }
-        ensures same { self.new ≡ self.old }
+    /// Keeps a list of them for the next item.
+    pub(crate) fn keep(&mut self, shared: Option<ArcSlice<Collection>>)
+        requires { IfSome shared (λ list. arc_slice_items list ≡ self.old.list) }
+        ensures { self.new ≡ self.old }
     {
-        if let Some(shared) = &self.shared {
-            return shared.clone();
+        if let Some(shared) = shared {
+            self.shared = Some(shared);
         }
-        let shared = ArcSlice::from_vec(carried(alloc, &mut self.open)?)?;
-        self.shared = Some(shared.clone()?);
-        Ok(shared)
     }
 }
 

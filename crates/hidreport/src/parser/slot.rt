@@ -1,52 +1,18 @@
 //! The report that a data item adds its fields to (Sections 5.6 and 6.2.2.7).
-ghost use Rattle.std.specs.Prelude.{◌≡◌, ◌+◌, ◌<◌, ◌^◌, OnOk};
+ghost use Rattle.std.specs.Prelude.{◌≡◌, ◌+◌, ◌*◌, ◌<◌, ◌≤◌, ◌^◌, true, IfSome, IsSomeAnd, OnOk};
 ghost use Rattle.hidreport.specs.InForce.{first_of};
 ghost use Rattle.hidreport.specs.Making.{same_key};
+ghost use Rattle.hidreport.specs.Parser.Ids.{AllBelow};
 ghost use Rattle.hidreport.specs.Parser.Layout.{IsPossible, laid_out};
 ghost use Rattle.hidreport.specs.Parser.Machine.{added_to, first_id, index_in, size_in};
 ghost use Rattle.hidreport.specs.Parser.Usages.{usage_list};
 ghost use Rattle.hidreport.specs.Places.{id_bits};
 
-use crate::field::data_item::Direction;
 use crate::parser::layout::Layout;
 use crate::parser::usages::Usages;
 use crate::report::RDescReport;
-use crate::report::reports::Reports;
 use hidreport_types::ReportId;
 use std::alloc::{AllocError, Global};
-
-impl Reports {
-    ghost use Rattle.std.specs.Prelude.{◌≡◌, ◌+◌, ◌<◌, ◌^◌, OnOk};
-    ghost use Rattle.hidreport.specs.Parser.Layout.{IsPossible, laid_out};
-    ghost use Rattle.hidreport.specs.Parser.Machine.{added_to, index_in, reports_in, size_in, with_reports};
-    ghost use Rattle.hidreport.specs.Parser.Usages.{usage_list};
-    ghost use Rattle.hidreport.specs.Views.{direction_of};
-
-    /// Adds an item's fields, which take so many bits, to the report that `slot` names.
-    pub(crate) fn add(
-        &mut self,
-        alloc: Global,
-        slot: Slot,
-        bits: usize,
-        layout: &Layout,
-        usages: Usages,
-    ) -> Result<(), AllocError>
-        requires slot { let old = reports_in (direction_of layout.now.item.direction) self.old in
-            slot.index ≡ index_in slot.key old }
-        requires bits { let old = reports_in (direction_of layout.now.item.direction) self.old in
-            size_in slot.key old + bits < 2 ^ 64 }
-        requires possible { IsPossible layout.now (usage_list usages) }
-        ensures { let old = reports_in (direction_of layout.now.item.direction) self.old in
-            OnOk result (self.new ≡ with_reports (direction_of layout.now.item.direction)
-            (added_to slot.key bits (laid_out layout.now (usage_list usages)) old) self.old) }
-    {
-        match layout.item.direction {
-            Direction::Input => add_fields(alloc, &mut self.input, slot, bits, layout, usages),
-            Direction::Output => add_fields(alloc, &mut self.output, slot, bits, layout, usages),
-            Direction::Feature => add_fields(alloc, &mut self.feature, slot, bits, layout, usages),
-        }
-    }
-}
 
 /// The id of a report and its index, which is the number of reports where it has to be made.
 #[derive(Clone, Copy)]
@@ -55,14 +21,58 @@ pub(crate) struct Slot {
     pub(crate) index: usize,
 }
 
-/// The report that a field with this id in force goes to: without one to the first.
-pub(crate) fn slot_of(reports: &[RDescReport], id: Option<ReportId>) -> Slot
+/// The report that a field with this id in force goes to: without one to the first. The reports are
+/// gone over only where it is neither that of the last slot nor past all ids.
+pub(crate) fn slot_of(
+    reports: &[RDescReport],
+    last: Option<Slot>,
+    ids_below: Option<usize>,
+    id: Option<ReportId>,
+) -> Slot
+    requires last { IfSome last (λ slot. slot.index ≡ index_in slot.key reports.now) }
+    requires below { IfSome ids_below (λ bound. AllBelow bound reports.now) }
     ensures key { result.key ≡ first_of id (first_id reports.now) }
     ensures index { result.index ≡ index_in result.key reports.now }
 {
     let key = key_of(reports, id);
+    if let Some(last) = last {
+        if is_same(&last.key, &key) {
+            return Slot {
+                key,
+                index: last.index,
+            };
+        }
+    }
+    if is_past(ids_below, &key) {
+        return Slot {
+            key,
+            index: reports.len(),
+        };
+    }
     let index = report_index(reports, &key);
     Slot { key, index }
+}
+
+/// Whether this is an id past all others, so that no report has it yet.
+fn is_past(ids_below: Option<usize>, key: &Option<ReportId>) -> bool
+    ensures { result ≡ true →
+        IsSomeAnd ids_below (λ bound. IsSomeAnd key.now (λ id. bound ≤ id)) }
+{
+    match (ids_below, key) {
+        (Some(bound), Some(id)) => bound <= usize::from(u8::from(*id)),
+        _ => false,
+    }
+}
+
+/// A number that this id is below, and all that were below the number before.
+pub(crate) fn widened(ids_below: Option<usize>, key: &Option<ReportId>) -> Option<usize>
+    ensures { IfSome result (λ above.
+        IsSomeAnd ids_below (λ bound. (bound ≤ above) × IfSome key.now (λ id. id < above))) }
+{
+    match (ids_below, key) {
+        (Some(bound), Some(id)) => Some(bound.max(usize::from(u8::from(*id)) + 1)),
+        (bound, _) => bound,
+    }
 }
 
 /// The id of the report that a field with this id in force goes to.
@@ -76,11 +86,11 @@ fn key_of(reports: &[RDescReport], id: Option<ReportId>) -> Option<ReportId>
     }
 }
 
-/// Whether a report has this id.
-fn has_key(report: &RDescReport, key: &Option<ReportId>) -> bool
-    ensures { result ≡ same_key report.now.id key.now }
+/// Whether a report with the first id is the one with the second.
+fn is_same(own: &Option<ReportId>, key: &Option<ReportId>) -> bool
+    ensures { result ≡ same_key own.now key.now }
 {
-    match (&report.id, key) {
+    match (own, key) {
         (None, None) => true,
         (Some(own), Some(key)) => own == key,
         _ => false,
@@ -92,7 +102,7 @@ fn report_index(reports: &[RDescReport], key: &Option<ReportId>) -> usize
     ensures { result ≡ index_in key.now reports.now }
 {
     for (index, report) in reports.iter().enumerate() {
-        if has_key(report, key) {
+        if is_same(&report.id, key) {
             return index;
         }
     }
@@ -124,19 +134,19 @@ pub(crate) fn size_at(reports: &[RDescReport], slot: Slot) -> usize
 
 /// Adds an item's fields, which take so many bits, to the report that `slot` names; it is made at
 /// need.
-fn add_fields(
+pub(crate) fn add_fields(
     alloc: Global,
     reports: &mut Vec<RDescReport>,
     slot: Slot,
     bits: usize,
     layout: &Layout,
-    usages: Usages,
+    usages: &mut Usages,
 ) -> Result<(), AllocError>
     requires slot { slot.index ≡ index_in slot.key reports.old.items }
     requires bits { size_in slot.key reports.old.items + bits < 2 ^ 64 }
-    requires possible { IsPossible layout.now (usage_list usages) }
+    requires possible { IsPossible layout.now (usage_list usages.old) }
     ensures { OnOk result (reports.new.items
-        ≡ added_to slot.key bits (laid_out layout.now (usage_list usages)) reports.old.items) }
+        ≡ added_to slot.key bits (laid_out layout.now (usage_list usages.old)) reports.old.items) }
 {
     if slot.index < reports.len() {
         let report = &mut reports[slot.index];

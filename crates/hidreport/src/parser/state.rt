@@ -4,6 +4,7 @@ use crate::parser::fault::Fault;
 use crate::parser::in_force::InForce;
 use crate::parser::keeping::Keeping;
 use crate::parser::open_collections::OpenCollections;
+use crate::parser::report_lists::ReportLists;
 use crate::parser::usages::usages_of;
 use crate::report::reports::Reports;
 use hidreport_items::{CollectionItem, GlobalItem, ItemType, MainItem};
@@ -17,7 +18,7 @@ const COLLECTION_IDS: u64 = 1 << 32;
 #[derive(Drop)]
 pub(crate) struct State {
     pub(crate) in_force: InForce,
-    pub(crate) reports: Reports,
+    pub(crate) reports: ReportLists,
     pub(crate) field_count: u64,
     pub(crate) collections: OpenCollections,
 }
@@ -51,7 +52,7 @@ impl State {
     {
         State {
             in_force: InForce::new(alloc, keeping),
-            reports: Reports::new(alloc),
+            reports: ReportLists::new(alloc),
             field_count: 0,
             collections: OpenCollections::new(alloc),
         }
@@ -106,9 +107,9 @@ impl State {
             IsFaultOf e (stop_in budget.old self.old (ItemType.Main item))) }
     {
         match item {
-            MainItem::Input(item) => self.add_data(alloc, budget, DataItem::from(item))?,
-            MainItem::Output(item) => self.add_data(alloc, budget, DataItem::from(item))?,
-            MainItem::Feature(item) => self.add_data(alloc, budget, DataItem::from(item))?,
+            MainItem::Input(item) => self.add_data(alloc, budget, &DataItem::from(item))?,
+            MainItem::Output(item) => self.add_data(alloc, budget, &DataItem::from(item))?,
+            MainItem::Feature(item) => self.add_data(alloc, budget, &DataItem::from(item))?,
             MainItem::Collection(item) => self.open_collection(alloc, budget, item)?,
             MainItem::EndCollection => self.close_collection()?,
         }
@@ -163,6 +164,6 @@ impl State {
     pub(crate) fn into_reports(self) -> Reports
         ensures { result ≡ self.descriptor }
     {
-        self.reports
+        self.reports.into_reports()
     }
 }

@@ -12,6 +12,7 @@ use crate::parser::usage_bounds::UsageBounds;
 use hidreport_items::LocalItem;
 use hidreport_types::{UsageMaximum, UsageMinimum, UsagePage};
 use std::alloc::{AllocError, Global};
+use std::mem;
 
 /// The usages of an item: those from a minimum to a maximum, which aren't listed, or single ones.
 #[derive(Drop)]
@@ -62,7 +63,7 @@ impl Usages {
     }
 
     /// All of them in a list.
-    pub(crate) fn into_list(self, alloc: Global) -> Result<Vec<Usage>, AllocError>
+    fn into_list(self, alloc: Global) -> Result<Vec<Usage>, AllocError>
         ensures { IfOk result (λ list. list.items ≡ (usage_list self).usages) }
     {
         match self {
@@ -70,6 +71,13 @@ impl Usages {
             Usages::One(usage) => Vec::from_slice(alloc, &[usage]),
             Usages::Several(usages) => Ok(usages),
         }
+    }
+
+    /// The same; none are left.
+    pub(crate) fn take_list(&mut self, alloc: Global) -> Result<Vec<Usage>, AllocError>
+        ensures { IfOk result (λ list. list.items ≡ (usage_list self.old).usages) }
+    {
+        mem::replace(self, Usages::Several(Vec::new(alloc))).into_list(alloc)
     }
 
     /// Single usages with one more.

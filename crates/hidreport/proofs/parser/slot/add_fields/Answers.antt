@@ -19,7 +19,7 @@ overflow_add-report c =
 pub returns-then-slot-len : goal.returns-then-slot-len
 returns-then-slot-len c =
     let items = c.args.reports.now.items in
-    let fields : List FieldRecord = laid_out c.args.layout.now (usage_list c.args.usages) in
+    let fields : List FieldRecord = laid_out c.args.layout.now (usage_list c.args.usages.now) in
     let found = added_to-found c.args.slot.key c.args.bits fields items c.args.slot.index c.index_mut-report.result.now c.requires.slot (omega (arith, c.if-slot-len.true, c.len.ensures)) c.index_mut-report.ensures.value in
     ap (λ (l : List FieldRecord). set items c.args.slot.index (record { id = c.report.inside.id; size = c.report.inside.size + c.args.bits; fields = l })) c.in_ok-add_fields.ensures
     ∙ ap (λ (r : ReportRecord). set items c.args.slot.index (extended r c.args.bits fields)) c.report.view_is
@@ -35,7 +35,7 @@ overflow_add-size c =
 pub returns : goal.returns
 returns c =
     let items = c.args.reports.now.items in
-    let fields : List FieldRecord = laid_out c.args.layout.now (usage_list c.args.usages) in
+    let fields : List FieldRecord = laid_out c.args.layout.now (usage_list c.args.usages.now) in
     let none : length items ≤ index_in c.args.slot.key items = omega (arith, c.if-slot-len.false, c.len.ensures, c.requires.slot) in
     let new = added_to-new c.args.slot.key c.args.bits fields items none in
     c.in_ok-push.ensures.items

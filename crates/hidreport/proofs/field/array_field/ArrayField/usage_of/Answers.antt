@@ -1,4 +1,4 @@
-use Rattle.std.proofs.Common.{rules, ℕ, ◌≡◌, ◌≤◌, int_lt, false, List, Option, None, Some, length, slice_get, ◌-ℤ◌, nat_abs, Bor, refl, ap, sym, subst, ◌∙◌}
+use Rattle.std.proofs.Common.{rules, ℕ, ◌≡◌, int_lt, false, List, Option, None, Some, length, slice_get, ◌-ℤ◌, nat_abs, Bor, refl, ap, sym, subst, ◌∙◌}
 use Rattle.std.proofs.lemmas.Option.{slice_get_past, slice_get_read}
 use Rattle.std.specs.Option.{option_copied}
 use Rattle.std.specs.Slice.{IsItemAt}

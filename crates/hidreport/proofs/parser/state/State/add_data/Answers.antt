@@ -1,9 +1,9 @@
-use Rattle.std.proofs.Common.{rules, ◌≡◌, ◌+◌, ◌*◌, ◌∙◌, List, None, ap, sym, subst, refl}
+use Rattle.std.proofs.Common.{rules, ◌≡◌, ◌+◌, ◌*◌, ◌∙◌, List, None, ap, sym, subst}
 use Rattle.std.proofs.lemmas.Result.{err_from_is_err_and}
 use Rattle.hidreport.specs.Parser.Budget.{is_past, left_behind}
 use Rattle.hidreport.specs.Parser.DataItem.{as_item}
 use Rattle.hidreport.specs.Parser.Forces.{force_of}
-use Rattle.hidreport.specs.Fields.{attributes, make_fields}
+use Rattle.hidreport.specs.Fields.{Measures, attributes_with, make_fields}
 use Rattle.hidreport.specs.Parser.Layout.{shared_list}
 use Rattle.hidreport.specs.Parser.Usages.{usage_list}
 use Rattle.hidreport.specs.Parser.Machine.{Held, fault_in, first_id, next_held, size_in}
@@ -18,7 +18,7 @@ use Rattle.hidreport.proofs.parser.state.State.add_data.Goals as goal
 pub returns-clause-held : goal.returns-clause-held
 returns-clause-held c =
     let s = c.self.inside in
-    let x = c.args.item in
+    let x = c.args.item.now in
     let h : Held = record {
       keeping = s.in_force.keeping;
       force = s.in_force.now;
@@ -35,25 +35,26 @@ returns-clause-held c =
       kept = s.in_force.kept;
       descriptor = c.add.new.self;
       fields = s.field_count + count;
-      opened = c.shared_by.new.self.list;
-      collections = c.shared_by.new.self.count;
+      opened = c.keep.new.self.list;
+      collections = c.keep.new.self.count;
     } in
-    let g = force_of c.globals.result.now s.in_force.now.locals in
-    let key = c.slot_of-slot.ensures.key ∙ ap (λ (rs : List ReportRecord). first_of c.globals.result.now.report_id (first_id rs)) c.of-reports.ensures in
+    let g = force_of c.globals-globals.result.now s.in_force.now.locals in
+    let key = c.slot_of-slot.ensures.key ∙ ap (λ (rs : List ReportRecord). first_of c.globals-globals.result.now.report_id (first_id rs)) c.of-reports.ensures in
     let cs = shared_list c.in_ok-shared_by.field-0 in
-    let fields = make_fields g.report_id s.field_count c.size_at-first_bit.result (c.in-Some.size, c.in-Some.count) (item_flags x)
-    (usage_list c.in_ok-usages.usages) (attributes g cs (direction_of x.direction) (item_flags x)) in
+    let with = λ (m : Measures). make_fields g.report_id s.field_count c.size_at-first_bit.result (c.in-Some.size, c.in-Some.count) (item_flags x)
+    (usage_list c.in_ok-usages.usages) (attributes_with (direction_of x.direction) (item_flags x) m cs) in
+    let fields = with c.measures.result in
     let first = c.size_at-first_bit.ensures ∙ ap (size_in c.slot_of-slot.result.key) c.of-reports.ensures in
     subst (λ (z : Held). new ≡ record z { descriptor = (next_held z (as_item x)).descriptor; fields = (next_held z (as_item x)).fields }) c.self.view_is
-    (ap (λ (o : Opened). record h { descriptor = c.add.new.self; fields = s.field_count + count; opened = o.list; collections = o.count }) c.in_ok-shared_by.ensures.same
+    (ap (λ (o : Opened). record h { descriptor = c.add.new.self; fields = s.field_count + count; opened = o.list; collections = o.count }) (c.keep.ensures ∙ c.in_ok-shared_by.ensures.same)
     ∙ data-held h g (direction_of x.direction) (item_flags x) cs c.in-Some.size c.in-Some.count c.in_ok-usages.usages
     c.slot_of-slot.result.key c.size_at-first_bit.result c.in_ok-bits.bits fields c.add.new.self count
-    c.globals.ensures c.in_ok-shared_by.ensures.all (sym c.in-Some.ensures) c.in_ok-usages.ensures.usages key first c.in_ok-bits.ensures.fits.0 refl c.in_ok-add.ensures c.field_count-field_count.ensures)
+    c.globals-globals.ensures c.in_ok-shared_by.ensures.all (sym c.in-Some.ensures) c.in_ok-usages.ensures.usages key first c.in_ok-bits.ensures.fits.0 (ap with c.measures.ensures) c.in_ok-add.ensures c.field_count-field_count.ensures)
 
 pub returns-clause-within : goal.returns-clause-within
 returns-clause-within c =
     let s = c.self.inside in
-    let x = c.args.item in
+    let x = c.args.item.now in
     let h : Held = record {
       keeping = s.in_force.keeping;
       force = s.in_force.now;
@@ -63,16 +64,16 @@ returns-clause-within c =
       opened = s.collections.list;
       collections = s.collections.count;
     } in
-    let g = force_of c.globals.result.now s.in_force.now.locals in
+    let g = force_of c.globals-globals.result.now s.in_force.now.locals in
     let weighs = data-weighs h c.args.self.now g (direction_of x.direction) (item_flags x) c.in-Some.size c.in-Some.count c.in_ok-usages.usages
-    c.field_count.result c.weight_of_each-each.result c.weight.result c.self.view_is c.globals.ensures (sym c.in-Some.ensures) c.in_ok-usages.ensures.usages
+    c.field_count.result c.weight_of_each-each.result c.weight.result c.self.view_is c.globals-globals.ensures (sym c.in-Some.ensures) c.in_ok-usages.ensures.usages
     c.field_count.ensures c.weight_of_each-each.ensures c.weight.ensures.weight in
     ap (is_past c.args.budget.now) weighs ∙ c.in_ok-spend.ensures.within
 
 pub returns-clause-left : goal.returns-clause-left
 returns-clause-left c =
     let s = c.self.inside in
-    let x = c.args.item in
+    let x = c.args.item.now in
     let h : Held = record {
       keeping = s.in_force.keeping;
       force = s.in_force.now;
@@ -82,17 +83,17 @@ returns-clause-left c =
       opened = s.collections.list;
       collections = s.collections.count;
     } in
-    let g = force_of c.globals.result.now s.in_force.now.locals in
+    let g = force_of c.globals-globals.result.now s.in_force.now.locals in
     let weighs = data-weighs h c.args.self.now g (direction_of x.direction) (item_flags x) c.in-Some.size c.in-Some.count c.in_ok-usages.usages
-    c.field_count.result c.weight_of_each-each.result c.weight.result c.self.view_is c.globals.ensures (sym c.in-Some.ensures) c.in_ok-usages.ensures.usages
+    c.field_count.result c.weight_of_each-each.result c.weight.result c.self.view_is c.globals-globals.ensures (sym c.in-Some.ensures) c.in_ok-usages.ensures.usages
     c.field_count.ensures c.weight_of_each-each.ensures c.weight.ensures.weight in
     c.in_ok-spend.ensures.left ∙ ap (left_behind c.args.budget.now) (sym weighs)
 
 pub returns-in_err-spend-clause-err : goal.returns-in_err-spend-clause-err
 returns-in_err-spend-clause-err c =
-    let faultless : fault_in c.args.self.now (as_item c.args.item) ≡ None = search rules in
+    let faultless : fault_in c.args.self.now (as_item c.args.item.now) ≡ None = search rules in
     let s = c.self.inside in
-    let x = c.args.item in
+    let x = c.args.item.now in
     let h : Held = record {
       keeping = s.in_force.keeping;
       force = s.in_force.now;
@@ -102,9 +103,9 @@ returns-in_err-spend-clause-err c =
       opened = s.collections.list;
       collections = s.collections.count;
     } in
-    let g = force_of c.globals.result.now s.in_force.now.locals in
+    let g = force_of c.globals-globals.result.now s.in_force.now.locals in
     let weighs = data-weighs h c.args.self.now g (direction_of x.direction) (item_flags x) c.in-Some.size c.in-Some.count c.in_ok-usages.usages
-    c.field_count.result c.weight_of_each-each.result c.weight.result c.self.view_is c.globals.ensures (sym c.in-Some.ensures) c.in_ok-usages.ensures.usages
+    c.field_count.result c.weight_of_each-each.result c.weight.result c.self.view_is c.globals-globals.ensures (sym c.in-Some.ensures) c.in_ok-usages.ensures.usages
     c.field_count.ensures c.weight_of_each-each.ensures c.weight.ensures.weight in
     let p = err_from_is_err_and c.from_residual-in_err-spend.result c.from_residual-in_err-spend.ensures.1 in
     rw (p.1, p.2) (rw (c.in_err-spend.ensures.past.0)

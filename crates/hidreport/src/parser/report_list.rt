@@ -1,0 +1,102 @@
+ghost use Rattle.std.specs.Prelude.{◌≡◌, ◌+◌, ◌<◌, ◌^◌, OnOk};
+
+use crate::parser::layout::Layout;
+use crate::parser::slot::{Slot, add_fields, size_at, slot_of, widened};
+use crate::parser::usages::Usages;
+use crate::report::RDescReport;
+use hidreport_types::ReportId;
+use std::alloc::{AllocError, Global};
+use std::marker::Model;
+
+/// The reports of one direction so far, in the order of their first fields (Section 5.6).
+///
+/// Items of one report mostly follow each other, and ids mostly rise; so the slot of the last item
+/// is remembered, and a number that all ids are below.
+#[derive(Drop)]
+pub(crate) struct ReportList {
+    reports: Vec<RDescReport>,
+    last: Option<Slot>,
+    ids_below: Option<usize>,
+}
+
+impl Model for ReportList {
+    ghost use Rattle.std.specs.Prelude.{◌≡◌, ◌*◌, List, IfSome};
+    ghost use Rattle.hidreport.specs.Parser.Ids.{AllBelow};
+    ghost use Rattle.hidreport.specs.Parser.Machine.{index_in};
+    ghost use Rattle.hidreport.specs.Records.{ReportRecord};
+
+    ghost Value = { List ReportRecord };
+
+    ghost view = { λ l. l.reports.items };
+
+    ghost invariant = { λ l.
+        IfSome l.last (λ slot. slot.index ≡ index_in slot.key l.reports.items)
+        × IfSome l.ids_below (λ bound. AllBelow bound l.reports.items) };
+}
+
+impl ReportList {
+    ghost use Rattle.std.specs.Prelude.{◌≡◌, ◌+◌, ◌<◌, ◌^◌, [], OnOk};
+    ghost use Rattle.hidreport.specs.InForce.{first_of};
+    ghost use Rattle.hidreport.specs.Parser.Layout.{IsPossible, laid_out};
+    ghost use Rattle.hidreport.specs.Parser.Machine.{added_to, first_id, index_in, size_in};
+    ghost use Rattle.hidreport.specs.Parser.Usages.{usage_list};
+
+    /// There are none. It takes no memory.
+    pub(crate) fn new(alloc: Global) -> ReportList
+        ensures { result ≡ [] }
+    {
+        ReportList {
+            reports: Vec::new(alloc),
+            last: None,
+            ids_below: Some(0),
+        }
+    }
+
+    /// The report that a field with this id in force goes to: without one to the first.
+    pub(crate) fn slot_of(&self, id: Option<ReportId>) -> Slot
+        ensures key { result.key ≡ first_of id (first_id self.now) }
+        ensures index { result.index ≡ index_in result.key self.now }
+    {
+        slot_of(&self.reports, self.last, self.ids_below, id)
+    }
+
+    /// Where the report that `slot` names ends so far.
+    pub(crate) fn size_at(&self, slot: Slot) -> usize
+        requires { slot.index ≡ index_in slot.key self.now }
+        ensures { result ≡ size_in slot.key self.now }
+    {
+        size_at(&self.reports, slot)
+    }
+
+    /// Adds an item's fields, which take so many bits, to the report that `slot` names.
+    pub(crate) fn add(
+        &mut self,
+        alloc: Global,
+        slot: Slot,
+        bits: usize,
+        layout: &Layout,
+        usages: &mut Usages,
+    ) -> Result<(), AllocError>
+        requires slot { slot.index ≡ index_in slot.key self.old }
+        requires bits { size_in slot.key self.old + bits < 2 ^ 64 }
+        requires possible { IsPossible layout.now (usage_list usages.old) }
+        ensures { OnOk result (self.new
+            ≡ added_to slot.key bits (laid_out layout.now (usage_list usages.old)) self.old) }
+    {
+        let Slot { key, index } = slot;
+        let ids_below = widened(self.ids_below, &key);
+        self.last = None;
+        self.ids_below = None;
+        add_fields(alloc, &mut self.reports, slot, bits, layout, usages)?;
+        self.last = Some(Slot { key, index });
+        self.ids_below = ids_below;
+        Ok(())
+    }
+
+    /// All of them.
+    pub(crate) fn into_reports(self) -> Vec<RDescReport>
+        ensures { result.items ≡ self }
+    {
+        self.reports
+    }
+}

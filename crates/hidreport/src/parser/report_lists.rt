@@ -1,0 +1,90 @@
+use crate::field::data_item::Direction;
+use crate::parser::layout::Layout;
+use crate::parser::report_list::ReportList;
+use crate::parser::slot::Slot;
+use crate::parser::usages::Usages;
+use crate::report::reports::Reports;
+use std::alloc::{AllocError, Global};
+use std::marker::Model;
+
+/// The reports of the three directions so far (Section 6.2.2.4).
+#[derive(Drop)]
+pub(crate) struct ReportLists {
+    input: ReportList,
+    output: ReportList,
+    feature: ReportList,
+}
+
+impl Model for ReportLists {
+    ghost use Rattle.hidreport.specs.Records.{DescriptorRecord};
+
+    ghost Value = { DescriptorRecord };
+
+    ghost view = { λ r. record { input = r.input; output = r.output; feature = r.feature } };
+}
+
+impl ReportLists {
+    ghost use Rattle.std.specs.Prelude.{◌≡◌, ◌+◌, ◌<◌, ◌^◌, [], OnOk};
+    ghost use Rattle.hidreport.specs.Parser.Layout.{IsPossible, laid_out};
+    ghost use Rattle.hidreport.specs.Parser.Machine.{added_to, index_in, reports_in, size_in, with_reports};
+    ghost use Rattle.hidreport.specs.Parser.Usages.{usage_list};
+    ghost use Rattle.hidreport.specs.Views.{direction_of};
+
+    /// There are none. It takes no memory.
+    pub(crate) fn new(alloc: Global) -> ReportLists
+        ensures { result ≡ record { input = []; output = []; feature = [] } }
+    {
+        ReportLists {
+            input: ReportList::new(alloc),
+            output: ReportList::new(alloc),
+            feature: ReportList::new(alloc),
+        }
+    }
+
+    /// Those of a direction.
+    pub(crate) fn of(&self, direction: Direction) -> &ReportList
+        ensures { result.now ≡ reports_in (direction_of direction) self.now }
+    {
+        match direction {
+            Direction::Input => &self.input,
+            Direction::Output => &self.output,
+            Direction::Feature => &self.feature,
+        }
+    }
+
+    /// Adds an item's fields, which take so many bits, to the report that `slot` names.
+    pub(crate) fn add(
+        &mut self,
+        alloc: Global,
+        slot: Slot,
+        bits: usize,
+        layout: &Layout,
+        usages: &mut Usages,
+    ) -> Result<(), AllocError>
+        requires slot { let old = reports_in (direction_of layout.now.item.direction) self.old in
+            slot.index ≡ index_in slot.key old }
+        requires bits { let old = reports_in (direction_of layout.now.item.direction) self.old in
+            size_in slot.key old + bits < 2 ^ 64 }
+        requires possible { IsPossible layout.now (usage_list usages.old) }
+        ensures { let old = reports_in (direction_of layout.now.item.direction) self.old in
+            OnOk result (self.new ≡ with_reports (direction_of layout.now.item.direction)
+            (added_to slot.key bits (laid_out layout.now (usage_list usages.old)) old) self.old) }
+    {
+        match layout.item.direction {
+            Direction::Input => self.input.add(alloc, slot, bits, layout, usages),
+            Direction::Output => self.output.add(alloc, slot, bits, layout, usages),
+            Direction::Feature => self.feature.add(alloc, slot, bits, layout, usages),
+        }
+    }
+
+    /// All of them.
+    pub(crate) fn into_reports(self) -> Reports
+        ensures { result ≡ self }
+    {
+        Reports {
+            input: self.input.into_reports(),
+            output: self.output.into_reports(),
+            feature: self.feature.into_reports(),
+        }
+    }
+}
