@@ -62,7 +62,7 @@ pub extern "C" fn hidreport_message(
     answer(message(alloc, descriptor), text)
 }
 
-fn fields_described(
+pub(crate) fn fields_described(
     alloc: Global,
     descriptor: &[u8],
     direction: u32,

@@ -7,4 +7,6 @@ mod describe;
 mod field;
 mod items;
 mod status;
+#[cfg(test)]
+mod tests;
 mod value;

@@ -1,5 +1,5 @@
 use crate::{plain, values};
-use hidreport::{ArrayField, Field, FieldValue, ParserError, Report, ReportDescriptor};
+use hidreport::{ArrayField, Field, FieldValue, ParserError, Report, ReportDescriptor, ReportId};
 use std::alloc::Global;
 use std::test::Fail;
 
@@ -117,5 +117,46 @@ fn values_of_an_array_stand_for_usages(rt: HostRuntime) -> Result<(), Fail> {
         let usages = pressed_usages(rt.alloc(), descriptor, bytes)?;
         assert_eq!(rt; usages.as_slice(), wanted);
     }
+    Ok(())
+}
+
+// The bytes of a mouse's report, and ranges that can't be read (Section 5.8).
+#[test]
+fn a_range_of_bits_is_a_value(rt: HostRuntime) {
+    let rows: [(&[u8], usize, usize, bool, Option<i64>); 8] = [
+        (b"\x05\xfb", 0, 8, true, Some(5)),
+        (b"\x05\xfb", 8, 16, true, Some(-5)),
+        (b"\x05\xfb", 8, 16, false, Some(251)),
+        (b"\x05\xfb", 1, 3, false, Some(2)),
+        (b"\x05\xfb", 4, 4, false, None),
+        (b"\x05\xfb", 8, 4, false, None),
+        (b"\x05\xfb\x00\x00\x00", 0, 33, false, None),
+        (b"\x05\xfb", 8, 17, false, None),
+    ];
+    for (bytes, first, end, is_signed, wanted) in rows {
+        let value = FieldValue::from_bits(bytes, &(first..end), is_signed);
+        let value = match value {
+            Some(value) => Some(i64::from(value)),
+            None => None,
+        };
+        assert!(rt; value == wanted);
+    }
+}
+
+// A report with the id 5: a value, and padding, which is read from any report (Section 5.6).
+#[test]
+fn a_field_has_the_id_that_it_is_read_by(rt: HostRuntime) -> Result<(), Fail> {
+    let bytes = b"\x85\x05\x05\x01\x75\x08\x95\x01\x09\x30\x81\x02\x81\x01";
+    let descriptor = ReportDescriptor::try_from(rt.alloc(), bytes)?;
+    let report = descriptor.find_input_report(b"\x05").ok_or("no report")?;
+    let [value, padding] = report.fields() else {
+        panic!(rt; "not two fields");
+    };
+    assert!(rt; matches!(value.report_id(), Some(id) if id == ReportId::from(5)));
+    assert!(rt; padding.report_id().is_none());
+    let plain = ReportDescriptor::try_from(rt.alloc(), TWO_AXES)?;
+    let report = plain.find_input_report(b"\x05").ok_or("no report")?;
+    let field = report.fields().first().ok_or("no field")?;
+    assert!(rt; field.report_id().is_none());
     Ok(())
 }
