@@ -72,8 +72,7 @@ fn print_opened<R: Print>(rt: &R, before: &[Collection], around: &[Collection]) 
 }
 
 fn indent<R: Print>(rt: &R, depth: usize) -> Result<()> {
-    print!(rt; "    ")?;
-    for _ in 0..depth {
+    for _ in 0..depth.saturating_add(2) {
         print!(rt; "  ")?;
     }
     Ok(())
