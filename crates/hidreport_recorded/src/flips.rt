@@ -1,6 +1,5 @@
 //! Bits of reports that are flipped: each changes just the value that it is part of.
 use crate::questions::{bytes_of, reports_of};
-use crate::readings::number_of;
 use crate::rebuilt::WORKED;
 use crate::recorded::{runs_1, runs_2, runs_3, runs_4, runs_5, runs_6, runs_7, runs_8};
 use hidreport::{
@@ -89,8 +88,8 @@ fn has_changed<R: Abort>(
 ) -> bool {
     let is_read = field.bits.end.saturating_sub(field.bits.start) <= 32;
     let is_covered = field.bits.start <= bit && bit < field.bits.end;
-    let old = field.extract(before).ok().map(number_of);
-    let new = field.extract(after).ok().map(number_of);
+    let old = field.extract(before).ok().map(i64::from);
+    let new = field.extract(after).ok().map(i64::from);
     assert_eq!(rt; old.is_some(), is_read);
     assert_eq!(rt; new.is_some(), is_read);
     assert_eq!(rt; old != new, is_read && is_covered, "at bit {bit}");
@@ -135,8 +134,8 @@ fn changed_elements<R: Abort>(
     for index in 0..count {
         let first = field.bits.start.saturating_add(width.saturating_mul(index));
         let is_covered = first <= bit && bit < first.saturating_add(width);
-        let old = old.get(index).map(|value| number_of(*value));
-        let new = new.get(index).map(|value| number_of(*value));
+        let old = old.get(index).map(i64::from);
+        let new = new.get(index).map(i64::from);
         assert_eq!(rt; old != new, is_covered, "at bit {bit}, element {index}");
         changed = changed.saturating_add((old != new) as usize);
     }

@@ -1,7 +1,4 @@
 //! What fields read from a report's bytes, as text.
-ghost use Rattle.std.specs.Prelude.{◌≡◌};
-ghost use Rattle.hidreport_recorded.specs.Numbers.{value_number};
-
 use crate::kinds::add_bytes;
 use hidreport::{
     ArrayField, Field, FieldValue, ParserError, RDescReport, Report, ReportDescriptor,
@@ -109,7 +106,7 @@ fn add_element(
 }
 
 fn add_number(text: &mut String, value: FieldValue) -> Result<(), AllocError> {
-    let number = number_of(value);
+    let number = i64::from(value);
     write!(text, "{number}")
 }
 
@@ -120,16 +117,5 @@ fn add_refusal(text: &mut String, error: &ParserError) -> Result<(), AllocError>
         ParserError::MismatchingReportId => text.push_str("another"),
         ParserError::BudgetExceeded { .. } => text.push_str("budget"),
         ParserError::OutOfMemory => Err(AllocError),
-    }
-}
-
-/// The number that a value is: below 0 only where its field is signed.
-pub fn number_of(value: FieldValue) -> i64
-    ensures { result ≡ value_number value }
-{
-    if value.is_signed() {
-        i64::from(i32::from(value))
-    } else {
-        i64::from(u32::from(value))
     }
 }

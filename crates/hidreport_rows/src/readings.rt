@@ -25,18 +25,9 @@ pub(crate) enum Reading {
     MismatchingReportId,
 }
 
-/// The number as a caller takes it: below 0 only where the value is signed.
-fn number_of(value: &FieldValue) -> i64 {
-    if value.is_signed() {
-        i64::from(i32::from(value))
-    } else {
-        i64::from(u32::from(value))
-    }
-}
-
 fn have_numbers(values: &[FieldValue], numbers: &[i64]) -> bool {
     for (value, number) in values.iter().zip(numbers) {
-        if number_of(value) != *number {
+        if i64::from(value) != *number {
             return false;
         }
     }
@@ -63,7 +54,7 @@ pub(crate) fn are_values(answer: &Result<Vec<FieldValue>, ParserError>, wanted: 
 /// Whether the only value is this.
 pub(crate) fn is_value(answer: &Result<FieldValue, ParserError>, wanted: &Reading) -> bool {
     match (answer, wanted) {
-        (Ok(value), Values([number])) => number_of(value) == *number,
+        (Ok(value), Values([number])) => i64::from(value) == *number,
         (Err(error), wanted) => is_refusal(error, wanted),
         _ => false,
     }

@@ -219,6 +219,7 @@ fn signed_bits(bytes: &[u8], first: usize, width: usize) -> u32
 
 /// The value of a range of bits: at least one, at most 32, all of them in the bytes. `None` where
 /// they aren't.
+#[inline(always)]
 pub(crate) fn read_bits(bytes: &[u8], bits: &Range<usize>, is_signed: bool) -> Option<FieldValue>
     ensures value { IfSome result (λ value.
         read_bits bits.now.start bits.now.end is_signed bytes.now ≡ Ok value) }

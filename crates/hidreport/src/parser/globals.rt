@@ -83,6 +83,7 @@ impl Globals {
     }
 
     /// What fields with data have of them; logical bounds that aren't set are 0.
+    #[inline(always)]
     pub(crate) fn measures(&self) -> Measures
         ensures { result ≡ measures (force_of self.now []) }
     {

@@ -140,6 +140,7 @@ impl Layout {
     ghost use Rattle.hidreport.specs.Views.{field_record};
 
     /// Adds the item's fields to those that are there.
+    #[inline(always)]
     pub(crate) fn add_fields(
         &self,
         alloc: Global,

@@ -113,6 +113,7 @@ impl OpenCollections {
 
     /// The list of them for the fields of an item, until `keep` takes it back; padding lies in none,
     /// so none is made for it.
+    #[inline(always)]
     pub(crate) fn shared_by(
         &mut self,
         alloc: Global,

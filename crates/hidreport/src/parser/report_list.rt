@@ -69,6 +69,7 @@ impl ReportList {
     }
 
     /// Adds an item's fields, which take so many bits, to the report that `slot` names.
+    #[inline(always)]
     pub(crate) fn add(
         &mut self,
         alloc: Global,

@@ -53,6 +53,7 @@ impl ReportLists {
     }
 
     /// Adds an item's fields, which take so many bits, to the report that `slot` names.
+    #[inline(always)]
     pub(crate) fn add(
         &mut self,
         alloc: Global,

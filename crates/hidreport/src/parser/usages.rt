@@ -103,11 +103,17 @@ impl Usages {
 ///
 /// With a minimum they are a range, which needs a maximum, then a page; else they are the single
 /// usages. Of several minima or maxima the last counts.
+#[inline(always)]
 pub(crate) fn usages_of(alloc: Global, in_force: &InForce) -> Result<Usages, Fault>
     ensures { Finds usage_list result (usages_of in_force.now.now) }
 {
     let locals = in_force.locals();
     let page = in_force.globals().usage_page;
+    if let [local] = locals
+        && let Some(usage) = single_usage(&page, *local)?
+    {
+        return Ok(Usages::One(usage));
+    }
     let Some(minimum) = last_minimum(locals) else {
         return single_usages(alloc, page, locals);
     };
