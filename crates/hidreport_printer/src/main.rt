@@ -2,13 +2,25 @@
 //! Licence: MIT (LICENSE); a port of the Rust crate `hidreport` 0.6.0.
 #![tactic(auto)]
 
-mod fields;
-
 use anyhow::{Context, Result, ensure};
-use fields::print_field;
-use hidreport::{Collection, Field, RDescReport, Report, ReportDescriptor};
+use hidreport::{Collection, Field, RDescReport, Report, ReportDescriptor, Usage};
 use std::rt::{Env, Files};
 use std::{env, fs};
+
+/// Prints the usages of a field, its kind with the logical bounds, and what its values stand for.
+macro_rules! print_data {
+    ($rt:ident, $kind:literal, $field:ident, $usages:expr) => {{
+        print_usages($rt, $usages)?;
+        print!($rt; ", {} {} to {}", $kind, $field.logical_minimum, $field.logical_maximum)?;
+        if let (Some(low), Some(high)) = ($field.physical_minimum, $field.physical_maximum) {
+            print!($rt; ", physical {low} to {high}")?;
+        }
+        if let Some(unit) = $field.unit {
+            let exponent = $field.unit_exponent.map_or(0, |it| it.exponent());
+            print!($rt; ", unit {unit} * 10^{exponent}")?;
+        }
+    }};
+}
 
 fn main(rt: HostRuntime) -> Result<()> {
     let names = env::args(&rt)?.skip(1);
@@ -26,54 +38,42 @@ fn main(rt: HostRuntime) -> Result<()> {
     Ok(())
 }
 
+/// Prints reports, 0 for the id of one without, and their fields, each inside its collections.
 fn print_reports<R: Print>(rt: &R, direction: &str, reports: &[RDescReport]) -> Result<()> {
     for report in reports {
-        print!(rt; "  {direction} report")?;
-        if let Some(id) = report.report_id() {
-            print!(rt; " {id}")?;
+        let id = report.report_id().map_or(0, u8::from);
+        println!(rt; "  {direction} report {id}, {} bits", report.size_in_bits())?;
+        let mut open: &[Collection] = &[];
+        for field in report.fields() {
+            for (depth, around) in field.collections().iter().enumerate() {
+                if open.get(depth) != Some(around) {
+                    print!(rt; "{:1$}{2:?}", "", depth * 2 + 4, around.collection_type())?;
+                    print_usages(rt, around.usages())?;
+                    println!(rt; "")?;
+                }
+            }
+            if !matches!(field, Field::Constant(_)) {
+                open = field.collections();
+            }
+            print!(rt; "{:1$}{2:?}", "", open.len() * 2 + 4, field.bits())?;
+            match field {
+                Field::Variable(field) => print_data!(rt, "variable", field, &[field.usage]),
+                Field::Array(field) => print_data!(rt, "array", field, field.usages()),
+                Field::Constant(_) => print!(rt; " constant")?,
+            }
+            println!(rt; "")?;
         }
-        println!(rt; ", {} bits", report.size_in_bits())?;
-        print_fields(rt, report.fields())?;
     }
     Ok(())
 }
 
-/// Prints the fields, each inside its collections. Padding lies in none: it stands where the field
-/// before it does.
-fn print_fields<R: Print>(rt: &R, fields: &[Field]) -> Result<()> {
-    let mut open: &[Collection] = &[];
-    for field in fields {
-        if !matches!(field, Field::Constant(_)) {
-            print_opened(rt, open, field.collections())?;
-            open = field.collections();
-        }
-        indent(rt, open.len())?;
-        print_field(rt, field)?;
-    }
-    Ok(())
-}
-
-/// Prints the collections around a field in which the field before it doesn't lie.
-fn print_opened<R: Print>(rt: &R, before: &[Collection], around: &[Collection]) -> Result<()> {
-    let shared = before
-        .iter()
-        .zip(around)
-        .take_while(|(a, b)| a == b)
-        .count();
-    for (depth, collection) in around.iter().enumerate().skip(shared) {
-        indent(rt, depth)?;
-        print!(rt; "{:?}", collection.collection_type())?;
-        for usage in collection.usages() {
+fn print_usages<R: Print>(rt: &R, usages: &[Usage]) -> Result<()> {
+    if let [first, _, _, _, .., last] = usages {
+        print!(rt; " {:08x} .. {:08x}", u32::from(first), u32::from(last))?;
+    } else {
+        for usage in usages {
             print!(rt; " {:08x}", u32::from(usage))?;
         }
-        println!(rt; "")?;
-    }
-    Ok(())
-}
-
-fn indent<R: Print>(rt: &R, depth: usize) -> Result<()> {
-    for _ in 0..depth.saturating_add(2) {
-        print!(rt; "  ")?;
     }
     Ok(())
 }
