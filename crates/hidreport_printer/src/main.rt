@@ -16,8 +16,7 @@ macro_rules! print_data {
             print!($rt; ", physical {low} to {high}")?;
         }
         if let Some(unit) = $field.unit {
-            let exponent = $field.unit_exponent.map_or(0, |it| it.exponent());
-            print!($rt; ", unit {unit} * 10^{exponent}")?;
+            print!($rt; " {unit} * 10^{}", $field.unit_exponent.map_or(0, |it| it.exponent()))?;
         }
     }};
 }
@@ -27,10 +26,8 @@ fn main(rt: HostRuntime) -> Result<()> {
     ensure!(names.len() != 0, "usage: hidreport_printer DESCRIPTOR..");
     for name in names {
         let bytes = fs::read(&rt, &name).context(format_args!("{name}"))?;
-        // Nobody vouches for a file: it lists no more than this.
-        let descriptor = ReportDescriptor::try_from_within(rt.alloc(), &bytes, 65_536);
-        let descriptor = descriptor.context(format_args!("{name}"))?;
         println!(rt; "{name}")?;
+        let descriptor = ReportDescriptor::try_from_within(rt.alloc(), &bytes, 65_536)?;
         print_reports(&rt, "input", descriptor.input_reports())?;
         print_reports(&rt, "output", descriptor.output_reports())?;
         print_reports(&rt, "feature", descriptor.feature_reports())?;
@@ -38,16 +35,19 @@ fn main(rt: HostRuntime) -> Result<()> {
     Ok(())
 }
 
-/// Prints reports, 0 for the id of one without, and their fields, each inside its collections.
+/// Prints reports and their fields, each inside its collections; padding where the field before is.
 fn print_reports<R: Print>(rt: &R, direction: &str, reports: &[RDescReport]) -> Result<()> {
     for report in reports {
-        let id = report.report_id().map_or(0, u8::from);
-        println!(rt; "  {direction} report {id}, {} bits", report.size_in_bits())?;
+        print!(rt; "  {direction} report")?;
+        if let Some(id) = report.report_id() {
+            print!(rt; " {id}")?;
+        }
+        println!(rt; ", {} bits", report.size_in_bits())?;
         let mut open: &[Collection] = &[];
         for field in report.fields() {
             for (depth, around) in field.collections().iter().enumerate() {
                 if open.get(depth) != Some(around) {
-                    print!(rt; "{:1$}{2:?}", "", depth * 2 + 4, around.collection_type())?;
+                    print!(rt; "    {:1$}{2:?}", "", depth, around.collection_type())?;
                     print_usages(rt, around.usages())?;
                     println!(rt; "")?;
                 }
@@ -55,7 +55,7 @@ fn print_reports<R: Print>(rt: &R, direction: &str, reports: &[RDescReport]) -> 
             if !matches!(field, Field::Constant(_)) {
                 open = field.collections();
             }
-            print!(rt; "{:1$}{2:?}", "", open.len() * 2 + 4, field.bits())?;
+            print!(rt; "    {:1$}{2:?}", "", open.len(), field.bits())?;
             match field {
                 Field::Variable(field) => print_data!(rt, "variable", field, &[field.usage]),
                 Field::Array(field) => print_data!(rt, "array", field, field.usages()),
