@@ -35,7 +35,7 @@ fn main(rt: HostRuntime) -> Result<()> {
     Ok(())
 }
 
-/// Prints reports and their fields, each inside its collections; padding where the field before is.
+/// Prints reports and their fields inside their collections; padding as deep as the field before.
 fn print_reports<R: Print>(rt: &R, direction: &str, reports: &[RDescReport]) -> Result<()> {
     for report in reports {
         print!(rt; "  {direction} report")?;
