@@ -35,12 +35,12 @@ use std::sync::ArcSlice;
 pub struct ArrayField {
     pub(crate) id: FieldId,
     pub(crate) report_id: Option<ReportId>,
+    pub(crate) is_usage_range: bool,
 
     /// The field's bits in its report: from the first up to the one behind the last.
     pub bits: Range<usize>,
 
     pub(crate) usages: Vec<Usage>,
-    pub(crate) is_usage_range: bool,
 
     /// How many values the field has.
     pub report_count: ReportCount,

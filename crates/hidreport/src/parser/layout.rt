@@ -24,6 +24,9 @@ use std::sync::ArcSlice;
 /// How many fields have an id.
 const FIELD_IDS: u64 = 1 << 32;
 
+/// How many fields more than its first item's a report has room for.
+const MORE_FIELDS: usize = 3;
+
 impl State {
     ghost use Rattle.std.specs.Prelude.{◌≡◌, false, None, IfErr, OnOk};
     ghost use Rattle.hidreport.specs.Parser.Budget.{is_past, left_behind, stop_in, weight_in};
@@ -132,12 +135,22 @@ impl Layout {
     ghost use Rattle.std.specs.Arc.{arc_slice_items};
     ghost use Rattle.std.specs.Prelude.{◌≡◌, ◌+◌, ◌++◌, ◌*◌, ◌<◌, ◌≤◌, ◌^◌, []};
     ghost use Rattle.std.specs.Prelude.{Some, length, IfOk, OnOk, map};
-    ghost use Rattle.hidreport.specs.Fields.{each_from, make_place};
+    ghost use Rattle.hidreport.specs.Fields.{each_from, field_count, make_place};
     ghost use Rattle.hidreport.specs.Parser.Layout.{IsPossible, laid_out, shared_list, shared_of};
     ghost use Rattle.hidreport.specs.Parser.Layout.{variable_of};
     ghost use Rattle.hidreport.specs.Parser.Usages.{usage_list};
     ghost use Rattle.hidreport.specs.Records.{ArrayRecord, ConstantRecord};
     ghost use Rattle.hidreport.specs.Views.{field_record};
+
+    /// Room for the fields of a report that begins with the item: mostly a few follow, such as
+    /// padding or axes behind buttons.
+    pub(crate) fn room(&self) -> usize
+        ensures { field_count (item_flags self.now.item) self.now.count ≤ result }
+    {
+        self.item
+            .field_count(self.count)
+            .saturating_add(MORE_FIELDS)
+    }
 
     /// Adds the item's fields to those that are there.
     #[inline(always)]

@@ -155,7 +155,7 @@ pub(crate) fn add_fields(
         return Ok(());
     }
     let size = id_bits(slot.key) + bits;
-    let mut fields = Vec::new(alloc);
+    let mut fields = Vec::with_capacity(alloc, layout.room())?;
     layout.add_fields(alloc, usages, &mut fields)?;
     reports.push(RDescReport {
         id: slot.key,

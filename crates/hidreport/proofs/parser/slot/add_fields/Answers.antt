@@ -41,5 +41,5 @@ returns c =
     c.in_ok-push.ensures.items
     ∙ ap (λ (n : ℕ). items ++ record { id = c.args.slot.key; size = n + c.args.bits; fields = map field_record c.add_fields-2.new.fields.items } ∷ []) c.id_bits.ensures
     ∙ ap (λ (l : List FieldRecord). items ++ record { id = c.args.slot.key; size = id_bits c.args.slot.key + c.args.bits; fields = l } ∷ [])
-    (c.in_ok-add_fields-2.ensures ∙ ap (λ (fs : List Field). map field_record fs ++ fields) c.new-fields.ensures.items)
+    (c.in_ok-add_fields-2.ensures ∙ ap (λ (fs : List Field). map field_record fs ++ fields) c.in_ok-fields.ensures.items)
     ∙ sym new.0
