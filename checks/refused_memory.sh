@@ -10,7 +10,7 @@ set -eu
 . "$(dirname "$0")/probe.sh"
 need_rt refused_memory
 repository=${1:-$(dirname "$0")/..}
-make_probe refused_memory "$repository" hidreport_types hidreport_items hidreport_lists hidreport
+make_probe refused_memory "$repository" hidreport_types hidreport_items hidreport_lists hidreport hidreport_transfer
 
 # More allocations than the calls make together.
 all=300

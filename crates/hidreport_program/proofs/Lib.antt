@@ -1,4 +1,3 @@
 pub mod Texts
-pub mod Transfers
 pub mod Words
 pub mod SomeText

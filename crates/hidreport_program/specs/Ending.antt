@@ -2,7 +2,7 @@
 use Rattle.std.specs.Prelude.{ℕ, List, Result, Ok, Err, codes}
 use Rattle.hidreport_program.specs.declared.program.ending.Outcome.{Outcome}
 use Rattle.hidreport_program.specs.declared.program.ending.Outcome.TheVariants.{Done, Refused}
-use Rattle.hidreport_program.specs.declared.program.ending.RunFault.TheVariants.{Read, Write, OutOfMemory}
+use Rattle.hidreport_transfer.specs.declared.fault.RunFault.TheVariants.{Read, Write, OutOfMemory}
 use Rattle.hidreport_program.specs.declared.program.faults.Fault.{Fault}
 use Rattle.hidreport_program.specs.declared.program.faults.Fault.TheVariants.{Arguments, Open, Run}
 

@@ -2,8 +2,8 @@
 use Rattle.std.specs.Prelude.{◌≡◌, ◌<◌, ℕ, List, length, take, Option, Result, Ok, Err}
 use Rattle.std.specs.Io.KnownBytes.{Appends}
 use Rattle.hidreport_program.specs.declared.program.ending.Outcome.{Outcome}
-use Rattle.hidreport_program.specs.declared.program.ending.RunFault.{RunFault}
-use Rattle.hidreport_program.specs.declared.program.ending.RunFault.TheVariants.{Read, Write, OutOfMemory}
+use Rattle.hidreport_transfer.specs.declared.fault.RunFault.{RunFault}
+use Rattle.hidreport_transfer.specs.declared.fault.RunFault.TheVariants.{Read, Write, OutOfMemory}
 use Rattle.hidreport_program.specs.Output.{Output}
 
 -- both inputs were read and the text was begun

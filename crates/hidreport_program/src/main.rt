@@ -5,10 +5,8 @@
 
 pub mod program;
 
-use program::{
-    Command, Fault, FromRead, Outcome, Request, RunFault, ToWrite, line_of, request_of, run,
-    status_of,
-};
+use hidreport_transfer::{FromRead, RunFault, ToWrite};
+use program::{Command, Fault, Outcome, Request, line_of, request_of, run, status_of};
 use std::process::ExitCode;
 use std::rt::{Env, Files};
 use std::{env, fs, io};

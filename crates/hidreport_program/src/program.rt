@@ -2,7 +2,6 @@
 
 pub mod commands;
 pub mod ending;
-pub mod ends;
 #[cfg(test)]
 mod failing;
 pub mod faults;
@@ -19,13 +18,11 @@ mod rows;
 pub mod running;
 #[cfg(test)]
 mod tests;
-mod transfer;
 #[cfg(test)]
 mod transfers;
 
 pub use commands::{Command, command_of};
-pub use ending::{Outcome, RunFault};
-pub use ends::{Failed, FromRead, Sink, Source, ToWrite};
+pub use ending::Outcome;
 pub use faults::{Fault, line_of, status_of};
 pub use requests::{Request, request_of};
 pub use running::run;

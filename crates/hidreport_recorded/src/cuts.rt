@@ -2,7 +2,7 @@
 use crate::descriptors::add_refusal;
 use crate::questions::bytes_of;
 use crate::rebuilt::WORKED;
-use crate::recorded::{runs_1, runs_2, runs_3, runs_4, runs_5, runs_6, runs_7, runs_8};
+use crate::recorded::records;
 use hidreport::ReportDescriptor;
 use hidreport::hid::AnyItem;
 use std::alloc::{AllocError, Global};
@@ -166,11 +166,19 @@ fn cut<R: Abort + AllocGlobal>(rt: &R, words: &str) -> Result<Cuts, AllocError> 
     Ok(front.cuts)
 }
 
-fn cut_recorded<R: Abort + AllocGlobal>(rt: &R, record: &str) -> Result<Cuts, AllocError> {
+fn cut_record<R: Abort + AllocGlobal>(rt: &R, record: &str) -> Result<Cuts, AllocError> {
     let mut cuts = Cuts::NONE;
     for block in record.split("> run ").skip(1) {
         let (words, _answer) = block.split_once("\n").unwrap_or((block, ""));
         cuts = cuts.and(cut(rt, words)?);
+    }
+    Ok(cuts)
+}
+
+fn cut_recorded<R: Abort + AllocGlobal>(rt: &R) -> Result<Cuts, AllocError> {
+    let mut cuts = Cuts::NONE;
+    for record in &records() {
+        cuts = cuts.and(cut_record(rt, record)?);
     }
     Ok(cuts)
 }
@@ -231,13 +239,7 @@ fn worked_descriptors_are_cut(rt: HostRuntime) -> Result<(), Fail> {
 // The 470 recorded descriptors have 10968 bytes.
 #[test]
 fn recorded_descriptors_are_cut(rt: HostRuntime) -> Result<(), Fail> {
-    let mut cuts = Cuts::NONE;
-    for record in [runs_1::RUNS, runs_2::RUNS, runs_3::RUNS, runs_4::RUNS] {
-        cuts = cuts.and(cut_recorded(&rt, record)?);
-    }
-    for record in [runs_5::RUNS, runs_6::RUNS, runs_7::RUNS, runs_8::RUNS] {
-        cuts = cuts.and(cut_recorded(&rt, record)?);
-    }
+    let cuts = cut_recorded(&rt)?;
     assert_eq!(rt; cuts.bytes(), 10968);
     assert!(rt; cuts.accepted >= 4500);
     assert!(rt; cuts.within_items >= 5800);

@@ -1,7 +1,7 @@
 //! Bits of reports that are flipped: each changes just the value that it is part of.
 use crate::questions::{bytes_of, reports_of};
 use crate::rebuilt::WORKED;
-use crate::recorded::{runs_1, runs_2, runs_3, runs_4, runs_5, runs_6, runs_7, runs_8};
+use crate::recorded::records;
 use hidreport::{
     ArrayField, Field, FieldValue, ParserError, RDescReport, Report, ReportDescriptor,
     VariableField,
@@ -221,12 +221,21 @@ fn flip_run<R: Abort + AllocGlobal>(rt: &R, words: &str) -> Result<Flips, AllocE
     }
 }
 
-/// Flips the bits of the recorded reports.
-fn flip_recorded<R: Abort + AllocGlobal>(rt: &R, record: &str) -> Result<Tried, AllocError> {
+/// Flips the bits of the reports of one record.
+fn flip_record<R: Abort + AllocGlobal>(rt: &R, record: &str) -> Result<Tried, AllocError> {
     let mut tried = Tried::NONE;
     for block in record.split("> run ").skip(1) {
         let (words, _answer) = block.split_once("\n").unwrap_or((block, ""));
         tried = tried.and_one(flip_run(rt, words)?);
+    }
+    Ok(tried)
+}
+
+/// Flips the bits of the recorded reports.
+fn flip_recorded<R: Abort + AllocGlobal>(rt: &R) -> Result<Tried, AllocError> {
+    let mut tried = Tried::NONE;
+    for record in &records() {
+        tried = tried.and(flip_record(rt, record)?);
     }
     Ok(tried)
 }
@@ -259,13 +268,7 @@ fn each_bit_of_a_worked_report_changes_one_value(rt: HostRuntime) -> Result<(), 
 
 #[test]
 fn each_bit_of_a_recorded_report_changes_one_value(rt: HostRuntime) -> Result<(), Fail> {
-    let mut tried = Tried::NONE;
-    for record in [runs_1::RUNS, runs_2::RUNS, runs_3::RUNS, runs_4::RUNS] {
-        tried = tried.and(flip_recorded(&rt, record)?);
-    }
-    for record in [runs_5::RUNS, runs_6::RUNS, runs_7::RUNS, runs_8::RUNS] {
-        tried = tried.and(flip_recorded(&rt, record)?);
-    }
+    let tried = flip_recorded(&rt)?;
     assert!(rt; tried.descriptors >= 280);
     assert!(rt; tried.with_arrays >= 50);
     assert!(rt; tried.flips.bits >= 9000);

@@ -1,7 +1,7 @@
 //! Descriptors that are rebuilt, and rebuilt again: each is answered as before.
 use crate::descriptors::{add_refusal, add_run};
 use crate::questions::{bytes_of, reports_of};
-use crate::recorded::{runs_1, runs_2, runs_3, runs_4, runs_5, runs_6, runs_7, runs_8};
+use crate::recorded::records;
 use hidreport::hid::rebuild;
 use std::alloc::AllocError;
 use std::process::Abort;
@@ -96,7 +96,7 @@ fn is_rebuilt_alike<R: Abort + AllocGlobal>(rt: &R, words: &str) -> Result<usize
     }
 }
 
-/// How many of the recorded descriptors are rebuilt.
+/// How many descriptors of one record are rebuilt.
 fn count_rebuilt<R: Abort + AllocGlobal>(rt: &R, record: &str) -> Result<usize, AllocError> {
     let mut count = 0usize;
     for block in record.split("> run ").skip(1) {
@@ -119,10 +119,7 @@ fn worked_descriptors_mean_the_same_when_rebuilt(rt: HostRuntime) -> Result<(), 
 #[test]
 fn recorded_descriptors_mean_the_same_when_rebuilt(rt: HostRuntime) -> Result<(), Fail> {
     let mut count = 0usize;
-    for record in [runs_1::RUNS, runs_2::RUNS, runs_3::RUNS, runs_4::RUNS] {
-        count = count.saturating_add(count_rebuilt(&rt, record)?);
-    }
-    for record in [runs_5::RUNS, runs_6::RUNS, runs_7::RUNS, runs_8::RUNS] {
+    for record in &records() {
         count = count.saturating_add(count_rebuilt(&rt, record)?);
     }
     assert!(rt; count > 400);

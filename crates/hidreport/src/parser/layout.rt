@@ -145,7 +145,8 @@ impl Layout {
     /// Room for the fields of a report that begins with the item: mostly a few follow, such as
     /// padding or axes behind buttons.
     pub(crate) fn room(&self) -> usize
-        ensures { field_count (item_flags self.now.item) self.now.count ≤ result }
+        ensures least { field_count (item_flags self.now.item) self.now.count ≤ result }
+        ensures most { result ≤ field_count (item_flags self.now.item) self.now.count + 3 }
     {
         self.item
             .field_count(self.count)

@@ -8,14 +8,3 @@ pub enum Outcome {
     /// One line that says why the input was refused.
     Refused,
 }
-
-/// What cut a run short.
-#[derive(Debug, Clone, Copy, PartialEq)]
-pub enum RunFault {
-    /// A reader failed.
-    Read,
-    /// The writer failed.
-    Write,
-    /// Memory ran out.
-    OutOfMemory,
-}

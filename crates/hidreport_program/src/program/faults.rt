@@ -2,7 +2,8 @@
 ghost use Rattle.std.specs.Prelude.{◌≡◌};
 ghost use Rattle.hidreport_program.specs.Ending.{fault_line, status};
 
-use super::ending::{Outcome, RunFault};
+use super::ending::Outcome;
+use hidreport_transfer::RunFault;
 
 /// Why the program ends without an outcome.
 #[derive(Debug, Clone, Copy, PartialEq)]

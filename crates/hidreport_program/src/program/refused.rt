@@ -2,9 +2,9 @@
 //!
 //! `checks/refused_memory.sh` makes them with each of their allocations refused in turn.
 use super::commands::Command;
-use super::ending::{Outcome, RunFault};
-use super::ends::{FromRead, ToWrite};
+use super::ending::Outcome;
 use super::running::run;
+use hidreport_transfer::{FromRead, RunFault, ToWrite};
 use std::alloc::Global;
 use std::io::Cursor;
 use std::process::Abort;

@@ -1,9 +1,9 @@
 //! Runs over bytes in memory, each with the text that it writes.
 use super::commands::Command;
-use super::ending::{Outcome, RunFault};
-use super::ends::{FromRead, ToWrite};
-use super::failing::{FailingSink, FailingSource};
+use super::ending::Outcome;
+use super::failing::SlowReader;
 use super::running::run;
+use hidreport_transfer::{FromRead, RunFault, ToWrite};
 use std::alloc::Global;
 use std::process::Abort;
 use std::test::Fail;
@@ -429,44 +429,38 @@ fn values_where_a_push_keeps_globals(rt: HostRuntime) -> Result<(), Fail> {
     Ok(())
 }
 
-// Six reads give the descriptor, three bytes a read, and a seventh its end.
-#[test]
-fn failed_read_writes_nothing(rt: HostRuntime) -> Result<(), Fail> {
-    for good_reads in 0..7 {
-        let mut written = Vec::new(rt.alloc());
-        let mut descriptor = FailingSource::new(FromRead::new(TWO_AXES), good_reads);
-        let mut report = FromRead::new(b"\x05\xfb".as_slice());
-        let mut out = ToWrite::new(&mut written);
-        let command = Command::Values;
-        let answer = run(rt.alloc(), command, &mut descriptor, &mut report, &mut out);
-        assert_eq!(rt; answer, Err(RunFault::Read));
-        assert_eq!(rt; written.len(), 0);
-    }
-    for good_reads in 0..2 {
-        let mut written = Vec::new(rt.alloc());
-        let mut descriptor = FailingSource::new(FromRead::new(TWO_AXES), 7);
-        let mut report = FailingSource::new(FromRead::new(b"\x05\xfb".as_slice()), good_reads);
-        let mut out = ToWrite::new(&mut written);
-        let command = Command::Values;
-        let answer = run(rt.alloc(), command, &mut descriptor, &mut report, &mut out);
-        assert_eq!(rt; answer, Err(RunFault::Read));
-        assert_eq!(rt; written.len(), 0);
-    }
-    Ok(())
+/// A reader of three bytes a read, which fails after so many.
+fn failing(bytes: &[u8], good_reads: usize) -> FromRead<SlowReader<'_>> {
+    FromRead::new(SlowReader {
+        bytes,
+        step: 3,
+        reads: 0,
+        bad_read: good_reads.saturating_add(1),
+    })
 }
 
+// Six reads give the descriptor, three bytes a read, and a seventh its end; one gives the report.
 #[test]
-fn failed_write_ends_the_run(rt: HostRuntime) -> Result<(), Fail> {
-    for good_writes in 0..4 {
+fn failed_read_writes_nothing(rt: HostRuntime) {
+    let rows = [
+        (0, 2),
+        (1, 2),
+        (2, 2),
+        (3, 2),
+        (4, 2),
+        (5, 2),
+        (6, 2),
+        (7, 0),
+        (7, 1),
+    ];
+    for (of_descriptor, of_report) in rows {
         let mut written = Vec::new(rt.alloc());
-        let mut descriptor = FromRead::new(TWO_AXES);
-        let mut report = FromRead::new(b"\x05\xfb".as_slice());
-        let mut out = FailingSink::new(ToWrite::new(&mut written), good_writes);
+        let mut descriptor = failing(TWO_AXES, of_descriptor);
+        let mut report = failing(b"\x05\xfb", of_report);
+        let mut out = ToWrite::new(&mut written);
         let command = Command::Values;
         let answer = run(rt.alloc(), command, &mut descriptor, &mut report, &mut out);
-        assert_eq!(rt; answer, Err(RunFault::Write));
-        assert!(rt; TWO_AXES_TEXT.starts_with(&written));
-        assert!(rt; written.len() < TWO_AXES_TEXT.len());
+        assert_eq!(rt; answer, Err(RunFault::Read));
+        assert_eq!(rt; written.len(), 0);
     }
-    Ok(())
 }

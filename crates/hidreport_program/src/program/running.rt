@@ -6,10 +6,9 @@ ghost use Rattle.hidreport_program.specs.Output.{output};
 ghost use Rattle.hidreport_program.specs.Run.{BeganWriting, Wrote};
 
 use super::commands::Command;
-use super::ending::{Outcome, RunFault};
-use super::ends::{Sink, Source};
+use super::ending::Outcome;
 use super::output::text_of;
-use super::transfer::{read_to_end, write_all};
+use hidreport_transfer::{RunFault, Sink, Source, read_to_end, write_all};
 use std::alloc::Global;
 
 /// Reads a descriptor to its end, then a report where `command` reads one, and writes what the

@@ -1,12 +1,7 @@
+//! The words that ask for a command.
 use super::commands::{Command, command_of};
-use super::ending::RunFault;
-use super::ends::{Failed, FromRead, Sink, Source, ToWrite};
-use super::failing::{FailingSink, FailingSource, FlakyReader, FullWriter};
-use super::transfer::{read_to_end, write_all};
 use std::alloc::{AllocError, Global};
 use std::test::Fail;
-
-const WORDS: &[u8] = b"nineteen bytes long";
 
 fn command_for(alloc: Global, words: &[&str]) -> Result<Option<Command>, AllocError> {
     let mut owned = Vec::new(alloc);
@@ -112,87 +107,5 @@ fn other_words(rt: HostRuntime) -> Result<(), Fail> {
         command_for(rt.alloc(), &["Values", "mouse", "report"])?,
         None
     );
-    Ok(())
-}
-
-#[test]
-fn reads_all(rt: HostRuntime) -> Result<(), Fail> {
-    let mut source = FromRead::new(WORDS);
-    let bytes = read_to_end(rt.alloc(), &mut source)?;
-    assert_eq!(rt; bytes.as_slice(), WORDS);
-    assert_eq!(rt; read_to_end(rt.alloc(), &mut source)?.len(), 0);
-
-    let many = vec![in rt.alloc(); 7u8; 1500]?;
-    let mut source = FromRead::new(many.as_slice());
-    let bytes = read_to_end(rt.alloc(), &mut source)?;
-    assert_eq!(rt; bytes.as_slice(), many.as_slice());
-    Ok(())
-}
-
-// Seven reads give all the bytes, three a read, and an eighth the end.
-#[test]
-fn failed_read_is_no_end(rt: HostRuntime) -> Result<(), Fail> {
-    for good_reads in 0..8 {
-        let mut source = FailingSource::new(FromRead::new(WORDS), good_reads);
-        let answer = read_to_end(rt.alloc(), &mut source);
-        assert_eq!(rt; answer.err(), Some(RunFault::Read));
-        let again = read_to_end(rt.alloc(), &mut source);
-        assert_eq!(rt; again.err(), Some(RunFault::Read));
-    }
-    let mut source = FailingSource::new(FromRead::new(WORDS), 8);
-    let bytes = read_to_end(rt.alloc(), &mut source)?;
-    assert_eq!(rt; bytes.as_slice(), WORDS);
-    Ok(())
-}
-
-#[test]
-fn failed_reader_is_left_alone(rt: HostRuntime) -> Result<(), Fail> {
-    let mut reader = FlakyReader {
-        reads: 0,
-        bad_read: 2,
-    };
-    let mut source = FromRead::new(&mut reader);
-    let mut buffer = [0u8; 4];
-    assert_eq!(rt; source.read(&mut buffer), Ok(1));
-    assert_eq!(rt; source.read(&mut buffer), Err(Failed));
-    assert_eq!(rt; source.read(&mut buffer), Err(Failed));
-    assert_eq!(rt; reader.reads, 2);
-    Ok(())
-}
-
-#[test]
-fn writes_all(rt: HostRuntime) -> Result<(), Fail> {
-    let mut written = Vec::new(rt.alloc());
-    let mut sink = ToWrite::new(&mut written);
-    assert_eq!(rt; write_all(&mut sink, WORDS), Ok(()));
-    assert_eq!(rt; write_all(&mut sink, b""), Ok(()));
-    assert_eq!(rt; write_all(&mut sink, b"!"), Ok(()));
-    assert_eq!(rt; written.as_slice(), b"nineteen bytes long!".as_slice());
-    Ok(())
-}
-
-// Halves of what is left: 10, 5, 2, 1 and 1 bytes.
-#[test]
-fn failed_write_leaves_a_beginning(rt: HostRuntime) -> Result<(), Fail> {
-    for (good_writes, count) in [0, 10, 15, 17, 18].into_iter().enumerate() {
-        let mut written = Vec::new(rt.alloc());
-        let mut sink = FailingSink::new(ToWrite::new(&mut written), good_writes);
-        assert_eq!(rt; write_all(&mut sink, WORDS), Err(RunFault::Write));
-        assert_eq!(rt; write_all(&mut sink, b"!"), Err(RunFault::Write));
-        assert_eq!(rt; Some(written.as_slice()), WORDS.get(..count));
-    }
-    let mut written = Vec::new(rt.alloc());
-    let mut sink = FailingSink::new(ToWrite::new(&mut written), 5);
-    assert_eq!(rt; write_all(&mut sink, WORDS), Ok(()));
-    assert_eq!(rt; written.as_slice(), WORDS);
-    Ok(())
-}
-
-#[test]
-fn write_of_nothing_fails(rt: HostRuntime) -> Result<(), Fail> {
-    let mut sink = ToWrite::new(FullWriter);
-    assert_eq!(rt; sink.write(b""), Ok(0));
-    assert_eq!(rt; sink.write(b"x"), Err(Failed));
-    assert_eq!(rt; sink.write(b""), Err(Failed));
     Ok(())
 }

@@ -1,11 +1,11 @@
 //! Runs over slow, flaky and long inputs and outputs, and what the program ends with.
 use super::commands::Command;
-use super::ending::{Outcome, RunFault};
-use super::ends::{Failed, FromRead, Sink, ToWrite};
+use super::ending::Outcome;
 use super::failing::{FlakyWriter, SlowReader};
 use super::faults::{Fault, line_of, status_of};
 use super::requests::request_of;
 use super::running::run;
+use hidreport_transfer::{Failed, FromRead, RunFault, Sink, ToWrite};
 use std::alloc::{AllocError, Global};
 use std::test::Fail;
 
@@ -14,6 +14,16 @@ const TWO_AXES: &[u8] = b"\x05\x01\x15\x81\x25\x7f\x75\x08\x95\x02\x09\x30\x09\x
 const TWO_AXES_TEXT: &[u8] =
     b"report -- 16\n0..8 variable 00010030 5\n8..16 variable 00010031 -5\n";
 
+/// A reader of one byte a read.
+fn slow(bytes: &[u8]) -> FromRead<SlowReader<'_>> {
+    FromRead::new(SlowReader {
+        bytes,
+        step: 1,
+        reads: 0,
+        bad_read: 0,
+    })
+}
+
 /// A run over readers of one byte a read, to a writer of one byte a write.
 fn run_slowly(
     alloc: Global,
@@ -21,8 +31,8 @@ fn run_slowly(
     report: &[u8],
     writer: &mut FlakyWriter,
 ) -> Result<Outcome, RunFault> {
-    let mut descriptor = FromRead::new(SlowReader { bytes: descriptor });
-    let mut report = FromRead::new(SlowReader { bytes: report });
+    let mut descriptor = slow(descriptor);
+    let mut report = slow(report);
     let mut out = ToWrite::new(writer);
     run(
         alloc,

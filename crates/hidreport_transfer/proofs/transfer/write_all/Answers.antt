@@ -1,7 +1,7 @@
 use Rattle.std.proofs.Common.{rules, arith, ◌<◌, length}
 use Rattle.std.proofs.lemmas.Grind.{common_steps}
-use Rattle.hidreport_program.proofs.Transfers.{left_more, written_more}
-use Rattle.hidreport_program.proofs.program.transfer.write_all.Goals as goal
+use Rattle.hidreport_transfer.proofs.Transfers.{left_more, written_more}
+use Rattle.hidreport_transfer.proofs.transfer.write_all.Goals as goal
 
 pub loop-rest-preserved : goal.loop-rest-preserved
 loop-rest-preserved g c =

@@ -1,4 +1,4 @@
-//! What the program reads from and writes to: each end tells whether it has failed.
+//! What is read from and written to: each end tells whether it has failed.
 ghost use Rattle.std.specs.Prelude.{◌≡◌, ◌<◌, ◌≤◌, ◌↔◌, ℕ, List, Option, Bool, length, take, IsTrue, IsErr, IfOk, OnErr};
 ghost use Rattle.std.specs.Io.KnownBytes.{Appends, Consumes, IsAtEnd, Keeps};
 

@@ -2,8 +2,8 @@
 ghost use Rattle.std.specs.Prelude.{◌≡◌, ◌<◌, ◌↔◌, ℕ, false, length, take, IsTrue, IsOk, IsErr, IsErrOf, IfOk, IfErr, IfSome, OnOk, OnErr};
 ghost use Rattle.std.specs.Io.KnownBytes.{Appends, IsAtEnd};
 
-use super::ending::RunFault;
-use super::ends::{Failed, Sink, Source};
+use crate::ends::{Sink, Source};
+use crate::fault::RunFault;
 use std::alloc::Global;
 
 const CHUNK: usize = 512;

@@ -1,6 +1,6 @@
 use Rattle.std.proofs.Common.{◌≡◌, ◌<◌, ◌≤◌, ◌-◌, false, length, take, drop}
 use Rattle.std.specs.Io.KnownBytes.{Appends}
-use Rattle.hidreport_program.proofs.program.transfer.write_all.Given as goal
+use Rattle.hidreport_transfer.proofs.transfer.write_all.Given as goal
 
 -- A front of the text is written and the rest is left. Before the first write the sink is as it
 -- was, and after a write it has not failed.

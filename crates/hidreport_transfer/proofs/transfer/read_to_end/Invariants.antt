@@ -1,6 +1,6 @@
 use Rattle.std.proofs.Common.{◌-◌, ◌^◌, length}
 use Rattle.std.specs.Io.KnownBytes.{Consumes}
-use Rattle.hidreport_program.proofs.program.transfer.read_to_end.Given as goal
+use Rattle.hidreport_transfer.proofs.transfer.read_to_end.Given as goal
 
 -- what was read so far is what the source has lost
 abbrev pub invariant-loop-count : goal.invariant-loop-count

@@ -1,0 +1,15 @@
+//! Whole inputs and whole texts, over any reader and any writer.
+//! Licence: MIT (LICENSE).
+#![tactic(auto)]
+
+mod ends;
+#[cfg(test)]
+mod failing;
+mod fault;
+#[cfg(test)]
+mod tests;
+mod transfer;
+
+pub use ends::{Failed, FromRead, Sink, Source, ToWrite};
+pub use fault::RunFault;
+pub use transfer::{read_to_end, write_all};
