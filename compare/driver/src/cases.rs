@@ -1,58 +1,62 @@
-//! What is asked: descriptors with reports, items, and lists of items.
+//! What is asked, with the answers of the Rust crate: descriptors with reports, items, and lists of items.
 use crate::chance::{self, Chance};
 use crate::rules;
-use crate::show::{bytes_text, run_text};
+use crate::show::{bytes_text, caught, readings_text, reads_signs_wrongly, shape_text};
 use crate::show_items::{item_text, list_text};
 use hidreport::{Report, ReportDescriptor};
+use std::fmt::Write;
 
+/// A question in one line, and the lines of its answer.
 #[derive(Clone)]
-pub enum Case {
-    /// A descriptor, and the bytes of reports.
-    Run(Vec<u8>, Vec<Vec<u8>>),
-    /// The bytes of one item, also too few or too many.
-    Item(Vec<u8>),
-    /// Bytes that are cut into items.
-    List(Vec<u8>),
+pub struct Case {
+    pub question: String,
+    pub answer: String,
 }
 
 impl Case {
-    /// The case in one line: what is asked, and bytes as digits, `-` for none.
-    pub fn line(&self) -> String {
-        let digits = |bytes: &Vec<u8>| match bytes.is_empty() {
-            true => "-".to_string(),
-            false => bytes_text(bytes),
-        };
-        match self {
-            Case::Run(descriptor, reports) => {
-                let words: Vec<String> = [descriptor].into_iter().chain(reports).map(digits).collect();
-                format!("run {}", words.join(" "))
-            }
-            Case::Item(bytes) => format!("item {}", digits(bytes)),
-            Case::List(bytes) => format!("list {}", digits(bytes)),
-        }
+    fn new(kind: &str, bytes: &[u8], answer: String) -> Case {
+        let digits = if bytes.is_empty() { "-".to_string() } else { bytes_text(bytes) };
+        Case { question: format!("{kind} {digits}"), answer }
     }
 
-    pub fn of_line(line: &str) -> Option<Case> {
-        let mut words = line.split(' ');
-        let name = words.next()?;
-        let mut all = words.map(bytes_of).collect::<Option<Vec<Vec<u8>>>>()?;
-        let first = if all.is_empty() { return None } else { all.remove(0) };
-        match name {
-            "run" => Some(Case::Run(first, all)),
-            "item" => Some(Case::Item(first)),
-            "list" => Some(Case::List(first)),
-            _ => None,
-        }
+    pub fn item(bytes: &[u8]) -> Case {
+        Case::new("item", bytes, item_text(bytes))
     }
 
-    /// What the Rust crate answers.
-    pub fn answer(&self) -> String {
-        match self {
-            Case::Run(descriptor, reports) => run_text(descriptor, reports),
-            Case::Item(bytes) => item_text(bytes),
-            Case::List(bytes) => list_text(bytes),
-        }
+    /// The same by the reader of the type that the header names, where it names one.
+    pub fn item_by_type(bytes: &[u8]) -> Option<Case> {
+        let kind = *["main", "global", "local"].get(usize::from(bytes.first()? >> 2 & 3))?;
+        Some(Case::new(kind, bytes, item_text(bytes)))
     }
+
+    pub fn list(bytes: &[u8]) -> Case {
+        Case::new("list", bytes, list_text(bytes))
+    }
+
+    pub fn shape(bytes: &[u8]) -> Case {
+        Case::new("shape", bytes, shape_text(bytes))
+    }
+
+    /// As a file of cases has it: the answer below the question, two spaces in.
+    pub fn text(&self) -> String {
+        let mut text = format!("{}\n", self.question);
+        for line in self.answer.lines() {
+            let _ = writeln!(text, "  {line}");
+        }
+        text
+    }
+}
+
+/// Whether an item is headed FE, which is a long one here (docs/DIFFERENCES.md).
+pub fn has_long_item(bytes: &[u8]) -> bool {
+    let mut place = 0;
+    while let Some(header) = bytes.get(place) {
+        if *header == 0xfe {
+            return true;
+        }
+        place += 1 + [0, 1, 2, 4][usize::from(header & 3)];
+    }
+    false
 }
 
 /// The bytes of digits, whatever stands between them.
@@ -68,18 +72,18 @@ pub fn bytes_of(digits: &str) -> Option<Vec<u8>> {
 /// All cases of a comparison: the ones by rule, and `count` descriptors, lists and items by chance.
 pub fn compared(seed: u64, count: u64) -> Vec<Case> {
     let mut chance = Chance::new(seed);
-    let mut cases: Vec<Case> = item_bytes().into_iter().map(Case::Item).collect();
+    let mut cases: Vec<Case> = item_bytes().iter().map(|bytes| Case::item(bytes)).collect();
     for descriptor in rules::descriptors() {
-        cases.push(Case::List(descriptor.clone()));
-        cases.push(with_reports(&mut chance, descriptor));
+        cases.push(Case::list(&descriptor));
+        cases.extend(with_reports(&mut chance, &descriptor, 2));
     }
     for _ in 0..count {
         let descriptor = chance::descriptor(&mut chance);
-        cases.push(with_reports(&mut chance, descriptor));
+        cases.extend(with_reports(&mut chance, &descriptor, 2));
         let length = chance.below(12) as usize;
-        cases.push(Case::List(chance.bytes(length)));
+        cases.push(Case::list(&chance.bytes(length)));
         let length = chance.below(6) as usize;
-        cases.push(Case::Item(chance.bytes(length)));
+        cases.push(Case::item(&chance.bytes(length)));
     }
     cases
 }
@@ -143,30 +147,30 @@ pub fn number_bytes(edges: &[&str]) -> Vec<Vec<u8>> {
     all
 }
 
-/// A descriptor with two reports, where it has any: one as long as it should be, and one that may be short, long or of another id.
-pub fn with_reports(chance: &mut Chance, descriptor: Vec<u8>) -> Case {
-    let parsed = crate::show::caught(|| ReportDescriptor::try_from(descriptor.as_slice()));
-    let Ok(Ok(parsed)) = parsed else {
-        return Case::Run(descriptor, vec![]);
+/// A descriptor, and so many reports, where it has any: each second one as long as it should be, the others short, long or
+/// of another id.
+pub fn with_reports(chance: &mut Chance, descriptor: &[u8], count: usize) -> Vec<Case> {
+    let mut cases = vec![Case::shape(descriptor)];
+    let Ok(Ok(parsed)) = caught(|| ReportDescriptor::try_from(descriptor)) else {
+        return cases;
     };
     let mut ids = vec![];
     let mut note = |report: &dyn Report| ids.push((*report.report_id(), report.size_in_bytes()));
     parsed.input_reports().iter().for_each(|report| note(report));
     parsed.output_reports().iter().for_each(|report| note(report));
     parsed.feature_reports().iter().for_each(|report| note(report));
-    if ids.is_empty() {
-        return Case::Run(descriptor, vec![]);
+    if ids.is_empty() || reads_signs_wrongly(&parsed) || has_long_item(descriptor) {
+        return cases;
     }
-    let (id, size) = ids[chance.below(ids.len() as u64) as usize];
-    let mut whole = chance.bytes(size.clamp(1, 64));
-    if let Some(id) = id {
-        whole[0] = u8::from(id);
+    for place in 0..count {
+        let (id, size) = ids[chance.below(ids.len() as u64) as usize];
+        let is_whole = place % 2 == 0;
+        let length = if is_whole { size.clamp(1, 64) } else { (chance.below(size.min(64) as u64 + 3) as usize).max(1) };
+        let mut bytes = chance.bytes(length);
+        if let (Some(id), true) = (id, is_whole || chance.below(3) > 0) {
+            bytes[0] = u8::from(id);
+        }
+        cases.push(Case::new("read", &bytes, readings_text(&parsed, &bytes)));
     }
-    let (id, size) = ids[chance.below(ids.len() as u64) as usize];
-    let length = chance.below(size.min(64) as u64 + 3).max(1);
-    let mut other = chance.bytes(length as usize);
-    if let (Some(id), true) = (id, chance.below(3) > 0) {
-        other[0] = u8::from(id);
-    }
-    Case::Run(descriptor, vec![whole, other])
+    cases
 }

@@ -1,4 +1,5 @@
 //! Whether recorded descriptors have everything that they are to show together.
+use crate::cases::{Case, bytes_of};
 use std::collections::BTreeSet;
 
 /// What a descriptor has that recorded runs are to have, by name.
@@ -31,7 +32,7 @@ fn features(bytes: &[u8], answer: &str) -> BTreeSet<String> {
 }
 
 fn features_of_line(line: &str) -> Vec<String> {
-    let words: Vec<&str> = line.split(' ').collect();
+    let words: Vec<&str> = line.split_whitespace().collect();
     match words.as_slice() {
         ["refused", "at", _, message @ ..] => vec![message.join(" ")],
         ["variable" | "array" | "constant", ..] => {
@@ -40,11 +41,11 @@ fn features_of_line(line: &str) -> Vec<String> {
             all.extend(named.iter().filter(|name| words.contains(name)).map(|name| name.to_string()));
             all
         }
-        ["read", ..] => {
+        [direction, ..] => {
             let named = ["none:", "found:", "id", "another", "outside"];
-            named.iter().filter(|name| words.contains(name)).map(|name| name.to_string()).collect()
+            let found = named.iter().filter(|name| words.contains(name)).map(|name| name.to_string());
+            found.chain([direction.to_string()]).collect()
         }
-        [direction, ..] => vec![direction.to_string()],
         [] => vec![],
     }
 }
@@ -54,6 +55,7 @@ fn wanted() -> BTreeSet<String> {
     // Main items of other tags are refused whatever their size code is.
     let known = [0x80, 0x90, 0xa0, 0xb0, 0xc0];
     let headers = (0..=255u8).filter(|header| header & 0x0c != 0 || known.contains(&(header & 0xfc)));
+    let headers = headers.filter(|header| *header != 0xfe);
     let mut all: BTreeSet<String> = headers.map(|header| format!("header {header:02x}")).collect();
     all.extend([0, 1, 2, 3, 4, 5, 6, 7, 0x7f, 0x80, 0x81].iter().map(|kind| format!("kind {kind:02x}")));
     for item in ["80", "90", "b0"] {
@@ -72,10 +74,12 @@ fn wanted() -> BTreeSet<String> {
 }
 
 /// What is wanted and none of these descriptors with their answers has.
-pub fn missing<'a>(runs: impl Iterator<Item = (&'a [u8], &'a str)>) -> Vec<String> {
+pub fn missing(blocks: &[Vec<Case>]) -> Vec<String> {
     let mut found = BTreeSet::new();
-    for (bytes, answer) in runs {
-        found.extend(features(bytes, answer));
+    for block in blocks {
+        let digits = block[0].question.trim_start_matches("shape ");
+        let answers: String = block.iter().map(|case| case.answer.as_str()).collect();
+        found.extend(features(&bytes_of(digits).unwrap(), &answers));
     }
     wanted().difference(&found).cloned().collect()
 }

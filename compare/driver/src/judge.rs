@@ -1,27 +1,33 @@
-//! Two files of answers, case by case: equal, different as docs/DIFFERENCES.md says, or different.
-use crate::cases::bytes_of;
+//! What the program `hidreport_cases` prints of cases that the Rust crate answered: those that differ as docs/DIFFERENCES.md
+//! says, and the others.
+use crate::cases::{bytes_of, has_long_item};
 use std::collections::BTreeMap;
 
-/// Prints how many answers are equal and how many differ for each known reason, and every other difference.
-pub fn judge(theirs: &str, ours: &str) -> Result<(), String> {
-    let theirs = answers(theirs)?;
-    let ours = answers(ours)?;
-    if theirs.len() != ours.len() {
-        return Err(format!("{} answers of the Rust crate, {} here", theirs.len(), ours.len()));
-    }
+/// A question that is answered otherwise here.
+#[derive(Default)]
+struct Differing {
+    question: String,
+    theirs: String,
+    ours: String,
+}
+
+/// Prints how many questions were asked, how many differ for each known reason, and every other difference.
+pub fn judge(file: &str) -> Result<(), String> {
+    let text = std::fs::read_to_string(file).map_err(|error| format!("{file}: {error}"))?;
     let mut reasons: BTreeMap<&str, usize> = BTreeMap::new();
     let mut unexplained = 0;
-    for ((case, theirs), (same_case, ours)) in theirs.iter().zip(&ours) {
-        if case != same_case {
-            return Err(format!("different cases: {case} and {same_case}"));
-        }
-        match reason(case, theirs, ours) {
+    for case in differing(&text) {
+        match reason(&case.question, &case.theirs, &case.ours) {
             Some(reason) => *reasons.entry(reason).or_default() += 1,
             None => {
                 unexplained += 1;
-                println!("{case}\n--- the Rust crate\n{theirs}--- here\n{ours}");
+                println!("{}\n--- the Rust crate\n{}--- here\n{}", case.question, case.theirs, case.ours);
             }
         }
+    }
+    // The last lines count what was asked.
+    for line in text.lines().rev().take(8).filter(|line| line.starts_with(|letter: char| letter.is_ascii_digit())) {
+        println!("asked: {line}");
     }
     for (reason, count) in reasons {
         println!("{count:8} {reason}");
@@ -33,52 +39,39 @@ pub fn judge(theirs: &str, ours: &str) -> Result<(), String> {
     }
 }
 
-/// Each case with its answer.
-fn answers(file: &str) -> Result<Vec<(String, String)>, String> {
-    let text = std::fs::read_to_string(file).map_err(|error| format!("{file}: {error}"))?;
-    let mut all: Vec<(String, String)> = vec![];
-    for line in text.lines() {
-        match (line.strip_prefix("> "), all.last_mut()) {
-            (Some(case), _) => all.push((case.to_string(), String::new())),
-            (None, Some((_, answer))) => {
-                answer.push_str(line);
-                answer.push('\n');
-            }
-            (None, None) => return Err(format!("{file}: no case before {line}")),
+/// The blocks `FILE:LINE: QUESTION`, `wanted:` with lines, `got:` with lines, and an empty line.
+fn differing(text: &str) -> Vec<Differing> {
+    let mut all: Vec<Differing> = vec![];
+    let mut lines = text.lines().peekable();
+    while let Some(line) = lines.next() {
+        if lines.peek() != Some(&"wanted:") {
+            continue;
         }
+        lines.next();
+        let question = line.splitn(3, ':').nth(2).unwrap_or_default().trim_start().to_string();
+        let mut case = Differing { question, ..Differing::default() };
+        while let Some(line) = lines.next_if(|line| *line != "got:") {
+            case.theirs += &format!("{line}\n");
+        }
+        lines.next();
+        while let Some(line) = lines.next_if(|line| !line.is_empty()) {
+            case.ours += &format!("{line}\n");
+        }
+        all.push(case);
     }
-    Ok(all)
+    all
 }
 
 /// Why both answers are as they should be; none where they are not.
 fn reason(case: &str, theirs: &str, ours: &str) -> Option<&'static str> {
-    if theirs == ours {
-        return Some("are equal");
-    }
-    if has_long_item(case) {
+    let bytes = case.split(' ').nth(1).and_then(bytes_of).unwrap_or_default();
+    if has_long_item(&bytes) {
         return Some("have an item headed FE, which is a long one here");
     }
     if case.starts_with("item ") {
         return item_reason(case, theirs, ours);
     }
     run_reason(theirs, ours)
-}
-
-/// Whether the bytes that are asked for, cut into short items, have one headed FE.
-fn has_long_item(case: &str) -> bool {
-    let bytes = case.split(' ').nth(1).and_then(bytes_of).unwrap_or_default();
-    let mut rest = bytes.as_slice();
-    while let [header, after @ ..] = rest {
-        if *header == 0xfe {
-            return true;
-        }
-        let size = match header & 3 {
-            3 => 4,
-            code => usize::from(code),
-        };
-        rest = after.get(size..).unwrap_or_default();
-    }
-    false
 }
 
 /// A reader that panics at a length, or at no bytes; a usage of page 0 that is written short.

@@ -11,7 +11,7 @@ mod show_items;
 use std::path::Path;
 use std::process::ExitCode;
 
-const USAGE: &str = "usage: driver cases SEED COUNT | answers FILE | judge THEIRS OURS | record SEED FOLDER";
+const USAGE: &str = "usage: driver cases SEED COUNT | judge FILE | record SEED FOLDER";
 
 fn main() -> ExitCode {
     // A panic of the crate is an answer like any other.
@@ -20,9 +20,8 @@ fn main() -> ExitCode {
     let words: Vec<&str> = words.iter().map(String::as_str).collect();
     let done = match words.as_slice() {
         ["cases", seed, count] => print_cases(seed, count),
-        ["answers", file] => print_answers(file),
-        ["judge", theirs, ours] => judge::judge(theirs, ours),
-        ["record", seed, folder] => record_tables(seed, folder),
+        ["judge", file] => judge::judge(file),
+        ["record", seed, folder] => record_runs(seed, folder),
         _ => Err(USAGE.to_string()),
     };
     match done {
@@ -40,20 +39,11 @@ fn number(word: &str) -> Result<u64, String> {
 
 fn print_cases(seed: &str, count: &str) -> Result<(), String> {
     for case in cases::compared(number(seed)?, number(count)?) {
-        println!("{}", case.line());
+        print!("{}", case.text());
     }
     Ok(())
 }
 
-fn print_answers(file: &str) -> Result<(), String> {
-    let text = std::fs::read_to_string(file).map_err(|error| format!("{file}: {error}"))?;
-    for line in text.lines() {
-        let case = cases::Case::of_line(line).ok_or(format!("no case: {line}"))?;
-        print!("> {line}\n{}", case.answer());
-    }
-    Ok(())
-}
-
-fn record_tables(seed: &str, folder: &str) -> Result<(), String> {
+fn record_runs(seed: &str, folder: &str) -> Result<(), String> {
     record::record(number(seed)?, Path::new(folder)).map_err(|error| format!("{folder}: {error}"))
 }

@@ -22,7 +22,9 @@ fn widths() -> Vec<Vec<u8>> {
     ];
     for code in 0..4 {
         all.extend(alone.iter().map(|prefix| around(&[*prefix], code)));
-        let reserved: Vec<u8> = (0x0c..=0xfcu8).step_by(16).chain([0xc4, 0xd4, 0xe4, 0xf4]).collect();
+        // FE heads a long item here.
+        let reserved = (0x0c..=0xfcu8).step_by(16).filter(|prefix| prefix + code as u8 != 0xfe);
+        let reserved: Vec<u8> = reserved.chain([0xc4, 0xd4, 0xe4, 0xf4]).collect();
         all.push(around(&reserved, code));
         all.push(around(&[0x38, 0x48, 0x58, 0x68, 0x78, 0x88, 0x98, 0xa8, 0xb8, 0xc8, 0xd8, 0xe8, 0xf8], code));
     }

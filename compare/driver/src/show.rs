@@ -50,17 +50,14 @@ fn usages_text(usages: &[Usage]) -> String {
     texts.join(" ")
 }
 
-/// The refusal of a descriptor, or its reports with their fields and what these read from each of `reports`.
-pub fn run_text(descriptor: &[u8], reports: &[Vec<u8>]) -> String {
+/// The refusal of a descriptor, or its reports with their fields.
+pub fn shape_text(descriptor: &[u8]) -> String {
     match caught(|| ReportDescriptor::try_from(descriptor)) {
         Ok(Ok(descriptor)) => {
             let mut text = reports_text("input", descriptor.input_reports());
             text += &reports_text("output", descriptor.output_reports());
             text += &reports_text("feature", descriptor.feature_reports());
-            for bytes in reports {
-                text += &readings_text(&descriptor, bytes);
-            }
-            text
+            if text.is_empty() { "no reports\n".to_string() } else { text }
         }
         Ok(Err(error)) => refusal_text(&error),
         Err(message) => format!("panics at {}: {message}\n", panic_place(descriptor)),
@@ -101,15 +98,14 @@ fn reports_text(direction: &str, reports: &[impl Report]) -> String {
 }
 
 fn field_text(field: &Field) -> String {
-    let mut text = match field {
+    let text = match field {
         Field::Variable(field) => variable_text(field),
         Field::Array(field) => array_text(field),
         Field::Constant(field) => {
             format!("constant {:?} ({})", field.bits, usages_text(field.usages()))
         }
     };
-    text += &collections_text(field.collections());
-    text + "\n"
+    format!("  {text}{}\n", collections_text(field.collections()))
 }
 
 fn variable_text(field: &VariableField) -> String {
@@ -175,15 +171,25 @@ fn collections_text(collections: &[Collection]) -> String {
     collections.iter().map(text_of).collect()
 }
 
-fn readings_text(descriptor: &ReportDescriptor, bytes: &[u8]) -> String {
-    let mut text = format!("read {}", bytes_text(bytes));
+/// What the fields of a descriptor read from a report's bytes.
+pub fn readings_text(descriptor: &ReportDescriptor, bytes: &[u8]) -> String {
     let found = descriptor.find_input_report(bytes);
-    text += &direction_text("input", found, descriptor.input_reports(), bytes);
+    let mut text = direction_text("input", found, descriptor.input_reports(), bytes);
     let found = descriptor.find_output_report(bytes);
     text += &direction_text("output", found, descriptor.output_reports(), bytes);
     let found = descriptor.find_feature_report(bytes);
-    text += &direction_text("feature", found, descriptor.feature_reports(), bytes);
-    text + "\n"
+    text + &direction_text("feature", found, descriptor.feature_reports(), bytes)
+}
+
+/// Whether the crate reads some array wrongly: it takes the sign of an element at the width of the whole array.
+pub fn reads_signs_wrongly(descriptor: &ReportDescriptor) -> bool {
+    let is_wrong = |field: &Field| match field {
+        Field::Array(field) => field.is_signed() && usize::from(field.report_count) > 1,
+        _ => false,
+    };
+    descriptor.input_reports().iter().any(|report| report.fields().iter().any(is_wrong))
+        || descriptor.output_reports().iter().any(|report| report.fields().iter().any(is_wrong))
+        || descriptor.feature_reports().iter().any(|report| report.fields().iter().any(is_wrong))
 }
 
 fn direction_text(
@@ -195,7 +201,7 @@ fn direction_text(
     if reports.is_empty() {
         return String::new();
     }
-    let mut text = format!(" {direction} ");
+    let mut text = format!("{direction} ");
     match found.map(|report| report.report_id()) {
         Some(Some(id)) => text += &format!("id {id}:"),
         Some(None) => text += "found:",
@@ -208,28 +214,21 @@ fn direction_text(
             Field::Constant(_) => " -".to_string(),
         };
     }
-    text
+    text + "\n"
 }
 
 /// The values of an array at once, each by itself, and the one behind the last.
-///
-/// The crate takes the sign of an element at the width of the whole array: signed ones are left out where there are more.
 fn elements_text(field: &ArrayField, bytes: &[u8]) -> String {
     let count = usize::from(field.report_count);
-    if field.is_signed() && count > 1 {
-        return " [left out]".to_string();
-    }
-    let mut text = " [".to_string();
-    match caught(|| field.extract(bytes)) {
+    let all = match caught(|| field.extract(bytes)) {
         Ok(Ok(values)) => {
-            for value in values {
-                text += &format!("{} ", value_text(Ok(Ok(value))));
-            }
+            let texts: Vec<String> = values.into_iter().map(|value| value_text(Ok(Ok(value)))).collect();
+            texts.join(" ")
         }
-        Ok(Err(error)) => text += error_text(&error),
-        Err(_) => text += "outside",
-    }
-    text += "]";
+        Ok(Err(error)) => error_text(&error).to_string(),
+        Err(_) => "outside".to_string(),
+    };
+    let mut text = format!(" [{all}]");
     for index in 0..=count {
         text += &format!(" {}", value_text(caught(|| field.extract_one(bytes, index))));
     }

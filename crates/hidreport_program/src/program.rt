@@ -2,24 +2,14 @@
 
 pub mod commands;
 pub mod ending;
-#[cfg(test)]
-mod failing;
 pub mod faults;
 mod fields;
 mod items;
 mod limits;
 mod numbers;
 mod output;
-#[cfg(test)]
-mod refused;
 pub mod requests;
-#[cfg(test)]
-mod rows;
 pub mod running;
-#[cfg(test)]
-mod tests;
-#[cfg(test)]
-mod transfers;
 
 pub use commands::{Command, command_of};
 pub use ending::Outcome;

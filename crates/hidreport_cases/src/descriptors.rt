@@ -1,0 +1,178 @@
+//! What parsing answers, as text.
+use crate::fields::add_field;
+use crate::malformed::Malformed;
+use crate::words::bytes_of;
+use hidreport::{Field, ParserError, RDescReport, Report, ReportDescriptor};
+use std::alloc::{AllocError, Global};
+use std::fmt::Write;
+
+/// How a descriptor is read.
+#[derive(Clone, Copy)]
+pub enum Way {
+    /// A Push keeps globals and locals.
+    All,
+    /// A Push keeps globals alone.
+    Globals,
+    /// As `All`, within a limit.
+    Within(usize),
+}
+
+/// Whether a text has the ids of fields and collections.
+#[derive(Clone, Copy, PartialEq)]
+pub enum Ids {
+    Shown,
+    LeftOut,
+}
+
+pub fn read(alloc: Global, way: Way, bytes: &[u8]) -> Result<ReportDescriptor, ParserError> {
+    match way {
+        Way::All => ReportDescriptor::try_from(alloc, bytes),
+        Way::Globals => ReportDescriptor::try_from_globals_only(alloc, bytes),
+        Way::Within(limit) => ReportDescriptor::try_from_within(alloc, bytes, limit),
+    }
+}
+
+/// Appends the refusal of a descriptor, or its reports with their fields. Gives back the descriptor.
+pub fn add_descriptor(
+    alloc: Global,
+    text: &mut String,
+    ids: Ids,
+    answer: Result<ReportDescriptor, ParserError>,
+) -> Result<Option<ReportDescriptor>, AllocError> {
+    match answer {
+        Ok(descriptor) => {
+            add_directions(alloc, text, ids, &descriptor)?;
+            Ok(Some(descriptor))
+        }
+        Err(error) => {
+            add_refusal(text, &error)?;
+            Ok(None)
+        }
+    }
+}
+
+fn add_directions(
+    alloc: Global,
+    text: &mut String,
+    ids: Ids,
+    descriptor: &ReportDescriptor,
+) -> Result<(), AllocError> {
+    if has_no_reports(descriptor) {
+        return text.push_str("no reports\n");
+    }
+    add_reports(alloc, text, ids, "input", descriptor.input_reports())?;
+    add_reports(alloc, text, ids, "output", descriptor.output_reports())?;
+    add_reports(alloc, text, ids, "feature", descriptor.feature_reports())
+}
+
+fn has_no_reports(descriptor: &ReportDescriptor) -> bool {
+    descriptor.input_reports().is_empty()
+        && descriptor.output_reports().is_empty()
+        && descriptor.feature_reports().is_empty()
+}
+
+fn add_reports(
+    alloc: Global,
+    text: &mut String,
+    ids: Ids,
+    direction: &str,
+    reports: &[RDescReport],
+) -> Result<(), AllocError> {
+    for report in reports {
+        add_heading(text, direction, report)?;
+        for field in report.fields() {
+            add_field_and_copy(alloc, text, ids, field)?;
+        }
+    }
+    Ok(())
+}
+
+fn add_heading(text: &mut String, direction: &str, report: &RDescReport) -> Result<(), AllocError> {
+    text.push_str(direction)?;
+    if let Some(id) = report.report_id() {
+        write!(text, " id {id}")?;
+    }
+    let bits = report.size_in_bits();
+    let bytes = report.size_in_bytes();
+    writeln!(text, " {bits} bits {bytes} bytes")
+}
+
+/// Appends a field's line, and says so where its copy has another.
+fn add_field_and_copy(
+    alloc: Global,
+    text: &mut String,
+    ids: Ids,
+    field: &Field,
+) -> Result<(), AllocError> {
+    let mut line = String::new(alloc);
+    add_field(&mut line, field, ids)?;
+    text.push_str(line.as_str())?;
+    let mut line_of_copy = String::new(alloc);
+    add_field(&mut line_of_copy, &field.clone()?, ids)?;
+    if line.as_str() == line_of_copy.as_str() {
+        Ok(())
+    } else {
+        text.push_str("another copy: ")?;
+        text.push_str(line_of_copy.as_str())
+    }
+}
+
+/// Appends a line that says why a descriptor is refused.
+pub fn add_refusal(text: &mut String, error: &ParserError) -> Result<(), AllocError> {
+    match error {
+        ParserError::InvalidData { offset, message } => {
+            writeln!(text, "refused at {offset}: {message}")
+        }
+        ParserError::OutOfBounds => writeln!(text, "refused: out of bounds"),
+        ParserError::MismatchingReportId => writeln!(text, "refused: another report id"),
+        ParserError::BudgetExceeded { offset } => writeln!(text, "refused at {offset}: budget"),
+        ParserError::OutOfMemory => Err(AllocError),
+    }
+}
+
+/// Appends how many reports, bits and fields a great descriptor announces in each direction, and in how many
+/// collections the first and the last of the fields lie.
+pub fn add_many(alloc: Global, text: &mut String, way: Way, words: &str) -> Result<(), Malformed> {
+    let bytes = bytes_of(alloc, words)?;
+    match read(alloc, way, &bytes) {
+        Ok(descriptor) => {
+            if has_no_reports(&descriptor) {
+                text.push_str("no reports\n")?;
+            }
+            add_count(text, "input", descriptor.input_reports())?;
+            add_count(text, "output", descriptor.output_reports())?;
+            add_count(text, "feature", descriptor.feature_reports())?;
+        }
+        Err(error) => add_refusal(text, &error)?,
+    }
+    Ok(())
+}
+
+fn add_count(
+    text: &mut String,
+    direction: &str,
+    reports: &[RDescReport],
+) -> Result<(), AllocError> {
+    let ([first, ..], [.., last]) = (reports, reports) else {
+        return Ok(());
+    };
+    let count = reports.len();
+    write!(text, "{direction} {count} reports")?;
+    add_ends(text, first, first.fields().first())?;
+    add_ends(text, last, last.fields().last())?;
+    text.push_str("\n")
+}
+
+fn add_ends(
+    text: &mut String,
+    report: &RDescReport,
+    field: Option<&Field>,
+) -> Result<(), AllocError> {
+    let bits = report.size_in_bits();
+    let count = report.fields().len();
+    let depth = match field {
+        Some(field) => field.collections().len(),
+        None => 0,
+    };
+    write!(text, ", {bits} bits {count} fields in {depth}")
+}

@@ -1,0 +1,183 @@
+//! Items as text: the name of the variant, its parts, and the bytes that it writes.
+use crate::descriptors::add_refusal;
+use crate::kinds::{add_bytes, add_flag, add_kind};
+use crate::parts::add_parts;
+use hidreport::hid::{
+    FeatureItem, GlobalItem, HidError, InputItem, Item, ItemType, LocalItem, MainDataItem,
+    MainItem, OutputItem, ReportDescriptorItems, ShortItem,
+};
+use std::alloc::{AllocError, Global};
+use std::fmt::Write;
+
+/// Appends a line of what the reader of items makes of a slice: the item and the bytes that it writes, or the refusal.
+pub fn add_item(alloc: Global, text: &mut String, bytes: &[u8]) -> Result<(), AllocError> {
+    match ItemType::try_from(alloc, bytes) {
+        Ok(item) => add_whole(alloc, text, &item),
+        Err(error) => {
+            add_item_refusal(text, &error)?;
+            text.push_str("\n")
+        }
+    }
+}
+
+/// Appends a line of an item: its name and its parts, and the bytes that it writes.
+pub fn add_whole(alloc: Global, text: &mut String, item: &ItemType) -> Result<(), AllocError> {
+    add_name(text, item)?;
+    text.push_str(" = ")?;
+    add_written(text, item.as_bytes(alloc))
+}
+
+/// Appends the bytes of the short item that an item is written as, without any memory.
+pub fn add_short_of(alloc: Global, text: &mut String, bytes: &[u8]) -> Result<(), AllocError> {
+    match ItemType::try_from(alloc, bytes) {
+        Ok(item) => match ShortItem::from_item_type(&item) {
+            Ok(short) => add_bytes(text, short.bytes())?,
+            Err(error) => add_item_refusal(text, &error)?,
+        },
+        Err(error) => add_item_refusal(text, &error)?,
+    }
+    text.push_str("\n")
+}
+
+/// Appends bytes that were written, and ends the line.
+pub fn add_written(
+    text: &mut String,
+    written: Result<Vec<u8>, HidError>,
+) -> Result<(), AllocError> {
+    match written {
+        Ok(bytes) => add_bytes(text, &bytes)?,
+        Err(error) => add_item_refusal(text, &error)?,
+    }
+    text.push_str("\n")
+}
+
+pub fn add_item_refusal(text: &mut String, error: &HidError) -> Result<(), AllocError> {
+    match error {
+        HidError::InvalidData { message } => write!(text, "invalid: {message}"),
+        HidError::InsufficientData => text.push_str("insufficient"),
+        HidError::OutOfMemory => Err(AllocError),
+    }
+}
+
+/// Appends the name and the parts of an item.
+pub fn add_name(text: &mut String, item: &ItemType) -> Result<(), AllocError> {
+    match item {
+        ItemType::Main(item) => add_main(text, item),
+        ItemType::Global(item) => add_global(text, item),
+        ItemType::Local(item) => add_local(text, item),
+        ItemType::Long => text.push_str("Long"),
+        ItemType::Reserved => text.push_str("Reserved"),
+    }
+}
+
+pub fn add_main(text: &mut String, item: &MainItem) -> Result<(), AllocError> {
+    match item {
+        MainItem::Input(item) => add_input(text, item),
+        MainItem::Output(item) => add_output(text, item),
+        MainItem::Feature(item) => add_feature(text, item),
+        MainItem::Collection(kind) => {
+            text.push_str("Collection ")?;
+            add_kind(text, *kind)
+        }
+        MainItem::EndCollection => text.push_str("EndCollection"),
+    }
+}
+
+pub fn add_input(text: &mut String, item: &InputItem) -> Result<(), AllocError> {
+    text.push_str("Input ")?;
+    add_flags(text, item)
+}
+
+pub fn add_output(text: &mut String, item: &OutputItem) -> Result<(), AllocError> {
+    text.push_str("Output ")?;
+    add_flags(text, item)?;
+    let (holds, opposite) = (item.is_volatile(), item.is_nonvolatile());
+    add_flag(text, (holds, "V"), (opposite, "v"))
+}
+
+pub fn add_feature(text: &mut String, item: &FeatureItem) -> Result<(), AllocError> {
+    text.push_str("Feature ")?;
+    add_flags(text, item)?;
+    let (holds, opposite) = (item.is_volatile(), item.is_nonvolatile());
+    add_flag(text, (holds, "V"), (opposite, "v"))
+}
+
+fn add_flags<M: MainDataItem>(text: &mut String, item: &M) -> Result<(), AllocError> {
+    add_flag(text, (item.is_constant(), "C"), (item.is_data(), "c"))?;
+    add_flag(text, (item.is_variable(), "A"), (item.is_array(), "a"))?;
+    add_flag(text, (item.is_relative(), "R"), (item.is_absolute(), "r"))?;
+    add_flag(text, (item.wraps(), "W"), (item.does_not_wrap(), "w"))?;
+    add_flag(text, (item.is_nonlinear(), "N"), (item.is_linear(), "n"))?;
+    add_flag(
+        text,
+        (item.has_no_preferred_state(), "P"),
+        (item.has_preferred_state(), "p"),
+    )?;
+    add_flag(
+        text,
+        (item.has_null_state(), "Z"),
+        (item.has_no_null_state(), "z"),
+    )?;
+    add_flag(
+        text,
+        (item.is_buffered_bytes(), "B"),
+        (item.is_bitfield(), "b"),
+    )
+}
+
+pub fn add_global(text: &mut String, item: &GlobalItem) -> Result<(), AllocError> {
+    match item {
+        GlobalItem::UsagePage(page) => write!(text, "UsagePage {page}")?,
+        GlobalItem::LogicalMinimum(bound) => write!(text, "LogicalMinimum {bound}")?,
+        GlobalItem::LogicalMaximum(bound) => write!(text, "LogicalMaximum {bound}")?,
+        GlobalItem::PhysicalMinimum(bound) => write!(text, "PhysicalMinimum {bound}")?,
+        GlobalItem::PhysicalMaximum(bound) => write!(text, "PhysicalMaximum {bound}")?,
+        GlobalItem::UnitExponent(exponent) => write!(text, "UnitExponent {exponent}")?,
+        GlobalItem::Unit(unit) => {
+            let number = u32::from(*unit);
+            write!(text, "Unit {number}")?;
+        }
+        GlobalItem::ReportSize(size) => write!(text, "ReportSize {size}")?,
+        GlobalItem::ReportId(id) => write!(text, "ReportId {id}")?,
+        GlobalItem::ReportCount(count) => write!(text, "ReportCount {count}")?,
+        GlobalItem::Push => text.push_str("Push")?,
+        GlobalItem::Pop => text.push_str("Pop")?,
+        GlobalItem::Reserved => text.push_str("GlobalReserved")?,
+    }
+    let prefix = item.prefix();
+    write!(text, " prefix {prefix:02x}")
+}
+
+pub fn add_local(text: &mut String, item: &LocalItem) -> Result<(), AllocError> {
+    match item {
+        LocalItem::Usage(page, id) => write!(text, "Usage {page} {id}")?,
+        LocalItem::UsageId(id) => write!(text, "UsageId {id}")?,
+        LocalItem::UsageMinimum(minimum) => write!(text, "UsageMinimum {minimum}")?,
+        LocalItem::UsageMaximum(maximum) => write!(text, "UsageMaximum {maximum}")?,
+        LocalItem::DesignatorIndex(index) => write!(text, "DesignatorIndex {index}")?,
+        LocalItem::DesignatorMinimum(minimum) => write!(text, "DesignatorMinimum {minimum}")?,
+        LocalItem::DesignatorMaximum(maximum) => write!(text, "DesignatorMaximum {maximum}")?,
+        LocalItem::StringIndex(index) => write!(text, "StringIndex {index}")?,
+        LocalItem::StringMinimum(minimum) => write!(text, "StringMinimum {minimum}")?,
+        LocalItem::StringMaximum(maximum) => write!(text, "StringMaximum {maximum}")?,
+        LocalItem::Delimiter(delimiter) => write!(text, "Delimiter {delimiter}")?,
+        LocalItem::Reserved { value } => write!(text, "LocalReserved {value:02x}")?,
+    }
+    let prefix = item.prefix();
+    write!(text, " prefix {prefix:02x}")
+}
+
+/// Appends the items that a descriptor is cut into, a line each, or the fault.
+pub fn add_list(alloc: Global, text: &mut String, bytes: &[u8]) -> Result<(), AllocError> {
+    match ReportDescriptorItems::try_from(alloc, bytes) {
+        Ok(items) => {
+            for item in items.as_slice() {
+                let offset = item.offset();
+                write!(text, "{offset} ")?;
+                add_parts(alloc, text, item.item())?;
+            }
+            Ok(())
+        }
+        Err(error) => add_refusal(text, &error),
+    }
+}

@@ -1,0 +1,81 @@
+//! The parts of short and long items.
+use crate::items::{add_item_refusal, add_name};
+use crate::kinds::{add_bytes, add_flag};
+use hidreport::hid::{AnyItem, Item, ItemData, LongItem, ShortItem};
+use std::alloc::{AllocError, Global};
+use std::fmt::Write;
+
+/// Appends a line of an item: its bytes, size, header, tag, whether it is long, its data, and what item it is.
+pub fn add_parts<I: Item>(alloc: Global, text: &mut String, item: &I) -> Result<(), AllocError> {
+    add_bytes(text, item.bytes())?;
+    let size = item.size();
+    let header = item.header();
+    let tag = item.tag();
+    write!(text, " size {size} header {header:02x} tag {tag} ")?;
+    let is_long = item.is_long_item();
+    add_flag(text, (is_long, "long"), (!is_long, "short"))?;
+    match item.data() {
+        Some(bytes) => add_data(alloc, text, &bytes)?,
+        None => text.push_str(" no data")?,
+    }
+    text.push_str(": ")?;
+    add_name(text, &item.item_type())?;
+    text.push_str("\n")
+}
+
+/// Appends data, and the number and the byte that they are, or why they are none.
+fn add_data(alloc: Global, text: &mut String, bytes: &ItemData<'_>) -> Result<(), AllocError> {
+    text.push_str(" data ")?;
+    add_bytes(text, bytes.as_slice())?;
+    text.push_str(" ")?;
+    match bytes.to_u32(alloc) {
+        Ok(number) => write!(text, "{number}")?,
+        Err(error) => add_item_refusal(text, &error)?,
+    }
+    text.push_str(" ")?;
+    match bytes.to_u8(alloc) {
+        Ok(number) => write!(text, "{number}")?,
+        Err(error) => add_item_refusal(text, &error)?,
+    }
+    match bytes.to_vec(alloc) {
+        Ok(copy) if copy.as_slice() == bytes.as_slice() => Ok(()),
+        Ok(_other) => text.push_str(" other bytes"),
+        Err(error) => {
+            text.push_str(" ")?;
+            add_item_refusal(text, &error)
+        }
+    }
+}
+
+/// Appends what the reader of short items makes of a slice.
+pub fn add_short(alloc: Global, text: &mut String, bytes: &[u8]) -> Result<(), AllocError> {
+    match ShortItem::try_from(alloc, bytes) {
+        Ok(item) => add_parts(alloc, text, &item),
+        Err(error) => {
+            add_item_refusal(text, &error)?;
+            text.push_str("\n")
+        }
+    }
+}
+
+/// Appends what the reader of long items makes of a slice.
+pub fn add_long(alloc: Global, text: &mut String, bytes: &[u8]) -> Result<(), AllocError> {
+    match LongItem::try_from(alloc, bytes) {
+        Ok(item) => add_parts(alloc, text, &item),
+        Err(error) => {
+            add_item_refusal(text, &error)?;
+            text.push_str("\n")
+        }
+    }
+}
+
+/// Appends what the reader of items of both forms makes of a slice.
+pub fn add_any(alloc: Global, text: &mut String, bytes: &[u8]) -> Result<(), AllocError> {
+    match AnyItem::try_from(alloc, bytes) {
+        Ok(item) => add_parts(alloc, text, &item),
+        Err(error) => {
+            add_item_refusal(text, &error)?;
+            text.push_str("\n")
+        }
+    }
+}

@@ -1,0 +1,28 @@
+//! What no case can be written for: refused memory, readers and writers that fail, hashes and owners, builders, and
+//! callers that are generic.
+//! Licence: MIT (LICENSE); a port of the Rust crate `hidreport` 0.6.0.
+#![tactic(auto)]
+
+#[cfg(test)]
+mod builder;
+#[cfg(test)]
+mod descriptor_builder;
+#[cfg(test)]
+mod failing;
+pub mod generic;
+#[cfg(test)]
+mod great;
+#[cfg(test)]
+mod memory;
+#[cfg(test)]
+mod mouse;
+#[cfg(test)]
+mod owners;
+#[cfg(test)]
+mod printing;
+#[cfg(test)]
+mod runs;
+#[cfg(test)]
+mod transfers;
+#[cfg(test)]
+mod written;
