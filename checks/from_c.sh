@@ -15,11 +15,11 @@ command -v cc > /dev/null || {
 scratch=$(mktemp -d)
 trap 'rm -rf "$scratch"' EXIT
 kit=$(dirname "$(rt doc)")
-data="$top/crates/hidreport_program/data"
+data="$top/crates/hidreport_main/data"
 
 # The launcher builds the program where it isn't built.
 "$top/hidreport" values "$data/mouse.rdesc" "$data/mouse.report" > "$scratch/mouse"
-program="$top/crates/hidreport_program/out/hidreport_program"
+program="$top/crates/hidreport_main/out/hidreport_main"
 (cd "$top/crates/hidreport_c" && rt lib) > "$scratch/said" 2>&1 || {
     tail -n 20 "$scratch/said" >&2
     echo 'from_c: the static library was not built' >&2

@@ -5,7 +5,7 @@
 set -eu
 
 top=$(cd "$(dirname "$0")/.." && pwd)
-program=${1:-"$top/crates/hidreport_program/out/hidreport_program"}
+program=${1:-"$top/crates/hidreport_main/out/hidreport_main"}
 if [ ! -x "$program" ]; then
     echo "little_memory: no program $program" >&2
     exit 2

@@ -5,7 +5,7 @@ set -eu
 
 top=$(cd "$(dirname "$0")/.." && pwd)
 . "$top/checks/needs.sh"
-crate="$top/crates/hidreport_program"
+crate="$top/crates/hidreport_main"
 mouse="$crate/data/mouse.rdesc"
 report="$crate/data/mouse.report"
 scratch=$(mktemp -d)
@@ -18,7 +18,7 @@ else
         echo 'statuses: ./hidreport shows no values' >&2
         exit 1
     }
-    program="$crate/out/hidreport_program"
+    program="$crate/out/hidreport_main"
 fi
 if [ ! -x "$program" ]; then
     echo "statuses: no program $program" >&2
