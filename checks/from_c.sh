@@ -98,3 +98,4 @@ else
     echo 'from_c: no `cargo` on the path, so the Rust module is left out'
 fi
 echo "from_c: a C program shows the values of a mouse, and $runs answers are those of the program"
+bash "$top/checks/c_cases.sh"

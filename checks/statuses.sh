@@ -1,6 +1,7 @@
 #!/bin/sh
-# The program's statuses and what it prints, from outside: 0, 1 and 2, also where a file, a folder or the output is no good.
-# ./hidreport proves and builds the program first, where it isn't built. The argument, if any, is another program to look at.
+# The program's statuses and what it prints, from outside: 0, 1 and 2, also where a file, a folder or the
+# output is no good. ./hidreport proves and builds the program first, where it isn't built. The argument, if
+# any, is another program to look at.
 set -eu
 
 top=$(cd "$(dirname "$0")/.." && pwd)
@@ -90,6 +91,25 @@ status=0
 judge 'values where a Push keeps globals' 0 "$crate/stdout" out
 shows 'a refused descriptor where a Push keeps globals' 1 'refused: invalid data at offset 0: Insufficient data' values-globals cut "$report"
 shows 'values where a Push keeps globals, of one file' 2 "$usage" values-globals "$mouse"
+# A usage that was used up inside a Push comes back where locals are kept, and doesn't where globals alone are.
+printf '\005\001\011\060\025\000\045\177\165\010\225\001\244\201\002\264\201\002' > used
+shows 'values where the readings differ' 0 'report -- 16
+0..8 variable 00010030 5
+8..16 variable 00010030 251' values used "$report"
+shows 'the same where a Push keeps globals' 1 'refused: invalid data at offset 16: Missing Usages for main item' values-globals used "$report"
+shows 'the same within a limit' 0 'report -- 16
+0..8 variable 00010030 5
+8..16 variable 00010030 251' values-within 2 used "$report"
+shows 'a limit of 0' 1 'refused: budget exceeded at offset 14' values-within 0 "$mouse" "$report"
+shows 'a limit of 0 and no field' 1 'refused: no report' values-within 0 page "$report"
+shows 'one file for both' 0 'report -- 16
+0..8 variable 00010030 5
+8..16 variable 00010031 1' values "$mouse" "$mouse"
+shows 'a file without a name' 2 'fault: open' values '' "$report"
+shows 'a report without a name' 2 'fault: open' values "$mouse" ''
+shows 'an empty word behind others' 2 "$usage" values "$mouse" "$report" ''
+shows 'an empty word before others' 2 "$usage" '' values "$mouse" "$report"
+shows 'an empty word in place of a command' 2 "$usage" '' "$mouse" "$report"
 shows 'items' 0 '0 05 01 UsagePage' items page
 shows 'items of a refused descriptor' 1 'refused: invalid data at offset 0: Insufficient data' items cut
 shows 'items of no bytes' 1 'refused: invalid data at offset 0: Insufficient data' items empty

@@ -2,7 +2,15 @@
 //! Not the Rust crate `hidreport`, which is written in Rust; this one calls what was proved.
 mod sys;
 
-pub use sys::Field;
+pub use sys::{Field, Item};
+
+/// The direction of a report.
+#[derive(Clone, Copy, Debug, PartialEq)]
+pub enum Direction {
+    Input = 0,
+    Output = 1,
+    Feature = 2,
+}
 
 /// Why a descriptor or a report is refused: the status of `include/hidreport.h`, the place of the item, and a text where there is one.
 #[derive(Clone, Debug, PartialEq)]
@@ -24,7 +32,8 @@ fn listed<T: Clone>(empty: T, call: impl Fn(*mut T, usize) -> sys::Answer) -> Re
     }
 }
 
-fn message(descriptor: &[u8]) -> String {
+/// What is wrong with a descriptor; no text where its refusal has none.
+pub fn message(descriptor: &[u8]) -> String {
     // SAFETY: pointers and lengths are those of slices and lists, here and below; a list with no room has length 0.
     let text = listed(0, |text, room| unsafe {
         sys::hidreport_message(descriptor.as_ptr(), descriptor.len(), text, room)
@@ -32,24 +41,74 @@ fn message(descriptor: &[u8]) -> String {
     String::from_utf8_lossy(&text.unwrap_or_default()).into_owned()
 }
 
-/// The fields of the input report that these bytes are of.
-pub fn input_fields(descriptor: &[u8], report: &[u8]) -> Result<Vec<Field>, Refusal> {
+fn refusal(descriptor: &[u8], answer: sys::Answer) -> Refusal {
+    Refusal {
+        status: answer.status,
+        offset: answer.offset,
+        message: message(descriptor),
+    }
+}
+
+/// The fields that a descriptor announces in a direction.
+pub fn describe(descriptor: &[u8], direction: Direction) -> Result<Vec<Field>, Refusal> {
+    listed(Field::default(), |fields, room| unsafe {
+        sys::hidreport_describe(
+            descriptor.as_ptr(),
+            descriptor.len(),
+            direction as u32,
+            fields,
+            room,
+        )
+    })
+    .map_err(|answer| refusal(descriptor, answer))
+}
+
+/// The fields of the report that these bytes are of.
+pub fn find(descriptor: &[u8], direction: Direction, report: &[u8]) -> Result<Vec<Field>, Refusal> {
     listed(Field::default(), |fields, room| unsafe {
         sys::hidreport_find(
             descriptor.as_ptr(),
             descriptor.len(),
-            0,
+            direction as u32,
             report.as_ptr(),
             report.len(),
             fields,
             room,
         )
     })
-    .map_err(|answer| Refusal {
-        status: answer.status,
-        offset: answer.offset,
-        message: message(descriptor),
+    .map_err(|answer| refusal(descriptor, answer))
+}
+
+/// The fields of the input report that these bytes are of.
+pub fn input_fields(descriptor: &[u8], report: &[u8]) -> Result<Vec<Field>, Refusal> {
+    find(descriptor, Direction::Input, report)
+}
+
+/// Where the items of a descriptor stand.
+pub fn items(descriptor: &[u8]) -> Result<Vec<Item>, Refusal> {
+    listed(Item::default(), |items, room| unsafe {
+        sys::hidreport_items(descriptor.as_ptr(), descriptor.len(), items, room)
     })
+    .map_err(|answer| refusal(descriptor, answer))
+}
+
+/// A descriptor written anew, each item in its shortest spelling.
+pub fn rebuild(descriptor: &[u8]) -> Result<Vec<u8>, Refusal> {
+    listed(0, |bytes, room| unsafe {
+        sys::hidreport_rebuild(descriptor.as_ptr(), descriptor.len(), bytes, room)
+    })
+    .map_err(|answer| refusal(descriptor, answer))
+}
+
+/// One value of a field in a report, counted from 0; else the status of the refusal.
+pub fn value(field: &Field, report: &[u8], index: usize) -> Result<i64, u32> {
+    // SAFETY: as above.
+    let value = unsafe { sys::hidreport_value(field, report.as_ptr(), report.len(), index) };
+    if value.status == 0 {
+        Ok(value.number)
+    } else {
+        Err(value.status)
+    }
 }
 
 /// The values of a field in a report.

@@ -66,9 +66,31 @@ pub struct Field {
     pub report_id: u8,
 }
 
+#[repr(C)]
+#[derive(Clone, Copy, Debug, PartialEq)]
+pub struct Value {
+    pub number: i64,
+    pub status: u32,
+}
+
+#[repr(C)]
+#[derive(Clone, Copy, Debug, Default, PartialEq)]
+pub struct Item {
+    pub offset: usize,
+    pub size: usize,
+}
+
 #[link(name = "hidreport_c", kind = "static")]
 #[link(name = "libc_c", kind = "static")]
 extern "C" {
+    pub fn hidreport_describe(
+        descriptor: *const u8,
+        length: usize,
+        direction: u32,
+        fields: *mut Field,
+        room: usize,
+    ) -> Answer;
+
     pub fn hidreport_find(
         descriptor: *const u8,
         length: usize,
@@ -85,6 +107,27 @@ extern "C" {
         text: *mut u8,
         room: usize,
     ) -> Answer;
+
+    pub fn hidreport_items(
+        descriptor: *const u8,
+        length: usize,
+        items: *mut Item,
+        room: usize,
+    ) -> Answer;
+
+    pub fn hidreport_rebuild(
+        descriptor: *const u8,
+        length: usize,
+        bytes: *mut u8,
+        room: usize,
+    ) -> Answer;
+
+    pub fn hidreport_value(
+        field: *const Field,
+        report: *const u8,
+        report_length: usize,
+        index: usize,
+    ) -> Value;
 
     pub fn hidreport_values(
         field: *const Field,

@@ -1,5 +1,6 @@
 -- The reading in which a Push keeps globals and locals: the walk follows it.
-use Rattle.std.proofs.Common.{◌≡◌, ℕ, ◌-◌, ◌<◌, Bool, true, false, cond, List, [], ◌∷◌, ◌++◌, length, take, refl, sym, ap, ◌∙◌, append-nil}
+use Rattle.std.proofs.Common.{◌≡◌, ℕ, ◌-◌, ◌<◌, Bool, true, false, cond, List, [], ◌∷◌, ◌++◌}
+use Rattle.std.proofs.Common.{length, take, refl, sym, ap, ◌∙◌, append-nil}
 use Rattle.hidreport_items.specs.declared.item.ItemType.TheVariants as item
 use Rattle.hidreport_items.specs.declared.global.GlobalItem.TheVariants as global
 use Rattle.hidreport_items.specs.declared.local.LocalItem.{LocalItem}
@@ -8,8 +9,9 @@ use Rattle.hidreport.specs.InForce.{Force, force}
 use Rattle.hidreport.specs.Kinds.{is_push, is_pop}
 use Rattle.hidreport.specs.Parser.Machine.{last_force, next_force}
 use Rattle.hidreport.specs.Visibility.{level}
-use Rattle.hidreport.specs.declared.parser.keeping.Keeping.TheVariants as keepings
-use Rattle.hidreport.proofs.LevelLemmas.{Rests, kept, length-kept, Stepped, plain-step, push-step, pop-step}
+use Rattle.hidreport.specs.declared.parser.push_keeps.PushKeeps.TheVariants as push_keeps
+use Rattle.hidreport.proofs.LevelLemmas.{Rests, kept, length-kept, Stepped, plain-step, push-step}
+use Rattle.hidreport.proofs.LevelLemmas.{pop-step}
 use Rattle.hidreport.proofs.WalkLemmas.{Steps, Follows}
 
 push_is_no_pop : (x : ItemType) → is_push x ≡ true → is_pop x ≡ false
@@ -23,7 +25,8 @@ push_is_no_pop item.Reserved e = cc
 
 -- a Push changes nothing that is in force
 push-force : (f : Force) (x : ItemType) → is_push x ≡ true → next_force f x ≡ f
-push-force f (item.Global global.Push) e = ap (λ (l : List LocalItem). record f { locals = l }) (append-nil f.locals)
+push-force f (item.Global global.Push) e =
+    ap (λ (l : List LocalItem). record f { locals = l }) (append-nil f.locals)
 push-force f (item.Global global.Pop) e = cc
 push-force f (item.Global g) e = cc
 push-force f (item.Main y) e = cc
@@ -32,32 +35,45 @@ push-force f item.Long e = cc
 push-force f item.Reserved e = cc
 
 -- a step with its kinds of items told
-steps-by : (a b : Bool) (items : List ItemType) (k : ℕ) (x : ItemType) (f : Force) (saved : List Force) → is_push x ≡ a → is_pop x ≡ b
+steps-by : (a b : Bool) (items : List ItemType) (k : ℕ) (x : ItemType) (f : Force)
+    (saved : List Force) → is_push x ≡ a → is_pop x ≡ b
     → f ≡ cond b (last_force (force items k) (kept items k)) (next_force (force items k) x)
-    → saved ≡ cond b (take (length (kept items k) - 1) (kept items k)) (cond a (kept items k ++ force items k ∷ []) (kept items k))
-    → Stepped items k f saved → Steps keepings.All (force items) (kept items) items k x
+    → saved ≡ cond b (take (length (kept items k) - 1) (kept items k))
+    (cond a (kept items k ++ force items k ∷ []) (kept items k))
+    → Stepped items k f saved → Steps push_keeps.All (force items) (kept items) items k x
 steps-by a b items k x f saved push pop is keeps stepped = record {
-  in_force_next = stepped.in_force_next ∙ is ∙ ap (λ c. cond c (last_force (force items k) (kept items k)) (next_force (force items k) x)) (sym pop);
+  in_force_next = stepped.in_force_next ∙ is
+      ∙ ap (λ c. cond c (last_force (force items k) (kept items k)) (next_force (force items k) x))
+      (sym pop);
   kept_next = stepped.kept_next ∙ keeps
-      ∙ ap (λ c. cond c (take (length (kept items k) - 1) (kept items k)) (cond a (kept items k ++ force items k ∷ []) (kept items k))) (sym pop)
-      ∙ ap (λ c. cond (is_pop x) (take (length (kept items k) - 1) (kept items k)) (cond c (kept items k ++ force items k ∷ []) (kept items k))) (sym push);
+      ∙ ap (λ c. cond c (take (length (kept items k) - 1) (kept items k))
+      (cond a (kept items k ++ force items k ∷ []) (kept items k))) (sym pop)
+      ∙ ap (λ c. cond (is_pop x) (take (length (kept items k) - 1) (kept items k))
+      (cond c (kept items k ++ force items k ∷ []) (kept items k))) (sym push);
   rests_next = stepped.rests_next;
 }
 
-all-by : (a b : Bool) (items front rest : List ItemType) (x : ItemType) → items ≡ front ++ x ∷ rest → Rests items (length front)
-    → (is_pop x ≡ true → 0 < level items (length front)) → is_push x ≡ a → is_pop x ≡ b → Steps keepings.All (force items) (kept items) items (length front) x
+all-by : (a b : Bool) (items front rest : List ItemType) (x : ItemType) → items ≡ front ++ x ∷ rest
+    → Rests items (length front)
+    → (is_pop x ≡ true → 0 < level items (length front)) → is_push x ≡ a → is_pop x ≡ b
+    → Steps push_keeps.All (force items) (kept items) items (length front) x
 all-by true true items front rest x e rests deep push pop = let no = push_is_no_pop x push in cc
 all-by false true items front rest x e rests deep push pop =
-    steps-by false true items (length front) x _ _ push pop refl refl (pop-step items front rest x e rests push pop (deep pop) (force items (length front)))
+    steps-by false true items (length front) x _ _ push pop refl refl
+    (pop-step items front rest x e rests push pop (deep pop) (force items (length front)))
 all-by true false items front rest x e rests deep push pop =
-    steps-by true false items (length front) x _ _ push pop refl refl (push-step items front rest x e rests push pop (push-force (force items (length front)) x push))
+    steps-by true false items (length front) x _ _ push pop refl refl
+    (push-step items front rest x e rests push pop
+    (push-force (force items (length front)) x push))
 all-by false false items front rest x e rests deep push pop =
-    steps-by false false items (length front) x _ _ push pop refl refl (plain-step items front rest x e rests push pop)
+    steps-by false false items (length front) x _ _ push pop refl refl
+    (plain-step items front rest x e rests push pop)
 
-pub all-follows : (items : List ItemType) → Follows keepings.All (force items) (kept items) items
+pub all-follows : (items : List ItemType) → Follows push_keeps.All (force items) (kept items) items
 all-follows items = record {
   begins = refl;
   empty = refl;
   leveled = length-kept items;
-  goes_on = λ front rest x e rests deep. all-by (is_push x) (is_pop x) items front rest x e rests deep refl refl;
+  goes_on = λ front rest x e rests deep. all-by (is_push x) (is_pop x) items front rest x e rests
+      deep refl refl;
 }

@@ -1,5 +1,6 @@
 -- Bits, sums of bits, and the 32 bits of a signed sum.
-use Rattle.std.proofs.Common.{◌≡◌, ℕ, zero, suc, ◌+◌, ◌-◌, ◌*◌, ◌%◌, ◌^◌, ◌<◌, ◌≤◌, ◌⊎◌, inl, inr, true, cond, nat_lt, List, refl, ap, sym, ◌∙◌, subst, arith, add-one}
+use Rattle.std.proofs.Common.{◌≡◌, ℕ, zero, suc, ◌+◌, ◌-◌, ◌*◌, ◌%◌, ◌^◌, ◌<◌, ◌≤◌, ◌⊎◌, inl, inr}
+use Rattle.std.proofs.Common.{true, cond, nat_lt, List, refl, ap, sym, ◌∙◌, subst, arith, add-one}
 use Rattle.std.specs.Prelude.{pos, negsuc, ◌-ℤ◌}
 use Rattle.std.proofs.Math.Nat.{pow-suc, mul-le-mul_right, two-pow-succ}
 use Rattle.std.proofs.Math.Pow.{pow_mono}
@@ -22,7 +23,9 @@ bit-small bytes n = grind (arith, common_steps)
 pub sum-small : (bytes : List ℕ) (s w : ℕ) → sum_of_bits bytes s w < 2 ^ w
 sum-small bytes s zero = omega arith
 sum-small bytes s (suc w) =
-    subst (λ n. sum_of_bits bytes s w + bit bytes (s + w) * 2 ^ w < 2 ^ n) (add-one w) (bit_added (sum_of_bits bytes s w) (bit bytes (s + w)) w (sum-small bytes s w) (bit-small bytes (s + w)))
+    subst (λ n. sum_of_bits bytes s w + bit bytes (s + w) * 2 ^ w < 2 ^ n) (add-one w)
+    (bit_added (sum_of_bits bytes s w) (bit bytes (s + w)) w (sum-small bytes s w)
+    (bit-small bytes (s + w)))
 
 pub zero-or-one : (b : ℕ) → b < 2 → (b ≡ 0) ⊎ (b ≡ 1)
 zero-or-one zero lt = inl refl
@@ -39,10 +42,12 @@ below-word x (suc p) lt =
 
 -- nothing taken away
 pub plain-word : (x P : ℕ) → as_word (pos x -ℤ pos (0 * P)) ≡ x
-plain-word x P = let none : 0 * P ≡ 0 = omega arith in ap (λ n. as_word (pos x -ℤ pos n)) none ∙ (let e : x + 0 ≡ x = omega arith in e)
+plain-word x P = let none : 0 * P ≡ 0 = omega arith in ap (λ n. as_word (pos x -ℤ pos n)) none
+    ∙ (let e : x + 0 ≡ x = omega arith in e)
 
 -- where the top bit is clear, the value is the sum of all bits
-top-by : (x P b sum : ℕ) → (b ≡ 0) ⊎ (b ≡ 1) → sum ≡ x + b * P → sum < P → sum ≡ as_word (pos x -ℤ pos (b * P))
+top-by : (x P b sum : ℕ) → (b ≡ 0) ⊎ (b ≡ 1) → sum ≡ x + b * P → sum < P
+    → sum ≡ as_word (pos x -ℤ pos (b * P))
 top-by x P b sum (inl p) e small =
     let f : sum ≡ x + 0 * P = e ∙ ap (λ n. x + n * P) p in
     let g : sum ≡ x = omega (arith, f) in
@@ -57,16 +62,22 @@ power-fits w narrow =
     let top : 2 ^ 32 ≡ 4294967296 = refl in
     omega (arith, bound, top)
 
-pub top-clear : (bytes : List ℕ) (first width sum : ℕ) → 0 < width → width ≤ 32 → sum ≡ sum_of_bits bytes first width
-    → sum < 1 * 2 ^ (width - 1) % 18446744073709551616 → sum ≡ as_word (value bytes first width true)
+pub top-clear : (bytes : List ℕ) (first width sum : ℕ) → 0 < width → width ≤ 32
+    → sum ≡ sum_of_bits bytes first width
+    → sum < 1 * 2 ^ (width - 1) % 18446744073709551616
+    → sum ≡ as_word (value bytes first width true)
 top-clear bytes first zero sum some narrow e small = absurd (omega (arith, some))
 top-clear bytes first (suc w) sum some narrow e small =
     let less : suc w - 1 ≡ w = omega arith in
-    let below : sum < 2 ^ w = subst (λ n. sum < n) (ap (λ n. 1 * 2 ^ n % 18446744073709551616) less ∙ power-fits w (omega (arith, narrow))) small in
-    top-by (sum_of_bits bytes first w) (2 ^ w) (bit bytes (first + w)) sum (zero-or-one (bit bytes (first + w)) (bit-small bytes (first + w))) e below
+    let below : sum < 2 ^ w = subst (λ n. sum < n)
+    (ap (λ n. 1 * 2 ^ n % 18446744073709551616) less ∙ power-fits w (omega (arith, narrow)))
+    small in
+    top-by (sum_of_bits bytes first w) (2 ^ w) (bit bytes (first + w)) sum
+    (zero-or-one (bit bytes (first + w)) (bit-small bytes (first + w))) e below
 
 -- where it is set, 2 to the width is taken away
-set-by : (x P b sum : ℕ) → (b ≡ 0) ⊎ (b ≡ 1) → sum ≡ x + b * P → x < P → P ≤ sum → P + P ≤ 4294967296
+set-by : (x P b sum : ℕ) → (b ≡ 0) ⊎ (b ≡ 1) → sum ≡ x + b * P → x < P → P ≤ sum
+    → P + P ≤ 4294967296
     → 4294967296 - (P + P) + sum ≡ as_word (pos x -ℤ pos (b * P))
 set-by x P b sum (inl p) e below large fits =
     let f : sum ≡ x + 0 * P = e ∙ ap (λ n. x + n * P) p in absurd (omega (arith, f, below, large))
@@ -75,11 +86,14 @@ set-by x P b sum (inr p) e below large fits =
     let one : 1 * P ≡ P = omega arith in
     let top : 2 ^ 32 ≡ 4294967296 = refl in
     let g : 4294967296 - (P + P) + sum ≡ 2 ^ 32 - (P - x) = omega (arith, f, below, fits, top) in
-    g ∙ sym (ap (λ n. as_word (pos x -ℤ pos (n * P))) p ∙ ap (λ n. as_word (pos x -ℤ pos n)) one ∙ below-word x P below)
+    g ∙ sym (ap (λ n. as_word (pos x -ℤ pos (n * P))) p ∙ ap (λ n. as_word (pos x -ℤ pos n)) one
+    ∙ below-word x P below)
 
-pub top-set : (bytes : List ℕ) (first width sum : ℕ) → 0 < width → width ≤ 32 → sum ≡ sum_of_bits bytes first width
+pub top-set : (bytes : List ℕ) (first width sum : ℕ) → 0 < width → width ≤ 32
+    → sum ≡ sum_of_bits bytes first width
     → 1 * 2 ^ (width - 1) % 18446744073709551616 ≤ sum
-    → 4294967296 - 1 * 2 ^ width % 18446744073709551616 + sum ≡ as_word (value bytes first width true)
+    → 4294967296 - 1 * 2 ^ width % 18446744073709551616 + sum ≡ as_word
+    (value bytes first width true)
 top-set bytes first zero sum some narrow e large = absurd (omega (arith, some))
 top-set bytes first (suc w) sum some narrow e large =
     let P = 2 ^ w in
@@ -88,6 +102,10 @@ top-set bytes first (suc w) sum some narrow e large =
     let top : 2 ^ 32 ≡ 4294967296 = refl in
     let fits : P + P ≤ 4294967296 = omega (arith, double, bound, top) in
     let less : suc w - 1 ≡ w = omega arith in
-    let reached : P ≤ sum = subst (λ n. n ≤ sum) (ap (λ n. 1 * 2 ^ n % 18446744073709551616) less ∙ power-fits w (omega (arith, narrow))) large in
+    let reached : P ≤ sum = subst (λ n. n ≤ sum)
+    (ap (λ n. 1 * 2 ^ n % 18446744073709551616) less ∙ power-fits w (omega (arith, narrow)))
+    large in
     ap (λ n. 4294967296 - n + sum) (power-fits (suc w) narrow ∙ double)
-    ∙ set-by (sum_of_bits bytes first w) P (bit bytes (first + w)) sum (zero-or-one (bit bytes (first + w)) (bit-small bytes (first + w))) e (sum-small bytes first w) reached fits
+    ∙ set-by (sum_of_bits bytes first w) P (bit bytes (first + w)) sum
+    (zero-or-one (bit bytes (first + w)) (bit-small bytes (first + w))) e
+    (sum-small bytes first w) reached fits

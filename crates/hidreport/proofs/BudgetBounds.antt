@@ -1,5 +1,8 @@
 -- What is announced under a limit weighs no more than it.
-use Rattle.std.proofs.Common.{◌≡◌, ℕ, ◌+◌, ◌-◌, ◌≤◌, Bool, true, false, cond, ◌&&◌, List, [], ◌∷◌, ◌++◌, Option, None, Some, is_some, Result, Ok, Err, refl, sym, ap, ◌∙◌, arith}
+use Rattle.std.proofs.Common.{◌≡◌, ℕ, ◌+◌, ◌-◌, ◌≤◌, Bool, true, false, cond, ◌&&◌, List, [], ◌∷◌}
+use Rattle.std.proofs.Common.{◌++◌, Option, None, Some, IfSome, is_some, Result, Ok, Err, refl}
+use Rattle.std.proofs.Common.{sym, ap}
+use Rattle.std.proofs.Common.{◌∙◌, arith}
 use Rattle.std.specs.Prelude.{nat_lt, sum_by}
 use Rattle.std.proofs.lemmas.Bool.Decides.{nat_tests}
 use Rattle.std.proofs.lemmas.Grind.{common_steps}
@@ -11,74 +14,107 @@ use Rattle.hidreport_items.specs.declared.item.ItemType.{ItemType}
 use Rattle.hidreport_lists.specs.Entry.{Entry}
 use Rattle.hidreport_lists.specs.Itemising.{itemise}
 use Rattle.hidreport_lists.specs.Rebuilt.{items_of}
-use Rattle.hidreport.specs.Budget.{is_faulty_by, meaning_within_by, parse_items_within, parse_within, unless_past}
+use Rattle.hidreport.specs.Budget.{is_faulty_by, meaning_within_by, parse_items_within}
+use Rattle.hidreport.specs.Budget.{parse_within_by, unless_past}
 use Rattle.hidreport.specs.Fields.{fields_of}
-use Rattle.hidreport.specs.InForce.{first_of, force}
+use Rattle.hidreport.specs.InForce.{first_of}
 use Rattle.hidreport.specs.Kinds.{Indexed, Direction, Input, Output, Feature, data_of, goes}
 use Rattle.hidreport.specs.Making.{extent, same_key}
-use Rattle.hidreport.specs.Meaning.{at_offset, meaning, parse, parse_items}
+use Rattle.hidreport.specs.Meaning.{PushReading, at_offset, meaning_by, parse_by, parse_items}
 use Rattle.hidreport.specs.MeaningFault.{MeaningFault, PastBudget}
+use Rattle.hidreport.specs.Options.{parse_limited, reading_of}
 use Rattle.hidreport.specs.Parser.Budget.{past_fault, walk_within, weight_in, weight_made_in}
-use Rattle.hidreport.specs.Parser.Machine.{Held, added_to, adds, fault_in, go_on, key_in, next_held, next_reports, nothing_held, reports_in, start_in, unless_fault}
+use Rattle.hidreport.specs.Parser.Machine.{Held, added_to, adds, fault_in, go_on, key_in, next_held}
+use Rattle.hidreport.specs.Parser.Machine.{next_reports, nothing_held, reports_in, start_in}
+use Rattle.hidreport.specs.Parser.Machine.{unless_fault}
 use Rattle.hidreport.specs.Places.{bits_of}
 use Rattle.hidreport.specs.Records.{DescriptorRecord, FieldRecord, ReportRecord}
-use Rattle.hidreport.specs.declared.parser.keeping.Keeping.TheVariants as keepings
+use Rattle.hidreport.specs.declared.parser.push_keeps.PushKeeps.{PushKeeps}
 use Rattle.hidreport.specs.Weight.{descriptor_weight, field_weight, first_past, report_weight}
 use Rattle.hidreport.proofs.BudgetWalk.{walk-within}
 
 -- fields add their weight to the report that they go to
-added-by : (b : Bool) (id : Option ℕ) (bits : ℕ) (fields : List FieldRecord) (r : ReportRecord) (rs : List ReportRecord) → same_key r.id id ≡ b
-    → sum_by report_weight (added_to id bits fields rs) ≡ sum_by report_weight rs + sum_by field_weight fields
-    → sum_by report_weight (added_to id bits fields (r ∷ rs)) ≡ sum_by report_weight (r ∷ rs) + sum_by field_weight fields
+added-by : (b : Bool) (id : Option ℕ) (bits : ℕ) (fields : List FieldRecord) (r : ReportRecord)
+    (rs : List ReportRecord) → same_key r.id id ≡ b
+    → sum_by report_weight (added_to id bits fields rs) ≡ sum_by report_weight rs + sum_by
+    field_weight fields
+    → sum_by report_weight (added_to id bits fields (r ∷ rs)) ≡ sum_by report_weight (r ∷ rs) +
+    sum_by field_weight fields
 added-by true id bits fields r rs same rest =
-    let longer : ReportRecord = record { id = r.id; size = r.size + bits; fields = r.fields ++ fields } in
-    let step : sum_by report_weight (added_to id bits fields (r ∷ rs)) ≡ sum_by report_weight (longer ∷ rs) = ap (λ b. sum_by report_weight (cond b (longer ∷ rs) (r ∷ added_to id bits fields rs))) same in
-    let here : report_weight longer ≡ report_weight r + sum_by field_weight fields = sum_by-append field_weight r.fields fields in
+    let longer : ReportRecord = record
+    { id = r.id; size = r.size + bits; fields = r.fields ++ fields } in
+    let step : sum_by report_weight (added_to id bits fields (r ∷ rs)) ≡ sum_by report_weight
+    (longer ∷ rs) = ap (λ b. sum_by report_weight
+    (cond b (longer ∷ rs) (r ∷ added_to id bits fields rs))) same in
+    let here : report_weight longer ≡ report_weight r + sum_by field_weight fields =
+    sum_by-append field_weight r.fields fields in
     let new = sum_by-cons report_weight longer rs in
     let old = sum_by-cons report_weight r rs in
     omega (arith, step, here, new, old)
 added-by false id bits fields r rs same rest =
-    let longer : ReportRecord = record { id = r.id; size = r.size + bits; fields = r.fields ++ fields } in
-    let step : sum_by report_weight (added_to id bits fields (r ∷ rs)) ≡ sum_by report_weight (r ∷ added_to id bits fields rs) = ap (λ b. sum_by report_weight (cond b (longer ∷ rs) (r ∷ added_to id bits fields rs))) same in
+    let longer : ReportRecord = record
+    { id = r.id; size = r.size + bits; fields = r.fields ++ fields } in
+    let step : sum_by report_weight (added_to id bits fields (r ∷ rs)) ≡ sum_by report_weight
+    (r ∷ added_to id bits fields rs) =
+    ap (λ b. sum_by report_weight (cond b (longer ∷ rs) (r ∷ added_to id bits fields rs)))
+    same in
     let new = sum_by-cons report_weight r (added_to id bits fields rs) in
     let old = sum_by-cons report_weight r rs in
     omega (arith, step, rest, new, old)
 
-added-weight : (id : Option ℕ) (bits : ℕ) (fields : List FieldRecord) (rs : List ReportRecord) → sum_by report_weight (added_to id bits fields rs) ≡ sum_by report_weight rs + sum_by field_weight fields
+added-weight : (id : Option ℕ) (bits : ℕ) (fields : List FieldRecord) (rs : List ReportRecord)
+    → sum_by report_weight (added_to id bits fields rs) ≡ sum_by report_weight rs + sum_by
+    field_weight fields
 added-weight id bits fields [] = grind (arith, common_steps)
-added-weight id bits fields (r ∷ rs) = added-by (same_key r.id id) id bits fields r rs refl (added-weight id bits fields rs)
+added-weight id bits fields (r ∷ rs) =
+    added-by (same_key r.id id) id bits fields r rs refl (added-weight id bits fields rs)
 
 -- in a direction, the reports weigh at most what the item's fields weigh more
 next-by : (b : Bool) (d : Direction) (h : Held) (x : ItemType) → adds d h x ≡ b
     → sum_by report_weight (next_reports d h x)
-    ≡ sum_by report_weight (reports_in d h.descriptor) + cond b (sum_by field_weight (fields_of h.force h.opened h.fields (start_in d h) (data_of x) (extent h.force))) 0
+    ≡ sum_by report_weight (reports_in d h.descriptor) + cond b
+    (sum_by field_weight (fields_of h.force h.opened h.fields (start_in d h) (data_of x)
+    (extent h.force))) 0
 next-by true d h x is =
     let fields = fields_of h.force h.opened h.fields (start_in d h) (data_of x) (extent h.force) in
-    ap (λ b. sum_by report_weight (cond b (added_to (key_in d h) (bits_of (extent h.force)) fields (reports_in d h.descriptor)) (reports_in d h.descriptor))) is
+    ap (λ b. sum_by report_weight (cond b
+    (added_to (key_in d h) (bits_of (extent h.force)) fields (reports_in d h.descriptor))
+    (reports_in d h.descriptor))) is
     ∙ added-weight (key_in d h) (bits_of (extent h.force)) fields (reports_in d h.descriptor)
 next-by false d h x is =
     let fields = fields_of h.force h.opened h.fields (start_in d h) (data_of x) (extent h.force) in
-    ap (λ b. sum_by report_weight (cond b (added_to (key_in d h) (bits_of (extent h.force)) fields (reports_in d h.descriptor)) (reports_in d h.descriptor))) is
+    ap (λ b. sum_by report_weight (cond b
+    (added_to (key_in d h) (bits_of (extent h.force)) fields (reports_in d h.descriptor))
+    (reports_in d h.descriptor))) is
     ∙ (let e : sum_by report_weight (reports_in d h.descriptor) ≡ sum_by report_weight (reports_in d h.descriptor) + 0 = omega arith in e)
 
 -- the fields go to one direction
 abbrev made_in : Direction → Held → Option (Direction × Flags) → ℕ
-made_in d h o = cond (goes d o && is_some (extent h.force)) (sum_by field_weight (fields_of h.force h.opened h.fields (start_in d h) o (extent h.force))) 0
+made_in d h o = cond (goes d o && is_some (extent h.force))
+    (sum_by field_weight (fields_of h.force h.opened h.fields (start_in d h) o (extent h.force))) 0
 
 part-le : (b : Bool) (n : ℕ) → cond b n 0 ≤ n
 part-le true n = omega arith
 part-le false n = omega arith
 
-one-direction : (h : Held) (o : Option (Direction × Flags)) → made_in Input h o + (made_in Output h o + made_in Feature h o) ≤ weight_made_in h o
+one-direction : (h : Held) (o : Option (Direction × Flags))
+    → made_in Input h o + (made_in Output h o + made_in Feature h o) ≤ weight_made_in h o
 one-direction h None = omega arith
 one-direction h (Some (Input, flags)) =
-    let part = part-le (is_some (extent h.force)) (sum_by field_weight (fields_of h.force h.opened h.fields (start_in Input h) (Some (Input, flags)) (extent h.force))) in omega (arith, part)
+    let part = part-le (is_some (extent h.force))
+    (sum_by field_weight (fields_of h.force h.opened h.fields (start_in Input h)
+    (Some (Input, flags)) (extent h.force))) in omega (arith, part)
 one-direction h (Some (Output, flags)) =
-    let part = part-le (is_some (extent h.force)) (sum_by field_weight (fields_of h.force h.opened h.fields (start_in Output h) (Some (Output, flags)) (extent h.force))) in omega (arith, part)
+    let part = part-le (is_some (extent h.force))
+    (sum_by field_weight (fields_of h.force h.opened h.fields (start_in Output h)
+    (Some (Output, flags)) (extent h.force))) in omega (arith, part)
 one-direction h (Some (Feature, flags)) =
-    let part = part-le (is_some (extent h.force)) (sum_by field_weight (fields_of h.force h.opened h.fields (start_in Feature h) (Some (Feature, flags)) (extent h.force))) in omega (arith, part)
+    let part = part-le (is_some (extent h.force))
+    (sum_by field_weight (fields_of h.force h.opened h.fields (start_in Feature h)
+    (Some (Feature, flags)) (extent h.force))) in omega (arith, part)
 
-next-weight : (h : Held) (x : ItemType) → descriptor_weight (next_held h x).descriptor ≤ descriptor_weight h.descriptor + weight_in h x
+next-weight : (h : Held) (x : ItemType)
+    → descriptor_weight (next_held h x).descriptor ≤ descriptor_weight h.descriptor + weight_in h x
 next-weight h x =
     let i = next-by (adds Input h x) Input h x refl in
     let o = next-by (adds Output h x) Output h x refl in
@@ -90,25 +126,39 @@ abbrev pub Announces : Result DescriptorRecord (ℕ × MeaningFault) → Descrip
 Announces r d = r ≡ Ok d
 
 -- an item where the walk goes on is within what is left
-bounded-by : (o : Option MeaningFault) (b : Bool) (h : Held) (k left : ℕ) (x : ItemType) (xs : List ItemType) (d : DescriptorRecord) → fault_in h x ≡ o → nat_lt left (weight_in h x) ≡ b
+bounded-by : (o : Option MeaningFault) (b : Bool) (h : Held) (k left : ℕ) (x : ItemType)
+    (xs : List ItemType) (d : DescriptorRecord) → fault_in h x ≡ o → nat_lt left (weight_in h x) ≡ b
     → Announces (walk_within (Some left) h k (x ∷ xs)) d
-    → (weight_in h x ≤ left → Announces (walk_within (Some (left - weight_in h x)) (next_held h x) (k + 1) xs) d → descriptor_weight d ≤ descriptor_weight h.descriptor + left)
+    → (weight_in h x ≤ left
+    → Announces (walk_within (Some (left - weight_in h x)) (next_held h x) (k + 1) xs) d
+    → descriptor_weight d ≤ descriptor_weight h.descriptor + left)
     → descriptor_weight d ≤ descriptor_weight h.descriptor + left
 bounded-by (Some f) b h k left x xs d e past is later =
-    let bad : Announces (Err (k, f)) d = sym (ap (λ o. go_on (unless_fault (first_of o (past_fault (nat_lt left (weight_in h x)))) (next_held h x)) k (λ n. walk_within (Some (left - weight_in h x)) n (k + 1) xs)) e) ∙ is in cc
+    let bad : Announces (Err (k, f)) d =
+    sym (ap (λ o. go_on (unless_fault
+    (first_of o (past_fault (nat_lt left (weight_in h x)))) (next_held h x)) k
+    (λ n. walk_within (Some (left - weight_in h x)) n (k + 1) xs)) e) ∙ is in cc
 bounded-by None true h k left x xs d e past is later =
-    let bad : Announces (Err (k, PastBudget)) d = sym (ap (λ o. go_on (unless_fault (first_of o (past_fault (nat_lt left (weight_in h x)))) (next_held h x)) k (λ n. walk_within (Some (left - weight_in h x)) n (k + 1) xs)) e
-    ∙ ap (λ b. go_on (unless_fault (past_fault b) (next_held h x)) k (λ n. walk_within (Some (left - weight_in h x)) n (k + 1) xs)) past) ∙ is in cc
+    let bad : Announces (Err (k, PastBudget)) d =
+    sym (ap (λ o. go_on (unless_fault
+    (first_of o (past_fault (nat_lt left (weight_in h x)))) (next_held h x)) k
+    (λ n. walk_within (Some (left - weight_in h x)) n (k + 1) xs)) e
+    ∙ ap (λ b. go_on (unless_fault (past_fault b) (next_held h x)) k
+    (λ n. walk_within (Some (left - weight_in h x)) n (k + 1) xs)) past) ∙ is in cc
 bounded-by None false h k left x xs d e past is later =
     later (grind (arith, nat_tests))
-    (sym (ap (λ o. go_on (unless_fault (first_of o (past_fault (nat_lt left (weight_in h x)))) (next_held h x)) k (λ n. walk_within (Some (left - weight_in h x)) n (k + 1) xs)) e
-    ∙ ap (λ b. go_on (unless_fault (past_fault b) (next_held h x)) k (λ n. walk_within (Some (left - weight_in h x)) n (k + 1) xs)) past) ∙ is)
+    (sym (ap (λ o. go_on (unless_fault (first_of o (past_fault (nat_lt left (weight_in h x))))
+    (next_held h x)) k (λ n. walk_within (Some (left - weight_in h x)) n (k + 1) xs)) e
+    ∙ ap (λ b. go_on (unless_fault (past_fault b) (next_held h x)) k
+    (λ n. walk_within (Some (left - weight_in h x)) n (k + 1) xs)) past) ∙ is)
 
-bounded-from : (h : Held) (k left : ℕ) (xs : List ItemType) (d : DescriptorRecord) → Announces (walk_within (Some left) h k xs) d
+bounded-from : (h : Held) (k left : ℕ) (xs : List ItemType) (d : DescriptorRecord)
+    → Announces (walk_within (Some left) h k xs) d
     → descriptor_weight d ≤ descriptor_weight h.descriptor + left
 bounded-from h k left [] d is =
     let same : h.descriptor ≡ d = cc in
-    let weighs : descriptor_weight h.descriptor ≡ descriptor_weight d = ap descriptor_weight same in omega (arith, weighs)
+    let weighs : descriptor_weight h.descriptor ≡ descriptor_weight d =
+    ap descriptor_weight same in omega (arith, weighs)
 bounded-from h k left (x ∷ xs) d is =
     bounded-by (fault_in h x) (nat_lt left (weight_in h x)) h k left x xs d refl refl is
     (λ fits rest.
@@ -116,38 +166,67 @@ bounded-from h k left (x ∷ xs) d is =
     let grown = next-weight h x in
     omega (arith, fits, later, grown))
 
-found-ok : (entries : List Entry) (r : Result DescriptorRecord (ℕ × MeaningFault)) (d : DescriptorRecord) → at_offset entries r ≡ Ok d → Announces r d
+found-ok : (entries : List Entry) (r : Result DescriptorRecord (ℕ × MeaningFault))
+    (d : DescriptorRecord) → at_offset entries r ≡ Ok d → Announces r d
 found-ok entries (Ok announced) d e = let same : announced ≡ d = cc in ap Ok same
 found-ok entries (Err first) d e = cc
 
-bounded-items : (limit : ℕ) (r : Result (List Entry) (ℕ × Fault)) (d : DescriptorRecord) → parse_items_within force limit r ≡ Ok d → descriptor_weight d ≤ limit
-bounded-items limit (Ok entries) d e =
-    let bound = bounded-from (nothing_held keepings.All) 0 limit (items_of entries) d (walk-within limit (items_of entries) ∙ found-ok entries (meaning_within_by force limit (items_of entries)) d e) in
-    let none : descriptor_weight (nothing_held keepings.All).descriptor ≡ 0 = omega arith in
+bounded-items : (keeping : PushKeeps) (limit : ℕ) (r : Result (List Entry) (ℕ × Fault))
+    (d : DescriptorRecord) → parse_items_within (reading_of keeping) limit r ≡ Ok d
+    → descriptor_weight d ≤ limit
+bounded-items keeping limit (Ok entries) d e =
+    let bound = bounded-from (nothing_held keeping) 0 limit (items_of entries) d
+    (walk-within keeping limit (items_of entries)
+    ∙ found-ok entries (meaning_within_by (reading_of keeping) limit (items_of entries)) d e) in
+    let none : descriptor_weight (nothing_held keeping).descriptor ≡ 0 = omega arith in
     omega (arith, bound, none)
-bounded-items limit (Err fault) d e = cc
+bounded-items keeping limit (Err fault) d e = cc
 
 -- the reports of a descriptor that is read under a limit
-pub within-bounded : (limit : ℕ) (bytes : List ℕ) (d : DescriptorRecord) → parse_within limit bytes ≡ Ok d → descriptor_weight d ≤ limit
-within-bounded limit [] d e = cc
-within-bounded limit (b ∷ bs) d e = bounded-items limit (itemise item_of (b ∷ bs)) d e
+pub within-bounded : (keeping : PushKeeps) (limit : ℕ) (bytes : List ℕ) (d : DescriptorRecord)
+    → parse_within_by (reading_of keeping) limit bytes ≡ Ok d → descriptor_weight d ≤ limit
+within-bounded keeping limit [] d e = cc
+within-bounded keeping limit (b ∷ bs) d e =
+    bounded-items keeping limit (itemise item_of (b ∷ bs)) d e
 
 -- they are what the plain parse announces
 
-kept-by : (b : Bool) (r : Result DescriptorRecord (ℕ × MeaningFault)) (bad : ℕ × MeaningFault) (d : DescriptorRecord) → Announces (cond b r (Err bad)) d → Announces r d
+kept-by : (b : Bool) (r : Result DescriptorRecord (ℕ × MeaningFault)) (bad : ℕ × MeaningFault)
+    (d : DescriptorRecord) → Announces (cond b r (Err bad)) d → Announces r d
 kept-by true r bad d e = e
 kept-by false r bad d e = cc
 
-plain-of : (o : Option Indexed) (r : Result DescriptorRecord (ℕ × MeaningFault)) (d : DescriptorRecord) → Announces (unless_past o r) d → Announces r d
+plain-of : (o : Option Indexed) (r : Result DescriptorRecord (ℕ × MeaningFault))
+    (d : DescriptorRecord) → Announces (unless_past o r) d → Announces r d
 plain-of None r d e = e
 plain-of (Some p) r d e = kept-by (is_faulty_by p.0 r) r (p.0, PastBudget) d e
 
-plain-items : (limit : ℕ) (r : Result (List Entry) (ℕ × Fault)) (d : DescriptorRecord) → parse_items_within force limit r ≡ Ok d → parse_items force r ≡ Ok d
-plain-items limit (Ok entries) d e =
-    ap (at_offset entries) (plain-of (first_past (force (items_of entries)) limit (items_of entries)) (meaning (items_of entries)) d
-    (found-ok entries (meaning_within_by force limit (items_of entries)) d e))
-plain-items limit (Err fault) d e = cc
+plain-items : (reading : PushReading) (limit : ℕ) (r : Result (List Entry) (ℕ × Fault))
+    (d : DescriptorRecord) → parse_items_within reading limit r ≡ Ok d
+    → parse_items reading r ≡ Ok d
+plain-items reading limit (Ok entries) d e =
+    ap (at_offset entries) (plain-of
+    (first_past (reading (items_of entries)) limit (items_of entries))
+    (meaning_by reading (items_of entries)) d
+    (found-ok entries (meaning_within_by reading limit (items_of entries)) d e))
+plain-items reading limit (Err fault) d e = cc
 
-pub within-plain : (limit : ℕ) (bytes : List ℕ) (d : DescriptorRecord) → parse_within limit bytes ≡ Ok d → parse bytes ≡ Ok d
-within-plain limit [] d e = cc
-within-plain limit (b ∷ bs) d e = plain-items limit (itemise item_of (b ∷ bs)) d e
+pub within-plain : (reading : PushReading) (limit : ℕ) (bytes : List ℕ) (d : DescriptorRecord)
+    → parse_within_by reading limit bytes ≡ Ok d → parse_by reading bytes ≡ Ok d
+within-plain reading limit [] d e = cc
+within-plain reading limit (b ∷ bs) d e =
+    plain-items reading limit (itemise item_of (b ∷ bs)) d e
+
+-- so what is read as it was asked for is the plain parse's, and within the limit
+
+pub limited-plain : (reading : PushReading) (limit : Option ℕ) (bytes : List ℕ)
+    (d : DescriptorRecord) → parse_limited reading limit bytes ≡ Ok d
+    → parse_by reading bytes ≡ Ok d
+limited-plain reading None bytes d e = e
+limited-plain reading (Some limit) bytes d e = within-plain reading limit bytes d e
+
+pub limited-bounded : (keeping : PushKeeps) (limit : Option ℕ) (bytes : List ℕ)
+    (d : DescriptorRecord) → parse_limited (reading_of keeping) limit bytes ≡ Ok d
+    → IfSome limit (λ n. descriptor_weight d ≤ n)
+limited-bounded keeping None bytes d e = tt
+limited-bounded keeping (Some limit) bytes d e = within-bounded keeping limit bytes d e

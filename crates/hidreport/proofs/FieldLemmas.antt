@@ -1,20 +1,28 @@
 -- The fields of an item, one after the other.
-use Rattle.std.proofs.Common.{◌≡◌, ℕ, zero, suc, ◌+◌, ◌-◌, ◌<◌, min, List, [], ◌∷◌, ◌++◌, length, get_or, refl, ap, ◌∙◌, arith}
+use Rattle.std.proofs.Common.{◌≡◌, ℕ, zero, suc, ◌+◌, ◌-◌, ◌<◌, min, List, [], ◌∷◌, ◌++◌, length}
+use Rattle.std.proofs.Common.{get_or, refl, ap, ◌∙◌, arith}
 use Rattle.hidreport.specs.Fields.{each_from, usage_at}
 use Rattle.hidreport.specs.declared.field.usage.Usage.{Usage}
 
 -- one more at the end
-pub each_from-next : {A : Type 0} (f : ℕ → A) (c n : ℕ) → each_from f c (suc n) ≡ each_from f c n ++ f (c + n) ∷ []
+pub each_from-next : {A : Type 0} (f : ℕ → A) (c n : ℕ)
+    → each_from f c (suc n) ≡ each_from f c n ++ f (c + n) ∷ []
 each_from-next f c zero = ap (λ k. f k ∷ []) (let e : c ≡ c + 0 = omega arith in e)
 each_from-next f c (suc n) =
-    ap (λ l. f c ∷ l) (each_from-next f (c + 1) n) ∙ ap (λ k. f c ∷ (each_from f (c + 1) n ++ f k ∷ [])) (let e : c + 1 + n ≡ c + suc n = omega arith in e)
+    ap (λ l. f c ∷ l) (each_from-next f (c + 1) n)
+    ∙ ap (λ k. f c ∷ (each_from f (c + 1) n ++ f k ∷ []))
+    (let e : c + 1 + n ≡ c + suc n = omega arith in e)
 
 -- usage c, or the last one
-pub usage_at-min : (us : List Usage) (c n : ℕ) (d : Usage) → 0 < length us → n ≡ min c (length us - 1) → get_or us n d ≡ usage_at us c
+pub usage_at-min : (us : List Usage) (c n : ℕ) (d : Usage) → 0 < length us
+    → n ≡ min c (length us - 1) → get_or us n d ≡ usage_at us c
 usage_at-min [] c n d some e = absurd (omega arith)
-usage_at-min (u ∷ []) c n d some e = let first : n ≡ 0 = omega arith in ap (λ k. get_or (u ∷ []) k d) first
-usage_at-min (u ∷ v ∷ us) zero n d some e = let first : n ≡ 0 = omega arith in ap (λ k. get_or (u ∷ v ∷ us) k d) first
+usage_at-min (u ∷ []) c n d some e =
+    let first : n ≡ 0 = omega arith in ap (λ k. get_or (u ∷ []) k d) first
+usage_at-min (u ∷ v ∷ us) zero n d some e =
+    let first : n ≡ 0 = omega arith in ap (λ k. get_or (u ∷ v ∷ us) k d) first
 usage_at-min (u ∷ v ∷ us) (suc c) n d some e =
     let later : n ≡ suc (min c (length (v ∷ us) - 1)) = omega arith in
     let more : 0 < length (v ∷ us) = omega arith in
-    ap (λ k. get_or (u ∷ v ∷ us) k d) later ∙ usage_at-min (v ∷ us) c (min c (length (v ∷ us) - 1)) d more refl
+    ap (λ k. get_or (u ∷ v ∷ us) k d) later
+    ∙ usage_at-min (v ∷ us) c (min c (length (v ∷ us) - 1)) d more refl

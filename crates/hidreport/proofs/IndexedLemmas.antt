@@ -1,5 +1,6 @@
 -- Lists of placed items: counted, filtered, cut.
-use Rattle.std.proofs.Common.{◌≡◌, ℕ, zero, suc, ◌+◌, ◌<◌, ◌≤◌, Bool, true, false, cond, ◌&&◌, List, [], ◌∷◌, ◌++◌, length, take, filter, refl, sym, ap, ◌∙◌, subst, arith}
+use Rattle.std.proofs.Common.{◌≡◌, ℕ, zero, suc, ◌+◌, ◌<◌, ◌≤◌, Bool, true, false, cond, ◌&&◌, List}
+use Rattle.std.proofs.Common.{[], ◌∷◌, ◌++◌, length, take, filter, refl, sym, ap, ◌∙◌, subst, arith}
 use Rattle.hidreport_items.specs.declared.item.ItemType.{ItemType}
 use Rattle.hidreport.specs.Kinds.{Indexed}
 use Rattle.hidreport.specs.Visibility.{before}
@@ -16,7 +17,9 @@ length-count_up a (suc n) = let e = length-count_up (a + 1) n in omega arith
 
 pub count_up-next : (a n : ℕ) → count_up a (suc n) ≡ count_up a n ++ (a + n) ∷ []
 count_up-next a zero = ap (λ k. k ∷ []) (let e : a ≡ a + 0 = omega arith in e)
-count_up-next a (suc n) = ap (λ l. a ∷ l) (count_up-next (a + 1) n) ∙ ap (λ k. a ∷ (count_up (a + 1) n ++ k ∷ [])) (let e : a + 1 + n ≡ a + suc n = omega arith in e)
+count_up-next a (suc n) = ap (λ l. a ∷ l) (count_up-next (a + 1) n)
+    ∙ ap (λ k. a ∷ (count_up (a + 1) n ++ k ∷ []))
+    (let e : a + 1 + n ≡ a + suc n = omega arith in e)
 
 pub take-count_up : (m a n : ℕ) → m ≤ n → take m (count_up a n) ≡ count_up a m
 take-count_up zero a n h = refl
@@ -32,21 +35,28 @@ take-all n [] h = take-nil n
 take-all zero (x ∷ xs) h = absurd (omega arith)
 take-all (suc n) (x ∷ xs) h = ap (λ l. x ∷ l) (take-all n xs (omega arith))
 
-filter-both-by : (a b : Bool) (p : Indexed) (xs ys : List Indexed) (r : Indexed → Bool) → xs ≡ filter r ys → r p ≡ b
+filter-both-by : (a b : Bool) (p : Indexed) (xs ys : List Indexed) (r : Indexed → Bool)
+    → xs ≡ filter r ys → r p ≡ b
     → cond (a && b) (p ∷ xs) xs ≡ filter r (cond a (p ∷ ys) ys)
-filter-both-by true true p xs ys r e h = ap (λ l. p ∷ l) e ∙ ap (λ c. cond c (p ∷ filter r ys) (filter r ys)) (sym h)
-filter-both-by true false p xs ys r e h = e ∙ ap (λ c. cond c (p ∷ filter r ys) (filter r ys)) (sym h)
+filter-both-by true true p xs ys r e h = ap (λ l. p ∷ l) e
+    ∙ ap (λ c. cond c (p ∷ filter r ys) (filter r ys)) (sym h)
+filter-both-by true false p xs ys r e h = e
+    ∙ ap (λ c. cond c (p ∷ filter r ys) (filter r ys)) (sym h)
 filter-both-by false b p xs ys r e h = e
 
 -- both tests, one after the other
-pub filter-both : (q r : Indexed → Bool) (xs : List Indexed) → filter (λ p. q p && r p) xs ≡ filter r (filter q xs)
+pub filter-both : (q r : Indexed → Bool) (xs : List Indexed)
+    → filter (λ p. q p && r p) xs ≡ filter r (filter q xs)
 filter-both q r [] = refl
-filter-both q r (x ∷ xs) = filter-both-by (q x) (r x) x (filter (λ p. q p && r p) xs) (filter q xs) r (filter-both q r xs) refl
+filter-both q r (x ∷ xs) = filter-both-by (q x) (r x) x (filter (λ p. q p && r p) xs) (filter q xs)
+    r (filter-both q r xs) refl
 
-pub filter-same-below : (k : ℕ) (p q : Indexed → Bool) → ((x : Indexed) → x.0 < k → p x ≡ q x) → (xs : List Indexed) → AreBelow k xs → filter p xs ≡ filter q xs
+pub filter-same-below : (k : ℕ) (p q : Indexed → Bool) → ((x : Indexed) → x.0 < k → p x ≡ q x)
+    → (xs : List Indexed) → AreBelow k xs → filter p xs ≡ filter q xs
 filter-same-below k p q h [] below = refl
 filter-same-below k p q h (x ∷ xs) below =
-    ap (λ b. cond b (x ∷ filter p xs) (filter p xs)) (h x below.0) ∙ ap (λ l. cond (q x) (x ∷ l) l) (filter-same-below k p q h xs below.1)
+    ap (λ b. cond b (x ∷ filter p xs) (filter p xs)) (h x below.0)
+    ∙ ap (λ l. cond (q x) (x ∷ l) l) (filter-same-below k p q h xs below.1)
 
 pub and_last : (a s d : Bool) → (a && (d && s)) ≡ ((a && s) && d)
 and_last true true true = refl
@@ -64,6 +74,9 @@ and_assoc true b c = refl
 and_assoc false b c = refl
 
 -- the places before k are below k
-pub subst-below : (k : ℕ) (items front rest : List ItemType) → k ≡ length front → items ≡ front ++ rest → AreBelow k (before items k)
+pub subst-below : (k : ℕ) (items front rest : List ItemType) → k ≡ length front
+    → items ≡ front ++ rest → AreBelow k (before items k)
 subst-below k items front rest size e =
-    subst (λ (n : ℕ). AreBelow n (before items n)) (sym size) (subst (AreBelow (length front)) (sym (before-front items front rest e)) (enumerated-below 0 (length front) front (omega arith)))
+    subst (λ (n : ℕ). AreBelow n (before items n)) (sym size)
+    (subst (AreBelow (length front)) (sym (before-front items front rest e))
+    (enumerated-below 0 (length front) front (omega arith)))

@@ -1,15 +1,17 @@
 -- What the journal keeps for open Pushes, behind each change.
-use Rattle.std.proofs.Common.{◌≡◌, ℕ, ◌+◌, ◌-◌, ◌≤◌, List, [], ◌∷◌, ◌++◌, length, take, reverse, refl, sym, ap, ◌∙◌, arith}
+use Rattle.std.proofs.Common.{◌≡◌, ℕ, ◌+◌, ◌-◌, ◌≤◌, List, [], ◌∷◌, ◌++◌, length, take, reverse}
+use Rattle.std.proofs.Common.{refl, sym, ap, ◌∙◌, arith}
 use Rattle.std.proofs.lemmas.Grind.{common_steps}
 use Rattle.std.proofs.lemmas.List.{reverse-append}
 use Rattle.hidreport_items.specs.declared.local.LocalItem.{LocalItem}
 use Rattle.hidreport.specs.InForce.{Force}
 use Rattle.hidreport.specs.Parser.Forces.{Forces, force_of}
-use Rattle.hidreport.specs.Parser.Journal.{Change, Opened, WasGlobals, WasLocals, Fits, IsCounted, noted, undone}
+use Rattle.hidreport.specs.Parser.Journal.{Change, Opened, WasGlobals, WasLocals, Fits, IsCounted}
+use Rattle.hidreport.specs.Parser.Journal.{noted, undone}
 use Rattle.hidreport.specs.Parser.Machine.{brought_back, kept_of, last_force}
 use Rattle.hidreport.specs.declared.parser.globals.Globals.{Globals}
-use Rattle.hidreport.specs.declared.parser.keeping.Keeping.{Keeping}
-use Rattle.hidreport.specs.declared.parser.keeping.Keeping.TheVariants as keepings
+use Rattle.hidreport.specs.declared.parser.push_keeps.PushKeeps.{PushKeeps}
+use Rattle.hidreport.specs.declared.parser.push_keeps.PushKeeps.TheVariants as push_keeps
 use Rattle.hidreport.proofs.DataLemmas.{last_force-end, all-but-last}
 
 take-front : (n : ℕ) (xs ys : List LocalItem) → n ≤ length xs → take n (xs ++ ys) ≡ take n xs
@@ -19,116 +21,160 @@ take-all : (xs : List LocalItem) → take (length xs) xs ≡ xs
 take-all xs = grind (arith, common_steps)
 
 -- where Pushes keep no locals, what they keep is the same whatever the locals
-undone-bare : (cs : List Change) (g : Globals) (ls ms : List LocalItem) → undone keepings.Globals cs g ls ≡ undone keepings.Globals cs g ms
+undone-bare : (cs : List Change) (g : Globals) (ls ms : List LocalItem)
+    → undone push_keeps.Globals cs g ls ≡ undone push_keeps.Globals cs g ms
 undone-bare [] g ls ms = refl
-undone-bare (Opened n ∷ cs) g ls ms = ap (λ (l : List Force). force_of g [] ∷ l) (undone-bare cs g (take n ls) (take n ms))
+undone-bare (Opened n ∷ cs) g ls ms =
+    ap (λ (l : List Force). force_of g [] ∷ l) (undone-bare cs g (take n ls) (take n ms))
 undone-bare (WasGlobals old ∷ cs) g ls ms = undone-bare cs old ls ms
 undone-bare (WasLocals old ∷ cs) g ls ms = refl
 
 -- locals that are added change nothing that is kept
-added-all : (cs : List Change) (g : Globals) (ls more : List LocalItem) → IsCounted cs ls → undone keepings.All cs g (ls ++ more) ≡ undone keepings.All cs g ls
+added-all : (cs : List Change) (g : Globals) (ls more : List LocalItem) → IsCounted cs ls
+    → undone push_keeps.All cs g (ls ++ more) ≡ undone push_keeps.All cs g ls
 added-all [] g ls more f = refl
-added-all (Opened n ∷ cs) g ls more f = ap (λ (l : List LocalItem). force_of g l ∷ undone keepings.All cs g l) (take-front n ls more f.0)
+added-all (Opened n ∷ cs) g ls more f =
+    ap (λ (l : List LocalItem). force_of g l ∷ undone push_keeps.All cs g l)
+    (take-front n ls more f.0)
 added-all (WasGlobals old ∷ cs) g ls more f = added-all cs old ls more f
 added-all (WasLocals old ∷ cs) g ls more f = refl
 
-pub undone-added : (keeping : Keeping) (cs : List Change) (g : Globals) (ls more : List LocalItem) → Fits keeping cs ls → undone keeping cs g (ls ++ more) ≡ undone keeping cs g ls
-undone-added keepings.All cs g ls more f = added-all cs g ls more f
-undone-added keepings.Globals cs g ls more f = undone-bare cs g (ls ++ more) ls
+pub undone-added : (keeping : PushKeeps) (cs : List Change) (g : Globals) (ls more : List LocalItem)
+    → Fits keeping cs ls → undone keeping cs g (ls ++ more) ≡ undone keeping cs g ls
+undone-added push_keeps.All cs g ls more f = added-all cs g ls more f
+undone-added push_keeps.Globals cs g ls more f = undone-bare cs g (ls ++ more) ls
 
 longer : (n : ℕ) (ls more : List LocalItem) → n ≤ length ls → n ≤ length (ls ++ more)
-longer n ls more le = let size : length (ls ++ more) ≡ length ls + length more = grind (arith, common_steps) in omega (arith, le, size)
+longer n ls more le =
+    let size : length (ls ++ more) ≡ length ls + length more =
+    grind (arith, common_steps) in omega (arith, le, size)
 
-counted-same : (cs : List Change) (ls ms : List LocalItem) → ls ≡ ms → IsCounted cs ls → IsCounted cs ms
+counted-same : (cs : List Change) (ls ms : List LocalItem) → ls ≡ ms → IsCounted cs ls
+    → IsCounted cs ms
 counted-same cs ls ms e f = rw (sym e) f
 
-counted-added : (cs : List Change) (ls more : List LocalItem) → IsCounted cs ls → IsCounted cs (ls ++ more)
+counted-added : (cs : List Change) (ls more : List LocalItem) → IsCounted cs ls
+    → IsCounted cs (ls ++ more)
 counted-added [] ls more f = tt
-counted-added (Opened n ∷ cs) ls more f = (longer n ls more f.0, counted-same cs (take n ls) (take n (ls ++ more)) (sym (take-front n ls more f.0)) f.1)
+counted-added (Opened n ∷ cs) ls more f = (
+  longer n ls more f.0,
+  counted-same cs (take n ls) (take n (ls ++ more))
+      (sym (take-front n ls more f.0)) f.1,
+)
 counted-added (WasGlobals old ∷ cs) ls more f = counted-added cs ls more f
 counted-added (WasLocals old ∷ cs) ls more f = f
 
-pub fits-added : (keeping : Keeping) (cs : List Change) (ls more : List LocalItem) → Fits keeping cs ls → Fits keeping cs (ls ++ more)
-fits-added keepings.All cs ls more f = counted-added cs ls more f
-fits-added keepings.Globals cs ls more f = tt
+pub fits-added : (keeping : PushKeeps) (cs : List Change) (ls more : List LocalItem)
+    → Fits keeping cs ls → Fits keeping cs (ls ++ more)
+fits-added push_keeps.All cs ls more f = counted-added cs ls more f
+fits-added push_keeps.Globals cs ls more f = tt
 
 -- globals that are set are brought back
-pub undone-set : (keeping : Keeping) (cs : List Change) (old new : Globals) (ls : List LocalItem) → undone keeping (noted (WasGlobals old) cs) new ls ≡ undone keeping cs old ls
+pub undone-set : (keeping : PushKeeps) (cs : List Change) (old new : Globals) (ls : List LocalItem)
+    → undone keeping (noted (WasGlobals old) cs) new ls ≡ undone keeping cs old ls
 undone-set keeping [] old new ls = refl
 undone-set keeping (c ∷ cs) old new ls = refl
 
-set-all : (cs : List Change) (old : Globals) (ls : List LocalItem) → IsCounted cs ls → IsCounted (noted (WasGlobals old) cs) ls
+set-all : (cs : List Change) (old : Globals) (ls : List LocalItem) → IsCounted cs ls
+    → IsCounted (noted (WasGlobals old) cs) ls
 set-all [] old ls f = tt
 set-all (c ∷ cs) old ls f = f
 
-pub fits-set : (keeping : Keeping) (cs : List Change) (old : Globals) (ls : List LocalItem) → Fits keeping cs ls → Fits keeping (noted (WasGlobals old) cs) ls
-fits-set keepings.All cs old ls f = set-all cs old ls f
-fits-set keepings.Globals cs old ls f = tt
+pub fits-set : (keeping : PushKeeps) (cs : List Change) (old : Globals) (ls : List LocalItem)
+    → Fits keeping cs ls → Fits keeping (noted (WasGlobals old) cs) ls
+fits-set push_keeps.All cs old ls f = set-all cs old ls f
+fits-set push_keeps.Globals cs old ls f = tt
 
 -- so are locals that are ended
-pub undone-ended : (keeping : Keeping) (cs : List Change) (g : Globals) (ls : List LocalItem) → undone keeping (noted (WasLocals ls) cs) g [] ≡ undone keeping cs g ls
+pub undone-ended : (keeping : PushKeeps) (cs : List Change) (g : Globals) (ls : List LocalItem)
+    → undone keeping (noted (WasLocals ls) cs) g [] ≡ undone keeping cs g ls
 undone-ended keeping [] g ls = refl
 undone-ended keeping (c ∷ cs) g ls = refl
 
-ended-all : (cs : List Change) (ls : List LocalItem) → IsCounted cs ls → IsCounted (noted (WasLocals ls) cs) []
+ended-all : (cs : List Change) (ls : List LocalItem) → IsCounted cs ls
+    → IsCounted (noted (WasLocals ls) cs) []
 ended-all [] ls f = tt
 ended-all (c ∷ cs) ls f = f
 
-pub fits-ended : (keeping : Keeping) (cs : List Change) (ls : List LocalItem) → Fits keeping cs ls → Fits keeping (noted (WasLocals ls) cs) []
-fits-ended keepings.All cs ls f = ended-all cs ls f
-fits-ended keepings.Globals cs ls f = tt
+pub fits-ended : (keeping : PushKeeps) (cs : List Change) (ls : List LocalItem) → Fits keeping cs ls
+    → Fits keeping (noted (WasLocals ls) cs) []
+fits-ended push_keeps.All cs ls f = ended-all cs ls f
+fits-ended push_keeps.Globals cs ls f = tt
 
 -- a Push keeps what is in force
-pub undone-pushed : (keeping : Keeping) (cs : List Change) (g : Globals) (ls : List LocalItem) → undone keeping (Opened (length ls) ∷ cs) g ls ≡ kept_of keeping (force_of g ls) ∷ undone keeping cs g ls
-undone-pushed keeping cs g ls = ap (λ (l : List LocalItem). kept_of keeping (force_of g l) ∷ undone keeping cs g l) (take-all ls)
+pub undone-pushed : (keeping : PushKeeps) (cs : List Change) (g : Globals) (ls : List LocalItem)
+    → undone keeping (Opened (length ls) ∷ cs) g ls ≡ kept_of keeping (force_of g ls) ∷ undone
+    keeping cs g ls
+undone-pushed keeping cs g ls =
+    ap (λ (l : List LocalItem). kept_of keeping (force_of g l) ∷ undone keeping cs g l)
+    (take-all ls)
 
-pub fits-pushed : (keeping : Keeping) (cs : List Change) (ls : List LocalItem) → Fits keeping cs ls → Fits keeping (Opened (length ls) ∷ cs) ls
-fits-pushed keepings.All cs ls f = (omega arith, counted-same cs ls (take (length ls) ls) (sym (take-all ls)) f)
-fits-pushed keepings.Globals cs ls f = tt
+pub fits-pushed : (keeping : PushKeeps) (cs : List Change) (ls : List LocalItem) → Fits keeping cs ls
+    → Fits keeping (Opened (length ls) ∷ cs) ls
+fits-pushed push_keeps.All cs ls f =
+    (omega arith, counted-same cs ls (take (length ls) ls) (sym (take-all ls)) f)
+fits-pushed push_keeps.Globals cs ls f = tt
 
 -- a Pop takes back what was noted behind its Push, newest change first
 
 -- where Pushes keep no locals, ended locals are passed over
-pub passed-over : (keeping : Keeping) (cs rest : List Change) (g : Globals) (ls old : List LocalItem) (kept : List Force) → keeping ≡ keepings.Globals → cs ≡ WasLocals old ∷ rest
+pub passed-over : (keeping : PushKeeps) (cs rest : List Change) (g : Globals)
+    (ls old : List LocalItem) (kept : List Force) → keeping ≡ push_keeps.Globals
+    → cs ≡ WasLocals old ∷ rest
     → undone keeping cs g ls ≡ kept → (undone keeping rest g ls ≡ kept) × Fits keeping rest ls
-passed-over keepings.All cs rest g ls old kept is newest same = cc
-passed-over keepings.Globals cs rest g ls old kept is newest same =
-    (undone-bare rest g ls old ∙ ap (λ (l : List Change). undone keepings.Globals l g ls) (sym newest) ∙ same, tt)
+passed-over push_keeps.All cs rest g ls old kept is newest same = cc
+passed-over push_keeps.Globals cs rest g ls old kept is newest same = (
+  undone-bare rest g ls old
+      ∙ ap (λ (l : List Change). undone push_keeps.Globals l g ls) (sym newest) ∙ same,
+  tt,
+)
 
 -- what the Pop brings back, where Pushes keep locals
-pub back-all : (keeping : Keeping) (now f : Force) → keeping ≡ keepings.All → f ≡ brought_back keeping now (kept_of keeping f)
-back-all keepings.All now f is = refl
-back-all keepings.Globals now f is = cc
+pub back-all : (keeping : PushKeeps) (now f : Force) → keeping ≡ push_keeps.All
+    → f ≡ brought_back keeping now (kept_of keeping f)
+back-all push_keeps.All now f is = refl
+back-all push_keeps.Globals now f is = cc
 
 -- and where they don't
-pub back-globals : (keeping : Keeping) (now : Force) (g : Globals) (ls xs : List LocalItem) → keeping ≡ keepings.Globals → ls ≡ now.locals
+pub back-globals : (keeping : PushKeeps) (now : Force) (g : Globals) (ls xs : List LocalItem)
+    → keeping ≡ push_keeps.Globals → ls ≡ now.locals
     → force_of g ls ≡ brought_back keeping now (kept_of keeping (force_of g xs))
-back-globals keepings.All now g ls xs is same = cc
-back-globals keepings.Globals now g ls xs is same = ap (λ (l : List LocalItem). force_of g l) same
+back-globals push_keeps.All now g ls xs is same = cc
+back-globals push_keeps.Globals now g ls xs is same = ap (λ (l : List LocalItem). force_of g l) same
 
-pub same-bare : (keeping : Keeping) (cs : List Change) (g : Globals) (ls ms : List LocalItem) → keeping ≡ keepings.Globals → undone keeping cs g ls ≡ undone keeping cs g ms
-same-bare keepings.All cs g ls ms is = cc
-same-bare keepings.Globals cs g ls ms is = undone-bare cs g ls ms
+pub same-bare : (keeping : PushKeeps) (cs : List Change) (g : Globals) (ls ms : List LocalItem)
+    → keeping ≡ push_keeps.Globals → undone keeping cs g ls ≡ undone keeping cs g ms
+same-bare push_keeps.All cs g ls ms is = cc
+same-bare push_keeps.Globals cs g ls ms is = undone-bare cs g ls ms
 
-abbrev pub forces : Keeping → Force → List Force → Forces
+abbrev pub forces : PushKeeps → Force → List Force → Forces
 forces keeping now kept = record { keeping = keeping; now = now; kept = kept }
 
 -- behind the Push's own note
-pub popped : (old : Forces) (keeping : Keeping) (now back : Force) (cs rest : List Change) (g : Globals) (ls ms : List LocalItem) (n : ℕ) (kept : List Force)
+pub popped : (old : Forces) (keeping : PushKeeps) (now back : Force) (cs rest : List Change)
+    (g : Globals) (ls ms : List LocalItem) (n : ℕ) (kept : List Force)
     → forces keeping now (reverse kept) ≡ old → cs ≡ Opened n ∷ rest → undone keeping cs g ls ≡ kept
-    → back ≡ brought_back keeping now (kept_of keeping (force_of g (take n ls))) → undone keeping rest g ms ≡ undone keeping rest g (take n ls)
+    → back ≡ brought_back keeping now (kept_of keeping (force_of g (take n ls)))
+    → undone keeping rest g ms ≡ undone keeping rest g (take n ls)
     → forces keeping back (reverse (undone keeping rest g ms))
-    ≡ forces old.keeping (brought_back old.keeping old.now (last_force old.now old.kept)) (take (length old.kept - 1) old.kept)
+    ≡ forces old.keeping (brought_back old.keeping old.now (last_force old.now old.kept))
+    (take (length old.kept - 1) old.kept)
 popped old keeping now back cs rest g ls ms n kept is newest same brought bare =
     let f = kept_of keeping (force_of g (take n ls)) in
     let fs = undone keeping rest g (take n ls) in
     let all : reverse fs ++ f ∷ [] ≡ reverse kept =
-    sym (reverse-append (f ∷ []) fs) ∙ ap (λ (l : List Force). reverse l) (ap (λ (l : List Change). undone keeping l g ls) (sym newest) ∙ same) in
+    sym (reverse-append (f ∷ []) fs)
+    ∙ ap (λ (l : List Force). reverse l)
+    (ap (λ (l : List Change). undone keeping l g ls) (sym newest) ∙ same) in
     let after : List Force → Forces =
     λ l. forces keeping (brought_back keeping now (last_force now l)) (take (length l - 1) l) in
     let behind : Forces → Forces =
-    λ o. forces o.keeping (brought_back o.keeping o.now (last_force o.now o.kept)) (take (length o.kept - 1) o.kept) in
+    λ o. forces o.keeping (brought_back o.keeping o.now (last_force o.now o.kept))
+    (take (length o.kept - 1) o.kept) in
     ap (λ (l : List Force). forces keeping back (reverse l)) bare
-    ∙ ap (λ (x : Force). forces keeping x (reverse fs)) (brought ∙ ap (brought_back keeping now) (sym (last_force-end now f (reverse fs))))
-    ∙ ap (λ (l : List Force). forces keeping (brought_back keeping now (last_force now (reverse fs ++ f ∷ []))) l) (sym (all-but-last f (reverse fs)))
+    ∙ ap (λ (x : Force). forces keeping x (reverse fs))
+    (brought ∙ ap (brought_back keeping now) (sym (last_force-end now f (reverse fs))))
+    ∙ ap (λ (l : List Force). forces keeping
+    (brought_back keeping now (last_force now (reverse fs ++ f ∷ []))) l)
+    (sym (all-but-last f (reverse fs)))
     ∙ ap after all ∙ ap behind is

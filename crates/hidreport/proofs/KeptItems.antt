@@ -1,6 +1,9 @@
--- Long items, and those of kinds that the standard keeps for later, are no step of the walk: it is the walk over the kept items.
--- A reserved local item stands among the locals, so what is held is compared without these.
-use Rattle.std.proofs.Common.{◌≡◌, ◌≢◌, ℕ, ◌+◌, ◌-◌, Bool, true, false, cond, List, [], ◌∷◌, ◌++◌, length, take, map, filter, Option, None, Some, option_to_list, Result, Err, refl, sym, ap, ◌∙◌, add-zero, append-nil, append_assoc, arith}
+-- Long items, and those of kinds that the standard keeps for later, are no step of the walk: it is
+-- the walk over the kept items. A reserved local item stands among the locals, so what is held is
+-- compared without these.
+use Rattle.std.proofs.Common.{◌≡◌, ◌≢◌, ℕ, ◌+◌, ◌-◌, Bool, true, false, cond, List, [], ◌∷◌, ◌++◌}
+use Rattle.std.proofs.Common.{length, take, map, filter, Option, None, Some, option_to_list, Result}
+use Rattle.std.proofs.Common.{Err, refl, sym, ap, ◌∙◌, add-zero, append-nil, append_assoc, arith}
 use Rattle.std.proofs.lemmas.Grind.{common_steps}
 use Rattle.std.proofs.lemmas.List.{map-append, take-map, length-map}
 use Rattle.std.proofs.lemmas.List.Elements.{filter-append}
@@ -20,20 +23,31 @@ use Rattle.hidreport_lists.specs.Rebuilt.{items_of, kept, rebuilt, respelled}
 use Rattle.hidreport_lists.proofs.Cuts.{itemise-items}
 use Rattle.hidreport_lists.proofs.Respelling.{are_kept, itemises-again, respelled-items}
 use Rattle.std.specs.Prelude.{◌*◌, ◌||◌, nat_lt, nat_le}
-use Rattle.hidreport.specs.Faults.{Counts, item_fault, data_fault, needed_usages_fault, usage_fault, limit_fault, last_end, id_count}
+use Rattle.hidreport.specs.Faults.{Counts, item_fault, data_fault, needed_usages_fault, usage_fault}
+use Rattle.hidreport.specs.Faults.{limit_fault, last_end, id_count}
 use Rattle.hidreport.specs.Places.{bits_of}
-use Rattle.hidreport.specs.Fields.{field_count, fields_made, fields_of, list_or_none, make_fields, attributes}
+use Rattle.hidreport.specs.Fields.{field_count, fields_made, fields_of, list_or_none, make_fields}
+use Rattle.hidreport.specs.Fields.{attributes}
 use Rattle.hidreport.specs.InForce.{Force, first_of}
-use Rattle.hidreport.specs.Kinds.{Direction, Input, Output, Feature, data_of, is_main, is_pop, is_push, is_end_collection, collection_of, local_of}
+use Rattle.hidreport.specs.Kinds.{Direction, Input, Output, Feature, data_of, is_main, is_pop}
+use Rattle.hidreport.specs.Kinds.{is_push, is_end_collection, collection_of, local_of}
 use Rattle.hidreport.specs.Making.{extent}
-use Rattle.hidreport.specs.Meaning.{PushReading, meaning_by, parse_by, parse_items, at_offset, offset_at, refusal_at}
+use Rattle.hidreport.specs.Meaning.{PushReading, meaning_by, parse_by, parse_items, at_offset}
+use Rattle.hidreport.specs.Meaning.{offset_at, refusal_at}
 use Rattle.hidreport.specs.MeaningFault.{MeaningFault}
 use Rattle.hidreport.specs.Records.{CollectionRecord, ReportRecord}
-use Rattle.hidreport.specs.Usages.{UsageList, usages_of, usages_by, last_local, single_usages, before_usages, on_page, range_usages, as_single, minimum_of, maximum_of}
-use Rattle.hidreport.specs.Parser.Machine.{Held, adds, brought_back, kept_of, added_to, key_in, start_in, start_for, counts_in, fault_in, last_force, next_force, held_force, next_kept, next_held, next_opened, next_reports, new_collection, nothing_held, unless_fault, go_on, walk}
-use Rattle.hidreport.specs.declared.parser.keeping.Keeping.{Keeping}
-use Rattle.hidreport.specs.declared.parser.keeping.Keeping.TheVariants as keepings
-use Rattle.hidreport.proofs.Readings.{reading_of, walk-meaning}
+use Rattle.hidreport.specs.Usages.{UsageList, usages_of, usages_by, last_local, single_usages}
+use Rattle.hidreport.specs.Usages.{before_usages, on_page, range_usages, as_single, minimum_of}
+use Rattle.hidreport.specs.Usages.{maximum_of}
+use Rattle.hidreport.specs.Parser.Machine.{Held, adds, brought_back, kept_of, added_to, key_in}
+use Rattle.hidreport.specs.Parser.Machine.{start_in, start_for, counts_in, fault_in, last_force}
+use Rattle.hidreport.specs.Parser.Machine.{next_force, held_force, next_kept, next_held}
+use Rattle.hidreport.specs.Parser.Machine.{next_opened, next_reports, new_collection, nothing_held}
+use Rattle.hidreport.specs.Parser.Machine.{unless_fault, go_on, walk}
+use Rattle.hidreport.specs.declared.parser.push_keeps.PushKeeps.{PushKeeps}
+use Rattle.hidreport.specs.declared.parser.push_keeps.PushKeeps.TheVariants as push_keeps
+use Rattle.hidreport.specs.Options.{reading_of}
+use Rattle.hidreport.proofs.Readings.{walk-meaning}
 
 -- the local item isn't of the reserved kind
 abbrev pub is_kept_local : LocalItem → Bool
@@ -50,7 +64,8 @@ thin h = record h { force = thin_force h.force; kept = map thin_force h.kept }
 abbrev data_fault_of : Counts → Flags → ℕ × ℕ → Result UsageList MeaningFault → Option MeaningFault
 data_fault_of n flags e u = first_of
     (cond flags.constant None (needed_usages_fault u))
-    (limit_fault (nat_lt last_end (n.start + e.0 * e.1) || nat_lt id_count (n.fields + field_count flags e.1)))
+    (limit_fault (nat_lt last_end (n.start + e.0 * e.1)
+    || nat_lt id_count (n.fields + field_count flags e.1)))
 
 abbrev collections_fault : Counts → Option MeaningFault
 collections_fault n = limit_fault (nat_le id_count n.collections)
@@ -64,21 +79,25 @@ none-second : (o : Option ℕ) → o ≡ first_of o None
 none-second None = refl
 none-second (Some n) = refl
 
-minimum-thin : (xs : List LocalItem) → last_local minimum_of (filter is_kept_local xs) ≡ last_local minimum_of xs
+minimum-thin : (xs : List LocalItem)
+    → last_local minimum_of (filter is_kept_local xs) ≡ last_local minimum_of xs
 minimum-thin [] = refl
 minimum-thin (local.Reserved n ∷ xs) = minimum-thin xs ∙ none-second (last_local minimum_of xs)
 minimum-thin (local.UsageMinimum n ∷ xs) = ap (λ o. first_of o (Some n)) (minimum-thin xs)
 minimum-thin (x ∷ xs) = ap (λ o. first_of o None) (minimum-thin xs)
 
-maximum-thin : (xs : List LocalItem) → last_local maximum_of (filter is_kept_local xs) ≡ last_local maximum_of xs
+maximum-thin : (xs : List LocalItem)
+    → last_local maximum_of (filter is_kept_local xs) ≡ last_local maximum_of xs
 maximum-thin [] = refl
 maximum-thin (local.Reserved n ∷ xs) = maximum-thin xs ∙ none-second (last_local maximum_of xs)
 maximum-thin (local.UsageMaximum n ∷ xs) = ap (λ o. first_of o (Some n)) (maximum-thin xs)
 maximum-thin (x ∷ xs) = ap (λ o. first_of o None) (maximum-thin xs)
 
-single-thin : (page : Option ℕ) (xs : List LocalItem) → single_usages page (filter is_kept_local xs) ≡ single_usages page xs
+single-thin : (page : Option ℕ) (xs : List LocalItem)
+    → single_usages page (filter is_kept_local xs) ≡ single_usages page xs
 single-thin page [] = refl
-single-thin page (local.Usage own id ∷ xs) = ap (before_usages (record { usage_page = own; usage_id = id })) (single-thin page xs)
+single-thin page (local.Usage own id ∷ xs) =
+    ap (before_usages (record { usage_page = own; usage_id = id })) (single-thin page xs)
 single-thin page (local.UsageId id ∷ xs) = ap (on_page page id) (single-thin page xs)
 single-thin page (x ∷ xs) = single-thin page xs
 
@@ -87,16 +106,20 @@ usages-by (Some low) f = ap (λ m. range_usages low m f.usage_page) (maximum-thi
 usages-by None f = ap as_single (single-thin f.usage_page f.locals)
 
 usages-thin : (f : Force) → usages_of (thin_force f) ≡ usages_of f
-usages-thin f = ap (λ o. usages_by o (thin_force f)) (minimum-thin f.locals) ∙ usages-by (last_local minimum_of f.locals) f
+usages-thin f = ap (λ o. usages_by o (thin_force f)) (minimum-thin f.locals)
+    ∙ usages-by (last_local minimum_of f.locals) f
 
 -- the same faults
 
-data-thin : (n : Counts) (f : Force) (flags : Flags) (e : Option (ℕ × ℕ)) → data_fault n (thin_force f) flags e ≡ data_fault n f flags e
+data-thin : (n : Counts) (f : Force) (flags : Flags) (e : Option (ℕ × ℕ))
+    → data_fault n (thin_force f) flags e ≡ data_fault n f flags e
 data-thin n f flags None = refl
 data-thin n f flags (Some e) = ap (λ u. data_fault_of n flags e u) (usages-thin f)
 
-item-thin : (n : Counts) (f : Force) (x : ItemType) → item_fault n (thin_force f) x ≡ item_fault n f x
-item-thin n f (item.Main (main.Collection kind)) = ap (λ u. first_of (usage_fault u) (collections_fault n)) (usages-thin f)
+item-thin : (n : Counts) (f : Force) (x : ItemType)
+    → item_fault n (thin_force f) x ≡ item_fault n f x
+item-thin n f (item.Main (main.Collection kind)) =
+    ap (λ u. first_of (usage_fault u) (collections_fault n)) (usages-thin f)
 item-thin n f (item.Main (main.Input flags)) = data-thin n f flags (extent f)
 item-thin n f (item.Main (main.Output flags)) = data-thin n f flags (extent f)
 item-thin n f (item.Main (main.Feature flags)) = data-thin n f flags (extent f)
@@ -110,90 +133,155 @@ start-thin (Some (Feature, flags)) h = refl
 
 counts-thin : (h : Held) (x : ItemType) → counts_in (thin h) x ≡ counts_in h x
 counts-thin h x =
-    ap (λ (n : ℕ). record { level = n; depth = length h.opened; collections = h.collections; fields = h.fields; start = start_for (data_of x) (thin h) }) (length-map h.kept thin_force)
-    ∙ ap (λ (n : ℕ). record { level = length h.kept; depth = length h.opened; collections = h.collections; fields = h.fields; start = n }) (start-thin (data_of x) h)
+    ap (λ (n : ℕ). record {
+      level = n;
+      depth = length h.opened;
+      collections = h.collections;
+      fields = h.fields;
+      start = start_for (data_of x) (thin h);
+    }) (length-map h.kept thin_force)
+    ∙ ap (λ (n : ℕ). record {
+      level = length h.kept;
+      depth = length h.opened;
+      collections =
+          h.collections;
+      fields = h.fields;
+      start = n;
+    }) (start-thin (data_of x) h)
 
 fault-thin : (h : Held) (x : ItemType) → fault_in (thin h) x ≡ fault_in h x
-fault-thin h x = ap (λ n. item_fault n (thin_force h.force) x) (counts-thin h x) ∙ item-thin (counts_in h x) h.force x
+fault-thin h x = ap (λ n. item_fault n (thin_force h.force) x) (counts-thin h x)
+    ∙ item-thin (counts_in h x) h.force x
 
 -- the same fields and collections
 
-fields-thin : (f : Force) (cs : List CollectionRecord) (id first : ℕ) (o : Option (Direction × Flags)) (e : Option (ℕ × ℕ))
+fields-thin : (f : Force) (cs : List CollectionRecord) (id first : ℕ)
+    (o : Option (Direction × Flags)) (e : Option (ℕ × ℕ))
     → fields_of (thin_force f) cs id first o e ≡ fields_of f cs id first o e
-fields-thin f cs id first (Some x) (Some e) = ap (λ u. make_fields f.report_id id first e x.1 (list_or_none u) (attributes f cs x.0 x.1)) (usages-thin f)
+fields-thin f cs id first (Some x) (Some e) =
+    ap (λ u. make_fields f.report_id id first e x.1 (list_or_none u) (attributes f cs x.0 x.1))
+    (usages-thin f)
 fields-thin f cs id first (Some x) None = refl
 fields-thin f cs id first None e = refl
 
 new-thin : (h : Held) (o : Option CollectionItem) → new_collection (thin h) o ≡ new_collection h o
 new-thin h None = refl
-new-thin h (Some kind) = ap (λ (u : List _). record { id = h.collections; kind = kind; usages = u } ∷ []) (ap (λ u. (list_or_none u).usages) (usages-thin h.force))
+new-thin h (Some kind) = ap (λ (u : List _). record { id = h.collections; kind = kind; usages = u }
+    ∷ []) (ap (λ u. (list_or_none u).usages) (usages-thin h.force))
 
-reports-thin : (d : Direction) (h : Held) (x : ItemType) → next_reports d (thin h) x ≡ next_reports d h x
-reports-thin Input h x = ap (λ l. cond (adds Input h x) (added_to (key_in Input h) (bits_in h) l h.descriptor.input) h.descriptor.input) (fields-thin h.force h.opened h.fields (start_in Input h) (data_of x) (extent h.force))
-reports-thin Output h x = ap (λ l. cond (adds Output h x) (added_to (key_in Output h) (bits_in h) l h.descriptor.output) h.descriptor.output) (fields-thin h.force h.opened h.fields (start_in Output h) (data_of x) (extent h.force))
-reports-thin Feature h x = ap (λ l. cond (adds Feature h x) (added_to (key_in Feature h) (bits_in h) l h.descriptor.feature) h.descriptor.feature) (fields-thin h.force h.opened h.fields (start_in Feature h) (data_of x) (extent h.force))
+reports-thin : (d : Direction) (h : Held) (x : ItemType)
+    → next_reports d (thin h) x ≡ next_reports d h x
+reports-thin Input h x = ap (λ l. cond (adds Input h x)
+    (added_to (key_in Input h) (bits_in h) l h.descriptor.input) h.descriptor.input)
+    (fields-thin h.force h.opened h.fields (start_in Input h) (data_of x) (extent h.force))
+reports-thin Output h x = ap (λ l. cond (adds Output h x)
+    (added_to (key_in Output h) (bits_in h) l h.descriptor.output) h.descriptor.output)
+    (fields-thin h.force h.opened h.fields (start_in Output h) (data_of x) (extent h.force))
+reports-thin Feature h x = ap (λ l. cond (adds Feature h x)
+    (added_to (key_in Feature h) (bits_in h) l h.descriptor.feature) h.descriptor.feature)
+    (fields-thin h.force h.opened h.fields (start_in Feature h) (data_of x) (extent h.force))
 
 -- the same step, for an item that is kept
 
-list-thin : (xs : List LocalItem) (x : ItemType) → is_kept x ≡ true → filter is_kept_local (xs ++ option_to_list (local_of x)) ≡ filter is_kept_local xs ++ option_to_list (local_of x)
+list-thin : (xs : List LocalItem) (x : ItemType) → is_kept x ≡ true
+    → filter is_kept_local (xs ++ option_to_list (local_of x)) ≡ filter is_kept_local xs
+    ++ option_to_list (local_of x)
 list-thin xs (item.Local (local.Reserved n)) e = cc
 list-thin xs (item.Local y) e = filter-append is_kept_local xs (y ∷ [])
 list-thin xs x e = filter-append is_kept_local xs []
 
 locals-by : (b : Bool) (xs : List LocalItem) (x : ItemType) → is_kept x ≡ true
-    → cond b [] (filter is_kept_local xs ++ option_to_list (local_of x)) ≡ filter is_kept_local (cond b [] (xs ++ option_to_list (local_of x)))
+    → cond b [] (filter is_kept_local xs ++ option_to_list (local_of x)) ≡ filter is_kept_local
+    (cond b [] (xs ++ option_to_list (local_of x)))
 locals-by true xs x e = refl
 locals-by false xs x e = sym (list-thin xs x e)
 
-force-thin : (f : Force) (x : ItemType) → is_kept x ≡ true → next_force (thin_force f) x ≡ thin_force (next_force f x)
-force-thin f x e = ap (λ (l : List LocalItem). record (next_force f x) { locals = l }) (locals-by (is_main x) f.locals x e)
+force-thin : (f : Force) (x : ItemType) → is_kept x ≡ true
+    → next_force (thin_force f) x ≡ thin_force (next_force f x)
+force-thin f x e = ap (λ (l : List LocalItem). record (next_force f x) { locals = l })
+    (locals-by (is_main x) f.locals x e)
 
-last-thin : (f : Force) (ts : List Force) → last_force (thin_force f) (map thin_force ts) ≡ thin_force (last_force f ts)
+last-thin : (f : Force) (ts : List Force)
+    → last_force (thin_force f) (map thin_force ts) ≡ thin_force (last_force f ts)
 last-thin f [] = refl
 last-thin f (t ∷ ts) = last-thin t ts
 
 -- what a Pop brings back without reserved local items is what it brings back, without them
-back-thin : (keeping : Keeping) (f g : Force) → brought_back keeping (thin_force f) (thin_force g) ≡ thin_force (brought_back keeping f g)
-back-thin keepings.All f g = refl
-back-thin keepings.Globals f g = refl
+back-thin : (keeping : PushKeeps) (f g : Force)
+    → brought_back keeping (thin_force f) (thin_force g) ≡ thin_force (brought_back keeping f g)
+back-thin push_keeps.All f g = refl
+back-thin push_keeps.Globals f g = refl
 
 -- so is what a Push keeps
-push-thin : (keeping : Keeping) (f : Force) → kept_of keeping (thin_force f) ≡ thin_force (kept_of keeping f)
-push-thin keepings.All f = refl
-push-thin keepings.Globals f = refl
+push-thin : (keeping : PushKeeps) (f : Force)
+    → kept_of keeping (thin_force f) ≡ thin_force (kept_of keeping f)
+push-thin push_keeps.All f = refl
+push-thin push_keeps.Globals f = refl
 
 held-by : (b : Bool) (h : Held) (x : ItemType) → is_kept x ≡ true
-    → cond b (brought_back h.keeping (thin_force h.force) (last_force (thin_force h.force) (map thin_force h.kept))) (next_force (thin_force h.force) x)
-    ≡ thin_force (cond b (brought_back h.keeping h.force (last_force h.force h.kept)) (next_force h.force x))
-held-by true h x e = ap (brought_back h.keeping (thin_force h.force)) (last-thin h.force h.kept) ∙ back-thin h.keeping h.force (last_force h.force h.kept)
+    → cond b (brought_back h.keeping (thin_force h.force)
+    (last_force (thin_force h.force) (map thin_force h.kept)))
+    (next_force (thin_force h.force) x)
+    ≡ thin_force (cond b (brought_back h.keeping h.force (last_force h.force h.kept))
+    (next_force h.force x))
+held-by true h x e = ap (brought_back h.keeping (thin_force h.force)) (last-thin h.force h.kept)
+    ∙ back-thin h.keeping h.force (last_force h.force h.kept)
 held-by false h x e = force-thin h.force x e
 
 abbrev shorter : List Force → List Force
 shorter ts = take (length ts - 1) ts
 
 shorter-thin : (ts : List Force) → shorter (map thin_force ts) ≡ map thin_force (shorter ts)
-shorter-thin ts = ap (λ n. take (n - 1) (map thin_force ts)) (length-map ts thin_force) ∙ take-map thin_force (length ts - 1) ts
+shorter-thin ts = ap (λ n. take (n - 1) (map thin_force ts)) (length-map ts thin_force)
+    ∙ take-map thin_force (length ts - 1) ts
 
-kept-by : (a b : Bool) (keeping : Keeping) (f : Force) (ts : List Force)
-    → cond a (shorter (map thin_force ts)) (cond b (map thin_force ts ++ kept_of keeping (thin_force f) ∷ []) (map thin_force ts))
+kept-by : (a b : Bool) (keeping : PushKeeps) (f : Force) (ts : List Force)
+    → cond a (shorter (map thin_force ts))
+    (cond b (map thin_force ts ++ kept_of keeping (thin_force f) ∷ []) (map thin_force ts))
     ≡ map thin_force (cond a (shorter ts) (cond b (ts ++ kept_of keeping f ∷ []) ts))
 kept-by true b keeping f ts = shorter-thin ts
 kept-by false true keeping f ts =
-    ap (λ (g : Force). map thin_force ts ++ g ∷ []) (push-thin keeping f) ∙ sym (map-append thin_force ts (kept_of keeping f ∷ []))
+    ap (λ (g : Force). map thin_force ts ++ g ∷ []) (push-thin keeping f)
+    ∙ sym (map-append thin_force ts (kept_of keeping f ∷ []))
 kept-by false false keeping f ts = refl
 
-next-thin : (h : Held) (x : ItemType) → is_kept x ≡ true → next_held (thin h) x ≡ thin (next_held h x)
+next-thin : (h : Held) (x : ItemType) → is_kept x ≡ true
+    → next_held (thin h) x ≡ thin (next_held h x)
 next-thin h x e =
-    let made : Force → List Force → List ReportRecord → List ReportRecord → List ReportRecord → List CollectionRecord → ℕ → Held =
-    λ f ts i o t cs n. record { keeping = h.keeping; force = f; kept = ts; descriptor = record { input = i; output = o; feature = t }; fields = h.fields + fields_made (data_of x) (extent h.force); opened = cs; collections = n } in
+    let made : Force → List Force → List ReportRecord → List ReportRecord → List ReportRecord
+    → List CollectionRecord → ℕ → Held =
+    λ f ts i o t cs n. record {
+      keeping = h.keeping;
+      force = f;
+      kept = ts;
+      descriptor =
+          record { input = i; output = o; feature = t };
+      fields =
+          h.fields + fields_made (data_of x) (extent h.force);
+      opened = cs;
+      collections = n;
+    } in
     let t = thin h in
-    ap (λ f. made f (next_kept t x) (next_reports Input t x) (next_reports Output t x) (next_reports Feature t x) (next_opened t x) (h.collections + length (new_collection t (collection_of x)))) (held-by (is_pop x) h x e)
-    ∙ ap (λ ts. made (thin_force (held_force h x)) ts (next_reports Input t x) (next_reports Output t x) (next_reports Feature t x) (next_opened t x) (h.collections + length (new_collection t (collection_of x)))) (kept-by (is_pop x) (is_push x) h.keeping h.force h.kept)
-    ∙ ap (λ i. made (thin_force (held_force h x)) (map thin_force (next_kept h x)) i (next_reports Output t x) (next_reports Feature t x) (next_opened t x) (h.collections + length (new_collection t (collection_of x)))) (reports-thin Input h x)
-    ∙ ap (λ o. made (thin_force (held_force h x)) (map thin_force (next_kept h x)) (next_reports Input h x) o (next_reports Feature t x) (next_opened t x) (h.collections + length (new_collection t (collection_of x)))) (reports-thin Output h x)
-    ∙ ap (λ r. made (thin_force (held_force h x)) (map thin_force (next_kept h x)) (next_reports Input h x) (next_reports Output h x) r (next_opened t x) (h.collections + length (new_collection t (collection_of x)))) (reports-thin Feature h x)
-    ∙ ap (λ c. made (thin_force (held_force h x)) (map thin_force (next_kept h x)) (next_reports Input h x) (next_reports Output h x) (next_reports Feature h x)
-    (cond (is_end_collection x) (take (length h.opened - 1) h.opened) (h.opened ++ c)) (h.collections + length c)) (new-thin h (collection_of x))
+    ap (λ f. made f (next_kept t x) (next_reports Input t x) (next_reports Output t x)
+    (next_reports Feature t x) (next_opened t x)
+    (h.collections + length (new_collection t (collection_of x)))) (held-by (is_pop x) h x e)
+    ∙ ap (λ ts. made (thin_force (held_force h x)) ts (next_reports Input t x)
+    (next_reports Output t x) (next_reports Feature t x) (next_opened t x)
+    (h.collections + length (new_collection t (collection_of x))))
+    (kept-by (is_pop x) (is_push x) h.keeping h.force h.kept)
+    ∙ ap (λ i. made (thin_force (held_force h x)) (map thin_force (next_kept h x)) i
+    (next_reports Output t x) (next_reports Feature t x) (next_opened t x)
+    (h.collections + length (new_collection t (collection_of x)))) (reports-thin Input h x)
+    ∙ ap (λ o. made (thin_force (held_force h x)) (map thin_force (next_kept h x))
+    (next_reports Input h x) o (next_reports Feature t x) (next_opened t x)
+    (h.collections + length (new_collection t (collection_of x)))) (reports-thin Output h x)
+    ∙ ap (λ r. made (thin_force (held_force h x)) (map thin_force (next_kept h x))
+    (next_reports Input h x) (next_reports Output h x) r (next_opened t x)
+    (h.collections + length (new_collection t (collection_of x)))) (reports-thin Feature h x)
+    ∙ ap (λ c. made (thin_force (held_force h x)) (map thin_force (next_kept h x))
+    (next_reports Input h x) (next_reports Output h x) (next_reports Feature h x)
+    (cond (is_end_collection x) (take (length h.opened - 1) h.opened) (h.opened ++ c))
+    (h.collections + length c)) (new-thin h (collection_of x))
 
 -- an item that isn't kept has no fault and changes nothing but reserved locals
 
@@ -207,73 +295,121 @@ not-kept-fault h item.Long e = refl
 not-kept-fault h item.Reserved e = refl
 
 -- what is held with other locals, where nothing else changes
-idle-thin : (h : Held) (locals : List LocalItem) → filter is_kept_local locals ≡ filter is_kept_local h.force.locals
-    → thin (record { keeping = h.keeping; force = record h.force { locals = locals }; kept = h.kept; descriptor = h.descriptor; fields = h.fields + 0; opened = h.opened ++ []; collections = h.collections + 0 }) ≡ thin h
+idle-thin : (h : Held) (locals : List LocalItem)
+    → filter is_kept_local locals ≡ filter is_kept_local h.force.locals
+    → thin (record {
+      keeping = h.keeping;
+      force = record h.force { locals = locals };
+      kept = h.kept;
+      descriptor = h.descriptor;
+      fields = h.fields + 0;
+      opened = h.opened ++ [];
+      collections =
+          h.collections + 0;
+    }) ≡ thin h
 idle-thin h locals e =
     let made : List LocalItem → ℕ → List CollectionRecord → ℕ → Held =
-    λ l n cs m. record { keeping = h.keeping; force = record h.force { locals = l }; kept = map thin_force h.kept; descriptor = h.descriptor; fields = n; opened = cs; collections = m } in
+    λ l n cs m. record {
+      keeping = h.keeping;
+      force = record h.force { locals = l };
+      kept =
+          map thin_force h.kept;
+      descriptor = h.descriptor;
+      fields = n;
+      opened = cs;
+      collections = m;
+    }
+    in
     ap (λ l. made l (h.fields + 0) (h.opened ++ []) (h.collections + 0)) e
-    ∙ ap (λ n. made (filter is_kept_local h.force.locals) n (h.opened ++ []) (h.collections + 0)) (add-zero h.fields)
-    ∙ ap (λ cs. made (filter is_kept_local h.force.locals) h.fields cs (h.collections + 0)) (append-nil h.opened)
-    ∙ ap (λ m. made (filter is_kept_local h.force.locals) h.fields h.opened m) (add-zero h.collections)
+    ∙ ap (λ n. made (filter is_kept_local h.force.locals) n (h.opened ++ []) (h.collections + 0))
+    (add-zero h.fields)
+    ∙ ap (λ cs. made (filter is_kept_local h.force.locals) h.fields cs (h.collections + 0))
+    (append-nil h.opened)
+    ∙ ap (λ m. made (filter is_kept_local h.force.locals) h.fields h.opened m)
+    (add-zero h.collections)
 
 not-kept-thin : (h : Held) (x : ItemType) → is_kept x ≡ false → thin (next_held h x) ≡ thin h
 not-kept-thin h (item.Main y) e = cc
-not-kept-thin h (item.Global global.Reserved) e = idle-thin h (h.force.locals ++ []) (ap (filter is_kept_local) (append-nil h.force.locals))
+not-kept-thin h (item.Global global.Reserved) e =
+    idle-thin h (h.force.locals ++ []) (ap (filter is_kept_local) (append-nil h.force.locals))
 not-kept-thin h (item.Global g) e = cc
 not-kept-thin h (item.Local (local.Reserved n)) e =
-    idle-thin h (h.force.locals ++ local.Reserved n ∷ []) (filter-append is_kept_local h.force.locals (local.Reserved n ∷ []) ∙ append-nil (filter is_kept_local h.force.locals))
+    idle-thin h (h.force.locals ++ local.Reserved n ∷ [])
+    (filter-append is_kept_local h.force.locals (local.Reserved n ∷ [])
+    ∙ append-nil (filter is_kept_local h.force.locals))
 not-kept-thin h (item.Local y) e = cc
-not-kept-thin h item.Long e = idle-thin h (h.force.locals ++ []) (ap (filter is_kept_local) (append-nil h.force.locals))
-not-kept-thin h item.Reserved e = idle-thin h (h.force.locals ++ []) (ap (filter is_kept_local) (append-nil h.force.locals))
+not-kept-thin h item.Long e = idle-thin h (h.force.locals ++ [])
+    (ap (filter is_kept_local) (append-nil h.force.locals))
+not-kept-thin h item.Reserved e =
+    idle-thin h (h.force.locals ++ []) (ap (filter is_kept_local) (append-nil h.force.locals))
 
 -- the walk over all items and that over the kept ones, faults at their own offsets
 
-offset-behind : (front rest : List Entry) (e : Entry) → offset_at (front ++ e ∷ rest) (length front) ≡ e.offset
+offset-behind : (front rest : List Entry) (e : Entry)
+    → offset_at (front ++ e ∷ rest) (length front) ≡ e.offset
 offset-behind [] rest e = refl
 offset-behind (f ∷ front) rest e = offset-behind front rest e
 
 abbrev Walks : List Entry → List Entry → List Entry → Held → Type 0
 Walks front some rest h =
-    at_offset (front ++ rest) (walk h (length front) (items_of rest)) ≡ at_offset (some ++ kept rest) (walk (thin h) (length some) (items_of (kept rest)))
+    at_offset (front ++ rest) (walk h (length front) (items_of rest)) ≡ at_offset
+    (some ++ kept rest) (walk (thin h) (length some) (items_of (kept rest)))
 
 -- the faults of an item at two places
-fault-by : (o : Option MeaningFault) (front some es fs : List Entry) (e : Entry) (h g : Held) → fault_in h e.item ≡ o → fault_in g e.item ≡ o
-    → (o ≡ None → at_offset (front ++ e ∷ es) (walk (next_held h e.item) (length front + 1) (items_of es))
+fault-by : (o : Option MeaningFault) (front some es fs : List Entry) (e : Entry) (h g : Held)
+    → fault_in h e.item ≡ o → fault_in g e.item ≡ o
+    → (o ≡ None → at_offset (front ++ e ∷ es)
+    (walk (next_held h e.item) (length front + 1) (items_of es))
     ≡ at_offset (some ++ e ∷ fs) (walk (next_held g e.item) (length some + 1) (items_of fs)))
-    → at_offset (front ++ e ∷ es) (walk h (length front) (items_of (e ∷ es))) ≡ at_offset (some ++ e ∷ fs) (walk g (length some) (items_of (e ∷ fs)))
+    → at_offset (front ++ e ∷ es) (walk h (length front) (items_of (e ∷ es))) ≡ at_offset
+    (some ++ e ∷ fs) (walk g (length some) (items_of (e ∷ fs)))
 fault-by None front some es fs e h g p q later =
-    ap (λ o. at_offset (front ++ e ∷ es) (go_on (unless_fault o (next_held h e.item)) (length front) (λ n. walk n (length front + 1) (items_of es)))) p
+    ap (λ o. at_offset (front ++ e ∷ es)
+    (go_on (unless_fault o (next_held h e.item)) (length front)
+    (λ n. walk n (length front + 1) (items_of es)))) p
     ∙ later refl
-    ∙ sym (ap (λ o. at_offset (some ++ e ∷ fs) (go_on (unless_fault o (next_held g e.item)) (length some) (λ n. walk n (length some + 1) (items_of fs)))) q)
+    ∙ sym (ap (λ o. at_offset (some ++ e ∷ fs)
+    (go_on (unless_fault o (next_held g e.item)) (length some)
+    (λ n. walk n (length some + 1) (items_of fs)))) q)
 fault-by (Some fault) front some es fs e h g p q later =
-    ap (λ o. at_offset (front ++ e ∷ es) (go_on (unless_fault o (next_held h e.item)) (length front) (λ n. walk n (length front + 1) (items_of es)))) p
+    ap (λ o. at_offset (front ++ e ∷ es)
+    (go_on (unless_fault o (next_held h e.item)) (length front)
+    (λ n. walk n (length front + 1) (items_of es)))) p
     ∙ ap (λ n. Err (refusal_at n fault)) (offset-behind front es e ∙ sym (offset-behind some fs e))
-    ∙ sym (ap (λ o. at_offset (some ++ e ∷ fs) (go_on (unless_fault o (next_held g e.item)) (length some) (λ n. walk n (length some + 1) (items_of fs)))) q)
+    ∙ sym (ap (λ o. at_offset (some ++ e ∷ fs)
+    (go_on (unless_fault o (next_held g e.item)) (length some)
+    (λ n. walk n (length some + 1) (items_of fs)))) q)
 
 -- one entry further on a side
 further : (front es : List Entry) (e : Entry) (h : Held)
-    → at_offset (front ++ e ∷ es) (walk h (length front + 1) (items_of es)) ≡ at_offset ((front ++ e ∷ []) ++ es) (walk h (length (front ++ e ∷ [])) (items_of es))
+    → at_offset (front ++ e ∷ es) (walk h (length front + 1) (items_of es)) ≡ at_offset
+    ((front ++ e ∷ []) ++ es) (walk h (length (front ++ e ∷ [])) (items_of es))
 further front es e h =
     let size : length front + 1 ≡ length (front ++ e ∷ []) = grind (arith, common_steps) in
-    ap (λ l. at_offset l (walk h (length front + 1) (items_of es))) (sym (append_assoc front (e ∷ []) es))
+    ap (λ l. at_offset l (walk h (length front + 1) (items_of es)))
+    (sym (append_assoc front (e ∷ []) es))
     ∙ ap (λ n. at_offset ((front ++ e ∷ []) ++ es) (walk h n (items_of es))) size
 
 walk-by : (b : Bool) (front some es : List Entry) (e : Entry) (h : Held) → is_kept e.item ≡ b
     → ((front some : List Entry) (h : Held) → Walks front some es h)
     → at_offset (front ++ e ∷ es) (walk h (length front) (items_of (e ∷ es)))
-    ≡ at_offset (some ++ cond b (e ∷ kept es) (kept es)) (walk (thin h) (length some) (items_of (cond b (e ∷ kept es) (kept es))))
+    ≡ at_offset (some ++ cond b (e ∷ kept es) (kept es))
+    (walk (thin h) (length some) (items_of (cond b (e ∷ kept es) (kept es))))
 walk-by true front some es e h is later =
     fault-by (fault_in h e.item) front some es (kept es) e h (thin h) refl (fault-thin h e.item)
     (λ faultless. further front es e (next_held h e.item)
     ∙ later (front ++ e ∷ []) (some ++ e ∷ []) (next_held h e.item)
-    ∙ ap (λ n. at_offset ((some ++ e ∷ []) ++ kept es) (walk n (length (some ++ e ∷ [])) (items_of (kept es)))) (sym (next-thin h e.item is))
+    ∙ ap (λ n. at_offset ((some ++ e ∷ []) ++ kept es)
+    (walk n (length (some ++ e ∷ [])) (items_of (kept es)))) (sym (next-thin h e.item is))
     ∙ sym (further some (kept es) e (next_held (thin h) e.item)))
 walk-by false front some es e h is later =
-    ap (λ o. at_offset (front ++ e ∷ es) (go_on (unless_fault o (next_held h e.item)) (length front) (λ n. walk n (length front + 1) (items_of es)))) (not-kept-fault h e.item is)
+    ap (λ o. at_offset (front ++ e ∷ es)
+    (go_on (unless_fault o (next_held h e.item)) (length front)
+    (λ n. walk n (length front + 1) (items_of es)))) (not-kept-fault h e.item is)
     ∙ further front es e (next_held h e.item)
     ∙ later (front ++ e ∷ []) some (next_held h e.item)
-    ∙ ap (λ n. at_offset (some ++ kept es) (walk n (length some) (items_of (kept es)))) (not-kept-thin h e.item is)
+    ∙ ap (λ n. at_offset (some ++ kept es) (walk n (length some) (items_of (kept es))))
+    (not-kept-thin h e.item is)
 
 walk-from : (front some rest : List Entry) (h : Held) → Walks front some rest h
 walk-from front some [] h = refl
@@ -281,30 +417,41 @@ walk-from front some (e ∷ es) h =
     walk-by (is_kept e.item) front some es e h refl (λ f s n. walk-from f s es n)
 
 -- the walk over the kept items gives the same, faults at the offsets of their items
-pub walk-kept : (keeping : Keeping) (entries : List Entry)
-    → at_offset entries (walk (nothing_held keeping) 0 (items_of entries)) ≡ at_offset (kept entries) (walk (nothing_held keeping) 0 (items_of (kept entries)))
+pub walk-kept : (keeping : PushKeeps) (entries : List Entry)
+    → at_offset entries (walk (nothing_held keeping) 0 (items_of entries)) ≡ at_offset
+    (kept entries) (walk (nothing_held keeping) 0 (items_of (kept entries)))
 walk-kept keeping entries = walk-from [] [] entries (nothing_held keeping)
 
-pub meaning-kept : (keeping : Keeping) (entries : List Entry)
-    → at_offset entries (meaning_by (reading_of keeping) (items_of entries)) ≡ at_offset (kept entries) (meaning_by (reading_of keeping) (items_of (kept entries)))
+pub meaning-kept : (keeping : PushKeeps) (entries : List Entry)
+    → at_offset entries (meaning_by (reading_of keeping) (items_of entries)) ≡ at_offset
+    (kept entries) (meaning_by (reading_of keeping) (items_of (kept entries)))
 meaning-kept keeping entries =
     ap (at_offset entries) (sym (walk-meaning keeping (items_of entries)))
     ∙ walk-kept keeping entries
     ∙ ap (at_offset (kept entries)) (walk-meaning keeping (items_of (kept entries)))
 
-parse-items : (reading : PushReading) (bytes : List ℕ) (entries : List Entry) → Itemises item_of bytes entries → parse_by reading bytes ≡ at_offset entries (meaning_by reading (items_of entries))
+parse-items : (reading : PushReading) (bytes : List ℕ) (entries : List Entry)
+    → Itemises item_of bytes entries
+    → parse_by reading bytes ≡ at_offset entries (meaning_by reading (items_of entries))
 parse-items reading [] entries i = absurd (i.some refl)
-parse-items reading (b ∷ bs) entries i = ap (parse_items reading) (itemise-items item_of (b ∷ bs) entries i)
+parse-items reading (b ∷ bs) entries i =
+    ap (parse_items reading) (itemise-items item_of (b ∷ bs) entries i)
 
 -- the bytes of a descriptor are read as their kept items
-pub parse-kept : (keeping : Keeping) (bytes : List ℕ) (entries : List Entry) → Itemises item_of bytes entries
-    → parse_by (reading_of keeping) bytes ≡ at_offset (kept entries) (meaning_by (reading_of keeping) (items_of (kept entries)))
-parse-kept keeping bytes entries i = parse-items (reading_of keeping) bytes entries i ∙ meaning-kept keeping entries
+pub parse-kept : (keeping : PushKeeps) (bytes : List ℕ) (entries : List Entry)
+    → Itemises item_of bytes entries
+    → parse_by (reading_of keeping) bytes ≡ at_offset (kept entries)
+    (meaning_by (reading_of keeping) (items_of (kept entries)))
+parse-kept keeping bytes entries i = parse-items (reading_of keeping) bytes entries i
+    ∙ meaning-kept keeping entries
 
 -- and so are the bytes that are written for these
-pub parse-rebuilt : (reading : PushReading) (bytes : List ℕ) (entries : List Entry) → Itemises item_of bytes entries → rebuilt entries ≢ []
-    → parse_by reading (rebuilt entries) ≡ at_offset (respelled 0 (items_of (kept entries))) (meaning_by reading (items_of (kept entries)))
+pub parse-rebuilt : (reading : PushReading) (bytes : List ℕ) (entries : List Entry)
+    → Itemises item_of bytes entries → rebuilt entries ≢ []
+    → parse_by reading (rebuilt entries) ≡ at_offset (respelled 0 (items_of (kept entries)))
+    (meaning_by reading (items_of (kept entries)))
 parse-rebuilt reading bytes entries i some =
     let xs = items_of (kept entries) in
-    parse-items reading (rebuilt entries) (respelled 0 xs) (itemises-again xs (are_kept entries i.each) some)
+    parse-items reading (rebuilt entries) (respelled 0 xs)
+    (itemises-again xs (are_kept entries i.each) some)
     ∙ ap (λ l. at_offset (respelled 0 xs) (meaning_by reading l)) (respelled-items xs 0)

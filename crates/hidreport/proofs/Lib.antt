@@ -9,6 +9,7 @@ pub mod JournalLemmas
 pub mod KeptItems
 pub mod LevelLemmas
 pub mod OpenLemmas
+pub mod OwnCollections
 pub mod WalkLemmas
 pub mod AllKept
 pub mod GlobalsAlone
@@ -25,6 +26,7 @@ pub mod DataLemmas
 pub mod OwnReports
 pub mod WeightLemmas
 pub mod ParseLemmas
+pub mod RefusalLemmas
 pub mod RangeLemmas
 pub mod ElementLemmas
 pub mod SegmentLemmas

@@ -1,5 +1,8 @@
 -- A segment without main items is as if it weren't there.
-use Rattle.std.proofs.Common.{◌≡◌, ℕ, suc, ◌+◌, ◌-◌, ◌<◌, ◌≤◌, Bool, true, false, cond, nat_lt, List, [], ◌∷◌, ◌++◌, length, take, map, count_by, is_some, Option, None, Some, option_to_list, Result, Ok, Err, refl, sym, ap, ◌∙◌, subst, append-nil, append_assoc, arith}
+use Rattle.std.proofs.Common.{◌≡◌, ℕ, suc, ◌+◌, ◌-◌, ◌<◌, ◌≤◌, Bool, true, false, cond, nat_lt}
+use Rattle.std.proofs.Common.{List, [], ◌∷◌, ◌++◌, length, take, map, count_by, is_some, Option}
+use Rattle.std.proofs.Common.{None, Some, option_to_list, Result, Ok, Err, refl, sym, ap, ◌∙◌}
+use Rattle.std.proofs.Common.{subst, append-nil, append_assoc, arith}
 use Rattle.std.specs.List.{list_any}
 use Rattle.std.proofs.Math.Seq.{take-append-add}
 use Rattle.std.proofs.lemmas.Grind.{common_steps}
@@ -10,30 +13,38 @@ use Rattle.hidreport_items.specs.declared.item.ItemType.TheVariants as item
 use Rattle.hidreport.specs.MeaningFault.{MeaningFault}
 use Rattle.hidreport.specs.InForce.{Force}
 use Rattle.hidreport.specs.Kinds.{is_main, is_push, is_pop, local_of}
-use Rattle.hidreport.specs.Parser.Machine.{Held, brought_back, kept_of, fault_in, step, go_on, last_force, next_force, next_held, nothing_held, unless_fault, walk}
+use Rattle.hidreport.specs.Parser.Machine.{Held, brought_back, kept_of, fault_in, step, go_on}
+use Rattle.hidreport.specs.Parser.Machine.{last_force, next_force, next_held, nothing_held}
+use Rattle.hidreport.specs.Parser.Machine.{unless_fault, walk}
 use Rattle.hidreport_items.specs.Spelling.{item_of}
 use Rattle.hidreport_lists.specs.Entry.{Entry}
 use Rattle.hidreport_lists.specs.Itemising.{itemise}
 use Rattle.hidreport.specs.Meaning.{meaning_by, parse_by, parse_items, at_offset}
 use Rattle.hidreport.specs.Records.{DescriptorRecord}
 use Rattle.hidreport.specs.Segments.{HasNoLocal, IsMatched, with_segment, moved}
-use Rattle.hidreport.specs.declared.parser.keeping.Keeping.{Keeping}
-use Rattle.hidreport.specs.declared.parser.keeping.Keeping.TheVariants as keepings
+use Rattle.hidreport.specs.declared.parser.push_keeps.PushKeeps.{PushKeeps}
+use Rattle.hidreport.specs.declared.parser.push_keeps.PushKeeps.TheVariants as push_keeps
 use Rattle.hidreport.proofs.DataLemmas.{quiet, step-push, step-pop, last_force-end, all-but-last}
 use Rattle.hidreport.proofs.Reports.{or_cases}
-use Rattle.hidreport.proofs.Readings.{reading_of, walk-meaning}
+use Rattle.hidreport.specs.Laws.{Spares}
+use Rattle.hidreport.specs.Options.{reading_of}
+use Rattle.hidreport.proofs.Readings.{walk-meaning}
 
 abbrev pub Answer : Type 0
 Answer = Result DescriptorRecord (ℕ × MeaningFault)
 
-step-ok : (h next : Held) (k : ℕ) (x : ItemType) (xs : List ItemType) → step h x ≡ Ok next → walk h k (x ∷ xs) ≡ walk next (k + 1) xs
+step-ok : (h next : Held) (k : ℕ) (x : ItemType) (xs : List ItemType) → step h x ≡ Ok next
+    → walk h k (x ∷ xs) ≡ walk next (k + 1) xs
 step-ok h next k x xs e = ap (λ r. go_on r k (λ n. walk n (k + 1) xs)) e
 
-moved-by : (r : Result Held MeaningFault) (h : Held) (at n k : ℕ) (x : ItemType) (xs : List ItemType) → step h x ≡ r → at ≤ k
-    → ((next : Held) → moved at n (walk next (k + 1) xs) ≡ walk next (k + 1 + n) xs) → moved at n (walk h k (x ∷ xs)) ≡ walk h (k + n) (x ∷ xs)
+moved-by : (r : Result Held MeaningFault) (h : Held) (at n k : ℕ) (x : ItemType)
+    (xs : List ItemType) → step h x ≡ r → at ≤ k
+    → ((next : Held) → moved at n (walk next (k + 1) xs) ≡ walk next (k + 1 + n) xs)
+    → moved at n (walk h k (x ∷ xs)) ≡ walk h (k + n) (x ∷ xs)
 moved-by (Ok next) h at n k x xs e le rest =
     ap (λ r. moved at n (go_on r k (λ m. walk m (k + 1) xs))) e ∙ rest next
-    ∙ ap (λ p. walk next p xs) (let p : k + 1 + n ≡ k + n + 1 = omega arith in p) ∙ sym (ap (λ r. go_on r (k + n) (λ m. walk m (k + n + 1) xs)) e)
+    ∙ ap (λ p. walk next p xs) (let p : k + 1 + n ≡ k + n + 1 = omega arith in p)
+    ∙ sym (ap (λ r. go_on r (k + n) (λ m. walk m (k + n + 1) xs)) e)
 moved-by (Err f) h at n k x xs e le rest =
     let behind : nat_lt k at ≡ false = grind (arith, common_steps) in
     ap (λ r. moved at n (go_on r k (λ m. walk m (k + 1) xs))) e
@@ -41,50 +52,59 @@ moved-by (Err f) h at n k x xs e le rest =
     ∙ sym (ap (λ r. go_on r (k + n) (λ m. walk m (k + n + 1) xs)) e)
 
 -- faults behind the place move with their items
-moved-behind : (h : Held) (at n k : ℕ) (xs : List ItemType) → at ≤ k → moved at n (walk h k xs) ≡ walk h (k + n) xs
+moved-behind : (h : Held) (at n k : ℕ) (xs : List ItemType) → at ≤ k
+    → moved at n (walk h k xs) ≡ walk h (k + n) xs
 moved-behind h at n k [] le = refl
-moved-behind h at n k (x ∷ xs) le = moved-by (step h x) h at n k x xs refl le (λ next. moved-behind next at n (k + 1) xs (omega (arith, le)))
+moved-behind h at n k (x ∷ xs) le =
+    moved-by (step h x) h at n k x xs refl le
+    (λ next. moved-behind next at n (k + 1) xs (omega (arith, le)))
 
-front-by : (r : Result Held MeaningFault) (h : Held) (n k : ℕ) (x : ItemType) (xs more rest : List ItemType) → step h x ≡ r
-    → ((next : Held) → step h x ≡ Ok next → walk next (k + 1) (xs ++ more) ≡ moved (k + 1 + length xs) n (walk next (k + 1) (xs ++ rest)))
+front-by : (r : Result Held MeaningFault) (h : Held) (n k : ℕ) (x : ItemType)
+    (xs more rest : List ItemType) → step h x ≡ r
+    → ((next : Held) → step h x ≡ Ok next
+    → walk next (k + 1) (xs ++ more) ≡ moved (k + 1 + length xs) n
+    (walk next (k + 1) (xs ++ rest)))
     → walk h k (x ∷ (xs ++ more)) ≡ moved (k + suc (length xs)) n (walk h k (x ∷ (xs ++ rest)))
 front-by (Ok next) h n k x xs more rest e later =
     step-ok h next k x (xs ++ more) e ∙ later next e
-    ∙ ap (λ p. moved p n (walk next (k + 1) (xs ++ rest))) (let p : k + 1 + length xs ≡ k + suc (length xs) = omega arith in p)
+    ∙ ap (λ p. moved p n (walk next (k + 1) (xs ++ rest)))
+    (let p : k + 1 + length xs ≡ k + suc (length xs) = omega arith in p)
     ∙ ap (moved (k + suc (length xs)) n) (sym (step-ok h next k x (xs ++ rest) e))
 front-by (Err f) h n k x xs more rest e later =
     let before : nat_lt k (k + suc (length xs)) ≡ true = grind (arith, common_steps) in
     ap (λ r. go_on r k (λ m. walk m (k + 1) (xs ++ more))) e
-    ∙ sym (ap (λ r. moved (k + suc (length xs)) n (go_on r k (λ m. walk m (k + 1) (xs ++ rest)))) e ∙ ap (λ b. Err (cond b k (k + n), f)) before)
+    ∙ sym (ap (λ r. moved (k + suc (length xs)) n (go_on r k (λ m. walk m (k + 1) (xs ++ rest)))) e
+    ∙ ap (λ b. Err (cond b k (k + n), f)) before)
 
 -- what a Push keeps is the same behind every item
-keeping-by : (o : Option MeaningFault) (h next : Held) (x : ItemType) → unless_fault o (next_held h x) ≡ Ok next → next.keeping ≡ h.keeping
-keeping-by None h next x e = let same : next_held h x ≡ next = cc in ap (λ (g : Held). g.keeping) (sym same)
+keeping-by : (o : Option MeaningFault) (h next : Held) (x : ItemType)
+    → unless_fault o (next_held h x) ≡ Ok next → next.keeping ≡ h.keeping
+keeping-by None h next x e = let same : next_held h x ≡ next = cc in ap (λ (g : Held). g.keeping)
+    (sym same)
 keeping-by (Some fault) h next x e = cc
 
 -- what changes nothing behind a front changes nothing behind more
-front-kept : (keeping : Keeping) (front more rest : List ItemType) (n : ℕ) → ((h : Held) (k : ℕ) → h.keeping ≡ keeping → walk h k more ≡ walk h (k + n) rest)
-    → (h : Held) (k : ℕ) → h.keeping ≡ keeping → walk h k (front ++ more) ≡ moved (k + length front) n (walk h k (front ++ rest))
+front-kept : (keeping : PushKeeps) (front more rest : List ItemType) (n : ℕ)
+    → ((h : Held) (k : ℕ) → h.keeping ≡ keeping → walk h k more ≡ walk h (k + n) rest)
+    → (h : Held) (k : ℕ) → h.keeping ≡ keeping
+    → walk h k (front ++ more) ≡ moved (k + length front) n (walk h k (front ++ rest))
 front-kept keeping [] more rest n same h k is =
     same h k is ∙ sym (moved-behind h (k + 0) n k rest (omega arith))
 front-kept keeping (x ∷ xs) more rest n same h k is =
-    front-by (step h x) h n k x xs more rest refl (λ next e. front-kept keeping xs more rest n same next (k + 1) (keeping-by (fault_in h x) h next x e ∙ is))
+    front-by (step h x) h n k x xs more rest refl
+    (λ next e. front-kept keeping xs more rest n same next (k + 1)
+    (keeping-by (fault_in h x) h next x e ∙ is))
 
 -- what is held inside a segment: other values in force, and more kept
 abbrev pub inside : Held → Force → List Force → Held
 inside h f ts = record h { force = f; kept = (h.kept ++ kept_of h.keeping h.force ∷ []) ++ ts }
 
 -- a Pop brings back what was in force at its Push
-abbrev pub Returns : Keeping → Force → Force → Type 0
+abbrev pub Returns : PushKeeps → Force → Force → Type 0
 Returns keeping f g = brought_back keeping f (kept_of keeping g) ≡ g
 
--- where a Push keeps no locals, no local item is among these
-abbrev pub Spares : Keeping → List ItemType → Type 0
-Spares keepings.All xs = Unit {0}
-Spares keepings.Globals xs = HasNoLocal xs
-
 -- what holds of the items up to the segment's Pop, with so many Pushes open inside it
-pub record Closes (keeping : Keeping) (n : ℕ) (xs : List ItemType) : Type 0 where
+pub record Closes (keeping : PushKeeps) (n : ℕ) (xs : List ItemType) : Type 0 where
   pub spares : Spares keeping xs
   pub idle : list_any is_main xs ≡ false
   pub within : (m : ℕ) → count_by is_pop (take m xs) ≤ n + count_by is_push (take m xs)
@@ -93,10 +113,12 @@ pub record Closes (keeping : Keeping) (n : ℕ) (xs : List ItemType) : Type 0 wh
 abbrev pub one_if : Bool → ℕ
 one_if b = cond b 1 0
 
-count-cons : (p : ItemType → Bool) (x : ItemType) (xs : List ItemType) → count_by p (x ∷ xs) ≡ cond (p x) 1 0 + count_by p xs
+count-cons : (p : ItemType → Bool) (x : ItemType) (xs : List ItemType)
+    → count_by p (x ∷ xs) ≡ cond (p x) 1 0 + count_by p xs
 count-cons p x xs = grind (arith, common_steps)
 
-plain-inside : (h : Held) (x : ItemType) → is_main x ≡ false → is_push x ≡ false → is_pop x ≡ false → step h x ≡ Ok (record h { force = next_force h.force x })
+plain-inside : (h : Held) (x : ItemType) → is_main x ≡ false → is_push x ≡ false → is_pop x ≡ false
+    → step h x ≡ Ok (record h { force = next_force h.force x })
 plain-inside h (item.Main y) a b c = cc
 plain-inside h (item.Global global.Push) a b c = cc
 plain-inside h (item.Global global.Pop) a b c = cc
@@ -123,16 +145,27 @@ is-pop (item.Local y) e = cc
 is-pop item.Long e = cc
 is-pop item.Reserved e = cc
 
-spares-next : (keeping : Keeping) (x : ItemType) (xs : List ItemType) → Spares keeping (x ∷ xs) → Spares keeping xs
-spares-next keepings.All x xs s = tt
-spares-next keepings.Globals x xs s = (or_cases (is_some (local_of x)) (list_any (λ (y : ItemType). is_some (local_of y)) xs) s).1
+spares-next : (keeping : PushKeeps) (x : ItemType) (xs : List ItemType) → Spares keeping (x ∷ xs)
+    → Spares keeping xs
+spares-next push_keeps.All x xs s = tt
+spares-next push_keeps.Globals x xs s =
+    (or_cases (is_some (local_of x)) (list_any (λ (y : ItemType). is_some (local_of y)) xs) s).1
 
 -- the conditions on the rest, behind one item
-closes-next : (keeping : Keeping) (n m : ℕ) (x : ItemType) (xs : List ItemType) → Closes keeping n (x ∷ xs) → m + cond (is_pop x) 1 0 ≡ n + cond (is_push x) 1 0 → Closes keeping m xs
+closes-next : (keeping : PushKeeps) (n m : ℕ) (x : ItemType) (xs : List ItemType)
+    → Closes keeping n (x ∷ xs) → m + cond (is_pop x) 1 0 ≡ n + cond (is_push x) 1 0
+    → Closes keeping m xs
 closes-next keeping n m x xs c e = record {
   spares = spares-next keeping x xs c.spares;
   idle = (or_cases (is_main x) (list_any is_main xs) c.idle).1;
-  within = λ i. omega (arith, c.within (suc i), count-cons is_pop x (take i xs), count-cons is_push x (take i xs), e);
+  within = λ i. omega (
+    arith,
+    c.within (suc i),
+    count-cons is_pop x (take i xs),
+    count-cons is_push
+        x (take i xs),
+    e,
+  );
   closed = omega (arith, c.closed, count-cons is_pop x xs, count-cons is_push x xs, e);
 }
 
@@ -140,120 +173,190 @@ none-left : (ts : List Force) → length ts ≡ 0 → ts ≡ []
 none-left [] e = refl
 none-left (t ∷ ts) e = absurd (omega (arith, e))
 
-take-kept : (base ts : List Force) → 0 < length ts → take (length (base ++ ts) - 1) (base ++ ts) ≡ base ++ take (length ts - 1) ts
+take-kept : (base ts : List Force) → 0 < length ts
+    → take (length (base ++ ts) - 1) (base ++ ts) ≡ base ++ take (length ts - 1) ts
 take-kept base ts some =
     let size : length (base ++ ts) ≡ length base + length ts = grind (arith, common_steps) in
-    ap (λ n. take n (base ++ ts)) (let e : length (base ++ ts) - 1 ≡ length base + (length ts - 1) = omega (arith, size, some) in e) ∙ take-append-add base ts (length ts - 1)
+    ap (λ n. take n (base ++ ts))
+    (let e : length (base ++ ts) - 1 ≡ length base + (length ts - 1) = omega (arith, size, some) in e) ∙ take-append-add base ts (length ts - 1)
 
 length-less : (ts : List Force) → length (take (length ts - 1) ts) ≡ length ts - 1
 length-less ts = grind (arith, common_steps)
 
-same-locals : (ls : List LocalItem) (b : Bool) (o : Option LocalItem) → b ≡ false → is_some o ≡ false → cond b [] (ls ++ option_to_list o) ≡ ls
+same-locals : (ls : List LocalItem) (b : Bool) (o : Option LocalItem) → b ≡ false
+    → is_some o ≡ false → cond b [] (ls ++ option_to_list o) ≡ ls
 same-locals ls b None plain none = ap (λ c. cond c [] (ls ++ [])) plain ∙ append-nil ls
 same-locals ls b (Some x) plain none = cc
 
 -- an item of a segment leaves what comes back
-returns-next : (keeping : Keeping) (f g : Force) (x : ItemType) (xs : List ItemType) → is_main x ≡ false → Spares keeping (x ∷ xs) → Returns keeping f g → Returns keeping (next_force f x) g
-returns-next keepings.All f g x xs plain s r = r
-returns-next keepings.Globals f g x xs plain s r =
-    let none : is_some (local_of x) ≡ false = (or_cases (is_some (local_of x)) (list_any (λ (y : ItemType). is_some (local_of y)) xs) s).0 in
-    ap (λ (l : List LocalItem). record g { locals = l }) (same-locals f.locals (is_main x) (local_of x) plain none) ∙ r
+returns-next : (keeping : PushKeeps) (f g : Force) (x : ItemType) (xs : List ItemType)
+    → is_main x ≡ false → Spares keeping (x ∷ xs) → Returns keeping f g
+    → Returns keeping (next_force f x) g
+returns-next push_keeps.All f g x xs plain s r = r
+returns-next push_keeps.Globals f g x xs plain s r =
+    let none : is_some (local_of x) ≡ false =
+    (or_cases (is_some (local_of x)) (list_any (λ (y : ItemType). is_some (local_of y)) xs)
+    s).0 in
+    ap (λ (l : List LocalItem). record g { locals = l })
+    (same-locals f.locals (is_main x) (local_of x) plain none) ∙ r
 
 -- so does a Pop inside it
-returns-back : (keeping : Keeping) (f g t : Force) → Returns keeping f g → Returns keeping (brought_back keeping f t) g
-returns-back keepings.All f g t r = r
-returns-back keepings.Globals f g t r = r
+returns-back : (keeping : PushKeeps) (f g t : Force) → Returns keeping f g
+    → Returns keeping (brought_back keeping f t) g
+returns-back push_keeps.All f g t r = r
+returns-back push_keeps.Globals f g t r = r
 
-returns-own : (keeping : Keeping) (f : Force) → Returns keeping f f
-returns-own keepings.All f = refl
-returns-own keepings.Globals f = refl
+returns-own : (keeping : PushKeeps) (f : Force) → Returns keeping f f
+returns-own push_keeps.All f = refl
+returns-own push_keeps.Globals f = refl
 
 abbrev pub InsideGoesOn : Held → ℕ → List ItemType → List ItemType → Type 0
-InsideGoesOn h n xs rest = (f : Force) (ts : List Force) (k : ℕ) → length ts ≡ n → Closes h.keeping n xs → Returns h.keeping f h.force → walk (inside h f ts) k (xs ++ (item.Global global.Pop ∷ rest)) ≡ walk h (k + length xs + 1) rest
+InsideGoesOn h n xs rest = (f : Force) (ts : List Force) (k : ℕ) → length ts ≡ n
+    → Closes h.keeping n xs → Returns h.keeping f h.force
+    → walk (inside h f ts) k (xs ++ (item.Global global.Pop ∷ rest)) ≡ walk h (k + length xs + 1)
+    rest
 
-inside-end : (h : Held) (f : Force) (ts : List Force) (k n : ℕ) (rest : List ItemType) → length ts ≡ n → Closes h.keeping n [] → Returns h.keeping f h.force → walk (inside h f ts) k (item.Global global.Pop ∷ rest) ≡ walk h (k + 0 + 1) rest
+inside-end : (h : Held) (f : Force) (ts : List Force) (k n : ℕ) (rest : List ItemType)
+    → length ts ≡ n → Closes h.keeping n [] → Returns h.keeping f h.force
+    → walk (inside h f ts) k (item.Global global.Pop ∷ rest) ≡ walk h (k + 0 + 1) rest
 inside-end h f ts k n rest size c back =
     let none : ts ≡ [] = none-left ts (omega (arith, size, c.closed)) in
     let own = kept_of h.keeping h.force in
     let base = h.kept ++ own ∷ [] in
-    let alone : inside h f ts ≡ record h { force = f; kept = base } = ap (λ (l : List Force). record h { force = f; kept = l }) (ap (λ l. base ++ l) none ∙ append-nil base) in
-    let some : 0 < length base = let s : length base ≡ suc (length h.kept) = grind (arith, common_steps) in omega (arith, s) in
+    let alone : inside h f ts ≡ record h { force = f; kept = base } =
+    ap (λ (l : List Force). record h { force = f; kept = l })
+    (ap (λ l. base ++ l) none ∙ append-nil base) in
+    let some : 0 < length base =
+    let s : length base ≡ suc (length h.kept) =
+    grind (arith, common_steps) in omega (arith, s) in
     let popped : step (record h { force = f; kept = base }) (item.Global global.Pop) ≡ Ok h =
     step-pop (record h { force = f; kept = base }) some
-    ∙ ap (λ (g : Force). Ok (record h { force = brought_back h.keeping f g; kept = take (length base - 1) base })) (last_force-end f own h.kept)
+    ∙ ap (λ (g : Force). Ok (record h
+    { force = brought_back h.keeping f g; kept = take (length base - 1) base }))
+    (last_force-end f own h.kept)
     ∙ ap (λ (g : Force). Ok (record h { force = g; kept = take (length base - 1) base })) back
     ∙ ap (λ (l : List Force). Ok (record h { kept = l })) (all-but-last own h.kept) in
-    ap (λ (g : Held). walk g k (item.Global global.Pop ∷ rest)) alone ∙ step-ok (record h { force = f; kept = base }) h k (item.Global global.Pop) rest popped
+    ap (λ (g : Held). walk g k (item.Global global.Pop ∷ rest)) alone
+    ∙ step-ok (record h { force = f; kept = base }) h k (item.Global global.Pop) rest popped
     ∙ ap (λ p. walk h p rest) (let p : k + 1 ≡ k + 0 + 1 = omega arith in p)
 
-inside-by : (a b : Bool) (h : Held) (f : Force) (ts : List Force) (k n : ℕ) (x : ItemType) (xs rest : List ItemType) → is_push x ≡ a → is_pop x ≡ b → length ts ≡ n → Closes h.keeping n (x ∷ xs) → Returns h.keeping f h.force
-    → ((m : ℕ) → InsideGoesOn h m xs rest) → walk (inside h f ts) k (x ∷ (xs ++ (item.Global global.Pop ∷ rest))) ≡ walk h (k + suc (length xs) + 1) rest
+inside-by : (a b : Bool) (h : Held) (f : Force) (ts : List Force) (k n : ℕ) (x : ItemType)
+    (xs rest : List ItemType) → is_push x ≡ a → is_pop x ≡ b → length ts ≡ n
+    → Closes h.keeping n (x ∷ xs) → Returns h.keeping f h.force
+    → ((m : ℕ) → InsideGoesOn h m xs rest)
+    → walk (inside h f ts) k (x ∷ (xs ++ (item.Global global.Pop ∷ rest))) ≡ walk h
+    (k + suc (length xs) + 1) rest
 inside-by true b h f ts k n x xs rest push pop size c back later =
     let own = kept_of h.keeping h.force in
     let base = h.kept ++ own ∷ [] in
     let no_pop : is_pop x ≡ false = ap is_pop (is-push x push) in
     let stepped : step (inside h f ts) x ≡ Ok (inside h f (ts ++ kept_of h.keeping f ∷ [])) =
-    ap (step (inside h f ts)) (is-push x push) ∙ step-push (inside h f ts) ∙ ap (λ (l : List Force). Ok (record h { force = f; kept = l })) (append_assoc base ts (kept_of h.keeping f ∷ [])) in
-    let longer : length (ts ++ kept_of h.keeping f ∷ []) ≡ suc n = let s : length (ts ++ kept_of h.keeping f ∷ []) ≡ suc (length ts) = grind (arith, common_steps) in omega (arith, s, size) in
-    let next : Closes h.keeping (suc n) xs = closes-next h.keeping n (suc n) x xs c (omega (arith, ap one_if push, ap one_if no_pop)) in
-    step-ok (inside h f ts) (inside h f (ts ++ kept_of h.keeping f ∷ [])) k x (xs ++ (item.Global global.Pop ∷ rest)) stepped
+    ap (step (inside h f ts)) (is-push x push) ∙ step-push (inside h f ts)
+    ∙ ap (λ (l : List Force). Ok (record h { force = f; kept = l }))
+    (append_assoc base ts (kept_of h.keeping f ∷ [])) in
+    let longer : length (ts ++ kept_of h.keeping f ∷ []) ≡ suc n =
+    let s : length (ts ++ kept_of h.keeping f ∷ []) ≡ suc (length ts) =
+    grind (arith, common_steps) in omega (arith, s, size) in
+    let next : Closes h.keeping (suc n) xs =
+    closes-next h.keeping n (suc n) x xs c (omega (arith, ap one_if push, ap one_if no_pop))
+    in
+    step-ok (inside h f ts) (inside h f (ts ++ kept_of h.keeping f ∷ [])) k x
+    (xs ++ (item.Global global.Pop ∷ rest)) stepped
     ∙ later (suc n) f (ts ++ kept_of h.keeping f ∷ []) (k + 1) longer next back
-    ∙ ap (λ p. walk h p rest) (let p : k + 1 + length xs + 1 ≡ k + suc (length xs) + 1 = omega arith in p)
+    ∙ ap (λ p. walk h p rest)
+    (let p : k + 1 + length xs + 1 ≡ k + suc (length xs) + 1 = omega arith in p)
 inside-by false true h f ts k n x xs rest push pop size c back later =
     let own = kept_of h.keeping h.force in
     let base = h.kept ++ own ∷ [] in
-    let open_inside : 0 < n = omega (arith, c.within 1, count-cons is_pop x (take 0 xs), count-cons is_push x (take 0 xs), ap one_if push, ap one_if pop) in
-    let some : 0 < length (base ++ ts) = let s : length (base ++ ts) ≡ length base + length ts = grind (arith, common_steps) in omega (arith, s, size, open_inside) in
+    let open_inside : 0 < n = omega (
+      arith,
+      c.within 1,
+      count-cons is_pop x (take 0 xs),
+      count-cons is_push x (take 0 xs),
+      ap one_if push,
+      ap one_if pop,
+    ) in
+    let some : 0 < length (base ++ ts) =
+    let s : length (base ++ ts) ≡ length base + length ts =
+    grind (arith, common_steps) in omega (arith, s, size, open_inside) in
     let g = brought_back h.keeping f (last_force f (base ++ ts)) in
     let fewer = take (length ts - 1) ts in
     let stepped : step (inside h f ts) x ≡ Ok (inside h g fewer) =
     ap (step (inside h f ts)) (is-pop x pop) ∙ step-pop (inside h f ts) some
-    ∙ ap (λ (l : List Force). Ok (record h { force = g; kept = l })) (take-kept base ts (omega (arith, size, open_inside))) in
+    ∙ ap (λ (l : List Force). Ok (record h { force = g; kept = l }))
+    (take-kept base ts (omega (arith, size, open_inside))) in
     let shorter : length fewer ≡ n - 1 = omega (arith, length-less ts, size) in
-    let next : Closes h.keeping (n - 1) xs = closes-next h.keeping n (n - 1) x xs c (omega (arith, ap one_if push, ap one_if pop, open_inside)) in
+    let next : Closes h.keeping (n - 1) xs =
+    closes-next h.keeping n (n - 1) x xs c
+    (omega (arith, ap one_if push, ap one_if pop, open_inside)) in
     step-ok (inside h f ts) (inside h g fewer) k x (xs ++ (item.Global global.Pop ∷ rest)) stepped
-    ∙ later (n - 1) g fewer (k + 1) shorter next (returns-back h.keeping f h.force (last_force f (base ++ ts)) back)
-    ∙ ap (λ p. walk h p rest) (let p : k + 1 + length xs + 1 ≡ k + suc (length xs) + 1 = omega arith in p)
+    ∙ later (n - 1) g fewer (k + 1) shorter next
+    (returns-back h.keeping f h.force (last_force f (base ++ ts)) back)
+    ∙ ap (λ p. walk h p rest)
+    (let p : k + 1 + length xs + 1 ≡ k + suc (length xs) + 1 = omega arith in p)
 inside-by false false h f ts k n x xs rest push pop size c back later =
     let plain : is_main x ≡ false = (or_cases (is_main x) (list_any is_main xs) c.idle).0 in
-    let next : Closes h.keeping n xs = closes-next h.keeping n n x xs c (omega (arith, ap one_if push, ap one_if pop)) in
-    step-ok (inside h f ts) (inside h (next_force f x) ts) k x (xs ++ (item.Global global.Pop ∷ rest)) (plain-inside (inside h f ts) x plain push pop)
-    ∙ later n (next_force f x) ts (k + 1) size next (returns-next h.keeping f h.force x xs plain c.spares back)
-    ∙ ap (λ p. walk h p rest) (let p : k + 1 + length xs + 1 ≡ k + suc (length xs) + 1 = omega arith in p)
+    let next : Closes h.keeping n xs =
+    closes-next h.keeping n n x xs c (omega (arith, ap one_if push, ap one_if pop)) in
+    step-ok (inside h f ts) (inside h (next_force f x) ts) k x
+    (xs ++ (item.Global global.Pop ∷ rest)) (plain-inside (inside h f ts) x plain push pop)
+    ∙ later n (next_force f x) ts (k + 1) size next
+    (returns-next h.keeping f h.force x xs plain c.spares back)
+    ∙ ap (λ p. walk h p rest)
+    (let p : k + 1 + length xs + 1 ≡ k + suc (length xs) + 1 = omega arith in p)
 
 inside-on : (h : Held) (xs rest : List ItemType) (n : ℕ) → InsideGoesOn h n xs rest
 inside-on h [] rest n f ts k size c back = inside-end h f ts k n rest size c back
-inside-on h (x ∷ xs) rest n f ts k size c back = inside-by (is_push x) (is_pop x) h f ts k n x xs rest refl refl size c back (λ m. inside-on h xs rest m)
+inside-on h (x ∷ xs) rest n f ts k size c back =
+    inside-by (is_push x) (is_pop x) h f ts k n x xs rest refl refl size c back
+    (λ m. inside-on h xs rest m)
 
 -- a segment changes nothing
 segment-kept : (xs rest : List ItemType) → IsMatched xs → (h : Held) (k : ℕ) → Spares h.keeping xs
-    → walk h k (item.Global global.Push ∷ (xs ++ (item.Global global.Pop ∷ rest))) ≡ walk h (k + (length xs + 2)) rest
+    → walk h k (item.Global global.Push ∷ (xs ++ (item.Global global.Pop ∷ rest))) ≡ walk h
+    (k + (length xs + 2)) rest
 segment-kept xs rest m h k spares =
     let own = kept_of h.keeping h.force in
     let base = h.kept ++ own ∷ [] in
     let stepped : step h (item.Global global.Push) ≡ Ok (inside h h.force []) =
     step-push h ∙ ap (λ (l : List Force). Ok (record h { kept = l })) (sym (append-nil base)) in
-    let c : Closes h.keeping 0 xs = record { spares = spares; idle = m.idle; within = λ i. omega (arith, m.within i); closed = omega (arith, m.closed) } in
-    step-ok h (inside h h.force []) k (item.Global global.Push) (xs ++ (item.Global global.Pop ∷ rest)) stepped
+    let c : Closes h.keeping 0 xs =
+    record {
+      spares = spares;
+      idle = m.idle;
+      within = λ i. omega (arith, m.within i);
+      closed = omega (arith, m.closed);
+    } in
+    step-ok h (inside h h.force []) k (item.Global global.Push)
+    (xs ++ (item.Global global.Pop ∷ rest)) stepped
     ∙ inside-on h xs rest 0 h.force [] (k + 1) refl c (returns-own h.keeping h.force)
-    ∙ ap (λ p. walk h p rest) (let p : k + 1 + length xs + 1 ≡ k + (length xs + 2) = omega arith in p)
+    ∙ ap (λ p. walk h p rest) (let p : k + 1 + length xs + 1 ≡ k + (length xs + 2) = omega arith in
+    p)
 
 -- the meaning is that of the items around it
-pub meaning-struck : (keeping : Keeping) (front xs rest : List ItemType) → IsMatched xs → Spares keeping xs
-    → meaning_by (reading_of keeping) (with_segment front xs rest) ≡ moved (length front) (length xs + 2) (meaning_by (reading_of keeping) (front ++ rest))
+pub meaning-struck : (keeping : PushKeeps) (front xs rest : List ItemType) → IsMatched xs
+    → Spares keeping xs
+    → meaning_by (reading_of keeping) (with_segment front xs rest) ≡ moved (length front)
+    (length xs + 2) (meaning_by (reading_of keeping) (front ++ rest))
 meaning-struck keeping front xs rest m spares =
     let held = nothing_held keeping in
     sym (walk-meaning keeping (with_segment front xs rest))
-    ∙ front-kept keeping front (item.Global global.Push ∷ (xs ++ (item.Global global.Pop ∷ rest))) rest (length xs + 2)
+    ∙ front-kept keeping front (item.Global global.Push ∷ (xs ++ (item.Global global.Pop ∷ rest)))
+    rest (length xs + 2)
     (λ h k e. segment-kept xs rest m h k (subst (λ r. Spares r xs) (sym e) spares)) held 0 refl
-    ∙ ap (λ p. moved p (length xs + 2) (walk held 0 (front ++ rest))) (let p : 0 + length front ≡ length front = omega arith in p)
+    ∙ ap (λ p. moved p (length xs + 2) (walk held 0 (front ++ rest)))
+    (let p : 0 + length front ≡ length front = omega arith in p)
     ∙ ap (moved (length front) (length xs + 2)) (walk-meaning keeping (front ++ rest))
 
 -- the same of a descriptor's bytes
-pub parse-struck : (keeping : Keeping) (bytes : List ℕ) (entries : List Entry) (front xs rest : List ItemType) → itemise item_of bytes ≡ Ok entries → IsMatched xs → Spares keeping xs
+pub parse-struck : (keeping : PushKeeps) (bytes : List ℕ) (entries : List Entry)
+    (front xs rest : List ItemType) → itemise item_of bytes ≡ Ok entries → IsMatched xs
+    → Spares keeping xs
     → map (λ (e : Entry). e.item) entries ≡ with_segment front xs rest
-    → parse_by (reading_of keeping) bytes ≡ at_offset entries (moved (length front) (length xs + 2) (meaning_by (reading_of keeping) (front ++ rest)))
+    → parse_by (reading_of keeping) bytes ≡ at_offset entries
+    (moved (length front) (length xs + 2) (meaning_by (reading_of keeping) (front ++ rest)))
 parse-struck keeping [] entries front xs rest e m spares is = cc
 parse-struck keeping (b ∷ bs) entries front xs rest e m spares is =
-    ap (parse_items (reading_of keeping)) e ∙ ap (λ (l : List ItemType). at_offset entries (meaning_by (reading_of keeping) l)) is
+    ap (parse_items (reading_of keeping)) e
+    ∙ ap (λ (l : List ItemType). at_offset entries (meaning_by (reading_of keeping) l)) is
     ∙ ap (at_offset entries) (meaning-struck keeping front xs rest m spares)

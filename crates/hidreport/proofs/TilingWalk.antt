@@ -1,5 +1,8 @@
 -- What a walk announces is tiled, whatever a Pop brings back.
-use Rattle.std.proofs.Common.{◌≡◌, ℕ, zero, suc, ◌+◌, ◌-◌, ◌<◌, ◌≤◌, ◌⊎◌, inl, inr, Bool, true, false, cond, ◌&&◌, List, [], ◌∷◌, ◌++◌, length, take, Option, None, Some, is_some, slice_get, Result, Ok, Err, refl, sym, ap, ◌∙◌, subst, arith}
+use Rattle.std.proofs.Common.{◌≡◌, ℕ, zero, suc, ◌+◌, ◌-◌, ◌<◌, ◌≤◌, ◌⊎◌, inl, inr, Bool, true}
+use Rattle.std.proofs.Common.{false, cond, ◌&&◌, List, [], ◌∷◌, ◌++◌, length, take, Option, None}
+use Rattle.std.proofs.Common.{Some, is_some, slice_get, Result, Ok, Err, refl, sym, ap, ◌∙◌, subst}
+use Rattle.std.proofs.Common.{arith}
 use Rattle.std.proofs.lemmas.Grind.{common_steps, flat_map-append}
 use Rattle.hidreport_items.specs.Flags.{Flags}
 use Rattle.hidreport_items.specs.Answer.{Fault}
@@ -11,37 +14,39 @@ use Rattle.hidreport_lists.specs.Itemising.{itemise}
 use Rattle.hidreport_lists.specs.Rebuilt.{items_of}
 use Rattle.hidreport.specs.Fields.{attributes, fields_made, fields_of, list_or_none}
 use Rattle.hidreport.specs.InForce.{Force, first_of}
-use Rattle.hidreport.specs.Kinds.{Direction, Input, Output, Feature, data_of, goes, is_end_collection, collection_of}
+use Rattle.hidreport.specs.Kinds.{Direction, Input, Output, Feature, data_of, goes}
+use Rattle.hidreport.specs.Kinds.{is_end_collection, collection_of}
 use Rattle.hidreport.specs.Making.{extent}
 use Rattle.hidreport.specs.Meaning.{at_offset, meaning_by, parse_by, parse_items}
 use Rattle.hidreport.specs.MeaningFault.{MeaningFault}
-use Rattle.hidreport.specs.Parser.Machine.{Held, first_id, adds, added_to, fault_in, key_in, new_collection, next_held, next_reports, nothing_held, reports_in, start_in, unless_fault, go_on, walk}
+use Rattle.hidreport.specs.Parser.Machine.{Held, first_id, adds, added_to, fault_in, key_in}
+use Rattle.hidreport.specs.Parser.Machine.{new_collection, next_held, next_reports, nothing_held}
+use Rattle.hidreport.specs.Parser.Machine.{reports_in, start_in, unless_fault, go_on, walk}
 use Rattle.hidreport.specs.Places.{bits_of}
 use Rattle.hidreport.specs.Records.{CollectionRecord, DescriptorRecord, FieldRecord, ReportRecord}
-use Rattle.hidreport.specs.Tiling.{Each, collections_of, HasNoRest, HasRange, HaveOwnIds, IsFilled, IsListed, IsOf, IsTiled, fields_in_all, reports_in_all}
+use Rattle.hidreport.specs.Tiling.{Each, collections_of, HasNoRest, HasRange, HaveOwnIds, IsFilled}
+use Rattle.hidreport.specs.Tiling.{IsOf, IsTiled, fields_in_all, reports_in_all}
 use Rattle.hidreport.specs.Usages.{usages_of}
-use Rattle.hidreport.specs.declared.parser.keeping.Keeping.{Keeping}
-use Rattle.hidreport.proofs.Readings.{reading_of, walk-meaning}
-use Rattle.hidreport.proofs.TilingLemmas.{IsGood, IsMade, IsWell, ranged, added-good, added-own, each-append, each-more, each-take, extent-some, fresh, less-or-not, made, numbered, numbered-added, with_number, with_number-append}
+use Rattle.hidreport.specs.declared.parser.push_keeps.PushKeeps.{PushKeeps}
+use Rattle.hidreport.specs.Options.{reading_of}
+use Rattle.hidreport.proofs.OwnCollections.{AreOpened, opened-append, opened-more, opened-new}
+use Rattle.hidreport.proofs.OwnCollections.{opened-take, own-collections}
+use Rattle.hidreport.proofs.Readings.{walk-meaning}
+use Rattle.hidreport.proofs.TilingLemmas.{IsGood, IsMade, IsWell, ranged, added-good, added-own}
+use Rattle.hidreport.proofs.TilingLemmas.{each-append, each-more, each-take, extent-some, fresh}
+use Rattle.hidreport.proofs.TilingLemmas.{less-or-not, made, numbered, numbered-added, with_number}
+use Rattle.hidreport.proofs.TilingLemmas.{with_number-append}
 
--- lists of collections
-
-listed-more : (known more : List CollectionRecord) (i : ℕ) (c : CollectionRecord) → slice_get known i ≡ Some c → slice_get (known ++ more) i ≡ Some c
-listed-more [] more i c e = cc
-listed-more (k ∷ known) more zero c e = e
-listed-more (k ∷ known) more (suc i) c e = listed-more known more i c e
-
-listed-last : (known : List CollectionRecord) (c : CollectionRecord) → slice_get (known ++ c ∷ []) (length known) ≡ Some c
-listed-last [] c = refl
-listed-last (k ∷ known) c = listed-last known c
-
-all-listed : (known more : List CollectionRecord) (cs : List CollectionRecord) → Each (IsListed known) cs → Each (IsListed (known ++ more)) cs
-all-listed known more cs l = each-more (IsListed known) (IsListed (known ++ more)) cs (λ c e. listed-more known more c.id c e) l
-
-all-good : (known more : List CollectionRecord) (rs : List ReportRecord) → Each (IsGood known) rs → Each (IsGood (known ++ more)) rs
+all-good : (known more : List (List CollectionRecord)) (rs : List ReportRecord) → Each (IsGood known) rs
+    → Each (IsGood (known ++ more)) rs
 all-good known more rs g =
     each-more (IsGood known) (IsGood (known ++ more)) rs
-    (λ r p. (p.0, p.1, each-more (IsWell known r.id) (IsWell (known ++ more) r.id) r.fields (λ f w. (w.0, all-listed known more (collections_of f) w.1, w.2, w.3)) p.2)) g
+    (λ r p. (
+      p.0,
+      p.1,
+      each-more (IsWell known r.id) (IsWell (known ++ more) r.id) r.fields
+          (λ f w. (w.0, opened-more known more [] (collections_of f) w.1, w.2, w.3)) p.2,
+    )) g
 
 -- the id of the report that a field goes to is its own, where it has one
 own-key : (own first : Option ℕ) → (own ≡ None) ⊎ (own ≡ first_of own first)
@@ -54,12 +59,18 @@ no-and : (b : Bool) → (b && false) ≡ true → ⊥
 no-and true e = cc
 no-and false e = cc
 
-made-of : (known : List CollectionRecord) (key : Option ℕ) (f : Force) (cs : List CollectionRecord) (id first : ℕ) (d : Direction) (o : Option (Direction × Flags)) (e : Option (ℕ × ℕ)) → (goes d o && is_some e) ≡ true
-    → ((z : ℕ × ℕ) → e ≡ Some z → (0 < z.0) × (0 < z.1)) → Each (IsListed known) cs → (f.report_id ≡ None) ⊎ (f.report_id ≡ key) → IsMade known key first (first + bits_of e) (fields_of f cs id first o e)
+made-of : (known : List (List CollectionRecord)) (key : Option ℕ) (f : Force) (cs : List CollectionRecord)
+    (id first : ℕ) (d : Direction) (o : Option (Direction × Flags)) (e : Option (ℕ × ℕ))
+    → (goes d o && is_some e) ≡ true
+    → ((z : ℕ × ℕ) → e ≡ Some z → (0 < z.0) × (0 < z.1)) → AreOpened known [] cs
+    → (f.report_id ≡ None) ⊎ (f.report_id ≡ key)
+    → IsMade known key first (first + bits_of e) (fields_of f cs id first o e)
 made-of known key f cs id first d None e makes some l own = cc
-made-of known key f cs id first d (Some y) None makes some l own = absurd (no-and (goes d (Some y)) makes)
+made-of known key f cs id first d (Some y) None makes some l own =
+    absurd (no-and (goes d (Some y)) makes)
 made-of known key f cs id first d (Some y) (Some z) makes some l own =
-    made known key f.report_id id first z y.1 (list_or_none (usages_of f)) (attributes f cs y.0 y.1) (some z refl).0 (some z refl).1 l own (ranged f)
+    made known key f.report_id id first z y.1 (list_or_none (usages_of f)) (attributes f cs y.0 y.1)
+    (some z refl).0 (some z refl).1 l own (ranged f)
 
 record Grown (n id count most new : ℕ) : Type 0 where
   once : new ≤ most
@@ -72,10 +83,13 @@ grown-none n id count most = record { once = omega arith; above = λ lt. refl; b
 abbrev pub one_if : Bool → ℕ
 one_if b = cond b 1 0
 
-grown-by : (b : Bool) (n : ℕ) (f : Force) (cs : List CollectionRecord) (id first : ℕ) (y : Direction × Flags) (z : ℕ × ℕ)
-    → Grown n id (fields_made (Some y) (Some z)) (one_if b) (cond (b && true) (with_number n (fields_of f cs id first (Some y) (Some z))) 0)
+grown-by : (b : Bool) (n : ℕ) (f : Force) (cs : List CollectionRecord) (id first : ℕ)
+    (y : Direction × Flags) (z : ℕ × ℕ)
+    → Grown n id (fields_made (Some y) (Some z)) (one_if b)
+    (cond (b && true) (with_number n (fields_of f cs id first (Some y) (Some z))) 0)
 grown-by true n f cs id first y z =
-    let own = fresh n f.report_id id first z y.1 (list_or_none (usages_of f)) (attributes f cs y.0 y.1) in
+    let own = fresh n f.report_id id first z y.1 (list_or_none (usages_of f))
+    (attributes f cs y.0 y.1) in
     record { once = own.once; above = own.above; below = own.below }
 grown-by false n f cs id first y z = grown-none n id (fields_made (Some y) (Some z)) 0
 
@@ -83,14 +97,19 @@ grown-not : (b : Bool) (n id new most : ℕ) → Grown n id 0 most (cond (b && f
 grown-not true n id new most = grown-none n id 0 most
 grown-not false n id new most = grown-none n id 0 most
 
-grown : (n : ℕ) (f : Force) (cs : List CollectionRecord) (id first : ℕ) (d : Direction) (o : Option (Direction × Flags)) (e : Option (ℕ × ℕ))
-    → Grown n id (fields_made o e) (one_if (goes d o)) (cond (goes d o && is_some e) (with_number n (fields_of f cs id first o e)) 0)
+grown : (n : ℕ) (f : Force) (cs : List CollectionRecord) (id first : ℕ) (d : Direction)
+    (o : Option (Direction × Flags)) (e : Option (ℕ × ℕ))
+    → Grown n id (fields_made o e) (one_if (goes d o))
+    (cond (goes d o && is_some e) (with_number n (fields_of f cs id first o e)) 0)
 grown n f cs id first d None e = grown-none n id 0 0
-grown n f cs id first d (Some y) None = grown-not (goes d (Some y)) n id (with_number n (fields_of f cs id first (Some y) None)) (one_if (goes d (Some y)))
+grown n f cs id first d (Some y) None =
+    grown-not (goes d (Some y)) n id (with_number n (fields_of f cs id first (Some y) None))
+    (one_if (goes d (Some y)))
 grown n f cs id first d (Some y) (Some z) = grown-by (goes d (Some y)) n f cs id first y z
 
 -- an item goes one way
-one-way : (o : Option (Direction × Flags)) → one_if (goes Input o) + (one_if (goes Output o) + one_if (goes Feature o)) ≤ 1
+one-way : (o : Option (Direction × Flags))
+    → one_if (goes Input o) + (one_if (goes Output o) + one_if (goes Feature o)) ≤ 1
 one-way None = omega arith
 one-way (Some (Input, flags)) = omega arith
 one-way (Some (Output, flags)) = omega arith
@@ -101,82 +120,151 @@ one-way (Some (Feature, flags)) = omega arith
 abbrev total : ℕ → DescriptorRecord → ℕ
 total n d = numbered n d.input + (numbered n d.output + numbered n d.feature)
 
-record Keeps (known : List CollectionRecord) (h : Held) : Type 0 where
+record Keeps (known : List (List CollectionRecord)) (h : Held) : Type 0 where
   filled : (d : Direction) → Each (IsGood known) (reports_in d h.descriptor)
   own : (d : Direction) → HaveOwnIds (reports_in d h.descriptor)
   once : (n : ℕ) → total n h.descriptor ≤ 1
   unused : (n : ℕ) → h.fields ≤ n → total n h.descriptor ≡ 0
   counted : length known ≡ h.collections
-  opened : Each (IsListed known) h.opened
+  opened : AreOpened known [] h.opened
 
 abbrev made_in : Direction → Held → ItemType → List FieldRecord
 made_in d h x = fields_of h.force h.opened h.fields (start_in d h) (data_of x) (extent h.force)
 
-good-by : (b : Bool) (known : List CollectionRecord) (d : Direction) (h : Held) (x : ItemType) → adds d h x ≡ b → Each (IsGood known) (reports_in d h.descriptor) → Each (IsListed known) h.opened
-    → Each (IsGood known) (cond b (added_to (key_in d h) (bits_of (extent h.force)) (made_in d h x) (reports_in d h.descriptor)) (reports_in d h.descriptor))
+good-by : (b : Bool) (known : List (List CollectionRecord)) (d : Direction) (h : Held) (x : ItemType)
+    → adds d h x ≡ b → Each (IsGood known) (reports_in d h.descriptor)
+    → AreOpened known [] h.opened
+    → Each (IsGood known) (cond b (added_to (key_in d h) (bits_of (extent h.force)) (made_in d h x)
+    (reports_in d h.descriptor)) (reports_in d h.descriptor))
 good-by true known d h x makes g l =
-    added-good known (key_in d h) (bits_of (extent h.force)) (made_in d h x) (reports_in d h.descriptor) g
-    (made-of known (key_in d h) h.force h.opened h.fields (start_in d h) d (data_of x) (extent h.force) makes (λ z e. extent-some h.force z e) l
+    added-good known (key_in d h) (bits_of (extent h.force)) (made_in d h x)
+    (reports_in d h.descriptor) g
+    (made-of known (key_in d h) h.force h.opened h.fields (start_in d h) d (data_of x)
+    (extent h.force) makes (λ z e. extent-some h.force z e) l
     (own-key h.force.report_id (first_id (reports_in d h.descriptor))))
 good-by false known d h x makes g l = g
 
-good-next : (known : List CollectionRecord) (d : Direction) (h : Held) (x : ItemType) → Keeps known h → Each (IsGood known) (next_reports d h x)
+good-next : (known : List (List CollectionRecord)) (d : Direction) (h : Held) (x : ItemType)
+    → Keeps known h → Each (IsGood known) (next_reports d h x)
 good-next known d h x k = good-by (adds d h x) known d h x refl (k.filled d) k.opened
 
-own-by : (b : Bool) (d : Direction) (h : Held) (x : ItemType) → HaveOwnIds (reports_in d h.descriptor)
-    → HaveOwnIds (cond b (added_to (key_in d h) (bits_of (extent h.force)) (made_in d h x) (reports_in d h.descriptor)) (reports_in d h.descriptor))
-own-by true d h x o = added-own h.force.report_id (bits_of (extent h.force)) (made_in d h x) (reports_in d h.descriptor) o
+own-by : (b : Bool) (d : Direction) (h : Held) (x : ItemType)
+    → HaveOwnIds (reports_in d h.descriptor)
+    → HaveOwnIds (cond b (added_to (key_in d h) (bits_of (extent h.force)) (made_in d h x)
+    (reports_in d h.descriptor)) (reports_in d h.descriptor))
+own-by true d h x o = added-own h.force.report_id (bits_of (extent h.force)) (made_in d h x)
+    (reports_in d h.descriptor) o
 own-by false d h x o = o
 
 numbered-by : (b : Bool) (n : ℕ) (d : Direction) (h : Held) (x : ItemType)
-    → numbered n (cond b (added_to (key_in d h) (bits_of (extent h.force)) (made_in d h x) (reports_in d h.descriptor)) (reports_in d h.descriptor))
+    → numbered n (cond b (added_to (key_in d h) (bits_of (extent h.force)) (made_in d h x)
+    (reports_in d h.descriptor)) (reports_in d h.descriptor))
     ≡ numbered n (reports_in d h.descriptor) + cond b (with_number n (made_in d h x)) 0
-numbered-by true n d h x = numbered-added n (key_in d h) (bits_of (extent h.force)) (made_in d h x) (reports_in d h.descriptor)
+numbered-by true n d h x = numbered-added n (key_in d h) (bits_of (extent h.force)) (made_in d h x)
+    (reports_in d h.descriptor)
 numbered-by false n d h x = omega arith
 
 grown-in : (n : ℕ) (d : Direction) (h : Held) (x : ItemType)
-    → Grown n h.fields (fields_made (data_of x) (extent h.force)) (one_if (goes d (data_of x))) (cond (adds d h x) (with_number n (made_in d h x)) 0)
+    → Grown n h.fields (fields_made (data_of x) (extent h.force)) (one_if (goes d (data_of x)))
+    (cond (adds d h x) (with_number n (made_in d h x)) 0)
 grown-in n d h x = grown n h.force h.opened h.fields (start_in d h) d (data_of x) (extent h.force)
 
 abbrev next_total : ℕ → Held → ItemType → ℕ
-next_total n h x = numbered n (next_reports Input h x) + (numbered n (next_reports Output h x) + numbered n (next_reports Feature h x))
+next_total n h x = numbered n (next_reports Input h x) +
+    (numbered n (next_reports Output h x) + numbered n (next_reports Feature h x))
 
-once-by : (n : ℕ) (h : Held) (x : ItemType) → (n < h.fields) ⊎ (h.fields ≤ n) → total n h.descriptor ≤ 1 → (h.fields ≤ n → total n h.descriptor ≡ 0) → next_total n h x ≤ 1
+once-by : (n : ℕ) (h : Held) (x : ItemType) → (n < h.fields) ⊎ (h.fields ≤ n)
+    → total n h.descriptor ≤ 1 → (h.fields ≤ n → total n h.descriptor ≡ 0) → next_total n h x ≤ 1
 once-by n h x (inl lt) once unused =
-    let i = grown-in n Input h x in let o = grown-in n Output h x in let f = grown-in n Feature h x in
-    omega (arith, once, numbered-by (adds Input h x) n Input h x, numbered-by (adds Output h x) n Output h x, numbered-by (adds Feature h x) n Feature h x, i.above lt, o.above lt, f.above lt)
+    let i = grown-in n Input h x in let o = grown-in n Output h x in
+    let f = grown-in n Feature h x in
+    omega (
+      arith,
+      once,
+      numbered-by (adds Input h x) n Input h x,
+      numbered-by (adds Output h x) n
+          Output h x,
+      numbered-by (adds Feature h x) n Feature h x,
+      i.above lt,
+      o.above lt,
+      f.above
+          lt,
+    )
 once-by n h x (inr le) once unused =
-    let i = grown-in n Input h x in let o = grown-in n Output h x in let f = grown-in n Feature h x in
-    omega (arith, unused le, numbered-by (adds Input h x) n Input h x, numbered-by (adds Output h x) n Output h x, numbered-by (adds Feature h x) n Feature h x, i.once, o.once, f.once, one-way (data_of x))
+    let i = grown-in n Input h x in let o = grown-in n Output h x in
+    let f = grown-in n Feature h x in
+    omega (
+      arith,
+      unused le,
+      numbered-by (adds Input h x) n Input h x,
+      numbered-by (adds Output h x)
+          n Output h x,
+      numbered-by (adds Feature h x) n Feature h x,
+      i.once,
+      o.once,
+      f.once,
+      one-way
+          (data_of x),
+    )
 
-unused-next : (n : ℕ) (h : Held) (x : ItemType) → (h.fields ≤ n → total n h.descriptor ≡ 0) → h.fields + fields_made (data_of x) (extent h.force) ≤ n → next_total n h x ≡ 0
+unused-next : (n : ℕ) (h : Held) (x : ItemType) → (h.fields ≤ n → total n h.descriptor ≡ 0)
+    → h.fields + fields_made (data_of x) (extent h.force) ≤ n → next_total n h x ≡ 0
 unused-next n h x unused le =
-    let i = grown-in n Input h x in let o = grown-in n Output h x in let f = grown-in n Feature h x in
-    omega (arith, unused (omega (arith, le)), numbered-by (adds Input h x) n Input h x, numbered-by (adds Output h x) n Output h x, numbered-by (adds Feature h x) n Feature h x, i.below le, o.below le, f.below le)
+    let i = grown-in n Input h x in let o = grown-in n Output h x in
+    let f = grown-in n Feature h x in
+    omega (
+      arith,
+      unused (omega (arith, le)),
+      numbered-by (adds Input h x) n Input h x,
+      numbered-by
+          (adds Output h x) n Output h x,
+      numbered-by (adds Feature h x) n Feature h x,
+      i.below le,
+      o.below le,
+      f.below le,
+    )
 
-new-listed : (known : List CollectionRecord) (h : Held) (o : Option CollectionItem) → length known ≡ h.collections → Each (IsListed (known ++ new_collection h o)) (new_collection h o)
-new-listed known h None e = tt
-new-listed known h (Some kind) e =
-    let c : CollectionRecord = record { id = h.collections; kind = kind; usages = (list_or_none (usages_of h.force)).usages } in
-    (subst (λ n. slice_get (known ++ c ∷ []) n ≡ Some c) e (listed-last known c), tt)
+-- the collection that an item opens, inside the open ones
+abbrev new_opening : Held → Option CollectionItem → List (List CollectionRecord)
+new_opening h None = []
+new_opening h (Some kind) = (h.opened ++ new_collection h (Some kind)) ∷ []
 
-opened-by : (b : Bool) (known : List CollectionRecord) (h : Held) (new : List CollectionRecord) → Each (IsListed known) h.opened → Each (IsListed known) new
-    → Each (IsListed known) (cond b (take (length h.opened - 1) h.opened) (h.opened ++ new))
-opened-by true known h new l m = each-take (IsListed known) (length h.opened - 1) h.opened l
-opened-by false known h new l m = each-append (IsListed known) h.opened new l m
+new-opened : (known : List (List CollectionRecord)) (h : Held) (o : Option CollectionItem)
+    → length known ≡ h.collections
+    → AreOpened (known ++ new_opening h o) h.opened (new_collection h o)
+new-opened known h None e = tt
+new-opened known h (Some kind) e = opened-new known h.opened (record {
+  id = h.collections;
+  kind = kind;
+  usages = (list_or_none (usages_of h.force)).usages;
+}) e
 
-counted-more : (known new : List CollectionRecord) → length (known ++ new) ≡ length known + length new
+opened-by : (b : Bool) (known : List (List CollectionRecord)) (h : Held)
+    (new : List CollectionRecord) → AreOpened known [] h.opened → AreOpened known h.opened new
+    → AreOpened known [] (cond b (take (length h.opened - 1) h.opened) (h.opened ++ new))
+opened-by true known h new l m = opened-take known [] (length h.opened - 1) h.opened l
+opened-by false known h new l m = opened-append known [] h.opened new l m
+
+as-many : (h : Held) (o : Option CollectionItem)
+    → length (new_opening h o) ≡ length (new_collection h o)
+as-many h None = refl
+as-many h (Some kind) = refl
+
+counted-more : (known new : List (List CollectionRecord))
+    → length (known ++ new) ≡ length known + length new
 counted-more known new = grind (arith, common_steps)
 
-keeps-next : (known : List CollectionRecord) (h : Held) (x : ItemType) → Keeps known h → Keeps (known ++ new_collection h (collection_of x)) (next_held h x)
+keeps-next : (known : List (List CollectionRecord)) (h : Held) (x : ItemType) → Keeps known h
+    → Keeps (known ++ new_opening h (collection_of x)) (next_held h x)
 keeps-next known h x k =
-    let new = new_collection h (collection_of x) in
+    let new = new_opening h (collection_of x) in
     record {
-      filled = λ d. elim d as (λ d. Each (IsGood (known ++ new)) (reports_in d (next_held h x).descriptor)) [
-        | Input ↦ all-good known new (next_reports Input h x) (good-next known Input h x k)
-        | Output ↦ all-good known new (next_reports Output h x) (good-next known Output h x k)
-        | Feature ↦ all-good known new (next_reports Feature h x) (good-next known Feature h x k)
-      ];
+      filled = λ d. elim d as (λ d. Each (IsGood (known ++ new))
+          (reports_in d (next_held h x).descriptor)) [
+            | Input ↦ all-good known new (next_reports Input h x) (good-next known Input h x k)
+            | Output ↦ all-good known new (next_reports Output h x) (good-next known Output h x k)
+            | Feature ↦ all-good known new (next_reports Feature h x) (good-next known Feature h x k)
+          ];
       own = λ d. elim d as (λ d. HaveOwnIds (reports_in d (next_held h x).descriptor)) [
         | Input ↦ own-by (adds Input h x) Input h x (k.own Input)
         | Output ↦ own-by (adds Output h x) Output h x (k.own Output)
@@ -184,26 +272,36 @@ keeps-next known h x k =
       ];
       once = λ n. once-by n h x (less-or-not n h.fields) (k.once n) (k.unused n);
       unused = λ n le. unused-next n h x (k.unused n) le;
-      counted = counted-more known new ∙ ap (λ n. n + length new) k.counted;
-      opened = opened-by (is_end_collection x) (known ++ new) h new (all-listed known new h.opened k.opened) (new-listed known h (collection_of x) k.counted);
+      counted = counted-more known new ∙ ap (λ n. n + length new) k.counted
+          ∙ ap (λ n. h.collections + n) (as-many h (collection_of x));
+      opened = opened-by (is_end_collection x) (known ++ new) h (new_collection h (collection_of x))
+          (opened-more known new [] h.opened k.opened)
+          (new-opened known h (collection_of x) k.counted);
     }
 
 -- at the end
 
-each-flat : (P : FieldRecord → Type 0) (rs : List ReportRecord) → Each (λ r. Each P r.fields) rs → Each P (fields_in_all rs)
+each-flat : (P : FieldRecord → Type 0) (rs : List ReportRecord) → Each (λ r. Each P r.fields) rs
+    → Each P (fields_in_all rs)
 each-flat P [] e = tt
 each-flat P (r ∷ rs) e = each-append P r.fields (fields_in_all rs) e.0 (each-flat P rs e.1)
 
-whole : (P : ReportRecord → Type 0) (d : DescriptorRecord) → Each P d.input → Each P d.output → Each P d.feature → Each P (reports_in_all d)
-whole P d i o f = each-append P d.input (d.output ++ d.feature) i (each-append P d.output d.feature o f)
+whole : (P : ReportRecord → Type 0) (d : DescriptorRecord) → Each P d.input → Each P d.output
+    → Each P d.feature → Each P (reports_in_all d)
+whole P d i o f = each-append P d.input (d.output ++ d.feature) i
+    (each-append P d.output d.feature o f)
 
-numbered-append : (n : ℕ) (rs qs : List ReportRecord) → numbered n (rs ++ qs) ≡ numbered n rs + numbered n qs
-numbered-append n rs qs = ap (with_number n) (flat_map-append (λ (r : ReportRecord). r.fields) rs qs) ∙ with_number-append n (fields_in_all rs) (fields_in_all qs)
+numbered-append : (n : ℕ) (rs qs : List ReportRecord)
+    → numbered n (rs ++ qs) ≡ numbered n rs + numbered n qs
+numbered-append n rs qs = ap (with_number n)
+    (flat_map-append (λ (r : ReportRecord). r.fields) rs qs)
+    ∙ with_number-append n (fields_in_all rs) (fields_in_all qs)
 
 total-all : (n : ℕ) (d : DescriptorRecord) → numbered n (reports_in_all d) ≡ total n d
-total-all n d = numbered-append n d.input (d.output ++ d.feature) ∙ ap (λ m. numbered n d.input + m) (numbered-append n d.output d.feature)
+total-all n d = numbered-append n d.input (d.output ++ d.feature)
+    ∙ ap (λ m. numbered n d.input + m) (numbered-append n d.output d.feature)
 
-filled-end : (known : List CollectionRecord) (r : ReportRecord) → IsGood known r → IsFilled r
+filled-end : (known : List (List CollectionRecord)) (r : ReportRecord) → IsGood known r → IsFilled r
 filled-end known r g = record {
   some = g.0;
   covers = g.1;
@@ -212,47 +310,58 @@ filled-end known r g = record {
   ranges = each-more (IsWell known r.id) HasRange r.fields (λ f w. w.3) g.2;
 }
 
-tiled-end : (known : List CollectionRecord) (h : Held) → Keeps known h → IsTiled h.descriptor
+tiled-end : (known : List (List CollectionRecord)) (h : Held) → Keeps known h → IsTiled h.descriptor
 tiled-end known h k =
-    let good = whole (IsGood known) h.descriptor (k.filled Input) (k.filled Output) (k.filled Feature) in
+    let good = whole (IsGood known) h.descriptor (k.filled Input) (k.filled Output)
+    (k.filled Feature) in
     record {
-      filled = each-more (IsGood known) IsFilled (reports_in_all h.descriptor) (filled-end known) good;
+      filled = each-more (IsGood known) IsFilled (reports_in_all h.descriptor) (filled-end known)
+          good;
       input_ids = k.own Input;
       output_ids = k.own Output;
       feature_ids = k.own Feature;
       numbers = λ n. omega (arith, total-all n h.descriptor, k.once n);
-      collections = (
-        known,
-        each-flat (λ f. Each (IsListed known) (collections_of f)) (reports_in_all h.descriptor)
-            (each-more (IsGood known) (λ r. Each (λ f. Each (IsListed known) (collections_of f)) r.fields) (reports_in_all h.descriptor)
-            (λ r g. each-more (IsWell known r.id) (λ f. Each (IsListed known) (collections_of f)) r.fields (λ f w. w.1) g.2) good),
-      );
+      collections = own-collections known (fields_in_all (reports_in_all h.descriptor))
+          (each-flat (λ f. AreOpened known [] (collections_of f)) (reports_in_all h.descriptor)
+          (each-more (IsGood known) (λ r. Each (λ f. AreOpened known [] (collections_of f))
+          r.fields) (reports_in_all h.descriptor)
+          (λ r g. each-more (IsWell known r.id) (λ f. AreOpened known [] (collections_of f))
+          r.fields (λ f w. w.1) g.2) good));
     }
 
 abbrev Announces : Result DescriptorRecord (ℕ × MeaningFault) → DescriptorRecord → Type 0
 Announces r d = r ≡ Ok d
 
-tiled-by : (o : Option MeaningFault) (h : Held) (k : ℕ) (x : ItemType) (xs : List ItemType) (d : DescriptorRecord) → fault_in h x ≡ o
-    → Announces (walk h k (x ∷ xs)) d → (Announces (walk (next_held h x) (k + 1) xs) d → IsTiled d) → IsTiled d
+tiled-by : (o : Option MeaningFault) (h : Held) (k : ℕ) (x : ItemType) (xs : List ItemType)
+    (d : DescriptorRecord) → fault_in h x ≡ o
+    → Announces (walk h k (x ∷ xs)) d → (Announces (walk (next_held h x) (k + 1) xs) d → IsTiled d)
+    → IsTiled d
 tiled-by None h k x xs d e is later =
     later (sym (ap (λ o. go_on (unless_fault o (next_held h x)) k (λ n. walk n (k + 1) xs)) e) ∙ is)
 tiled-by (Some fault) h k x xs d e is later =
-    let bad : Announces (Err (k, fault)) d = sym (ap (λ o. go_on (unless_fault o (next_held h x)) k (λ n. walk n (k + 1) xs)) e) ∙ is in cc
+    let bad : Announces (Err (k, fault)) d =
+    sym (ap (λ o. go_on (unless_fault o (next_held h x)) k (λ n. walk n (k + 1) xs)) e)
+    ∙ is in cc
 
-tiled-from : (known : List CollectionRecord) (h : Held) (k : ℕ) (items : List ItemType) (d : DescriptorRecord) → Keeps known h
+tiled-from : (known : List (List CollectionRecord)) (h : Held) (k : ℕ) (items : List ItemType)
+    (d : DescriptorRecord) → Keeps known h
     → Announces (walk h k items) d → IsTiled d
-tiled-from known h k [] d keeps is = let same : h.descriptor ≡ d = cc in subst IsTiled same (tiled-end known h keeps)
+tiled-from known h k [] d keeps is =
+    let same : h.descriptor ≡ d = cc in subst IsTiled same (tiled-end known h keeps)
 tiled-from known h k (x ∷ xs) d keeps is =
     tiled-by (fault_in h x) h k x xs d refl is
-    (λ rest. tiled-from (known ++ new_collection h (collection_of x)) (next_held h x) (k + 1) xs d (keeps-next known h x keeps) rest)
+    (λ rest. tiled-from (known ++ new_opening h (collection_of x)) (next_held h x) (k + 1) xs d
+    (keeps-next known h x keeps) rest)
 
 none-own : HaveOwnIds []
 none-own = record { once = λ id. omega arith; first = tt }
 
-keeps-nothing : (keeping : Keeping) → Keeps [] (nothing_held keeping)
+keeps-nothing : (keeping : PushKeeps) → Keeps [] (nothing_held keeping)
 keeps-nothing keeping = record {
-  filled = λ d. elim d as (λ d. Each (IsGood []) (reports_in d (nothing_held keeping).descriptor)) [ Input ↦ tt | Output ↦ tt | Feature ↦ tt ];
-  own = λ d. elim d as (λ d. HaveOwnIds (reports_in d (nothing_held keeping).descriptor)) [ Input ↦ none-own | Output ↦ none-own | Feature ↦ none-own ];
+  filled = λ d. elim d as (λ d. Each (IsGood []) (reports_in d (nothing_held keeping).descriptor))
+      [ Input ↦ tt | Output ↦ tt | Feature ↦ tt ];
+  own = λ d. elim d as (λ d. HaveOwnIds (reports_in d (nothing_held keeping).descriptor))
+      [ Input ↦ none-own | Output ↦ none-own | Feature ↦ none-own ];
   once = λ n. omega arith;
   unused = λ n le. refl;
   counted = refl;
@@ -260,20 +369,26 @@ keeps-nothing keeping = record {
 }
 
 -- whatever a Pop brings back
-pub walk-tiled : (keeping : Keeping) (items : List ItemType) (d : DescriptorRecord) → walk (nothing_held keeping) 0 items ≡ Ok d → IsTiled d
-walk-tiled keeping items d is = tiled-from [] (nothing_held keeping) 0 items d (keeps-nothing keeping) is
+pub walk-tiled : (keeping : PushKeeps) (items : List ItemType) (d : DescriptorRecord)
+    → walk (nothing_held keeping) 0 items ≡ Ok d → IsTiled d
+walk-tiled keeping items d is =
+    tiled-from [] (nothing_held keeping) 0 items d (keeps-nothing keeping) is
 
-found-ok : (entries : List Entry) (r : Result DescriptorRecord (ℕ × MeaningFault)) (d : DescriptorRecord) → at_offset entries r ≡ Ok d → r ≡ Ok d
+found-ok : (entries : List Entry) (r : Result DescriptorRecord (ℕ × MeaningFault))
+    (d : DescriptorRecord) → at_offset entries r ≡ Ok d → r ≡ Ok d
 found-ok entries (Ok announced) d e = let same : announced ≡ d = cc in ap Ok same
 found-ok entries (Err first) d e = cc
 
-tiled-items : (keeping : Keeping) (r : Result (List Entry) (ℕ × Fault)) (d : DescriptorRecord) → parse_items (reading_of keeping) r ≡ Ok d → IsTiled d
+tiled-items : (keeping : PushKeeps) (r : Result (List Entry) (ℕ × Fault)) (d : DescriptorRecord)
+    → parse_items (reading_of keeping) r ≡ Ok d → IsTiled d
 tiled-items keeping (Ok entries) d e =
     let xs = items_of entries in
-    walk-tiled keeping xs d (walk-meaning keeping xs ∙ found-ok entries (meaning_by (reading_of keeping) xs) d e)
+    walk-tiled keeping xs d (walk-meaning keeping xs
+    ∙ found-ok entries (meaning_by (reading_of keeping) xs) d e)
 tiled-items keeping (Err fault) d e = cc
 
 -- the reports of a descriptor that is read
-pub parse-tiled : (keeping : Keeping) (bytes : List ℕ) (d : DescriptorRecord) → parse_by (reading_of keeping) bytes ≡ Ok d → IsTiled d
+pub parse-tiled : (keeping : PushKeeps) (bytes : List ℕ) (d : DescriptorRecord)
+    → parse_by (reading_of keeping) bytes ≡ Ok d → IsTiled d
 parse-tiled keeping [] d e = cc
 parse-tiled keeping (b ∷ bs) d e = tiled-items keeping (itemise item_of (b ∷ bs)) d e

@@ -1,5 +1,9 @@
--- The walk forward gives the meaning that looks back, by each reading of Push and Pop that it follows.
-use Rattle.std.proofs.Common.{◌≡◌, ℕ, suc, ◌+◌, ◌-◌, ◌<◌, Bool, true, false, cond, ◌&&◌, List, [], ◌∷◌, ◌++◌, length, take, map, Option, None, Some, is_some, filter, Ok, refl, sym, ap, ◌∙◌, subst, append-nil, append_assoc, add-zero, add-one, arith}
+-- The walk forward gives the meaning that looks back, by each reading of Push and Pop that it
+-- follows.
+use Rattle.std.proofs.Common.{◌≡◌, ℕ, suc, ◌+◌, ◌-◌, ◌<◌, Bool, true, false, cond, ◌&&◌, List, []}
+use Rattle.std.proofs.Common.{◌∷◌, ◌++◌, length, take, map, Option, None, Some, is_some, filter, Ok}
+use Rattle.std.proofs.Common.{refl, sym, ap, ◌∙◌, subst, append-nil, append_assoc, add-zero}
+use Rattle.std.proofs.Common.{add-one, arith}
 use Rattle.std.specs.Prelude.{◌==◌, sum_by, unwrap_or}
 use Rattle.std.specs.List.{enumerate_from}
 use Rattle.std.proofs.lemmas.Bool.Decides.{nat_tests}
@@ -15,139 +19,204 @@ use Rattle.hidreport_items.specs.declared.item.ItemType.TheVariants as item
 use Rattle.hidreport_items.specs.declared.global.GlobalItem.TheVariants as global
 use Rattle.hidreport_items.specs.declared.item.ItemType.{ItemType}
 use Rattle.hidreport.specs.Faults.{item_fault, fault, counts, start_of}
-use Rattle.hidreport.specs.Fields.{fields_at, fields_of, fields_made, fields_before, collections_at, collection_record, list_or_none}
+use Rattle.hidreport.specs.Fields.{fields_at, fields_of, fields_made, fields_before, collections_at}
+use Rattle.hidreport.specs.Fields.{collection_record, list_or_none}
 use Rattle.hidreport.specs.InForce.{Force, first_of}
-use Rattle.hidreport.specs.Kinds.{Indexed, Direction, Input, Output, Feature, data_of, goes, is_push, is_pop, is_collection, is_end_collection, collection_of}
-use Rattle.hidreport.specs.Parser.Machine.{Held, brought_back, kept_of, nothing_in_force, reports_of, size_in, first_id, added_to, reports_in, key_in, start_in, start_for, counts_in, fault_in, adds, next_force, last_force, next_reports, next_opened, new_collection, next_held, unless_fault, nothing_held, go_on, walk}
+use Rattle.hidreport.specs.Kinds.{Indexed, Direction, Input, Output, Feature, data_of, goes}
+use Rattle.hidreport.specs.Kinds.{is_push, is_pop, is_collection, is_end_collection, collection_of}
+use Rattle.hidreport.specs.Parser.Machine.{Held, brought_back, kept_of, nothing_in_force}
+use Rattle.hidreport.specs.Parser.Machine.{reports_of, size_in, first_id, added_to, reports_in}
+use Rattle.hidreport.specs.Parser.Machine.{key_in, start_in, start_for, counts_in, fault_in, adds}
+use Rattle.hidreport.specs.Parser.Machine.{next_force, last_force, next_reports, next_opened}
+use Rattle.hidreport.specs.Parser.Machine.{new_collection, next_held, unless_fault, nothing_held}
+use Rattle.hidreport.specs.Parser.Machine.{go_on, walk}
 use Rattle.hidreport.specs.Making.{extent, key, makers, first_report_id}
-use Rattle.hidreport.specs.Meaning.{PushReading, meaning_by, unless_first, first_fault, fault_here, reports, descriptor}
+use Rattle.hidreport.specs.Meaning.{PushReading, meaning_by, unless_first, first_fault, fault_here}
+use Rattle.hidreport.specs.Meaning.{reports, descriptor}
 use Rattle.hidreport.specs.MeaningFault.{MeaningFault, TooManyEnds, TooManyPops}
 use Rattle.hidreport.specs.OpenCollections.{depth, collections_before, open_at}
 use Rattle.hidreport.specs.Places.{start, bits_of}
 use Rattle.hidreport.specs.Records.{CollectionRecord, FieldRecord, ReportRecord, DescriptorRecord}
 use Rattle.hidreport.specs.Usages.{usages_of}
 use Rattle.hidreport.specs.Visibility.{before, level}
-use Rattle.hidreport.specs.declared.parser.keeping.Keeping.{Keeping}
+use Rattle.hidreport.specs.declared.parser.push_keeps.PushKeeps.{PushKeeps}
 use Rattle.hidreport.proofs.Walk.{before-next, count-next, first_of-none}
 use Rattle.hidreport.proofs.LevelLemmas.{Rests, rests-nothing}
-use Rattle.hidreport.proofs.OpenLemmas.{Stands, stands-nothing, open-length, plain-next, opened-next, closed-next}
+use Rattle.hidreport.proofs.OpenLemmas.{Stands, stands-nothing, open-length, plain-next}
+use Rattle.hidreport.proofs.OpenLemmas.{opened-next, closed-next}
 use Rattle.hidreport.proofs.Reports.{reports-next, size-in_reports}
 
 -- the reports of a direction that the items before k make
 abbrev pub reports_before : (ℕ → Force) → Direction → List ItemType → ℕ → List ReportRecord
 reports_before force d items k =
-    reports_of (λ p. key force d items p.0) (λ p. bits_of (extent (force p.0))) (fields_at force d items) (makers force d items k)
+    reports_of (λ p. key force d items p.0) (λ p. bits_of (extent (force p.0)))
+    (fields_at force d items) (makers force d items k)
 
 -- what is in force behind an item, and what the open Pushes keep there
-pub record Steps (keeping : Keeping) (force : ℕ → Force) (kept : ℕ → List Force) (items : List ItemType) (k : ℕ) (x : ItemType) : Type 0 where
-  pub in_force_next : force (suc k) ≡ cond (is_pop x) (brought_back keeping (force k) (last_force (force k) (kept k))) (next_force (force k) x)
-  pub kept_next : kept (suc k) ≡ cond (is_pop x) (take (length (kept k) - 1) (kept k)) (cond (is_push x) (kept k ++ kept_of keeping (force k) ∷ []) (kept k))
+pub record Steps (keeping : PushKeeps) (force : ℕ → Force) (kept : ℕ → List Force)
+    (items : List ItemType) (k : ℕ) (x : ItemType) : Type 0 where
+  pub in_force_next : force (suc k) ≡ cond (is_pop x)
+      (brought_back keeping (force k) (last_force (force k) (kept k))) (next_force (force k) x)
+  pub kept_next : kept (suc k) ≡ cond (is_pop x) (take (length (kept k) - 1) (kept k))
+      (cond (is_push x) (kept k ++ kept_of keeping (force k) ∷ []) (kept k))
   pub rests_next : Rests items (suc k)
 
--- All that the walk asks of a reading of Push and Pop: what is in force before the first item and behind each one.
-pub record Follows (keeping : Keeping) (force : ℕ → Force) (kept : ℕ → List Force) (items : List ItemType) : Type 0 where
+-- All that the walk asks of a reading of Push and Pop: what is in force before the first item and
+-- behind each one.
+pub record Follows (keeping : PushKeeps) (force : ℕ → Force) (kept : ℕ → List Force)
+    (items : List ItemType) : Type 0 where
   pub begins : nothing_in_force ≡ force 0
   pub empty : (nothing_held keeping).kept ≡ kept 0
   pub leveled : (k : ℕ) → length (kept k) ≡ level items k
-  pub goes_on : (front rest : List ItemType) (x : ItemType) → items ≡ front ++ x ∷ rest → Rests items (length front)
-      → (is_pop x ≡ true → 0 < level items (length front)) → Steps keeping force kept items (length front) x
+  pub goes_on : (front rest : List ItemType) (x : ItemType) → items ≡ front ++ x ∷ rest
+      → Rests items (length front)
+      → (is_pop x ≡ true → 0 < level items (length front))
+      → Steps keeping force kept items (length front) x
 
 -- what is held at k is what the definitions say of the items before k
-pub record Holds (force : ℕ → Force) (kept : ℕ → List Force) (items : List ItemType) (k : ℕ) (h : Held) : Type 0 where
+pub record Holds (force : ℕ → Force) (kept : ℕ → List Force) (items : List ItemType) (k : ℕ)
+    (h : Held) : Type 0 where
   pub in_force : h.force ≡ force k
   pub rests : Rests items k
   pub keeps : h.kept ≡ kept k
   pub listed : (d : Direction) → reports_in d h.descriptor ≡ reports_before force d items k
-  pub first : (d : Direction) → first_report_id force (makers force d items k) ≡ first_id (reports_in d h.descriptor)
+  pub first : (d : Direction)
+      → first_report_id force (makers force d items k) ≡ first_id (reports_in d h.descriptor)
   pub numbered : h.fields ≡ fields_before force items k
   pub stands : Stands items k
   pub inside : h.opened ≡ collections_at force items k
   pub counted : h.collections ≡ collections_before items k
 
-key-held : (force : ℕ → Force) (kept : ℕ → List Force) (items : List ItemType) (k : ℕ) (h : Held) (d : Direction) → Holds force kept items k h → key force d items k ≡ key_in d h
-key-held force kept items k h d held = ap (λ (f : Force). first_of f.report_id (first_report_id force (makers force d items k))) (sym held.in_force) ∙ ap (first_of h.force.report_id) (held.first d)
+key-held : (force : ℕ → Force) (kept : ℕ → List Force) (items : List ItemType) (k : ℕ) (h : Held)
+    (d : Direction) → Holds force kept items k h → key force d items k ≡ key_in d h
+key-held force kept items k h d held =
+    ap (λ (f : Force). first_of f.report_id (first_report_id force (makers force d items k)))
+    (sym held.in_force) ∙ ap (first_of h.force.report_id) (held.first d)
 
-start-held : (force : ℕ → Force) (kept : ℕ → List Force) (items : List ItemType) (k : ℕ) (h : Held) (d : Direction) → Holds force kept items k h → start force d items k ≡ start_in d h
+start-held : (force : ℕ → Force) (kept : ℕ → List Force) (items : List ItemType) (k : ℕ) (h : Held)
+    (d : Direction) → Holds force kept items k h → start force d items k ≡ start_in d h
 start-held force kept items k h d held =
-    sym (size-in_reports (λ p. key force d items p.0) (λ p. bits_of (extent (force p.0))) (fields_at force d items) (makers force d items k) (key force d items k))
-    ∙ ap (size_in (key force d items k)) (sym (held.listed d)) ∙ ap (λ id. size_in id (reports_in d h.descriptor)) (key-held force kept items k h d held)
+    sym (size-in_reports (λ p. key force d items p.0) (λ p. bits_of (extent (force p.0)))
+    (fields_at force d items) (makers force d items k) (key force d items k))
+    ∙ ap (size_in (key force d items k)) (sym (held.listed d))
+    ∙ ap (λ id. size_in id (reports_in d h.descriptor)) (key-held force kept items k h d held)
 
-start-for : (force : ℕ → Force) (kept : ℕ → List Force) (items : List ItemType) (k : ℕ) (h : Held) (o : Option (Direction × Flags)) → Holds force kept items k h → start_of force o items k ≡ start_for o h
+start-for : (force : ℕ → Force) (kept : ℕ → List Force) (items : List ItemType) (k : ℕ) (h : Held)
+    (o : Option (Direction × Flags)) → Holds force kept items k h
+    → start_of force o items k ≡ start_for o h
 start-for force kept items k h None held = refl
 start-for force kept items k h (Some x) held = start-held force kept items k h x.0 held
 
 -- as many collections are held as the depth says
-depth-held : (force : ℕ → Force) (kept : ℕ → List Force) (items : List ItemType) (k : ℕ) (h : Held) → Holds force kept items k h → depth items k ≡ length h.opened
+depth-held : (force : ℕ → Force) (kept : ℕ → List Force) (items : List ItemType) (k : ℕ) (h : Held)
+    → Holds force kept items k h → depth items k ≡ length h.opened
 depth-held force kept items k h held =
-    let size : length (collections_at force items k) ≡ length (open_at items k) = grind (arith, common_steps) in
+    let size : length (collections_at force items k) ≡ length (open_at items k) =
+    grind (arith, common_steps) in
     sym (ap length held.inside ∙ size ∙ open-length items k held.stands)
 
-counts-held : (force : ℕ → Force) (kept : ℕ → List Force) (items : List ItemType) (k : ℕ) (h : Held) (x : ItemType) → ((n : ℕ) → length (kept n) ≡ level items n) → Holds force kept items k h → counts force items k x ≡ counts_in h x
+counts-held : (force : ℕ → Force) (kept : ℕ → List Force) (items : List ItemType) (k : ℕ) (h : Held)
+    (x : ItemType) → ((n : ℕ) → length (kept n) ≡ level items n) → Holds force kept items k h
+    → counts force items k x ≡ counts_in h x
 counts-held force kept items k h x leveled held =
     let l : level items k ≡ length h.kept = sym (ap length held.keeps ∙ leveled k) in
     let d : depth items k ≡ length h.opened = depth-held force kept items k h held in
     let c : collections_before items k ≡ h.collections = sym held.counted in
     let f : fields_before force items k ≡ h.fields = sym held.numbered in
-    let s : start_of force (data_of x) items k ≡ start_for (data_of x) h = start-for force kept items k h (data_of x) held in
+    let s : start_of force (data_of x) items k ≡ start_for (data_of x) h =
+    start-for force kept items k h (data_of x) held in
     cc
 
-pub fault-held : (force : ℕ → Force) (kept : ℕ → List Force) (items : List ItemType) (k : ℕ) (h : Held) (x : ItemType) → ((n : ℕ) → length (kept n) ≡ level items n) → Holds force kept items k h
+pub fault-held : (force : ℕ → Force) (kept : ℕ → List Force) (items : List ItemType) (k : ℕ)
+    (h : Held) (x : ItemType) → ((n : ℕ) → length (kept n) ≡ level items n)
+    → Holds force kept items k h
     → fault force items k x ≡ item_fault (counts_in h x) h.force x
 fault-held force kept items k h x leveled held =
-    ap (λ n. item_fault n (force k) x) (counts-held force kept items k h x leveled held) ∙ ap (λ f. item_fault (counts_in h x) f x) (sym held.in_force)
+    ap (λ n. item_fault n (force k) x) (counts-held force kept items k h x leveled held)
+    ∙ ap (λ f. item_fault (counts_in h x) f x) (sym held.in_force)
 
-pub fields-held : (force : ℕ → Force) (kept : ℕ → List Force) (items : List ItemType) (k : ℕ) (h : Held) (d : Direction) (x : ItemType) → Holds force kept items k h
-    → fields_at force d items (k, x) ≡ fields_of h.force h.opened h.fields (start_in d h) (data_of x) (extent h.force)
+pub fields-held : (force : ℕ → Force) (kept : ℕ → List Force) (items : List ItemType) (k : ℕ)
+    (h : Held) (d : Direction) (x : ItemType) → Holds force kept items k h
+    → fields_at force d items (k, x) ≡ fields_of h.force h.opened h.fields (start_in d h)
+    (data_of x) (extent h.force)
 fields-held force kept items k h d x held =
-    ap (λ cs. fields_of (force k) cs (fields_before force items k) (start force d items k) (data_of x) (extent (force k))) (sym held.inside)
-    ∙ ap (λ f. fields_of f h.opened (fields_before force items k) (start force d items k) (data_of x) (extent f)) (sym held.in_force)
-    ∙ ap (λ n. fields_of h.force h.opened n (start force d items k) (data_of x) (extent h.force)) (sym held.numbered)
-    ∙ ap (λ s. fields_of h.force h.opened h.fields s (data_of x) (extent h.force)) (start-held force kept items k h d held)
+    ap (λ cs. fields_of (force k) cs (fields_before force items k) (start force d items k)
+    (data_of x) (extent (force k))) (sym held.inside)
+    ∙ ap (λ f. fields_of f h.opened (fields_before force items k) (start force d items k)
+    (data_of x) (extent f)) (sym held.in_force)
+    ∙ ap (λ n. fields_of h.force h.opened n (start force d items k) (data_of x) (extent h.force))
+    (sym held.numbered)
+    ∙ ap (λ s. fields_of h.force h.opened h.fields s (data_of x) (extent h.force))
+    (start-held force kept items k h d held)
 
 -- the items that make fields, with one more item
-makers-next : (force : ℕ → Force) (items front rest : List ItemType) (x : ItemType) (d : Direction) → items ≡ front ++ x ∷ rest
-    → makers force d items (suc (length front)) ≡ makers force d items (length front) ++ cond (goes d (data_of x) && is_some (extent (force (length front)))) ((length front, x) ∷ []) []
+makers-next : (force : ℕ → Force) (items front rest : List ItemType) (x : ItemType) (d : Direction)
+    → items ≡ front ++ x ∷ rest
+    → makers force d items (suc (length front)) ≡ makers force d items (length front) ++ cond
+    (goes d (data_of x) && is_some (extent (force (length front)))) ((length front, x) ∷ []) []
 makers-next force items front rest x d e =
     let test = λ (p : Indexed). goes d (data_of p.1) && is_some (extent (force p.0)) in
-    ap (filter test) (before-next items front rest x e) ∙ filter-append test (before items (length front)) ((length front, x) ∷ [])
+    ap (filter test) (before-next items front rest x e)
+    ∙ filter-append test (before items (length front)) ((length front, x) ∷ [])
 
-listed-by : (b : Bool) (force : ℕ → Force) (kept : ℕ → List Force) (items front rest : List ItemType) (h : Held) (x : ItemType) (d : Direction) → items ≡ front ++ x ∷ rest → Holds force kept items (length front) h
+listed-by : (b : Bool) (force : ℕ → Force) (kept : ℕ → List Force)
+    (items front rest : List ItemType) (h : Held) (x : ItemType) (d : Direction)
+    → items ≡ front ++ x ∷ rest → Holds force kept items (length front) h
     → (goes d (data_of x) && is_some (extent (force (length front)))) ≡ b
     → reports_before force d items (suc (length front))
-    ≡ cond b (added_to (key_in d h) (bits_of (extent h.force)) (fields_of h.force h.opened h.fields (start_in d h) (data_of x) (extent h.force)) (reports_in d h.descriptor)) (reports_in d h.descriptor)
+    ≡ cond b (added_to (key_in d h) (bits_of (extent h.force))
+    (fields_of h.force h.opened h.fields (start_in d h) (data_of x) (extent h.force))
+    (reports_in d h.descriptor)) (reports_in d h.descriptor)
 listed-by true force kept items front rest h x d e held t =
     let k = length front in
     let key_of = λ (p : Indexed). key force d items p.0 in
     let bits = λ (p : Indexed). bits_of (extent (force p.0)) in
     let parts = fields_at force d items in
     let ms = makers force d items k in
-    ap (reports_of key_of bits parts) (makers-next force items front rest x d e ∙ ap (λ b. ms ++ cond b ((k, x) ∷ []) []) t)
+    ap (reports_of key_of bits parts)
+    (makers-next force items front rest x d e ∙ ap (λ b. ms ++ cond b ((k, x) ∷ []) []) t)
     ∙ reports-next key_of bits parts ms (k, x)
-    ∙ ap (λ id. added_to id (bits_of (extent (force k))) (fields_at force d items (k, x)) (reports_of key_of bits parts ms)) (key-held force kept items k h d held)
-    ∙ ap (λ f. added_to (key_in d h) (bits_of (extent f)) (fields_at force d items (k, x)) (reports_of key_of bits parts ms)) (sym held.in_force)
-    ∙ ap (λ fs. added_to (key_in d h) (bits_of (extent h.force)) fs (reports_of key_of bits parts ms)) (fields-held force kept items k h d x held)
-    ∙ ap (added_to (key_in d h) (bits_of (extent h.force)) (fields_of h.force h.opened h.fields (start_in d h) (data_of x) (extent h.force))) (sym (held.listed d))
+    ∙ ap (λ id. added_to id (bits_of (extent (force k))) (fields_at force d items (k, x))
+    (reports_of key_of bits parts ms)) (key-held force kept items k h d held)
+    ∙ ap (λ f. added_to (key_in d h) (bits_of (extent f)) (fields_at force d items (k, x))
+    (reports_of key_of bits parts ms)) (sym held.in_force)
+    ∙ ap (λ fs. added_to (key_in d h) (bits_of (extent h.force)) fs
+    (reports_of key_of bits parts ms)) (fields-held force kept items k h d x held)
+    ∙ ap (added_to (key_in d h) (bits_of (extent h.force))
+    (fields_of h.force h.opened h.fields (start_in d h) (data_of x) (extent h.force)))
+    (sym (held.listed d))
 listed-by false force kept items front rest h x d e held t =
     let k = length front in
     let ms = makers force d items k in
-    ap (reports_of (λ p. key force d items p.0) (λ p. bits_of (extent (force p.0))) (fields_at force d items)) (makers-next force items front rest x d e ∙ ap (λ b. ms ++ cond b ((k, x) ∷ []) []) t ∙ append-nil ms)
+    ap (reports_of (λ p. key force d items p.0) (λ p. bits_of (extent (force p.0)))
+    (fields_at force d items)) (makers-next force items front rest x d e
+    ∙ ap (λ b. ms ++ cond b ((k, x) ∷ []) []) t ∙ append-nil ms)
     ∙ sym (held.listed d)
 
-listed-next : (force : ℕ → Force) (kept : ℕ → List Force) (items front rest : List ItemType) (h : Held) (x : ItemType) (d : Direction) → items ≡ front ++ x ∷ rest → Holds force kept items (length front) h
+listed-next : (force : ℕ → Force) (kept : ℕ → List Force) (items front rest : List ItemType)
+    (h : Held) (x : ItemType) (d : Direction) → items ≡ front ++ x ∷ rest
+    → Holds force kept items (length front) h
     → reports_before force d items (suc (length front)) ≡ next_reports d h x
 listed-next force kept items front rest h x d e held =
-    listed-by (adds d h x) force kept items front rest h x d e held (ap (λ f. goes d (data_of x) && is_some (extent f)) (sym held.in_force))
+    listed-by (adds d h x) force kept items front rest h x d e held
+    (ap (λ f. goes d (data_of x) && is_some (extent f)) (sym held.in_force))
 
 -- the first report's id, with one more item
-first-more : (force : ℕ → Force) (items : List ItemType) (ms : List Indexed) (key_of : Indexed → Option ℕ) (bits : Indexed → ℕ) (parts : Indexed → List FieldRecord) (m : Indexed)
-    → (ms ≡ [] → (force m.0).report_id ≡ key_of m) → first_report_id force ms ≡ first_id (reports_of key_of bits parts ms)
+first-more : (force : ℕ → Force) (items : List ItemType) (ms : List Indexed)
+    (key_of : Indexed → Option ℕ) (bits : Indexed → ℕ) (parts : Indexed → List FieldRecord)
+    (m : Indexed)
+    → (ms ≡ [] → (force m.0).report_id ≡ key_of m)
+    → first_report_id force ms ≡ first_id (reports_of key_of bits parts ms)
     → first_report_id force (ms ++ m ∷ []) ≡ first_id (reports_of key_of bits parts (ms ++ m ∷ []))
 first-more force items [] key_of bits parts m new old = new refl
 first-more force items (p ∷ ps) key_of bits parts m new old = old
 
-first-by : (b : Bool) (force : ℕ → Force) (kept : ℕ → List Force) (items front rest : List ItemType) (h : Held) (x : ItemType) (d : Direction) → items ≡ front ++ x ∷ rest → Holds force kept items (length front) h
+first-by : (b : Bool) (force : ℕ → Force) (kept : ℕ → List Force) (items front rest : List ItemType)
+    (h : Held) (x : ItemType) (d : Direction) → items ≡ front ++ x ∷ rest
+    → Holds force kept items (length front) h
     → (goes d (data_of x) && is_some (extent (force (length front)))) ≡ b
-    → first_report_id force (makers force d items (suc (length front))) ≡ first_id (reports_before force d items (suc (length front)))
+    → first_report_id force (makers force d items (suc (length front))) ≡ first_id
+    (reports_before force d items (suc (length front)))
 first-by b force kept items front rest h x d e held t = first-at b refl where
   k : ℕ
   k = length front
@@ -165,22 +234,30 @@ first-by b force kept items front rest h x d e held t = first-at b refl where
   old = held.first d ∙ ap first_id (held.listed d)
 
   all : (c : Bool) → b ≡ c → makers force d items (suc k) ≡ ms ++ cond c ((k, x) ∷ []) []
-  all c s = makers-next force items front rest x d e ∙ ap (λ b. ms ++ cond b ((k, x) ∷ []) []) (t ∙ s)
+  all c s = makers-next force items front rest x d e
+      ∙ ap (λ b. ms ++ cond b ((k, x) ∷ []) []) (t ∙ s)
 
   both : List Indexed → Type 0
   both l = first_report_id force l ≡ first_id (reports_of key_of bits (fields_at force d items) l)
 
   first-at : (c : Bool) → b ≡ c → both (makers force d items (suc k))
-  first-at true s = subst both (sym (all true s)) (first-more force items ms key_of bits (fields_at force d items) (k, x) (λ n. sym (ap (λ l. first_of (force k).report_id (first_report_id force l)) n ∙ first_of-none (force k).report_id)) old)
+  first-at true s = subst both (sym (all true s))
+      (first-more force items ms key_of bits (fields_at force d items) (k, x)
+      (λ n. sym (ap (λ l. first_of (force k).report_id (first_report_id force l)) n
+      ∙ first_of-none (force k).report_id)) old)
   first-at false s = subst both (sym (all false s ∙ append-nil ms)) old
 
 -- the number of fields, with one more item
-sum-next : (b : Bool) (f : Indexed → ℕ) (ms : List Indexed) (m : Indexed) → sum_by f (ms ++ cond b (m ∷ []) []) ≡ sum_by f ms + cond b (f m) 0
-sum-next true f ms m = sum_by-append f ms (m ∷ []) ∙ ap (λ n. sum_by f ms + n) (let e : sum_by f (m ∷ []) ≡ f m = grind (arith, common_steps) in e)
+sum-next : (b : Bool) (f : Indexed → ℕ) (ms : List Indexed) (m : Indexed)
+    → sum_by f (ms ++ cond b (m ∷ []) []) ≡ sum_by f ms + cond b (f m) 0
+sum-next true f ms m = sum_by-append f ms (m ∷ [])
+    ∙ ap (λ n. sum_by f ms + n) (let e : sum_by f (m ∷ []) ≡ f m = grind (arith, common_steps) in e)
 sum-next false f ms m = ap (sum_by f) (append-nil ms) ∙ sym (add-zero (sum_by f ms))
 
 one-direction : (o : Option (Direction × Flags)) (e : Option (ℕ × ℕ))
-    → cond (goes Input o && is_some e) (fields_made o e) 0 + (cond (goes Output o && is_some e) (fields_made o e) 0 + cond (goes Feature o && is_some e) (fields_made o e) 0) ≡ fields_made o e
+    → cond (goes Input o && is_some e) (fields_made o e) 0 +
+    (cond (goes Output o && is_some e) (fields_made o e) 0 + cond (goes Feature o && is_some e)
+    (fields_made o e) 0) ≡ fields_made o e
 one-direction None e = refl
 one-direction (Some (Input, flags)) None = refl
 one-direction (Some (Output, flags)) None = refl
@@ -189,32 +266,43 @@ one-direction (Some (Input, flags)) (Some e) = omega arith
 one-direction (Some (Output, flags)) (Some e) = omega arith
 one-direction (Some (Feature, flags)) (Some e) = omega arith
 
-numbered-next : (force : ℕ → Force) (kept : ℕ → List Force) (items front rest : List ItemType) (h : Held) (x : ItemType) → items ≡ front ++ x ∷ rest → Holds force kept items (length front) h
-    → fields_before force items (suc (length front)) ≡ h.fields + fields_made (data_of x) (extent h.force)
+numbered-next : (force : ℕ → Force) (kept : ℕ → List Force) (items front rest : List ItemType)
+    (h : Held) (x : ItemType) → items ≡ front ++ x ∷ rest → Holds force kept items (length front) h
+    → fields_before force items (suc (length front)) ≡ h.fields + fields_made (data_of x)
+    (extent h.force)
 numbered-next force kept items front rest h x e held =
     let k = length front in
     let f = λ (p : Indexed). fields_made (data_of p.1) (extent (force p.0)) in
     let o = data_of x in
     let a = extent (force k) in
-    let in_next = ap (sum_by f) (makers-next force items front rest x Input e) ∙ sum-next (goes Input o && is_some a) f (makers force Input items k) (k, x) in
-    let out_next = ap (sum_by f) (makers-next force items front rest x Output e) ∙ sum-next (goes Output o && is_some a) f (makers force Output items k) (k, x) in
-    let feature_next = ap (sum_by f) (makers-next force items front rest x Feature e) ∙ sum-next (goes Feature o && is_some a) f (makers force Feature items k) (k, x) in
+    let in_next = ap (sum_by f) (makers-next force items front rest x Input e)
+    ∙ sum-next (goes Input o && is_some a) f (makers force Input items k) (k, x) in
+    let out_next = ap (sum_by f) (makers-next force items front rest x Output e)
+    ∙ sum-next (goes Output o && is_some a) f (makers force Output items k) (k, x) in
+    let feature_next = ap (sum_by f) (makers-next force items front rest x Feature e)
+    ∙ sum-next (goes Feature o && is_some a) f (makers force Feature items k) (k, x) in
     let one = one-direction o a in
-    let old : h.fields ≡ sum_by f (makers force Input items k) + (sum_by f (makers force Output items k) + sum_by f (makers force Feature items k)) = held.numbered in
-    let joined : fields_before force items (suc k) ≡ h.fields + fields_made o a = omega (arith, in_next, out_next, feature_next, one, old) in
+    let old : h.fields ≡ sum_by f (makers force Input items k) +
+    (sum_by f (makers force Output items k) + sum_by f (makers force Feature items k)) =
+    held.numbered in
+    let joined : fields_before force items (suc k) ≡ h.fields + fields_made o a =
+    omega (arith, in_next, out_next, feature_next, one, old) in
     joined ∙ ap (λ g. h.fields + fields_made o (extent g)) (sym held.in_force)
 
-in_direction : (d : Direction) (h : Held) (x : ItemType) → reports_in d (next_held h x).descriptor ≡ next_reports d h x
+in_direction : (d : Direction) (h : Held) (x : ItemType)
+    → reports_in d (next_held h x).descriptor ≡ next_reports d h x
 in_direction Input h x = refl
 in_direction Output h x = refl
 in_direction Feature h x = refl
 
 -- the open collections, with one more item
-record OpenedNext (force : ℕ → Force) (items : List ItemType) (k : ℕ) (h : Held) (x : ItemType) : Type 0 where
+record OpenedNext (force : ℕ → Force) (items : List ItemType) (k : ℕ) (h : Held) (x : ItemType) :
+    Type 0 where
   pub stands : Stands items (suc k)
   pub inside : next_opened h x ≡ collections_at force items (suc k)
 
-not_both_kinds : (x : ItemType) (kind : CollectionItem) → collection_of x ≡ Some kind → is_end_collection x ≡ false
+not_both_kinds : (x : ItemType) (kind : CollectionItem) → collection_of x ≡ Some kind
+    → is_end_collection x ≡ false
 not_both_kinds (item.Main (main.Collection kind)) k h = refl
 not_both_kinds (item.Main main.EndCollection) k h = cc
 not_both_kinds (item.Main y) k h = cc
@@ -228,8 +316,10 @@ some-deep true n e h = cc
 some-deep false n e h = grind (arith, nat_tests)
 
 -- an EndCollection without a fault closes a collection
-end-deep : (h : Held) (x : ItemType) → is_end_collection x ≡ true → fault_in h x ≡ None → 0 < length h.opened
-end-deep h (item.Main main.EndCollection) e faultless = some-deep (length h.opened == 0) (length h.opened) refl faultless
+end-deep : (h : Held) (x : ItemType) → is_end_collection x ≡ true → fault_in h x ≡ None
+    → 0 < length h.opened
+end-deep h (item.Main main.EndCollection) e faultless =
+    some-deep (length h.opened == 0) (length h.opened) refl faultless
 end-deep h (item.Main (main.Input flags)) e faultless = cc
 end-deep h (item.Main (main.Output flags)) e faultless = cc
 end-deep h (item.Main (main.Feature flags)) e faultless = cc
@@ -239,21 +329,50 @@ end-deep h (item.Local y) e faultless = cc
 end-deep h item.Long e faultless = cc
 end-deep h item.Reserved e faultless = cc
 
-opened-by : (o : Option CollectionItem) (b : Bool) (force : ℕ → Force) (kept : ℕ → List Force) (items front rest : List ItemType) (h : Held) (x : ItemType) → items ≡ front ++ x ∷ rest → Holds force kept items (length front) h
-    → fault_in h x ≡ None → collection_of x ≡ o → is_end_collection x ≡ b → OpenedNext force items (length front) h x
+opened-by : (o : Option CollectionItem) (b : Bool) (force : ℕ → Force) (kept : ℕ → List Force)
+    (items front rest : List ItemType) (h : Held) (x : ItemType) → items ≡ front ++ x ∷ rest
+    → Holds force kept items (length front) h
+    → fault_in h x ≡ None → collection_of x ≡ o → is_end_collection x ≡ b
+    → OpenedNext force items (length front) h x
 opened-by (Some kind) b force kept items front rest h x e held faultless opens closes =
     let k = length front in
     let plain : is_end_collection x ≡ false = not_both_kinds x kind opens in
     let next = opened-next items front rest x e held.stands (ap is_some opens) plain in
-    let new : collection_record force items (k, x) ≡ record { id = h.collections; kind = kind; usages = (list_or_none (usages_of h.force)).usages } =
-    ap (λ (o : Option CollectionItem). record { id = collections_before items k; kind = unwrap_or o kinds.Physical; usages = (list_or_none (usages_of (force k))).usages }) opens
-    ∙ ap (λ (n : ℕ). record { id = n; kind = kind; usages = (list_or_none (usages_of (force k))).usages }) (sym held.counted)
-    ∙ ap (λ (f : Force). record { id = h.collections; kind = kind; usages = (list_or_none (usages_of f)).usages }) (sym held.in_force) in
+    let new : collection_record force items (k, x) ≡ record {
+      id = h.collections;
+      kind = kind;
+      usages =
+          (list_or_none (usages_of h.force)).usages;
+    } =
+    ap (λ (o : Option CollectionItem). record {
+      id = collections_before items k;
+      kind = unwrap_or o kinds.Physical;
+      usages =
+          (list_or_none (usages_of (force k))).usages;
+    }) opens
+    ∙ ap (λ (n : ℕ). record {
+      id = n;
+      kind = kind;
+      usages =
+          (list_or_none (usages_of (force k))).usages;
+    }) (sym held.counted)
+    ∙ ap (λ (f : Force). record {
+      id = h.collections;
+      kind = kind;
+      usages =
+          (list_or_none (usages_of f)).usages;
+    }) (sym held.in_force) in
     record {
       stands = next.1;
-      inside = ap (λ c. cond c (take (length h.opened - 1) h.opened) (h.opened ++ new_collection h (collection_of x))) plain
+      inside = ap (λ c. cond c (take (length h.opened - 1) h.opened)
+          (h.opened ++ new_collection h (collection_of x))) plain
           ∙ ap (λ o. h.opened ++ new_collection h o) opens
-          ∙ ap (λ l. l ++ record { id = h.collections; kind = kind; usages = (list_or_none (usages_of h.force)).usages } ∷ []) held.inside
+          ∙ ap (λ l. l ++ record {
+            id = h.collections;
+            kind = kind;
+            usages =
+                (list_or_none (usages_of h.force)).usages;
+          } ∷ []) held.inside
           ∙ ap (λ (c : CollectionRecord). collections_at force items k ++ c ∷ []) (sym new)
           ∙ sym (map-append (collection_record force items) (open_at items k) ((k, x) ∷ []))
           ∙ ap (map (collection_record force items)) (sym next.0);
@@ -263,25 +382,31 @@ opened-by None false force kept items front rest h x e held faultless opens clos
     let next = plain-next items front rest x e held.stands (ap is_some opens) closes in
     record {
       stands = next.1;
-      inside = ap (λ c. cond c (take (length h.opened - 1) h.opened) (h.opened ++ new_collection h (collection_of x))) closes
+      inside = ap (λ c. cond c (take (length h.opened - 1) h.opened)
+          (h.opened ++ new_collection h (collection_of x))) closes
           ∙ ap (λ o. h.opened ++ new_collection h o) opens ∙ append-nil h.opened
           ∙ held.inside ∙ ap (map (collection_record force items)) (sym next.0);
     }
 opened-by None true force kept items front rest h x e held faultless opens closes =
     let k = length front in
-    let deep : 0 < depth items k = omega (arith, end-deep h x closes faultless, depth-held force kept items k h held) in
+    let deep : 0 < depth items k =
+    omega (arith, end-deep h x closes faultless, depth-held force kept items k h held) in
     let next = closed-next items front rest x e held.stands (ap is_some opens) closes deep in
-    let size : length h.opened ≡ length (open_at items k) = sym (depth-held force kept items k h held) ∙ sym (open-length items k held.stands) in
+    let size : length h.opened ≡ length (open_at items k) =
+    sym (depth-held force kept items k h held) ∙ sym (open-length items k held.stands) in
     record {
       stands = next.1;
-      inside = ap (λ c. cond c (take (length h.opened - 1) h.opened) (h.opened ++ new_collection h (collection_of x))) closes
+      inside = ap (λ c. cond c (take (length h.opened - 1) h.opened)
+          (h.opened ++ new_collection h (collection_of x))) closes
           ∙ ap (λ n. take (n - 1) h.opened) size
           ∙ ap (take (length (open_at items k) - 1)) held.inside
-          ∙ take-map (collection_record force items) (length (open_at items k) - 1) (open_at items k)
+          ∙ take-map (collection_record force items) (length (open_at items k) - 1)
+          (open_at items k)
           ∙ ap (map (collection_record force items)) (sym next.0);
     }
 
-one-opened : (h : Held) (o : Option CollectionItem) → length (new_collection h o) ≡ cond (is_some o) 1 0
+one-opened : (h : Held) (o : Option CollectionItem)
+    → length (new_collection h o) ≡ cond (is_some o) 1 0
 one-opened h None = refl
 one-opened h (Some kind) = refl
 
@@ -291,7 +416,8 @@ some-kept false n e h = grind (arith, nat_tests)
 
 -- a Pop without a fault has an open Push
 pop-deep : (h : Held) (x : ItemType) → is_pop x ≡ true → fault_in h x ≡ None → 0 < length h.kept
-pop-deep h (item.Global global.Pop) e faultless = some-kept (length h.kept == 0) (length h.kept) refl faultless
+pop-deep h (item.Global global.Pop) e faultless =
+    some-kept (length h.kept == 0) (length h.kept) refl faultless
 pop-deep h (item.Global global.Push) e faultless = cc
 pop-deep h (item.Global g) e faultless = cc
 pop-deep h (item.Main y) e faultless = cc
@@ -300,76 +426,114 @@ pop-deep h item.Long e faultless = cc
 pop-deep h item.Reserved e faultless = cc
 
 -- what is held goes on by one item
-pub holds-next : (keeping : Keeping) (force : ℕ → Force) (kept : ℕ → List Force) (items front rest : List ItemType) (h : Held) (x : ItemType) → Follows keeping force kept items
-    → h.keeping ≡ keeping → items ≡ front ++ x ∷ rest → Holds force kept items (length front) h → fault_in h x ≡ None → Holds force kept items (suc (length front)) (next_held h x)
+pub holds-next : (keeping : PushKeeps) (force : ℕ → Force) (kept : ℕ → List Force)
+    (items front rest : List ItemType) (h : Held) (x : ItemType) → Follows keeping force kept items
+    → h.keeping ≡ keeping → items ≡ front ++ x ∷ rest → Holds force kept items (length front) h
+    → fault_in h x ≡ None → Holds force kept items (suc (length front)) (next_held h x)
 holds-next keeping force kept items front rest h x follows reads e held faultless =
     let k = length front in
-    let opened = opened-by (collection_of x) (is_end_collection x) force kept items front rest h x e held faultless refl refl in
-    let deep : is_pop x ≡ true → 0 < level items k = λ pop. omega (arith, pop-deep h x pop faultless, ap length held.keeps, follows.leveled k) in
+    let opened = opened-by (collection_of x) (is_end_collection x) force kept items front rest h x e
+    held faultless refl refl in
+    let deep : is_pop x ≡ true
+    → 0 < level items k = λ pop. omega
+    (arith, pop-deep h x pop faultless, ap length held.keeps, follows.leveled k) in
     let stepped = follows.goes_on front rest x e held.rests deep in
     record {
-      in_force = ap (λ r. cond (is_pop x) (brought_back r h.force (last_force h.force h.kept)) (next_force h.force x)) reads
-          ∙ ap (λ f. cond (is_pop x) (brought_back keeping f (last_force f h.kept)) (next_force f x)) held.in_force
-          ∙ ap (λ l. cond (is_pop x) (brought_back keeping (force k) (last_force (force k) l)) (next_force (force k) x)) held.keeps ∙ sym stepped.in_force_next;
+      in_force = ap (λ r. cond (is_pop x) (brought_back r h.force (last_force h.force h.kept))
+          (next_force h.force x)) reads
+          ∙ ap (λ f. cond (is_pop x) (brought_back keeping f (last_force f h.kept))
+          (next_force f x)) held.in_force
+          ∙ ap (λ l. cond (is_pop x) (brought_back keeping (force k) (last_force (force k) l))
+          (next_force (force k) x)) held.keeps ∙ sym stepped.in_force_next;
       rests = stepped.rests_next;
-      keeps = ap (λ r. cond (is_pop x) (take (length h.kept - 1) h.kept) (cond (is_push x) (h.kept ++ kept_of r h.force ∷ []) h.kept)) reads
-          ∙ ap (λ l. cond (is_pop x) (take (length l - 1) l) (cond (is_push x) (l ++ kept_of keeping h.force ∷ []) l)) held.keeps
-          ∙ ap (λ f. cond (is_pop x) (take (length (kept k) - 1) (kept k)) (cond (is_push x) (kept k ++ kept_of keeping f ∷ []) (kept k))) held.in_force ∙ sym stepped.kept_next;
+      keeps = ap (λ r. cond (is_pop x) (take (length h.kept - 1) h.kept)
+          (cond (is_push x) (h.kept ++ kept_of r h.force ∷ []) h.kept)) reads
+          ∙ ap (λ l. cond (is_pop x) (take (length l - 1) l)
+          (cond (is_push x) (l ++ kept_of keeping h.force ∷ []) l)) held.keeps
+          ∙ ap (λ f. cond (is_pop x) (take (length (kept k) - 1) (kept k))
+          (cond (is_push x) (kept k ++ kept_of keeping f ∷ []) (kept k))) held.in_force
+          ∙ sym stepped.kept_next;
       listed = λ d. in_direction d h x ∙ sym (listed-next force kept items front rest h x d e held);
-      first = λ d. first-by (goes d (data_of x) && is_some (extent (force (length front)))) force kept items front rest h x d e held refl
-          ∙ ap first_id (listed-next force kept items front rest h x d e held ∙ sym (in_direction d h x));
+      first = λ d. first-by (goes d (data_of x) && is_some (extent (force (length front)))) force
+          kept items front rest h x d e held refl
+          ∙ ap first_id (listed-next force kept items front rest h x d e held
+          ∙ sym (in_direction d h x));
       numbered = sym (numbered-next force kept items front rest h x e held);
       stands = opened.stands;
       inside = opened.inside;
-      counted = ap (λ n. n + length (new_collection h (collection_of x))) held.counted ∙ ap (λ n. collections_before items (length front) + n) (one-opened h (collection_of x))
+      counted = ap (λ n. n + length (new_collection h (collection_of x))) held.counted
+          ∙ ap (λ n. collections_before items (length front) + n) (one-opened h (collection_of x))
           ∙ sym (count-next is_collection items front rest x e);
     }
 
 -- the fault of the item, and what the rest gives where it has none
-walked-by : (o : Option MeaningFault) (force : ℕ → Force) (items : List ItemType) (k : ℕ) (h : Held) (x : ItemType) (xs : List ItemType) (all : DescriptorRecord)
+walked-by : (o : Option MeaningFault) (force : ℕ → Force) (items : List ItemType) (k : ℕ) (h : Held)
+    (x : ItemType) (xs : List ItemType) (all : DescriptorRecord)
     → fault force items k x ≡ fault_in h x → fault_in h x ≡ o
-    → (fault_in h x ≡ None → walk (next_held h x) (k + 1) xs ≡ unless_first (first_fault force items (enumerate_from (k + 1) xs)) all)
+    → (fault_in h x ≡ None
+    → walk (next_held h x) (k + 1) xs ≡ unless_first
+    (first_fault force items (enumerate_from (k + 1) xs)) all)
     → walk h k (x ∷ xs) ≡ unless_first (first_fault force items (enumerate_from k (x ∷ xs))) all
 walked-by None force items k h x xs all same e rest =
     ap (λ f. go_on (unless_fault f (next_held h x)) k (λ next. walk next (k + 1) xs)) e ∙ rest e
-    ∙ sym (ap (λ f. unless_first (fault_here f k (first_fault force items (enumerate_from (k + 1) xs))) all) (same ∙ e))
+    ∙ sym (ap (λ f. unless_first (fault_here f k
+    (first_fault force items (enumerate_from (k + 1) xs))) all) (same ∙ e))
 walked-by (Some f) force items k h x xs all same e rest =
     ap (λ f. go_on (unless_fault f (next_held h x)) k (λ next. walk next (k + 1) xs)) e
-    ∙ sym (ap (λ f. unless_first (fault_here f k (first_fault force items (enumerate_from (k + 1) xs))) all) (same ∙ e))
+    ∙ sym (ap (λ f. unless_first (fault_here f k
+    (first_fault force items (enumerate_from (k + 1) xs))) all) (same ∙ e))
 
-descriptor-of : (r : DescriptorRecord) (i o f : List ReportRecord) → r.input ≡ i → r.output ≡ o → r.feature ≡ f → r ≡ record { input = i; output = o; feature = f }
+descriptor-of : (r : DescriptorRecord) (i o f : List ReportRecord) → r.input ≡ i → r.output ≡ o
+    → r.feature ≡ f → r ≡ record { input = i; output = o; feature = f }
 descriptor-of r i o f p q s =
-    let first : r ≡ record { input = i; output = r.output; feature = r.feature } = ap (λ a. record { input = a; output = r.output; feature = r.feature }) p in
-    first ∙ ap (λ a. record { input = i; output = a; feature = r.feature }) q ∙ ap (λ a. record { input = i; output = o; feature = a }) s
+    let first : r ≡ record { input = i; output = r.output; feature = r.feature } =
+    ap (λ a. record { input = a; output = r.output; feature = r.feature }) p in
+    first ∙ ap (λ a. record { input = i; output = a; feature = r.feature }) q
+    ∙ ap (λ a. record { input = i; output = o; feature = a }) s
 
-pub at-end : (force : ℕ → Force) (kept : ℕ → List Force) (items : List ItemType) (h : Held) → Holds force kept items (length items) h → h.descriptor ≡ descriptor force items
-at-end force kept items h held = descriptor-of h.descriptor (reports force Input items) (reports force Output items) (reports force Feature items) (held.listed Input) (held.listed Output) (held.listed Feature)
+pub at-end : (force : ℕ → Force) (kept : ℕ → List Force) (items : List ItemType) (h : Held)
+    → Holds force kept items (length items) h → h.descriptor ≡ descriptor force items
+at-end force kept items h held =
+    descriptor-of h.descriptor (reports force Input items) (reports force Output items)
+    (reports force Feature items) (held.listed Input) (held.listed Output) (held.listed Feature)
 
-walk-from : (keeping : Keeping) (force : ℕ → Force) (kept : ℕ → List Force) (items front rest : List ItemType) (h : Held) → Follows keeping force kept items
+walk-from : (keeping : PushKeeps) (force : ℕ → Force) (kept : ℕ → List Force)
+    (items front rest : List ItemType) (h : Held) → Follows keeping force kept items
     → h.keeping ≡ keeping → items ≡ front ++ rest → Holds force kept items (length front) h
-    → walk h (length front) rest ≡ unless_first (first_fault force items (enumerate_from (length front) rest)) (descriptor force items)
+    → walk h (length front) rest ≡ unless_first
+    (first_fault force items (enumerate_from (length front) rest)) (descriptor force items)
 walk-from keeping force kept items front [] h follows reads e held =
     let whole : items ≡ front = e ∙ append-nil front in
-    ap Ok (at-end force kept items h (subst (λ n. Holds force kept items n h) (ap length (sym whole)) held))
+    ap Ok (at-end force kept items h
+    (subst (λ n. Holds force kept items n h) (ap length (sym whole)) held))
 walk-from keeping force kept items front (x ∷ xs) h follows reads e held =
     let k = length front in
     let more : items ≡ (front ++ x ∷ []) ++ xs = e ∙ sym (append_assoc front (x ∷ []) xs) in
     let size : length (front ++ x ∷ []) ≡ suc k = grind (arith, common_steps) in
     let size_one : length (front ++ x ∷ []) ≡ k + 1 = size ∙ sym (add-one k) in
-    walked-by (fault_in h x) force items k h x xs (descriptor force items) (fault-held force kept items k h x follows.leveled held) refl
+    walked-by (fault_in h x) force items k h x xs (descriptor force items)
+    (fault-held force kept items k h x follows.leveled held) refl
     (λ faultless.
     let next : Holds force kept items (length (front ++ x ∷ [])) (next_held h x) =
-    subst (λ n. Holds force kept items n (next_held h x)) (sym size) (holds-next keeping force kept items front xs h x follows reads e held faultless) in
-    subst (λ n. walk (next_held h x) n xs ≡ unless_first (first_fault force items (enumerate_from n xs)) (descriptor force items)) size_one
-    (walk-from keeping force kept items (front ++ x ∷ []) xs (next_held h x) follows reads more next))
+    subst (λ n. Holds force kept items n (next_held h x)) (sym size)
+    (holds-next keeping force kept items front xs h x follows reads e held faultless) in
+    subst (λ n. walk (next_held h x) n xs ≡ unless_first
+    (first_fault force items (enumerate_from n xs)) (descriptor force items)) size_one
+    (walk-from keeping force kept items (front ++ x ∷ []) xs (next_held h x) follows reads more
+    next))
 
-pub holds-nothing : (keeping : Keeping) (force : ℕ → Force) (kept : ℕ → List Force) (items : List ItemType) → Follows keeping force kept items → Holds force kept items 0 (nothing_held keeping)
+pub holds-nothing : (keeping : PushKeeps) (force : ℕ → Force) (kept : ℕ → List Force)
+    (items : List ItemType) → Follows keeping force kept items
+    → Holds force kept items 0 (nothing_held keeping)
 holds-nothing keeping force kept items follows = record {
   in_force = follows.begins;
   rests = rests-nothing items;
   keeps = follows.empty;
-  listed = λ d. elim d as (λ d. reports_in d (nothing_held keeping).descriptor ≡ reports_before force d items 0) [ Input ↦ refl | Output ↦ refl | Feature ↦ refl ];
-  first = λ d. elim d as (λ d. first_report_id force (makers force d items 0) ≡ first_id (reports_in d (nothing_held keeping).descriptor)) [ Input ↦ refl | Output ↦ refl | Feature ↦ refl ];
+  listed = λ d. elim d as (λ d. reports_in d (nothing_held keeping).descriptor ≡ reports_before
+      force d items 0) [ Input ↦ refl | Output ↦ refl | Feature ↦ refl ];
+  first = λ d. elim d as (λ d. first_report_id force (makers force d items 0) ≡ first_id
+      (reports_in d (nothing_held keeping).descriptor))
+      [ Input ↦ refl | Output ↦ refl | Feature ↦ refl ];
   numbered = refl;
   stands = stands-nothing items;
   inside = refl;
@@ -377,7 +541,9 @@ holds-nothing keeping force kept items follows = record {
 }
 
 -- the walk gives the meaning, by each reading that it follows
-pub walk-follows : (keeping : Keeping) (reading : PushReading) (kept : ℕ → List Force) (items : List ItemType) → Follows keeping (reading items) kept items
+pub walk-follows : (keeping : PushKeeps) (reading : PushReading) (kept : ℕ → List Force)
+    (items : List ItemType) → Follows keeping (reading items) kept items
     → walk (nothing_held keeping) 0 items ≡ meaning_by reading items
 walk-follows keeping reading kept items follows =
-    walk-from keeping (reading items) kept items [] items (nothing_held keeping) follows refl refl (holds-nothing keeping (reading items) kept items follows)
+    walk-from keeping (reading items) kept items [] items (nothing_held keeping) follows refl refl
+    (holds-nothing keeping (reading items) kept items follows)

@@ -1,16 +1,19 @@
 -- What the fields of a data item weigh, from the numbers in force.
-use Rattle.std.proofs.Common.{◌≡◌, ℕ, zero, suc, ◌+◌, ◌*◌, ◌-◌, Bool, true, false, length, Option, None, Some, refl, sym, ap, ◌∙◌, subst, zero-add, arith}
+use Rattle.std.proofs.Common.{◌≡◌, ℕ, zero, suc, ◌+◌, ◌*◌, ◌-◌, Bool, true, false, length, Option}
+use Rattle.std.proofs.Common.{None, Some, refl, sym, ap, ◌∙◌, subst, zero-add, arith}
 use Rattle.std.specs.Prelude.{nat_lt, sum_by}
 use Rattle.std.proofs.Math.Nat.{suc-mul}
 use Rattle.std.proofs.lemmas.Bool.Decides.{nat_tests}
 use Rattle.std.proofs.lemmas.List.Sums.{sum_by-cons}
 use Rattle.hidreport_items.specs.Flags.{Flags}
-use Rattle.hidreport.specs.Fields.{attributes, each_from, field_count, fields_of, list_or_none, make_fields, make_place, usage_at}
+use Rattle.hidreport.specs.Fields.{attributes, each_from, field_count, fields_of, list_or_none}
+use Rattle.hidreport.specs.Fields.{make_fields, make_place, usage_at}
 use Rattle.hidreport.specs.InForce.{Force, first_of}
 use Rattle.hidreport.specs.Kinds.{Direction, Input, Output, Feature}
 use Rattle.hidreport.specs.Making.{extent}
 use Rattle.hidreport.specs.MeaningFault.{PastBudget}
-use Rattle.hidreport.specs.Parser.Budget.{is_past, left_behind, past_fault, stop_in, weight_in, weight_of_each}
+use Rattle.hidreport.specs.Parser.Budget.{is_past, left_behind, past_fault, stop_in, weight_in}
+use Rattle.hidreport.specs.Parser.Budget.{weight_of_each}
 use Rattle.hidreport.specs.Parser.DataItem.{item_with}
 use Rattle.hidreport.specs.Parser.Machine.{Held, fault_in, start_in}
 use Rattle.hidreport.specs.Parser.Usages.{HasUsages, usage_list}
@@ -20,56 +23,82 @@ use Rattle.hidreport.specs.Weight.{collection_weight, field_weight}
 use Rattle.hidreport.specs.declared.parser.usages.Usages.{Usages}
 
 -- so many fields of one weight
-each-weight : (f : ℕ → FieldRecord) (w : ℕ) → ((c : ℕ) → field_weight (f c) ≡ w) → (c n : ℕ) → sum_by field_weight (each_from f c n) ≡ n * w
+each-weight : (f : ℕ → FieldRecord) (w : ℕ) → ((c : ℕ) → field_weight (f c) ≡ w) → (c n : ℕ)
+    → sum_by field_weight (each_from f c n) ≡ n * w
 each-weight f w one c zero = let e : 0 ≡ 0 * w = omega arith in e
 each-weight f w one c (suc n) =
     let here = one c in
     let rest = each-weight f w one (c + 1) n in
-    let all : sum_by field_weight (each_from f c (suc n)) ≡ field_weight (f c) + sum_by field_weight (each_from f (c + 1) n) =
+    let all : sum_by field_weight (each_from f c (suc n)) ≡ field_weight (f c) + sum_by field_weight
+    (each_from f (c + 1) n) =
     sum_by-cons field_weight (f c) (each_from f (c + 1) n) in
     let product : suc n * w ≡ n * w + w = suc-mul n w in
     omega (arith, all, here, rest, product)
 
 -- the fields of an item that makes some
-made-by : (constant variable : Bool) (report_id : Option ℕ) (id first : ℕ) (e : ℕ × ℕ) (flags : Flags) (us : UsageList) (shared : Attributes) → flags.constant ≡ constant → flags.variable ≡ variable
-    → sum_by field_weight (make_fields report_id id first e flags us shared) ≡ field_count flags e.1 * weight_of_each flags (length us.usages) (sum_by collection_weight shared.collections)
+made-by : (constant variable : Bool) (report_id : Option ℕ) (id first : ℕ) (e : ℕ × ℕ)
+    (flags : Flags) (us : UsageList) (shared : Attributes) → flags.constant ≡ constant
+    → flags.variable ≡ variable
+    → sum_by field_weight (make_fields report_id id first e flags us shared) ≡ field_count flags e.1
+    * weight_of_each flags (length us.usages) (sum_by collection_weight shared.collections)
 made-by true variable report_id id first e flags us shared c v = rw c refl
 made-by false true report_id id first e flags us shared c v =
-    rw (c, v) (each-weight (λ n. VariableRecord (make_place (id + n) report_id (first + n * e.0) e.0) (usage_at us.usages n) shared) (1 + sum_by collection_weight shared.collections) (λ n. refl) 0 e.1)
+    rw (c, v) (each-weight (λ n. VariableRecord
+    (make_place (id + n) report_id (first + n * e.0) e.0) (usage_at us.usages n) shared)
+    (1 + sum_by collection_weight shared.collections) (λ n. refl) 0 e.1)
 made-by false false report_id id first e flags us shared c v = rw (c, v) (omega arith)
 
 -- padding has no usages to weigh
-usages-by : (constant : Bool) (flags : Flags) (f : Force) (us : Usages) (count around : ℕ) → flags.constant ≡ constant → HasUsages flags f us
-    → field_count flags count * weight_of_each flags (length (list_or_none (usages_of f)).usages) around ≡ field_count flags count * weight_of_each flags (length (usage_list us).usages) around
+usages-by : (constant : Bool) (flags : Flags) (f : Force) (us : Usages) (count around : ℕ)
+    → flags.constant ≡ constant → HasUsages flags f us
+    → field_count flags count * weight_of_each flags (length (list_or_none (usages_of f)).usages)
+    around ≡ field_count flags count * weight_of_each flags (length (usage_list us).usages)
+    around
 usages-by true flags f us count around c has = rw c refl
-usages-by false flags f us count around c has = ap (λ (l : UsageList). field_count flags count * weight_of_each flags (length l.usages) around) (ap list_or_none (has c).0)
+usages-by false flags f us count around c has =
+    ap (λ (l : UsageList). field_count flags count * weight_of_each flags (length l.usages) around)
+    (ap list_or_none (has c).0)
 
-weight-with : (h : Held) (d : Direction) (flags : Flags) → weight_in h (item_with d flags) ≡ sum_by field_weight (fields_of h.force h.opened h.fields (start_in d h) (Some (d, flags)) (extent h.force))
+weight-with : (h : Held) (d : Direction) (flags : Flags)
+    → weight_in h (item_with d flags) ≡ sum_by field_weight
+    (fields_of h.force h.opened h.fields (start_in d h) (Some (d, flags)) (extent h.force))
 weight-with h Input flags = zero-add _
 weight-with h Output flags = zero-add _
 weight-with h Feature flags = zero-add _
 
 -- an item that makes no fields weighs nothing
-pub idle-weight : (h : Held) (d : Direction) (flags : Flags) → extent h.force ≡ None → weight_in h (item_with d flags) ≡ 0
-idle-weight h d flags idle = weight-with h d flags ∙ ap (λ e. sum_by field_weight (fields_of h.force h.opened h.fields (start_in d h) (Some (d, flags)) e)) idle
+pub idle-weight : (h : Held) (d : Direction) (flags : Flags) → extent h.force ≡ None
+    → weight_in h (item_with d flags) ≡ 0
+idle-weight h d flags idle = weight-with h d flags
+    ∙ ap (λ e. sum_by field_weight
+    (fields_of h.force h.opened h.fields (start_in d h) (Some (d, flags)) e)) idle
 
 -- the weight of a data item, from what the parser finds
-pub data-weight : (h : Held) (g : Force) (d : Direction) (flags : Flags) (size count : ℕ) (us : Usages) → g ≡ h.force → extent g ≡ Some (size, count) → HasUsages flags h.force us
-    → weight_in h (item_with d flags) ≡ field_count flags count * weight_of_each flags (length (usage_list us).usages) (sum_by collection_weight h.opened)
+pub data-weight : (h : Held) (g : Force) (d : Direction) (flags : Flags) (size count : ℕ)
+    (us : Usages) → g ≡ h.force → extent g ≡ Some (size, count) → HasUsages flags h.force us
+    → weight_in h (item_with d flags) ≡ field_count flags count * weight_of_each flags
+    (length (usage_list us).usages) (sum_by collection_weight h.opened)
 data-weight h g d flags size count us same made has =
     weight-with h d flags
-    ∙ ap (λ e. sum_by field_weight (fields_of h.force h.opened h.fields (start_in d h) (Some (d, flags)) e)) (ap extent (sym same) ∙ made)
-    ∙ made-by flags.constant flags.variable h.force.report_id h.fields (start_in d h) (size, count) flags (list_or_none (usages_of h.force)) (attributes h.force h.opened d flags) refl refl
+    ∙ ap (λ e. sum_by field_weight
+    (fields_of h.force h.opened h.fields (start_in d h) (Some (d, flags)) e))
+    (ap extent (sym same) ∙ made)
+    ∙ made-by flags.constant flags.variable h.force.report_id h.fields (start_in d h) (size, count)
+    flags (list_or_none (usages_of h.force)) (attributes h.force h.opened d flags) refl refl
     ∙ usages-by flags.constant flags h.force us count (sum_by collection_weight h.opened) refl has
 
 -- the same, from its numbers one by one
-pub data-weighs : (h now : Held) (g : Force) (d : Direction) (flags : Flags) (size count : ℕ) (us : Usages) (n w around : ℕ) → h ≡ now → g ≡ h.force → extent g ≡ Some (size, count) → HasUsages flags h.force us
-    → n ≡ field_count flags count → w ≡ weight_of_each flags (length (usage_list us).usages) around → around ≡ sum_by collection_weight h.opened
+pub data-weighs : (h now : Held) (g : Force) (d : Direction) (flags : Flags) (size count : ℕ)
+    (us : Usages) (n w around : ℕ) → h ≡ now → g ≡ h.force → extent g ≡ Some (size, count)
+    → HasUsages flags h.force us
+    → n ≡ field_count flags count → w ≡ weight_of_each flags (length (usage_list us).usages) around
+    → around ≡ sum_by collection_weight h.opened
     → weight_in now (item_with d flags) ≡ n * w
 data-weighs h now g d flags size count us n w around view same made has n_is w_is around_is =
     subst (λ (z : Held). weight_in z (item_with d flags) ≡ n * w) view
     (data-weight h g d flags size count us same made has
-    ∙ ap (λ m. field_count flags count * m) (sym (w_is ∙ ap (weight_of_each flags (length (usage_list us).usages)) around_is))
+    ∙ ap (λ m. field_count flags count * m)
+    (sym (w_is ∙ ap (weight_of_each flags (length (usage_list us).usages)) around_is))
     ∙ ap (λ m. m * w) (sym n_is))
 
 -- nothing weighs nothing
@@ -82,7 +111,9 @@ nothing-spent None = refl
 nothing-spent (Some n) = ap (λ m. Some m) (let e : n - 0 ≡ n = omega arith in e)
 
 -- an item without a fault that is past what is left
-pub stop-past : (left : Option ℕ) (h : Held) (d : Direction) (flags : Flags) (w : ℕ) → fault_in h (item_with d flags) ≡ None → weight_in h (item_with d flags) ≡ w → is_past left w ≡ true
+pub stop-past : (left : Option ℕ) (h : Held) (d : Direction) (flags : Flags) (w : ℕ)
+    → fault_in h (item_with d flags) ≡ None → weight_in h (item_with d flags) ≡ w
+    → is_past left w ≡ true
     → stop_in left h (item_with d flags) ≡ Some PastBudget
 stop-past left h d flags w faultless weighs past =
     ap (λ o. first_of o (past_fault (is_past left (weight_in h (item_with d flags))))) faultless

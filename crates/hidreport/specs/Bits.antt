@@ -14,7 +14,8 @@ covered (ConstantRecord place) = 0
 
 -- both have the same bits there
 abbrev pub AgreeOn : ℕ → ℕ → List ℕ → List ℕ → Type 0
-AgreeOn first count bytes other = (i : ℕ) → i < count → bit bytes (first + i) ≡ bit other (first + i)
+AgreeOn first count bytes other = (i : ℕ) → i < count
+    → bit bytes (first + i) ≡ bit other (first + i)
 
 -- where both bytes are read, the values are equal just where the bits of all elements are
 abbrev pub FixesBits : FieldRecord → List ℕ → Type 0

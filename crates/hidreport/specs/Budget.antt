@@ -1,5 +1,7 @@
--- Parsing under a budget: the reports that a descriptor announces, where listing them weighs no more than a limit.
-use Rattle.std.specs.Prelude.{ℕ, nat_le, Bool, false, if◌then◌else◌, List, [], ◌∷◌, map, Option, None, Some, Result, Ok, Err}
+-- Parsing under a budget: the reports that a descriptor announces, where listing them weighs no
+-- more than a limit.
+use Rattle.std.specs.Prelude.{ℕ, nat_le, Bool, false, if◌then◌else◌, List, [], ◌∷◌, map, Option}
+use Rattle.std.specs.Prelude.{None, Some, Result, Ok, Err}
 use Rattle.hidreport_items.specs.Answer.{Fault}
 use Rattle.hidreport_items.specs.Spelling.{item_of}
 use Rattle.hidreport_items.specs.declared.item.ItemType.{ItemType}
@@ -39,7 +41,8 @@ parse_items_within reading limit (Err fault) =
 parse_items_within reading limit (Ok entries) =
     at_offset entries (meaning_within_by reading limit (map (λ e. e.item) entries))
 
--- the reports that the bytes of a descriptor announce, or their first fault, or the item that is past the limit
+-- the reports that the bytes of a descriptor announce, or their first fault, or the item that is
+-- past the limit
 abbrev pub parse_within_by : PushReading → ℕ → List ℕ → Result DescriptorRecord Refusal
 parse_within_by reading limit [] = Err (InvalidAt 0 empty_descriptor)
 parse_within_by reading limit (b ∷ bs) =

@@ -1,5 +1,6 @@
 -- The usage that a value of an array stands for (Section 6.2.2.5).
-use Rattle.std.specs.Prelude.{ℤ, pos, ◌-ℤ◌, int_lt, nat_abs, if◌then◌else◌, ◌||◌, List, Option, None, slice_get}
+use Rattle.std.specs.Prelude.{ℤ, pos, ◌-ℤ◌, int_lt, nat_abs, if◌then◌else◌, ◌||◌, List, Option}
+use Rattle.std.specs.Prelude.{None, slice_get}
 use Rattle.std.specs.Int.{w32, cast_signed}
 use Rattle.hidreport.specs.Reading.{ValueRecord}
 use Rattle.hidreport.specs.declared.field.usage.Usage.{Usage}

@@ -1,5 +1,6 @@
 -- Faults of items (Sections 6.2.2.4 to 6.2.2.8): what an item can't mean where it stands.
-use Rattle.std.specs.Prelude.{ℕ, ◌+◌, ◌-◌, ◌*◌, ◌^◌, ◌==◌, nat_lt, nat_le, Bool, true, false, ◌||◌, if◌then◌else◌, List, [], ◌∷◌, Option, None, Some, Result, Ok, Err}
+use Rattle.std.specs.Prelude.{ℕ, ◌+◌, ◌-◌, ◌*◌, ◌^◌, ◌==◌, nat_lt, nat_le, Bool, true, false, ◌||◌}
+use Rattle.std.specs.Prelude.{if◌then◌else◌, List, [], ◌∷◌, Option, None, Some, Result, Ok, Err}
 use Rattle.hidreport_items.specs.Flags.{Flags}
 use Rattle.hidreport_items.specs.declared.main_item.MainItem.TheVariants as main
 use Rattle.hidreport_items.specs.declared.global.GlobalItem.TheVariants as global
@@ -9,7 +10,8 @@ use Rattle.hidreport.specs.Fields.{field_count, fields_before}
 use Rattle.hidreport.specs.InForce.{Force, first_of}
 use Rattle.hidreport.specs.Kinds.{Direction, data_of}
 use Rattle.hidreport.specs.Making.{extent}
-use Rattle.hidreport.specs.MeaningFault.{MeaningFault, TooManyPops, TooManyEnds, MissingUsages, PastBounds}
+use Rattle.hidreport.specs.MeaningFault.{MeaningFault, TooManyPops, TooManyEnds, MissingUsages}
+use Rattle.hidreport.specs.MeaningFault.{PastBounds}
 use Rattle.hidreport.specs.OpenCollections.{depth, collections_before}
 use Rattle.hidreport.specs.Places.{start}
 use Rattle.hidreport.specs.Usages.{UsageList, usages_of}
@@ -24,8 +26,8 @@ last_end = 2 ^ 64 - 1
 abbrev pub id_count : ℕ
 id_count = 2 ^ 32
 
--- what the definitions count before an item: open Pushes, open collections, collections and fields, and the bit
--- where the fields of a data item begin
+-- what the definitions count before an item: open Pushes, open collections, collections and fields,
+-- and the bit where the fields of a data item begin
 pub record Counts : Type 0 where
   pub level : ℕ
   pub depth : ℕ
@@ -52,12 +54,14 @@ abbrev pub limit_fault : Bool → Option MeaningFault
 limit_fault true = Some PastBounds
 limit_fault false = None
 
--- a data item that makes fields: its usages unless it is constant, then its report's end and the number of fields
+-- a data item that makes fields: its usages unless it is constant, then its report's end and the
+-- number of fields
 abbrev pub data_fault : Counts → Force → Flags → Option (ℕ × ℕ) → Option MeaningFault
 data_fault n f flags None = None
 data_fault n f flags (Some e) = first_of
     (if flags.constant then None else needed_usages_fault (usages_of f))
-    (limit_fault (nat_lt last_end (n.start + e.0 * e.1) || nat_lt id_count (n.fields + field_count flags e.1)))
+    (limit_fault (nat_lt last_end (n.start + e.0 * e.1)
+    || nat_lt id_count (n.fields + field_count flags e.1)))
 
 -- the fault of an item where so much was counted and this is in force
 abbrev pub item_fault : Counts → Force → ItemType → Option MeaningFault

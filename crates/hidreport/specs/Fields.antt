@@ -1,15 +1,19 @@
--- Fields (Sections 6.2.2.4, 6.2.2.5 and 5.8): what a data item that makes fields adds to its report.
-use Rattle.std.specs.Prelude.{ℕ, ℤ, pos, ◌+◌, ◌*◌, zero, suc, Bool, false, if◌then◌else◌, List, [], ◌∷◌, map, sum_by, unwrap_or, Option, None, Some, Result, Ok, Err}
+-- Fields (Sections 6.2.2.4, 6.2.2.5 and 5.8): what a data item that makes fields adds to its
+-- report.
+use Rattle.std.specs.Prelude.{ℕ, ℤ, pos, ◌+◌, ◌*◌, zero, suc, Bool, false, if◌then◌else◌, List, []}
+use Rattle.std.specs.Prelude.{◌∷◌, map, sum_by, unwrap_or, Option, None, Some, Result, Ok, Err}
 use Rattle.hidreport_items.specs.Flags.{Flags}
 use Rattle.hidreport_items.specs.declared.main_item.CollectionItem.TheVariants as kind
 use Rattle.hidreport_items.specs.declared.item.ItemType.{ItemType}
 use Rattle.hidreport.specs.InForce.{Force}
-use Rattle.hidreport.specs.Kinds.{Indexed, Direction, Input, Output, Feature, data_of, collection_of}
+use Rattle.hidreport.specs.Kinds.{Indexed, Direction, Input, Output, Feature, data_of}
+use Rattle.hidreport.specs.Kinds.{collection_of}
 use Rattle.hidreport.specs.Making.{extent, makers}
 use Rattle.hidreport.specs.MeaningFault.{MeaningFault}
 use Rattle.hidreport.specs.OpenCollections.{open_at, collections_before}
 use Rattle.hidreport.specs.Places.{start}
-use Rattle.hidreport.specs.Records.{CollectionRecord, FieldPlace, Attributes, FieldRecord, VariableRecord, ArrayRecord, ConstantRecord}
+use Rattle.hidreport.specs.Records.{CollectionRecord, FieldPlace, Attributes, FieldRecord}
+use Rattle.hidreport.specs.Records.{VariableRecord, ArrayRecord, ConstantRecord}
 use Rattle.hidreport.specs.Usages.{UsageList, usages_of, make_usage}
 use Rattle.hidreport.specs.declared.field.usage.Usage.{Usage}
 
@@ -31,7 +35,8 @@ fields_in force d items k =
 -- how many fields the items before k made, in all directions
 abbrev pub fields_before : (ℕ → Force) → List ItemType → ℕ → ℕ
 fields_before force items k =
-    fields_in force Input items k + (fields_in force Output items k + fields_in force Feature items k)
+    fields_in force Input items k +
+    (fields_in force Output items k + fields_in force Feature items k)
 
 -- the usages, none for a fault
 abbrev pub list_or_none : Result UsageList MeaningFault → UsageList
@@ -82,7 +87,8 @@ measures f = record {
   unit_exponent = f.unit_exponent;
 }
 
--- what a field with data has from these numbers, from its item's flags and from the collections around it
+-- what a field with data has from these numbers, from its item's flags and from the collections
+-- around it
 abbrev pub attributes_with : Direction → Flags → Measures → List CollectionRecord → Attributes
 attributes_with d flags m collections = record {
   logical_minimum = m.logical_minimum;

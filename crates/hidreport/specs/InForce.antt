@@ -1,10 +1,14 @@
--- Values in force (Sections 6.2.2.7 and 6.2.2.8): globals stay until they are set again, locals end with the next
--- main item; both only as far as they are visible.
-use Rattle.std.specs.Prelude.{ℕ, ℤ, nat_lt, ◌&&◌, not, List, [], ◌∷◌, filter, filter_map, Option, None, Some}
+-- Values in force (Sections 6.2.2.7 and 6.2.2.8): globals stay until they are set again, locals end
+-- with the next main item; both only as far as they are visible.
+use Rattle.std.specs.Prelude.{ℕ, ℤ, nat_lt, ◌&&◌, not, List, [], ◌∷◌, filter, filter_map, Option}
+use Rattle.std.specs.Prelude.{None, Some}
 use Rattle.std.specs.List.{list_any}
 use Rattle.hidreport_items.specs.declared.item.ItemType.{ItemType}
 use Rattle.hidreport_items.specs.declared.local.LocalItem.{LocalItem}
-use Rattle.hidreport.specs.Kinds.{Indexed, is_main, local_of, usage_page_of, logical_minimum_of, logical_maximum_of, physical_minimum_of, physical_maximum_of, unit_exponent_of, unit_of, report_size_of, report_id_of, report_count_of}
+use Rattle.hidreport.specs.Kinds.{Indexed, is_main, local_of, usage_page_of, logical_minimum_of}
+use Rattle.hidreport.specs.Kinds.{logical_maximum_of, physical_minimum_of, physical_maximum_of}
+use Rattle.hidreport.specs.Kinds.{unit_exponent_of, unit_of, report_size_of, report_id_of}
+use Rattle.hidreport.specs.Kinds.{report_count_of}
 use Rattle.hidreport.specs.Visibility.{before, visible}
 
 -- the first of two values that is there
@@ -30,7 +34,8 @@ global tag items k = last_value tag (visible items k)
 abbrev pub locals : List ItemType → ℕ → List LocalItem
 locals items k = unended_locals (visible items k)
 
--- the same where a Push is of globals alone: no main item stands between them and k, whatever Push and Pop do
+-- the same where a Push is of globals alone: no main item stands between them and k, whatever Push
+-- and Pop do
 abbrev pub locals_globals_only : List ItemType → ℕ → List LocalItem
 locals_globals_only items k = unended_locals (before items k)
 

@@ -7,11 +7,13 @@ pub mod Faults
 pub mod Fields
 pub mod InForce
 pub mod Kinds
+pub mod Laws
 pub mod Lookup
 pub mod Making
 pub mod Meaning
 pub mod MeaningFault
 pub mod OpenCollections
+pub mod Options
 pub mod Parser
 pub mod Places
 pub mod Reading

@@ -1,6 +1,7 @@
--- Making items and their keys (Sections 6.2.2.4 and 6.2.2.7): which data items make fields, and in which report.
--- `force` is what is in force at each index of the list of items.
-use Rattle.std.specs.Prelude.{ℕ, ◌==◌, ◌||◌, ◌&&◌, Bool, true, false, if◌then◌else◌, List, [], ◌∷◌, filter, is_some, Option, Some, None}
+-- Making items and their keys (Sections 6.2.2.4 and 6.2.2.7): which data items make fields, and in
+-- which report. `force` is what is in force at each index of the list of items.
+use Rattle.std.specs.Prelude.{ℕ, ◌==◌, ◌||◌, ◌&&◌, Bool, true, false, if◌then◌else◌, List, [], ◌∷◌}
+use Rattle.std.specs.Prelude.{filter, is_some, Option, Some, None}
 use Rattle.hidreport_items.specs.declared.item.ItemType.{ItemType}
 use Rattle.hidreport.specs.InForce.{Force, first_of}
 use Rattle.hidreport.specs.Kinds.{Indexed, Direction, data_of, goes}
@@ -29,8 +30,8 @@ abbrev pub first_report_id : (ℕ → Force) → List Indexed → Option ℕ
 first_report_id force [] = None
 first_report_id force (p ∷ ps) = (force p.0).report_id
 
--- The report that an item of direction d at k adds to: that with the id in force; without one, the report of
--- the first item of its direction that makes fields.
+-- The report that an item of direction d at k adds to: that with the id in force; without one, the
+-- report of the first item of its direction that makes fields.
 abbrev pub key : (ℕ → Force) → Direction → List ItemType → ℕ → Option ℕ
 key force d items k = first_of (force k).report_id (first_report_id force (makers force d items k))
 

@@ -1,5 +1,6 @@
 -- Meaning: the reports that a list of items announces, or its first fault.
-use Rattle.std.specs.Prelude.{ℕ, if◌then◌else◌, List, [], ◌∷◌, length, map, flat_map, slice_get, unwrap_or, Option, None, Some, Result, Ok, Err, codes, option_map}
+use Rattle.std.specs.Prelude.{ℕ, if◌then◌else◌, List, [], ◌∷◌, length, map, flat_map, slice_get}
+use Rattle.std.specs.Prelude.{unwrap_or, Option, None, Some, Result, Ok, Err, codes, option_map}
 use Rattle.std.specs.List.{enumerate_from, list_any}
 use Rattle.hidreport_items.specs.Answer.{Fault}
 use Rattle.hidreport_items.specs.Spelling.{item_of}
@@ -102,7 +103,8 @@ at_offset entries (Ok announced) = Ok announced
 at_offset entries (Err first) = Err (refusal_at (offset_at entries first.0) first.1)
 
 -- a grammar fault, or else the meaning of the items
-abbrev pub parse_items : PushReading → Result (List Entry) (ℕ × Fault) → Result DescriptorRecord Refusal
+abbrev pub parse_items : PushReading → Result (List Entry) (ℕ × Fault)
+    → Result DescriptorRecord Refusal
 parse_items reading (Err fault) = Err (InvalidAt fault.0 (grammar_message fault.1))
 parse_items reading (Ok entries) =
     at_offset entries (meaning_by reading (map (λ e. e.item) entries))

@@ -1,9 +1,10 @@
--- Faults of meaning (Sections 6.2.2.4 to 6.2.2.8): why an item has no meaning where it stands. A parse under a
--- budget also ends at an item that is past its limit.
+-- Faults of meaning (Sections 6.2.2.4 to 6.2.2.8): why an item has no meaning where it stands. A
+-- parse under a budget also ends at an item that is past its limit.
 use Rattle.std.specs.Prelude.{ℕ, List, Option, None, Some, codes}
 
 pub data MeaningFault : Type 0 where
-  TooManyPops TooManyEnds MissingUsageMaximum MissingUsagePage MissingUsages PastBounds PastBudget : MeaningFault
+  TooManyPops TooManyEnds MissingUsageMaximum MissingUsagePage MissingUsages PastBounds PastBudget :
+      MeaningFault
 
 -- what a parser says of it; a count or a budget past its limit has no text
 abbrev pub text : MeaningFault → Option (List ℕ)

@@ -1,4 +1,5 @@
--- What the parser holds and does, as plain data: for proofs alone, no clause of a public call cites it.
+-- What the parser holds and does, as plain data: for proofs alone, no clause of a public call cites
+-- it.
 pub mod Budget
 pub mod DataItem
 pub mod Forces

@@ -15,7 +15,8 @@ abbrev pub bits_of : Option (ℕ × ℕ) → ℕ
 bits_of None = 0
 bits_of (Some e) = e.0 * e.1
 
--- where the report ends behind the items before k: the id's bits and those of each item that adds to it
+-- where the report ends behind the items before k: the id's bits and those of each item that adds
+-- to it
 abbrev pub end_before : (ℕ → Force) → Direction → Option ℕ → List ItemType → ℕ → ℕ
 end_before force d id items k =
     id_bits id + sum_by (λ p. bits_of (extent (force p.0))) (makers_of force d id items k)

@@ -1,9 +1,13 @@
--- Reading a field (Sections 5.6 and 5.8): the value that a report's bytes give it, or why they give none.
-use Rattle.std.specs.Prelude.{◌≡◌, ℕ, ◌+◌, ◌-◌, ◌*◌, ◌/◌, ◌==◌, nat_lt, nat_le, ◌||◌, zero, suc, Bool, if◌then◌else◌, List, [], ◌∷◌, length, Option, None, Some, Result, Ok, Err, int_lt, pos}
+-- Reading a field (Sections 5.6 and 5.8): the value that a report's bytes give it, or why they give
+-- none.
+use Rattle.std.specs.Prelude.{◌≡◌, ℕ, ◌+◌, ◌-◌, ◌*◌, ◌/◌, ◌==◌, nat_lt, nat_le, ◌||◌, zero, suc}
+use Rattle.std.specs.Prelude.{Bool, if◌then◌else◌, List, [], ◌∷◌, length, Option, None, Some}
+use Rattle.std.specs.Prelude.{Result, Ok, Err, int_lt, pos}
 use Rattle.hidreport_lists.specs.Answer.{Refusal, Bounds, Mismatch, Refuses}
 use Rattle.hidreport_lists.specs.declared.error.ParserError.{ParserError}
 use Rattle.hidreport.specs.BitValue.{value, as_word}
-use Rattle.hidreport.specs.Records.{Attributes, FieldRecord, VariableRecord, ArrayRecord, ConstantRecord}
+use Rattle.hidreport.specs.Records.{Attributes, FieldRecord, VariableRecord, ArrayRecord}
+use Rattle.hidreport.specs.Records.{ConstantRecord}
 
 -- a value as 32 bits, and whether it is signed
 pub record ValueRecord : Type 0 where
@@ -19,7 +23,8 @@ with_id (Some id) (b ∷ bytes) answer = if b == id then answer else Err Mismatc
 -- the bits from `first` up to `end`: at least one, at most 32, and all in the bytes
 abbrev pub read_bits : ℕ → ℕ → Bool → List ℕ → Result ValueRecord Refusal
 read_bits first end is_signed bytes =
-    if nat_le end first || (nat_lt 32 (end - first) || nat_lt (8 * length bytes) end) then Err Bounds
+    if nat_le end first
+    || (nat_lt 32 (end - first) || nat_lt (8 * length bytes) end) then Err Bounds
     else Ok (record {
       word = as_word (value bytes first (end - first) is_signed);
       is_signed = is_signed;
@@ -62,7 +67,8 @@ abbrev pub one_value : Result ValueRecord Refusal → Result (List ValueRecord) 
 one_value (Ok x) = Ok (x ∷ [])
 one_value (Err refusal) = Err refusal
 
--- a field's values in order, whatever the report's id: one, those of all elements, or none of padding
+-- a field's values in order, whatever the report's id: one, those of all elements, or none of
+-- padding
 abbrev pub values_of : FieldRecord → List ℕ → Result (List ValueRecord) Refusal
 values_of (VariableRecord place usage shared) bytes =
     one_value (read_bits place.first place.end (is_signed shared) bytes)
@@ -90,7 +96,8 @@ element_of (ConstantRecord place) bytes index = Err Bounds
 -- the value that a report's bytes give one element, or the first refusal
 abbrev pub reads_element : FieldRecord → List ℕ → ℕ → Result ValueRecord Refusal
 reads_element field bytes index =
-    if nat_lt index (element_count field) then with_id (own_id field) bytes (element_of field bytes index)
+    if nat_lt index (element_count field) then with_id (own_id field) bytes
+    (element_of field bytes index)
     else Err Bounds
 
 -- the answer, seen by `view`, is what the definition gives; want of memory says nothing

@@ -9,8 +9,8 @@ pub record CollectionRecord : Type 0 where
   pub kind : CollectionItem
   pub usages : List Usage
 
--- what a field of any kind has: its number over the descriptor, the id of its report, and its bits, from
--- `first` up to `end`, which is no longer part of it
+-- what a field of any kind has: its number over the descriptor, the id of its report, and its bits,
+-- from `first` up to `end`, which is no longer part of it
 pub record FieldPlace : Type 0 where
   pub id : ℕ
   pub report_id : Option ℕ
@@ -34,8 +34,8 @@ pub record Attributes : Type 0 where
   pub buffered_bytes : Bool
   pub volatile : Option Bool
 
--- a field: one value with a usage, several values that choose among usages (whether those are a range, and how
--- many values), or padding
+-- a field: one value with a usage, several values that choose among usages (whether those are a
+-- range, and how many values), or padding
 pub data FieldRecord : Type 0 where
   VariableRecord : FieldPlace → Usage → Attributes → FieldRecord
   ArrayRecord : FieldPlace → List Usage → Bool → ℕ → Attributes → FieldRecord

@@ -1,5 +1,6 @@
 -- Segments (Section 6.2.2.7, Push and Pop): a Push, items, and the Pop that takes all of it back.
-use Rattle.std.specs.Prelude.{◌≡◌, ℕ, ◌+◌, ◌≤◌, nat_lt, is_some, false, if◌then◌else◌, List, ◌∷◌, ◌++◌, take, count_by, Result, Ok, Err}
+use Rattle.std.specs.Prelude.{◌≡◌, ℕ, ◌+◌, ◌≤◌, nat_lt, is_some, false, if◌then◌else◌, List, ◌∷◌}
+use Rattle.std.specs.Prelude.{◌++◌, take, count_by, Result, Ok, Err}
 use Rattle.std.specs.List.{list_any}
 use Rattle.hidreport_items.specs.declared.global.GlobalItem.TheVariants as global
 use Rattle.hidreport_items.specs.declared.item.ItemType.{ItemType}

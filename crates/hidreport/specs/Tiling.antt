@@ -1,9 +1,12 @@
 -- How fields fill their reports (Sections 5.6 and 6.2.2.4), and what has a number of its own.
-use Rattle.std.specs.Prelude.{◌≡◌, ◌≢◌, ◌⊎◌, true, false, ℕ, ◌+◌, ◌*◌, ◌<◌, ◌≤◌, ◌==◌, List, [], ◌∷◌, ◌++◌, flat_map, count_by, drop, slice_get, Option, None, Some}
+use Rattle.std.specs.Prelude.{◌≡◌, ◌≢◌, ◌⊎◌, true, false, ℕ, suc, ◌+◌, ◌*◌, ◌<◌, ◌≤◌, ◌==◌, List}
+use Rattle.std.specs.Prelude.{[], ◌∷◌, ◌++◌, flat_map, count_by, drop, take, slice_get, Option}
+use Rattle.std.specs.Prelude.{None, Some}
 use Rattle.hidreport.specs.Making.{same_key}
 use Rattle.hidreport.specs.Places.{id_bits}
 use Rattle.hidreport.specs.Reading.{element_width, own_id}
-use Rattle.hidreport.specs.Records.{CollectionRecord, FieldPlace, FieldRecord, VariableRecord, ArrayRecord, ConstantRecord, ReportRecord, DescriptorRecord}
+use Rattle.hidreport.specs.Records.{CollectionRecord, FieldPlace, FieldRecord, VariableRecord}
+use Rattle.hidreport.specs.Records.{ArrayRecord, ConstantRecord, ReportRecord, DescriptorRecord}
 use Rattle.hidreport.specs.Usages.{range_from}
 use Rattle.hidreport.specs.declared.field.usage.Usage.{Usage}
 
@@ -23,7 +26,8 @@ collections_of (VariableRecord place usage shared) = shared.collections
 collections_of (ArrayRecord place usages is_range count shared) = shared.collections
 collections_of (ConstantRecord place) = []
 
--- the first field begins at a bit, each other where the one before ends, and the last ends at another; none is empty
+-- the first field begins at a bit, each other where the one before ends, and the last ends at
+-- another; none is empty
 abbrev pub Covers : ℕ → List FieldRecord → ℕ → Type 0
 Covers first [] end = first ≡ end
 Covers first (f ∷ fields) end = ((place_of f).first ≡ first) × (first < (place_of f).end)
@@ -54,7 +58,8 @@ HasRange (ArrayRecord place usages true count shared) = IsRangeOf usages
 HasRange (ArrayRecord place usages false count shared) = Unit {0}
 HasRange (ConstantRecord place) = Unit {0}
 
--- the fields have all bits of the report behind its id, each bit one field, and are read from its bytes
+-- the fields have all bits of the report behind its id, each bit one field, and are read from its
+-- bytes
 pub record IsFilled (report : ReportRecord) : Type 0 where
   pub some : report.fields ≢ []
   pub covers : Covers (id_bits report.id) report.fields report.size
@@ -78,14 +83,13 @@ reports_in_all d = d.input ++ (d.output ++ d.feature)
 abbrev pub HaveOwnNumbers : List FieldRecord → Type 0
 HaveOwnNumbers fields = (n : ℕ) → count_by (λ f. (place_of f).id == n) fields ≤ 1
 
--- a collection stands in the list at the index that is its number
-abbrev pub IsListed : List CollectionRecord → CollectionRecord → Type 0
-IsListed collections c = slice_get collections c.id ≡ Some c
-
--- there is one list of collections, in which each that a field lies in stands at its number
+-- carried collections of one number are one: opened at the same depth, inside the same collections;
+-- so no field carries two of one number
 abbrev pub HaveOwnCollections : List FieldRecord → Type 0
-HaveOwnCollections fields = (collections : List CollectionRecord)
-    × Each (λ f. Each (IsListed collections) (collections_of f)) fields
+HaveOwnCollections fields = (m n i j : ℕ) (f g : FieldRecord) (c d : CollectionRecord)
+    → slice_get fields m ≡ Some f → slice_get fields n ≡ Some g
+    → slice_get (collections_of f) i ≡ Some c → slice_get (collections_of g) j ≡ Some d
+    → c.id ≡ d.id → take (suc i) (collections_of f) ≡ take (suc j) (collections_of g)
 
 -- what holds of the reports of every descriptor
 pub record IsTiled (d : DescriptorRecord) : Type 0 where

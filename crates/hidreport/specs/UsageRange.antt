@@ -1,5 +1,7 @@
--- The range of an array's usages (Section 6.2.2.8): from its first usage to its last, all on the page of the first.
-use Rattle.std.specs.Prelude.{◌≡◌, ℕ, ◌+◌, Bool, true, false, ◌&&◌, ◌==◌, nat_le, if◌then◌else◌, List, [], ◌∷◌, length, Contains, Option, None, Some, IsSome, ◌↔◌}
+-- The range of an array's usages (Section 6.2.2.8): from its first usage to its last, all on the
+-- page of the first.
+use Rattle.std.specs.Prelude.{◌≡◌, ℕ, ◌+◌, Bool, true, false, ◌&&◌, ◌==◌, nat_le, if◌then◌else◌}
+use Rattle.std.specs.Prelude.{List, [], ◌∷◌, length, Contains, Option, None, Some, IsSome, ◌↔◌}
 use Rattle.hidreport.specs.Usages.{make_usage}
 use Rattle.hidreport.specs.declared.field.usage.Usage.{Usage}
 

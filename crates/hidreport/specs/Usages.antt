@@ -1,5 +1,6 @@
 -- Usages of an item (Section 6.2.2.8): a range from a minimum to a maximum, or single usages.
-use Rattle.std.specs.Prelude.{ℕ, ◌+◌, ◌-◌, ◌%◌, zero, suc, Bool, true, false, List, [], ◌∷◌, Option, None, Some, Result, Ok, Err}
+use Rattle.std.specs.Prelude.{ℕ, ◌+◌, ◌-◌, ◌%◌, zero, suc, Bool, true, false, List, [], ◌∷◌, Option}
+use Rattle.std.specs.Prelude.{None, Some, Result, Ok, Err}
 use Rattle.hidreport_items.specs.declared.local.LocalItem.{LocalItem}
 use Rattle.hidreport_items.specs.declared.local.LocalItem.TheVariants as local
 use Rattle.hidreport.specs.InForce.{Force, first_of}
@@ -32,18 +33,21 @@ abbrev pub range_from : ℕ → ℕ → ℕ → List Usage
 range_from page n zero = []
 range_from page n (suc more) = make_usage page (n % 65536) ∷ range_from page (n + 1) more
 
-abbrev pub before_usages : Usage → Result (List Usage) MeaningFault → Result (List Usage) MeaningFault
+abbrev pub before_usages : Usage → Result (List Usage) MeaningFault
+    → Result (List Usage) MeaningFault
 before_usages u (Ok us) = Ok (u ∷ us)
 before_usages u (Err fault) = Err fault
 
-abbrev pub on_page : Option ℕ → ℕ → Result (List Usage) MeaningFault → Result (List Usage) MeaningFault
+abbrev pub on_page : Option ℕ → ℕ → Result (List Usage) MeaningFault
+    → Result (List Usage) MeaningFault
 on_page None id us = Err MissingUsagePage
 on_page (Some page) id us = before_usages (make_usage page id) us
 
 -- the single usages; one without its own page takes the page in force
 abbrev pub single_usages : Option ℕ → List LocalItem → Result (List Usage) MeaningFault
 single_usages page [] = Ok []
-single_usages page (local.Usage own id ∷ xs) = before_usages (make_usage own id) (single_usages page xs)
+single_usages page (local.Usage own id ∷ xs) =
+    before_usages (make_usage own id) (single_usages page xs)
 single_usages page (local.UsageId id ∷ xs) = on_page page id (single_usages page xs)
 single_usages page (x ∷ xs) = single_usages page xs
 
@@ -51,7 +55,8 @@ single_usages page (x ∷ xs) = single_usages page xs
 abbrev pub range_usages : ℕ → Option ℕ → Option ℕ → Result UsageList MeaningFault
 range_usages low None page = Err MissingUsageMaximum
 range_usages low (Some high) None = Err MissingUsagePage
-range_usages low (Some high) (Some page) = Ok (record { usages = range_from page low (high + 1 - low); is_range = true })
+range_usages low (Some high) (Some page) =
+    Ok (record { usages = range_from page low (high + 1 - low); is_range = true })
 
 abbrev pub as_single : Result (List Usage) MeaningFault → Result UsageList MeaningFault
 as_single (Ok us) = Ok (record { usages = us; is_range = false })

@@ -5,7 +5,8 @@ use Rattle.std.specs.declared.ops.Range.{Range}
 use Rattle.hidreport_items.specs.Flags.{Flags}
 use Rattle.hidreport.specs.Fields.{attributes_with}
 use Rattle.hidreport.specs.Kinds.{Direction, Input, Output, Feature}
-use Rattle.hidreport.specs.Records.{CollectionRecord, FieldPlace, Attributes, FieldRecord, VariableRecord, ArrayRecord, ConstantRecord}
+use Rattle.hidreport.specs.Records.{CollectionRecord, FieldPlace, Attributes, FieldRecord}
+use Rattle.hidreport.specs.Records.{VariableRecord, ArrayRecord, ConstantRecord}
 use Rattle.hidreport.specs.declared.field.array_field.ArrayField.{ArrayField}
 use Rattle.hidreport.specs.declared.field.constant_field.ConstantField.{ConstantField}
 use Rattle.hidreport.specs.declared.field.Field.{Field}
@@ -36,24 +37,37 @@ item_flags x = record {
 }
 
 abbrev pub variable_place : VariableField → FieldPlace
-variable_place f = record { id = f.id; report_id = f.report_id; first = f.bits.start; end = f.bits.end }
+variable_place f = record {
+  id = f.id;
+  report_id = f.report_id;
+  first = f.bits.start;
+  end =
+      f.bits.end;
+}
 
 abbrev pub variable_attributes : VariableField → Attributes
-variable_attributes f = attributes_with (direction_of f.item.direction) (item_flags f.item) (record {
-  logical_minimum = f.logical_minimum;
-  logical_maximum = f.logical_maximum;
-  physical_minimum = f.physical_minimum;
-  physical_maximum = f.physical_maximum;
-  unit = f.unit;
-  unit_exponent = f.unit_exponent;
-}) (arc_slice_items f.collections)
+variable_attributes f = attributes_with (direction_of f.item.direction) (item_flags f.item)
+    (record {
+      logical_minimum = f.logical_minimum;
+      logical_maximum = f.logical_maximum;
+      physical_minimum = f.physical_minimum;
+      physical_maximum = f.physical_maximum;
+      unit = f.unit;
+      unit_exponent = f.unit_exponent;
+    }) (arc_slice_items f.collections)
 
 -- all parts of a variable field
 abbrev pub variable_record : VariableField → FieldRecord
 variable_record f = VariableRecord (variable_place f) f.usage (variable_attributes f)
 
 abbrev pub array_place : ArrayField → FieldPlace
-array_place f = record { id = f.id; report_id = f.report_id; first = f.bits.start; end = f.bits.end }
+array_place f = record {
+  id = f.id;
+  report_id = f.report_id;
+  first = f.bits.start;
+  end =
+      f.bits.end;
+}
 
 abbrev pub array_attributes : ArrayField → Attributes
 array_attributes f = attributes_with (direction_of f.item.direction) (item_flags f.item) (record {
@@ -67,10 +81,17 @@ array_attributes f = attributes_with (direction_of f.item.direction) (item_flags
 
 -- all parts of an array field
 abbrev pub array_record : ArrayField → FieldRecord
-array_record f = ArrayRecord (array_place f) f.usages.items f.is_usage_range f.report_count (array_attributes f)
+array_record f = ArrayRecord (array_place f) f.usages.items f.is_usage_range f.report_count
+    (array_attributes f)
 
 abbrev pub constant_place : ConstantField → FieldPlace
-constant_place f = record { id = f.id; report_id = f.report_id; first = f.bits.start; end = f.bits.end }
+constant_place f = record {
+  id = f.id;
+  report_id = f.report_id;
+  first = f.bits.start;
+  end =
+      f.bits.end;
+}
 
 -- all parts of a constant field
 abbrev pub constant_record : ConstantField → FieldRecord

@@ -1,5 +1,6 @@
 -- Visibility (Section 6.2.2.7, Push and Pop): a Pop hides again what its segment showed.
-use Rattle.std.specs.Prelude.{ℕ, ◌+◌, ◌-◌, ◌<◌, ◌≤◌, zero, suc, nat_lt, nat_le, Bool, true, ◌&&◌, List, take, filter, count_by}
+use Rattle.std.specs.Prelude.{ℕ, ◌+◌, ◌-◌, ◌<◌, ◌≤◌, zero, suc, nat_lt, nat_le, Bool, true, ◌&&◌}
+use Rattle.std.specs.Prelude.{List, take, filter, count_by}
 use Rattle.std.specs.List.{enumerate_from}
 use Rattle.hidreport_items.specs.declared.item.ItemType.{ItemType}
 use Rattle.hidreport.specs.Kinds.{Indexed, is_push, is_pop}
@@ -12,7 +13,8 @@ before items k = enumerate_from 0 (take k items)
 abbrev pub level : List ItemType → ℕ → ℕ
 level items k = count_by is_push (take k items) - count_by is_pop (take k items)
 
--- item j is visible at k: j is before k, and at no index after j up to k is the level lower than at j
+-- item j is visible at k: j is before k, and at no index after j up to k is the level lower than at
+-- j
 abbrev pub IsVisible : List ItemType → ℕ → ℕ → Type 0
 IsVisible items j k = (j < k) × ((m : ℕ) → j < m → m ≤ k → level items j ≤ level items m)
 

@@ -1,5 +1,5 @@
--- Weight: how many fields, usages of arrays and collections around fields an item makes a parser list, with the
--- usages of these collections; and the usages of a collection that is opened.
+-- Weight: how many fields, usages of arrays and collections around fields an item makes a parser
+-- list, with the usages of these collections; and the usages of a collection that is opened.
 use Rattle.std.specs.Prelude.{ℕ, ◌+◌, suc, nat_lt, List, length, sum_by, find, Option, None, Some}
 use Rattle.std.specs.List.{enumerate_from}
 use Rattle.hidreport_items.specs.Flags.{Flags}
@@ -10,14 +10,16 @@ use Rattle.hidreport.specs.Fields.{collection_record, fields_at}
 use Rattle.hidreport.specs.InForce.{Force}
 use Rattle.hidreport.specs.Kinds.{Indexed, Direction, collection_of, data_of}
 use Rattle.hidreport.specs.MeaningFault.{MeaningFault}
-use Rattle.hidreport.specs.Records.{CollectionRecord, FieldRecord, VariableRecord, ArrayRecord, ConstantRecord, ReportRecord, DescriptorRecord}
+use Rattle.hidreport.specs.Records.{CollectionRecord, FieldRecord, VariableRecord, ArrayRecord}
+use Rattle.hidreport.specs.Records.{ConstantRecord, ReportRecord, DescriptorRecord}
 use Rattle.hidreport.specs.Visibility.{before}
 
 -- a collection weighs 1 and its usages
 abbrev pub collection_weight : CollectionRecord → ℕ
 collection_weight c = 1 + length c.usages
 
--- a field weighs 1, the usages of an array, and the collections that it carries; padding carries none
+-- a field weighs 1, the usages of an array, and the collections that it carries; padding carries
+-- none
 abbrev pub field_weight : FieldRecord → ℕ
 field_weight (VariableRecord place usage shared) = 1 + sum_by collection_weight shared.collections
 field_weight (ArrayRecord place usages is_range count shared) =
@@ -42,7 +44,8 @@ unless_faulty (Some fault) weight = 0
 -- the weight of the item x at k
 abbrev pub weight : (ℕ → Force) → List ItemType → ℕ → ItemType → ℕ
 weight force items k x = unless_faulty (fault force items k x)
-    (weight_opened force (collection_of x) items (k, x) + weight_made force (data_of x) items (k, x))
+    (weight_opened force (collection_of x) items (k, x) + weight_made force (data_of x) items
+    (k, x))
 
 -- the weight of the items before k
 abbrev pub weight_before : (ℕ → Force) → List ItemType → ℕ → ℕ

@@ -1,22 +1,26 @@
-ghost use Rattle.std.specs.Prelude.{◌≡◌, ◌≢◌, ◌≤◌, ◌+◌, ◌++◌, [], Err, Ok, IfOk, IfSome, List, length, map, option_copied};
+ghost use Rattle.std.specs.Prelude.{◌≡◌, ◌≢◌, ◌≤◌, ℕ, [], None, Err, Ok, IfOk, IfSome, List};
+ghost use Rattle.std.specs.Prelude.{option_copied};
 ghost use Rattle.hidreport_items.specs.Spelling.{item_of};
-ghost use Rattle.hidreport_items.specs.declared.item.ItemType.{ItemType};
 ghost use Rattle.hidreport_lists.specs.Answer.{Answers, Mismatch};
 ghost use Rattle.hidreport_lists.specs.Entry.{Entry};
-ghost use Rattle.hidreport_lists.specs.Itemising.{itemise, Itemises};
-ghost use Rattle.hidreport_lists.specs.Rebuilt.{items_of, kept, rebuilt, respelled};
+ghost use Rattle.hidreport_lists.specs.Itemising.{itemise};
+ghost use Rattle.hidreport_lists.specs.Rebuilt.{items_of};
 ghost use Rattle.hidreport.specs.Budget.{parse_within};
+ghost use Rattle.hidreport.specs.Laws.{KeptItemsMean, RebuiltBytesMean, SegmentsAreIdle};
 ghost use Rattle.hidreport.specs.Lookup.{find_report};
-ghost use Rattle.hidreport.specs.Meaning.{at_offset, meaning, meaning_globals_only, parse, parse_globals_only};
+ghost use Rattle.hidreport.specs.Meaning.{parse, parse_by, parse_globals_only};
+ghost use Rattle.hidreport.specs.Options.{parse_as, reading_of};
 ghost use Rattle.hidreport.specs.Reading.{reads};
 ghost use Rattle.hidreport.specs.Records.{FieldRecord};
-ghost use Rattle.hidreport.specs.Segments.{HasNoLocal, HasNoPush, IsMatched, moved, with_segment};
+ghost use Rattle.hidreport.specs.Segments.{HasNoPush};
 ghost use Rattle.hidreport.specs.Tiling.{Each, IsTiled};
 ghost use Rattle.hidreport.specs.Weight.{descriptor_weight};
+ghost use Rattle.hidreport.specs.declared.parser.push_keeps.PushKeeps.TheVariants as push_keeps;
 
 use crate::field::data_item::Direction;
+use crate::parse_options::ParseOptions;
 use crate::parser;
-use crate::parser::keeping::Keeping;
+use crate::parser::push_keeps::PushKeeps;
 use crate::report::RDescReport;
 use crate::report::reports::{Reports, find_report};
 use hidreport_lists::ParserError;
@@ -50,8 +54,8 @@ impl ReportDescriptor {
     }
 
     /// The reports that the bytes of a report descriptor announce (Section 6.2.2). A Push keeps
-    /// local items with the values of global ones, as the Rust crate has it; for values of global
-    /// items alone, as hosts have it, see `try_from_globals_only`.
+    /// local items with the values of global ones, as the Rust crate has it. It is
+    /// `try_from_with` by the default options; `exact` gives it that call's laws.
     ///
     /// Refused are, the first of these that there is: no bytes at all, `InvalidData` at 0,
     /// `Empty report descriptor`; an item that can't be read, as `ReportDescriptorItems::try_from`
@@ -63,49 +67,73 @@ impl ReportDescriptor {
     /// has no page; such an Input, Output or Feature is then `Missing Usages for main item` where
     /// there are none. Last comes `OutOfBounds`, without an offset: where a report would end past
     /// `usize::MAX` bits, or more than 2^32 fields or collections would be numbered.
-    /// `OutOfMemory` comes only where a growth is refused.
+    /// `OutOfMemory` comes only where a growth is refused; `BudgetExceeded` and
+    /// `MismatchingReportId` never do.
     ///
     /// A Push, items without a main item in which each Push has its Pop, and the Pop of that Push
-    /// change nothing (`struck`): the answer is that of the items around them, a fault at the same
-    /// item.
-    ///
-    /// Long items, and those of kinds that the standard keeps for later, change nothing either
-    /// (`kept`): the answer is what the kept items mean, a fault at the offset of its item. The bytes
-    /// that `hid::rebuild` writes for them are read as the same reports, or refused with the same
-    /// fault at the same item, whose offset is its own in each (`rebuilt`).
+    /// change nothing (`struck`). Long items, and those of kinds that the standard keeps for later,
+    /// change nothing either (`kept`), and the bytes that `hid::rebuild` writes for the others are
+    /// read as the same reports, or refused with the same fault at the same item (`rebuilt`).
     ///
     /// Fields have all bits of their reports behind the id, and each bit one field; each report,
     /// field and collection has an id of its own; and a range gave just its usages (`tiled`).
     pub fn try_from(alloc: Global, bytes: &[u8]) -> Result<ReportDescriptor, ParserError>
         ensures exact { Answers result (parse bytes.now) }
-        ensures struck { (entries : List Entry) (front inside rest : List ItemType)
-            → itemise item_of bytes.now ≡ Ok entries → IsMatched inside
-            → map (λ (e : Entry). e.item) entries ≡ with_segment front inside rest
-            → Answers result (at_offset entries
-            (moved (length front) (length inside + 2) (meaning (front ++ rest)))) }
-        ensures kept { (entries : List Entry) → Itemises item_of bytes.now entries
-            → Answers result (at_offset (kept entries) (meaning (items_of (kept entries)))) }
-        ensures rebuilt { (entries : List Entry) → Itemises item_of bytes.now entries
-            → rebuilt entries ≢ []
-            → parse (rebuilt entries) ≡ at_offset (respelled 0 (items_of (kept entries)))
-            (meaning (items_of (kept entries))) }
         ensures tiled { IfOk result (λ descriptor. IsTiled descriptor) }
+        ensures struck { SegmentsAreIdle push_keeps.All bytes.now }
+        ensures kept { KeptItemsMean push_keeps.All bytes.now }
+        ensures rebuilt { RebuiltBytesMean push_keeps.All bytes.now }
+        ensures own_bytes { result ≢ Err ParserError.MismatchingReportId }
+        ensures unlimited { (offset : ℕ) → result ≢ Err (ParserError.BudgetExceeded offset) }
     {
-        let reports = parser::parse(alloc, bytes, Keeping::All, None)?;
+        ReportDescriptor::try_from_with(alloc, bytes, ParseOptions::default())
+    }
+
+    /// The reports, read as the options say: by what a Push keeps, and under a limit, if any.
+    ///
+    /// Refused is what `try_from` refuses, with its messages and in its order, over what is in
+    /// force where a Push keeps this. Where there is a limit, a field counts 1, with the usages of
+    /// an array and, for each collection that the field carries, 1 and the usages of that; padding
+    /// counts 1 alone. So does what an item opens: 1 for a collection, and its usages. Before
+    /// anything of an item is listed, what it counts is known from the numbers in force; with the
+    /// first item that makes the sum pass the limit the answer is `BudgetExceeded` with that item's
+    /// offset, unless the first fault stands at that item or before it, or an item can't be read.
+    /// What is read counts at most the limit together (`bounded`), and is what is read without one
+    /// (`plain`). Without a limit `BudgetExceeded` never comes (`unlimited`), and
+    /// `MismatchingReportId` never does.
+    ///
+    /// A segment changes nothing, where a Push keeps globals alone one without local items
+    /// (`struck`). Items that aren't kept change nothing, and the rebuilt bytes mean the same
+    /// (`kept`, `rebuilt`). Fields tile their reports (`tiled`).
+    pub fn try_from_with(
+        alloc: Global,
+        bytes: &[u8],
+        options: ParseOptions,
+    ) -> Result<ReportDescriptor, ParserError>
+        ensures exact { Answers result (parse_as options bytes.now) }
+        ensures bounded { IfOk result (λ descriptor.
+            IfSome options.limit (λ limit. descriptor_weight descriptor ≤ limit)) }
+        ensures plain { IfOk result (λ descriptor.
+            parse_by (reading_of options.push_keeps) bytes.now ≡ Ok descriptor) }
+        ensures tiled { IfOk result (λ descriptor. IsTiled descriptor) }
+        ensures struck { SegmentsAreIdle options.push_keeps bytes.now }
+        ensures kept { KeptItemsMean options.push_keeps bytes.now }
+        ensures rebuilt { RebuiltBytesMean options.push_keeps bytes.now }
+        ensures own_bytes { result ≢ Err ParserError.MismatchingReportId }
+        ensures unlimited { options.limit ≡ None
+            → (offset : ℕ) → result ≢ Err (ParserError.BudgetExceeded offset) }
+    {
+        let reports = parser::parse(alloc, bytes, options.push_keeps, options.limit)?;
         Ok(ReportDescriptor { reports })
     }
 
-    /// The same under a budget, for bytes that nobody vouches for: it lists at most `limit` of what
-    /// a descriptor can ask for in a few bytes.
+    /// The reports under a limit, for bytes that nobody vouches for: it lists at most `limit` of
+    /// what a descriptor can ask for in a few bytes.
     ///
-    /// A field counts 1, with the usages of an array and, for each collection that the field
-    /// carries, 1 and the usages of that; padding counts 1 alone. So does what an item opens: 1 for
-    /// a collection, and its usages. Before anything of an item is listed, what it counts is known
-    /// from the numbers in force; with the first item that makes the sum pass `limit` the answer is
-    /// `BudgetExceeded` with that item's offset. It is as `try_from` says where the bytes are
-    /// empty or have an item that can't be read, where no item passes the limit, and where the
-    /// first fault stands at that item or before it. What is read counts at most `limit` together
-    /// (`bounded`).
+    /// It is `try_from_with` where a Push keeps local items, too, and this is the limit: what
+    /// counts and when `BudgetExceeded` comes is said there. What is read counts at most `limit`
+    /// together (`bounded`), and is what `try_from` reads (`plain`). `MismatchingReportId` never
+    /// comes.
     pub fn try_from_within(
         alloc: Global,
         bytes: &[u8],
@@ -115,21 +143,22 @@ impl ReportDescriptor {
         ensures bounded { IfOk result (λ descriptor. descriptor_weight descriptor ≤ limit) }
         ensures plain { IfOk result (λ descriptor. parse bytes.now ≡ Ok descriptor) }
         ensures tiled { IfOk result (λ descriptor. IsTiled descriptor) }
+        ensures own_bytes { result ≢ Err ParserError.MismatchingReportId }
     {
-        let reports = parser::parse(alloc, bytes, Keeping::All, Some(limit))?;
-        Ok(ReportDescriptor { reports })
+        let options = ParseOptions {
+            limit: Some(limit),
+            push_keeps: PushKeeps::All,
+        };
+        ReportDescriptor::try_from_with(alloc, bytes, options)
     }
 
     /// The reports where a Push keeps the values of global items alone, and locals go on through
-    /// Push and Pop: Section 6.2.2.7 speaks of the global item state table, and Linux and Chromium
-    /// read it so.
+    /// Push and Pop: Section 6.2.2.7 speaks of the global item state table, and Linux reads it so.
     ///
-    /// Refused is what `try_from` refuses, with its messages and in its order, over what is in
-    /// force by this reading. Where there is no Push the two agree (`agree`). A Push, items without
-    /// a main item and without a local item in which each Push has its Pop, and the Pop of that
-    /// Push change nothing (`struck`). What `try_from` says of kept items and of the bytes that
-    /// `hid::rebuild` writes for them, of fields and of ids, holds here, too (`kept`, `rebuilt`,
-    /// `tiled`).
+    /// It is `try_from_with` by this reading, without a limit. Refused is what `try_from` refuses,
+    /// with its messages and in its order, over what is in force by this reading. Where there is no
+    /// Push the two agree (`agree`). The laws of `try_from` hold here, too, that of segments where
+    /// no local item stands in one.
     pub fn try_from_globals_only(
         alloc: Global,
         bytes: &[u8],
@@ -137,23 +166,18 @@ impl ReportDescriptor {
         ensures exact { Answers result (parse_globals_only bytes.now) }
         ensures agree { (entries : List Entry) → itemise item_of bytes.now ≡ Ok entries
             → HasNoPush (items_of entries) → parse_globals_only bytes.now ≡ parse bytes.now }
-        ensures struck { (entries : List Entry) (front inside rest : List ItemType)
-            → itemise item_of bytes.now ≡ Ok entries → IsMatched inside → HasNoLocal inside
-            → map (λ (e : Entry). e.item) entries ≡ with_segment front inside rest
-            → Answers result (at_offset entries
-            (moved (length front) (length inside + 2) (meaning_globals_only (front ++ rest)))) }
-        ensures kept { (entries : List Entry) → Itemises item_of bytes.now entries
-            → Answers result
-            (at_offset (kept entries) (meaning_globals_only (items_of (kept entries)))) }
-        ensures rebuilt { (entries : List Entry) → Itemises item_of bytes.now entries
-            → rebuilt entries ≢ []
-            → parse_globals_only (rebuilt entries)
-            ≡ at_offset (respelled 0 (items_of (kept entries)))
-            (meaning_globals_only (items_of (kept entries))) }
         ensures tiled { IfOk result (λ descriptor. IsTiled descriptor) }
+        ensures struck { SegmentsAreIdle push_keeps.Globals bytes.now }
+        ensures kept { KeptItemsMean push_keeps.Globals bytes.now }
+        ensures rebuilt { RebuiltBytesMean push_keeps.Globals bytes.now }
+        ensures own_bytes { result ≢ Err ParserError.MismatchingReportId }
+        ensures unlimited { (offset : ℕ) → result ≢ Err (ParserError.BudgetExceeded offset) }
     {
-        let reports = parser::parse(alloc, bytes, Keeping::Globals, None)?;
-        Ok(ReportDescriptor { reports })
+        let options = ParseOptions {
+            limit: None,
+            push_keeps: PushKeeps::Globals,
+        };
+        ReportDescriptor::try_from_with(alloc, bytes, options)
     }
 
     /// The reports that the device sends.

@@ -4,6 +4,7 @@
 
 mod descriptor;
 mod field;
+mod parse_options;
 mod parser;
 mod report;
 
@@ -51,6 +52,8 @@ pub use field::variable_field::VariableField;
 pub use field::{Field, FieldId};
 pub use hid::CollectionItem as CollectionType;
 pub use hidreport_lists::ParserError;
+pub use parse_options::ParseOptions;
+pub use parser::push_keeps::PushKeeps;
 pub use report::{RDescReport, Report};
 pub use types::{
     Delimiter, DesignatorIndex, DesignatorMaximum, DesignatorMinimum, LogicalMaximum,

@@ -12,11 +12,11 @@ mod fault;
 mod globals;
 mod in_force;
 mod journal;
-pub(crate) mod keeping;
 mod layout;
 mod measures;
 mod open_collection;
 mod open_collections;
+pub(crate) mod push_keeps;
 mod report_list;
 mod report_lists;
 mod slot;
@@ -28,7 +28,7 @@ use crate::report::reports::Reports;
 use budget::Budget;
 use fault::invalid_data;
 use hidreport_lists::{Item, ParserError, ReportDescriptorItem, ReportDescriptorItems};
-use keeping::Keeping;
+use push_keeps::PushKeeps;
 use state::State;
 use std::alloc::Global;
 
@@ -37,7 +37,7 @@ use std::alloc::Global;
 pub(crate) fn parse(
     alloc: Global,
     bytes: &[u8],
-    keeping: Keeping,
+    keeping: PushKeeps,
     limit: Option<usize>,
 ) -> Result<Reports, ParserError>
     ensures { Answers result (walk_bytes keeping limit bytes.now) }
@@ -61,7 +61,7 @@ fn empty_descriptor(alloc: Global) -> ParserError
 fn reports_of(
     alloc: Global,
     items: &[ReportDescriptorItem],
-    keeping: Keeping,
+    keeping: PushKeeps,
     limit: Option<usize>,
 ) -> Result<Reports, ParserError>
     ensures { Answers result

@@ -1,5 +1,7 @@
 -- All values of a field, written one after the other.
-use Rattle.std.proofs.Common.{◌≡◌, ℕ, zero, suc, ◌+◌, ◌<◌, List, [], ◌∷◌, ◌++◌, length, take, slice_set, Option, None, Some, IsOk, Result, Ok, Err, Bool, true, false, cond, ◌≤◌, ◌⊎◌, inl, inr, refl, ap, sym, ◌∙◌, arith}
+use Rattle.std.proofs.Common.{◌≡◌, ℕ, zero, suc, ◌+◌, ◌<◌, List, [], ◌∷◌, ◌++◌, length, take}
+use Rattle.std.proofs.Common.{slice_set, Option, None, Some, IsOk, Result, Ok, Err, Bool, true}
+use Rattle.std.proofs.Common.{false, cond, ◌≤◌, ◌⊎◌, inl, inr, refl, ap, sym, ◌∙◌, arith}
 use Rattle.std.proofs.Math.Dec.{leb}
 use Rattle.std.proofs.Math.Nat.{min-eq_left, min-eq_right}
 use Rattle.std.proofs.Math.Seq.{drop-nil, take-nil}
@@ -25,7 +27,8 @@ pub written-none : {A : Type 0} (old : List A) → written [] old ≡ old
 written-none old = ap (λ xs. xs ++ old) (take-nil (length old))
 
 -- one more is written behind those before it
-pub set-written : {A : Type 0} (xs old : List A) (j : ℕ) (x : A) → slice_get xs j ≡ Some x → j < length old
+pub set-written : {A : Type 0} (xs old : List A) (j : ℕ) (x : A) → slice_get xs j ≡ Some x
+    → j < length old
     → slice_set (written (take j xs) old) j x ≡ written (take (suc j) xs) old
 set-written [] old j x at within = cc
 set-written (y ∷ xs) [] j x at within = absurd (omega (arith, within))
@@ -36,27 +39,36 @@ set-written (y ∷ xs) (o ∷ old) (suc j) x at within =
     ap (λ rest. y ∷ rest) (set-written xs old j x at (omega (arith, within)))
 
 -- where all are written, or the array is full, nothing more is
-pub written-whole : {A : Type 0} (xs old : List A) (i : ℕ) → (length xs ≤ i) ⊎ (length old ≤ i) → written (take i xs) old ≡ written xs old
+pub written-whole : {A : Type 0} (xs old : List A) (i : ℕ) → (length xs ≤ i) ⊎ (length old ≤ i)
+    → written (take i xs) old ≡ written xs old
 written-whole [] old i past = ap (λ ys. written ys old) (take-nil i)
-written-whole (x ∷ xs) [] i past = drop-nil (length (take i (x ∷ xs))) ∙ sym (drop-nil (length (x ∷ xs)))
+written-whole (x ∷ xs) [] i past = drop-nil (length (take i (x ∷ xs)))
+    ∙ sym (drop-nil (length (x ∷ xs)))
 written-whole (x ∷ xs) (o ∷ old) zero (inl past) = absurd (omega (arith, past))
 written-whole (x ∷ xs) (o ∷ old) zero (inr past) = absurd (omega (arith, past))
-written-whole (x ∷ xs) (o ∷ old) (suc i) (inl past) = ap (λ rest. x ∷ rest) (written-whole xs old i (inl (omega (arith, past))))
-written-whole (x ∷ xs) (o ∷ old) (suc i) (inr past) = ap (λ rest. x ∷ rest) (written-whole xs old i (inr (omega (arith, past))))
+written-whole (x ∷ xs) (o ∷ old) (suc i) (inl past) =
+    ap (λ rest. x ∷ rest) (written-whole xs old i (inl (omega (arith, past))))
+written-whole (x ∷ xs) (o ∷ old) (suc i) (inr past) =
+    ap (λ rest. x ∷ rest) (written-whole xs old i (inr (omega (arith, past))))
 
-before-parts : (a : Result ValueRecord Refusal) (rest : Result (List ValueRecord) Refusal) (all : List ValueRecord) → before_values a rest ≡ Ok all
+before-parts : (a : Result ValueRecord Refusal) (rest : Result (List ValueRecord) Refusal)
+    (all : List ValueRecord) → before_values a rest ≡ Ok all
     → (x : ValueRecord) × (xs : List ValueRecord) × (a ≡ Ok x) × (rest ≡ Ok xs) × (x ∷ xs ≡ all)
 before-parts (Err e) rest all h = cc
 before-parts (Ok x) (Err e) all h = cc
 before-parts (Ok x) (Ok xs) all h = (x, xs, refl, refl, cc)
 
 -- there are as many values as elements
-pub elements-length : (first end count : ℕ) (s : Bool) (bytes : List ℕ) (index more : ℕ) (all : List ValueRecord)
+pub elements-length : (first end count : ℕ) (s : Bool) (bytes : List ℕ) (index more : ℕ)
+    (all : List ValueRecord)
     → elements_from first end count s bytes index more ≡ Ok all → length all ≡ more
-elements-length first end count s bytes index zero all h = let none : [] ≡ all = cc in ap length (sym none)
+elements-length first end count s bytes index zero all h =
+    let none : [] ≡ all = cc in ap length (sym none)
 elements-length first end count s bytes index (suc more) all h =
-    let parts = before-parts (element first end count s bytes index) (elements_from first end count s bytes (index + 1) more) all h in
-    ap length (sym parts.4) ∙ ap suc (elements-length first end count s bytes (index + 1) more parts.1 parts.3)
+    let parts = before-parts (element first end count s bytes index)
+    (elements_from first end count s bytes (index + 1) more) all h in
+    ap length (sym parts.4)
+    ∙ ap suc (elements-length first end count s bytes (index + 1) more parts.1 parts.3)
 
 abbrev given : ValueRecord → Result ValueRecord Refusal
 given x = Ok x
@@ -65,21 +77,28 @@ same-value : (x y : ValueRecord) → given x ≡ given y → Some x ≡ Some y
 same-value x y h = cc
 
 -- each value stands at its index
-pub element-listed : (first end count : ℕ) (s : Bool) (bytes : List ℕ) (index more : ℕ) (all : List ValueRecord) (j : ℕ) (x : ValueRecord)
-    → elements_from first end count s bytes index more ≡ Ok all → j < more → element first end count s bytes (index + j) ≡ Ok x → slice_get all j ≡ Some x
-element-listed first end count s bytes index zero all j x h within found = absurd (omega (arith, within))
+pub element-listed : (first end count : ℕ) (s : Bool) (bytes : List ℕ) (index more : ℕ)
+    (all : List ValueRecord) (j : ℕ) (x : ValueRecord)
+    → elements_from first end count s bytes index more ≡ Ok all → j < more
+    → element first end count s bytes (index + j) ≡ Ok x → slice_get all j ≡ Some x
+element-listed first end count s bytes index zero all j x h within found =
+    absurd (omega (arith, within))
 element-listed first end count s bytes index (suc more) all zero x h within found =
-    let parts = before-parts (element first end count s bytes index) (elements_from first end count s bytes (index + 1) more) all h in
+    let parts = before-parts (element first end count s bytes index)
+    (elements_from first end count s bytes (index + 1) more) all h in
     let here : index + 0 ≡ index = omega arith in
     let is = sym parts.2 ∙ ap (λ i. element first end count s bytes i) (sym here) ∙ found in
     ap (λ l. slice_get l 0) (sym parts.4) ∙ same-value parts.0 x is
 element-listed first end count s bytes index (suc more) all (suc j) x h within found =
-    let parts = before-parts (element first end count s bytes index) (elements_from first end count s bytes (index + 1) more) all h in
+    let parts = before-parts (element first end count s bytes index)
+    (elements_from first end count s bytes (index + 1) more) all h in
     let here : index + 1 + j ≡ index + suc j = omega arith in
     ap (λ l. slice_get l (suc j)) (sym parts.4)
-    ∙ element-listed first end count s bytes (index + 1) more parts.1 j x parts.3 (omega (arith, within)) (ap (λ i. element first end count s bytes i) here ∙ found)
+    ∙ element-listed first end count s bytes (index + 1) more parts.1 j x parts.3
+    (omega (arith, within)) (ap (λ i. element first end count s bytes i) here ∙ found)
 
-least-by : (a b i : ℕ) → min a b ≤ i → ((leb a b ≡ true) × (a ≤ b)) ⊎ ((leb a b ≡ false) × (b < a)) → (a ≤ i) ⊎ (b ≤ i)
+least-by : (a b i : ℕ) → min a b ≤ i → ((leb a b ≡ true) × (a ≤ b)) ⊎ ((leb a b ≡ false) × (b < a))
+    → (a ≤ i) ⊎ (b ≤ i)
 least-by a b i past (inl (test, below)) = inl (rw (sym (min-eq_left below)) past)
 least-by a b i past (inr (test, above)) =
     let below : b ≤ a = omega (arith, above) in
@@ -89,45 +108,57 @@ least-by a b i past (inr (test, above)) =
 pub past-least : (a b i : ℕ) → min a b ≤ i → (a ≤ i) ⊎ (b ≤ i)
 past-least a b i past = least-by a b i past (leb_tells a b)
 
-pub refused-not-ok : (r : Result (List ValueRecord) Refusal) (all : List ValueRecord) → r ≡ Err Bounds → r ≡ Ok all → ⊥
+pub refused-not-ok : (r : Result (List ValueRecord) Refusal) (all : List ValueRecord)
+    → r ≡ Err Bounds → r ≡ Ok all → ⊥
 refused-not-ok (Ok xs) all refused ok = cc
 refused-not-ok (Err e) all refused ok = cc
 
-test-place : {A : Type 0} (b : Bool) (x : A) (r : Refusal) → cond b (Err Bounds) (Ok x) ≡ Err r → offset_of r ≡ 0
+test-place : {A : Type 0} (b : Bool) (x : A) (r : Refusal) → cond b (Err Bounds) (Ok x) ≡ Err r
+    → offset_of r ≡ 0
 test-place true x r h = let is : Bounds ≡ r = cc in ap offset_of (sym is)
 test-place false x r h = cc
 
-first-place : (a : Result ValueRecord Refusal) (rest : Result (List ValueRecord) Refusal) (r : Refusal) → before_values a rest ≡ Err r
+first-place : (a : Result ValueRecord Refusal) (rest : Result (List ValueRecord) Refusal)
+    (r : Refusal) → before_values a rest ≡ Err r
     → (a ≡ Err r → offset_of r ≡ 0) → (rest ≡ Err r → offset_of r ≡ 0) → offset_of r ≡ 0
 first-place (Err e) rest r h one more = let is : e ≡ r = cc in one (ap (λ (z : Refusal). Err z) is)
-first-place (Ok x) (Err e) r h one more = let is : e ≡ r = cc in more (ap (λ (z : Refusal). Err z) is)
+first-place (Ok x) (Err e) r h one more =
+    let is : e ≡ r = cc in more (ap (λ (z : Refusal). Err z) is)
 first-place (Ok x) (Ok xs) r h one more = cc
 
-byte-place : (b : Bool) (a : Result (List ValueRecord) Refusal) (r : Refusal) → cond b a (Err Mismatch) ≡ Err r → (a ≡ Err r → offset_of r ≡ 0) → offset_of r ≡ 0
+byte-place : (b : Bool) (a : Result (List ValueRecord) Refusal) (r : Refusal)
+    → cond b a (Err Mismatch) ≡ Err r → (a ≡ Err r → offset_of r ≡ 0) → offset_of r ≡ 0
 byte-place true a r h more = more h
 byte-place false a r h more = let is : Mismatch ≡ r = cc in ap offset_of (sym is)
 
-elements-place : (first end count : ℕ) (s : Bool) (bytes : List ℕ) (index more : ℕ) (r : Refusal) → elements_from first end count s bytes index more ≡ Err r → offset_of r ≡ 0
+elements-place : (first end count : ℕ) (s : Bool) (bytes : List ℕ) (index more : ℕ) (r : Refusal)
+    → elements_from first end count s bytes index more ≡ Err r → offset_of r ≡ 0
 elements-place first end count s bytes index zero r h = cc
 elements-place first end count s bytes index (suc more) r h =
-    first-place (element first end count s bytes index) (elements_from first end count s bytes (index + 1) more) r h
+    first-place (element first end count s bytes index)
+    (elements_from first end count s bytes (index + 1) more) r h
     (λ e. test-place _ _ r e) (λ e. elements-place first end count s bytes (index + 1) more r e)
 
-id-place : (id : Option ℕ) (bytes : List ℕ) (a : Result (List ValueRecord) Refusal) (r : Refusal) → with_id id bytes a ≡ Err r → (a ≡ Err r → offset_of r ≡ 0) → offset_of r ≡ 0
+id-place : (id : Option ℕ) (bytes : List ℕ) (a : Result (List ValueRecord) Refusal) (r : Refusal)
+    → with_id id bytes a ≡ Err r → (a ≡ Err r → offset_of r ≡ 0) → offset_of r ≡ 0
 id-place None bytes a r h more = more h
 id-place (Some id) [] a r h more = let is : Bounds ≡ r = cc in ap offset_of (sym is)
 id-place (Some id) (b ∷ bytes) a r h more = byte-place (b == id) a r h more
 
-told : (a : Result (List ValueRecord) Refusal) (status : ℕ) → ((r : Refusal) → a ≡ Err r → offset_of r ≡ 0) → Err status ≡ by_status (accepted a)
+told : (a : Result (List ValueRecord) Refusal) (status : ℕ)
+    → ((r : Refusal) → a ≡ Err r → offset_of r ≡ 0) → Err status ≡ by_status (accepted a)
     → record { count = 0; offset = 0; status = status } ≡ as_answer (numbers a)
 told (Ok xs) status place h = cc
 told (Err r) status place h =
     let is : status ≡ status_of r = cc in
-    ap (λ s. record { count = 0; offset = 0; status = s }) is ∙ ap (λ o. record { count = 0; offset = o; status = status_of r }) (sym (place r refl))
+    ap (λ s. record { count = 0; offset = 0; status = s }) is
+    ∙ ap (λ o. record { count = 0; offset = o; status = status_of r }) (sym (place r refl))
 
 -- a refusal of values has no place
-pub values-refused : (f : HidreportField) (bytes : List ℕ) (status : ℕ) → Err status ≡ by_status (accepted (values_at f bytes))
+pub values-refused : (f : HidreportField) (bytes : List ℕ) (status : ℕ)
+    → Err status ≡ by_status (accepted (values_at f bytes))
     → record { count = 0; offset = 0; status = status } ≡ as_answer (numbers (values_at f bytes))
 values-refused f bytes status h =
     told (values_at f bytes) status (λ r e. id-place (id_of f) bytes (elements_at f bytes) r e
-    (λ inside. elements-place f.first_bit f.end_bit f.value_count _ bytes 0 f.value_count r inside)) h
+    (λ inside. elements-place f.first_bit f.end_bit f.value_count _ bytes 0 f.value_count r inside))
+    h

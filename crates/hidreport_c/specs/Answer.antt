@@ -22,7 +22,8 @@ as_answer (Err refusal) =
 abbrev pub no_memory : HidreportAnswer
 no_memory = record { count = 0; offset = 0; status = 4 }
 
--- what an array holds once these are written to it: as many as it has room for, and what stood behind them
+-- what an array holds once these are written to it: as many as it has room for, and what stood
+-- behind them
 abbrev pub written : {A : Type 0} → List A → List A → List A
 written xs old = take (length old) xs ++ drop (length xs) old
 
@@ -31,9 +32,10 @@ abbrev pub listed : {A : Type 0} → Result (List A) Refusal → List A
 listed (Ok xs) = xs
 listed (Err refusal) = []
 
--- the caller is told how many there are, or why there are none, and has what there was room for; or memory
--- was refused, and the array is as it was
-abbrev pub Lists : {A : Type 0} → Result (List A) Refusal → List A → List A → HidreportAnswer → Type 0
+-- the caller is told how many there are, or why there are none, and has what there was room for; or
+-- memory was refused, and the array is as it was
+abbrev pub Lists : {A : Type 0} → Result (List A) Refusal → List A → List A → HidreportAnswer
+    → Type 0
 Lists answer old new told =
     ((told ≡ as_answer answer) × (new ≡ written (listed answer) old))
     ⊎ ((told ≡ no_memory) × (new ≡ old))

@@ -1,6 +1,8 @@
 -- A field as C has it: all its parts as numbers, 0 or off for what isn't there.
-use Rattle.std.specs.Prelude.{ℕ, pos, ◌-◌, Bool, false, List, [], ◌∷◌, length, slice_get, is_some, unwrap_or, Option, None, option_map}
-use Rattle.hidreport.specs.Records.{CollectionRecord, FieldPlace, Attributes, FieldRecord, VariableRecord, ArrayRecord, ConstantRecord}
+use Rattle.std.specs.Prelude.{ℕ, pos, ◌-◌, Bool, false, List, [], ◌∷◌, length, slice_get, is_some}
+use Rattle.std.specs.Prelude.{unwrap_or, Option, None, option_map}
+use Rattle.hidreport.specs.Records.{CollectionRecord, FieldPlace, Attributes, FieldRecord}
+use Rattle.hidreport.specs.Records.{VariableRecord, ArrayRecord, ConstantRecord}
 use Rattle.hidreport.specs.UsageNumber.{usage_number}
 use Rattle.hidreport.specs.declared.field.usage.Usage.{Usage}
 use Rattle.hidreport_c.specs.declared.field.HidreportCollections.{HidreportCollections}
@@ -13,7 +15,8 @@ use Rattle.hidreport_c.specs.declared.field.HidreportUsages.{HidreportUsages}
 abbrev pub usage_at : List Usage → ℕ → ℕ
 usage_at usages index = unwrap_or (option_map usage_number (slice_get usages index)) 0
 
--- how many usages there are, the first and the last of them, and whether a minimum and a maximum gave them
+-- how many usages there are, the first and the last of them, and whether a minimum and a maximum
+-- gave them
 abbrev pub usages_as_c : List Usage → Bool → HidreportUsages
 usages_as_c usages is_range = record {
   count = length usages;
@@ -87,7 +90,8 @@ nothing_set = record {
 }
 
 -- a field at this place and with this id of its own, of this kind and with so many values
-abbrev pub placed : FieldPlace → Option ℕ → ℕ → ℕ → HidreportUsages → HidreportMeasures → HidreportFlags → HidreportCollections → HidreportField
+abbrev pub placed : FieldPlace → Option ℕ → ℕ → ℕ → HidreportUsages → HidreportMeasures
+    → HidreportFlags → HidreportCollections → HidreportField
 placed place id kind values usages measures flags collections = record {
   number = place.id;
   kind = kind;

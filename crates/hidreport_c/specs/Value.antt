@@ -1,8 +1,10 @@
 -- A value of a field, read by the field as C has it (Sections 5.6 and 5.8).
-use Rattle.std.specs.Prelude.{ℕ, pos, int_lt, nat_lt, zero, suc, if◌then◌else◌, List, [], ◌∷◌, map, ℤ, Option, None, Some, Result, Ok, Err}
+use Rattle.std.specs.Prelude.{ℕ, pos, int_lt, nat_lt, zero, suc, if◌then◌else◌, List, [], ◌∷◌, map}
+use Rattle.std.specs.Prelude.{ℤ, Option, None, Some, Result, Ok, Err}
 use Rattle.hidreport.specs.Answer.{Refusal, Bounds}
 use Rattle.hidreport.specs.Choosing.{value_number}
-use Rattle.hidreport.specs.Reading.{ValueRecord, element, elements_from, reads, reads_element, with_id}
+use Rattle.hidreport.specs.Reading.{ValueRecord, element, elements_from, reads, reads_element}
+use Rattle.hidreport.specs.Reading.{with_id}
 use Rattle.hidreport.specs.Records.{FieldRecord, VariableRecord, ArrayRecord, ConstantRecord}
 use Rattle.hidreport_c.specs.Status.{status_of}
 use Rattle.hidreport_c.specs.declared.field.HidreportField.{HidreportField}
@@ -15,7 +17,8 @@ id_of f = if f.has_report_id then Some f.report_id else None
 -- one of the field's values, whatever the report's id
 abbrev pub element_at : HidreportField → List ℕ → ℕ → Result ValueRecord Refusal
 element_at f bytes index =
-    element f.first_bit f.end_bit f.value_count (int_lt f.measures.logical_minimum (pos 0)) bytes index
+    element f.first_bit f.end_bit f.value_count (int_lt f.measures.logical_minimum (pos 0)) bytes
+    index
 
 -- one of the field's values in a report that has these bytes
 abbrev pub value_at : HidreportField → List ℕ → ℕ → Result ValueRecord Refusal

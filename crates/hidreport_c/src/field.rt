@@ -31,7 +31,8 @@ pub struct HidreportUsages {
     pub is_range: bool,
 }
 
-/// The bounds and the unit of a field (`struct hidreport_measures`). A number whose flag is off is 0.
+/// The bounds and the unit of a field (`struct hidreport_measures`). A number whose flag is off is
+/// 0.
 #[repr(C)]
 #[derive(Clone, Copy)]
 pub struct HidreportMeasures {

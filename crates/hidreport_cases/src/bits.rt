@@ -11,8 +11,8 @@ use std::ops::Range;
 /// The longest report whose bits are flipped, in bits.
 const LONGEST: usize = 2048;
 
-/// Flips each bit of a report behind its id, in each direction in which the report is found with all its bits. Appends
-/// a line for each bit that changes another value than its own.
+/// Flips each bit of a report behind its id, in each direction in which the report is found with
+/// all its bits. Appends a line for each bit that changes another value than its own.
 pub fn add_flips(
     alloc: Global,
     text: &mut String,
@@ -88,7 +88,8 @@ fn has_bit(bits: &Range<usize>, bit: usize) -> bool {
     bits.start <= bit && bit < bits.end
 }
 
-/// The value changes where the bit is one of the field's, and stays where it isn't. One of more than 32 bits isn't read.
+/// The value changes where the bit is one of the field's, and stays where it isn't. One of more
+/// than 32 bits isn't read.
 fn has_changed_rightly(field: &VariableField, before: &[u8], after: &[u8], bit: usize) -> bool {
     let is_read = field.bits.end.saturating_sub(field.bits.start) <= 32;
     let old = field.extract(before).ok().map(i64::from);
@@ -98,7 +99,8 @@ fn has_changed_rightly(field: &VariableField, before: &[u8], after: &[u8], bit: 
         && (old != new) == (is_read && has_bit(&field.bits, bit))
 }
 
-/// The element changes that the bit is part of, and no other. Those of more than 32 bits aren't read.
+/// The element changes that the bit is part of, and no other. Those of more than 32 bits aren't
+/// read.
 ///
 /// An element is as wide as the field's bits divided by the count, rounded down.
 fn have_changed_rightly(

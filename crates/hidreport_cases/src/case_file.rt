@@ -18,7 +18,8 @@ struct Case<'a> {
     wanted: String,
 }
 
-/// Asks each question of a file. Gives a text of those that are answered otherwise or can't be asked.
+/// Asks each question of a file. Gives a text of those that are answered otherwise or can't be
+/// asked.
 pub fn ask_file(
     alloc: Global,
     tally: &mut Tally,
@@ -44,7 +45,8 @@ pub fn ask_file(
     Ok(differing)
 }
 
-/// The questions of a text, in order. What stands before the first one is a question that can't be asked.
+/// The questions of a text, in order. What stands before the first one is a question that can't be
+/// asked.
 fn cases_of<'a>(alloc: Global, text: &'a str) -> Result<Vec<Case<'a>>, AllocError> {
     let mut cases: Vec<Case<'a>> = Vec::new(alloc);
     let mut line = 0usize;

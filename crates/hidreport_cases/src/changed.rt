@@ -17,8 +17,8 @@ struct Parts {
     minimum: i32,
 }
 
-/// Answers `changed FIELD FIRST..END COUNT MINIMUM / BYTES`: what the field with this number reads of a report's
-/// bytes once its parts are these. The count of a variable field counts for nothing.
+/// Answers `changed FIELD FIRST..END COUNT MINIMUM / BYTES`: what the field with this number reads
+/// of a report's bytes once its parts are these. The count of a variable field counts for nothing.
 pub fn add_changed(
     alloc: Global,
     text: &mut String,
@@ -85,7 +85,8 @@ fn add_some(text: &mut String, field: &ArrayField, bytes: &[u8]) -> Result<(), A
     Ok(())
 }
 
-/// Answers `low-bits FIELD / BYTES`: a line for each value, whether it is signed, and its low bits as each number.
+/// Answers `low-bits FIELD / BYTES`: a line for each value, whether it is signed, and its low bits
+/// as each number.
 pub fn add_low_bits(
     alloc: Global,
     text: &mut String,

@@ -1,5 +1,5 @@
-//! The commands of the program `hidreport`: what they write and with which status they end, and the words that ask for
-//! them.
+//! The commands of the program `hidreport`: what they write and with which status they end, and the
+//! words that ask for them.
 use crate::malformed::Malformed;
 use crate::words::{bytes_of, first_of, number_of};
 use hidreport_program::program::{Command, Fault, command_of, request_of, run, status_of};
@@ -7,8 +7,9 @@ use hidreport_transfer::{FromRead, RunFault, ToWrite};
 use std::alloc::{AllocError, Global};
 use std::fmt::Write;
 
-/// Answers `command NAME DESCRIPTOR`, `command NAME DESCRIPTOR / REPORT` and `command values-within LIMIT DESCRIPTOR / REPORT`:
-/// the status, and each line that is written, behind a bar.
+/// Answers `command NAME DESCRIPTOR`, `command NAME DESCRIPTOR / REPORT` and
+/// `command values-within LIMIT DESCRIPTOR / REPORT`: the status, and each line that is written,
+/// behind a bar.
 pub fn add_command(alloc: Global, text: &mut String, words: &str) -> Result<(), Malformed> {
     let (name, words) = first_of(words)?;
     if name == "values-within" {
@@ -64,7 +65,8 @@ fn written_by(
     String::from_utf8(written).map_err(|_other| Malformed::Bytes)
 }
 
-/// Answers `words WORD..`: the command and the files that the words ask for; `''` is the empty word.
+/// Answers `words WORD..`: the command and the files that the words ask for; `''` is the empty
+/// word.
 pub fn add_words(alloc: Global, text: &mut String, words: &str) -> Result<(), Malformed> {
     let words = owned(alloc, words)?;
     match request_of(&words) {

@@ -1,4 +1,5 @@
-//! Descriptors that are cut short: within an item there is too little data, behind one the items before it are answered.
+//! Descriptors that are cut short: within an item there is too little data, behind one the items
+//! before it are answered.
 use crate::descriptors::add_refusal;
 use crate::tally::Tally;
 use hidreport::ReportDescriptor;
@@ -17,8 +18,8 @@ struct Front {
     is_broken: bool,
 }
 
-/// Cuts a descriptor to its first byte, its first two, and so on up to all. Appends a line for each cut that is
-/// answered otherwise than its items are.
+/// Cuts a descriptor to its first byte, its first two, and so on up to all. Appends a line for each
+/// cut that is answered otherwise than its items are.
 pub fn add_cuts(
     alloc: Global,
     text: &mut String,
@@ -51,7 +52,8 @@ fn refusal_of(alloc: Global, bytes: &[u8]) -> Result<String, AllocError> {
     Ok(text)
 }
 
-/// How many bytes the item has that begins so (Sections 6.2.2.2 and 6.2.2.3); of a long one without its length, at least.
+/// How many bytes the item has that begins so (Sections 6.2.2.2 and 6.2.2.3); of a long one without
+/// its length, at least.
 fn size_of_item(item: &[u8]) -> usize {
     match item {
         [0xfe] => 3,

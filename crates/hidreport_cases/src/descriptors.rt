@@ -32,7 +32,8 @@ pub fn read(alloc: Global, way: Way, bytes: &[u8]) -> Result<ReportDescriptor, P
     }
 }
 
-/// Appends the refusal of a descriptor, or its reports with their fields. Gives back the descriptor.
+/// Appends the refusal of a descriptor, or its reports with their fields. Gives back the
+/// descriptor.
 pub fn add_descriptor(
     alloc: Global,
     text: &mut String,
@@ -130,8 +131,8 @@ pub fn add_refusal(text: &mut String, error: &ParserError) -> Result<(), AllocEr
     }
 }
 
-/// Appends how many reports, bits and fields a great descriptor announces in each direction, and in how many
-/// collections the first and the last of the fields lie.
+/// Appends how many reports, bits and fields a great descriptor announces in each direction, and in
+/// how many collections the first and the last of the fields lie.
 pub fn add_many(alloc: Global, text: &mut String, way: Way, words: &str) -> Result<(), Malformed> {
     let bytes = bytes_of(alloc, words)?;
     match read(alloc, way, &bytes) {

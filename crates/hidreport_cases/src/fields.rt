@@ -8,8 +8,8 @@ use hidreport::{ArrayField, Collection, ConstantField, Field, FieldAttributes, V
 use std::alloc::AllocError;
 use std::fmt::Write;
 
-/// Appends a line of all public parts of a field: its kind, bits, usages, sign, logical bounds, physical bounds,
-/// unit, exponent and attributes, its id, and the collections that it lies in.
+/// Appends a line of all public parts of a field: its kind, bits, usages, sign, logical bounds,
+/// physical bounds, unit, exponent and attributes, its id, and the collections that it lies in.
 pub fn add_field(text: &mut String, field: &Field, ids: Ids) -> Result<(), AllocError> {
     text.push_str("  ")?;
     match field {

@@ -9,7 +9,8 @@ use hidreport::hid::{
 use std::alloc::{AllocError, Global};
 use std::fmt::Write;
 
-/// Appends a line of what the reader of items makes of a slice: the item and the bytes that it writes, or the refusal.
+/// Appends a line of what the reader of items makes of a slice: the item and the bytes that it
+/// writes, or the refusal.
 pub fn add_item(alloc: Global, text: &mut String, bytes: &[u8]) -> Result<(), AllocError> {
     match ItemType::try_from(alloc, bytes) {
         Ok(item) => add_whole(alloc, text, &item),

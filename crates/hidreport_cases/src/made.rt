@@ -14,7 +14,8 @@ use hidreport::types::{
 use std::alloc::Global;
 use std::fmt::Write;
 
-/// Answers `made NAME NUMBER`: the item of this name, made of the number, and the bytes that it writes.
+/// Answers `made NAME NUMBER`: the item of this name, made of the number, and the bytes that it
+/// writes.
 pub fn add_made(alloc: Global, text: &mut String, words: &str) -> Result<(), Malformed> {
     let (name, number) = kind_of(words);
     match item_of(name, number) {

@@ -5,7 +5,8 @@ use hidreport::hid::{AnyItem, Item, ItemData, LongItem, ShortItem};
 use std::alloc::{AllocError, Global};
 use std::fmt::Write;
 
-/// Appends a line of an item: its bytes, size, header, tag, whether it is long, its data, and what item it is.
+/// Appends a line of an item: its bytes, size, header, tag, whether it is long, its data, and what
+/// item it is.
 pub fn add_parts<I: Item>(alloc: Global, text: &mut String, item: &I) -> Result<(), AllocError> {
     add_bytes(text, item.bytes())?;
     let size = item.size();

@@ -108,8 +108,8 @@ fn add_parsed(
     Ok(())
 }
 
-/// Appends all parts of a descriptor but the ids of fields and collections. Besides, its rebuilt bytes have to be
-/// answered alike, and its first bytes, however many, as the items in them are.
+/// Appends all parts of a descriptor but the ids of fields and collections. Besides, its rebuilt
+/// bytes have to be answered alike, and its first bytes, however many, as the items in them are.
 fn add_shape(
     alloc: Global,
     text: &mut String,
@@ -124,8 +124,8 @@ fn add_shape(
     Ok(())
 }
 
-/// Appends what the fields of the descriptor read. Besides, where these are the first bytes, each flipped bit has to
-/// change just the value that it is part of.
+/// Appends what the fields of the descriptor read. Besides, where these are the first bytes, each
+/// flipped bit has to change just the value that it is part of.
 fn add_read(
     alloc: Global,
     text: &mut String,

@@ -10,8 +10,8 @@ use hidreport::hid::{
 };
 use std::alloc::{AllocError, Global};
 
-/// Appends a line of what the reader of this kind of items makes of a slice: the item and the bytes that it writes,
-/// or the refusal.
+/// Appends a line of what the reader of this kind of items makes of a slice: the item and the bytes
+/// that it writes, or the refusal.
 pub fn add_read_as(
     alloc: Global,
     text: &mut String,

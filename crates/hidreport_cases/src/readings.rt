@@ -6,8 +6,8 @@ use hidreport::{
 use std::alloc::AllocError;
 use std::fmt::Write;
 
-/// Appends a line for each direction that has reports: the id of the one that `bytes` are of, and what each field
-/// of the direction reads.
+/// Appends a line for each direction that has reports: the id of the one that `bytes` are of, and
+/// what each field of the direction reads.
 pub fn add_readings(
     text: &mut String,
     descriptor: &ReportDescriptor,

@@ -19,8 +19,8 @@ pub fn add_rebuilt(alloc: Global, text: &mut String, bytes: &[u8]) -> Result<(),
     }
 }
 
-/// Appends a line where rebuilt bytes aren't answered as those that they are rebuilt from, or aren't rebuilt as
-/// themselves.
+/// Appends a line where rebuilt bytes aren't answered as those that they are rebuilt from, or
+/// aren't rebuilt as themselves.
 pub fn add_alike(alloc: Global, text: &mut String, bytes: &[u8]) -> Result<(), AllocError> {
     if is_alike(alloc, bytes)? {
         Ok(())
@@ -43,7 +43,8 @@ fn is_alike(alloc: Global, bytes: &[u8]) -> Result<bool, AllocError> {
     }
 }
 
-/// Whether rebuilt bytes are answered so, but for the offset of a refusal, and are rebuilt as themselves.
+/// Whether rebuilt bytes are answered so, but for the offset of a refusal, and are rebuilt as
+/// themselves.
 fn is_answered_so(alloc: Global, rebuilt: &[u8], answer: &str) -> Result<bool, AllocError> {
     let again = shape_of(alloc, rebuilt)?;
     match rebuild(alloc, rebuilt) {

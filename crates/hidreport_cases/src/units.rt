@@ -7,8 +7,8 @@ use hidreport::types::{Unit, UnitExponent, Units, UsageMaximum, UsageMinimum};
 use std::alloc::{AllocError, Global};
 use std::fmt::Write;
 
-/// Answers `unit NUMBER`: the unit's text, the number of its system and its own; what stands at each place; and the
-/// units that it has.
+/// Answers `unit NUMBER`: the unit's text, the number of its system and its own; what stands at
+/// each place; and the units that it has.
 pub fn add_unit(alloc: Global, text: &mut String, words: &str) -> Result<(), Malformed> {
     let unit = Unit::from(word_of(words)?);
     let (system, number) = (u32::from(unit.system()), u32::from(unit));
@@ -97,8 +97,8 @@ pub fn add_exponent(text: &mut String, words: &str) -> Result<(), Malformed> {
     Ok(())
 }
 
-/// Answers `usage NUMBER`: its page and id, and those of the minimum and the maximum that it gives, by value and by
-/// reference.
+/// Answers `usage NUMBER`: its page and id, and those of the minimum and the maximum that it gives,
+/// by value and by reference.
 pub fn add_usage(text: &mut String, words: &str) -> Result<(), Malformed> {
     let usage = Usage::from(word_of(words)?);
     let (page, id) = (usage.usage_page, usage.usage_id);

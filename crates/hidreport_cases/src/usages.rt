@@ -15,8 +15,8 @@ fn array_of(asked: &Asked, number: u32) -> Result<&ArrayField, Malformed> {
     }
 }
 
-/// Answers `usages FIELD USAGE..`: how many usages the array has, and its range; then for each of these usages
-/// what its range answers to the usage, and to its id.
+/// Answers `usages FIELD USAGE..`: how many usages the array has, and its range; then for each of
+/// these usages what its range answers to the usage, and to its id.
 pub fn add_usages_of(text: &mut String, asked: &Asked, words: &str) -> Result<(), Malformed> {
     let (number, words) = number_and_words(words)?;
     let field = array_of(asked, number)?;

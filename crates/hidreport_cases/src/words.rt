@@ -3,8 +3,8 @@ use crate::malformed::Malformed;
 use hex::FromHexError;
 use std::alloc::Global;
 
-/// The bytes that words write: hexadecimal digits, two for a byte; `-` is no bytes, and a number and `*` before
-/// digits say how often they stand there.
+/// The bytes that words write: hexadecimal digits, two for a byte; `-` is no bytes, and a number
+/// and `*` before digits say how often they stand there.
 pub fn bytes_of(alloc: Global, text: &str) -> Result<Vec<u8>, Malformed> {
     let mut bytes = Vec::new(alloc);
     if text != "-" {

@@ -20,6 +20,8 @@ mouse =
     ++ codes "0a 04 ff 35 00 45 00 95 01 75 01 b1 02 "
     ++ codes "75 03 b1 01 c0 c0"
 
--- the same with a segment between Push and Pop, with a size and a usage of its own, put before the byte at a place
+-- the same with a segment between Push and Pop, with a size and a usage of its own, put before the
+-- byte at a place
 abbrev pub mouse_with_segment : ℕ → List ℕ
-mouse_with_segment place = take (3 * place) mouse ++ codes "a4 75 10 09 99 b4 " ++ drop (3 * place) mouse
+mouse_with_segment place = take (3 * place) mouse ++ codes "a4 75 10 09 99 b4 " ++ drop (3 * place)
+    mouse

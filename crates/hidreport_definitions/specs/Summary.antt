@@ -1,5 +1,6 @@
 -- What a descriptor announces, in short, for the rows.
-use Rattle.std.specs.Prelude.{ℕ, ℤ, pos, true, false, List, [], ◌∷◌, map, flat_map, Option, None, Some, option_map, Result, Ok, Err}
+use Rattle.std.specs.Prelude.{ℕ, ℤ, pos, true, false, List, [], ◌∷◌, map, flat_map, Option, None}
+use Rattle.std.specs.Prelude.{Some, option_map, Result, Ok, Err}
 use Rattle.hidreport.specs.Answer.{Refusal}
 use Rattle.hidreport.specs.Faults.{Counts}
 use Rattle.hidreport.specs.GlobalItem.TheVariants as global
@@ -8,7 +9,9 @@ use Rattle.hidreport.specs.ItemType.TheVariants as item
 use Rattle.hidreport.specs.Lookup.{find_report}
 use Rattle.hidreport.specs.Meaning.{parse, parse_globals_only}
 use Rattle.hidreport.specs.Reading.{ValueRecord, reads}
-use Rattle.hidreport.specs.Records.{Attributes, CollectionRecord, FieldPlace, FieldRecord, VariableRecord, ArrayRecord, ConstantRecord, ReportRecord, DescriptorRecord}
+use Rattle.hidreport.specs.Records.{Attributes, CollectionRecord, FieldPlace, FieldRecord}
+use Rattle.hidreport.specs.Records.{VariableRecord, ArrayRecord, ConstantRecord, ReportRecord}
+use Rattle.hidreport.specs.Records.{DescriptorRecord}
 use Rattle.hidreport.specs.UsageNumber.{usage_number}
 use Rattle.hidreport.specs.UsageRange.{RangeRecord}
 use Rattle.hidreport.specs.Usages.{make_usage}
@@ -31,15 +34,22 @@ pub record DescriptorSummary : Type 0 where
   pub feature : List ReportSummary
 
 abbrev pub field_summary : FieldRecord → FieldSummary
-field_summary (VariableRecord place usage shared) = Variable place.first place.«end» (usage_number usage)
-field_summary (ArrayRecord place usages is_range count shared) = Array place.first place.«end» (map usage_number usages)
+field_summary (VariableRecord place usage shared) =
+    Variable place.first place.«end» (usage_number usage)
+field_summary (ArrayRecord place usages is_range count shared) =
+    Array place.first place.«end» (map usage_number usages)
 field_summary (ConstantRecord place) = Constant place.first place.«end»
 
 abbrev pub report_summary : ReportRecord → ReportSummary
 report_summary r = Report r.id r.size (map field_summary r.fields)
 
 abbrev pub in_short : Result DescriptorRecord Refusal → Result DescriptorSummary Refusal
-in_short (Ok d) = Ok (record { input = map report_summary d.input; output = map report_summary d.output; feature = map report_summary d.feature })
+in_short (Ok d) = Ok (record {
+  input = map report_summary d.input;
+  output =
+      map report_summary d.output;
+  feature = map report_summary d.feature;
+})
 in_short (Err refusal) = Err refusal
 
 -- what the bytes of a text announce
@@ -73,7 +83,8 @@ feature_reports (Err refusal) = []
 -- a field's number over the descriptor, and those of the collections that it lies in
 abbrev pub numbers : FieldRecord → ℕ × List ℕ
 numbers (VariableRecord place usage shared) = (place.id, map (λ c. c.id) shared.collections)
-numbers (ArrayRecord place usages is_range count shared) = (place.id, map (λ c. c.id) shared.collections)
+numbers (ArrayRecord place usages is_range count shared) =
+    (place.id, map (λ c. c.id) shared.collections)
 numbers (ConstantRecord place) = (place.id, [])
 
 -- the same of all fields of these reports
@@ -82,7 +93,8 @@ all_numbers reports = flat_map (λ r. map numbers r.fields) reports
 
 -- the input report that a report's bytes are of
 abbrev pub found : List ℕ → List ℕ → Option ReportSummary
-found text report = option_map report_summary (find_report (input_reports (announced_by text)) (hex report))
+found text report = option_map report_summary
+    (find_report (input_reports (announced_by text)) (hex report))
 
 abbrev pub read_fields : List ReportRecord → List ℕ → List (Result (List ValueRecord) Refusal)
 read_fields [] bytes = []
@@ -99,7 +111,8 @@ unsigned n = record { word = n; is_signed = false }
 abbrev pub signed : ℕ → ValueRecord
 signed n = record { word = n; is_signed = true }
 
--- what a field has that no item sets: bounds of 0, no physical bounds, no unit, no collections and no flags
+-- what a field has that no item sets: bounds of 0, no physical bounds, no unit, no collections and
+-- no flags
 abbrev pub unset : Attributes
 unset = record {
   logical_minimum = pos 0;
@@ -157,16 +170,20 @@ collections_around text = option_map (λ (a : Attributes). a.collections) (input
 
 -- the same field with a report id of its own
 abbrev pub with_report_id : FieldPlace → ℕ → FieldPlace
-with_report_id place id = record { id = place.id; report_id = Some id; first = place.first; «end» = place.«end» }
+with_report_id place id = record
+    { id = place.id; report_id = Some id; first = place.first; «end» = place.«end» }
 
 abbrev pub of_report : ℕ → FieldRecord → FieldRecord
-of_report id (VariableRecord place usage shared) = VariableRecord (with_report_id place id) usage shared
-of_report id (ArrayRecord place usages is_range count shared) = ArrayRecord (with_report_id place id) usages is_range count shared
+of_report id (VariableRecord place usage shared) =
+    VariableRecord (with_report_id place id) usage shared
+of_report id (ArrayRecord place usages is_range count shared) =
+    ArrayRecord (with_report_id place id) usages is_range count shared
 of_report id (ConstantRecord place) = ConstantRecord (with_report_id place id)
 
 -- so many fields and so many collections before an item, and nothing else
 abbrev pub numbered : ℕ → ℕ → Counts
-numbered fields collections = record { level = 0; depth = 0; collections = collections; fields = fields; start = 0 }
+numbered fields collections = record
+    { level = 0; depth = 0; collections = collections; fields = fields; start = 0 }
 
 -- in force are a size of one bit and a count of one
 abbrev pub one_bit : Force

@@ -1,8 +1,8 @@
 -- Descriptors, reports and fields whose tiling rows tell.
-use Rattle.std.specs.Prelude.{ℕ, true, [], ◌∷◌, Option, Some}
-use Rattle.hidreport.specs.CollectionItem.{CollectionItem}
+use Rattle.std.specs.Prelude.{ℕ, true, List, [], ◌∷◌, Option, Some}
 use Rattle.hidreport.specs.CollectionItem.TheVariants as kind
-use Rattle.hidreport.specs.Records.{Attributes, FieldRecord, VariableRecord, ArrayRecord, ConstantRecord, ReportRecord, DescriptorRecord}
+use Rattle.hidreport.specs.Records.{Attributes, CollectionRecord, FieldRecord, VariableRecord}
+use Rattle.hidreport.specs.Records.{ArrayRecord, ConstantRecord, ReportRecord, DescriptorRecord}
 use Rattle.hidreport.specs.Usages.{make_usage, range_from}
 use Rattle.hidreport_definitions.specs.Summary.{of_report, place_of, unset}
 
@@ -25,7 +25,8 @@ two_reports = record {
       ∷ record {
         id = Some 2;
         size = 24;
-        fields = of_report 2 (ArrayRecord (place_of 2 8 24) (range_from 7 4 4) true 2 in_keyboard) ∷ [];
+        fields = of_report 2 (ArrayRecord (place_of 2 8 24) (range_from 7 4 4) true 2 in_keyboard)
+            ∷ [];
       }
       ∷ [];
   output = [];
@@ -36,7 +37,14 @@ two_reports = record {
 abbrev pub report_of : Option ℕ → ReportRecord
 report_of id = record { id = id; size = 0; fields = [] }
 
--- a field in one collection, with this number and of this kind
-abbrev pub field_in : ℕ → CollectionItem → FieldRecord
-field_in id kind = VariableRecord (place_of 0 0 8) (make_usage 1 0x30)
-    (record unset { collections = record { id = id; kind = kind; usages = [] } ∷ [] })
+-- a Physical collection, and a Logical one, with this number
+abbrev pub physical : ℕ → CollectionRecord
+physical id = record { id = id; kind = kind.Physical; usages = [] }
+
+abbrev pub logical : ℕ → CollectionRecord
+logical id = record { id = id; kind = kind.Logical; usages = [] }
+
+-- a field in these collections, outermost first
+abbrev pub field_in : List CollectionRecord → FieldRecord
+field_in collections = VariableRecord (place_of 0 0 8) (make_usage 1 0x30)
+    (record unset { collections = collections })

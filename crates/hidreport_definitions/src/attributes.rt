@@ -54,7 +54,8 @@ pub fn both_physical_bounds_are_kept()
         ≡ Some (record unset { physical_minimum = Some (pos 0); physical_maximum = Some (pos 5) }) }
 {}
 
-/// Logical bounds are those in force, signed by the width of their data; the unit and its exponent too.
+/// Logical bounds are those in force, signed by the width of their data; the unit and its exponent
+/// too.
 pub fn logical_bounds_are_signed_by_their_width()
     ensures bounds { input_attributes (codes "05 01 09 30 15 81 26 ff 00 75 08 95 01 81 02")
         ≡ Some (record unset { logical_minimum = negsuc 126; logical_maximum = pos 255 }) }

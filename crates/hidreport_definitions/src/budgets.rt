@@ -10,7 +10,8 @@ pub fn fields_weigh_one_each()
     ensures nothing { is_read_within 0 (codes "05 01") ≡ true }
 {}
 
-/// A collection weighs 1 and its usages where it is opened, and again in each field that carries it.
+/// A collection weighs 1 and its usages where it is opened, and again in each field that carries
+/// it.
 pub fn collections_weigh_in_each_field()
     ensures just { is_read_within 8
         (codes "05 01 09 02 a1 01 09 30 75 08 95 02 81 02 c0") ≡ true }

@@ -32,7 +32,8 @@ pub fn the_end_of_a_collection_ends_the_locals()
         ≡ Err (InvalidAt 11 (codes "Missing Usages for main item")) }
 {}
 
-/// Open collections are listed outermost first, a closed one not at all; numbers count all that were opened.
+/// Open collections are listed outermost first, a closed one not at all; numbers count all that
+/// were opened.
 pub fn open_collections_come_outermost_first()
     ensures nested { collections_around (codes "05 01 a1 01 a1 00 09 30 75 08 95 01 81 02")
         ≡ Some (record { id = 0; kind = kind.Application; usages = [] }

@@ -8,7 +8,8 @@ pub fn an_empty_descriptor_is_refused()
     ensures { summary (codes "") ≡ Err (InvalidAt 0 (codes "Empty report descriptor")) }
 {}
 
-/// A main item whose tag is none of the five is refused with its header in binary, and missing data before that.
+/// A main item whose tag is none of the five is refused with its header in binary, and missing data
+/// before that.
 pub fn an_unknown_main_item_is_refused()
     ensures zero { summary (codes "00")
         ≡ Err (InvalidAt 0 (codes "Invalid data: Invalid item tag 0b000000")) }

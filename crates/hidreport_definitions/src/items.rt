@@ -8,8 +8,8 @@ ghost use Rattle.hidreport.specs.Spelling.{item_of, Spells};
 ghost use Rattle.hidreport.specs.WithoutLong.{ItemisesShort};
 ghost use Rattle.hidreport_definitions.specs.Cut.{page_and_pop};
 
-/// Bytes that spell items: in one data byte, in four, and in none; long items with two data bytes and
-/// with none.
+/// Bytes that spell items: in one data byte, in four, and in none; long items with two data bytes
+/// and with none.
 pub fn bytes_spell_items()
     ensures one_byte { Spells (0x05 ∷ 0x01 ∷ []) (item.Global (global.UsagePage 1)) }
     ensures four_bytes { Spells (0x07 ∷ 1 ∷ 0 ∷ 2 ∷ 0 ∷ []) (item.Global (global.UsagePage 1)) }

@@ -4,7 +4,8 @@ ghost use Rattle.hidreport.specs.ItemType.{ItemType};
 ghost use Rattle.hidreport.specs.OpenCollections.{is_open, IsOpen};
 ghost use Rattle.hidreport.specs.Visibility.{is_visible, IsVisible};
 
-/// An item is visible at a place where it is before it and no Pop has closed the segment that it stands in.
+/// An item is visible at a place where it is before it and no Pop has closed the segment that it
+/// stands in.
 pub fn visibility_is_computed()
     ensures { (items : List ItemType) (j k : ℕ)
         → IsTrue (is_visible items j k) ↔ IsVisible items j k }

@@ -83,7 +83,8 @@ pub fn a_mouse_has_no_other_input_report()
     ensures { found mouse (codes "07 00") ≡ None }
 {}
 
-/// A segment between Push and Pop that makes no field changes nothing, also where usages wait for their item.
+/// A segment between Push and Pop that makes no field changes nothing, also where usages wait for
+/// their item.
 pub fn a_segment_without_fields_changes_no_mouse_report()
     ensures before_a_collection { announced_by (mouse_with_segment 16) ≡ announced_by mouse }
     ensures before_a_data_item { announced_by (mouse_with_segment 32) ≡ announced_by mouse }

@@ -9,7 +9,8 @@ ghost use Rattle.hidreport.specs.MainItem.TheVariants as main;
 ghost use Rattle.hidreport.specs.MeaningFault.{PastBounds};
 ghost use Rattle.hidreport_definitions.specs.Summary.{Variable, Constant, Report, summary, inputs, no_reports, all_numbers, announced_by, found, input_reports, numbered, one_bit};
 
-/// A report id that comes later begins a second report, and the first, which has no id, is found for any byte.
+/// A report id that comes later begins a second report, and the first, which has no id, is found
+/// for any byte.
 pub fn a_report_without_id_is_found_for_any_byte()
     ensures reports { summary (codes "05 01 75 08 95 01 09 30 81 02 85 02 09 31 81 02")
         ≡ inputs (Report None 8 (Variable 0 8 0x00010030 ∷ [])
@@ -25,7 +26,8 @@ pub fn the_greatest_field_fits_once()
     ensures twice { summary (codes "77 ff ff ff ff 97 ff ff ff ff 81 01 81 01") ≡ Err Bounds }
 {}
 
-/// A report may end exactly at the greatest place; one bit more, or a byte for an id, and it doesn't.
+/// A report may end exactly at the greatest place; one bit more, or a byte for an id, and it
+/// doesn't.
 pub fn a_report_may_end_at_the_greatest_place()
     ensures at_the_edge { summary (codes "77 ff ff ff ff 97 ff ff ff ff 81 01 75 02 81 01")
         ≡ inputs (Report None 18446744073709551615 (Constant 0 18446744065119617025
@@ -77,7 +79,8 @@ pub fn ids_have_32_bits()
         ≡ Some PastBounds }
 {}
 
-/// Fields are numbered from 0 in the order of the items; an array has one number, however many values it has.
+/// Fields are numbered from 0 in the order of the items; an array has one number, however many
+/// values it has.
 pub fn an_array_has_one_number()
     ensures { all_numbers (input_reports (announced_by
         (codes "05 01 75 04 95 02 09 30 81 00 95 01 09 31 81 02")))

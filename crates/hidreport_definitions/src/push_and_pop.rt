@@ -37,8 +37,8 @@ pub fn a_size_set_inside_is_taken_back()
         ≡ inputs (Report None 16 (Variable 0 16 0x00010030 ∷ []) ∷ []) }
 {}
 
-/// A report id set between a Push and its Pop holds only there: the next field goes to the first report, and
-/// its own report id is none.
+/// A report id set between a Push and its Pop holds only there: the next field goes to the first
+/// report, and its own report id is none.
 pub fn a_report_id_set_inside_is_taken_back()
     ensures reports { summary (codes "05 01 75 08 95 01 a4 85 05 09 30 81 02 b4 09 31 81 02")
         ≡ inputs (Report (Some 5) 24 (Variable 8 16 0x00010030 ∷ Variable 16 24 0x00010031
@@ -64,7 +64,8 @@ pub fn nested_pushes_keep_their_own_usages()
         ∷ []) ∷ []) }
 {}
 
-/// A collection keeps the usages that it was opened with, though the Pop behind it takes them from what is in force.
+/// A collection keeps the usages that it was opened with, though the Pop behind it takes them from
+/// what is in force.
 pub fn a_collection_keeps_its_usages()
     ensures { announced_by (codes "05 01 75 08 95 01 a4 09 30 a1 00 b4 09 31 81 02 c0")
         ≡ Ok (record {
@@ -87,7 +88,8 @@ pub fn a_collection_keeps_its_usages()
         }) }
 {}
 
-/// A size that was set and taken back isn't in force in a later segment: the data item there makes no field.
+/// A size that was set and taken back isn't in force in a later segment: the data item there makes
+/// no field.
 pub fn a_size_taken_back_is_not_set_later()
     ensures { summary (codes "05 01 95 01 a4 75 08 b4 a4 09 30 81 02") ≡ no_reports }
 {}

@@ -5,7 +5,8 @@ ghost use Rattle.hidreport.specs.Reading.{reads, reads_element};
 ghost use Rattle.hidreport_definitions.specs.Hex.{hex};
 ghost use Rattle.hidreport_definitions.specs.Summary.{Variable, Array, Constant, Report, summary, inputs, readings, unsigned, signed, array_at, of_report, variable_at};
 
-/// Each element of an array has its own sign, and an index past the count or bits past the bytes are refused.
+/// Each element of an array has its own sign, and an index past the count or bits past the bytes
+/// are refused.
 pub fn array_elements_are_signed_one_by_one()
     ensures reports { summary (codes "05 01 15 ff 25 07 75 04 95 02 09 30 81 00")
         ≡ inputs (Report None 8 (Array 0 8 (0x00010030 ∷ []) ∷ []) ∷ []) }
@@ -38,7 +39,8 @@ pub fn a_field_across_five_bytes_is_read()
         ≡ Ok [] ∷ Err Bounds ∷ [] }
 {}
 
-/// The elements of a range are as wide as the count goes into it; what is left over is read by none.
+/// The elements of a range are as wide as the count goes into it; what is left over is read by
+/// none.
 pub fn an_array_may_have_bits_left_over()
     ensures without { reads (array_at 0 7 2 (negsuc 0)) (hex (codes "f1"))
         ≡ Ok (signed 1 ∷ signed 0xfffffffe ∷ []) }
@@ -46,7 +48,8 @@ pub fn an_array_may_have_bits_left_over()
         ≡ Ok (signed 1 ∷ signed 0xfffffffe ∷ []) }
 {}
 
-/// Bits are counted from the lowest of the first byte; a range has at least one bit, and at most 32.
+/// Bits are counted from the lowest of the first byte; a range has at least one bit, and at most
+/// 32.
 pub fn ranges_of_bits_are_read()
     ensures below_zero { reads (variable_at 0 4 (negsuc 0)) (hex (codes "ca b9 96 15"))
         ≡ Ok (signed 0xfffffffa ∷ []) }
@@ -65,7 +68,8 @@ pub fn signed_bytes_are_read()
         ≡ Ok (signed 5 ∷ []) ∷ Ok (signed 0xfffffffb ∷ []) ∷ [] }
 {}
 
-/// A field with a report id needs bytes, and its id as their first; only then are its bits looked at.
+/// A field with a report id needs bytes, and its id as their first; only then are its bits looked
+/// at.
 pub fn the_id_is_looked_at_before_the_bits()
     ensures other_id { reads (of_report 5 (variable_at 8 41 (pos 0))) (hex (codes "06"))
         ≡ Err Mismatch }

@@ -5,7 +5,8 @@ ghost use Rattle.hidreport.specs.ItemAnswer.{Insufficient};
 ghost use Rattle.hidreport_definitions.specs.Summary.{Variable, Report, summary, inputs};
 ghost use Rattle.hidreport_definitions.specs.Rebuilt.{again, kept_bytes};
 
-/// An item of a reserved kind is left out, every other is written in its shortest spelling with data.
+/// An item of a reserved kind is left out, every other is written in its shortest spelling with
+/// data.
 pub fn kept_items_are_written_shortly()
     ensures shorter { again (codes "06 01 00 c4 0a 30 00 fc 17 00 00 00 00 a0 c1 55")
         ≡ kept_bytes (codes "05 01 09 30 15 00 a1 00 c0") }

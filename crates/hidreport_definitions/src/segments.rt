@@ -17,7 +17,8 @@ pub fn segments_can_be_matched()
         ∷ item.Global global.Pop ∷ []) }
 {}
 
-/// A segment is a Push, its items and a Pop, between other items; what stands behind it comes so much later.
+/// A segment is a Push, its items and a Pop, between other items; what stands behind it comes so
+/// much later.
 pub fn a_segment_stands_between_others()
     ensures items { with_segment (item.Global (global.ReportSize 8) ∷ []) (item.Local
         (local.UsageId 9)

@@ -1,13 +1,16 @@
 //! How fields fill their reports, and what has a number of its own.
 ghost use Rattle.std.specs.Prelude.{◌≡◌, pos, List, [], ◌∷◌, None, Some, codes, true, false};
-ghost use Rattle.hidreport.specs.CollectionItem.TheVariants as kind;
-ghost use Rattle.hidreport.specs.Records.{ArrayRecord};
-ghost use Rattle.hidreport.specs.Tiling.{Covers, HasNoRest, HasRange, HaveOwnCollections, HaveOwnIds, HaveOwnNumbers, IsFilled, IsOf, IsTiled};
+ghost use Rattle.hidreport.specs.Records.{ArrayRecord, ConstantRecord};
+ghost use Rattle.hidreport.specs.Tiling.{Covers, HasNoRest, HasRange, HaveOwnCollections};
+ghost use Rattle.hidreport.specs.Tiling.{HaveOwnIds, HaveOwnNumbers, IsFilled, IsOf, IsTiled};
 ghost use Rattle.hidreport.specs.Usages.{make_usage, range_from};
-ghost use Rattle.hidreport_definitions.specs.Summary.{announced_by, array_at, of_report, place_of, unset, variable_at};
-ghost use Rattle.hidreport_definitions.specs.Tiled.{field_in, report_of, two_reports};
+ghost use Rattle.hidreport_definitions.specs.Summary.{announced_by, array_at, of_report, place_of};
+ghost use Rattle.hidreport_definitions.specs.Summary.{unset, variable_at};
+ghost use Rattle.hidreport_definitions.specs.Tiled.{field_in, logical, physical, report_of};
+ghost use Rattle.hidreport_definitions.specs.Tiled.{two_reports};
 
-/// A report of a bit field, padding and a report of an array, in one collection: their fields have all their bits.
+/// A report of a bit field, padding and a report of an array, in one collection: their fields have
+/// all their bits.
 pub fn a_descriptor_of_two_reports_is_tiled()
     ensures announced { announced_by
         (codes "05 01 09 06 a1 01 85 01 75 03 95 01 09 30 81 02 75 05 81 01 85 02 05 07 19 04 29 07 75 08 95 02 81 00 c0")
@@ -15,8 +18,8 @@ pub fn a_descriptor_of_two_reports_is_tiled()
     ensures tiled { IsTiled two_reports }
 {}
 
-/// A bit that no field has or that two have, before, between or behind the fields, and a field without bits: the fields
-/// aren't those of a whole report.
+/// A bit that no field has or that two have, before, between or behind the fields, and a field
+/// without bits: the fields aren't those of a whole report.
 pub fn each_bit_belongs_to_one_field()
     ensures whole { Covers 0 (variable_at 0 4 (pos 0) ∷ variable_at 4 8 (pos 0) ∷ []) 8 }
     ensures gap { Covers 0 (variable_at 0 4 (pos 0) ∷ variable_at 5 8 (pos 0) ∷ []) 8 → ⊥ }
@@ -53,17 +56,31 @@ pub fn a_report_has_an_id_of_its_own()
     ensures second_without { HaveOwnIds (report_of (Some 1) ∷ report_of None ∷ []) → ⊥ }
 {}
 
-/// No two fields have one number, and no two collections.
-pub fn a_field_and_a_collection_have_numbers_of_their_own()
+/// No two fields have one number.
+pub fn a_field_has_a_number_of_its_own()
     ensures field { HaveOwnNumbers (variable_at 0 4 (pos 0) ∷ []) }
     ensures two_fields { HaveOwnNumbers
         (variable_at 0 4 (pos 0) ∷ variable_at 4 8 (pos 0) ∷ []) → ⊥ }
-    ensures collection { HaveOwnCollections
-        (field_in 0 kind.Physical ∷ field_in 0 kind.Physical ∷ []) }
-    ensures two_collections { HaveOwnCollections
-        (field_in 0 kind.Physical ∷ field_in 1 kind.Logical ∷ []) }
-    ensures one_number { HaveOwnCollections
-        (field_in 0 kind.Physical ∷ field_in 0 kind.Logical ∷ []) → ⊥ }
+{}
+
+/// Collections of one number are one: of one kind, at one depth, inside the same collections.
+pub fn a_collection_has_a_number_of_its_own()
+    ensures shared { HaveOwnCollections
+        (field_in (physical 0 ∷ []) ∷ field_in (physical 0 ∷ []) ∷ []) }
+    ensures apart { HaveOwnCollections
+        (field_in (physical 0 ∷ []) ∷ field_in (logical 1 ∷ []) ∷ []) }
+    ensures nested { HaveOwnCollections
+        (field_in (physical 0 ∷ logical 1 ∷ []) ∷ field_in (physical 0 ∷ logical 2 ∷ []) ∷ []) }
+    ensures padding { HaveOwnCollections (ConstantRecord (place_of 0 0 8) ∷ []) }
+    ensures two_kinds { HaveOwnCollections
+        (field_in (physical 0 ∷ []) ∷ field_in (logical 0 ∷ []) ∷ []) → ⊥ }
+    ensures two_in_one_field { HaveOwnCollections
+        (field_in (physical 0 ∷ physical 0 ∷ []) ∷ []) → ⊥ }
+    ensures two_depths { HaveOwnCollections
+        (field_in (physical 0 ∷ []) ∷ field_in (logical 1 ∷ physical 0 ∷ []) ∷ []) → ⊥ }
+    ensures two_places { HaveOwnCollections
+        (field_in (physical 0 ∷ logical 2 ∷ []) ∷ field_in (physical 1 ∷ logical 2 ∷ []) ∷ [])
+        → ⊥ }
 {}
 
 /// An array of a range has the usages from its minimum to its maximum, all of them.

@@ -2,7 +2,8 @@
 ghost use Rattle.std.specs.Prelude.{◌≡◌};
 ghost use Rattle.hidreport.specs.UnitTable.{MakeUp, joined, system_number, system_of, units_of};
 
-/// The system and the units of a unit make up its number: of an energy, and of one with every place.
+/// The system and the units of a unit make up its number: of an energy, and of one with every
+/// place.
 pub fn units_make_up_their_number()
     ensures energy { MakeUp (units_of 0xE121) 0xE121
         → joined (system_number (system_of 0xE121)) (units_of 0xE121) ≡ 0xE121 }

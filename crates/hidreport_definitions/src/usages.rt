@@ -23,7 +23,8 @@ pub fn a_reversed_range_has_no_usages()
     ensures collection { summary (codes "05 01 19 05 29 02 a1 00") ≡ no_reports }
 {}
 
-/// A minimum needs its maximum where the usages are looked at, and a data item of no size doesn't look.
+/// A minimum needs its maximum where the usages are looked at, and a data item of no size doesn't
+/// look.
 pub fn a_minimum_needs_its_maximum()
     ensures data_item { summary (codes "05 01 19 05 75 08 95 01 81 02")
         ≡ Err (InvalidAt 8 (codes "Missing UsageMaximum in locals")) }
@@ -55,7 +56,8 @@ pub fn a_range_wraps_within_its_page()
         }) }
 {}
 
-/// An array has a long range of usages, each with the page that its minimum and maximum name or leave out.
+/// An array has a long range of usages, each with the page that its minimum and maximum name or
+/// leave out.
 pub fn an_array_has_all_usages_of_a_range()
     ensures { announced_by
         (codes "05 01 09 02 a1 01 15 00 26 ff 00 75 08 95 03 1b 01 00 01 00 2b ff 00 01 00 81 00 c0")

@@ -1,5 +1,7 @@
 -- What is written for an item is its canonical spelling, if some bytes spell it.
-use Rattle.std.proofs.Common.{◌≡◌, ◌≢◌, ℕ, zero, suc, ◌+◌, ◌*◌, ◌/◌, ◌%◌, ◌^◌, ◌<◌, ◌≤◌, Bool, true, false, nat_lt, cond, List, [], ◌∷◌, length, drop, Result, Ok, Err, IfOk, Vec, Global, refl, sym, ap, ◌∙◌, subst, arith}
+use Rattle.std.proofs.Common.{◌≡◌, ◌≢◌, ℕ, zero, suc, ◌+◌, ◌*◌, ◌/◌, ◌%◌, ◌^◌, ◌<◌, ◌≤◌, Bool, true}
+use Rattle.std.proofs.Common.{false, nat_lt, cond, List, [], ◌∷◌, length, drop, Result, Ok, Err}
+use Rattle.std.proofs.Common.{IfOk, Vec, Global, refl, sym, ap, ◌∙◌, subst, arith}
 use Rattle.std.specs.Prelude.{ℤ, ◌==◌}
 use Rattle.std.proofs.lemmas.Bool.{cond_both, cond-true, cond-false, eqb-true, ne_eqb, lt-ltb}
 use Rattle.std.proofs.lemmas.Bool.Decides.{nat_tests}
@@ -10,8 +12,14 @@ use Rattle.hidreport_items.specs.Canonical.{IsCanonical, is_bare}
 use Rattle.hidreport_items.specs.Flags.{Flags, flags_of, is_flag_set}
 use Rattle.hidreport_items.specs.Kept.{is_kept}
 use Rattle.hidreport_items.specs.Numbers.{word, signed, is_short_length}
-use Rattle.hidreport_items.specs.Spelling.{announced, following, is_long_header, prefix, type_of, item_of, main_item, global_item, local_item, usage_item, read_as, with_data, of_short_length, input_item, collection_item, kind_number, first_or_zero, AreBytes, Spells, read_with}
-use Rattle.hidreport_items.specs.Writing.{with_header, four_bytes, unsigned_data, signed_data, count_data, flags_data, flags_number, item_bytes, main_bytes, global_bytes, local_bytes}
+use Rattle.hidreport_items.specs.Spelling.{announced, following, is_long_header, prefix, type_of}
+use Rattle.hidreport_items.specs.Spelling.{item_of, main_item, global_item, local_item, usage_item}
+use Rattle.hidreport_items.specs.Spelling.{read_as, with_data, of_short_length, input_item}
+use Rattle.hidreport_items.specs.Spelling.{collection_item, kind_number, first_or_zero, AreBytes}
+use Rattle.hidreport_items.specs.Spelling.{Spells, read_with}
+use Rattle.hidreport_items.specs.Writing.{with_header, four_bytes, unsigned_data, signed_data}
+use Rattle.hidreport_items.specs.Writing.{count_data, flags_data, flags_number, item_bytes}
+use Rattle.hidreport_items.specs.Writing.{main_bytes, global_bytes, local_bytes}
 use Rattle.hidreport_items.specs.declared.main_item.MainItem.{MainItem}
 use Rattle.hidreport_items.specs.declared.main_item.MainItem.TheVariants as main
 use Rattle.hidreport_items.specs.declared.main_item.CollectionItem.{CollectionItem}
@@ -21,9 +29,14 @@ use Rattle.hidreport_items.specs.declared.local.LocalItem.{LocalItem}
 use Rattle.hidreport_items.specs.declared.local.LocalItem.TheVariants as local
 use Rattle.hidreport_items.specs.declared.item.ItemType.{ItemType}
 use Rattle.hidreport_items.specs.declared.item.ItemType.TheVariants as item
-use Rattle.hidreport_items.proofs.Words.{IsLeast, announced-four, by-shape, bytes-behind, word-four, word-unsigned, length-unsigned, unsigned-least, signed-least, signed-again, signed-fits-any, word-fits, unsigned-two, are-one, are-four, are-unsigned, are-signed, HasShape, shape-signed, fits}
+use Rattle.hidreport_items.proofs.Words.{IsLeast, announced-four, by-shape, bytes-behind, word-four}
+use Rattle.hidreport_items.proofs.Words.{word-unsigned, length-unsigned, unsigned-least}
+use Rattle.hidreport_items.proofs.Words.{signed-least, signed-again, signed-fits-any, word-fits}
+use Rattle.hidreport_items.proofs.Words.{unsigned-two, are-one, are-four, are-unsigned, are-signed}
+use Rattle.hidreport_items.proofs.Words.{HasShape, shape-signed, fits}
 use Rattle.hidreport_items.proofs.Following.{kept-short, small-short}
-use Rattle.hidreport_items.proofs.FlagWords.{flags-again, flags-least, number-le, number-without, word-flags, length-flags, are-flags}
+use Rattle.hidreport_items.proofs.FlagWords.{flags-again, flags-least, number-le, number-without}
+use Rattle.hidreport_items.proofs.FlagWords.{word-flags, length-flags, are-flags}
 
 -- what data says of the item that it spells
 abbrev pub SaysGlobal : List ℕ → GlobalItem → Type 0
@@ -42,7 +55,8 @@ SaysGlobal bs global.Pop = Unit {0}
 SaysGlobal bs global.Reserved = Unit {0}
 
 abbrev pub SaysLocal : List ℕ → LocalItem → Type 0
-SaysLocal bs (local.Usage page id) = (length bs ≡ 4) × (word bs / 65536 ≡ page) × (word bs % 65536 ≡ id)
+SaysLocal bs (local.Usage page id) =
+    (length bs ≡ 4) × (word bs / 65536 ≡ page) × (word bs % 65536 ≡ id)
 SaysLocal bs (local.UsageId n) = word bs % 65536 ≡ n
 SaysLocal bs (local.UsageMinimum n) = word bs ≡ n
 SaysLocal bs (local.UsageMaximum n) = word bs ≡ n
@@ -74,27 +88,34 @@ abbrev pub IfRead : {A : Type 0} → (A → Type 0) → Result A Fault → Type 
 IfRead P (Ok x) = P x
 IfRead P (Err e) = Unit {0}
 
-says-short : {A : Type 0} (P : A → Type 0) (bs : List ℕ) (r : Result A Fault) → IfRead P r → IfRead P (of_short_length bs r)
-says-short {A} P bs r h = says-short-by (is_short_length (length bs)) (Err (Invalid (size_message (length bs)))) tt
+says-short : {A : Type 0} (P : A → Type 0) (bs : List ℕ) (r : Result A Fault) → IfRead P r
+    → IfRead P (of_short_length bs r)
+says-short {A} P bs r h = says-short-by (is_short_length (length bs))
+    (Err (Invalid (size_message (length bs)))) tt
   where
     says-short-by : (b : Bool) (e : Result A Fault) → IfRead P e → IfRead P (cond b r e)
     says-short-by true e none = h
     says-short-by false e none = none
 
-says-data : {A : Type 0} (P : A → Type 0) (bs : List ℕ) (r : Result A Fault) → IfRead P r → IfRead P (with_data bs r)
+says-data : {A : Type 0} (P : A → Type 0) (bs : List ℕ) (r : Result A Fault) → IfRead P r
+    → IfRead P (with_data bs r)
 says-data P [] r h = tt
 says-data P (b ∷ bs) r h = h
 
-says-as : {A B : Type 0} (P : A → Type 0) (Q : B → Type 0) (f : A → B) (r : Result A Fault) → ((x : A) → P x → Q (f x)) → IfRead P r → IfRead Q (read_as f r)
+says-as : {A B : Type 0} (P : A → Type 0) (Q : B → Type 0) (f : A → B) (r : Result A Fault)
+    → ((x : A) → P x → Q (f x)) → IfRead P r → IfRead Q (read_as f r)
 says-as P Q f (Ok x) step h = step x h
 says-as P Q f (Err e) step h = tt
 
-says-input : (bs : List ℕ) → IfRead (λ f. f ≡ record (flags_of (word bs)) { volatile = false }) (input_item bs)
+says-input : (bs : List ℕ)
+    → IfRead (λ f. f ≡ record (flags_of (word bs)) { volatile = false }) (input_item bs)
 says-input bs =
     let f : Flags = record (flags_of (word bs)) { volatile = false } in
     says-data (λ g. g ≡ f) bs (of_short_length bs (Ok f)) (says-short (λ g. g ≡ f) bs (Ok f) refl)
 
-says-flags : (bs : List ℕ) → IfRead (λ f. f ≡ flags_of (word bs)) (with_data bs (of_short_length bs (Ok (flags_of (word bs)))))
+says-flags : (bs : List ℕ)
+    → IfRead (λ f. f ≡ flags_of (word bs))
+    (with_data bs (of_short_length bs (Ok (flags_of (word bs)))))
 says-flags bs =
     let f : Flags = flags_of (word bs) in
     says-data (λ g. g ≡ f) bs (of_short_length bs (Ok f)) (says-short (λ g. g ≡ f) bs (Ok f) refl)
@@ -106,13 +127,18 @@ abbrev main_4 : ℕ → List ℕ → Result MainItem Fault
 main_4 h bs = cond (prefix h == 0xc0) (Ok main.EndCollection) (main_5 h bs)
 
 abbrev main_3 : ℕ → List ℕ → Result MainItem Fault
-main_3 h bs = cond (prefix h == 0xb0) (read_as main.Feature (with_data bs (of_short_length bs (Ok (flags_of (word bs)))))) (main_4 h bs)
+main_3 h bs = cond (prefix h == 0xb0)
+    (read_as main.Feature (with_data bs (of_short_length bs (Ok (flags_of (word bs))))))
+    (main_4 h bs)
 
 abbrev main_2 : ℕ → List ℕ → Result MainItem Fault
-main_2 h bs = cond (prefix h == 0xa0) (Ok (main.Collection (collection_item (first_or_zero bs)))) (main_3 h bs)
+main_2 h bs = cond (prefix h == 0xa0) (Ok (main.Collection (collection_item (first_or_zero bs))))
+    (main_3 h bs)
 
 abbrev main_1 : ℕ → List ℕ → Result MainItem Fault
-main_1 h bs = cond (prefix h == 0x90) (read_as main.Output (with_data bs (of_short_length bs (Ok (flags_of (word bs)))))) (main_2 h bs)
+main_1 h bs = cond (prefix h == 0x90)
+    (read_as main.Output (with_data bs (of_short_length bs (Ok (flags_of (word bs))))))
+    (main_2 h bs)
 
 abbrev main_0 : ℕ → List ℕ → Result MainItem Fault
 main_0 h bs = cond (prefix h == 0x80) (read_as main.Input (input_item bs)) (main_1 h bs)
@@ -121,19 +147,34 @@ says-main_5 : (h : ℕ) (bs : List ℕ) → IfRead (SaysMain bs) (main_5 h bs)
 says-main_5 h bs = tt
 
 says-main_4 : (h : ℕ) (bs : List ℕ) → IfRead (SaysMain bs) (main_4 h bs)
-says-main_4 h bs = cond_both (prefix h == 0xc0) (Ok main.EndCollection) (main_5 h bs) (IfRead (SaysMain bs)) (λ e. tt) (λ e. says-main_5 h bs)
+says-main_4 h bs = cond_both (prefix h == 0xc0) (Ok main.EndCollection) (main_5 h bs)
+    (IfRead (SaysMain bs)) (λ e. tt) (λ e. says-main_5 h bs)
 
 says-main_3 : (h : ℕ) (bs : List ℕ) → IfRead (SaysMain bs) (main_3 h bs)
-says-main_3 h bs = cond_both (prefix h == 0xb0) (read_as main.Feature (with_data bs (of_short_length bs (Ok (flags_of (word bs)))))) (main_4 h bs) (IfRead (SaysMain bs)) (λ e. says-as (λ f. f ≡ flags_of (word bs)) (SaysMain bs) main.Feature (with_data bs (of_short_length bs (Ok (flags_of (word bs))))) (λ f is. is) (says-flags bs)) (λ e. says-main_4 h bs)
+says-main_3 h bs = cond_both (prefix h == 0xb0)
+    (read_as main.Feature (with_data bs (of_short_length bs (Ok (flags_of (word bs))))))
+    (main_4 h bs) (IfRead (SaysMain bs))
+    (λ e. says-as (λ f. f ≡ flags_of (word bs)) (SaysMain bs) main.Feature
+    (with_data bs (of_short_length bs (Ok (flags_of (word bs))))) (λ f is. is) (says-flags bs))
+    (λ e. says-main_4 h bs)
 
 says-main_2 : (h : ℕ) (bs : List ℕ) → IfRead (SaysMain bs) (main_2 h bs)
-says-main_2 h bs = cond_both (prefix h == 0xa0) (Ok (main.Collection (collection_item (first_or_zero bs)))) (main_3 h bs) (IfRead (SaysMain bs)) (λ e. refl) (λ e. says-main_3 h bs)
+says-main_2 h bs = cond_both (prefix h == 0xa0)
+    (Ok (main.Collection (collection_item (first_or_zero bs)))) (main_3 h bs) (IfRead (SaysMain bs))
+    (λ e. refl) (λ e. says-main_3 h bs)
 
 says-main_1 : (h : ℕ) (bs : List ℕ) → IfRead (SaysMain bs) (main_1 h bs)
-says-main_1 h bs = cond_both (prefix h == 0x90) (read_as main.Output (with_data bs (of_short_length bs (Ok (flags_of (word bs)))))) (main_2 h bs) (IfRead (SaysMain bs)) (λ e. says-as (λ f. f ≡ flags_of (word bs)) (SaysMain bs) main.Output (with_data bs (of_short_length bs (Ok (flags_of (word bs))))) (λ f is. is) (says-flags bs)) (λ e. says-main_2 h bs)
+says-main_1 h bs = cond_both (prefix h == 0x90)
+    (read_as main.Output (with_data bs (of_short_length bs (Ok (flags_of (word bs))))))
+    (main_2 h bs) (IfRead (SaysMain bs))
+    (λ e. says-as (λ f. f ≡ flags_of (word bs)) (SaysMain bs) main.Output
+    (with_data bs (of_short_length bs (Ok (flags_of (word bs))))) (λ f is. is) (says-flags bs))
+    (λ e. says-main_2 h bs)
 
 says-main_0 : (h : ℕ) (bs : List ℕ) → IfRead (SaysMain bs) (main_0 h bs)
-says-main_0 h bs = cond_both (prefix h == 0x80) (read_as main.Input (input_item bs)) (main_1 h bs) (IfRead (SaysMain bs)) (λ e. says-as (λ f. f ≡ record (flags_of (word bs)) { volatile = false }) (SaysMain bs) main.Input (input_item bs) (λ f is. is) (says-input bs)) (λ e. says-main_1 h bs)
+says-main_0 h bs = cond_both (prefix h == 0x80) (read_as main.Input (input_item bs)) (main_1 h bs)
+    (IfRead (SaysMain bs)) (λ e. says-as (λ f. f ≡ record (flags_of (word bs)) { volatile = false })
+    (SaysMain bs) main.Input (input_item bs) (λ f is. is) (says-input bs)) (λ e. says-main_1 h bs)
 
 abbrev global_12 : ℕ → List ℕ → Result GlobalItem Fault
 global_12 h bs = Ok global.Reserved
@@ -145,13 +186,16 @@ abbrev global_10 : ℕ → List ℕ → Result GlobalItem Fault
 global_10 h bs = cond (prefix h == 0xa4) (Ok global.Push) (global_11 h bs)
 
 abbrev global_9 : ℕ → List ℕ → Result GlobalItem Fault
-global_9 h bs = cond (prefix h == 0x94) (with_data bs (Ok (global.ReportCount (word bs)))) (global_10 h bs)
+global_9 h bs = cond (prefix h == 0x94) (with_data bs (Ok (global.ReportCount (word bs))))
+    (global_10 h bs)
 
 abbrev global_8 : ℕ → List ℕ → Result GlobalItem Fault
-global_8 h bs = cond (prefix h == 0x84) (with_data bs (Ok (global.ReportId (word bs % 256)))) (global_9 h bs)
+global_8 h bs = cond (prefix h == 0x84) (with_data bs (Ok (global.ReportId (word bs % 256))))
+    (global_9 h bs)
 
 abbrev global_7 : ℕ → List ℕ → Result GlobalItem Fault
-global_7 h bs = cond (prefix h == 0x74) (with_data bs (Ok (global.ReportSize (word bs)))) (global_8 h bs)
+global_7 h bs = cond (prefix h == 0x74) (with_data bs (Ok (global.ReportSize (word bs))))
+    (global_8 h bs)
 
 abbrev global_6 : ℕ → List ℕ → Result GlobalItem Fault
 global_6 h bs = cond (prefix h == 0x64) (Ok (global.Unit (word bs))) (global_7 h bs)
@@ -178,44 +222,63 @@ says-global_12 : (h : ℕ) (bs : List ℕ) → IfRead (SaysGlobal bs) (global_12
 says-global_12 h bs = tt
 
 says-global_11 : (h : ℕ) (bs : List ℕ) → IfRead (SaysGlobal bs) (global_11 h bs)
-says-global_11 h bs = cond_both (prefix h == 0xb4) (Ok global.Pop) (global_12 h bs) (IfRead (SaysGlobal bs)) (λ e. tt) (λ e. says-global_12 h bs)
+says-global_11 h bs = cond_both (prefix h == 0xb4) (Ok global.Pop) (global_12 h bs)
+    (IfRead (SaysGlobal bs)) (λ e. tt) (λ e. says-global_12 h bs)
 
 says-global_10 : (h : ℕ) (bs : List ℕ) → IfRead (SaysGlobal bs) (global_10 h bs)
-says-global_10 h bs = cond_both (prefix h == 0xa4) (Ok global.Push) (global_11 h bs) (IfRead (SaysGlobal bs)) (λ e. tt) (λ e. says-global_11 h bs)
+says-global_10 h bs = cond_both (prefix h == 0xa4) (Ok global.Push) (global_11 h bs)
+    (IfRead (SaysGlobal bs)) (λ e. tt) (λ e. says-global_11 h bs)
 
 says-global_9 : (h : ℕ) (bs : List ℕ) → IfRead (SaysGlobal bs) (global_9 h bs)
-says-global_9 h bs = cond_both (prefix h == 0x94) (with_data bs (Ok (global.ReportCount (word bs)))) (global_10 h bs) (IfRead (SaysGlobal bs)) (λ e. says-data (SaysGlobal bs) bs (Ok (global.ReportCount (word bs))) refl) (λ e. says-global_10 h bs)
+says-global_9 h bs = cond_both (prefix h == 0x94) (with_data bs (Ok (global.ReportCount (word bs))))
+    (global_10 h bs) (IfRead (SaysGlobal bs))
+    (λ e. says-data (SaysGlobal bs) bs (Ok (global.ReportCount (word bs))) refl)
+    (λ e. says-global_10 h bs)
 
 says-global_8 : (h : ℕ) (bs : List ℕ) → IfRead (SaysGlobal bs) (global_8 h bs)
-says-global_8 h bs = cond_both (prefix h == 0x84) (with_data bs (Ok (global.ReportId (word bs % 256)))) (global_9 h bs) (IfRead (SaysGlobal bs)) (λ e. says-data (SaysGlobal bs) bs (Ok (global.ReportId (word bs % 256))) refl) (λ e. says-global_9 h bs)
+says-global_8 h bs = cond_both (prefix h == 0x84)
+    (with_data bs (Ok (global.ReportId (word bs % 256)))) (global_9 h bs) (IfRead (SaysGlobal bs))
+    (λ e. says-data (SaysGlobal bs) bs (Ok (global.ReportId (word bs % 256))) refl)
+    (λ e. says-global_9 h bs)
 
 says-global_7 : (h : ℕ) (bs : List ℕ) → IfRead (SaysGlobal bs) (global_7 h bs)
-says-global_7 h bs = cond_both (prefix h == 0x74) (with_data bs (Ok (global.ReportSize (word bs)))) (global_8 h bs) (IfRead (SaysGlobal bs)) (λ e. says-data (SaysGlobal bs) bs (Ok (global.ReportSize (word bs))) refl) (λ e. says-global_8 h bs)
+says-global_7 h bs = cond_both (prefix h == 0x74) (with_data bs (Ok (global.ReportSize (word bs))))
+    (global_8 h bs) (IfRead (SaysGlobal bs))
+    (λ e. says-data (SaysGlobal bs) bs (Ok (global.ReportSize (word bs))) refl)
+    (λ e. says-global_8 h bs)
 
 says-global_6 : (h : ℕ) (bs : List ℕ) → IfRead (SaysGlobal bs) (global_6 h bs)
-says-global_6 h bs = cond_both (prefix h == 0x64) (Ok (global.Unit (word bs))) (global_7 h bs) (IfRead (SaysGlobal bs)) (λ e. refl) (λ e. says-global_7 h bs)
+says-global_6 h bs = cond_both (prefix h == 0x64) (Ok (global.Unit (word bs))) (global_7 h bs)
+    (IfRead (SaysGlobal bs)) (λ e. refl) (λ e. says-global_7 h bs)
 
 says-global_5 : (h : ℕ) (bs : List ℕ) → IfRead (SaysGlobal bs) (global_5 h bs)
-says-global_5 h bs = cond_both (prefix h == 0x54) (Ok (global.UnitExponent (signed bs))) (global_6 h bs) (IfRead (SaysGlobal bs)) (λ e. refl) (λ e. says-global_6 h bs)
+says-global_5 h bs = cond_both (prefix h == 0x54) (Ok (global.UnitExponent (signed bs)))
+    (global_6 h bs) (IfRead (SaysGlobal bs)) (λ e. refl) (λ e. says-global_6 h bs)
 
 says-global_4 : (h : ℕ) (bs : List ℕ) → IfRead (SaysGlobal bs) (global_4 h bs)
-says-global_4 h bs = cond_both (prefix h == 0x44) (Ok (global.PhysicalMaximum (signed bs))) (global_5 h bs) (IfRead (SaysGlobal bs)) (λ e. refl) (λ e. says-global_5 h bs)
+says-global_4 h bs = cond_both (prefix h == 0x44) (Ok (global.PhysicalMaximum (signed bs)))
+    (global_5 h bs) (IfRead (SaysGlobal bs)) (λ e. refl) (λ e. says-global_5 h bs)
 
 says-global_3 : (h : ℕ) (bs : List ℕ) → IfRead (SaysGlobal bs) (global_3 h bs)
-says-global_3 h bs = cond_both (prefix h == 0x34) (Ok (global.PhysicalMinimum (signed bs))) (global_4 h bs) (IfRead (SaysGlobal bs)) (λ e. refl) (λ e. says-global_4 h bs)
+says-global_3 h bs = cond_both (prefix h == 0x34) (Ok (global.PhysicalMinimum (signed bs)))
+    (global_4 h bs) (IfRead (SaysGlobal bs)) (λ e. refl) (λ e. says-global_4 h bs)
 
 says-global_2 : (h : ℕ) (bs : List ℕ) → IfRead (SaysGlobal bs) (global_2 h bs)
-says-global_2 h bs = cond_both (prefix h == 0x24) (Ok (global.LogicalMaximum (signed bs))) (global_3 h bs) (IfRead (SaysGlobal bs)) (λ e. refl) (λ e. says-global_3 h bs)
+says-global_2 h bs = cond_both (prefix h == 0x24) (Ok (global.LogicalMaximum (signed bs)))
+    (global_3 h bs) (IfRead (SaysGlobal bs)) (λ e. refl) (λ e. says-global_3 h bs)
 
 says-global_1 : (h : ℕ) (bs : List ℕ) → IfRead (SaysGlobal bs) (global_1 h bs)
-says-global_1 h bs = cond_both (prefix h == 0x14) (Ok (global.LogicalMinimum (signed bs))) (global_2 h bs) (IfRead (SaysGlobal bs)) (λ e. refl) (λ e. says-global_2 h bs)
+says-global_1 h bs = cond_both (prefix h == 0x14) (Ok (global.LogicalMinimum (signed bs)))
+    (global_2 h bs) (IfRead (SaysGlobal bs)) (λ e. refl) (λ e. says-global_2 h bs)
 
 says-global_0 : (h : ℕ) (bs : List ℕ) → IfRead (SaysGlobal bs) (global_0 h bs)
-says-global_0 h bs = cond_both (prefix h == 0x04) (Ok (global.UsagePage (word bs % 65536))) (global_1 h bs) (IfRead (SaysGlobal bs)) (λ e. refl) (λ e. says-global_1 h bs)
+says-global_0 h bs = cond_both (prefix h == 0x04) (Ok (global.UsagePage (word bs % 65536)))
+    (global_1 h bs) (IfRead (SaysGlobal bs)) (λ e. refl) (λ e. says-global_1 h bs)
 
 says-usage : (bs : List ℕ) → SaysLocal bs (usage_item (word bs) (length bs))
 says-usage bs =
-    cond_both (length bs == 4) (local.Usage (word bs / 65536) (word bs % 65536)) (local.UsageId (word bs % 65536)) (SaysLocal bs)
+    cond_both (length bs == 4) (local.Usage (word bs / 65536) (word bs % 65536))
+    (local.UsageId (word bs % 65536)) (SaysLocal bs)
     (λ e. (eqb-true (length bs) 4 e, refl, refl)) (λ e. refl)
 
 abbrev local_10 : ℕ → List ℕ → LocalItem
@@ -255,53 +318,73 @@ says-local_10 : (h : ℕ) (bs : List ℕ) → SaysLocal bs (local_10 h bs)
 says-local_10 h bs = tt
 
 says-local_9 : (h : ℕ) (bs : List ℕ) → SaysLocal bs (local_9 h bs)
-says-local_9 h bs = cond_both (prefix h == 0xa8) (local.Delimiter (word bs)) (local_10 h bs) (SaysLocal bs) (λ e. refl) (λ e. says-local_10 h bs)
+says-local_9 h bs = cond_both (prefix h == 0xa8) (local.Delimiter (word bs)) (local_10 h bs)
+    (SaysLocal bs) (λ e. refl) (λ e. says-local_10 h bs)
 
 says-local_8 : (h : ℕ) (bs : List ℕ) → SaysLocal bs (local_8 h bs)
-says-local_8 h bs = cond_both (prefix h == 0x98) (local.StringMaximum (word bs)) (local_9 h bs) (SaysLocal bs) (λ e. refl) (λ e. says-local_9 h bs)
+says-local_8 h bs = cond_both (prefix h == 0x98) (local.StringMaximum (word bs)) (local_9 h bs)
+    (SaysLocal bs) (λ e. refl) (λ e. says-local_9 h bs)
 
 says-local_7 : (h : ℕ) (bs : List ℕ) → SaysLocal bs (local_7 h bs)
-says-local_7 h bs = cond_both (prefix h == 0x88) (local.StringMinimum (word bs)) (local_8 h bs) (SaysLocal bs) (λ e. refl) (λ e. says-local_8 h bs)
+says-local_7 h bs = cond_both (prefix h == 0x88) (local.StringMinimum (word bs)) (local_8 h bs)
+    (SaysLocal bs) (λ e. refl) (λ e. says-local_8 h bs)
 
 says-local_6 : (h : ℕ) (bs : List ℕ) → SaysLocal bs (local_6 h bs)
-says-local_6 h bs = cond_both (prefix h == 0x78) (local.StringIndex (word bs)) (local_7 h bs) (SaysLocal bs) (λ e. refl) (λ e. says-local_7 h bs)
+says-local_6 h bs = cond_both (prefix h == 0x78) (local.StringIndex (word bs)) (local_7 h bs)
+    (SaysLocal bs) (λ e. refl) (λ e. says-local_7 h bs)
 
 says-local_5 : (h : ℕ) (bs : List ℕ) → SaysLocal bs (local_5 h bs)
-says-local_5 h bs = cond_both (prefix h == 0x58) (local.DesignatorMaximum (word bs)) (local_6 h bs) (SaysLocal bs) (λ e. refl) (λ e. says-local_6 h bs)
+says-local_5 h bs = cond_both (prefix h == 0x58) (local.DesignatorMaximum (word bs)) (local_6 h bs)
+    (SaysLocal bs) (λ e. refl) (λ e. says-local_6 h bs)
 
 says-local_4 : (h : ℕ) (bs : List ℕ) → SaysLocal bs (local_4 h bs)
-says-local_4 h bs = cond_both (prefix h == 0x48) (local.DesignatorMinimum (word bs)) (local_5 h bs) (SaysLocal bs) (λ e. refl) (λ e. says-local_5 h bs)
+says-local_4 h bs = cond_both (prefix h == 0x48) (local.DesignatorMinimum (word bs)) (local_5 h bs)
+    (SaysLocal bs) (λ e. refl) (λ e. says-local_5 h bs)
 
 says-local_3 : (h : ℕ) (bs : List ℕ) → SaysLocal bs (local_3 h bs)
-says-local_3 h bs = cond_both (prefix h == 0x38) (local.DesignatorIndex (word bs)) (local_4 h bs) (SaysLocal bs) (λ e. refl) (λ e. says-local_4 h bs)
+says-local_3 h bs = cond_both (prefix h == 0x38) (local.DesignatorIndex (word bs)) (local_4 h bs)
+    (SaysLocal bs) (λ e. refl) (λ e. says-local_4 h bs)
 
 says-local_2 : (h : ℕ) (bs : List ℕ) → SaysLocal bs (local_2 h bs)
-says-local_2 h bs = cond_both (prefix h == 0x28) (local.UsageMaximum (word bs)) (local_3 h bs) (SaysLocal bs) (λ e. refl) (λ e. says-local_3 h bs)
+says-local_2 h bs = cond_both (prefix h == 0x28) (local.UsageMaximum (word bs)) (local_3 h bs)
+    (SaysLocal bs) (λ e. refl) (λ e. says-local_3 h bs)
 
 says-local_1 : (h : ℕ) (bs : List ℕ) → SaysLocal bs (local_1 h bs)
-says-local_1 h bs = cond_both (prefix h == 0x18) (local.UsageMinimum (word bs)) (local_2 h bs) (SaysLocal bs) (λ e. refl) (λ e. says-local_2 h bs)
+says-local_1 h bs = cond_both (prefix h == 0x18) (local.UsageMinimum (word bs)) (local_2 h bs)
+    (SaysLocal bs) (λ e. refl) (λ e. says-local_2 h bs)
 
 says-local_0 : (h : ℕ) (bs : List ℕ) → SaysLocal bs (local_0 h bs)
-says-local_0 h bs = cond_both (prefix h == 0x08) (usage_item (word bs) (length bs)) (local_1 h bs) (SaysLocal bs) (λ e. says-usage bs) (λ e. says-local_1 h bs)
+says-local_0 h bs = cond_both (prefix h == 0x08) (usage_item (word bs) (length bs)) (local_1 h bs)
+    (SaysLocal bs) (λ e. says-usage bs) (λ e. says-local_1 h bs)
 
 says-global : (h : ℕ) (bs : List ℕ) → IfRead (SaysGlobal bs) (global_item h bs)
 says-global h bs = says-short (SaysGlobal bs) bs (global_0 h bs) (says-global_0 h bs)
 
 says-local : (h : ℕ) (bs : List ℕ) → IfRead (SaysLocal bs) (local_item h bs)
 says-local h bs =
-    says-data (SaysLocal bs) bs (of_short_length bs (Ok (local_0 h bs))) (says-short (SaysLocal bs) bs (Ok (local_0 h bs)) (says-local_0 h bs))
+    says-data (SaysLocal bs) bs (of_short_length bs (Ok (local_0 h bs)))
+    (says-short (SaysLocal bs) bs (Ok (local_0 h bs)) (says-local_0 h bs))
 
 -- what a header and data spell, the data says
 pub says-item : (h : ℕ) (bs : List ℕ) → IfRead (Says bs) (item_of h bs)
 says-item h bs =
     let reserved : Result ItemType Fault = Ok item.Reserved in
     let of_long : Result ItemType Fault = cond (is_long_header h) (Ok item.Long) reserved in
-    let of_local : Result ItemType Fault = cond (type_of h == 2) (read_as item.Local (local_item h bs)) of_long in
-    let of_global : Result ItemType Fault = cond (type_of h == 1) (read_as item.Global (global_item h bs)) of_local in
-    cond_both (type_of h == 0) (read_as item.Main (main_item h bs)) of_global (IfRead (Says bs)) (λ e. says-as (SaysMain bs) (Says bs) item.Main (main_item h bs) (λ x is. is) (says-main_0 h bs))
-    (λ e. cond_both (type_of h == 1) (read_as item.Global (global_item h bs)) of_local (IfRead (Says bs)) (λ e. says-as (SaysGlobal bs) (Says bs) item.Global (global_item h bs) (λ x is. is) (says-global h bs))
-    (λ e. cond_both (type_of h == 2) (read_as item.Local (local_item h bs)) of_long (IfRead (Says bs)) (λ e. says-as (SaysLocal bs) (Says bs) item.Local (local_item h bs) (λ x is. is) (says-local h bs))
-    (λ e. cond_both (is_long_header h) (Ok item.Long) reserved (IfRead (Says bs)) (λ e. tt) (λ e. tt))))
+    let of_local : Result ItemType Fault =
+    cond (type_of h == 2) (read_as item.Local (local_item h bs)) of_long in
+    let of_global : Result ItemType Fault =
+    cond (type_of h == 1) (read_as item.Global (global_item h bs)) of_local in
+    cond_both (type_of h == 0) (read_as item.Main (main_item h bs)) of_global (IfRead (Says bs))
+    (λ e. says-as (SaysMain bs) (Says bs) item.Main (main_item h bs) (λ x is. is)
+    (says-main_0 h bs))
+    (λ e. cond_both (type_of h == 1) (read_as item.Global (global_item h bs)) of_local
+    (IfRead (Says bs)) (λ e. says-as (SaysGlobal bs) (Says bs) item.Global (global_item h bs)
+    (λ x is. is) (says-global h bs))
+    (λ e. cond_both (type_of h == 2) (read_as item.Local (local_item h bs)) of_long
+    (IfRead (Says bs)) (λ e. says-as (SaysLocal bs) (Says bs) item.Local (local_item h bs)
+    (λ x is. is) (says-local h bs))
+    (λ e. cond_both (is_long_header h) (Ok item.Long) reserved (IfRead (Says bs)) (λ e. tt)
+    (λ e. tt))))
 
 -- what a kept item's spelling has behind its header
 pub record Behind (bs : List ℕ) (x : ItemType) : Type 0 where
@@ -324,13 +407,30 @@ behind h bs x kept s =
 -- data of a header that reads it so spells what it reads
 spelled-by : (p : ℕ) (f : List ℕ → ItemType) (bs : List ℕ) → AreBytes bs → HasShape bs → p < 0xf0
     → announced (p + 1) ≡ 1 → announced (p + 2) ≡ 2 → announced (p + 3) ≡ 4
-    → ((a : ℕ) → item_of (p + 1) (a ∷ []) ≡ Ok (f (a ∷ []))) → ((a b : ℕ) → item_of (p + 2) (a ∷ b ∷ []) ≡ Ok (f (a ∷ b ∷ [])))
-    → ((a b c d : ℕ) → item_of (p + 3) (a ∷ b ∷ c ∷ d ∷ []) ≡ Ok (f (a ∷ b ∷ c ∷ d ∷ []))) → Spells (with_header p bs) (f bs)
+    → ((a : ℕ) → item_of (p + 1) (a ∷ []) ≡ Ok (f (a ∷ [])))
+    → ((a b : ℕ) → item_of (p + 2) (a ∷ b ∷ []) ≡ Ok (f (a ∷ b ∷ [])))
+    → ((a b c d : ℕ) → item_of (p + 3) (a ∷ b ∷ c ∷ d ∷ []) ≡ Ok (f (a ∷ b ∷ c ∷ d ∷ [])))
+    → Spells (with_header p bs) (f bs)
 spelled-by p f bs are shape room one two four read_one read_two read_four =
     by-shape (λ bs. AreBytes bs → Spells (with_header p bs) (f bs)) bs shape.0 shape.1 shape.2
-    (λ a are. (are-behind (p + 1) (a ∷ []) (omega arith) are, sym (small-short (p + 1) (a ∷ []) (omega arith) ∙ one), read_one a))
-    (λ a b are. (are-behind (p + 2) (a ∷ b ∷ []) (omega arith) are, sym (small-short (p + 2) (a ∷ b ∷ []) (omega arith) ∙ two), read_two a b))
-    (λ a b c d are. (are-behind (p + 3) (a ∷ b ∷ c ∷ d ∷ []) (omega arith) are, sym (small-short (p + 3) (a ∷ b ∷ c ∷ d ∷ []) (omega arith) ∙ four), read_four a b c d))
+    (λ a are. (
+      are-behind (p + 1) (a ∷ []) (omega arith) are,
+      sym
+          (small-short (p + 1) (a ∷ []) (omega arith) ∙ one),
+      read_one a,
+    ))
+    (λ a b are. (
+      are-behind (p + 2) (a ∷ b ∷ []) (omega arith) are,
+      sym
+          (small-short (p + 2) (a ∷ b ∷ []) (omega arith) ∙ two),
+      read_two a b,
+    ))
+    (λ a b c d are. (
+      are-behind (p + 3) (a ∷ b ∷ c ∷ d ∷ []) (omega arith) are,
+      sym
+          (small-short (p + 3) (a ∷ b ∷ c ∷ d ∷ []) (omega arith) ∙ four),
+      read_four a b c d,
+    ))
     are
   where
     are-behind : (h : ℕ) (bs : List ℕ) → h < 256 → AreBytes bs → AreBytes (h ∷ bs)
@@ -342,8 +442,10 @@ abbrev pub IsSaid : ItemType → Type 0
 IsSaid x = (is_bare x ≡ false) × (is_kept x ≡ true)
 
 -- spelled, and least among all data that says the item
-canonical-by : (x : ItemType) (p : ℕ) (bs : List ℕ) → Spells (with_header p bs) x → IsSaid x → 0 < length bs
-    → ((other : List ℕ) → Behind other x → 0 < length other → IsLeast bs other) → IsCanonical (with_header p bs) x
+canonical-by : (x : ItemType) (p : ℕ) (bs : List ℕ) → Spells (with_header p bs) x → IsSaid x
+    → 0 < length bs
+    → ((other : List ℕ) → Behind other x → 0 < length other → IsLeast bs other)
+    → IsCanonical (with_header p bs) x
 canonical-by x p bs spells said some least = record {
   spells = spells;
   bare = λ e. let bad : true ≡ false = sym e ∙ said.0 in cc;
@@ -352,41 +454,61 @@ canonical-by x p bs spells said some least = record {
   smallest = smaller;
 }
   where
-    shorter : (other : List ℕ) → Spells other x → 1 < length other → length (with_header p bs) ≤ length other
+    shorter : (other : List ℕ) → Spells other x → 1 < length other
+        → length (with_header p bs) ≤ length other
     shorter [] s more = absurd s
-    shorter (h ∷ others) s more = let l = least others (behind h others x said.1 s) (omega arith) in omega (arith, l.short)
+    shorter (h ∷ others) s more = let l = least others (behind h others x said.1 s) (omega arith) in
+        omega (arith, l.short)
 
-    smaller : (other : List ℕ) → Spells other x → length other ≡ length (with_header p bs) → word bs ≤ word (drop 1 other)
+    smaller : (other : List ℕ) → Spells other x → length other ≡ length (with_header p bs)
+        → word bs ≤ word (drop 1 other)
     smaller [] s same = absurd s
-    smaller (h ∷ others) s same = let l = least others (behind h others x said.1 s) (omega arith) in l.small (omega arith)
+    smaller (h ∷ others) s same = let l = least others (behind h others x said.1 s) (omega arith) in
+        l.small (omega arith)
 
 -- items that say an unsigned number as it is
-plain-canonical : (p : ℕ) (k : ℕ → ItemType) (n : ℕ) (bs : List ℕ) → Behind bs (k n) → ((l : List ℕ) (m : ℕ) → Says l (k m) → word l ≡ m) → ((m : ℕ) → IsSaid (k m))
+plain-canonical : (p : ℕ) (k : ℕ → ItemType) (n : ℕ) (bs : List ℕ) → Behind bs (k n)
+    → ((l : List ℕ) (m : ℕ) → Says l (k m) → word l ≡ m) → ((m : ℕ) → IsSaid (k m))
     → p < 0xf0 → announced (p + 1) ≡ 1 → announced (p + 2) ≡ 2 → announced (p + 3) ≡ 4
-    → ((a : ℕ) → item_of (p + 1) (a ∷ []) ≡ Ok (k (word (a ∷ [])))) → ((a b : ℕ) → item_of (p + 2) (a ∷ b ∷ []) ≡ Ok (k (word (a ∷ b ∷ []))))
-    → ((a b c d : ℕ) → item_of (p + 3) (a ∷ b ∷ c ∷ d ∷ []) ≡ Ok (k (word (a ∷ b ∷ c ∷ d ∷ [])))) → IsCanonical (with_header p (unsigned_data n)) (k n)
+    → ((a : ℕ) → item_of (p + 1) (a ∷ []) ≡ Ok (k (word (a ∷ []))))
+    → ((a b : ℕ) → item_of (p + 2) (a ∷ b ∷ []) ≡ Ok (k (word (a ∷ b ∷ []))))
+    → ((a b c d : ℕ) → item_of (p + 3) (a ∷ b ∷ c ∷ d ∷ []) ≡ Ok (k (word (a ∷ b ∷ c ∷ d ∷ []))))
+    → IsCanonical (with_header p (unsigned_data n)) (k n)
 plain-canonical p k n bs b says bare room one two four read_one read_two read_four =
     let small : n < 2 ^ 32 = omega (arith, says bs n b.says, word-fits bs b.are b.short b.known) in
     let spelled : Spells (with_header p (unsigned_data n)) (k (word (unsigned_data n))) =
-    spelled-by p (λ l. k (word l)) (unsigned_data n) (are-unsigned n) (length-unsigned n) room one two four read_one read_two read_four in
-    canonical-by (k n) p (unsigned_data n) (subst (λ m. Spells (with_header p (unsigned_data n)) (k m)) (word-unsigned n small) spelled) (bare n) (length-unsigned n).0
-    (λ other o some. unsigned-least n other o.are some o.short o.known (omega (arith, says other n o.says)))
+    spelled-by p (λ l. k (word l)) (unsigned_data n) (are-unsigned n) (length-unsigned n) room one
+    two four read_one read_two read_four in
+    canonical-by (k n) p (unsigned_data n)
+    (subst (λ m. Spells (with_header p (unsigned_data n)) (k m)) (word-unsigned n small)
+    spelled) (bare n) (length-unsigned n).0
+    (λ other o some. unsigned-least n other o.are some o.short o.known
+    (omega (arith, says other n o.says)))
 
 -- items that say a signed number
-signed-canonical : (p : ℕ) (k : ℤ → ItemType) (z : ℤ) (bs : List ℕ) → Behind bs (k z) → ((l : List ℕ) (y : ℤ) → Says l (k y) → signed l ≡ y) → ((y : ℤ) → IsSaid (k y))
+signed-canonical : (p : ℕ) (k : ℤ → ItemType) (z : ℤ) (bs : List ℕ) → Behind bs (k z)
+    → ((l : List ℕ) (y : ℤ) → Says l (k y) → signed l ≡ y) → ((y : ℤ) → IsSaid (k y))
     → p < 0xf0 → announced (p + 1) ≡ 1 → announced (p + 2) ≡ 2 → announced (p + 3) ≡ 4
-    → ((a : ℕ) → item_of (p + 1) (a ∷ []) ≡ Ok (k (signed (a ∷ [])))) → ((a b : ℕ) → item_of (p + 2) (a ∷ b ∷ []) ≡ Ok (k (signed (a ∷ b ∷ []))))
-    → ((a b c d : ℕ) → item_of (p + 3) (a ∷ b ∷ c ∷ d ∷ []) ≡ Ok (k (signed (a ∷ b ∷ c ∷ d ∷ [])))) → IsCanonical (with_header p (signed_data z)) (k z)
+    → ((a : ℕ) → item_of (p + 1) (a ∷ []) ≡ Ok (k (signed (a ∷ []))))
+    → ((a b : ℕ) → item_of (p + 2) (a ∷ b ∷ []) ≡ Ok (k (signed (a ∷ b ∷ []))))
+    → ((a b c d : ℕ) → item_of (p + 3) (a ∷ b ∷ c ∷ d ∷ []) ≡ Ok (k (signed (a ∷ b ∷ c ∷ d ∷ []))))
+    → IsCanonical (with_header p (signed_data z)) (k z)
 signed-canonical p k z bs b says bare room one two four read_one read_two read_four =
     let small : fits z 2147483648 = signed-fits-any z bs b.are b.short b.known (says bs z b.says) in
     let spelled : Spells (with_header p (signed_data z)) (k (signed (signed_data z))) =
-    spelled-by p (λ l. k (signed l)) (signed_data z) (are-signed z) (shape-signed z) room one two four read_one read_two read_four in
-    canonical-by (k z) p (signed_data z) (subst (λ y. Spells (with_header p (signed_data z)) (k y)) (signed-again z small) spelled) (bare z) (shape-signed z).0
+    spelled-by p (λ l. k (signed l)) (signed_data z) (are-signed z) (shape-signed z) room one two
+    four read_one read_two read_four in
+    canonical-by (k z) p (signed_data z)
+    (subst (λ y. Spells (with_header p (signed_data z)) (k y)) (signed-again z small) spelled)
+    (bare z) (shape-signed z).0
     (λ other o some. signed-least z other o.are some o.short o.known (says other z o.says))
 
 -- data items, by their flags
-flags-canonical : (p : ℕ) (k : Flags → ItemType) (f g : Flags) (bs : List ℕ) → ((other : List ℕ) → Behind other (k f) → (g.buffered_bytes ≡ is_flag_set (word other) 8) × (flags_number g ≤ word other))
-    → IsSaid (k f) → Spells (with_header p (flags_data g)) (k f) → IsCanonical (with_header p (flags_data g)) (k f)
+flags-canonical : (p : ℕ) (k : Flags → ItemType) (f g : Flags) (bs : List ℕ)
+    → ((other : List ℕ) → Behind other (k f)
+    → (g.buffered_bytes ≡ is_flag_set (word other) 8) × (flags_number g ≤ word other))
+    → IsSaid (k f) → Spells (with_header p (flags_data g)) (k f)
+    → IsCanonical (with_header p (flags_data g)) (k f)
 flags-canonical p k f g bs says bare spelled =
     canonical-by (k f) p (flags_data g) spelled bare (length-flags g).0
     (λ other o some. let s = says other o in flags-least g other o.are some o.short o.known s.0 s.1)
@@ -394,51 +516,68 @@ flags-canonical p k f g bs says bare spelled =
 flags-shape : (f : Flags) → HasShape (flags_data f)
 flags-shape f = let l = length-flags f in (l.0, omega (arith, l.1), λ e. omega (arith, l.1))
 
-canonical-page : (n : ℕ) (bs : List ℕ) → Behind bs (item.Global (global.UsagePage n)) → IsCanonical (with_header 0x04 (unsigned_data n)) (item.Global (global.UsagePage n))
+canonical-page : (n : ℕ) (bs : List ℕ) → Behind bs (item.Global (global.UsagePage n))
+    → IsCanonical (with_header 0x04 (unsigned_data n)) (item.Global (global.UsagePage n))
 canonical-page n bs b =
     let says : word bs % 65536 ≡ n = b.says in
     let few : n < 65536 = omega arith in
     let same : word (unsigned_data n) % 65536 ≡ n = omega (arith, word-unsigned n (omega arith)) in
     canonical-by (item.Global (global.UsagePage n)) 0x04 (unsigned_data n)
-    (subst (λ m. Spells (with_header 0x04 (unsigned_data n)) (item.Global (global.UsagePage m))) same
-    (spelled-by 0x04 (λ l. item.Global (global.UsagePage (word l % 65536))) (unsigned_data n) (are-unsigned n) (length-unsigned n) (omega arith) refl refl refl (λ a. refl) (λ a b. refl) (λ a b c d. refl)))
+    (subst (λ m. Spells (with_header 0x04 (unsigned_data n)) (item.Global (global.UsagePage m)))
+    same
+    (spelled-by 0x04 (λ l. item.Global (global.UsagePage (word l % 65536))) (unsigned_data n)
+    (are-unsigned n) (length-unsigned n) (omega arith) refl refl refl (λ a. refl) (λ a b. refl)
+    (λ a b c d. refl)))
     (refl, refl) (length-unsigned n).0
-    (λ other o some. let low : word other % 65536 ≡ n = o.says in unsigned-least n other o.are some o.short o.known (omega arith))
+    (λ other o some. let low : word other % 65536 ≡ n = o.says in unsigned-least n other o.are some
+    o.short o.known (omega arith))
 
 -- one byte
 byte-shape : (n : ℕ) → HasShape (n ∷ [])
 byte-shape n = (omega arith, omega arith, λ e. omega arith)
 
-byte-least : (n : ℕ) (other : List ℕ) → 0 < length other → (length other ≡ 1 → n ≤ word other) → IsLeast (n ∷ []) other
+byte-least : (n : ℕ) (other : List ℕ) → 0 < length other → (length other ≡ 1 → n ≤ word other)
+    → IsLeast (n ∷ []) other
 byte-least n other some low = record { short = omega arith; small = λ e. omega (arith, low e) }
 
-canonical-id : (n : ℕ) (bs : List ℕ) → Behind bs (item.Global (global.ReportId n)) → IsCanonical (with_header 0x84 (n ∷ [])) (item.Global (global.ReportId n))
+canonical-id : (n : ℕ) (bs : List ℕ) → Behind bs (item.Global (global.ReportId n))
+    → IsCanonical (with_header 0x84 (n ∷ [])) (item.Global (global.ReportId n))
 canonical-id n bs b =
     let says : word bs % 256 ≡ n = b.says in
     let few : n < 256 = omega arith in
     let same : word (n ∷ []) % 256 ≡ n = omega arith in
     canonical-by (item.Global (global.ReportId n)) 0x84 (n ∷ [])
     (subst (λ m. Spells (with_header 0x84 (n ∷ [])) (item.Global (global.ReportId m))) same
-    (spelled-by 0x84 (λ l. item.Global (global.ReportId (word l % 256))) (n ∷ []) (are-one n few) (byte-shape n) (omega arith) refl refl refl (λ a. refl) (λ a b. refl) (λ a b c d. refl)))
+    (spelled-by 0x84 (λ l. item.Global (global.ReportId (word l % 256))) (n ∷ []) (are-one n few)
+    (byte-shape n) (omega arith) refl refl refl (λ a. refl) (λ a b. refl) (λ a b c d. refl)))
     (refl, refl) (omega arith)
-    (λ other o some. byte-least n other some (λ e. let low : word other % 256 ≡ n = o.says in omega arith))
+    (λ other o some. byte-least n other some
+    (λ e. let low : word other % 256 ≡ n = o.says in omega arith))
 
-canonical-usage_id : (n : ℕ) (bs : List ℕ) → Behind bs (item.Local (local.UsageId n)) → IsCanonical (with_header 0x08 (unsigned_data n)) (item.Local (local.UsageId n))
+canonical-usage_id : (n : ℕ) (bs : List ℕ) → Behind bs (item.Local (local.UsageId n))
+    → IsCanonical (with_header 0x08 (unsigned_data n)) (item.Local (local.UsageId n))
 canonical-usage_id n bs b =
     let says : word bs % 65536 ≡ n = b.says in
     let few : n < 65536 = omega arith in
     let short : length (unsigned_data n) ≢ 4 = λ e. omega (arith, unsigned-two n few) in
     let same : word (unsigned_data n) % 65536 ≡ n = omega (arith, word-unsigned n (omega arith)) in
     let is : usage_item (word (unsigned_data n)) (length (unsigned_data n)) ≡ local.UsageId n =
-    cond-false (length (unsigned_data n) == 4) (local.Usage (word (unsigned_data n) / 65536) (word (unsigned_data n) % 65536)) (local.UsageId (word (unsigned_data n) % 65536)) (ne_eqb (length (unsigned_data n)) 4 short)
+    cond-false (length (unsigned_data n) == 4)
+    (local.Usage (word (unsigned_data n) / 65536) (word (unsigned_data n) % 65536))
+    (local.UsageId (word (unsigned_data n) % 65536)) (ne_eqb (length (unsigned_data n)) 4 short)
     ∙ ap (λ m. local.UsageId m) same in
     canonical-by (item.Local (local.UsageId n)) 0x08 (unsigned_data n)
     (subst (λ x. Spells (with_header 0x08 (unsigned_data n)) (item.Local x)) is
-    (spelled-by 0x08 (λ l. item.Local (usage_item (word l) (length l))) (unsigned_data n) (are-unsigned n) (length-unsigned n) (omega arith) refl refl refl (λ a. refl) (λ a b. refl) (λ a b c d. refl)))
+    (spelled-by 0x08 (λ l. item.Local (usage_item (word l) (length l))) (unsigned_data n)
+    (are-unsigned n) (length-unsigned n) (omega arith) refl refl refl (λ a. refl) (λ a b. refl)
+    (λ a b c d. refl)))
     (refl, refl) (length-unsigned n).0
-    (λ other o some. let low : word other % 65536 ≡ n = o.says in unsigned-least n other o.are some o.short o.known (omega arith))
+    (λ other o some. let low : word other % 65536 ≡ n = o.says in unsigned-least n other o.are some
+    o.short o.known (omega arith))
 
-canonical-usage : (page id : ℕ) (bs : List ℕ) → Behind bs (item.Local (local.Usage page id)) → IsCanonical (with_header 0x08 (four_bytes (page * 65536 + id))) (item.Local (local.Usage page id))
+canonical-usage : (page id : ℕ) (bs : List ℕ) → Behind bs (item.Local (local.Usage page id))
+    → IsCanonical (with_header 0x08 (four_bytes (page * 65536 + id)))
+    (item.Local (local.Usage page id))
 canonical-usage page id bs b =
     let says : (length bs ≡ 4) × (word bs / 65536 ≡ page) × (word bs % 65536 ≡ id) = b.says in
     let whole : word bs ≡ page * 65536 + id = omega arith in
@@ -448,11 +587,17 @@ canonical-usage page id bs b =
     let high : word (four_bytes number) / 65536 ≡ page = omega arith in
     let low : word (four_bytes number) % 65536 ≡ id = omega arith in
     canonical-by (item.Local (local.Usage page id)) 0x08 (four_bytes number)
-    (subst (λ m. Spells (with_header 0x08 (four_bytes number)) (item.Local (local.Usage page m))) low
-    (subst (λ m. Spells (with_header 0x08 (four_bytes number)) (item.Local (local.Usage m (word (four_bytes number) % 65536)))) high
-    (spelled-by 0x08 (λ l. item.Local (usage_item (word l) (length l))) (four_bytes number) (are-four number) (omega arith, omega arith, λ e. omega arith) (omega arith) refl refl refl (λ a. refl) (λ a b. refl) (λ a b c d. refl))))
+    (subst (λ m. Spells (with_header 0x08 (four_bytes number)) (item.Local (local.Usage page m)))
+    low
+    (subst (λ m. Spells (with_header 0x08 (four_bytes number))
+    (item.Local (local.Usage m (word (four_bytes number) % 65536)))) high
+    (spelled-by 0x08 (λ l. item.Local (usage_item (word l) (length l))) (four_bytes number)
+    (are-four number) (omega arith, omega arith, λ e. omega arith) (omega arith) refl refl refl
+    (λ a. refl) (λ a b. refl) (λ a b c d. refl))))
     (refl, refl) (omega arith)
-    (λ other o some. let own : (length other ≡ 4) × (word other / 65536 ≡ page) × (word other % 65536 ≡ id) = o.says in
+    (λ other o some.
+    let own : (length other ≡ 4) × (word other / 65536 ≡ page) × (word other % 65536 ≡ id) =
+    o.says in
     record { short = omega arith; small = λ e. omega (arith, same) })
 
 -- the number of a kind is the byte that names it
@@ -468,57 +613,91 @@ first-small : (l : List ℕ) → AreBytes l → first_or_zero l < 256
 first-small [] are = omega arith
 first-small (a ∷ l) are = are 0 0 (omega arith)
 
-canonical-collection : (k : CollectionItem) (bs : List ℕ) → Behind bs (item.Main (main.Collection k)) → IsCanonical (with_header 0xa0 (kind_number k ∷ [])) (item.Main (main.Collection k))
+canonical-collection : (k : CollectionItem) (bs : List ℕ)
+    → Behind bs (item.Main (main.Collection k))
+    → IsCanonical (with_header 0xa0 (kind_number k ∷ [])) (item.Main (main.Collection k))
 canonical-collection k bs b =
     let says : collection_item (first_or_zero bs) ≡ k = b.says in
-    let number : kind_number k ≡ first_or_zero bs = ap kind_number (sym says) ∙ kind-again (first_or_zero bs) (first-small bs b.are) in
+    let number : kind_number k ≡ first_or_zero bs = ap kind_number (sym says)
+    ∙ kind-again (first_or_zero bs) (first-small bs b.are) in
     let small : kind_number k < 256 = omega (arith, first-small bs b.are) in
     let again : collection_item (kind_number k) ≡ k = ap collection_item number ∙ says in
     canonical-by (item.Main (main.Collection k)) 0xa0 (kind_number k ∷ [])
-    (subst (λ x. Spells (with_header 0xa0 (kind_number k ∷ [])) (item.Main (main.Collection x))) again
-    (spelled-by 0xa0 (λ l. item.Main (main.Collection (collection_item (first_or_zero l)))) (kind_number k ∷ []) (are-one (kind_number k) small) (byte-shape (kind_number k)) (omega arith) refl refl refl (λ a. refl) (λ a b. refl) (λ a b c d. refl)))
+    (subst (λ x. Spells (with_header 0xa0 (kind_number k ∷ [])) (item.Main (main.Collection x)))
+    again
+    (spelled-by 0xa0 (λ l. item.Main (main.Collection (collection_item (first_or_zero l))))
+    (kind_number k ∷ []) (are-one (kind_number k) small) (byte-shape (kind_number k))
+    (omega arith) refl refl refl (λ a. refl) (λ a b. refl) (λ a b c d. refl)))
     (refl, refl) (omega arith)
     (λ other o some. byte-least (kind_number k) other some (λ e.
     let own : collection_item (first_or_zero other) ≡ k = o.says in
-    let same : kind_number k ≡ first_or_zero other = ap kind_number (sym own) ∙ kind-again (first_or_zero other) (first-small other o.are) in
+    let same : kind_number k ≡ first_or_zero other = ap kind_number (sym own)
+    ∙ kind-again (first_or_zero other) (first-small other o.are) in
     omega (arith, first-is-word other e, same)))
 
-canonical-output : (f : Flags) (bs : List ℕ) → Behind bs (item.Main (main.Output f)) → IsCanonical (with_header 0x90 (flags_data f)) (item.Main (main.Output f))
+canonical-output : (f : Flags) (bs : List ℕ) → Behind bs (item.Main (main.Output f))
+    → IsCanonical (with_header 0x90 (flags_data f)) (item.Main (main.Output f))
 canonical-output f bs b =
     flags-canonical 0x90 (λ g. item.Main (main.Output g)) f f bs
-    (λ other o. let is : f ≡ flags_of (word other) = o.says in (ap (λ (g : Flags). g.buffered_bytes) is, subst (λ (g : Flags). flags_number g ≤ word other) (sym is) (number-le (word other))))
+    (λ other o. let is : f ≡ flags_of (word other) = o.says in (
+      ap (λ (g : Flags). g.buffered_bytes) is,
+      subst (λ (g : Flags). flags_number g ≤ word other)
+          (sym is) (number-le (word other)),
+    ))
     (refl, refl)
-    (subst (λ g. Spells (with_header 0x90 (flags_data f)) (item.Main (main.Output g))) (ap flags_of (word-flags f) ∙ flags-again f)
-    (spelled-by 0x90 (λ l. item.Main (main.Output (flags_of (word l)))) (flags_data f) (are-flags f) (flags-shape f) (omega arith) refl refl refl (λ a. refl) (λ a b. refl) (λ a b c d. refl)))
+    (subst (λ g. Spells (with_header 0x90 (flags_data f)) (item.Main (main.Output g)))
+    (ap flags_of (word-flags f) ∙ flags-again f)
+    (spelled-by 0x90 (λ l. item.Main (main.Output (flags_of (word l)))) (flags_data f) (are-flags f)
+    (flags-shape f) (omega arith) refl refl refl (λ a. refl) (λ a b. refl) (λ a b c d. refl)))
 
-canonical-feature : (f : Flags) (bs : List ℕ) → Behind bs (item.Main (main.Feature f)) → IsCanonical (with_header 0xb0 (flags_data f)) (item.Main (main.Feature f))
+canonical-feature : (f : Flags) (bs : List ℕ) → Behind bs (item.Main (main.Feature f))
+    → IsCanonical (with_header 0xb0 (flags_data f)) (item.Main (main.Feature f))
 canonical-feature f bs b =
     flags-canonical 0xb0 (λ g. item.Main (main.Feature g)) f f bs
-    (λ other o. let is : f ≡ flags_of (word other) = o.says in (ap (λ (g : Flags). g.buffered_bytes) is, subst (λ (g : Flags). flags_number g ≤ word other) (sym is) (number-le (word other))))
+    (λ other o. let is : f ≡ flags_of (word other) = o.says in (
+      ap (λ (g : Flags). g.buffered_bytes) is,
+      subst (λ (g : Flags). flags_number g ≤ word other)
+          (sym is) (number-le (word other)),
+    ))
     (refl, refl)
-    (subst (λ g. Spells (with_header 0xb0 (flags_data f)) (item.Main (main.Feature g))) (ap flags_of (word-flags f) ∙ flags-again f)
-    (spelled-by 0xb0 (λ l. item.Main (main.Feature (flags_of (word l)))) (flags_data f) (are-flags f) (flags-shape f) (omega arith) refl refl refl (λ a. refl) (λ a b. refl) (λ a b c d. refl)))
+    (subst (λ g. Spells (with_header 0xb0 (flags_data f)) (item.Main (main.Feature g)))
+    (ap flags_of (word-flags f) ∙ flags-again f)
+    (spelled-by 0xb0 (λ l. item.Main (main.Feature (flags_of (word l)))) (flags_data f)
+    (are-flags f) (flags-shape f) (omega arith) refl refl refl (λ a. refl) (λ a b. refl)
+    (λ a b c d. refl)))
 
 -- an Input without its flag 7
 abbrev pub unvolatile : Flags → Flags
 unvolatile f = record f { volatile = false }
 
-canonical-input : (f : Flags) (bs : List ℕ) → Behind bs (item.Main (main.Input f)) → IsCanonical (with_header 0x80 (flags_data (unvolatile f))) (item.Main (main.Input f))
+canonical-input : (f : Flags) (bs : List ℕ) → Behind bs (item.Main (main.Input f))
+    → IsCanonical (with_header 0x80 (flags_data (unvolatile f))) (item.Main (main.Input f))
 canonical-input f bs b =
     let own : f ≡ unvolatile (flags_of (word bs)) = b.says in
     let plain : unvolatile f ≡ f = ap unvolatile own ∙ sym own in
     flags-canonical 0x80 (λ g. item.Main (main.Input g)) f (unvolatile f) bs
-    (λ other o. let is : f ≡ unvolatile (flags_of (word other)) = o.says in
-    (ap (λ (g : Flags). g.buffered_bytes) is, subst (λ (g : Flags). flags_number (unvolatile g) ≤ word other) (sym is) (let a = number-without (flags_of (word other)) in let c = number-le (word other) in omega arith)))
+    (λ other o. let is : f ≡ unvolatile (flags_of (word other)) = o.says in (
+      ap (λ (g : Flags). g.buffered_bytes) is,
+      subst
+          (λ (g : Flags). flags_number (unvolatile g) ≤ word other) (sym is)
+          (let a = number-without (flags_of (word other)) in let c = number-le (word other) in omega
+          arith),
+    ))
     (refl, refl)
-    (subst (λ g. Spells (with_header 0x80 (flags_data (unvolatile f))) (item.Main (main.Input g))) (ap (λ w. unvolatile (flags_of w)) (word-flags (unvolatile f)) ∙ ap unvolatile (flags-again (unvolatile f)) ∙ plain)
-    (spelled-by 0x80 (λ l. item.Main (main.Input (unvolatile (flags_of (word l))))) (flags_data (unvolatile f)) (are-flags (unvolatile f)) (flags-shape (unvolatile f)) (omega arith) refl refl refl (λ a. refl) (λ a b. refl) (λ a b c d. refl)))
+    (subst (λ g. Spells (with_header 0x80 (flags_data (unvolatile f))) (item.Main (main.Input g)))
+    (ap (λ w. unvolatile (flags_of w)) (word-flags (unvolatile f))
+    ∙ ap unvolatile (flags-again (unvolatile f)) ∙ plain)
+    (spelled-by 0x80 (λ l. item.Main (main.Input (unvolatile (flags_of (word l)))))
+    (flags_data (unvolatile f)) (are-flags (unvolatile f)) (flags-shape (unvolatile f))
+    (omega arith) refl refl refl (λ a. refl) (λ a b. refl) (λ a b c d. refl)))
 
 count-is : (n : ℕ) → n < 2 ^ 32 → count_data n ≡ unsigned_data n
-count-is n small = cond-true (nat_lt n 4294967296) (unsigned_data n) (four_bytes (n % 4294967296)) (lt-ltb n 4294967296 small)
+count-is n small = cond-true (nat_lt n 4294967296) (unsigned_data n) (four_bytes (n % 4294967296))
+    (lt-ltb n 4294967296 small)
 
 -- an item that says all by its header
-bare-canonical : (x : ItemType) (h : ℕ) → is_bare x ≡ true → h < 256 → following h [] ≡ 0 → item_of h [] ≡ Ok x → IsCanonical (h ∷ []) x
+bare-canonical : (x : ItemType) (h : ℕ) → is_bare x ≡ true → h < 256 → following h [] ≡ 0
+    → item_of h [] ≡ Ok x → IsCanonical (h ∷ []) x
 bare-canonical x h bare small none reads = record {
   spells = (are-one h small, sym none, reads);
   bare = λ e. refl;
@@ -528,64 +707,110 @@ bare-canonical x h bare small none reads = record {
 }
 
 -- what is written for an item that some bytes spell is its canonical spelling
-canonical-main : (x : MainItem) (bs : List ℕ) → Behind bs (item.Main x) → IsCanonical (main_bytes x) (item.Main x)
+canonical-main : (x : MainItem) (bs : List ℕ) → Behind bs (item.Main x)
+    → IsCanonical (main_bytes x) (item.Main x)
 canonical-main (main.Input f) bs b = canonical-input f bs b
 canonical-main (main.Output f) bs b = canonical-output f bs b
 canonical-main (main.Feature f) bs b = canonical-feature f bs b
 canonical-main (main.Collection k) bs b = canonical-collection k bs b
-canonical-main main.EndCollection bs b = bare-canonical (item.Main main.EndCollection) 0xc0 refl (omega arith) refl refl
+canonical-main main.EndCollection bs b =
+    bare-canonical (item.Main main.EndCollection) 0xc0 refl (omega arith) refl refl
 
-canonical-global : (x : GlobalItem) (bs : List ℕ) → Behind bs (item.Global x) → is_kept (item.Global x) ≡ true → IsCanonical (global_bytes x) (item.Global x)
+canonical-global : (x : GlobalItem) (bs : List ℕ) → Behind bs (item.Global x)
+    → is_kept (item.Global x) ≡ true → IsCanonical (global_bytes x) (item.Global x)
 canonical-global (global.UsagePage n) bs b kept = canonical-page n bs b
-canonical-global (global.LogicalMinimum z) bs b kept = signed-canonical 0x14 (λ y. item.Global (global.LogicalMinimum y)) z bs b (λ l y h. h) (λ y. (refl, refl)) (omega arith) refl refl refl (λ a. refl) (λ a c. refl) (λ a c d e. refl)
-canonical-global (global.LogicalMaximum z) bs b kept = signed-canonical 0x24 (λ y. item.Global (global.LogicalMaximum y)) z bs b (λ l y h. h) (λ y. (refl, refl)) (omega arith) refl refl refl (λ a. refl) (λ a c. refl) (λ a c d e. refl)
-canonical-global (global.PhysicalMinimum z) bs b kept = signed-canonical 0x34 (λ y. item.Global (global.PhysicalMinimum y)) z bs b (λ l y h. h) (λ y. (refl, refl)) (omega arith) refl refl refl (λ a. refl) (λ a c. refl) (λ a c d e. refl)
-canonical-global (global.PhysicalMaximum z) bs b kept = signed-canonical 0x44 (λ y. item.Global (global.PhysicalMaximum y)) z bs b (λ l y h. h) (λ y. (refl, refl)) (omega arith) refl refl refl (λ a. refl) (λ a c. refl) (λ a c d e. refl)
-canonical-global (global.UnitExponent z) bs b kept = signed-canonical 0x54 (λ y. item.Global (global.UnitExponent y)) z bs b (λ l y h. h) (λ y. (refl, refl)) (omega arith) refl refl refl (λ a. refl) (λ a c. refl) (λ a c d e. refl)
-canonical-global (global.Unit n) bs b kept = plain-canonical 0x64 (λ m. item.Global (global.Unit m)) n bs b (λ l m h. h) (λ m. (refl, refl)) (omega arith) refl refl refl (λ a. refl) (λ a c. refl) (λ a c d e. refl)
+canonical-global (global.LogicalMinimum z) bs b kept =
+    signed-canonical 0x14 (λ y. item.Global (global.LogicalMinimum y)) z bs b (λ l y h. h)
+    (λ y. (refl, refl)) (omega arith) refl refl refl (λ a. refl) (λ a c. refl) (λ a c d e. refl)
+canonical-global (global.LogicalMaximum z) bs b kept =
+    signed-canonical 0x24 (λ y. item.Global (global.LogicalMaximum y)) z bs b (λ l y h. h)
+    (λ y. (refl, refl)) (omega arith) refl refl refl (λ a. refl) (λ a c. refl) (λ a c d e. refl)
+canonical-global (global.PhysicalMinimum z) bs b kept =
+    signed-canonical 0x34 (λ y. item.Global (global.PhysicalMinimum y)) z bs b (λ l y h. h)
+    (λ y. (refl, refl)) (omega arith) refl refl refl (λ a. refl) (λ a c. refl) (λ a c d e. refl)
+canonical-global (global.PhysicalMaximum z) bs b kept =
+    signed-canonical 0x44 (λ y. item.Global (global.PhysicalMaximum y)) z bs b (λ l y h. h)
+    (λ y. (refl, refl)) (omega arith) refl refl refl (λ a. refl) (λ a c. refl) (λ a c d e. refl)
+canonical-global (global.UnitExponent z) bs b kept =
+    signed-canonical 0x54 (λ y. item.Global (global.UnitExponent y)) z bs b (λ l y h. h)
+    (λ y. (refl, refl)) (omega arith) refl refl refl (λ a. refl) (λ a c. refl) (λ a c d e. refl)
+canonical-global (global.Unit n) bs b kept =
+    plain-canonical 0x64 (λ m. item.Global (global.Unit m)) n bs b (λ l m h. h) (λ m. (refl, refl))
+    (omega arith) refl refl refl (λ a. refl) (λ a c. refl) (λ a c d e. refl)
 canonical-global (global.ReportSize n) bs b kept =
     let says : word bs ≡ n = b.says in
     let small : n < 2 ^ 32 = omega (arith, word-fits bs b.are b.short b.known) in
-    subst (λ l. IsCanonical (with_header 0x74 l) (item.Global (global.ReportSize n))) (sym (count-is n small))
-    (plain-canonical 0x74 (λ m. item.Global (global.ReportSize m)) n bs b (λ l m h. h) (λ m. (refl, refl)) (omega arith) refl refl refl (λ a. refl) (λ a c. refl) (λ a c d e. refl))
+    subst (λ l. IsCanonical (with_header 0x74 l) (item.Global (global.ReportSize n)))
+    (sym (count-is n small))
+    (plain-canonical 0x74 (λ m. item.Global (global.ReportSize m)) n bs b (λ l m h. h)
+    (λ m. (refl, refl)) (omega arith) refl refl refl (λ a. refl) (λ a c. refl)
+    (λ a c d e. refl))
 canonical-global (global.ReportCount n) bs b kept =
     let says : word bs ≡ n = b.says in
     let small : n < 2 ^ 32 = omega (arith, word-fits bs b.are b.short b.known) in
-    subst (λ l. IsCanonical (with_header 0x94 l) (item.Global (global.ReportCount n))) (sym (count-is n small))
-    (plain-canonical 0x94 (λ m. item.Global (global.ReportCount m)) n bs b (λ l m h. h) (λ m. (refl, refl)) (omega arith) refl refl refl (λ a. refl) (λ a c. refl) (λ a c d e. refl))
+    subst (λ l. IsCanonical (with_header 0x94 l) (item.Global (global.ReportCount n)))
+    (sym (count-is n small))
+    (plain-canonical 0x94 (λ m. item.Global (global.ReportCount m)) n bs b (λ l m h. h)
+    (λ m. (refl, refl)) (omega arith) refl refl refl (λ a. refl) (λ a c. refl)
+    (λ a c d e. refl))
 canonical-global (global.ReportId n) bs b kept = canonical-id n bs b
-canonical-global global.Push bs b kept = bare-canonical (item.Global global.Push) 0xa4 refl (omega arith) refl refl
-canonical-global global.Pop bs b kept = bare-canonical (item.Global global.Pop) 0xb4 refl (omega arith) refl refl
+canonical-global global.Push bs b kept =
+    bare-canonical (item.Global global.Push) 0xa4 refl (omega arith) refl refl
+canonical-global global.Pop bs b kept =
+    bare-canonical (item.Global global.Pop) 0xb4 refl (omega arith) refl refl
 canonical-global global.Reserved bs b kept = cc
 
-canonical-local : (x : LocalItem) (bs : List ℕ) → Behind bs (item.Local x) → is_kept (item.Local x) ≡ true → IsCanonical (local_bytes x) (item.Local x)
+canonical-local : (x : LocalItem) (bs : List ℕ) → Behind bs (item.Local x)
+    → is_kept (item.Local x) ≡ true → IsCanonical (local_bytes x) (item.Local x)
 canonical-local (local.Usage page id) bs b kept = canonical-usage page id bs b
 canonical-local (local.UsageId n) bs b kept = canonical-usage_id n bs b
-canonical-local (local.UsageMinimum n) bs b kept = plain-canonical 0x18 (λ m. item.Local (local.UsageMinimum m)) n bs b (λ l m h. h) (λ m. (refl, refl)) (omega arith) refl refl refl (λ a. refl) (λ a c. refl) (λ a c d e. refl)
-canonical-local (local.UsageMaximum n) bs b kept = plain-canonical 0x28 (λ m. item.Local (local.UsageMaximum m)) n bs b (λ l m h. h) (λ m. (refl, refl)) (omega arith) refl refl refl (λ a. refl) (λ a c. refl) (λ a c d e. refl)
-canonical-local (local.DesignatorIndex n) bs b kept = plain-canonical 0x38 (λ m. item.Local (local.DesignatorIndex m)) n bs b (λ l m h. h) (λ m. (refl, refl)) (omega arith) refl refl refl (λ a. refl) (λ a c. refl) (λ a c d e. refl)
-canonical-local (local.DesignatorMinimum n) bs b kept = plain-canonical 0x48 (λ m. item.Local (local.DesignatorMinimum m)) n bs b (λ l m h. h) (λ m. (refl, refl)) (omega arith) refl refl refl (λ a. refl) (λ a c. refl) (λ a c d e. refl)
-canonical-local (local.DesignatorMaximum n) bs b kept = plain-canonical 0x58 (λ m. item.Local (local.DesignatorMaximum m)) n bs b (λ l m h. h) (λ m. (refl, refl)) (omega arith) refl refl refl (λ a. refl) (λ a c. refl) (λ a c d e. refl)
-canonical-local (local.StringIndex n) bs b kept = plain-canonical 0x78 (λ m. item.Local (local.StringIndex m)) n bs b (λ l m h. h) (λ m. (refl, refl)) (omega arith) refl refl refl (λ a. refl) (λ a c. refl) (λ a c d e. refl)
-canonical-local (local.StringMinimum n) bs b kept = plain-canonical 0x88 (λ m. item.Local (local.StringMinimum m)) n bs b (λ l m h. h) (λ m. (refl, refl)) (omega arith) refl refl refl (λ a. refl) (λ a c. refl) (λ a c d e. refl)
-canonical-local (local.StringMaximum n) bs b kept = plain-canonical 0x98 (λ m. item.Local (local.StringMaximum m)) n bs b (λ l m h. h) (λ m. (refl, refl)) (omega arith) refl refl refl (λ a. refl) (λ a c. refl) (λ a c d e. refl)
-canonical-local (local.Delimiter n) bs b kept = plain-canonical 0xa8 (λ m. item.Local (local.Delimiter m)) n bs b (λ l m h. h) (λ m. (refl, refl)) (omega arith) refl refl refl (λ a. refl) (λ a c. refl) (λ a c d e. refl)
+canonical-local (local.UsageMinimum n) bs b kept =
+    plain-canonical 0x18 (λ m. item.Local (local.UsageMinimum m)) n bs b (λ l m h. h)
+    (λ m. (refl, refl)) (omega arith) refl refl refl (λ a. refl) (λ a c. refl) (λ a c d e. refl)
+canonical-local (local.UsageMaximum n) bs b kept =
+    plain-canonical 0x28 (λ m. item.Local (local.UsageMaximum m)) n bs b (λ l m h. h)
+    (λ m. (refl, refl)) (omega arith) refl refl refl (λ a. refl) (λ a c. refl) (λ a c d e. refl)
+canonical-local (local.DesignatorIndex n) bs b kept =
+    plain-canonical 0x38 (λ m. item.Local (local.DesignatorIndex m)) n bs b (λ l m h. h)
+    (λ m. (refl, refl)) (omega arith) refl refl refl (λ a. refl) (λ a c. refl) (λ a c d e. refl)
+canonical-local (local.DesignatorMinimum n) bs b kept =
+    plain-canonical 0x48 (λ m. item.Local (local.DesignatorMinimum m)) n bs b (λ l m h. h)
+    (λ m. (refl, refl)) (omega arith) refl refl refl (λ a. refl) (λ a c. refl) (λ a c d e. refl)
+canonical-local (local.DesignatorMaximum n) bs b kept =
+    plain-canonical 0x58 (λ m. item.Local (local.DesignatorMaximum m)) n bs b (λ l m h. h)
+    (λ m. (refl, refl)) (omega arith) refl refl refl (λ a. refl) (λ a c. refl) (λ a c d e. refl)
+canonical-local (local.StringIndex n) bs b kept =
+    plain-canonical 0x78 (λ m. item.Local (local.StringIndex m)) n bs b (λ l m h. h)
+    (λ m. (refl, refl)) (omega arith) refl refl refl (λ a. refl) (λ a c. refl) (λ a c d e. refl)
+canonical-local (local.StringMinimum n) bs b kept =
+    plain-canonical 0x88 (λ m. item.Local (local.StringMinimum m)) n bs b (λ l m h. h)
+    (λ m. (refl, refl)) (omega arith) refl refl refl (λ a. refl) (λ a c. refl) (λ a c d e. refl)
+canonical-local (local.StringMaximum n) bs b kept =
+    plain-canonical 0x98 (λ m. item.Local (local.StringMaximum m)) n bs b (λ l m h. h)
+    (λ m. (refl, refl)) (omega arith) refl refl refl (λ a. refl) (λ a c. refl) (λ a c d e. refl)
+canonical-local (local.Delimiter n) bs b kept =
+    plain-canonical 0xa8 (λ m. item.Local (local.Delimiter m)) n bs b (λ l m h. h)
+    (λ m. (refl, refl)) (omega arith) refl refl refl (λ a. refl) (λ a c. refl) (λ a c d e. refl)
 canonical-local (local.Reserved value) bs b kept = cc
 
-canonical-behind : (x : ItemType) (bs : List ℕ) → Behind bs x → is_kept x ≡ true → IsCanonical (item_bytes x) x
+canonical-behind : (x : ItemType) (bs : List ℕ) → Behind bs x → is_kept x ≡ true
+    → IsCanonical (item_bytes x) x
 canonical-behind (item.Main x) bs b kept = canonical-main x bs b
 canonical-behind (item.Global x) bs b kept = canonical-global x bs b kept
 canonical-behind (item.Local x) bs b kept = canonical-local x bs b kept
 canonical-behind item.Long bs b kept = cc
 canonical-behind item.Reserved bs b kept = cc
 
-pub canonical : (x : ItemType) (spelling : List ℕ) → Spells spelling x → is_kept x ≡ true → IsCanonical (item_bytes x) x
+pub canonical : (x : ItemType) (spelling : List ℕ) → Spells spelling x → is_kept x ≡ true
+    → IsCanonical (item_bytes x) x
 canonical x [] s kept = absurd s
 canonical x (h ∷ bs) s kept = canonical-behind x bs (behind h bs x kept s) kept
 
 pub writes-canonical : (r : Result (Vec ℕ Global) HidError) (x : ItemType) → Writes r (item_bytes x)
-    → (spelling : List ℕ) → Spells spelling x → is_kept x ≡ true → IfOk r (λ (bytes : Vec ℕ Global). IsCanonical bytes.items x)
-writes-canonical (Ok bytes) x w spelling s kept = subst (λ l. IsCanonical l x) (sym w) (canonical x spelling s kept)
+    → (spelling : List ℕ) → Spells spelling x → is_kept x ≡ true
+    → IfOk r (λ (bytes : Vec ℕ Global). IsCanonical bytes.items x)
+writes-canonical (Ok bytes) x w spelling s kept =
+    subst (λ l. IsCanonical l x) (sym w) (canonical x spelling s kept)
 writes-canonical (Err e) x w spelling s kept = tt
 
 reads-spelled : (bytes : List ℕ) (x : ItemType) → Spells bytes x → read_with item_of bytes ≡ Ok x
@@ -593,6 +818,9 @@ reads-spelled [] x s = absurd s
 reads-spelled (h ∷ bs) x s = s.2
 
 pub writes-read_back : (r : Result (Vec ℕ Global) HidError) (x : ItemType) → Writes r (item_bytes x)
-    → (spelling : List ℕ) → Spells spelling x → is_kept x ≡ true → IfOk r (λ (bytes : Vec ℕ Global). read_with item_of bytes.items ≡ Ok x)
-writes-read_back (Ok bytes) x w spelling s kept = reads-spelled bytes.items x (subst (λ l. Spells l x) (sym w) (canonical x spelling s kept).spells)
+    → (spelling : List ℕ) → Spells spelling x → is_kept x ≡ true
+    → IfOk r (λ (bytes : Vec ℕ Global). read_with item_of bytes.items ≡ Ok x)
+writes-read_back (Ok bytes) x w spelling s kept =
+    reads-spelled bytes.items x (subst (λ l. Spells l x) (sym w)
+    (canonical x spelling s kept).spells)
 writes-read_back (Err e) x w spelling s kept = tt

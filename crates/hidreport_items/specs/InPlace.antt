@@ -1,7 +1,8 @@
 -- What a reader answers that makes no message.
 use Rattle.std.specs.Prelude.{Result, Ok, Err}
 use Rattle.hidreport_items.specs.Answer.{Fault, Invalid, Insufficient}
-use Rattle.hidreport_items.specs.Messages.{size_message, tag_message, long_message, not_long_message}
+use Rattle.hidreport_items.specs.Messages.{size_message, tag_message, long_message}
+use Rattle.hidreport_items.specs.Messages.{not_long_message}
 use Rattle.hidreport_items.specs.Spelling.{prefix}
 use Rattle.hidreport_items.specs.declared.item_fault.ItemFault.{ItemFault}
 use Rattle.hidreport_items.specs.declared.item_fault.ItemFault.TheVariants as faults

@@ -14,7 +14,8 @@ six_digits n = replicate (6 - length (radix_digits 2 false n)) 48 ++ radix_digit
 abbrev pub tag_message : ℕ → List ℕ
 tag_message prefix = codes "Invalid item tag 0b" ++ six_digits prefix
 
--- a long item where a short one is asked for (Sections 6.2.2.2 and 6.2.2.3), and the other way round
+-- a long item where a short one is asked for (Sections 6.2.2.2 and 6.2.2.3), and the other way
+-- round
 abbrev pub long_message : List ℕ
 long_message = codes "Item is a long item"
 

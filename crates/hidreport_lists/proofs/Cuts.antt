@@ -1,6 +1,9 @@
--- Bytes as a list of items, whatever reads them: what is cut is an itemising, there is no other, and else there is
--- one fault.
-use Rattle.std.proofs.Common.{◌≡◌, ◌≢◌, ℕ, zero, suc, ◌+◌, ◌<◌, ◌≤◌, ◌⊎◌, inl, inr, List, [], ◌∷◌, ◌++◌, length, get_or, take, drop, min, Result, Ok, Err, IfOk, IfErr, string_bytes, refl, sym, ap, ◌∙◌, subst, arith, nat_lt, length-take, length-drop, length-append, append_assoc, append-nil}
+-- Bytes as a list of items, whatever reads them: what is cut is an itemising, there is no other,
+-- and else there is one fault.
+use Rattle.std.proofs.Common.{◌≡◌, ◌≢◌, ℕ, zero, suc, ◌+◌, ◌<◌, ◌≤◌, ◌⊎◌, inl, inr, List, [], ◌∷◌}
+use Rattle.std.proofs.Common.{◌++◌, length, get_or, take, drop, min, Result, Ok, Err, IfOk, IfErr}
+use Rattle.std.proofs.Common.{string_bytes, refl, sym, ap, ◌∙◌, subst, arith, nat_lt, length-take}
+use Rattle.std.proofs.Common.{length-drop, length-append, append_assoc, append-nil}
 use Rattle.std.proofs.lemmas.List.{take-append-drop, take_min}
 use Rattle.std.proofs.lemmas.Grind.{get_or_default_zero}
 use Rattle.std.proofs.lemmas.List.Elements.{All-take, All-drop}
@@ -11,73 +14,100 @@ use Rattle.hidreport_items.proofs.Following.{following-cut, following-more, foll
 use Rattle.hidreport_items.specs.declared.item.ItemType.{ItemType}
 use Rattle.hidreport_lists.specs.Answer.{InvalidAt, Bounds, Mismatch, OverBudget, Answers}
 use Rattle.hidreport_lists.specs.Entry.{Entry}
-use Rattle.hidreport_lists.specs.Itemising.{Reader, Reads, joined, AreInPlace, AreRead, Itemises, IsFaultAt, IsGrammarFault, item_at, with_entry, items_from, itemise, as_refusal}
+use Rattle.hidreport_lists.specs.Itemising.{Reader, Reads, joined, AreInPlace, AreRead, Itemises}
+use Rattle.hidreport_lists.specs.Itemising.{IsFaultAt, IsGrammarFault, item_at, with_entry}
+use Rattle.hidreport_lists.specs.Itemising.{items_from, itemise, as_refusal}
 use Rattle.hidreport_lists.specs.Messages.{grammar_message}
 use Rattle.hidreport_lists.specs.declared.error.ParserError.{ParserError}
 use Rattle.hidreport_lists.specs.declared.error.ParserError.TheVariants as parser
-use Rattle.hidreport_lists.proofs.Items.{items_from-inside, item_at-enough, chosen_ok, enough, with_front, itemise-some}
+use Rattle.hidreport_lists.proofs.Items.{items_from-inside, item_at-enough, chosen_ok, enough}
+use Rattle.hidreport_lists.proofs.Items.{with_front, itemise-some}
 
 -- a header and its data, before other bytes, are the first item
-step-header : (read : Reader) (offset h : ℕ) (bs : List ℕ) (x : ItemType) (rest : List ℕ) → length bs ≡ following h bs → read h bs ≡ Ok x
-    → items_from read offset 0 (h ∷ (bs ++ rest)) ≡ with_entry offset (h ∷ bs) (Ok x) (items_from read (offset + length (h ∷ bs)) 0 rest)
+step-header : (read : Reader) (offset h : ℕ) (bs : List ℕ) (x : ItemType) (rest : List ℕ)
+    → length bs ≡ following h bs → read h bs ≡ Ok x
+    → items_from read offset 0 (h ∷ (bs ++ rest)) ≡ with_entry offset (h ∷ bs) (Ok x)
+    (items_from read (offset + length (h ∷ bs)) 0 rest)
 step-header read offset h bs x rest size is =
     let whole = bs ++ rest in
     let n = following h whole in
-    let sized : length bs ≡ n = size ∙ sym (following-more h bs rest (let le : following h bs ≤ length bs = omega (arith, size) in le)) in
-    let same : take n whole ≡ bs = subst (λ k. take k whole ≡ bs) sized (take-append_seam bs rest) in
-    let behind : drop n whole ≡ rest = subst (λ k. drop k whole ≡ rest) sized (drop-append_seam bs rest) in
+    let sized : length bs ≡ n = size
+    ∙ sym (following-more h bs rest
+    (let le : following h bs ≤ length bs = omega (arith, size) in le)) in
+    let same : take n whole ≡ bs =
+    subst (λ k. take k whole ≡ bs) sized (take-append_seam bs rest) in
+    let behind : drop n whole ≡ rest =
+    subst (λ k. drop k whole ≡ rest) sized (drop-append_seam bs rest) in
     let room : n ≤ length whole = simp length-append (omega (arith, sized)) in
-    let first : item_at read h whole ≡ Ok x = item_at-enough read h whole room ∙ ap (read h) same ∙ is in
-    let later : items_from read (offset + 1) n whole ≡ items_from read (offset + length (h ∷ bs)) 0 rest =
+    let first : item_at read h whole ≡ Ok x = item_at-enough read h whole room ∙ ap (read h) same
+    ∙ is in
+    let later : items_from read (offset + 1) n whole ≡ items_from read (offset + length (h ∷ bs)) 0
+    rest =
     items_from-inside read (offset + 1) n whole room
-    ∙ ap (λ k. items_from read k 0 (drop n whole)) (let e : offset + 1 + n ≡ offset + length (h ∷ bs) = omega (arith, sized) in e)
+    ∙ ap (λ k. items_from read k 0 (drop n whole))
+    (let e : offset + 1 + n ≡ offset + length (h ∷ bs) = omega (arith, sized) in e)
     ∙ ap (items_from read (offset + length (h ∷ bs)) 0) behind in
-    ap (λ l. with_entry offset (h ∷ l) (item_at read h whole) (items_from read (offset + 1) n whole)) same
+    ap (λ l. with_entry offset (h ∷ l) (item_at read h whole)
+    (items_from read (offset + 1) n whole)) same
     ∙ ap (λ r. with_entry offset (h ∷ bs) r (items_from read (offset + 1) n whole)) first
     ∙ ap (with_entry offset (h ∷ bs) (Ok x)) later
 
 -- bytes that are read as an item, before other bytes, are the first item
-pub step : (read : Reader) (offset : ℕ) (bytes : List ℕ) (x : ItemType) (rest : List ℕ) → Reads read bytes x
-    → items_from read offset 0 (bytes ++ rest) ≡ with_entry offset bytes (Ok x) (items_from read (offset + length bytes) 0 rest)
+pub step : (read : Reader) (offset : ℕ) (bytes : List ℕ) (x : ItemType) (rest : List ℕ)
+    → Reads read bytes x
+    → items_from read offset 0 (bytes ++ rest) ≡ with_entry offset bytes (Ok x)
+    (items_from read (offset + length bytes) 0 rest)
 step read offset [] x rest r = absurd r
 step read offset (h ∷ bs) x rest r = step-header read offset h bs x rest r.1 r.2
 
 -- items in place are what is cut
-cut-all : (read : Reader) (entries : List Entry) (offset : ℕ) → AreRead read entries → AreInPlace offset entries → items_from read offset 0 (joined entries) ≡ Ok entries
+cut-all : (read : Reader) (entries : List Entry) (offset : ℕ) → AreRead read entries
+    → AreInPlace offset entries → items_from read offset 0 (joined entries) ≡ Ok entries
 cut-all read [] offset each places = refl
 cut-all read (e ∷ es) offset each places =
     step read offset e.bytes e.item (joined es) each.0
-    ∙ ap (with_entry offset e.bytes (Ok e.item)) (cut-all read es (offset + length e.bytes) each.1 places.1)
+    ∙ ap (with_entry offset e.bytes (Ok e.item))
+    (cut-all read es (offset + length e.bytes) each.1 places.1)
     ∙ ap (λ n. Ok (record { offset = n; bytes = e.bytes; item = e.item } ∷ es)) (sym places.0)
 
 -- what stands behind items and can't be read is the fault
-stop-all : (read : Reader) (entries : List Entry) (offset header : ℕ) (after : List ℕ) (fault : Fault) → AreRead read entries → item_at read header after ≡ Err fault
-    → items_from read offset 0 (joined entries ++ header ∷ after) ≡ Err (offset + length (joined entries), fault)
+stop-all : (read : Reader) (entries : List Entry) (offset header : ℕ) (after : List ℕ)
+    (fault : Fault) → AreRead read entries → item_at read header after ≡ Err fault
+    → items_from read offset 0 (joined entries ++ header ∷ after) ≡ Err
+    (offset + length (joined entries), fault)
 stop-all read [] offset header after fault each why =
-    ap (λ (r : Result ItemType Fault). with_entry offset (header ∷ take (following header after) after) r (items_from read (offset + 1) (following header after) after)) why
+    ap (λ (r : Result ItemType Fault). with_entry offset
+    (header ∷ take (following header after) after) r
+    (items_from read (offset + 1) (following header after) after)) why
     ∙ ap (λ n. Err (n, fault)) (let e : offset ≡ offset + 0 = omega arith in e)
 stop-all read (e ∷ es) offset header after fault each why =
     ap (items_from read offset 0) (append_assoc e.bytes (joined es) (header ∷ after))
     ∙ step read offset e.bytes e.item (joined es ++ header ∷ after) each.0
-    ∙ ap (with_entry offset e.bytes (Ok e.item)) (stop-all read es (offset + length e.bytes) header after fault each.1 why)
-    ∙ ap (λ n. Err (n, fault)) (let e2 : offset + length e.bytes + length (joined es) ≡ offset + length (e.bytes ++ joined es) = simp length-append (omega arith) in e2)
+    ∙ ap (with_entry offset e.bytes (Ok e.item))
+    (stop-all read es (offset + length e.bytes) header after fault each.1 why)
+    ∙ ap (λ n. Err (n, fault))
+    (let e2 : offset + length e.bytes + length (joined es) ≡ offset + length (e.bytes ++ joined es) = simp length-append (omega arith) in e2)
 
 -- an itemising is the one that is computed
-pub itemise-items : (read : Reader) (bytes : List ℕ) (entries : List Entry) → Itemises read bytes entries → itemise read bytes ≡ Ok entries
+pub itemise-items : (read : Reader) (bytes : List ℕ) (entries : List Entry)
+    → Itemises read bytes entries → itemise read bytes ≡ Ok entries
 itemise-items read bytes entries i =
-    itemise-some read bytes i.some ∙ ap (items_from read 0 0) (sym i.whole) ∙ cut-all read entries 0 i.each i.places
+    itemise-some read bytes i.some ∙ ap (items_from read 0 0) (sym i.whole)
+    ∙ cut-all read entries 0 i.each i.places
 
 not_nil : (front : List ℕ) (h : ℕ) (after bytes : List ℕ) → front ++ h ∷ after ≡ bytes → bytes ≢ []
 not_nil [] h after bytes e none = let bad : h ∷ after ≡ [] = e ∙ none in cc
 not_nil (b ∷ front) h after bytes e none = let bad : b ∷ (front ++ h ∷ after) ≡ [] = e ∙ none in cc
 
 -- a fault is the one that is computed
-pub itemise-fault : (read : Reader) (bytes : List ℕ) (offset : ℕ) (fault : Fault) → IsFaultAt read bytes offset fault → itemise read bytes ≡ Err (offset, fault)
+pub itemise-fault : (read : Reader) (bytes : List ℕ) (offset : ℕ) (fault : Fault)
+    → IsFaultAt read bytes offset fault → itemise read bytes ≡ Err (offset, fault)
 itemise-fault read bytes offset fault f =
     itemise-some read bytes (not_nil (joined f.entries) f.header f.after bytes f.whole)
     ∙ ap (items_from read 0 0) (sym f.whole)
     ∙ stop-all read f.entries 0 f.header f.after fault f.each f.why
-    ∙ ap (λ n. Err (n, fault)) (let e : 0 + length (joined f.entries) ≡ offset = omega (arith, f.place) in e)
+    ∙ ap (λ n. Err (n, fault))
+    (let e : 0 + length (joined f.entries) ≡ offset = omega (arith, f.place) in e)
 
 -- the bytes are items, the first at an offset
 record Cut (read : Reader) (offset : ℕ) (bytes : List ℕ) : Type 0 where
@@ -98,18 +128,22 @@ record Stops (read : Reader) (bytes : List ℕ) : Type 0 where
   why : item_at read header after ≡ Err fault
 
 -- a beginning that is read as an item has all that follows its header
-none-read : (read : Reader) (h : ℕ) (bs : List ℕ) (fault : Fault) → item_at read h bs ≡ Err fault → (n : ℕ) (x : ItemType) → Reads read (take n (h ∷ bs)) x → ⊥
+none-read : (read : Reader) (h : ℕ) (bs : List ℕ) (fault : Fault) → item_at read h bs ≡ Err fault
+    → (n : ℕ) (x : ItemType) → Reads read (take n (h ∷ bs)) x → ⊥
 none-read read h bs fault why zero x r = r
 none-read read h bs fault why (suc n) x r =
-    let size : min n (length bs) ≡ following h bs = sym (length-take n bs) ∙ r.1 ∙ following-within h n bs r.1 in
+    let size : min n (length bs) ≡ following h bs = sym (length-take n bs) ∙ r.1
+    ∙ following-within h n bs r.1 in
     let room : following h bs ≤ length bs = omega (arith, size) in
-    let same : take (following h bs) bs ≡ take n bs = ap (λ k. take k bs) (sym size) ∙ take_min n bs in
+    let same : take (following h bs) bs ≡ take n bs = ap (λ k. take k bs) (sym size)
+    ∙ take_min n bs in
     let is : item_at read h bs ≡ Ok x = item_at-enough read h bs room ∙ ap (read h) same ∙ r.2 in
     let bad : Err fault ≡ Ok x = sym why ∙ is in
     cc
 
 -- what is read at a header is an item, before the rest
-cut-first : (read : Reader) (h : ℕ) (bs : List ℕ) (x : ItemType) → AreBytes (h ∷ bs) → item_at read h bs ≡ Ok x → Reads read (h ∷ take (following h bs) bs) x
+cut-first : (read : Reader) (h : ℕ) (bs : List ℕ) (x : ItemType) → AreBytes (h ∷ bs)
+    → item_at read h bs ≡ Ok x → Reads read (h ∷ take (following h bs) bs) x
 cut-first read h bs x bytes is =
     let n = following h bs in
     let got = chosen_ok (nat_lt (length bs) n) Insufficient (read h (take n bs)) x is in
@@ -119,7 +153,8 @@ cut-first read h bs x bytes is =
     (All-take (λ b. b < 256) (suc n) (h ∷ bs) bytes, size ∙ sym (following-cut h n bs le), got.1)
 
 -- one more item in front
-more-cut : (read : Reader) (offset : ℕ) (front : List ℕ) (x : ItemType) (rest : List ℕ) → Reads read front x → Cut read (offset + length front) rest → Cut read offset (front ++ rest)
+more-cut : (read : Reader) (offset : ℕ) (front : List ℕ) (x : ItemType) (rest : List ℕ)
+    → Reads read front x → Cut read (offset + length front) rest → Cut read offset (front ++ rest)
 more-cut read offset front x rest r c = record {
   entries = record { offset = offset; bytes = front; item = x } ∷ c.entries;
   whole = ap (λ l. front ++ l) c.whole;
@@ -127,7 +162,8 @@ more-cut read offset front x rest r c = record {
   places = (refl, c.places);
 }
 
-more-stops : (read : Reader) (offset : ℕ) (front : List ℕ) (x : ItemType) (rest : List ℕ) → Reads read front x → Stops read rest → Stops read (front ++ rest)
+more-stops : (read : Reader) (offset : ℕ) (front : List ℕ) (x : ItemType) (rest : List ℕ)
+    → Reads read front x → Stops read rest → Stops read (front ++ rest)
 more-stops read offset front x rest r s = record {
   entries = record { offset = offset; bytes = front; item = x } ∷ s.entries;
   header = s.header;
@@ -145,7 +181,8 @@ Ends read offset bytes = Cut read offset bytes ⊎ Stops read bytes
 -- by what the first item is
 ends-item : (read : Reader) (offset h : ℕ) (bs : List ℕ) → AreBytes (h ∷ bs)
     → ((at : ℕ) → Cut read at (drop (following h bs) bs) ⊎ Stops read (drop (following h bs) bs))
-    → (r : Result ItemType Fault) → item_at read h bs ≡ r → Cut read offset (h ∷ bs) ⊎ Stops read (h ∷ bs)
+    → (r : Result ItemType Fault) → item_at read h bs ≡ r → Cut read offset (h ∷ bs)
+    ⊎ Stops read (h ∷ bs)
 ends-item read offset h bs bytes rest (Err fault) e = inr (record {
   entries = [];
   header = h;
@@ -158,27 +195,38 @@ ends-item read offset h bs bytes rest (Err fault) e = inr (record {
 })
 ends-item read offset h bs bytes rest (Ok x) e =
     let front : List ℕ = h ∷ take (following h bs) bs in
-    let whole : front ++ drop (following h bs) bs ≡ h ∷ bs = ap (λ l. h ∷ l) (take-append-drop (following h bs) bs) in
+    let whole : front ++ drop (following h bs) bs ≡ h ∷ bs =
+    ap (λ l. h ∷ l) (take-append-drop (following h bs) bs) in
     let first : Reads read front x = cut-first read h bs x bytes e in
     elim (rest (offset + length front)) [
-      | inl c ↦ inl (subst (Cut read offset) whole (more-cut read offset front x (drop (following h bs) bs) first c))
-      | inr s ↦ inr (subst (Stops read) whole (more-stops read offset front x (drop (following h bs) bs) first s))
+      | inl c ↦ inl (subst (Cut read offset) whole
+          (more-cut read offset front x (drop (following h bs) bs) first c))
+      | inr s ↦ inr (subst (Stops read) whole
+          (more-stops read offset front x (drop (following h bs) bs) first s))
     ]
 
 -- bytes are items to their end, or items up to a fault
-ends : (read : Reader) (n offset : ℕ) (bytes : List ℕ) → length bytes ≤ n → AreBytes bytes → Cut read offset bytes ⊎ Stops read bytes
+ends : (read : Reader) (n offset : ℕ) (bytes : List ℕ) → length bytes ≤ n → AreBytes bytes
+    → Cut read offset bytes ⊎ Stops read bytes
 ends read n offset [] le bytes = inl (record { entries = []; whole = refl; each = tt; places = tt })
 ends read zero offset (h ∷ bs) le bytes = absurd (omega arith)
 ends read (suc n) offset (h ∷ bs) le bytes =
     let short : length (drop (following h bs) bs) ≤ n = simp length-drop (omega arith) in
-    ends-item read offset h bs bytes (λ at. ends read n at (drop (following h bs) bs) short (All-drop (λ b. b < 256) (suc (following h bs)) (h ∷ bs) bytes)) (item_at read h bs) refl
+    ends-item read offset h bs bytes
+    (λ at. ends read n at (drop (following h bs) bs) short
+    (All-drop (λ b. b < 256) (suc (following h bs)) (h ∷ bs) bytes)) (item_at read h bs) refl
 
 -- bytes, of which there are some, are items or have a fault
 pub items_or_fault : (read : Reader) (bytes : List ℕ) → AreBytes bytes → bytes ≢ []
-    → ((entries : List Entry) × Itemises read bytes entries) ⊎ ((offset : ℕ) × (fault : Fault) × IsFaultAt read bytes offset fault)
+    → ((entries : List Entry) × Itemises read bytes entries)
+    ⊎ ((offset : ℕ) × (fault : Fault) × IsFaultAt read bytes offset fault)
 items_or_fault read bytes are some =
     elim (ends read (length bytes) 0 bytes (omega arith) are) [
-      | inl c ↦ inl (c.entries, record { some = some; whole = c.whole; each = c.each; places = c.places })
+      | inl c ↦ inl (
+        c.entries,
+        record
+            { some = some; whole = c.whole; each = c.each; places = c.places },
+      )
       | inr s ↦ inr (
         length (joined s.entries),
         s.fault,
@@ -202,25 +250,30 @@ err_same : {A E : Type 0} (r : Result A E) (x y : E) → r ≡ Err x → r ≡ E
 err_same r x y e f = cc
 
 -- the answer names one fault
-one-fault : (read : Reader) (bytes : List ℕ) (a b : ℕ) (x y : Fault) (r : Result (List Entry) (ℕ × Fault)) → r ≡ Err (a, x) → r ≡ Err (b, y)
+one-fault : (read : Reader) (bytes : List ℕ) (a b : ℕ) (x y : Fault)
+    (r : Result (List Entry) (ℕ × Fault)) → r ≡ Err (a, x) → r ≡ Err (b, y)
     → IsFaultAt read bytes a x → IsFaultAt read bytes b y
 one-fault read bytes a b x y r e f at =
     subst (λ (p : ℕ × Fault). IsFaultAt read bytes p.0 p.1) (err_same r (a, x) (b, y) e f) at
 
 -- what is computed is an itemising
-pub itemise-ok : (read : Reader) (bytes : List ℕ) (entries : List Entry) → AreBytes bytes → bytes ≢ [] → itemise read bytes ≡ Ok entries → Itemises read bytes entries
+pub itemise-ok : (read : Reader) (bytes : List ℕ) (entries : List Entry) → AreBytes bytes
+    → bytes ≢ [] → itemise read bytes ≡ Ok entries → Itemises read bytes entries
 itemise-ok read bytes entries are some e =
     elim (items_or_fault read bytes are some) [
-      | inl i ↦ let same : Ok i.0 ≡ Ok entries = sym (itemise-items read bytes i.0 i.1) ∙ e in subst (Itemises read bytes) (let s : i.0 ≡ entries = cc in s) i.1
+      | inl i ↦ let same : Ok i.0 ≡ Ok entries = sym (itemise-items read bytes i.0 i.1) ∙ e in subst
+          (Itemises read bytes) (let s : i.0 ≡ entries = cc in s) i.1
       | inr f ↦ absurd (ok_err entries (f.0, f.1) (sym e ∙ itemise-fault read bytes f.0 f.1 f.2))
     ]
 
 -- what is computed is a fault
-pub itemise-err : (read : Reader) (bytes : List ℕ) (offset : ℕ) (fault : Fault) → AreBytes bytes → bytes ≢ [] → itemise read bytes ≡ Err (offset, fault) → IsFaultAt read bytes offset fault
+pub itemise-err : (read : Reader) (bytes : List ℕ) (offset : ℕ) (fault : Fault) → AreBytes bytes
+    → bytes ≢ [] → itemise read bytes ≡ Err (offset, fault) → IsFaultAt read bytes offset fault
 itemise-err read bytes offset fault are some e =
     elim (items_or_fault read bytes are some) [
       | inl i ↦ absurd (ok_err i.0 (offset, fault) (sym (itemise-items read bytes i.0 i.1) ∙ e))
-      | inr f ↦ one-fault read bytes f.0 offset f.1 fault (itemise read bytes) (itemise-fault read bytes f.0 f.1 f.2) e f.2
+      | inr f ↦ one-fault read bytes f.0 offset f.1 fault (itemise read bytes)
+          (itemise-fault read bytes f.0 f.1 f.2) e f.2
     ]
 
 -- bytes as a slice has them
@@ -233,10 +286,12 @@ refusal-ok : {A : Type 0} (r : Result A (ℕ × Fault)) (x : A) → as_refusal r
 refusal-ok (Ok y) x e = cc
 refusal-ok (Err f) x e = cc
 
-refusal-err : {A : Type 0} (r : Result A (ℕ × Fault)) (offset : ℕ) (message : List ℕ) → as_refusal r ≡ Err (InvalidAt offset message)
+refusal-err : {A : Type 0} (r : Result A (ℕ × Fault)) (offset : ℕ) (message : List ℕ)
+    → as_refusal r ≡ Err (InvalidAt offset message)
     → (fault : Fault) × (r ≡ Err (offset, fault)) × (message ≡ grammar_message fault)
 refusal-err (Ok y) offset message e = cc
-refusal-err (Err f) offset message e = (f.1, ap (λ n. Err (n, f.1)) (let s : f.0 ≡ offset = cc in s), (cc))
+refusal-err (Err f) offset message e =
+    (f.1, ap (λ n. Err (n, f.1)) (let s : f.0 ≡ offset = cc in s), (cc))
 
 not_bounds : {A : Type 0} (r : Result A (ℕ × Fault)) → as_refusal r ≡ Err Bounds → ⊥
 not_bounds (Ok x) e = cc
@@ -246,46 +301,61 @@ not_mismatch : {A : Type 0} (r : Result A (ℕ × Fault)) → as_refusal r ≡ E
 not_mismatch (Ok x) e = cc
 not_mismatch (Err f) e = cc
 
-not_over_budget : {A : Type 0} (r : Result A (ℕ × Fault)) (offset : ℕ) → as_refusal r ≡ Err (OverBudget offset) → ⊥
+not_over_budget : {A : Type 0} (r : Result A (ℕ × Fault)) (offset : ℕ)
+    → as_refusal r ≡ Err (OverBudget offset) → ⊥
 not_over_budget (Ok x) offset e = cc
 not_over_budget (Err f) offset e = cc
 
-not_empty-ok : (read : Reader) (bytes : List ℕ) (entries : List Entry) → itemise read bytes ≡ Ok entries → bytes ≢ []
+not_empty-ok : (read : Reader) (bytes : List ℕ) (entries : List Entry)
+    → itemise read bytes ≡ Ok entries → bytes ≢ []
 not_empty-ok read [] entries e none = let s : ⊥ = cc in s
 not_empty-ok read (b ∷ bs) entries e none = let s : ⊥ = cc in s
 
 -- where nothing is left, the items so far are the answer
-pub answer-done : (read : Reader) (bytes rest : List ℕ) (items : List Entry) (offset : ℕ) → bytes ≢ [] → length rest ≡ 0
-    → with_front items (items_from read offset 0 rest) ≡ items_from read 0 0 bytes → as_refusal (itemise read bytes) ≡ Ok items
+pub answer-done : (read : Reader) (bytes rest : List ℕ) (items : List Entry) (offset : ℕ)
+    → bytes ≢ [] → length rest ≡ 0
+    → with_front items (items_from read offset 0 rest) ≡ items_from read 0 0 bytes
+    → as_refusal (itemise read bytes) ≡ Ok items
 answer-done read bytes [] items offset some none same =
     ap as_refusal (itemise-some read bytes some ∙ sym same) ∙ ap Ok (append-nil items)
 answer-done read bytes (b ∷ rest) items offset some none same = absurd (omega arith)
 
-pub answer-items : (read : Reader) (bytes : List ℕ) (answer : Result (List Entry) ParserError) → AreBytes bytes
-    → Answers answer (as_refusal (itemise read bytes)) → IfOk answer (λ entries. Itemises read bytes entries)
+pub answer-items : (read : Reader) (bytes : List ℕ) (answer : Result (List Entry) ParserError)
+    → AreBytes bytes
+    → Answers answer (as_refusal (itemise read bytes))
+    → IfOk answer (λ entries. Itemises read bytes entries)
 answer-items read bytes (Ok entries) are exact =
     let e = refusal-ok (itemise read bytes) entries exact in
     itemise-ok read bytes entries are (not_empty-ok read bytes entries e) e
 answer-items read bytes (Err error) are exact = tt
 
 pub answer-only : (read : Reader) (bytes : List ℕ) (answer : Result (List Entry) ParserError)
-    → Answers answer (as_refusal (itemise read bytes)) → (entries : List Entry) → Itemises read bytes entries → Answers answer (Ok entries)
+    → Answers answer (as_refusal (itemise read bytes)) → (entries : List Entry)
+    → Itemises read bytes entries → Answers answer (Ok entries)
 answer-only read bytes answer exact entries i =
-    subst (λ (r : Result (List Entry) (ℕ × Fault)). Answers answer (as_refusal r)) (itemise-items read bytes entries i) exact
+    subst (λ (r : Result (List Entry) (ℕ × Fault)). Answers answer (as_refusal r))
+    (itemise-items read bytes entries i) exact
 
-pub answer-fault : (read : Reader) (bytes : List ℕ) (answer : Result (List Entry) ParserError) → AreBytes bytes
-    → Answers answer (as_refusal (itemise read bytes)) → bytes ≢ [] → IfErr answer (λ error. IsGrammarFault read bytes error)
+pub answer-fault : (read : Reader) (bytes : List ℕ) (answer : Result (List Entry) ParserError)
+    → AreBytes bytes
+    → Answers answer (as_refusal (itemise read bytes)) → bytes ≢ []
+    → IfErr answer (λ error. IsGrammarFault read bytes error)
 answer-fault read bytes (Ok entries) are exact some = tt
 answer-fault read bytes (Err (parser.InvalidData offset message)) are exact some =
     let e = refusal-err (itemise read bytes) offset (string_bytes message) exact in
     (e.0, itemise-err read bytes offset e.0 are some e.1, e.2)
-answer-fault read bytes (Err parser.OutOfBounds) are exact some = not_bounds (itemise read bytes) exact
-answer-fault read bytes (Err parser.MismatchingReportId) are exact some = not_mismatch (itemise read bytes) exact
+answer-fault read bytes (Err parser.OutOfBounds) are exact some =
+    not_bounds (itemise read bytes) exact
+answer-fault read bytes (Err parser.MismatchingReportId) are exact some =
+    not_mismatch (itemise read bytes) exact
 answer-fault read bytes (Err parser.OutOfMemory) are exact some = tt
-answer-fault read bytes (Err (parser.BudgetExceeded offset)) are exact some = not_over_budget (itemise read bytes) offset exact
+answer-fault read bytes (Err (parser.BudgetExceeded offset)) are exact some =
+    not_over_budget (itemise read bytes) offset exact
 
 pub answer-only_fault : (read : Reader) (bytes : List ℕ) (answer : Result (List Entry) ParserError)
-    → Answers answer (as_refusal (itemise read bytes)) → (offset : ℕ) (fault : Fault) → IsFaultAt read bytes offset fault
+    → Answers answer (as_refusal (itemise read bytes)) → (offset : ℕ) (fault : Fault)
+    → IsFaultAt read bytes offset fault
     → Answers answer (Err (InvalidAt offset (grammar_message fault)))
 answer-only_fault read bytes answer exact offset fault f =
-    subst (λ (r : Result (List Entry) (ℕ × Fault)). Answers answer (as_refusal r)) (itemise-fault read bytes offset fault f) exact
+    subst (λ (r : Result (List Entry) (ℕ × Fault)). Answers answer (as_refusal r))
+    (itemise-fault read bytes offset fault f) exact

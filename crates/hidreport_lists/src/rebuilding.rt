@@ -13,8 +13,9 @@ use crate::short_item::Item;
 use hidreport_items::{GlobalItem, ItemType, LocalItem, write_item};
 use std::alloc::{AllocError, Global};
 
-/// A descriptor written anew (Section 6.2.2.2): its items in order, without long ones and those of a
-/// kind that the standard keeps for later, each in its canonical spelling, the shortest with data.
+/// A descriptor written anew (Section 6.2.2.2): its items in order, without long ones and those of
+/// a kind that the standard keeps for later, each in its canonical spelling, the shortest with
+/// data.
 ///
 /// Bytes that are no items are refused as `ReportDescriptorItems::try_from` refuses them.
 /// `OutOfMemory` comes only where a growth is refused. The answer is empty where no item is kept.

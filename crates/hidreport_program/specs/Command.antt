@@ -1,8 +1,12 @@
 -- The words after the program's name, as the bytes of each, and the command that they ask for.
-use Rattle.std.specs.Prelude.{◌≡◌, ◌<◌, ◌^◌, ℕ, Bool, true, false, List, [], length, slice_get, IsSomeAnd, Option, Some, codes}
+use Rattle.std.specs.Prelude.{◌≡◌, ◌<◌, ◌^◌, ℕ, Bool, true, false, List, [], length, slice_get}
+use Rattle.std.specs.Prelude.{IsSomeAnd, Option, Some, codes}
 use Rattle.std.specs.Str.Parse.{IsNumeral, digits_value}
 use Rattle.hidreport_program.specs.declared.program.commands.Command.{Command}
-use Rattle.hidreport_program.specs.declared.program.commands.Command.TheVariants.{Items, Values, ValuesWithin, ValuesGlobals, Rebuild}
+use Rattle.hidreport_program.specs.declared.program.commands.Command.TheVariants.{Items, Values}
+use Rattle.hidreport_program.specs.declared.program.commands.Command.TheVariants.{ValuesWithin}
+use Rattle.hidreport_program.specs.declared.program.commands.Command.TheVariants.{ValuesGlobals}
+use Rattle.hidreport_program.specs.declared.program.commands.Command.TheVariants.{Rebuild}
 
 -- this many words, and the first is the name
 abbrev pub HasForm : List (List ℕ) → List ℕ → ℕ → Type 0
@@ -12,9 +16,9 @@ HasForm words name count = (length words ≡ count) × (slice_get words 0 ≡ So
 abbrev pub IsLimit : List ℕ → ℕ → Type 0
 IsLimit word limit = IsNumeral 10 word × (digits_value 10 word ≡ limit) × (limit < 2 ^ 64)
 
--- `items FILE` asks for the items, `values FILE REPORT` for the values, `values-within LIMIT FILE REPORT` for the
--- values under a budget, `values-globals FILE REPORT` for the values where a Push keeps globals alone, `rebuild FILE`
--- for the canonical bytes
+-- `items FILE` asks for the items, `values FILE REPORT` for the values,
+-- `values-within LIMIT FILE REPORT` for the values under a budget, `values-globals FILE REPORT` for
+-- the values where a Push keeps globals alone, `rebuild FILE` for the canonical bytes
 abbrev pub AsksFor : List (List ℕ) → Command → Type 0
 AsksFor words Items = HasForm words (codes "items") 2
 AsksFor words Values = HasForm words (codes "values") 3

@@ -1,10 +1,12 @@
 -- The lines that the program writes. Each ends with a newline, which is the byte 10.
-use Rattle.std.specs.Prelude.{ℕ, ℤ, pos, ◌-◌, if◌then◌else◌, List, [], ◌∷◌, ◌++◌, flat_map, Option, Some, None, Result, Ok, Err, length, replicate, codes, decimal, false}
+use Rattle.std.specs.Prelude.{ℕ, ℤ, pos, ◌-◌, if◌then◌else◌, List, [], ◌∷◌, ◌++◌, flat_map, Option}
+use Rattle.std.specs.Prelude.{Some, None, Result, Ok, Err, length, replicate, codes, decimal, false}
 use Rattle.std.specs.Fmt.{radix_digits, signed_decimal}
 use Rattle.std.specs.Int.{w32, cast_signed}
 use Rattle.hidreport_lists.specs.Answer.{Refusal, InvalidAt, Bounds, Mismatch, OverBudget}
 use Rattle.hidreport.specs.Reading.{ValueRecord, reads}
-use Rattle.hidreport.specs.Records.{FieldPlace, FieldRecord, VariableRecord, ArrayRecord, ConstantRecord}
+use Rattle.hidreport.specs.Records.{FieldPlace, FieldRecord, VariableRecord, ArrayRecord}
+use Rattle.hidreport.specs.Records.{ConstantRecord}
 use Rattle.hidreport.specs.UsageNumber.{usage_number}
 
 abbrev pub newline : List ℕ
@@ -12,7 +14,8 @@ newline = 10 ∷ []
 
 -- a number in lower-case hexadecimal, with zeros before it up to so many digits
 abbrev pub hex_digits : ℕ → ℕ → List ℕ
-hex_digits count n = replicate (count - length (radix_digits 16 false n)) 48 ++ radix_digits 16 false n
+hex_digits count n = replicate (count - length (radix_digits 16 false n)) 48 ++ radix_digits 16
+    false n
 
 -- bytes in two digits each, a space between
 abbrev pub bytes_text : List ℕ → List ℕ
@@ -58,7 +61,8 @@ report_line id size = codes "report " ++ (id_text id ++ (codes " " ++ (decimal s
 -- why the descriptor is refused; parsing never refuses bytes as another report's
 abbrev pub refusal_line : Refusal → List ℕ
 refusal_line (InvalidAt offset message) =
-    codes "refused: invalid data at offset " ++ (decimal offset ++ (codes ": " ++ (message ++ newline)))
+    codes "refused: invalid data at offset "
+    ++ (decimal offset ++ (codes ": " ++ (message ++ newline)))
 refusal_line Bounds = codes "refused: out of bounds" ++ newline
 refusal_line Mismatch = codes "refused: out of bounds" ++ newline
 refusal_line (OverBudget offset) =

@@ -1,5 +1,6 @@
 -- What a command writes of the bytes that it read, and how it ends.
-use Rattle.std.specs.Prelude.{ℕ, List, ◌++◌, flat_map, Option, Some, None, Result, Ok, Err, string_bytes}
+use Rattle.std.specs.Prelude.{ℕ, List, ◌++◌, flat_map, Option, Some, None, Result, Ok, Err}
+use Rattle.std.specs.Prelude.{string_bytes}
 use Rattle.hidreport_items.specs.Spelling.{item_of}
 use Rattle.hidreport_lists.specs.Answer.{Refusal, InvalidAt, Bounds, Mismatch, OverBudget}
 use Rattle.hidreport_lists.specs.Entry.{Entry}
@@ -12,9 +13,13 @@ use Rattle.hidreport.specs.Lookup.{find_report}
 use Rattle.hidreport.specs.Meaning.{parse, parse_globals_only}
 use Rattle.hidreport.specs.Records.{ReportRecord, DescriptorRecord}
 use Rattle.hidreport_program.specs.ItemLines.{items_text}
-use Rattle.hidreport_program.specs.Lines.{line_of_field, report_line, refusal_line, no_report_line, rebuilt_line}
+use Rattle.hidreport_program.specs.Lines.{line_of_field, report_line, refusal_line, no_report_line}
+use Rattle.hidreport_program.specs.Lines.{rebuilt_line}
 use Rattle.hidreport_program.specs.declared.program.commands.Command.{Command}
-use Rattle.hidreport_program.specs.declared.program.commands.Command.TheVariants.{Items, Values, ValuesWithin, ValuesGlobals, Rebuild}
+use Rattle.hidreport_program.specs.declared.program.commands.Command.TheVariants.{Items, Values}
+use Rattle.hidreport_program.specs.declared.program.commands.Command.TheVariants.{ValuesWithin}
+use Rattle.hidreport_program.specs.declared.program.commands.Command.TheVariants.{ValuesGlobals}
+use Rattle.hidreport_program.specs.declared.program.commands.Command.TheVariants.{Rebuild}
 use Rattle.hidreport_program.specs.declared.program.ending.Outcome.{Outcome}
 use Rattle.hidreport_program.specs.declared.program.ending.Outcome.TheVariants.{Done, Refused}
 
@@ -25,7 +30,8 @@ pub record Output : Type 0 where
 
 -- a report's line, and one for each of its fields
 abbrev pub report_text : ReportRecord → List ℕ → List ℕ
-report_text report bytes = report_line report.id report.size ++ flat_map (line_of_field bytes) report.fields
+report_text report bytes = report_line report.id report.size ++ flat_map (line_of_field bytes)
+    report.fields
 
 abbrev pub found_output : Option ReportRecord → List ℕ → Output
 found_output (Some report) bytes = record { text = report_text report bytes; outcome = Done }

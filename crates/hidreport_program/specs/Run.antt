@@ -15,7 +15,8 @@ BeganWriting (Err OutOfMemory) = ⊥
 
 -- a beginning of the text, but not all of it, came after the bytes that were taken before
 abbrev pub WroteBeginning : Option (List ℕ) → Option (List ℕ) → List ℕ → Type 0
-WroteBeginning old new text = (count : ℕ) × (count < length text) × Appends old new (take count text)
+WroteBeginning old new text = (count : ℕ) × (count < length text) × Appends old new
+    (take count text)
 
 -- after an outcome all of the output was written, after `Write` a beginning of it
 abbrev pub Wrote : Result Outcome RunFault → Output → Option (List ℕ) → Option (List ℕ) → Type 0

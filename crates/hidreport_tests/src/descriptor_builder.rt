@@ -251,7 +251,8 @@ fn are_usages(usages: &[Usage], wanted: &[u32]) -> bool {
     usages.len() == wanted.len()
 }
 
-/// Whether the one field of the first report is an array of these usages, told to be a range or not.
+/// Whether the one field of the first report is an array of these usages, told to be a range or
+/// not.
 fn has_array(descriptor: &ReportDescriptor, is_range: bool, listed: &[u32]) -> bool {
     let [report, ..] = descriptor.input_reports() else {
         return false;

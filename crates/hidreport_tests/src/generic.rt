@@ -3,7 +3,8 @@ ghost use Rattle.std.specs.Prelude.{◌≡◌, ◌&&◌, ◌||◌, not, true};
 
 use hidreport::hid::MainDataItem;
 
-/// The item's fields are plain buttons: each is on while it is held, and no flag but `variable` is on, `volatile` aside.
+/// The item's fields are plain buttons: each is on while it is held, and no flag but `variable` is
+/// on, `volatile` aside.
 pub fn is_plain_button<M: MainDataItem>(item: &M) -> bool
     ensures { let flags = M.flags item.now in
         result ≡ (flags.variable && not (flags.constant || flags.relative || flags.wrap

@@ -1,4 +1,5 @@
-//! Great numbers: what no machine has memory for is refused, and what is long is read and written whole.
+//! Great numbers: what no machine has memory for is refused, and what is long is read and written
+//! whole.
 use hidreport::hid::rebuild;
 use hidreport::{ParserError, ReportDescriptor};
 use std::test::Fail;

@@ -1,6 +1,6 @@
-//! What no case can be written for: refused memory, readers and writers that fail, hashes and owners, builders, and
-//! callers that are generic.
-//! Licence: MIT (LICENSE); a port of the Rust crate `hidreport` 0.6.0.
+//! What no case can be written for: refused memory, readers and writers that fail, hashes and
+//! owners, builders, and callers that are generic. Licence: MIT (LICENSE); a port of the Rust crate
+//! `hidreport` 0.6.0.
 #![tactic(auto)]
 
 #[cfg(test)]

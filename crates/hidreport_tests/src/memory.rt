@@ -1,4 +1,5 @@
-//! Calls that take memory: what each answers where it is ample, which may also be want of memory where it isn't.
+//! Calls that take memory: what each answers where it is ample, which may also be want of memory
+//! where it isn't.
 //!
 //! `checks/refused_memory.sh` runs them with each of their allocations refused in turn.
 mod descriptors;

@@ -1,4 +1,5 @@
-//! Hashes, equality and owners: collections are known by their ids, and the fields of an item share one list of them.
+//! Hashes, equality and owners: collections are known by their ids, and the fields of an item share
+//! one list of them.
 use hidreport::types::{UsageId, UsagePage};
 use hidreport::{Collection, Field, Report, ReportDescriptor, ReportId, Usage};
 use std::hash::{DefaultHasher, Hash, Hasher};

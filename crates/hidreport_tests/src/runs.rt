@@ -1,4 +1,5 @@
-//! Runs of each command: each ends as where memory is ample, or with want of it and nothing written.
+//! Runs of each command: each ends as where memory is ample, or with want of it and nothing
+//! written.
 //!
 //! `checks/refused_memory.sh` makes them with each of their allocations refused in turn.
 use hidreport_program::program::{Command, Outcome, run};

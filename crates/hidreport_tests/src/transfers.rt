@@ -89,7 +89,8 @@ fn padded(alloc: Global, bytes: &[u8], byte: u8, times: usize) -> Result<Vec<u8>
     Ok(all)
 }
 
-// Reserved items mean nothing, and bytes behind a report are not looked at: the Rust crate gives the same values.
+// Reserved items mean nothing, and bytes behind a report are not looked at: the Rust crate gives
+// the same values.
 #[test]
 fn inputs_past_five_thousand_bytes(rt: HostRuntime) -> Result<(), Fail> {
     let descriptor = padded(rt.alloc(), TWO_AXES, 0xc4, 6000)?;

@@ -41,7 +41,8 @@ pub trait Sink {
 
     ghost has_failed: { Self → Bool };
 
-    /// Writes bytes from the front of `bytes`, and answers how many: one at least, if there are any.
+    /// Writes bytes from the front of `bytes`, and answers how many: one at least, if there are
+    /// any.
     ///
     /// Refuses where the sink fails or has failed: it takes no byte then, and stays failed.
     fn write(&mut self, bytes: &[u8]) -> Result<usize, Failed>

@@ -43,7 +43,8 @@ impl<S: Source> Source for FailingSource<S> {
     }
 }
 
-/// A sink that takes the first half of each write, rounded up, and fails after `good_writes` writes.
+/// A sink that takes the first half of each write, rounded up, and fails after `good_writes`
+/// writes.
 #[derive(Drop)]
 pub struct FailingSink<K> {
     sink: K,

@@ -1,5 +1,6 @@
 -- The walk under a budget: what of it is left between two items, and what an item spends.
-use Rattle.std.specs.Prelude.{ℕ, ◌+◌, ◌-◌, nat_lt, Bool, true, false, if◌then◌else◌, List, [], ◌∷◌, length, map, sum_by, Option, None, Some, Result, Ok, Err}
+use Rattle.std.specs.Prelude.{ℕ, ◌+◌, ◌-◌, nat_lt, Bool, true, false, if◌then◌else◌, List, [], ◌∷◌}
+use Rattle.std.specs.Prelude.{length, map, sum_by, Option, None, Some, Result, Ok, Err}
 use Rattle.hidreport_items.specs.Answer.{Fault}
 use Rattle.hidreport_items.specs.Flags.{Flags}
 use Rattle.hidreport_items.specs.Spelling.{item_of}
@@ -15,11 +16,12 @@ use Rattle.hidreport.specs.Kinds.{Direction, collection_of, data_of}
 use Rattle.hidreport.specs.Making.{extent}
 use Rattle.hidreport.specs.Meaning.{at_offset, empty_descriptor}
 use Rattle.hidreport.specs.MeaningFault.{MeaningFault, PastBudget}
-use Rattle.hidreport.specs.Parser.Machine.{Held, fault_in, go_on, next_held, nothing_held, start_in, unless_fault}
+use Rattle.hidreport.specs.Parser.Machine.{Held, fault_in, go_on, next_held, nothing_held, start_in}
+use Rattle.hidreport.specs.Parser.Machine.{unless_fault}
 use Rattle.hidreport.specs.Records.{DescriptorRecord}
 use Rattle.hidreport.specs.Usages.{usages_of}
 use Rattle.hidreport.specs.Weight.{field_weight}
-use Rattle.hidreport.specs.declared.parser.keeping.Keeping.{Keeping}
+use Rattle.hidreport.specs.declared.parser.push_keeps.PushKeeps.{PushKeeps}
 
 -- the collection that an item opens
 abbrev pub weight_opened_in : Held → Option CollectionItem → ℕ
@@ -55,19 +57,21 @@ abbrev pub stop_in : Option ℕ → Held → ItemType → Option MeaningFault
 stop_in left h x = first_of (fault_in h x) (past_fault (is_past left (weight_in h x)))
 
 -- the walk over the items from index k on, where so much is left
-abbrev pub walk_within : Option ℕ → Held → ℕ → List ItemType → Result DescriptorRecord (ℕ × MeaningFault)
+abbrev pub walk_within : Option ℕ → Held → ℕ → List ItemType
+    → Result DescriptorRecord (ℕ × MeaningFault)
 walk_within left h k [] = Ok h.descriptor
 walk_within left h k (x ∷ xs) = go_on (unless_fault (stop_in left h x) (next_held h x)) k
     (λ next. walk_within (left_behind left (weight_in h x)) next (k + 1) xs)
 
 -- a grammar fault, or else what the walk over the items gives
-abbrev pub walk_items : Keeping → Option ℕ → Result (List Entry) (ℕ × Fault) → Result DescriptorRecord Refusal
+abbrev pub walk_items : PushKeeps → Option ℕ → Result (List Entry) (ℕ × Fault)
+    → Result DescriptorRecord Refusal
 walk_items keeping limit (Err fault) = Err (InvalidAt fault.0 (grammar_message fault.1))
 walk_items keeping limit (Ok entries) =
     at_offset entries (walk_within limit (nothing_held keeping) 0 (map (λ e. e.item) entries))
 
 -- the same of a descriptor's bytes
-abbrev pub walk_bytes : Keeping → Option ℕ → List ℕ → Result DescriptorRecord Refusal
+abbrev pub walk_bytes : PushKeeps → Option ℕ → List ℕ → Result DescriptorRecord Refusal
 walk_bytes keeping limit [] = Err (InvalidAt 0 empty_descriptor)
 walk_bytes keeping limit (b ∷ bs) = walk_items keeping limit (itemise item_of (b ∷ bs))
 

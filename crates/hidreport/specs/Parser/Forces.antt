@@ -3,11 +3,11 @@ use Rattle.std.specs.Prelude.{List}
 use Rattle.hidreport_items.specs.declared.local.LocalItem.{LocalItem}
 use Rattle.hidreport.specs.InForce.{Force}
 use Rattle.hidreport.specs.declared.parser.globals.Globals.{Globals}
-use Rattle.hidreport.specs.declared.parser.keeping.Keeping.{Keeping}
+use Rattle.hidreport.specs.declared.parser.push_keeps.PushKeeps.{PushKeeps}
 
 -- what a Push keeps, what is in force now, and what each open Push keeps, outermost first
 pub record Forces : Type 0 where
-  pub keeping : Keeping
+  pub keeping : PushKeeps
   pub now : Force
   pub kept : List Force
 

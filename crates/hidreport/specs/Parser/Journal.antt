@@ -5,8 +5,8 @@ use Rattle.hidreport.specs.InForce.{Force}
 use Rattle.hidreport.specs.Parser.Forces.{force_of}
 use Rattle.hidreport.specs.Parser.Machine.{kept_of}
 use Rattle.hidreport.specs.declared.parser.globals.Globals.{Globals}
-use Rattle.hidreport.specs.declared.parser.keeping.Keeping.{Keeping}
-use Rattle.hidreport.specs.declared.parser.keeping.Keeping.TheVariants as keepings
+use Rattle.hidreport.specs.declared.parser.push_keeps.PushKeeps.{PushKeeps}
+use Rattle.hidreport.specs.declared.parser.push_keeps.PushKeeps.TheVariants as push_keeps
 use Rattle.hidreport.specs.declared.parser.journal.Entry.{Entry}
 use Rattle.hidreport.specs.declared.parser.journal.Entry.TheVariants as entries
 
@@ -27,11 +27,13 @@ abbrev pub noted : Change → List Change → List Change
 noted change [] = []
 noted change (c ∷ cs) = change ∷ c ∷ cs
 
--- what each open Push keeps, innermost first: of what was in force there, from these globals and locals back
-abbrev pub undone : Keeping → List Change → Globals → List LocalItem → List Force
+-- what each open Push keeps, innermost first: of what was in force there, from these globals and
+-- locals back
+abbrev pub undone : PushKeeps → List Change → Globals → List LocalItem → List Force
 undone keeping [] globals locals = []
 undone keeping (Opened count ∷ cs) globals locals =
-    kept_of keeping (force_of globals (take count locals)) ∷ undone keeping cs globals (take count locals)
+    kept_of keeping (force_of globals (take count locals)) ∷ undone keeping cs globals
+    (take count locals)
 undone keeping (WasGlobals old ∷ cs) globals locals = undone keeping cs old locals
 undone keeping (WasLocals old ∷ cs) globals locals = undone keeping cs globals old
 
@@ -43,6 +45,6 @@ IsCounted (WasGlobals old ∷ cs) locals = IsCounted cs locals
 IsCounted (WasLocals old ∷ cs) locals = IsCounted cs old
 
 -- the same, where Pushes keep locals
-abbrev pub Fits : Keeping → List Change → List LocalItem → Type 0
-Fits keepings.All cs locals = IsCounted cs locals
-Fits keepings.Globals cs locals = Unit {0}
+abbrev pub Fits : PushKeeps → List Change → List LocalItem → Type 0
+Fits push_keeps.All cs locals = IsCounted cs locals
+Fits push_keeps.Globals cs locals = Unit {0}

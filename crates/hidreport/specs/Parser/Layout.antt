@@ -1,5 +1,6 @@
 -- The fields of one item as the parser lays them out.
-use Rattle.std.specs.Prelude.{◌≡◌, ℕ, ◌+◌, ◌*◌, ◌^◌, ◌<◌, ◌≤◌, false, [], List, length, Option, None, Some}
+use Rattle.std.specs.Prelude.{◌≡◌, ℕ, ◌+◌, ◌*◌, ◌^◌, ◌<◌, ◌≤◌, false, [], List, length, Option}
+use Rattle.std.specs.Prelude.{None, Some}
 use Rattle.std.specs.Arc.{arc_slice_items}
 use Rattle.std.specs.Global.{Global}
 use Rattle.std.specs.declared.sync.ArcSlice.{ArcSlice}

@@ -1,5 +1,7 @@
 -- The same meaning by one walk forward: what is held between two items, and what an item changes.
-use Rattle.std.specs.Prelude.{ℕ, suc, ◌&&◌, is_some, ◌+◌, ◌-◌, length, take, Bool, if◌then◌else◌, List, [], ◌∷◌, ◌++◌, map, filter, flat_map, sum_by, Option, None, Some, option_to_list, Result, Ok, Err}
+use Rattle.std.specs.Prelude.{ℕ, suc, ◌&&◌, is_some, ◌+◌, ◌-◌, length, take, Bool, if◌then◌else◌}
+use Rattle.std.specs.Prelude.{List, [], ◌∷◌, ◌++◌, map, filter, flat_map, sum_by, Option, None}
+use Rattle.std.specs.Prelude.{Some, option_to_list, Result, Ok, Err}
 use Rattle.hidreport_items.specs.Flags.{Flags}
 use Rattle.hidreport_items.specs.declared.main_item.CollectionItem.{CollectionItem}
 use Rattle.hidreport_items.specs.declared.item.ItemType.{ItemType}
@@ -13,9 +15,13 @@ use Rattle.hidreport.specs.MeaningFault.{MeaningFault}
 use Rattle.hidreport.specs.Places.{id_bits, bits_of}
 use Rattle.hidreport.specs.Records.{CollectionRecord, FieldRecord, ReportRecord, DescriptorRecord}
 use Rattle.hidreport.specs.Usages.{usages_of}
-use Rattle.hidreport.specs.declared.parser.keeping.Keeping.{Keeping}
-use Rattle.hidreport.specs.declared.parser.keeping.Keeping.TheVariants as keepings
-use Rattle.hidreport.specs.Kinds.{Indexed, Direction, Input, Output, Feature, data_of, goes, is_main, is_push, is_pop, is_end_collection, collection_of, local_of, usage_page_of, logical_minimum_of, logical_maximum_of, physical_minimum_of, physical_maximum_of, unit_exponent_of, unit_of, report_size_of, report_id_of, report_count_of}
+use Rattle.hidreport.specs.declared.parser.push_keeps.PushKeeps.{PushKeeps}
+use Rattle.hidreport.specs.declared.parser.push_keeps.PushKeeps.TheVariants as push_keeps
+use Rattle.hidreport.specs.Kinds.{Indexed, Direction, Input, Output, Feature, data_of, goes}
+use Rattle.hidreport.specs.Kinds.{is_main, is_push, is_pop, is_end_collection, collection_of}
+use Rattle.hidreport.specs.Kinds.{local_of, usage_page_of, logical_minimum_of, logical_maximum_of}
+use Rattle.hidreport.specs.Kinds.{physical_minimum_of, physical_maximum_of, unit_exponent_of}
+use Rattle.hidreport.specs.Kinds.{unit_of, report_size_of, report_id_of, report_count_of}
 
 -- a main item ends the locals, a local item is added to them
 abbrev pub next_locals : List LocalItem → ItemType → List LocalItem
@@ -37,7 +43,8 @@ next_force f x = record {
   locals = next_locals f.locals x;
 }
 
--- the report with this id that these items make, each adding bits and fields to the report of its key
+-- the report with this id that these items make, each adding bits and fields to the report of its
+-- key
 abbrev pub report_of : (Indexed → Option ℕ) → (Indexed → ℕ) → (Indexed → List FieldRecord)
     → List Indexed → Option ℕ → ReportRecord
 report_of key bits fields ms id = record {
@@ -70,13 +77,15 @@ index_in id (r ∷ rs) = if same_key r.id id then 0 else suc (index_in id rs)
 abbrev pub added_to : Option ℕ → ℕ → List FieldRecord → List ReportRecord → List ReportRecord
 added_to id bits fields [] = record { id = id; size = id_bits id + bits; fields = fields } ∷ []
 added_to id bits fields (r ∷ rs) =
-    if same_key r.id id then record { id = r.id; size = r.size + bits; fields = r.fields ++ fields } ∷ rs
+    if same_key r.id id then record { id = r.id; size = r.size + bits; fields = r.fields ++ fields }
+    ∷ rs
     else r ∷ added_to id bits fields rs
 
--- what is held between two items: what a Push keeps, what is in force, what the open Pushes keep, outermost first, the
--- reports so far and how many fields they have, the open collections, outermost first, and how many were opened
+-- what is held between two items: what a Push keeps, what is in force, what the open Pushes keep,
+-- outermost first, the reports so far and how many fields they have, the open collections,
+-- outermost first, and how many were opened
 pub record Held : Type 0 where
-  pub keeping : Keeping
+  pub keeping : PushKeeps
   pub force : Force
   pub kept : List Force
   pub descriptor : DescriptorRecord
@@ -126,7 +135,8 @@ adds d h x = goes d (data_of x) && is_some (extent h.force)
 abbrev pub next_reports : Direction → Held → ItemType → List ReportRecord
 next_reports d h x =
     if adds d h x then added_to (key_in d h) (bits_of (extent h.force))
-    (fields_of h.force h.opened h.fields (start_in d h) (data_of x) (extent h.force)) (reports_in d h.descriptor)
+    (fields_of h.force h.opened h.fields (start_in d h) (data_of x) (extent h.force))
+    (reports_in d h.descriptor)
     else reports_in d h.descriptor
 
 -- the collection that an item opens
@@ -150,19 +160,20 @@ last_force f [] = f
 last_force f (g ∷ gs) = last_force g gs
 
 -- what a Push keeps of what is in force
-abbrev pub kept_of : Keeping → Force → Force
-kept_of keepings.All now = now
-kept_of keepings.Globals now = record now { locals = [] }
+abbrev pub kept_of : PushKeeps → Force → Force
+kept_of push_keeps.All now = now
+kept_of push_keeps.Globals now = record now { locals = [] }
 
 -- what a Pop brings back, from what is in force there and what its Push kept
-abbrev pub brought_back : Keeping → Force → Force → Force
-brought_back keepings.All now kept = kept
-brought_back keepings.Globals now kept = record kept { locals = now.locals }
+abbrev pub brought_back : PushKeeps → Force → Force → Force
+brought_back push_keeps.All now kept = kept
+brought_back push_keeps.Globals now kept = record kept { locals = now.locals }
 
 -- what is in force behind the item
 abbrev pub held_force : Held → ItemType → Force
 held_force h x =
-    if is_pop x then brought_back h.keeping h.force (last_force h.force h.kept) else next_force h.force x
+    if is_pop x then brought_back h.keeping h.force (last_force h.force h.kept) else next_force
+    h.force x
 
 -- what the open Pushes keep behind the item
 abbrev pub next_kept : Held → ItemType → List Force
@@ -215,7 +226,7 @@ nothing_in_force = record {
 }
 
 -- nor is anything kept, made or open
-abbrev pub nothing_held : Keeping → Held
+abbrev pub nothing_held : PushKeeps → Held
 nothing_held keeping = record {
   keeping = keeping;
   force = nothing_in_force;
@@ -226,7 +237,8 @@ nothing_held keeping = record {
   collections = 0;
 }
 
-abbrev pub go_on : Result Held MeaningFault → ℕ → (Held → Result DescriptorRecord (ℕ × MeaningFault))
+abbrev pub go_on : Result Held MeaningFault → ℕ
+    → (Held → Result DescriptorRecord (ℕ × MeaningFault))
     → Result DescriptorRecord (ℕ × MeaningFault)
 go_on (Ok h) k rest = rest h
 go_on (Err f) k rest = Err (k, f)

@@ -2,7 +2,9 @@
 use Rattle.std.specs.Prelude.{◌≡◌, Option, None, Some, Result, Ok, Err, IfSome}
 use Rattle.hidreport_lists.specs.Answer.{Refusal, Refuses}
 use Rattle.hidreport_lists.specs.declared.error.ParserError.{ParserError}
-use Rattle.hidreport.specs.MeaningFault.{MeaningFault, TooManyPops, TooManyEnds, MissingUsageMaximum, MissingUsagePage, MissingUsages, PastBounds, PastBudget}
+use Rattle.hidreport.specs.MeaningFault.{MeaningFault, TooManyPops, TooManyEnds}
+use Rattle.hidreport.specs.MeaningFault.{MissingUsageMaximum, MissingUsagePage, MissingUsages}
+use Rattle.hidreport.specs.MeaningFault.{PastBounds, PastBudget}
 use Rattle.hidreport.specs.declared.parser.fault.Fault.{Fault}
 use Rattle.hidreport.specs.declared.parser.fault.Fault.TheVariants as faults
 

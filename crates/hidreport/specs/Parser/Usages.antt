@@ -1,5 +1,6 @@
 -- The parser's usages of an item.
-use Rattle.std.specs.Prelude.{◌≡◌, ◌<◌, ℕ, ◌+◌, ◌-◌, true, false, if◌then◌else◌, length, List, [], ◌∷◌, Option, None, Some, Result, Ok, Err}
+use Rattle.std.specs.Prelude.{◌≡◌, ◌<◌, ℕ, ◌+◌, ◌-◌, true, false, if◌then◌else◌, length, List, []}
+use Rattle.std.specs.Prelude.{◌∷◌, Option, None, Some, Result, Ok, Err}
 use Rattle.hidreport_items.specs.Flags.{Flags}
 use Rattle.hidreport_items.specs.declared.local.LocalItem.{LocalItem}
 use Rattle.hidreport_items.specs.declared.local.LocalItem.TheVariants as local
@@ -39,4 +40,5 @@ usages_fault flags f = if flags.constant then None else needed_usages_fault (usa
 -- the usages of a data item that needs some
 abbrev pub HasUsages : Flags → Force → Usages → Type 0
 HasUsages flags f us =
-    flags.constant ≡ false → (usages_of f ≡ Ok (usage_list us)) × (0 < length (usage_list us).usages)
+    flags.constant ≡ false
+    → (usages_of f ≡ Ok (usage_list us)) × (0 < length (usage_list us).usages)

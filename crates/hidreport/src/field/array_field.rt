@@ -104,9 +104,9 @@ impl ArrayField {
         self.is_usage_range
     }
 
-    /// The usage that a value of the field stands for (Section 6.2.2.5): the one whose index, counted
-    /// from 0, is the value less the logical minimum. `None` where the value lies outside the logical
-    /// bounds, as it does where no usage is meant, and where no usage has the index.
+    /// The usage that a value of the field stands for (Section 6.2.2.5): the one whose index,
+    /// counted from 0, is the value less the logical minimum. `None` where the value lies outside
+    /// the logical bounds, as it does where no usage is meant, and where no usage has the index.
     pub fn usage_of(&self, value: FieldValue) -> Option<Usage>
         ensures { result ≡ usage_chosen (usages_in (array_record self.now))
             self.now.logical_minimum self.now.logical_maximum (value_number value) }

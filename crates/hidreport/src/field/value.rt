@@ -32,9 +32,10 @@ impl Model for FieldValue {
 }
 
 impl FieldValue {
-    /// The value of a range of bits in these bytes, counted from the lowest bit of the first byte on
-    /// (Section 5.8): what `extract` reads where no report id is in the way. `None` where the range
-    /// is empty or reversed, has more than 32 bits, or ends behind the bytes. It takes no memory.
+    /// The value of a range of bits in these bytes, counted from the lowest bit of the first byte
+    /// on (Section 5.8): what `extract` reads where no report id is in the way. `None` where the
+    /// range is empty or reversed, has more than 32 bits, or ends behind the bytes. It takes no
+    /// memory.
     pub fn from_bits(bytes: &[u8], bits: &Range<usize>, is_signed: bool) -> Option<FieldValue>
         ensures value { IfSome result (λ value.
             read_bits bits.now.start bits.now.end is_signed bytes.now ≡ Ok value) }

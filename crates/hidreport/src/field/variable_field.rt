@@ -69,7 +69,8 @@ impl VariableField {
     /// `MismatchingReportId`. Then an empty or reversed range of bits, one of more than 32 bits
     /// and one that ends behind the bytes are `OutOfBounds`. It takes no memory.
     ///
-    /// Where two reports have values, these are equal just where all bits of the range are (`fixed`).
+    /// Where two reports have values, these are equal just where all bits of the range are
+    /// (`fixed`).
     pub fn extract(&self, bytes: &[u8]) -> Result<FieldValue, ParserError>
         ensures answer { AnswersBy (λ value. value ∷ []) result
             (reads (variable_record self.now) bytes.now) }

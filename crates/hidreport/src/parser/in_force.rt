@@ -1,6 +1,6 @@
 use crate::parser::globals::Globals;
 use crate::parser::journal::{Entry, Journal};
-use crate::parser::keeping::Keeping;
+use crate::parser::push_keeps::PushKeeps;
 use hidreport_items::{GlobalItem, LocalItem};
 use std::alloc::{AllocError, Global};
 use std::marker::Model;
@@ -10,7 +10,7 @@ use std::marker::Model;
 /// replaced inside open Pushes.
 #[derive(Drop)]
 pub(crate) struct InForce {
-    keeping: Keeping,
+    keeping: PushKeeps,
     globals: Globals,
     locals: Vec<LocalItem>,
     journal: Journal,
@@ -39,7 +39,7 @@ impl InForce {
     ghost use Rattle.hidreport.specs.Parser.Machine.{brought_back, kept_of, last_force, next_force, nothing_in_force};
 
     /// Before the first item.
-    pub(crate) fn new(alloc: Global, keeping: Keeping) -> InForce
+    pub(crate) fn new(alloc: Global, keeping: PushKeeps) -> InForce
         ensures { result ≡ record { keeping = keeping; now = nothing_in_force; kept = [] } }
     {
         InForce {

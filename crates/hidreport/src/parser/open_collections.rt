@@ -111,8 +111,8 @@ impl OpenCollections {
         true
     }
 
-    /// The list of them for the fields of an item, until `keep` takes it back; padding lies in none,
-    /// so none is made for it.
+    /// The list of them for the fields of an item, until `keep` takes it back; padding lies in
+    /// none, so none is made for it.
     #[inline(always)]
     pub(crate) fn shared_by(
         &mut self,

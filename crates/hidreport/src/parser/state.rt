@@ -2,8 +2,8 @@ use crate::field::data_item::DataItem;
 use crate::parser::budget::Budget;
 use crate::parser::fault::Fault;
 use crate::parser::in_force::InForce;
-use crate::parser::keeping::Keeping;
 use crate::parser::open_collections::OpenCollections;
+use crate::parser::push_keeps::PushKeeps;
 use crate::parser::report_lists::ReportLists;
 use crate::parser::usages::usages_of;
 use crate::report::reports::Reports;
@@ -47,7 +47,7 @@ impl State {
     ghost use Rattle.hidreport.specs.Parser.DataItem.{collection, end_collection};
 
     /// Before the first item.
-    pub(crate) fn new(alloc: Global, keeping: Keeping) -> State
+    pub(crate) fn new(alloc: Global, keeping: PushKeeps) -> State
         ensures { result ≡ nothing_held keeping }
     {
         State {

@@ -4,9 +4,10 @@ ghost use Rattle.hidreport_items.specs.Spelling.{item_of};
 ghost use Rattle.hidreport_lists.specs.Itemising.{as_refusal, itemise};
 ghost use Rattle.hidreport_lists.specs.Rebuilt.{rebuilding};
 ghost use Rattle.hidreport.specs.Lookup.{find_report};
+ghost use Rattle.hidreport.specs.Options.{parse_as};
 ghost use Rattle.hidreport_program.specs.Lines.{refusal_line};
 ghost use Rattle.hidreport_program.specs.Output.{output, found_output, items_output};
-ghost use Rattle.hidreport_program.specs.Output.{rebuild_output, refusal_of};
+ghost use Rattle.hidreport_program.specs.Output.{rebuild_output, refusal_of, values_output};
 
 use super::commands::Command;
 use super::ending::Outcome;
@@ -14,7 +15,7 @@ use super::fields::add_report;
 use super::items::add_items;
 use super::numbers::add_bytes;
 use hidreport::hid::{ReportDescriptorItems, rebuild};
-use hidreport::{ParserError, ReportDescriptor};
+use hidreport::{ParseOptions, ParserError, PushKeeps, ReportDescriptor};
 use std::alloc::{AllocError, Global};
 
 /// A whole text, and whether it is the command's or a refusal.
@@ -44,9 +45,17 @@ pub fn text_of(
 {
     match command {
         Command::Items => items(alloc, descriptor),
-        Command::Values => values(alloc, descriptor, report),
-        Command::ValuesWithin(limit) => values_within(alloc, limit, descriptor, report),
-        Command::ValuesGlobals => values_globals(alloc, descriptor, report),
+        Command::Values => values(alloc, ParseOptions::default(), descriptor, report),
+        Command::ValuesWithin(limit) => {
+            let limit = Some(limit);
+            let push_keeps = PushKeeps::All;
+            values(alloc, ParseOptions { push_keeps, limit }, descriptor, report)
+        }
+        Command::ValuesGlobals => {
+            let limit = None;
+            let push_keeps = PushKeeps::Globals;
+            values(alloc, ParseOptions { push_keeps, limit }, descriptor, report)
+        }
         Command::Rebuild => rebuilt(alloc, descriptor),
     }
 }
@@ -89,48 +98,19 @@ fn rebuilt(alloc: Global, descriptor: &[u8]) -> Result<Written, AllocError>
     }
 }
 
-/// What `values` writes of a descriptor's and a report's bytes.
-#[tactic(auto, unfolding(crate::specs::Output::output))]
-fn values(alloc: Global, descriptor: &[u8], report: &[u8]) -> Result<Written, AllocError>
-    ensures text { IfOk result (λ w.
-        string_bytes w.text ≡ (output Command.Values descriptor.now report.now).text) }
-    ensures outcome { IfOk result (λ w.
-        w.outcome ≡ (output Command.Values descriptor.now report.now).outcome) }
-{
-    match ReportDescriptor::try_from(alloc, descriptor) {
-        Ok(descriptor) => found(alloc, &descriptor, report),
-        Err(error) => refused(alloc, &error),
-    }
-}
-
-/// What `values-within` writes of a descriptor's and a report's bytes.
-#[tactic(auto, unfolding(crate::specs::Output::output))]
-fn values_within(
+/// What `values` and its siblings write of a descriptor's and a report's bytes.
+fn values(
     alloc: Global,
-    limit: usize,
+    options: ParseOptions,
     descriptor: &[u8],
     report: &[u8],
 ) -> Result<Written, AllocError>
     ensures text { IfOk result (λ w. string_bytes w.text
-        ≡ (output (Command.ValuesWithin limit) descriptor.now report.now).text) }
+        ≡ (values_output (parse_as options descriptor.now) report.now).text) }
     ensures outcome { IfOk result (λ w. w.outcome
-        ≡ (output (Command.ValuesWithin limit) descriptor.now report.now).outcome) }
+        ≡ (values_output (parse_as options descriptor.now) report.now).outcome) }
 {
-    match ReportDescriptor::try_from_within(alloc, descriptor, limit) {
-        Ok(announced) => found(alloc, &announced, report),
-        Err(error) => refused(alloc, &error),
-    }
-}
-
-/// What `values-globals` writes of a descriptor's and a report's bytes.
-#[tactic(auto, unfolding(crate::specs::Output::output))]
-fn values_globals(alloc: Global, descriptor: &[u8], report: &[u8]) -> Result<Written, AllocError>
-    ensures text { IfOk result (λ w. string_bytes w.text
-        ≡ (output Command.ValuesGlobals descriptor.now report.now).text) }
-    ensures outcome { IfOk result (λ w. w.outcome
-        ≡ (output Command.ValuesGlobals descriptor.now report.now).outcome) }
-{
-    match ReportDescriptor::try_from_globals_only(alloc, descriptor) {
+    match ReportDescriptor::try_from_with(alloc, descriptor, options) {
         Ok(announced) => found(alloc, &announced, report),
         Err(error) => refused(alloc, &error),
     }

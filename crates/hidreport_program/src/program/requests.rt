@@ -15,8 +15,8 @@ pub struct Request<'a> {
     pub report: Option<&'a str>,
 }
 
-/// What `words` ask for, the words after the program's name: the command, and the words behind it, and
-/// behind a limit, as the files' names.
+/// What `words` ask for, the words after the program's name: the command, and the words behind it,
+/// and behind a limit, as the files' names.
 ///
 /// Every word is a name as it stands; `-` is one too.
 pub fn request_of(words: &[String]) -> Option<Request<'_>>

@@ -6,7 +6,8 @@ use hidreport::{
 };
 use std::alloc::Global;
 
-/// What a descriptor is answered with: its reports have so many fields, or the place and the message of its refusal.
+/// What a descriptor is answered with: its reports have so many fields, or the place and the
+/// message of its refusal.
 #[derive(Clone, Copy)]
 pub(crate) enum Wanted {
     Fields(usize),
@@ -111,7 +112,8 @@ pub(crate) fn descriptor_is_answered(alloc: Global, bytes: &[u8], wanted: Wanted
     is_answer(ReportDescriptor::try_from(alloc, bytes), wanted)
 }
 
-/// A descriptor whose Push keeps globals alone: a usage set inside, and a main item inside that ends it.
+/// A descriptor whose Push keeps globals alone: a usage set inside, and a main item inside that
+/// ends it.
 pub(crate) static OF_GLOBALS: [(&[u8], Wanted); 2] = [
     (
         b"\x05\x01\x75\x08\x95\x01\xa4\x09\x30\xb4\x81\x02",

@@ -7,5 +7,6 @@ use Rattle.hidreport.proofs.parser.reports_of.Given as goal
 -- the walk over the rest from what is held, with what is left, is the walk over all items
 abbrev pub invariant-loop-entry : goal.invariant-loop-entry
 invariant-loop-entry l =
-    walk_within l.budget l.state l.entry-index (drop l.entry-index (map (λ (e : Entry). e.item) l.items))
+    walk_within l.budget l.state l.entry-index
+    (drop l.entry-index (map (λ (e : Entry). e.item) l.items))
     ≡ walk_within l.fn.limit (nothing_held l.fn.keeping) 0 (map (λ (e : Entry). e.item) l.items)

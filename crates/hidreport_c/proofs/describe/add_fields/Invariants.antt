@@ -5,4 +5,5 @@ use Rattle.hidreport_c.proofs.describe.add_fields.Given as goal
 
 -- the fields that were there, and those so far
 abbrev pub invariant-loop-field : goal.invariant-loop-field
-invariant-loop-field l = l.fields.items ≡ l.initial.fields.items ++ map as_c (map field_record (take l.field-index l.added))
+invariant-loop-field l = l.fields.items ≡ l.initial.fields.items ++ map as_c
+    (map field_record (take l.field-index l.added))

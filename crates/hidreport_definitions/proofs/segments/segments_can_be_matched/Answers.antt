@@ -16,7 +16,8 @@ size = item.Global (global.ReportSize 16)
 abbrev usage : ItemType
 usage = item.Local (local.UsageId 9)
 
-plain : (m : ℕ) → count_by is_pop (take m (size ∷ usage ∷ [])) ≤ count_by is_push (take m (size ∷ usage ∷ []))
+plain : (m : ℕ)
+    → count_by is_pop (take m (size ∷ usage ∷ [])) ≤ count_by is_push (take m (size ∷ usage ∷ []))
 plain zero = omega arith
 plain (suc zero) = omega arith
 plain (suc (suc zero)) = omega arith

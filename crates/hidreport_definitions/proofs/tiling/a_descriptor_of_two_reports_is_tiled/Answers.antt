@@ -1,9 +1,10 @@
-use Rattle.std.proofs.Common.{◌≤◌, ℕ, inl, inr, refl, arith, count_by, Option, None, Some}
+use Rattle.std.proofs.Common.{◌≤◌, ℕ, inl, inr, refl, arith, count_by, Option, None, Some, [], ◌∷◌}
 use Rattle.std.specs.Prelude.{◌==◌}
 use Rattle.std.proofs.lemmas.Bool.Decides.{nat_tests}
 use Rattle.std.proofs.lemmas.Grind.{common_steps}
 use Rattle.hidreport.specs.Making.{same_key}
 use Rattle.hidreport.specs.Tiling.{fields_in_all, place_of, reports_in_all}
+use Rattle.hidreport.proofs.OwnCollections.{own-collections}
 use Rattle.hidreport_definitions.specs.Tiled.{in_keyboard, two_reports}
 use Rattle.hidreport_definitions.proofs.tiling.a_descriptor_of_two_reports_is_tiled.Goals as goal
 
@@ -11,7 +12,8 @@ once : (id : Option ℕ) → count_by (λ r. same_key r.id id) two_reports.input
 once None = omega arith
 once (Some id) = grind (arith, nat_tests, common_steps)
 
-numbers : (n : ℕ) → count_by (λ f. (place_of f).id == n) (fields_in_all (reports_in_all two_reports)) ≤ 1
+numbers : (n : ℕ)
+    → count_by (λ f. (place_of f).id == n) (fields_in_all (reports_in_all two_reports)) ≤ 1
 numbers n = grind (arith, nat_tests, common_steps)
 
 pub returns-clause-tiled : goal.returns-clause-tiled
@@ -39,5 +41,6 @@ returns-clause-tiled c = record {
   output_ids = record { once = λ id. omega arith; first = tt };
   feature_ids = record { once = λ id. omega arith; first = tt };
   numbers = numbers;
-  collections = (in_keyboard.collections, ((refl, tt), (tt, ((refl, tt), tt))));
+  collections = own-collections (in_keyboard.collections ∷ [])
+      (fields_in_all (reports_in_all two_reports)) ((refl, tt), (tt, ((refl, tt), tt)));
 }

@@ -4,7 +4,8 @@ use Rattle.hidreport_transfer.proofs.transfer.read_to_end.Given as goal
 
 -- what was read so far is what the source has lost
 abbrev pub invariant-loop-count : goal.invariant-loop-count
-invariant-loop-count g l = Consumes (g.S.Source.left l.initial.source) (g.S.Source.left l.source) l.bytes.items
+invariant-loop-count g l = Consumes (g.S.Source.left l.initial.source) (g.S.Source.left l.source)
+    l.bytes.items
 
 abbrev pub decreases-loop-count : goal.decreases-loop-count
 decreases-loop-count g l = 2 ^ 63 - length l.bytes.items

@@ -8,7 +8,8 @@ abbrev pub invariant-loop-rest : goal.invariant-loop-rest
 invariant-loop-rest g l = record {
   within : length l.rest ≤ length l.text;
   left : l.rest ≡ drop (length l.text - length l.rest) l.text;
-  written : Appends (g.K.Sink.taken l.initial.sink) (g.K.Sink.taken l.sink) (take (length l.text - length l.rest) l.text);
+  written : Appends (g.K.Sink.taken l.initial.sink) (g.K.Sink.taken l.sink)
+      (take (length l.text - length l.rest) l.text);
   untouched : length l.text ≡ 0 → l.sink ≡ l.initial.sink;
   sound : length l.rest < length l.text → g.K.Sink.has_failed l.sink ≡ false;
 }

@@ -6,5 +6,8 @@ use Rattle.hidreport.proofs.descriptor.ReportDescriptor.find_output_report.Goals
 
 pub returns-clause-own : goal.returns-clause-own
 returns-clause-own c = λ tiled.
-    let is = c.find_report.ensures ∙ ap (λ (rs : List ReportRecord). find_report rs c.args.bytes.now) c.output_reports.ensures in
-    subst (λ (o : Option ReportRecord). IfSome o (AllOwn c.args.bytes.now)) (sym is) (output-own c.args.self.now c.args.bytes.now tiled)
+    let is = c.find_report.ensures
+    ∙ ap (λ (rs : List ReportRecord). find_report rs c.args.bytes.now)
+    c.output_reports.ensures in
+    subst (λ (o : Option ReportRecord). IfSome o (AllOwn c.args.bytes.now)) (sym is)
+    (output-own c.args.self.now c.args.bytes.now tiled)

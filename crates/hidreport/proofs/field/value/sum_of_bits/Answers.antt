@@ -12,4 +12,5 @@ returns-clause-value c =
     let are : AreBytes bytes = are_bytes bytes (λ i. omega (arith, c.type_inv.bytes i)) in
     masked (c.word.result / 2 ^ (first % 8)) width c.requires.narrow
     ∙ ap (λ n. n / 2 ^ (first % 8) % 2 ^ width) c.word.ensures
-    ∙ touched-bits bytes are first width c.div_ceil.result (omega (arith, c.div_ceil.ensures)) (omega (arith, c.div_ceil.ensures, c.requires.within)) (omega (arith, c.div_ceil.ensures))
+    ∙ touched-bits bytes are first width c.div_ceil.result (omega (arith, c.div_ceil.ensures))
+    (omega (arith, c.div_ceil.ensures, c.requires.within)) (omega (arith, c.div_ceil.ensures))

@@ -1,4 +1,5 @@
-use Rattle.std.proofs.Common.{◌≤◌, ◌+◌, ◌++◌, ◌∙◌, ℕ, List, [], ◌∷◌, map, set, length, ap, sym, arith}
+use Rattle.std.proofs.Common.{◌≤◌, ◌+◌, ◌++◌, ◌∙◌, ℕ, List, [], ◌∷◌, map, set, length, ap, sym}
+use Rattle.std.proofs.Common.{arith}
 use Rattle.hidreport.specs.Parser.Layout.{laid_out}
 use Rattle.hidreport.specs.Parser.Machine.{index_in}
 use Rattle.hidreport.specs.Parser.Usages.{usage_list}
@@ -12,7 +13,9 @@ use Rattle.hidreport.proofs.parser.slot.add_fields.Goals as goal
 pub overflow_add-report : goal.overflow_add-report
 overflow_add-report c =
     let items = c.args.reports.now.items in
-    let found = added_to-found c.args.slot.key c.args.bits [] items c.args.slot.index c.index_mut-report.result.now c.requires.slot (omega (arith, c.if-slot-len.true, c.len.ensures)) c.index_mut-report.ensures.value in
+    let found = added_to-found c.args.slot.key c.args.bits [] items c.args.slot.index
+    c.index_mut-report.result.now c.requires.slot
+    (omega (arith, c.if-slot-len.true, c.len.ensures)) c.index_mut-report.ensures.value in
     let size = ap (λ (r : ReportRecord). r.size) c.report.view_is in
     omega (arith, found.1, size, c.requires.bits)
 
@@ -20,15 +23,21 @@ pub returns-then-slot-len : goal.returns-then-slot-len
 returns-then-slot-len c =
     let items = c.args.reports.now.items in
     let fields : List FieldRecord = laid_out c.args.layout.now (usage_list c.args.usages.now) in
-    let found = added_to-found c.args.slot.key c.args.bits fields items c.args.slot.index c.index_mut-report.result.now c.requires.slot (omega (arith, c.if-slot-len.true, c.len.ensures)) c.index_mut-report.ensures.value in
-    ap (λ (l : List FieldRecord). set items c.args.slot.index (record { id = c.report.inside.id; size = c.report.inside.size + c.args.bits; fields = l })) c.in_ok-add_fields.ensures
-    ∙ ap (λ (r : ReportRecord). set items c.args.slot.index (extended r c.args.bits fields)) c.report.view_is
+    let found = added_to-found c.args.slot.key c.args.bits fields items c.args.slot.index
+    c.index_mut-report.result.now c.requires.slot
+    (omega (arith, c.if-slot-len.true, c.len.ensures)) c.index_mut-report.ensures.value in
+    ap (λ (l : List FieldRecord). set items c.args.slot.index
+    (record { id = c.report.inside.id; size = c.report.inside.size + c.args.bits; fields = l }))
+    c.in_ok-add_fields.ensures
+    ∙ ap (λ (r : ReportRecord). set items c.args.slot.index (extended r c.args.bits fields))
+    c.report.view_is
     ∙ sym found.0
 
 pub overflow_add-size : goal.overflow_add-size
 overflow_add-size c =
     let items = c.args.reports.now.items in
-    let none : length items ≤ index_in c.args.slot.key items = omega (arith, c.if-slot-len.false, c.len.ensures, c.requires.slot) in
+    let none : length items ≤ index_in c.args.slot.key items =
+    omega (arith, c.if-slot-len.false, c.len.ensures, c.requires.slot) in
     let new = added_to-new c.args.slot.key c.args.bits [] items none in
     omega (arith, new.1, c.id_bits.ensures, c.requires.bits)
 
@@ -36,10 +45,18 @@ pub returns : goal.returns
 returns c =
     let items = c.args.reports.now.items in
     let fields : List FieldRecord = laid_out c.args.layout.now (usage_list c.args.usages.now) in
-    let none : length items ≤ index_in c.args.slot.key items = omega (arith, c.if-slot-len.false, c.len.ensures, c.requires.slot) in
+    let none : length items ≤ index_in c.args.slot.key items =
+    omega (arith, c.if-slot-len.false, c.len.ensures, c.requires.slot) in
     let new = added_to-new c.args.slot.key c.args.bits fields items none in
     c.in_ok-push.ensures.items
-    ∙ ap (λ (n : ℕ). items ++ record { id = c.args.slot.key; size = n + c.args.bits; fields = map field_record c.add_fields-2.new.fields.items } ∷ []) c.id_bits.ensures
-    ∙ ap (λ (l : List FieldRecord). items ++ record { id = c.args.slot.key; size = id_bits c.args.slot.key + c.args.bits; fields = l } ∷ [])
-    (c.in_ok-add_fields-2.ensures ∙ ap (λ (fs : List Field). map field_record fs ++ fields) c.in_ok-fields.ensures.items)
+    ∙ ap (λ (n : ℕ). items ++ record {
+      id = c.args.slot.key;
+      size = n + c.args.bits;
+      fields =
+          map field_record c.add_fields-2.new.fields.items;
+    } ∷ []) c.id_bits.ensures
+    ∙ ap (λ (l : List FieldRecord). items ++ record
+    { id = c.args.slot.key; size = id_bits c.args.slot.key + c.args.bits; fields = l } ∷ [])
+    (c.in_ok-add_fields-2.ensures
+    ∙ ap (λ (fs : List Field). map field_record fs ++ fields) c.in_ok-fields.ensures.items)
     ∙ sym new.0

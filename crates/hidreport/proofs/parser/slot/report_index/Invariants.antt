@@ -4,4 +4,5 @@ use Rattle.hidreport.proofs.parser.slot.report_index.Given as goal
 
 -- no report so far has the id
 abbrev pub invariant-loop-index : goal.invariant-loop-index
-invariant-loop-index l = l.index + index_in l.key (drop l.index l.reports) ≡ index_in l.key l.reports
+invariant-loop-index l = l.index + index_in l.key (drop l.index l.reports) ≡ index_in l.key
+    l.reports

@@ -5,4 +5,5 @@ use Rattle.hidreport.proofs.parser.usages.last_maximum.Given as goal
 
 -- the last of the rest, or else the last so far
 abbrev pub invariant-loop-local : goal.invariant-loop-local
-invariant-loop-local l = first_of (last_local maximum_of (drop l.local-index l.locals)) l.last ≡ last_local maximum_of l.locals
+invariant-loop-local l = first_of (last_local maximum_of (drop l.local-index l.locals)) l.last
+    ≡ last_local maximum_of l.locals

@@ -8,7 +8,8 @@ use Rattle.hidreport_lists.proofs.list.ReportDescriptorItems.try_from.Given as g
 abbrev pub invariant-loop-rest : goal.invariant-loop-rest
 invariant-loop-rest l = record {
   place : l.offset + length l.rest ≡ length l.bytes;
-  items : with_front l.items.items (items_from item_of l.offset 0 l.rest) ≡ items_from item_of 0 0 l.bytes;
+  items : with_front l.items.items (items_from item_of l.offset 0 l.rest) ≡ items_from item_of 0 0
+      l.bytes;
 }
 
 abbrev pub decreases-loop-rest : goal.decreases-loop-rest

@@ -10,5 +10,8 @@ pub returns-in_err-item : goal.returns-in_err-item
 returns-in_err-item c =
     let p = err_from_is_err_and c.from_residual.result c.from_residual.ensures.1 in
     let fault = told_fault c.in_err-item.field-0.0 in
-    rw (p.1, p.2) (subst (λ (l : List ℕ). Err fault ≡ short_item item_of l) (sym c.in-Some.ensures.cases.0)
-    (short_item-err c.in-Some.header.now c.in-Some.after.now c.announced-announced.result fault (sym c.is_long_header.ensures ∙ c.if-is_long_header.false) c.announced-announced.ensures.value c.if-after-announced.false c.in_err-item.ensures))
+    rw (p.1, p.2) (subst (λ (l : List ℕ). Err fault ≡ short_item item_of l)
+    (sym c.in-Some.ensures.cases.0)
+    (short_item-err c.in-Some.header.now c.in-Some.after.now c.announced-announced.result fault
+    (sym c.is_long_header.ensures ∙ c.if-is_long_header.false)
+    c.announced-announced.ensures.value c.if-after-announced.false c.in_err-item.ensures))

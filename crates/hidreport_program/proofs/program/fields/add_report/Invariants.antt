@@ -7,4 +7,5 @@ use Rattle.hidreport_program.proofs.program.fields.add_report.Given as goal
 -- the lines of the fields so far stand behind the heading
 abbrev pub invariant-loop-field : goal.invariant-loop-field
 invariant-loop-field l =
-    string_bytes l.text ≡ string_bytes l.initial.text ++ flat_map (line_of_field l.bytes) (map field_record (take l.field-index l.field-items))
+    string_bytes l.text ≡ string_bytes l.initial.text ++ flat_map (line_of_field l.bytes)
+    (map field_record (take l.field-index l.field-items))

@@ -4,4 +4,5 @@ use Rattle.hidreport_program.proofs.program.items.add_items.Given as goal
 
 -- the text so far has the lines so far
 abbrev pub invariant-loop-entry : goal.invariant-loop-entry
-invariant-loop-entry l = string_bytes l.text ≡ string_bytes l.initial.text ++ items_text (take l.entry-index l.items)
+invariant-loop-entry l = string_bytes l.text ≡ string_bytes l.initial.text ++ items_text
+    (take l.entry-index l.items)

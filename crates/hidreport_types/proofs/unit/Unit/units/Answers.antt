@@ -7,7 +7,8 @@ use Rattle.hidreport_types.proofs.unit.Unit.units.Goals as goal
 
 pub returns-then-is_empty-clause-law : goal.returns-then-is_empty-clause-law
 returns-then-is_empty-clause-law c =
-    let none : None ≡ if_any (units_of c.args.self.now) = grind (arith, common_steps, c.in_ok-units.ensures) in
+    let none : None ≡ if_any (units_of c.args.self.now) =
+    grind (arith, common_steps, c.in_ok-units.ensures) in
     make-up-none c.args.self.now none
 
 pub returns-clause-law : goal.returns-clause-law

@@ -17,8 +17,17 @@ returns-clause-styled g c = λ flush ok.
     (has_written_styled_append took _ _ _ _ _ time
     (has_written_styled_append took _ _ _ _ _ temperature
     (has_written_styled_append took _ _ _ _ _ current luminosity)))) in
-    let text : units_text c.length.result ++ (units_text c.mass.result ++ (units_text c.time.result ++
-    (units_text c.temperature.result ++ (units_text c.current.result ++ units_text c.luminosity.result))))
+    let text : units_text c.length.result
+    ++ (units_text c.mass.result ++ (units_text c.time.result ++
+    (units_text c.temperature.result
+    ++ (units_text c.current.result ++ units_text c.luminosity.result))))
     ≡ unit_text c.args.self.now =
-    rw (c.length.ensures, c.mass.ensures, c.time.ensures, c.temperature.ensures, c.current.ensures, c.luminosity.ensures) refl in
+    rw (
+      c.length.ensures,
+      c.mass.ensures,
+      c.time.ensures,
+      c.temperature.ensures,
+      c.current.ensures,
+      c.luminosity.ensures,
+    ) refl in
     has_written_styled_of_eq took _ _ _ _ text all

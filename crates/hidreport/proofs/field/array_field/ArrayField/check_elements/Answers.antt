@@ -7,11 +7,13 @@ returns-in-None-clause-refused c =
     let f = c.args.self.now in
     let is_signed = int_lt f.logical_minimum (pos 0) in
     let within : c.from-count.result - 1 < f.report_count = omega arith in
-    elements_from-outside f.bits.start f.bits.end f.report_count is_signed c.args.bytes.now f.report_count (c.from-count.result - 1) within (c.element.ensures.outside (search rules))
+    elements_from-outside f.bits.start f.bits.end f.report_count is_signed c.args.bytes.now
+    f.report_count (c.from-count.result - 1) within (c.element.ensures.outside (search rules))
 
 pub returns-in-Some-clause-readable : goal.returns-in-Some-clause-readable
 returns-in-Some-clause-readable c =
     let f = c.args.self.now in
     let is_signed = int_lt f.logical_minimum (pos 0) in
     let last : f.report_count ≡ c.from-count.result - 1 + 1 = omega arith in
-    elements_from-last f.bits.start f.bits.end f.report_count is_signed c.args.bytes.now f.report_count (c.from-count.result - 1) c.in-Some.field-0 last (search rules)
+    elements_from-last f.bits.start f.bits.end f.report_count is_signed c.args.bytes.now
+    f.report_count (c.from-count.result - 1) c.in-Some.field-0 last (search rules)

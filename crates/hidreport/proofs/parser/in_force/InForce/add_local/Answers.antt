@@ -11,11 +11,24 @@ use Rattle.hidreport.proofs.parser.in_force.InForce.add_local.Goals as goal
 pub invariant_of-self-2 : goal.invariant_of-self-2
 invariant_of-self-2 c =
     let s = c.self.inside in
-    subst (λ (ls : List LocalItem). Fits s.keeping s.journal ls) (sym c.in_ok-push.ensures.items) (fits-added s.keeping s.journal s.locals.items (c.args.item ∷ []) c.self.invariant)
+    subst (λ (ls : List LocalItem). Fits s.keeping s.journal ls) (sym c.in_ok-push.ensures.items)
+    (fits-added s.keeping s.journal s.locals.items (c.args.item ∷ []) c.self.invariant)
 
 pub returns : goal.returns
 returns c =
     let s = c.self.inside in
-    ap (λ (ls : List LocalItem). record { keeping = s.keeping; now = force_of s.globals ls; kept = reverse (undone s.keeping s.journal s.globals ls) }) c.in_ok-push.ensures.items
-    ∙ ap (λ (l : List Force). record { keeping = s.keeping; now = force_of s.globals (s.locals.items ++ c.args.item ∷ []); kept = reverse l }) (undone-added s.keeping s.journal s.globals s.locals.items (c.args.item ∷ []) c.self.invariant)
-    ∙ ap (λ (f : Forces). record f { now = next_force f.now (items.Local c.args.item) }) c.self.view_is
+    ap (λ (ls : List LocalItem). record {
+      keeping = s.keeping;
+      now = force_of s.globals ls;
+      kept =
+          reverse (undone s.keeping s.journal s.globals ls);
+    }) c.in_ok-push.ensures.items
+    ∙ ap (λ (l : List Force). record {
+      keeping = s.keeping;
+      now = force_of s.globals (s.locals.items ++ c.args.item ∷ []);
+      kept =
+          reverse l;
+    }) (undone-added s.keeping s.journal s.globals s.locals.items (c.args.item ∷ [])
+    c.self.invariant)
+    ∙ ap (λ (f : Forces). record f { now = next_force f.now (items.Local c.args.item) })
+    c.self.view_is

@@ -3,18 +3,22 @@ use Rattle.hidreport_items.specs.declared.local.LocalItem.{LocalItem}
 use Rattle.hidreport.specs.Parser.Forces.{force_of}
 use Rattle.hidreport.specs.Parser.Journal.{Opened, WasLocals, change_of, undone}
 use Rattle.hidreport.specs.declared.parser.journal.Entry.{Entry}
-use Rattle.hidreport.specs.declared.parser.keeping.Keeping.{Keeping}
-use Rattle.hidreport.specs.declared.parser.keeping.Keeping.TheVariants as keepings
-use Rattle.hidreport.proofs.JournalLemmas.{back-all, back-globals, forces, passed-over, popped, same-bare}
+use Rattle.hidreport.specs.declared.parser.push_keeps.PushKeeps.{PushKeeps}
+use Rattle.hidreport.specs.declared.parser.push_keeps.PushKeeps.TheVariants as push_keeps
+use Rattle.hidreport.proofs.JournalLemmas.{back-all, back-globals, forces, passed-over, popped}
+use Rattle.hidreport.proofs.JournalLemmas.{same-bare}
 use Rattle.hidreport.proofs.parser.in_force.InForce.pop.Goals as goal
 
 pub loop-entry-preserved : goal.loop-entry-preserved
 loop-entry-preserved c =
     let l = c.loop-entry.self-inside in
     let rest = c.undo.new.self in
-    let newest : l.journal ≡ WasLocals c.in-Locals.old.items ∷ rest = c.in-Some.ensures.some ∙ ap (λ (e : Entry). change_of e ∷ rest) c.in-Locals.is in
-    let bare : l.keeping ≡ keepings.Globals = c.loop-entry.invariant.2 ∙ c.has_locals-has_locals.ensures.globals c.if-has_locals.false in
-    let passed = passed-over l.keeping l.journal rest l.globals l.locals.items c.in-Locals.old.items _ bare newest c.loop-entry.invariant.0 in
+    let newest : l.journal ≡ WasLocals c.in-Locals.old.items ∷ rest = c.in-Some.ensures.some
+    ∙ ap (λ (e : Entry). change_of e ∷ rest) c.in-Locals.is in
+    let bare : l.keeping ≡ push_keeps.Globals = c.loop-entry.invariant.2
+    ∙ c.has_locals-has_locals.ensures.globals c.if-has_locals.false in
+    let passed = passed-over l.keeping l.journal rest l.globals l.locals.items c.in-Locals.old.items
+    _ bare newest c.loop-entry.invariant.0 in
     (passed.0, passed.1, c.loop-entry.invariant.2, c.loop-entry.invariant.3)
 
 pub returns-then-has_locals-2-clause-back : goal.returns-then-has_locals-2-clause-back
@@ -23,15 +27,19 @@ returns-then-has_locals-2-clause-back c = λ _.
     let s = c.self.inside in
     let rest = c.undo.new.self in
     let now = force_of s.globals s.locals.items in
-    let newest : l.journal ≡ Opened c.in-Push.locals ∷ rest = c.in-Some.ensures.some ∙ ap (λ (e : Entry). change_of e ∷ rest) c.in-Push.is in
+    let newest : l.journal ≡ Opened c.in-Push.locals ∷ rest = c.in-Some.ensures.some
+    ∙ ap (λ (e : Entry). change_of e ∷ rest) c.in-Push.is in
     let same = c.loop-entry.invariant.2 in
-    let all : l.keeping ≡ keepings.All = same ∙ c.has_locals-has_locals.ensures.all c.if-has_locals-2.true in
+    let all : l.keeping ≡ push_keeps.All = same
+    ∙ c.has_locals-has_locals.ensures.all c.if-has_locals-2.true in
     let kept = undone s.keeping s.journal s.globals s.locals.items in
-    let old = ap (λ (r : Keeping). forces r now (reverse kept)) same ∙ c.self.view_is in
+    let old = ap (λ (r : PushKeeps). forces r now (reverse kept)) same ∙ c.self.view_is in
     let cut = c.truncate.ensures.items in
-    popped c.args.self.now l.keeping now (force_of l.globals c.truncate.new.self.items) l.journal rest l.globals l.locals.items c.truncate.new.self.items c.in-Push.locals kept
+    popped c.args.self.now l.keeping now (force_of l.globals c.truncate.new.self.items) l.journal
+    rest l.globals l.locals.items c.truncate.new.self.items c.in-Push.locals kept
     old newest c.loop-entry.invariant.0
-    (ap (λ (ls : List LocalItem). force_of l.globals ls) cut ∙ back-all l.keeping now (force_of l.globals (take c.in-Push.locals l.locals.items)) all)
+    (ap (λ (ls : List LocalItem). force_of l.globals ls) cut
+    ∙ back-all l.keeping now (force_of l.globals (take c.in-Push.locals l.locals.items)) all)
     (ap (undone l.keeping rest l.globals) cut)
 
 pub returns-else-has_locals-2-clause-back : goal.returns-else-has_locals-2-clause-back
@@ -40,13 +48,16 @@ returns-else-has_locals-2-clause-back c = λ _.
     let s = c.self.inside in
     let rest = c.undo.new.self in
     let now = force_of s.globals s.locals.items in
-    let newest : l.journal ≡ Opened c.in-Push.locals ∷ rest = c.in-Some.ensures.some ∙ ap (λ (e : Entry). change_of e ∷ rest) c.in-Push.is in
+    let newest : l.journal ≡ Opened c.in-Push.locals ∷ rest = c.in-Some.ensures.some
+    ∙ ap (λ (e : Entry). change_of e ∷ rest) c.in-Push.is in
     let same = c.loop-entry.invariant.2 in
-    let bare : l.keeping ≡ keepings.Globals = same ∙ c.has_locals-has_locals.ensures.globals c.if-has_locals-2.false in
+    let bare : l.keeping ≡ push_keeps.Globals = same
+    ∙ c.has_locals-has_locals.ensures.globals c.if-has_locals-2.false in
     let kept = undone s.keeping s.journal s.globals s.locals.items in
-    let old = ap (λ (r : Keeping). forces r now (reverse kept)) same ∙ c.self.view_is in
+    let old = ap (λ (r : PushKeeps). forces r now (reverse kept)) same ∙ c.self.view_is in
     let left = take c.in-Push.locals l.locals.items in
-    popped c.args.self.now l.keeping now (force_of l.globals l.locals.items) l.journal rest l.globals l.locals.items l.locals.items c.in-Push.locals kept
+    popped c.args.self.now l.keeping now (force_of l.globals l.locals.items) l.journal rest
+    l.globals l.locals.items l.locals.items c.in-Push.locals kept
     old newest c.loop-entry.invariant.0
     (back-globals l.keeping now l.globals l.locals.items left bare (c.loop-entry.invariant.3 bare))
     (same-bare l.keeping rest l.globals l.locals.items left bare)

@@ -1,16 +1,19 @@
 use Rattle.std.proofs.Common.{◌≡◌, length}
 use Rattle.hidreport.specs.Parser.Journal.{Fits, undone}
-use Rattle.hidreport.specs.declared.parser.keeping.Keeping.TheVariants as keepings
+use Rattle.hidreport.specs.declared.parser.push_keeps.PushKeeps.TheVariants as push_keeps
 use Rattle.hidreport.proofs.parser.in_force.InForce.pop.Given as goal
 
 -- what was taken back so far changes nothing that is kept, and no locals that aren't
 abbrev pub invariant-loop-entry : goal.invariant-loop-entry
 invariant-loop-entry l =
-    (undone l.self-inside.keeping l.self-inside.journal l.self-inside.globals l.self-inside.locals.items
-    ≡ undone l.initial.self-inside.keeping l.initial.self-inside.journal l.initial.self-inside.globals l.initial.self-inside.locals.items)
+    (undone l.self-inside.keeping l.self-inside.journal l.self-inside.globals
+    l.self-inside.locals.items
+    ≡ undone l.initial.self-inside.keeping l.initial.self-inside.journal
+    l.initial.self-inside.globals l.initial.self-inside.locals.items)
     × Fits l.self-inside.keeping l.self-inside.journal l.self-inside.locals.items
     × (l.self-inside.keeping ≡ l.initial.self-inside.keeping)
-    × (l.self-inside.keeping ≡ keepings.Globals → l.self-inside.locals.items ≡ l.initial.self-inside.locals.items)
+    × (l.self-inside.keeping ≡ push_keeps.Globals
+    → l.self-inside.locals.items ≡ l.initial.self-inside.locals.items)
 
 abbrev pub decreases-loop-entry : goal.decreases-loop-entry
 decreases-loop-entry l = length l.self-inside.journal

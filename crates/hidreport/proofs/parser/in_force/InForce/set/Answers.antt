@@ -14,8 +14,18 @@ returns c =
     let locals = s.locals.items in
     let old : Force = force_of s.globals locals in
     let kept : List Force = reverse (undone s.keeping s.journal s.globals locals) in
-    ap (λ (cs : List Change). record { keeping = s.keeping; now = force_of c.set.new.self locals; kept = reverse (undone s.keeping cs c.set.new.self locals) }) c.in_ok-note_globals.ensures.ok
-    ∙ ap (λ (l : List Force). record { keeping = s.keeping; now = force_of c.set.new.self locals; kept = reverse l }) (undone-set s.keeping s.journal s.globals c.set.new.self locals)
+    ap (λ (cs : List Change). record {
+      keeping = s.keeping;
+      now = force_of c.set.new.self locals;
+      kept =
+          reverse (undone s.keeping cs c.set.new.self locals);
+    }) c.in_ok-note_globals.ensures.ok
+    ∙ ap (λ (l : List Force). record
+    { keeping = s.keeping; now = force_of c.set.new.self locals; kept = reverse l })
+    (undone-set s.keeping s.journal s.globals c.set.new.self locals)
     ∙ ap (λ (f : Force). record { keeping = s.keeping; now = f; kept = kept })
-    (c.set.ensures locals ∙ ap (λ (l : List LocalItem). record (next_force old (items.Global c.args.item)) { locals = l }) (sym (append-nil locals)))
-    ∙ ap (λ (f : Forces). record f { now = next_force f.now (items.Global c.args.item) }) c.self.view_is
+    (c.set.ensures locals
+    ∙ ap (λ (l : List LocalItem). record (next_force old (items.Global c.args.item))
+    { locals = l }) (sym (append-nil locals)))
+    ∙ ap (λ (f : Forces). record f { now = next_force f.now (items.Global c.args.item) })
+    c.self.view_is

@@ -1,4 +1,5 @@
-use Rattle.std.proofs.Common.{◌≡◌, ◌++◌, ◌∙◌, ℕ, List, [], ◌∷◌, map, ap, sym, add-one, zero-add, append_assoc, append-nil, arith}
+use Rattle.std.proofs.Common.{◌≡◌, ◌++◌, ◌∙◌, ℕ, List, [], ◌∷◌, map, ap, sym, add-one, zero-add}
+use Rattle.std.proofs.Common.{append_assoc, append-nil, arith}
 use Rattle.std.proofs.lemmas.List.{map-append}
 use Rattle.hidreport.specs.Fields.{each_from}
 use Rattle.hidreport.specs.Parser.Layout.{variable_of}
@@ -10,8 +11,11 @@ use Rattle.hidreport.proofs.FieldLemmas.{each_from-next}
 use Rattle.hidreport.proofs.parser.layout.Layout.add_variable_fields.Goals as goal
 
 pub loop-c-init : goal.loop-c-init
-loop-c-init c =
-    (sym (append-nil (map field_record c.reserve.new.self.items)), omega arith, c.in_ok-reserve.ensures.ok)
+loop-c-init c = (
+  sym (append-nil (map field_record c.reserve.new.self.items)),
+  omega arith,
+  c.in_ok-reserve.ensures.ok,
+)
 
 pub loop-c-preserved : goal.loop-c-preserved
 loop-c-preserved c =
@@ -25,13 +29,20 @@ loop-c-preserved c =
     ∙ append_assoc before (each_from made 0 k) (record_of ∷ [])
     ∙ ap (λ (r : FieldRecord). before ++ (each_from made 0 k ++ r ∷ [])) c.variable_field.ensures
     ∙ ap (λ (n : ℕ). before ++ (each_from made 0 k ++ made n ∷ [])) (sym (zero-add k))
-    ∙ ap (λ (l : List FieldRecord). before ++ l) (sym (each_from-next made 0 k) ∙ ap (each_from made 0) (sym (add-one k))) in
-    (listed, omega (arith, c.push_reserved.ensures.len, c.loop-c.invariant.1), omega (arith, c.push_reserved.ensures.capacity, c.loop-c.invariant.2))
+    ∙ ap (λ (l : List FieldRecord). before ++ l)
+    (sym (each_from-next made 0 k) ∙ ap (each_from made 0) (sym (add-one k))) in (
+      listed,
+      omega (arith, c.push_reserved.ensures.len, c.loop-c.invariant.1),
+      omega
+          (arith, c.push_reserved.ensures.capacity, c.loop-c.invariant.2),
+    )
 
 pub returns : goal.returns
 returns c =
     let made = variable_of c.args.self.now (usage_list c.args.usages.now) in
-    let all : c.loop-c.c ≡ c.args.self.now.count = omega (arith, c.loop-c-test.false, c.loop-c.auto.c-end) in
+    let all : c.loop-c.c ≡ c.args.self.now.count =
+    omega (arith, c.loop-c-test.false, c.loop-c.auto.c-end) in
     c.loop-c.invariant.0
-    ∙ ap (λ (fs : List Field). map field_record fs ++ each_from made 0 c.loop-c.c) c.in_ok-reserve.ensures.items
+    ∙ ap (λ (fs : List Field). map field_record fs ++ each_from made 0 c.loop-c.c)
+    c.in_ok-reserve.ensures.items
     ∙ ap (λ (n : ℕ). map field_record c.args.fields.now.items ++ each_from made 0 n) all

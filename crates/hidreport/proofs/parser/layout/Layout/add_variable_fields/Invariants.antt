@@ -9,5 +9,7 @@ use Rattle.hidreport.proofs.parser.layout.Layout.add_variable_fields.Given as go
 abbrev pub invariant-loop-c : goal.invariant-loop-c
 invariant-loop-c l =
     (map field_record l.fields.items
-    ≡ map field_record l.initial.fields.items ++ each_from (variable_of l.fn.self (usage_list l.fn.usages)) 0 l.c)
-    × (vec_len l.fields ≡ vec_len l.initial.fields + l.c) × (vec_len l.initial.fields + l.fn.self.count ≤ vec_capacity l.fields)
+    ≡ map field_record l.initial.fields.items ++ each_from
+    (variable_of l.fn.self (usage_list l.fn.usages)) 0 l.c)
+    × (vec_len l.fields ≡ vec_len l.initial.fields + l.c) ×
+    (vec_len l.initial.fields + l.fn.self.count ≤ vec_capacity l.fields)

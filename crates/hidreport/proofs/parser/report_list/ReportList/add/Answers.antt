@@ -14,6 +14,8 @@ invariant_of-self-2 c =
       c.requires.slot ∙ ap (index_in c.args.slot.key) (sym c.self.view_is)
           ∙ sym (index_in-added c.args.slot.key c.args.bits fields items)
           ∙ ap (index_in c.args.slot.key) (sym c.in_ok-add_fields.ensures),
-      subst (λ (rs : List ReportRecord). IfSome c.widened-ids_below.result (λ bound. AllBelow bound rs)) (sym c.in_ok-add_fields.ensures)
-          (below-added c.self.inside.ids_below c.widened-ids_below.result c.args.slot.key c.args.bits fields items c.self.invariant.1 c.widened-ids_below.ensures),
+      subst (λ (rs : List ReportRecord). IfSome c.widened-ids_below.result
+          (λ bound. AllBelow bound rs)) (sym c.in_ok-add_fields.ensures)
+          (below-added c.self.inside.ids_below c.widened-ids_below.result c.args.slot.key
+          c.args.bits fields items c.self.invariant.1 c.widened-ids_below.ensures),
     )

@@ -39,17 +39,35 @@ returns-clause-held c =
       collections = c.keep.new.self.count;
     } in
     let g = force_of c.globals-globals.result.now s.in_force.now.locals in
-    let key = c.slot_of-slot.ensures.key ∙ ap (λ (rs : List ReportRecord). first_of c.globals-globals.result.now.report_id (first_id rs)) c.of-reports.ensures in
+    let key = c.slot_of-slot.ensures.key
+    ∙ ap (λ (rs : List ReportRecord). first_of c.globals-globals.result.now.report_id
+    (first_id rs)) c.of-reports.ensures in
     let cs = shared_list c.in_ok-shared_by.field-0 in
-    let with = λ (m : Measures). make_fields g.report_id s.field_count c.size_at-first_bit.result (c.in-Some.size, c.in-Some.count) (item_flags x)
-    (usage_list c.in_ok-usages.usages) (attributes_with (direction_of x.direction) (item_flags x) m cs) in
+    let with = λ (m : Measures). make_fields g.report_id s.field_count c.size_at-first_bit.result
+    (c.in-Some.size, c.in-Some.count) (item_flags x)
+    (usage_list c.in_ok-usages.usages)
+    (attributes_with (direction_of x.direction) (item_flags x) m cs) in
     let fields = with c.measures.result in
-    let first = c.size_at-first_bit.ensures ∙ ap (size_in c.slot_of-slot.result.key) c.of-reports.ensures in
-    subst (λ (z : Held). new ≡ record z { descriptor = (next_held z (as_item x)).descriptor; fields = (next_held z (as_item x)).fields }) c.self.view_is
-    (ap (λ (o : Opened). record h { descriptor = c.add.new.self; fields = s.field_count + count; opened = o.list; collections = o.count }) (c.keep.ensures ∙ c.in_ok-shared_by.ensures.same)
-    ∙ data-held h g (direction_of x.direction) (item_flags x) cs c.in-Some.size c.in-Some.count c.in_ok-usages.usages
-    c.slot_of-slot.result.key c.size_at-first_bit.result c.in_ok-bits.bits fields c.add.new.self count
-    c.globals-globals.ensures c.in_ok-shared_by.ensures.all (sym c.in-Some.ensures) c.in_ok-usages.ensures.usages key first c.in_ok-bits.ensures.fits.0 (ap with c.measures.ensures) c.in_ok-add.ensures c.field_count-field_count.ensures)
+    let first = c.size_at-first_bit.ensures
+    ∙ ap (size_in c.slot_of-slot.result.key) c.of-reports.ensures in
+    subst (λ (z : Held). new ≡ record z {
+      descriptor = (next_held z (as_item x)).descriptor;
+      fields =
+          (next_held z (as_item x)).fields;
+    }) c.self.view_is
+    (ap (λ (o : Opened). record h {
+      descriptor = c.add.new.self;
+      fields = s.field_count + count;
+      opened = o.list;
+      collections = o.count;
+    }) (c.keep.ensures ∙ c.in_ok-shared_by.ensures.same)
+    ∙ data-held h g (direction_of x.direction) (item_flags x) cs c.in-Some.size c.in-Some.count
+    c.in_ok-usages.usages
+    c.slot_of-slot.result.key c.size_at-first_bit.result c.in_ok-bits.bits fields c.add.new.self
+    count
+    c.globals-globals.ensures c.in_ok-shared_by.ensures.all (sym c.in-Some.ensures)
+    c.in_ok-usages.ensures.usages key first c.in_ok-bits.ensures.fits.0
+    (ap with c.measures.ensures) c.in_ok-add.ensures c.field_count-field_count.ensures)
 
 pub returns-clause-within : goal.returns-clause-within
 returns-clause-within c =
@@ -65,8 +83,10 @@ returns-clause-within c =
       collections = s.collections.count;
     } in
     let g = force_of c.globals-globals.result.now s.in_force.now.locals in
-    let weighs = data-weighs h c.args.self.now g (direction_of x.direction) (item_flags x) c.in-Some.size c.in-Some.count c.in_ok-usages.usages
-    c.field_count.result c.weight_of_each-each.result c.weight.result c.self.view_is c.globals-globals.ensures (sym c.in-Some.ensures) c.in_ok-usages.ensures.usages
+    let weighs = data-weighs h c.args.self.now g (direction_of x.direction) (item_flags x)
+    c.in-Some.size c.in-Some.count c.in_ok-usages.usages
+    c.field_count.result c.weight_of_each-each.result c.weight.result c.self.view_is
+    c.globals-globals.ensures (sym c.in-Some.ensures) c.in_ok-usages.ensures.usages
     c.field_count.ensures c.weight_of_each-each.ensures c.weight.ensures.weight in
     ap (is_past c.args.budget.now) weighs ∙ c.in_ok-spend.ensures.within
 
@@ -84,8 +104,10 @@ returns-clause-left c =
       collections = s.collections.count;
     } in
     let g = force_of c.globals-globals.result.now s.in_force.now.locals in
-    let weighs = data-weighs h c.args.self.now g (direction_of x.direction) (item_flags x) c.in-Some.size c.in-Some.count c.in_ok-usages.usages
-    c.field_count.result c.weight_of_each-each.result c.weight.result c.self.view_is c.globals-globals.ensures (sym c.in-Some.ensures) c.in_ok-usages.ensures.usages
+    let weighs = data-weighs h c.args.self.now g (direction_of x.direction) (item_flags x)
+    c.in-Some.size c.in-Some.count c.in_ok-usages.usages
+    c.field_count.result c.weight_of_each-each.result c.weight.result c.self.view_is
+    c.globals-globals.ensures (sym c.in-Some.ensures) c.in_ok-usages.ensures.usages
     c.field_count.ensures c.weight_of_each-each.ensures c.weight.ensures.weight in
     c.in_ok-spend.ensures.left ∙ ap (left_behind c.args.budget.now) (sym weighs)
 
@@ -104,9 +126,14 @@ returns-in_err-spend-clause-err c =
       collections = s.collections.count;
     } in
     let g = force_of c.globals-globals.result.now s.in_force.now.locals in
-    let weighs = data-weighs h c.args.self.now g (direction_of x.direction) (item_flags x) c.in-Some.size c.in-Some.count c.in_ok-usages.usages
-    c.field_count.result c.weight_of_each-each.result c.weight.result c.self.view_is c.globals-globals.ensures (sym c.in-Some.ensures) c.in_ok-usages.ensures.usages
+    let weighs = data-weighs h c.args.self.now g (direction_of x.direction) (item_flags x)
+    c.in-Some.size c.in-Some.count c.in_ok-usages.usages
+    c.field_count.result c.weight_of_each-each.result c.weight.result c.self.view_is
+    c.globals-globals.ensures (sym c.in-Some.ensures) c.in_ok-usages.ensures.usages
     c.field_count.ensures c.weight_of_each-each.ensures c.weight.ensures.weight in
-    let p = err_from_is_err_and c.from_residual-in_err-spend.result c.from_residual-in_err-spend.ensures.1 in
+    let p = err_from_is_err_and c.from_residual-in_err-spend.result
+    c.from_residual-in_err-spend.ensures.1 in
     rw (p.1, p.2) (rw (c.in_err-spend.ensures.past.0)
-    (stop-past c.args.budget.now c.args.self.now (direction_of x.direction) (item_flags x) (c.field_count.result * c.weight_of_each-each.result) faultless weighs c.in_err-spend.ensures.past.1))
+    (stop-past c.args.budget.now c.args.self.now (direction_of x.direction) (item_flags x)
+    (c.field_count.result * c.weight_of_each-each.result) faultless weighs
+    c.in_err-spend.ensures.past.1))

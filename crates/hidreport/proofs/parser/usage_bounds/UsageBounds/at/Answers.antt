@@ -8,7 +8,8 @@ returns c =
     let page = c.args.self.now.page in
     let low = c.args.self.now.minimum in
     let high = c.args.self.now.maximum in
-    let behind : low + c.min-behind.result ≡ low + min c.args.c (high - low) = omega (arith, c.min-behind.ensures) in
+    let behind : low + c.min-behind.result ≡ low + min c.args.c (high - low) =
+    omega (arith, c.min-behind.ensures) in
     c.usage_of.ensures
     ∙ ap (λ (n : ℕ). make_usage page (n % 65536)) behind
     ∙ sym (usage_at-list page low high c.args.c c.requires)

@@ -1,0 +1,232 @@
+-- Which refusals parsing never gives.
+use Rattle.std.proofs.Common.{◌≡◌, ◌≢◌, ℕ, Bool, true, false, cond, List, [], ◌∷◌, Option, None}
+use Rattle.std.proofs.Common.{Some, Result, Ok, Err, ap, refl, ◌∙◌}
+use Rattle.std.specs.List.{enumerate_from}
+use Rattle.hidreport_items.specs.Answer.{Fault}
+use Rattle.hidreport_items.specs.Flags.{Flags}
+use Rattle.hidreport_items.specs.Spelling.{item_of}
+use Rattle.hidreport_items.specs.declared.global.GlobalItem.TheVariants as global
+use Rattle.hidreport_items.specs.declared.item.ItemType.{ItemType}
+use Rattle.hidreport_items.specs.declared.item.ItemType.TheVariants as item
+use Rattle.hidreport_items.specs.declared.local.LocalItem.{LocalItem}
+use Rattle.hidreport_items.specs.declared.local.LocalItem.TheVariants as local
+use Rattle.hidreport_items.specs.declared.main_item.MainItem.TheVariants as main
+use Rattle.hidreport_lists.specs.Answer.{Answers, Refusal, Bounds, InvalidAt, Mismatch, OverBudget}
+use Rattle.hidreport_lists.specs.Entry.{Entry}
+use Rattle.hidreport_lists.specs.Itemising.{itemise}
+use Rattle.hidreport_lists.specs.Rebuilt.{items_of}
+use Rattle.hidreport_lists.specs.declared.error.ParserError.{ParserError}
+use Rattle.hidreport_lists.specs.declared.error.ParserError.TheVariants as errors
+use Rattle.hidreport.specs.Budget.{meaning_within_by, parse_items_within}
+use Rattle.hidreport.specs.Faults.{Counts, data_fault, fault, if_no_usages, item_fault}
+use Rattle.hidreport.specs.Faults.{limit_fault, needed_usages_fault, usage_fault}
+use Rattle.hidreport.specs.InForce.{Force, first_of}
+use Rattle.hidreport.specs.Kinds.{Indexed}
+use Rattle.hidreport.specs.Making.{extent}
+use Rattle.hidreport.specs.Meaning.{PushReading, at_offset, descriptor, fault_here, first_fault}
+use Rattle.hidreport.specs.Meaning.{meaning_by, parse_by, parse_items, unless_first}
+use Rattle.hidreport.specs.MeaningFault.{MeaningFault, TooManyPops, TooManyEnds}
+use Rattle.hidreport.specs.MeaningFault.{MissingUsageMaximum, MissingUsagePage, MissingUsages}
+use Rattle.hidreport.specs.MeaningFault.{PastBounds, PastBudget}
+use Rattle.hidreport.specs.Options.{parse_limited}
+use Rattle.hidreport.specs.Records.{DescriptorRecord}
+use Rattle.hidreport.specs.Usages.{UsageList, as_single, before_usages, last_local, maximum_of}
+use Rattle.hidreport.specs.Usages.{minimum_of, on_page, range_usages, single_usages, usages_by}
+use Rattle.hidreport.specs.Usages.{usages_of}
+use Rattle.hidreport.specs.declared.field.usage.Usage.{Usage}
+
+-- a report of another id is no refusal of a descriptor
+
+mismatch-at : (entries : List Entry) (r : Result DescriptorRecord (ℕ × MeaningFault))
+    → at_offset entries r ≢ Err Mismatch
+mismatch-at entries (Ok d) is = cc
+mismatch-at entries (Err (k, TooManyPops)) is = cc
+mismatch-at entries (Err (k, TooManyEnds)) is = cc
+mismatch-at entries (Err (k, MissingUsageMaximum)) is = cc
+mismatch-at entries (Err (k, MissingUsagePage)) is = cc
+mismatch-at entries (Err (k, MissingUsages)) is = cc
+mismatch-at entries (Err (k, PastBounds)) is = cc
+mismatch-at entries (Err (k, PastBudget)) is = cc
+
+mismatch-items : (reading : PushReading) (r : Result (List Entry) (ℕ × Fault))
+    → parse_items reading r ≢ Err Mismatch
+mismatch-items reading (Ok entries) is =
+    mismatch-at entries (meaning_by reading (items_of entries)) is
+mismatch-items reading (Err bad) is = cc
+
+mismatch-within : (reading : PushReading) (limit : ℕ) (r : Result (List Entry) (ℕ × Fault))
+    → parse_items_within reading limit r ≢ Err Mismatch
+mismatch-within reading limit (Ok entries) is =
+    mismatch-at entries (meaning_within_by reading limit (items_of entries)) is
+mismatch-within reading limit (Err bad) is = cc
+
+pub never-mismatch : (reading : PushReading) (limit : Option ℕ) (bytes : List ℕ)
+    → parse_limited reading limit bytes ≢ Err Mismatch
+never-mismatch reading None [] is = cc
+never-mismatch reading None (b ∷ bs) is =
+    mismatch-items reading (itemise item_of (b ∷ bs)) is
+never-mismatch reading (Some limit) [] is = cc
+never-mismatch reading (Some limit) (b ∷ bs) is =
+    mismatch-within reading limit (itemise item_of (b ∷ bs)) is
+
+pub no-mismatch : {A : Type 0} (r : Result A ParserError) (answer : Result A Refusal)
+    → Answers r answer → answer ≢ Err Mismatch → r ≢ Err errors.MismatchingReportId
+no-mismatch (Ok x) answer a never is = cc
+no-mismatch (Err (errors.InvalidData offset message)) answer a never is = cc
+no-mismatch (Err errors.OutOfBounds) answer a never is = cc
+no-mismatch (Err errors.MismatchingReportId) answer a never is = never a
+no-mismatch (Err errors.OutOfMemory) answer a never is = cc
+no-mismatch (Err (errors.BudgetExceeded offset)) answer a never is = cc
+
+-- without a limit none is passed: no item has this fault
+
+before-plain : (u : Usage) (r : Result (List Usage) MeaningFault) → r ≢ Err PastBudget
+    → before_usages u r ≢ Err PastBudget
+before-plain u (Ok us) plain is = cc
+before-plain u (Err f) plain is = let same : f ≡ PastBudget = cc in plain (ap Err same)
+
+page-plain : (page : Option ℕ) (id : ℕ) (r : Result (List Usage) MeaningFault)
+    → r ≢ Err PastBudget → on_page page id r ≢ Err PastBudget
+page-plain None id r plain is = cc
+page-plain (Some page) id r plain is =
+    before-plain (record { usage_page = page; usage_id = id }) r plain is
+
+single-plain : (page : Option ℕ) (xs : List LocalItem) → single_usages page xs ≢ Err PastBudget
+single-plain page [] is = cc
+single-plain page (local.Usage own id ∷ xs) is =
+    before-plain (record { usage_page = own; usage_id = id }) (single_usages page xs)
+    (single-plain page xs) is
+single-plain page (local.UsageId id ∷ xs) is =
+    page-plain page id (single_usages page xs) (single-plain page xs) is
+single-plain page (x ∷ xs) is = single-plain page xs is
+
+as-single-plain : (r : Result (List Usage) MeaningFault) → r ≢ Err PastBudget
+    → as_single r ≢ Err PastBudget
+as-single-plain (Ok us) plain is = cc
+as-single-plain (Err f) plain is = let same : f ≡ PastBudget = cc in plain (ap Err same)
+
+range-plain : (low : ℕ) (high page : Option ℕ) → range_usages low high page ≢ Err PastBudget
+range-plain low None page is = cc
+range-plain low (Some high) None is = cc
+range-plain low (Some high) (Some page) is = cc
+
+usages-by-plain : (low : Option ℕ) (f : Force) → usages_by low f ≢ Err PastBudget
+usages-by-plain (Some low) f = range-plain low (last_local maximum_of f.locals) f.usage_page
+usages-by-plain None f = as-single-plain (single_usages f.usage_page f.locals)
+    (single-plain f.usage_page f.locals)
+
+usages-plain : (f : Force) → usages_of f ≢ Err PastBudget
+usages-plain f = usages-by-plain (last_local minimum_of f.locals) f
+
+first-of-plain : (a b : Option MeaningFault) → a ≢ Some PastBudget → b ≢ Some PastBudget
+    → first_of a b ≢ Some PastBudget
+first-of-plain (Some f) b a_plain b_plain is = a_plain is
+first-of-plain None b a_plain b_plain is = b_plain is
+
+limit-plain : (b : Bool) → limit_fault b ≢ Some PastBudget
+limit-plain true is = cc
+limit-plain false is = cc
+
+usage-plain : (r : Result UsageList MeaningFault) → r ≢ Err PastBudget
+    → usage_fault r ≢ Some PastBudget
+usage-plain (Ok us) plain is = cc
+usage-plain (Err f) plain is = let same : f ≡ PastBudget = cc in plain (ap Err same)
+
+none-plain : (us : List Usage) → if_no_usages us ≢ Some PastBudget
+none-plain [] is = cc
+none-plain (u ∷ us) is = cc
+
+needed-plain : (r : Result UsageList MeaningFault) → r ≢ Err PastBudget
+    → needed_usages_fault r ≢ Some PastBudget
+needed-plain (Ok us) plain is = none-plain us.usages is
+needed-plain (Err f) plain is = let same : f ≡ PastBudget = cc in plain (ap Err same)
+
+unless-plain : (b : Bool) (o : Option MeaningFault) → o ≢ Some PastBudget
+    → cond b None o ≢ Some PastBudget
+unless-plain true o plain is = cc
+unless-plain false o plain is = plain is
+
+either-plain : (b : Bool) (f : MeaningFault) → f ≢ PastBudget
+    → cond b (Some f) None ≢ Some PastBudget
+either-plain true f plain is = let same : f ≡ PastBudget = cc in plain same
+either-plain false f plain is = cc
+
+data-plain : (n : Counts) (f : Force) (flags : Flags) (e : Option (ℕ × ℕ))
+    → data_fault n f flags e ≢ Some PastBudget
+data-plain n f flags None is = cc
+data-plain n f flags (Some e) is = first-of-plain
+    (cond flags.constant None (needed_usages_fault (usages_of f))) (limit_fault _)
+    (unless-plain flags.constant (needed_usages_fault (usages_of f))
+    (needed-plain (usages_of f) (usages-plain f))) (limit-plain _) is
+
+item-plain : (n : Counts) (f : Force) (x : ItemType) → item_fault n f x ≢ Some PastBudget
+item-plain n f (item.Global global.Pop) is = either-plain _ TooManyPops (λ e. cc) is
+item-plain n f (item.Global g) is = cc
+item-plain n f (item.Main main.EndCollection) is = either-plain _ TooManyEnds (λ e. cc) is
+item-plain n f (item.Main (main.Collection kind)) is = first-of-plain
+    (usage_fault (usages_of f)) (limit_fault _) (usage-plain (usages_of f) (usages-plain f))
+    (limit-plain _) is
+item-plain n f (item.Main (main.Input flags)) is = data-plain n f flags (extent f) is
+item-plain n f (item.Main (main.Output flags)) is = data-plain n f flags (extent f) is
+item-plain n f (item.Main (main.Feature flags)) is = data-plain n f flags (extent f) is
+item-plain n f (item.Local l) is = cc
+item-plain n f item.Long is = cc
+item-plain n f item.Reserved is = cc
+
+here-plain : (o : Option MeaningFault) (j k : ℕ) (later : Option (ℕ × MeaningFault))
+    → o ≢ Some PastBudget → later ≢ Some (k, PastBudget)
+    → fault_here o j later ≢ Some (k, PastBudget)
+here-plain (Some f) j k later plain rest is =
+    let pair : (j, f) ≡ (k, PastBudget) = cc in
+    plain (ap (λ (p : ℕ × MeaningFault). Some p.1) pair)
+here-plain None j k later plain rest is = rest is
+
+first-plain : (force : ℕ → Force) (items : List ItemType) (ps : List Indexed) (k : ℕ)
+    → first_fault force items ps ≢ Some (k, PastBudget)
+first-plain force items [] k is = cc
+first-plain force items (p ∷ ps) k is =
+    here-plain (fault force items p.0 p.1) p.0 k (first_fault force items ps)
+    (item-plain _ (force p.0) p.1) (first-plain force items ps k) is
+
+unless-first-plain : (o : Option (ℕ × MeaningFault)) (d : DescriptorRecord) (k : ℕ)
+    → o ≢ Some (k, PastBudget) → unless_first o d ≢ Err (k, PastBudget)
+unless-first-plain None d k plain is = cc
+unless-first-plain (Some first) d k plain is =
+    let same : first ≡ (k, PastBudget) = cc in plain (ap Some same)
+
+over-at : (entries : List Entry) (r : Result DescriptorRecord (ℕ × MeaningFault)) (offset : ℕ)
+    → ((k : ℕ) → r ≢ Err (k, PastBudget)) → at_offset entries r ≢ Err (OverBudget offset)
+over-at entries (Ok d) offset plain is = cc
+over-at entries (Err (k, TooManyPops)) offset plain is = cc
+over-at entries (Err (k, TooManyEnds)) offset plain is = cc
+over-at entries (Err (k, MissingUsageMaximum)) offset plain is = cc
+over-at entries (Err (k, MissingUsagePage)) offset plain is = cc
+over-at entries (Err (k, MissingUsages)) offset plain is = cc
+over-at entries (Err (k, PastBounds)) offset plain is = cc
+over-at entries (Err (k, PastBudget)) offset plain is = plain k refl
+
+over-items : (reading : PushReading) (r : Result (List Entry) (ℕ × Fault)) (offset : ℕ)
+    → parse_items reading r ≢ Err (OverBudget offset)
+over-items reading (Ok entries) offset is =
+    let items = items_of entries in
+    over-at entries (meaning_by reading items) offset
+    (λ k. unless-first-plain (first_fault (reading items) items (enumerate_from 0 items))
+    (descriptor (reading items) items) k
+    (first-plain (reading items) items (enumerate_from 0 items) k)) is
+over-items reading (Err bad) offset is = cc
+
+pub never-over : (reading : PushReading) (bytes : List ℕ) (offset : ℕ)
+    → parse_by reading bytes ≢ Err (OverBudget offset)
+never-over reading [] offset is = cc
+never-over reading (b ∷ bs) offset is = over-items reading (itemise item_of (b ∷ bs)) offset is
+
+pub no-budget : {A : Type 0} (r : Result A ParserError) (answer : Result A Refusal) (offset : ℕ)
+    → Answers r answer → answer ≢ Err (OverBudget offset)
+    → r ≢ Err (errors.BudgetExceeded offset)
+no-budget (Ok x) answer offset a never is = cc
+no-budget (Err (errors.InvalidData at message)) answer offset a never is = cc
+no-budget (Err errors.OutOfBounds) answer offset a never is = cc
+no-budget (Err errors.MismatchingReportId) answer offset a never is = cc
+no-budget (Err errors.OutOfMemory) answer offset a never is = cc
+no-budget (Err (errors.BudgetExceeded at)) answer offset a never is =
+    let same : at ≡ offset = cc in never (a ∙ ap (λ n. Err (OverBudget n)) same)

@@ -1,0 +1,25 @@
+-- Parsing as it is asked for: by a reading of Push and Pop, and under a limit, if any.
+use Rattle.std.specs.Prelude.{ℕ, List, Option, None, Some, Result}
+use Rattle.hidreport_lists.specs.Answer.{Refusal}
+use Rattle.hidreport.specs.Budget.{parse_within_by}
+use Rattle.hidreport.specs.InForce.{force, force_globals_only}
+use Rattle.hidreport.specs.Meaning.{PushReading, parse_by}
+use Rattle.hidreport.specs.Records.{DescriptorRecord}
+use Rattle.hidreport.specs.declared.parse_options.ParseOptions.{ParseOptions}
+use Rattle.hidreport.specs.declared.parser.push_keeps.PushKeeps.{PushKeeps}
+use Rattle.hidreport.specs.declared.parser.push_keeps.PushKeeps.TheVariants as push_keeps
+
+-- what is in force where a Push keeps this (Section 6.2.2.7)
+abbrev pub reading_of : PushKeeps → PushReading
+reading_of push_keeps.All = force
+reading_of push_keeps.Globals = force_globals_only
+
+-- the reports by a reading, under a limit, if any
+abbrev pub parse_limited : PushReading → Option ℕ → List ℕ → Result DescriptorRecord Refusal
+parse_limited reading None = parse_by reading
+parse_limited reading (Some limit) = parse_within_by reading limit
+
+-- the reports that the bytes of a descriptor announce, or their first fault, or the item that is
+-- past the limit
+abbrev pub parse_as : ParseOptions → List ℕ → Result DescriptorRecord Refusal
+parse_as options = parse_limited (reading_of options.push_keeps) options.limit
