@@ -26,7 +26,7 @@ if [ ! -x "$program" ]; then
     exit 2
 fi
 
-usage='usage: hidreport items FILE | values FILE REPORT | values-within LIMIT FILE REPORT | values-globals FILE REPORT | rebuild FILE'
+usage=$(sed -n "s/^usage='\(.*\)'$/\1/p" "$top/hidreport")
 passed=0
 
 # What is shown, the status and the one line that are wanted, and the words; the output is $scratch/out where it isn't told.

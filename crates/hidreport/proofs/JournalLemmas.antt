@@ -101,14 +101,6 @@ pub fits-ended : (keeping : PushKeeps) (cs : List Change) (ls : List LocalItem) 
 fits-ended push_keeps.All cs ls f = ended-all cs ls f
 fits-ended push_keeps.Globals cs ls f = tt
 
--- a Push keeps what is in force
-pub undone-pushed : (keeping : PushKeeps) (cs : List Change) (g : Globals) (ls : List LocalItem)
-    → undone keeping (Opened (length ls) ∷ cs) g ls ≡ kept_of keeping (force_of g ls) ∷ undone
-    keeping cs g ls
-undone-pushed keeping cs g ls =
-    ap (λ (l : List LocalItem). kept_of keeping (force_of g l) ∷ undone keeping cs g l)
-    (take-all ls)
-
 pub fits-pushed : (keeping : PushKeeps) (cs : List Change) (ls : List LocalItem) → Fits keeping cs ls
     → Fits keeping (Opened (length ls) ∷ cs) ls
 fits-pushed push_keeps.All cs ls f =

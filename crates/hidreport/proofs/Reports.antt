@@ -120,13 +120,6 @@ listed y seen [] n = refl
 listed y seen (x ∷ xs) n = listed-by (is_among x seen) y x seen xs refl n (listed y seen xs n)
     (listed y (x ∷ seen) xs)
 
--- one more key at the end
-next-seen : (b c : Bool) (y : Option ℕ) (seen xs : List (Option ℕ)) → is_among y seen ≡ b
-    → is_among y xs ≡ c
-    → cond (b || c) [] (y ∷ []) ≡ cond (is_among y seen || is_among y xs) [] (y ∷ [])
-next-seen b c y seen xs e f = ap (λ d. cond (d || c) [] (y ∷ [])) (sym e)
-    ∙ ap (λ d. cond (is_among y seen || d) [] (y ∷ [])) (sym f)
-
 or_swap : (a b c : Bool) → ((a || b) || c) ≡ (b || (a || c))
 or_swap true true c = refl
 or_swap true false c = refl
@@ -387,9 +380,3 @@ pub size-in_reports : (key : Indexed → Option ℕ) (bits : Indexed → ℕ)
 size-in_reports key bits fields ms id =
     size-by key bits fields ms id (firsts_after [] (map key ms))
     (λ n. adding-none key id ms (sym (listed id [] (map key ms) refl) ∙ n))
-
--- the first report is that of the first item
-pub first-of_reports : (key : Indexed → Option ℕ) (bits : Indexed → ℕ)
-    (fields : Indexed → List FieldRecord) (ms : List Indexed) (m : Indexed)
-    → first_id (reports_of key bits fields (m ∷ ms)) ≡ key m
-first-of_reports key bits fields ms m = refl

@@ -66,13 +66,6 @@ weight-with h Input flags = zero-add _
 weight-with h Output flags = zero-add _
 weight-with h Feature flags = zero-add _
 
--- an item that makes no fields weighs nothing
-pub idle-weight : (h : Held) (d : Direction) (flags : Flags) → extent h.force ≡ None
-    → weight_in h (item_with d flags) ≡ 0
-idle-weight h d flags idle = weight-with h d flags
-    ∙ ap (λ e. sum_by field_weight
-    (fields_of h.force h.opened h.fields (start_in d h) (Some (d, flags)) e)) idle
-
 -- the weight of a data item, from what the parser finds
 pub data-weight : (h : Held) (g : Force) (d : Direction) (flags : Flags) (size count : ℕ)
     (us : Usages) → g ≡ h.force → extent g ≡ Some (size, count) → HasUsages flags h.force us

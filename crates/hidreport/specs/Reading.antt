@@ -1,10 +1,9 @@
 -- Reading a field (Sections 5.6 and 5.8): the value that a report's bytes give it, or why they give
 -- none.
-use Rattle.std.specs.Prelude.{◌≡◌, ℕ, ◌+◌, ◌-◌, ◌*◌, ◌/◌, ◌==◌, nat_lt, nat_le, ◌||◌, zero, suc}
+use Rattle.std.specs.Prelude.{ℕ, ◌+◌, ◌-◌, ◌*◌, ◌/◌, ◌==◌, nat_lt, nat_le, ◌||◌, zero, suc}
 use Rattle.std.specs.Prelude.{Bool, if◌then◌else◌, List, [], ◌∷◌, length, Option, None, Some}
 use Rattle.std.specs.Prelude.{Result, Ok, Err, int_lt, pos}
-use Rattle.hidreport_lists.specs.Answer.{Refusal, Bounds, Mismatch, Refuses}
-use Rattle.hidreport_lists.specs.declared.error.ParserError.{ParserError}
+use Rattle.hidreport_lists.specs.Answer.{Refusal, Bounds, Mismatch}
 use Rattle.hidreport.specs.BitValue.{value, as_word}
 use Rattle.hidreport.specs.Records.{Attributes, FieldRecord, VariableRecord, ArrayRecord}
 use Rattle.hidreport.specs.Records.{ConstantRecord}
@@ -99,8 +98,3 @@ reads_element field bytes index =
     if nat_lt index (element_count field) then with_id (own_id field) bytes
     (element_of field bytes index)
     else Err Bounds
-
--- the answer, seen by `view`, is what the definition gives; want of memory says nothing
-abbrev pub AnswersBy : {A B : Type 0} → (A → B) → Result A ParserError → Result B Refusal → Type 0
-AnswersBy view (Ok x) answer = answer ≡ Ok (view x)
-AnswersBy view (Err e) answer = Refuses e answer

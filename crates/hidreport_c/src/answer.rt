@@ -1,7 +1,6 @@
 //! Lists as C gets them: into an array of the caller's, which may be too short.
 ghost use Rattle.std.specs.Prelude.{◌≡◌, List, Result, length};
-ghost use Rattle.hidreport.specs.Answer.{Refusal};
-ghost use Rattle.hidreport.specs.Reading.{AnswersBy};
+ghost use Rattle.hidreport.specs.Answer.{AnswersBy, Refusal};
 ghost use Rattle.hidreport_c.specs.Answer.{Lists, refused, written};
 
 use crate::status::{

@@ -1,7 +1,7 @@
 ghost use Rattle.std.specs.Prelude.{◌≡◌, ◌++◌, IfOk, OnOk, map, option_copied};
 ghost use Rattle.hidreport.specs.Lookup.{find_report};
 ghost use Rattle.hidreport.specs.Meaning.{parse};
-ghost use Rattle.hidreport.specs.Reading.{AnswersBy};
+ghost use Rattle.hidreport.specs.Answer.{AnswersBy};
 ghost use Rattle.hidreport.specs.Views.{field_record};
 ghost use Rattle.hidreport_c.specs.Answer.{Lists};
 ghost use Rattle.hidreport_c.specs.Describe.{described, fields_of, found, message_in, reports_of};

@@ -1,6 +1,6 @@
 ghost use Rattle.std.specs.Prelude.{◌≡◌, IfOk, map};
 ghost use Rattle.hidreport.specs.Itemising.{as_refusal, itemise};
-ghost use Rattle.hidreport.specs.Reading.{AnswersBy};
+ghost use Rattle.hidreport.specs.Answer.{AnswersBy};
 ghost use Rattle.hidreport.specs.Rebuilt.{rebuilding};
 ghost use Rattle.hidreport.specs.Spelling.{item_of};
 ghost use Rattle.hidreport_c.specs.Answer.{Lists};

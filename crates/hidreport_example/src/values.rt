@@ -1,6 +1,6 @@
 //! The same, proved to give the numbers that the definitions say.
 ghost use Rattle.std.specs.Prelude.{◌≡◌, map, IfOk};
-ghost use Rattle.hidreport.specs.Reading.{AnswersBy};
+ghost use Rattle.hidreport.specs.Answer.{AnswersBy};
 ghost use Rattle.hidreport.specs.Views.{field_record, variable_record};
 ghost use Rattle.hidreport_example.specs.Numbers.{number, numbers_at, numbers_in, numbers_of};
 

@@ -7,15 +7,16 @@ use Rattle.std.proofs.lemmas.Bool.{cond_both, cond-true, cond-false, eqb-true, n
 use Rattle.std.proofs.lemmas.Bool.Decides.{nat_tests}
 use Rattle.hidreport_items.specs.Answer.{Fault, Invalid, Writes}
 use Rattle.hidreport_items.specs.declared.error.HidError.{HidError}
-use Rattle.hidreport_items.specs.Messages.{size_message, tag_message}
+use Rattle.hidreport_items.specs.Messages.{size_message}
 use Rattle.hidreport_items.specs.Canonical.{IsCanonical, is_bare}
 use Rattle.hidreport_items.specs.Flags.{Flags, flags_of, is_flag_set}
 use Rattle.hidreport_items.specs.Kept.{is_kept}
 use Rattle.hidreport_items.specs.Numbers.{word, signed, is_short_length}
-use Rattle.hidreport_items.specs.Spelling.{announced, following, is_long_header, prefix, type_of}
+use Rattle.hidreport_items.specs.Spelling.{announced, following}
 use Rattle.hidreport_items.specs.Spelling.{item_of, main_item, global_item, local_item, usage_item}
 use Rattle.hidreport_items.specs.Spelling.{read_as, with_data, of_short_length, input_item}
-use Rattle.hidreport_items.specs.Spelling.{collection_item, kind_number, first_or_zero, AreBytes}
+use Rattle.hidreport_items.specs.Spelling.{output_item, feature_item, collection_item}
+use Rattle.hidreport_items.specs.Spelling.{kind_number, first_or_zero, AreBytes}
 use Rattle.hidreport_items.specs.Spelling.{Spells, read_with}
 use Rattle.hidreport_items.specs.Writing.{with_header, four_bytes, unsigned_data, signed_data}
 use Rattle.hidreport_items.specs.Writing.{count_data, flags_data, flags_number, item_bytes}
@@ -120,160 +121,36 @@ says-flags bs =
     let f : Flags = flags_of (word bs) in
     says-data (λ g. g ≡ f) bs (of_short_length bs (Ok f)) (says-short (λ g. g ≡ f) bs (Ok f) refl)
 
-abbrev main_5 : ℕ → List ℕ → Result MainItem Fault
-main_5 h bs = Err (Invalid (tag_message (prefix h)))
+-- of two ways to read, each says so
+says-either : {A : Type 0} (P : A → Type 0) {b : Bool} {x y : A} → P x → P y → P (cond b x y)
+says-either {A} P {true} {x} {y} first second = first
+says-either {A} P {false} {x} {y} first second = second
 
-abbrev main_4 : ℕ → List ℕ → Result MainItem Fault
-main_4 h bs = cond (prefix h == 0xc0) (Ok main.EndCollection) (main_5 h bs)
+says-main : (h : ℕ) (bs : List ℕ) → IfRead (SaysMain bs) (main_item h bs)
+says-main h bs =
+    let f : Flags = flags_of (word bs) in
+    let P : Result MainItem Fault → Type 0 = IfRead (SaysMain bs) in
+    says-either P
+    (says-as (λ g. g ≡ record f { volatile = false }) (SaysMain bs) main.Input (input_item bs)
+    (λ g is. is) (says-input bs))
+    (says-either P
+    (says-as (λ g. g ≡ f) (SaysMain bs) main.Output (output_item bs) (λ g is. is) (says-flags bs))
+    (says-either P refl
+    (says-either P
+    (says-as (λ g. g ≡ f) (SaysMain bs) main.Feature (feature_item bs) (λ g is. is)
+    (says-flags bs))
+    (says-either P tt tt))))
 
-abbrev main_3 : ℕ → List ℕ → Result MainItem Fault
-main_3 h bs = cond (prefix h == 0xb0)
-    (read_as main.Feature (with_data bs (of_short_length bs (Ok (flags_of (word bs))))))
-    (main_4 h bs)
-
-abbrev main_2 : ℕ → List ℕ → Result MainItem Fault
-main_2 h bs = cond (prefix h == 0xa0) (Ok (main.Collection (collection_item (first_or_zero bs))))
-    (main_3 h bs)
-
-abbrev main_1 : ℕ → List ℕ → Result MainItem Fault
-main_1 h bs = cond (prefix h == 0x90)
-    (read_as main.Output (with_data bs (of_short_length bs (Ok (flags_of (word bs))))))
-    (main_2 h bs)
-
-abbrev main_0 : ℕ → List ℕ → Result MainItem Fault
-main_0 h bs = cond (prefix h == 0x80) (read_as main.Input (input_item bs)) (main_1 h bs)
-
-says-main_5 : (h : ℕ) (bs : List ℕ) → IfRead (SaysMain bs) (main_5 h bs)
-says-main_5 h bs = tt
-
-says-main_4 : (h : ℕ) (bs : List ℕ) → IfRead (SaysMain bs) (main_4 h bs)
-says-main_4 h bs = cond_both (prefix h == 0xc0) (Ok main.EndCollection) (main_5 h bs)
-    (IfRead (SaysMain bs)) (λ e. tt) (λ e. says-main_5 h bs)
-
-says-main_3 : (h : ℕ) (bs : List ℕ) → IfRead (SaysMain bs) (main_3 h bs)
-says-main_3 h bs = cond_both (prefix h == 0xb0)
-    (read_as main.Feature (with_data bs (of_short_length bs (Ok (flags_of (word bs))))))
-    (main_4 h bs) (IfRead (SaysMain bs))
-    (λ e. says-as (λ f. f ≡ flags_of (word bs)) (SaysMain bs) main.Feature
-    (with_data bs (of_short_length bs (Ok (flags_of (word bs))))) (λ f is. is) (says-flags bs))
-    (λ e. says-main_4 h bs)
-
-says-main_2 : (h : ℕ) (bs : List ℕ) → IfRead (SaysMain bs) (main_2 h bs)
-says-main_2 h bs = cond_both (prefix h == 0xa0)
-    (Ok (main.Collection (collection_item (first_or_zero bs)))) (main_3 h bs) (IfRead (SaysMain bs))
-    (λ e. refl) (λ e. says-main_3 h bs)
-
-says-main_1 : (h : ℕ) (bs : List ℕ) → IfRead (SaysMain bs) (main_1 h bs)
-says-main_1 h bs = cond_both (prefix h == 0x90)
-    (read_as main.Output (with_data bs (of_short_length bs (Ok (flags_of (word bs))))))
-    (main_2 h bs) (IfRead (SaysMain bs))
-    (λ e. says-as (λ f. f ≡ flags_of (word bs)) (SaysMain bs) main.Output
-    (with_data bs (of_short_length bs (Ok (flags_of (word bs))))) (λ f is. is) (says-flags bs))
-    (λ e. says-main_2 h bs)
-
-says-main_0 : (h : ℕ) (bs : List ℕ) → IfRead (SaysMain bs) (main_0 h bs)
-says-main_0 h bs = cond_both (prefix h == 0x80) (read_as main.Input (input_item bs)) (main_1 h bs)
-    (IfRead (SaysMain bs)) (λ e. says-as (λ f. f ≡ record (flags_of (word bs)) { volatile = false })
-    (SaysMain bs) main.Input (input_item bs) (λ f is. is) (says-input bs)) (λ e. says-main_1 h bs)
-
-abbrev global_12 : ℕ → List ℕ → Result GlobalItem Fault
-global_12 h bs = Ok global.Reserved
-
-abbrev global_11 : ℕ → List ℕ → Result GlobalItem Fault
-global_11 h bs = cond (prefix h == 0xb4) (Ok global.Pop) (global_12 h bs)
-
-abbrev global_10 : ℕ → List ℕ → Result GlobalItem Fault
-global_10 h bs = cond (prefix h == 0xa4) (Ok global.Push) (global_11 h bs)
-
-abbrev global_9 : ℕ → List ℕ → Result GlobalItem Fault
-global_9 h bs = cond (prefix h == 0x94) (with_data bs (Ok (global.ReportCount (word bs))))
-    (global_10 h bs)
-
-abbrev global_8 : ℕ → List ℕ → Result GlobalItem Fault
-global_8 h bs = cond (prefix h == 0x84) (with_data bs (Ok (global.ReportId (word bs % 256))))
-    (global_9 h bs)
-
-abbrev global_7 : ℕ → List ℕ → Result GlobalItem Fault
-global_7 h bs = cond (prefix h == 0x74) (with_data bs (Ok (global.ReportSize (word bs))))
-    (global_8 h bs)
-
-abbrev global_6 : ℕ → List ℕ → Result GlobalItem Fault
-global_6 h bs = cond (prefix h == 0x64) (Ok (global.Unit (word bs))) (global_7 h bs)
-
-abbrev global_5 : ℕ → List ℕ → Result GlobalItem Fault
-global_5 h bs = cond (prefix h == 0x54) (Ok (global.UnitExponent (signed bs))) (global_6 h bs)
-
-abbrev global_4 : ℕ → List ℕ → Result GlobalItem Fault
-global_4 h bs = cond (prefix h == 0x44) (Ok (global.PhysicalMaximum (signed bs))) (global_5 h bs)
-
-abbrev global_3 : ℕ → List ℕ → Result GlobalItem Fault
-global_3 h bs = cond (prefix h == 0x34) (Ok (global.PhysicalMinimum (signed bs))) (global_4 h bs)
-
-abbrev global_2 : ℕ → List ℕ → Result GlobalItem Fault
-global_2 h bs = cond (prefix h == 0x24) (Ok (global.LogicalMaximum (signed bs))) (global_3 h bs)
-
-abbrev global_1 : ℕ → List ℕ → Result GlobalItem Fault
-global_1 h bs = cond (prefix h == 0x14) (Ok (global.LogicalMinimum (signed bs))) (global_2 h bs)
-
-abbrev global_0 : ℕ → List ℕ → Result GlobalItem Fault
-global_0 h bs = cond (prefix h == 0x04) (Ok (global.UsagePage (word bs % 65536))) (global_1 h bs)
-
-says-global_12 : (h : ℕ) (bs : List ℕ) → IfRead (SaysGlobal bs) (global_12 h bs)
-says-global_12 h bs = tt
-
-says-global_11 : (h : ℕ) (bs : List ℕ) → IfRead (SaysGlobal bs) (global_11 h bs)
-says-global_11 h bs = cond_both (prefix h == 0xb4) (Ok global.Pop) (global_12 h bs)
-    (IfRead (SaysGlobal bs)) (λ e. tt) (λ e. says-global_12 h bs)
-
-says-global_10 : (h : ℕ) (bs : List ℕ) → IfRead (SaysGlobal bs) (global_10 h bs)
-says-global_10 h bs = cond_both (prefix h == 0xa4) (Ok global.Push) (global_11 h bs)
-    (IfRead (SaysGlobal bs)) (λ e. tt) (λ e. says-global_11 h bs)
-
-says-global_9 : (h : ℕ) (bs : List ℕ) → IfRead (SaysGlobal bs) (global_9 h bs)
-says-global_9 h bs = cond_both (prefix h == 0x94) (with_data bs (Ok (global.ReportCount (word bs))))
-    (global_10 h bs) (IfRead (SaysGlobal bs))
-    (λ e. says-data (SaysGlobal bs) bs (Ok (global.ReportCount (word bs))) refl)
-    (λ e. says-global_10 h bs)
-
-says-global_8 : (h : ℕ) (bs : List ℕ) → IfRead (SaysGlobal bs) (global_8 h bs)
-says-global_8 h bs = cond_both (prefix h == 0x84)
-    (with_data bs (Ok (global.ReportId (word bs % 256)))) (global_9 h bs) (IfRead (SaysGlobal bs))
-    (λ e. says-data (SaysGlobal bs) bs (Ok (global.ReportId (word bs % 256))) refl)
-    (λ e. says-global_9 h bs)
-
-says-global_7 : (h : ℕ) (bs : List ℕ) → IfRead (SaysGlobal bs) (global_7 h bs)
-says-global_7 h bs = cond_both (prefix h == 0x74) (with_data bs (Ok (global.ReportSize (word bs))))
-    (global_8 h bs) (IfRead (SaysGlobal bs))
-    (λ e. says-data (SaysGlobal bs) bs (Ok (global.ReportSize (word bs))) refl)
-    (λ e. says-global_8 h bs)
-
-says-global_6 : (h : ℕ) (bs : List ℕ) → IfRead (SaysGlobal bs) (global_6 h bs)
-says-global_6 h bs = cond_both (prefix h == 0x64) (Ok (global.Unit (word bs))) (global_7 h bs)
-    (IfRead (SaysGlobal bs)) (λ e. refl) (λ e. says-global_7 h bs)
-
-says-global_5 : (h : ℕ) (bs : List ℕ) → IfRead (SaysGlobal bs) (global_5 h bs)
-says-global_5 h bs = cond_both (prefix h == 0x54) (Ok (global.UnitExponent (signed bs)))
-    (global_6 h bs) (IfRead (SaysGlobal bs)) (λ e. refl) (λ e. says-global_6 h bs)
-
-says-global_4 : (h : ℕ) (bs : List ℕ) → IfRead (SaysGlobal bs) (global_4 h bs)
-says-global_4 h bs = cond_both (prefix h == 0x44) (Ok (global.PhysicalMaximum (signed bs)))
-    (global_5 h bs) (IfRead (SaysGlobal bs)) (λ e. refl) (λ e. says-global_5 h bs)
-
-says-global_3 : (h : ℕ) (bs : List ℕ) → IfRead (SaysGlobal bs) (global_3 h bs)
-says-global_3 h bs = cond_both (prefix h == 0x34) (Ok (global.PhysicalMinimum (signed bs)))
-    (global_4 h bs) (IfRead (SaysGlobal bs)) (λ e. refl) (λ e. says-global_4 h bs)
-
-says-global_2 : (h : ℕ) (bs : List ℕ) → IfRead (SaysGlobal bs) (global_2 h bs)
-says-global_2 h bs = cond_both (prefix h == 0x24) (Ok (global.LogicalMaximum (signed bs)))
-    (global_3 h bs) (IfRead (SaysGlobal bs)) (λ e. refl) (λ e. says-global_3 h bs)
-
-says-global_1 : (h : ℕ) (bs : List ℕ) → IfRead (SaysGlobal bs) (global_1 h bs)
-says-global_1 h bs = cond_both (prefix h == 0x14) (Ok (global.LogicalMinimum (signed bs)))
-    (global_2 h bs) (IfRead (SaysGlobal bs)) (λ e. refl) (λ e. says-global_2 h bs)
-
-says-global_0 : (h : ℕ) (bs : List ℕ) → IfRead (SaysGlobal bs) (global_0 h bs)
-says-global_0 h bs = cond_both (prefix h == 0x04) (Ok (global.UsagePage (word bs % 65536)))
-    (global_1 h bs) (IfRead (SaysGlobal bs)) (λ e. refl) (λ e. says-global_1 h bs)
+says-global : (h : ℕ) (bs : List ℕ) → IfRead (SaysGlobal bs) (global_item h bs)
+says-global h bs =
+    let P : Result GlobalItem Fault → Type 0 = IfRead (SaysGlobal bs) in
+    says-short (SaysGlobal bs) bs _
+    (says-either P refl (says-either P refl (says-either P refl (says-either P refl
+    (says-either P refl (says-either P refl (says-either P refl
+    (says-either P (says-data (SaysGlobal bs) bs (Ok (global.ReportSize (word bs))) refl)
+    (says-either P (says-data (SaysGlobal bs) bs (Ok (global.ReportId (word bs % 256))) refl)
+    (says-either P (says-data (SaysGlobal bs) bs (Ok (global.ReportCount (word bs))) refl)
+    (says-either P tt (says-either P tt tt))))))))))))
 
 says-usage : (bs : List ℕ) → SaysLocal bs (usage_item (word bs) (length bs))
 says-usage bs =
@@ -281,110 +158,27 @@ says-usage bs =
     (local.UsageId (word bs % 65536)) (SaysLocal bs)
     (λ e. (eqb-true (length bs) 4 e, refl, refl)) (λ e. refl)
 
-abbrev local_10 : ℕ → List ℕ → LocalItem
-local_10 h bs = local.Reserved (prefix h)
-
-abbrev local_9 : ℕ → List ℕ → LocalItem
-local_9 h bs = cond (prefix h == 0xa8) (local.Delimiter (word bs)) (local_10 h bs)
-
-abbrev local_8 : ℕ → List ℕ → LocalItem
-local_8 h bs = cond (prefix h == 0x98) (local.StringMaximum (word bs)) (local_9 h bs)
-
-abbrev local_7 : ℕ → List ℕ → LocalItem
-local_7 h bs = cond (prefix h == 0x88) (local.StringMinimum (word bs)) (local_8 h bs)
-
-abbrev local_6 : ℕ → List ℕ → LocalItem
-local_6 h bs = cond (prefix h == 0x78) (local.StringIndex (word bs)) (local_7 h bs)
-
-abbrev local_5 : ℕ → List ℕ → LocalItem
-local_5 h bs = cond (prefix h == 0x58) (local.DesignatorMaximum (word bs)) (local_6 h bs)
-
-abbrev local_4 : ℕ → List ℕ → LocalItem
-local_4 h bs = cond (prefix h == 0x48) (local.DesignatorMinimum (word bs)) (local_5 h bs)
-
-abbrev local_3 : ℕ → List ℕ → LocalItem
-local_3 h bs = cond (prefix h == 0x38) (local.DesignatorIndex (word bs)) (local_4 h bs)
-
-abbrev local_2 : ℕ → List ℕ → LocalItem
-local_2 h bs = cond (prefix h == 0x28) (local.UsageMaximum (word bs)) (local_3 h bs)
-
-abbrev local_1 : ℕ → List ℕ → LocalItem
-local_1 h bs = cond (prefix h == 0x18) (local.UsageMinimum (word bs)) (local_2 h bs)
-
-abbrev local_0 : ℕ → List ℕ → LocalItem
-local_0 h bs = cond (prefix h == 0x08) (usage_item (word bs) (length bs)) (local_1 h bs)
-
-says-local_10 : (h : ℕ) (bs : List ℕ) → SaysLocal bs (local_10 h bs)
-says-local_10 h bs = tt
-
-says-local_9 : (h : ℕ) (bs : List ℕ) → SaysLocal bs (local_9 h bs)
-says-local_9 h bs = cond_both (prefix h == 0xa8) (local.Delimiter (word bs)) (local_10 h bs)
-    (SaysLocal bs) (λ e. refl) (λ e. says-local_10 h bs)
-
-says-local_8 : (h : ℕ) (bs : List ℕ) → SaysLocal bs (local_8 h bs)
-says-local_8 h bs = cond_both (prefix h == 0x98) (local.StringMaximum (word bs)) (local_9 h bs)
-    (SaysLocal bs) (λ e. refl) (λ e. says-local_9 h bs)
-
-says-local_7 : (h : ℕ) (bs : List ℕ) → SaysLocal bs (local_7 h bs)
-says-local_7 h bs = cond_both (prefix h == 0x88) (local.StringMinimum (word bs)) (local_8 h bs)
-    (SaysLocal bs) (λ e. refl) (λ e. says-local_8 h bs)
-
-says-local_6 : (h : ℕ) (bs : List ℕ) → SaysLocal bs (local_6 h bs)
-says-local_6 h bs = cond_both (prefix h == 0x78) (local.StringIndex (word bs)) (local_7 h bs)
-    (SaysLocal bs) (λ e. refl) (λ e. says-local_7 h bs)
-
-says-local_5 : (h : ℕ) (bs : List ℕ) → SaysLocal bs (local_5 h bs)
-says-local_5 h bs = cond_both (prefix h == 0x58) (local.DesignatorMaximum (word bs)) (local_6 h bs)
-    (SaysLocal bs) (λ e. refl) (λ e. says-local_6 h bs)
-
-says-local_4 : (h : ℕ) (bs : List ℕ) → SaysLocal bs (local_4 h bs)
-says-local_4 h bs = cond_both (prefix h == 0x48) (local.DesignatorMinimum (word bs)) (local_5 h bs)
-    (SaysLocal bs) (λ e. refl) (λ e. says-local_5 h bs)
-
-says-local_3 : (h : ℕ) (bs : List ℕ) → SaysLocal bs (local_3 h bs)
-says-local_3 h bs = cond_both (prefix h == 0x38) (local.DesignatorIndex (word bs)) (local_4 h bs)
-    (SaysLocal bs) (λ e. refl) (λ e. says-local_4 h bs)
-
-says-local_2 : (h : ℕ) (bs : List ℕ) → SaysLocal bs (local_2 h bs)
-says-local_2 h bs = cond_both (prefix h == 0x28) (local.UsageMaximum (word bs)) (local_3 h bs)
-    (SaysLocal bs) (λ e. refl) (λ e. says-local_3 h bs)
-
-says-local_1 : (h : ℕ) (bs : List ℕ) → SaysLocal bs (local_1 h bs)
-says-local_1 h bs = cond_both (prefix h == 0x18) (local.UsageMinimum (word bs)) (local_2 h bs)
-    (SaysLocal bs) (λ e. refl) (λ e. says-local_2 h bs)
-
-says-local_0 : (h : ℕ) (bs : List ℕ) → SaysLocal bs (local_0 h bs)
-says-local_0 h bs = cond_both (prefix h == 0x08) (usage_item (word bs) (length bs)) (local_1 h bs)
-    (SaysLocal bs) (λ e. says-usage bs) (λ e. says-local_1 h bs)
-
-says-global : (h : ℕ) (bs : List ℕ) → IfRead (SaysGlobal bs) (global_item h bs)
-says-global h bs = says-short (SaysGlobal bs) bs (global_0 h bs) (says-global_0 h bs)
-
 says-local : (h : ℕ) (bs : List ℕ) → IfRead (SaysLocal bs) (local_item h bs)
 says-local h bs =
-    says-data (SaysLocal bs) bs (of_short_length bs (Ok (local_0 h bs)))
-    (says-short (SaysLocal bs) bs (Ok (local_0 h bs)) (says-local_0 h bs))
+    let P : LocalItem → Type 0 = SaysLocal bs in
+    says-data P bs _ (says-short P bs (Ok _)
+    (says-either P (says-usage bs) (says-either P refl (says-either P refl (says-either P refl
+    (says-either P refl (says-either P refl (says-either P refl (says-either P refl
+    (says-either P refl (says-either P refl tt)))))))))))
 
 -- what a header and data spell, the data says
 pub says-item : (h : ℕ) (bs : List ℕ) → IfRead (Says bs) (item_of h bs)
 says-item h bs =
-    let reserved : Result ItemType Fault = Ok item.Reserved in
-    let of_long : Result ItemType Fault = cond (is_long_header h) (Ok item.Long) reserved in
-    let of_local : Result ItemType Fault =
-    cond (type_of h == 2) (read_as item.Local (local_item h bs)) of_long in
-    let of_global : Result ItemType Fault =
-    cond (type_of h == 1) (read_as item.Global (global_item h bs)) of_local in
-    cond_both (type_of h == 0) (read_as item.Main (main_item h bs)) of_global (IfRead (Says bs))
-    (λ e. says-as (SaysMain bs) (Says bs) item.Main (main_item h bs) (λ x is. is)
-    (says-main_0 h bs))
-    (λ e. cond_both (type_of h == 1) (read_as item.Global (global_item h bs)) of_local
-    (IfRead (Says bs)) (λ e. says-as (SaysGlobal bs) (Says bs) item.Global (global_item h bs)
-    (λ x is. is) (says-global h bs))
-    (λ e. cond_both (type_of h == 2) (read_as item.Local (local_item h bs)) of_long
-    (IfRead (Says bs)) (λ e. says-as (SaysLocal bs) (Says bs) item.Local (local_item h bs)
-    (λ x is. is) (says-local h bs))
-    (λ e. cond_both (is_long_header h) (Ok item.Long) reserved (IfRead (Says bs)) (λ e. tt)
-    (λ e. tt))))
+    let P : Result ItemType Fault → Type 0 = IfRead (Says bs) in
+    says-either P
+    (says-as (SaysMain bs) (Says bs) item.Main (main_item h bs) (λ x is. is) (says-main h bs))
+    (says-either P
+    (says-as (SaysGlobal bs) (Says bs) item.Global (global_item h bs) (λ x is. is)
+    (says-global h bs))
+    (says-either P
+    (says-as (SaysLocal bs) (Says bs) item.Local (local_item h bs) (λ x is. is)
+    (says-local h bs))
+    (says-either P tt tt)))
 
 -- what a kept item's spelling has behind its header
 pub record Behind (bs : List ℕ) (x : ItemType) : Type 0 where

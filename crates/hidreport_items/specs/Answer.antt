@@ -37,10 +37,10 @@ abbrev pub GivesInPlace : {A : Type 0} → Result A HidError → Result A Fault 
 GivesInPlace (Ok x) read = read ≡ Ok x
 GivesInPlace (Err e) read = FailsInPlace e read
 
--- the same as `Gives` for a list of bytes
-abbrev pub GivesList : Result (Vec ℕ Global) HidError → Result (List ℕ) Fault → Type 0
-GivesList (Ok xs) read = read ≡ Ok xs.items
-GivesList (Err e) read = Fails e read
+-- the answer, seen by `view`, is what reading gives
+abbrev pub GivesBy : {A B : Type 0} → (A → B) → Result A HidError → Result B Fault → Type 0
+GivesBy view (Ok x) read = read ≡ Ok (view x)
+GivesBy view (Err e) read = Fails e read
 
 -- the answer is these bytes; only want of memory refuses it
 abbrev pub Writes : Result (Vec ℕ Global) HidError → List ℕ → Type 0

@@ -37,5 +37,5 @@ pub use item_bytes::ItemBytes;
 pub use item_fault::ItemFault;
 pub use local::LocalItem;
 pub use main_item::{CollectionItem, MainItem};
-pub use message::{error_of, with_message};
+pub use message::{error_of, invalid_data, with_message};
 pub use output::OutputItem;

@@ -40,32 +40,32 @@ pub fn error_of(alloc: Global, fault: ItemFault) -> HidError
 fn size_fault(alloc: Global, length: usize) -> HidError
     ensures { IsFault result (size_message length) }
 {
-    fault(size_text(alloc, length))
+    invalid_data(size_text(alloc, length))
 }
 
 /// The refusal of a main item's header whose tag isn't one of the five.
 fn tag_fault(alloc: Global, header: u8) -> HidError
     ensures { IsFault result (tag_message (prefix header)) }
 {
-    fault(tag_text(alloc, header & 0xfc))
+    invalid_data(tag_text(alloc, header & 0xfc))
 }
 
 /// The refusal of a long item where a short one is asked for.
 fn long_fault(alloc: Global) -> HidError
     ensures { IsFault result long_message }
 {
-    fault(String::from_str(alloc, "Item is a long item"))
+    invalid_data(String::from_str(alloc, "Item is a long item"))
 }
 
 /// The refusal of a short item where a long one is asked for.
 fn not_long_fault(alloc: Global) -> HidError
     ensures { IsFault result not_long_message }
 {
-    fault(String::from_str(alloc, "Item is not a long item"))
+    invalid_data(String::from_str(alloc, "Item is not a long item"))
 }
 
 /// Data that is refused with this message, or want of memory for it.
-fn fault(message: Result<String, AllocError>) -> HidError
+pub fn invalid_data(message: Result<String, AllocError>) -> HidError
     ensures { MatchResult message
         (λ t. IsFault result (string_bytes t))
         (λ _. result ≡ HidError.OutOfMemory) }

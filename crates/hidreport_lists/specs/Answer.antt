@@ -29,6 +29,11 @@ abbrev pub Answers : {A : Type 0} → Result A ParserError → Result A Refusal 
 Answers (Ok x) answer = answer ≡ Ok x
 Answers (Err e) answer = Refuses e answer
 
+-- the answer, seen by `view`, is what the definition gives
+abbrev pub AnswersBy : {A B : Type 0} → (A → B) → Result A ParserError → Result B Refusal → Type 0
+AnswersBy view (Ok x) answer = answer ≡ Ok (view x)
+AnswersBy view (Err e) answer = Refuses e answer
+
 -- the error is data refused at the offset with this message, or want of memory
 abbrev pub IsInvalidAt : ParserError → ℕ → List ℕ → Type 0
 IsInvalidAt (errors.InvalidData at text) offset message =

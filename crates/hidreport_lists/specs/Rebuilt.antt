@@ -1,16 +1,13 @@
 -- A descriptor written anew (Sections 6.2.2.1 and 6.2.2.2): the items that today's standard gives a
 -- meaning, each in its canonical spelling.
-use Rattle.std.specs.Prelude.{◌≡◌, ℕ, ◌+◌, List, [], ◌∷◌, length, map, filter, flat_map}
-use Rattle.std.specs.Prelude.{Result, Ok, Err, Vec}
-use Rattle.std.specs.Global.{Global}
+use Rattle.std.specs.Prelude.{ℕ, ◌+◌, List, [], ◌∷◌, length, map, filter, flat_map}
+use Rattle.std.specs.Prelude.{Result, Ok, Err}
 use Rattle.hidreport_items.specs.Answer.{Fault}
 use Rattle.hidreport_items.specs.Canonical.{IsCanonical}
 use Rattle.hidreport_items.specs.Kept.{is_kept}
 use Rattle.hidreport_items.specs.Writing.{item_bytes}
 use Rattle.hidreport_items.specs.declared.item.ItemType.{ItemType}
-use Rattle.hidreport_lists.specs.Answer.{Refusal, Refuses}
 use Rattle.hidreport_lists.specs.Entry.{Entry}
-use Rattle.hidreport_lists.specs.declared.error.ParserError.{ParserError}
 
 -- what is spelled, without where and how
 abbrev pub items_of : List Entry → List ItemType
@@ -40,8 +37,3 @@ rebuilding (Err fault) = Err fault
 abbrev pub AreCanonical : List Entry → Type 0
 AreCanonical [] = Unit {0}
 AreCanonical (e ∷ entries) = IsCanonical e.bytes e.item × AreCanonical entries
-
--- the answer is these bytes, or this refusal
-abbrev pub AnswersBytes : Result (Vec ℕ Global) ParserError → Result (List ℕ) Refusal → Type 0
-AnswersBytes (Ok written) answer = answer ≡ Ok written.items
-AnswersBytes (Err e) answer = Refuses e answer

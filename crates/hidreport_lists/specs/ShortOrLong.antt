@@ -1,6 +1,6 @@
 -- An item that is short or long (Sections 6.2.2.2 and 6.2.2.3).
 use Rattle.std.specs.Prelude.{◌≡◌, ℕ, Bool, true, false, List, Result, Ok, Err}
-use Rattle.hidreport_items.specs.Answer.{Fault, Fails, FailsInPlace}
+use Rattle.hidreport_items.specs.Answer.{Fault, FailsInPlace}
 use Rattle.hidreport_items.specs.Spelling.{first_or_zero, is_long_header}
 use Rattle.hidreport_items.specs.declared.error.HidError.{HidError}
 use Rattle.hidreport_items.specs.declared.item.ItemType.TheVariants as item
@@ -30,11 +30,6 @@ any_tag (any.Long bytes) = long_tag bytes
 abbrev pub any_data : AnyItem → List ℕ
 any_data (any.Short item) = short_data item.bytes
 any_data (any.Long bytes) = long_data bytes
-
--- the answer is what reading gives; want of memory says nothing
-abbrev pub GivesItem : Result AnyItem HidError → Result Spelled Fault → Type 0
-GivesItem (Ok item) read = read ≡ Ok (spelled item)
-GivesItem (Err e) read = Fails e read
 
 -- an error is this fault; only a message takes memory
 abbrev pub RefusesInPlace : Result AnyItem HidError → Result Spelled Fault → Type 0

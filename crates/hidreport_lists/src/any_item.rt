@@ -1,8 +1,9 @@
 ghost use Rattle.std.specs.Prelude.{◌≡◌, false, IfOk};
+ghost use Rattle.hidreport_items.specs.Answer.{GivesBy};
 ghost use Rattle.hidreport_items.specs.Spelling.{first_or_zero, is_long_header, item_of};
 ghost use Rattle.hidreport_lists.specs.Itemising.{front_item};
 ghost use Rattle.hidreport_lists.specs.ShortOrLong.{any_data, any_tag, is_long_one, spelled};
-ghost use Rattle.hidreport_lists.specs.ShortOrLong.{GivesItem, IsByHeader, RefusesInPlace};
+ghost use Rattle.hidreport_lists.specs.ShortOrLong.{IsByHeader, RefusesInPlace};
 
 use crate::data::ItemData;
 use crate::long_item::LongItem;
@@ -28,7 +29,7 @@ impl AnyItem {
     /// No bytes are `InsufficientData`. The refusals are those of `LongItem::try_from` and
     /// `ShortItem::try_from`; a short item takes no memory.
     pub fn try_from(alloc: Global, bytes: &[u8]) -> Result<AnyItem, HidError>
-        ensures exact { GivesItem result (front_item item_of bytes.now) }
+        ensures exact { GivesBy spelled result (front_item item_of bytes.now) }
         ensures kind { IfOk result (λ item. IsByHeader item bytes.now) }
         ensures memory { is_long_header (first_or_zero bytes.now) ≡ false
             → RefusesInPlace result (front_item item_of bytes.now) }

@@ -1,9 +1,9 @@
-ghost use Rattle.std.specs.Prelude.{◌≡◌, IfOk, MatchResult, string_bytes};
-ghost use Rattle.hidreport_items.specs.Answer.{GivesInPlace, GivesList, IsFault};
+ghost use Rattle.std.specs.Prelude.{◌≡◌, IfOk, string_bytes};
+ghost use Rattle.hidreport_items.specs.Answer.{GivesBy, GivesInPlace};
 ghost use Rattle.hidreport_lists.specs.Data.{byte_message, data_byte, data_list, data_number};
 ghost use Rattle.hidreport_lists.specs.Data.{length_message};
 
-use hidreport_items::HidError;
+use hidreport_items::{HidError, invalid_data};
 use std::alloc::{AllocError, Global};
 use std::marker::Model;
 
@@ -49,7 +49,7 @@ impl<'a> ItemData<'a> {
             [a] => Ok(u32::from(*a)),
             [a, b] => Ok(u32::from(u16::from_le_bytes([*a, *b]))),
             [a, b, c, d] => Ok(u32::from_le_bytes([*a, *b, *c, *d])),
-            bytes => Err(fault(length_text(alloc, bytes.len()))),
+            bytes => Err(invalid_data(length_text(alloc, bytes.len()))),
         }
     }
 
@@ -63,7 +63,7 @@ impl<'a> ItemData<'a> {
         match self.bytes {
             [] => Err(HidError::InsufficientData),
             [byte] => Ok(*byte),
-            bytes => Err(fault(byte_text(alloc, bytes.len()))),
+            bytes => Err(invalid_data(byte_text(alloc, bytes.len()))),
         }
     }
 
@@ -72,25 +72,13 @@ impl<'a> ItemData<'a> {
     /// No data is `InsufficientData`; another length `n` than 1, 2 and 4 is `InvalidData`,
     /// `Size of {n} cannot happen`. `OutOfMemory` comes only where a growth is refused.
     pub fn to_vec(&self, alloc: Global) -> Result<Vec<u8>, HidError>
-        ensures { GivesList result (data_list self.now) }
+        ensures { GivesBy (λ bytes. bytes.items) result (data_list self.now) }
     {
         match self.bytes.len() {
             0 => Err(HidError::InsufficientData),
             1 | 2 | 4 => Ok(Vec::from_slice(alloc, self.bytes)?),
-            length => Err(fault(length_text(alloc, length))),
+            length => Err(invalid_data(length_text(alloc, length))),
         }
-    }
-}
-
-/// Data that is refused with this message, or want of memory for it.
-fn fault(message: Result<String, AllocError>) -> HidError
-    ensures { MatchResult message
-        (λ t. IsFault result (string_bytes t))
-        (λ _. result ≡ HidError.OutOfMemory) }
-{
-    match message {
-        Ok(message) => HidError::InvalidData { message },
-        Err(refused) => HidError::from(refused),
     }
 }
 

@@ -2,9 +2,10 @@ ghost use Rattle.std.specs.Prelude.{◌≡◌, ◌≢◌, ◌↔◌, ◌++◌, �
 ghost use Rattle.hidreport_items.specs.Kept.{is_kept};
 ghost use Rattle.hidreport_items.specs.Spelling.{item_of};
 ghost use Rattle.hidreport_items.specs.Writing.{item_bytes};
+ghost use Rattle.hidreport_lists.specs.Answer.{AnswersBy};
 ghost use Rattle.hidreport_lists.specs.Entry.{Entry};
 ghost use Rattle.hidreport_lists.specs.Itemising.{as_refusal, itemise, Itemises, joined};
-ghost use Rattle.hidreport_lists.specs.Rebuilt.{AnswersBytes, AreCanonical, items_of, kept};
+ghost use Rattle.hidreport_lists.specs.Rebuilt.{AreCanonical, items_of, kept};
 ghost use Rattle.hidreport_lists.specs.Rebuilt.{rebuilding, rebuilt, respelled};
 
 use crate::error::ParserError;
@@ -24,7 +25,8 @@ use std::alloc::{AllocError, Global};
 /// it gives (`itself`). Two descriptors are rebuilt alike just where they keep the same items
 /// (`alike`).
 pub fn rebuild(alloc: Global, bytes: &[u8]) -> Result<Vec<u8>, ParserError>
-    ensures exact { AnswersBytes result (as_refusal (rebuilding (itemise item_of bytes.now))) }
+    ensures exact { AnswersBy (λ written. written.items) result
+        (as_refusal (rebuilding (itemise item_of bytes.now))) }
     ensures canonical { (entries : List Entry) → Itemises item_of bytes.now entries
         → IfOk result (λ bytes. (joined (respelled 0 (items_of (kept entries))) ≡ bytes.items)
         × AreCanonical (respelled 0 (items_of (kept entries)))) }

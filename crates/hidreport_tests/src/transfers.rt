@@ -1,14 +1,10 @@
 //! Runs over slow, flaky and long inputs and outputs, and what the program ends with.
 use crate::failing::{FlakyWriter, SlowReader};
+use crate::runs::{TWO_AXES, TWO_AXES_TEXT};
 use hidreport_program::program::{Command, Fault, Outcome, line_of, run, status_of};
 use hidreport_transfer::{Failed, FromRead, RunFault, Sink, ToWrite};
 use std::alloc::{AllocError, Global};
 use std::test::Fail;
-
-const TWO_AXES: &[u8] = b"\x05\x01\x15\x81\x25\x7f\x75\x08\x95\x02\x09\x30\x09\x31\x81\x02";
-
-const TWO_AXES_TEXT: &[u8] =
-    b"report -- 16\n0..8 variable 00010030 5\n8..16 variable 00010031 -5\n";
 
 /// A reader of one byte a read.
 fn slow(bytes: &[u8]) -> FromRead<SlowReader<'_>> {
@@ -135,10 +131,6 @@ fn statuses_and_lines(rt: HostRuntime) {
     assert_eq!(rt; status_of(Ok(Outcome::Done)), 0);
     assert_eq!(rt; status_of(Ok(Outcome::Refused)), 1);
     let rows = [
-        (
-            Fault::Arguments,
-            "usage: hidreport items FILE | values FILE REPORT | values-within LIMIT FILE REPORT | values-globals FILE REPORT | rebuild FILE",
-        ),
         (Fault::Open, "fault: open"),
         (Fault::Run(RunFault::Read), "fault: read"),
         (Fault::Run(RunFault::Write), "fault: write"),

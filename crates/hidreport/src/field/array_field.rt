@@ -1,9 +1,9 @@
 ghost use Rattle.std.specs.Prelude.{◌≡◌, ◌≢◌, ◌+◌, ◌*◌, ◌^◌, ◌<◌, pos, int_lt, IfErr, IfOk, IfSome};
 ghost use Rattle.std.specs.Prelude.{IsNone, IsOk, OnOk};
-ghost use Rattle.hidreport_lists.specs.Answer.{Answers, Bounds, Refuses};
+ghost use Rattle.hidreport_lists.specs.Answer.{Answers, AnswersBy, Bounds, Refuses};
 ghost use Rattle.hidreport.specs.Bits.{FixesBits};
 ghost use Rattle.hidreport.specs.Choosing.{usage_chosen, value_number};
-ghost use Rattle.hidreport.specs.Reading.{AnswersBy, element_of, element_width, reads, reads_element};
+ghost use Rattle.hidreport.specs.Reading.{element_of, element_width, reads, reads_element};
 ghost use Rattle.hidreport.specs.Reading.{values_of};
 ghost use Rattle.hidreport.specs.Records.{is_of_range, usages_in};
 ghost use Rattle.hidreport.specs.Tiling.{HasRange};
