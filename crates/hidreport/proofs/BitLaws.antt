@@ -13,7 +13,7 @@ use Rattle.hidreport.specs.Reading.{ValueRecord, before_values, element, element
 use Rattle.hidreport.specs.Reading.{elements_from, is_signed, one_value, own_id, read_bits}
 use Rattle.hidreport.specs.Reading.{values_of, with_id}
 use Rattle.hidreport.specs.Records.{FieldRecord, VariableRecord, ArrayRecord, ConstantRecord}
-use Rattle.hidreport.specs.Bits.{AgreeOn, FixesBits, covered}
+use Rattle.hidreport.specs.Bits.{AgreeOn, FixesBits, covered_bits}
 use Rattle.hidreport.specs.Tiling.{place_of}
 use Rattle.hidreport.proofs.BitLemmas.{below-word, bit-small, plain-word, sum-small, zero-or-one}
 
@@ -270,7 +270,7 @@ one-of (Err f) xs e = cc
 
 values-fix : (field : FieldRecord) (bytes other : List ℕ) (xs ys : List ValueRecord)
     → values_of field bytes ≡ Ok xs → values_of field other ≡ Ok ys
-    → (xs ≡ ys) ↔ AgreeOn (place_of field).first (covered field) bytes other
+    → (xs ≡ ys) ↔ AgreeOn (place_of field).first (covered_bits field) bytes other
 values-fix (VariableRecord place usage shared) bytes other xs ys p q =
     let a = one-of (read_bits place.first place.«end» (is_signed shared) bytes) xs p in
     let b = one-of (read_bits place.first place.«end» (is_signed shared) other) ys q in

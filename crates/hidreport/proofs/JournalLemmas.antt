@@ -7,7 +7,7 @@ use Rattle.hidreport_items.specs.declared.local.LocalItem.{LocalItem}
 use Rattle.hidreport.specs.InForce.{Force}
 use Rattle.hidreport.specs.Parser.Forces.{Forces, force_of}
 use Rattle.hidreport.specs.Parser.Journal.{Change, Opened, WasGlobals, WasLocals, Fits, IsCounted}
-use Rattle.hidreport.specs.Parser.Journal.{noted, undone}
+use Rattle.hidreport.specs.Parser.Journal.{with_change, undone_stack}
 use Rattle.hidreport.specs.Parser.Machine.{brought_back, kept_of, last_force}
 use Rattle.hidreport.specs.declared.parser.globals.Globals.{Globals}
 use Rattle.hidreport.specs.declared.parser.push_keeps.PushKeeps.{PushKeeps}
@@ -22,7 +22,7 @@ take-all xs = grind (arith, common_steps)
 
 -- where Pushes keep no locals, what they keep is the same whatever the locals
 undone-bare : (cs : List Change) (g : Globals) (ls ms : List LocalItem)
-    → undone push_keeps.Globals cs g ls ≡ undone push_keeps.Globals cs g ms
+    → undone_stack push_keeps.Globals cs g ls ≡ undone_stack push_keeps.Globals cs g ms
 undone-bare [] g ls ms = refl
 undone-bare (Opened n ∷ cs) g ls ms =
     ap (λ (l : List Force). force_of g [] ∷ l) (undone-bare cs g (take n ls) (take n ms))
@@ -31,16 +31,16 @@ undone-bare (WasLocals old ∷ cs) g ls ms = refl
 
 -- locals that are added change nothing that is kept
 added-all : (cs : List Change) (g : Globals) (ls more : List LocalItem) → IsCounted cs ls
-    → undone push_keeps.All cs g (ls ++ more) ≡ undone push_keeps.All cs g ls
+    → undone_stack push_keeps.All cs g (ls ++ more) ≡ undone_stack push_keeps.All cs g ls
 added-all [] g ls more f = refl
 added-all (Opened n ∷ cs) g ls more f =
-    ap (λ (l : List LocalItem). force_of g l ∷ undone push_keeps.All cs g l)
+    ap (λ (l : List LocalItem). force_of g l ∷ undone_stack push_keeps.All cs g l)
     (take-front n ls more f.0)
 added-all (WasGlobals old ∷ cs) g ls more f = added-all cs old ls more f
 added-all (WasLocals old ∷ cs) g ls more f = refl
 
 pub undone-added : (keeping : PushKeeps) (cs : List Change) (g : Globals) (ls more : List LocalItem)
-    → Fits keeping cs ls → undone keeping cs g (ls ++ more) ≡ undone keeping cs g ls
+    → Fits keeping cs ls → undone_stack keeping cs g (ls ++ more) ≡ undone_stack keeping cs g ls
 undone-added push_keeps.All cs g ls more f = added-all cs g ls more f
 undone-added push_keeps.Globals cs g ls more f = undone-bare cs g (ls ++ more) ls
 
@@ -71,33 +71,33 @@ fits-added push_keeps.Globals cs ls more f = tt
 
 -- globals that are set are brought back
 pub undone-set : (keeping : PushKeeps) (cs : List Change) (old new : Globals) (ls : List LocalItem)
-    → undone keeping (noted (WasGlobals old) cs) new ls ≡ undone keeping cs old ls
+    → undone_stack keeping (with_change (WasGlobals old) cs) new ls ≡ undone_stack keeping cs old ls
 undone-set keeping [] old new ls = refl
 undone-set keeping (c ∷ cs) old new ls = refl
 
 set-all : (cs : List Change) (old : Globals) (ls : List LocalItem) → IsCounted cs ls
-    → IsCounted (noted (WasGlobals old) cs) ls
+    → IsCounted (with_change (WasGlobals old) cs) ls
 set-all [] old ls f = tt
 set-all (c ∷ cs) old ls f = f
 
 pub fits-set : (keeping : PushKeeps) (cs : List Change) (old : Globals) (ls : List LocalItem)
-    → Fits keeping cs ls → Fits keeping (noted (WasGlobals old) cs) ls
+    → Fits keeping cs ls → Fits keeping (with_change (WasGlobals old) cs) ls
 fits-set push_keeps.All cs old ls f = set-all cs old ls f
 fits-set push_keeps.Globals cs old ls f = tt
 
 -- so are locals that are ended
 pub undone-ended : (keeping : PushKeeps) (cs : List Change) (g : Globals) (ls : List LocalItem)
-    → undone keeping (noted (WasLocals ls) cs) g [] ≡ undone keeping cs g ls
+    → undone_stack keeping (with_change (WasLocals ls) cs) g [] ≡ undone_stack keeping cs g ls
 undone-ended keeping [] g ls = refl
 undone-ended keeping (c ∷ cs) g ls = refl
 
 ended-all : (cs : List Change) (ls : List LocalItem) → IsCounted cs ls
-    → IsCounted (noted (WasLocals ls) cs) []
+    → IsCounted (with_change (WasLocals ls) cs) []
 ended-all [] ls f = tt
 ended-all (c ∷ cs) ls f = f
 
 pub fits-ended : (keeping : PushKeeps) (cs : List Change) (ls : List LocalItem) → Fits keeping cs ls
-    → Fits keeping (noted (WasLocals ls) cs) []
+    → Fits keeping (with_change (WasLocals ls) cs) []
 fits-ended push_keeps.All cs ls f = ended-all cs ls f
 fits-ended push_keeps.Globals cs ls f = tt
 
@@ -113,11 +113,11 @@ fits-pushed push_keeps.Globals cs ls f = tt
 pub passed-over : (keeping : PushKeeps) (cs rest : List Change) (g : Globals)
     (ls old : List LocalItem) (kept : List Force) → keeping ≡ push_keeps.Globals
     → cs ≡ WasLocals old ∷ rest
-    → undone keeping cs g ls ≡ kept → (undone keeping rest g ls ≡ kept) × Fits keeping rest ls
+    → undone_stack keeping cs g ls ≡ kept → (undone_stack keeping rest g ls ≡ kept) × Fits keeping rest ls
 passed-over push_keeps.All cs rest g ls old kept is newest same = cc
 passed-over push_keeps.Globals cs rest g ls old kept is newest same = (
   undone-bare rest g ls old
-      ∙ ap (λ (l : List Change). undone push_keeps.Globals l g ls) (sym newest) ∙ same,
+      ∙ ap (λ (l : List Change). undone_stack push_keeps.Globals l g ls) (sym newest) ∙ same,
   tt,
 )
 
@@ -135,7 +135,7 @@ back-globals push_keeps.All now g ls xs is same = cc
 back-globals push_keeps.Globals now g ls xs is same = ap (λ (l : List LocalItem). force_of g l) same
 
 pub same-bare : (keeping : PushKeeps) (cs : List Change) (g : Globals) (ls ms : List LocalItem)
-    → keeping ≡ push_keeps.Globals → undone keeping cs g ls ≡ undone keeping cs g ms
+    → keeping ≡ push_keeps.Globals → undone_stack keeping cs g ls ≡ undone_stack keeping cs g ms
 same-bare push_keeps.All cs g ls ms is = cc
 same-bare push_keeps.Globals cs g ls ms is = undone-bare cs g ls ms
 
@@ -145,19 +145,19 @@ forces keeping now kept = record { keeping = keeping; now = now; kept = kept }
 -- behind the Push's own note
 pub popped : (old : Forces) (keeping : PushKeeps) (now back : Force) (cs rest : List Change)
     (g : Globals) (ls ms : List LocalItem) (n : ℕ) (kept : List Force)
-    → forces keeping now (reverse kept) ≡ old → cs ≡ Opened n ∷ rest → undone keeping cs g ls ≡ kept
+    → forces keeping now (reverse kept) ≡ old → cs ≡ Opened n ∷ rest → undone_stack keeping cs g ls ≡ kept
     → back ≡ brought_back keeping now (kept_of keeping (force_of g (take n ls)))
-    → undone keeping rest g ms ≡ undone keeping rest g (take n ls)
-    → forces keeping back (reverse (undone keeping rest g ms))
+    → undone_stack keeping rest g ms ≡ undone_stack keeping rest g (take n ls)
+    → forces keeping back (reverse (undone_stack keeping rest g ms))
     ≡ forces old.keeping (brought_back old.keeping old.now (last_force old.now old.kept))
     (take (length old.kept - 1) old.kept)
 popped old keeping now back cs rest g ls ms n kept is newest same brought bare =
     let f = kept_of keeping (force_of g (take n ls)) in
-    let fs = undone keeping rest g (take n ls) in
+    let fs = undone_stack keeping rest g (take n ls) in
     let all : reverse fs ++ f ∷ [] ≡ reverse kept =
     sym (reverse-append (f ∷ []) fs)
     ∙ ap (λ (l : List Force). reverse l)
-    (ap (λ (l : List Change). undone keeping l g ls) (sym newest) ∙ same) in
+    (ap (λ (l : List Change). undone_stack keeping l g ls) (sym newest) ∙ same) in
     let after : List Force → Forces =
     λ l. forces keeping (brought_back keeping now (last_force now l)) (take (length l - 1) l) in
     let behind : Forces → Forces =

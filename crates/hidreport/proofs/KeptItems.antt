@@ -19,7 +19,7 @@ use Rattle.hidreport_items.specs.declared.item.ItemType.{ItemType}
 use Rattle.hidreport_items.specs.declared.item.ItemType.TheVariants as item
 use Rattle.hidreport_lists.specs.Entry.{Entry}
 use Rattle.hidreport_lists.specs.Itemising.{Itemises}
-use Rattle.hidreport_lists.specs.Rebuilt.{items_of, kept, rebuilt, respelled}
+use Rattle.hidreport_lists.specs.Rebuilt.{items_of, kept_entries, rebuilt_bytes, canonical_entries}
 use Rattle.hidreport_lists.proofs.Cuts.{itemise-items}
 use Rattle.hidreport_lists.proofs.Respelling.{are_kept, itemises-again, respelled-items}
 use Rattle.std.specs.Prelude.{◌*◌, ◌||◌, nat_lt, nat_le}
@@ -353,7 +353,7 @@ offset-behind (f ∷ front) rest e = offset-behind front rest e
 abbrev Walks : List Entry → List Entry → List Entry → Held → Type 0
 Walks front some rest h =
     at_offset (front ++ rest) (walk h (length front) (items_of rest)) ≡ at_offset
-    (some ++ kept rest) (walk (thin h) (length some) (items_of (kept rest)))
+    (some ++ kept_entries rest) (walk (thin h) (length some) (items_of (kept_entries rest)))
 
 -- the faults of an item at two places
 fault-by : (o : Option MeaningFault) (front some es fs : List Entry) (e : Entry) (h g : Held)
@@ -393,22 +393,22 @@ further front es e h =
 walk-by : (b : Bool) (front some es : List Entry) (e : Entry) (h : Held) → is_kept e.item ≡ b
     → ((front some : List Entry) (h : Held) → Walks front some es h)
     → at_offset (front ++ e ∷ es) (walk h (length front) (items_of (e ∷ es)))
-    ≡ at_offset (some ++ cond b (e ∷ kept es) (kept es))
-    (walk (thin h) (length some) (items_of (cond b (e ∷ kept es) (kept es))))
+    ≡ at_offset (some ++ cond b (e ∷ kept_entries es) (kept_entries es))
+    (walk (thin h) (length some) (items_of (cond b (e ∷ kept_entries es) (kept_entries es))))
 walk-by true front some es e h is later =
-    fault-by (fault_in h e.item) front some es (kept es) e h (thin h) refl (fault-thin h e.item)
+    fault-by (fault_in h e.item) front some es (kept_entries es) e h (thin h) refl (fault-thin h e.item)
     (λ faultless. further front es e (next_held h e.item)
     ∙ later (front ++ e ∷ []) (some ++ e ∷ []) (next_held h e.item)
-    ∙ ap (λ n. at_offset ((some ++ e ∷ []) ++ kept es)
-    (walk n (length (some ++ e ∷ [])) (items_of (kept es)))) (sym (next-thin h e.item is))
-    ∙ sym (further some (kept es) e (next_held (thin h) e.item)))
+    ∙ ap (λ n. at_offset ((some ++ e ∷ []) ++ kept_entries es)
+    (walk n (length (some ++ e ∷ [])) (items_of (kept_entries es)))) (sym (next-thin h e.item is))
+    ∙ sym (further some (kept_entries es) e (next_held (thin h) e.item)))
 walk-by false front some es e h is later =
     ap (λ o. at_offset (front ++ e ∷ es)
     (go_on (unless_fault o (next_held h e.item)) (length front)
     (λ n. walk n (length front + 1) (items_of es)))) (not-kept-fault h e.item is)
     ∙ further front es e (next_held h e.item)
     ∙ later (front ++ e ∷ []) some (next_held h e.item)
-    ∙ ap (λ n. at_offset (some ++ kept es) (walk n (length some) (items_of (kept es))))
+    ∙ ap (λ n. at_offset (some ++ kept_entries es) (walk n (length some) (items_of (kept_entries es))))
     (not-kept-thin h e.item is)
 
 walk-from : (front some rest : List Entry) (h : Held) → Walks front some rest h
@@ -419,16 +419,16 @@ walk-from front some (e ∷ es) h =
 -- the walk over the kept items gives the same, faults at the offsets of their items
 pub walk-kept : (keeping : PushKeeps) (entries : List Entry)
     → at_offset entries (walk (nothing_held keeping) 0 (items_of entries)) ≡ at_offset
-    (kept entries) (walk (nothing_held keeping) 0 (items_of (kept entries)))
+    (kept_entries entries) (walk (nothing_held keeping) 0 (items_of (kept_entries entries)))
 walk-kept keeping entries = walk-from [] [] entries (nothing_held keeping)
 
 pub meaning-kept : (keeping : PushKeeps) (entries : List Entry)
     → at_offset entries (meaning_by (reading_of keeping) (items_of entries)) ≡ at_offset
-    (kept entries) (meaning_by (reading_of keeping) (items_of (kept entries)))
+    (kept_entries entries) (meaning_by (reading_of keeping) (items_of (kept_entries entries)))
 meaning-kept keeping entries =
     ap (at_offset entries) (sym (walk-meaning keeping (items_of entries)))
     ∙ walk-kept keeping entries
-    ∙ ap (at_offset (kept entries)) (walk-meaning keeping (items_of (kept entries)))
+    ∙ ap (at_offset (kept_entries entries)) (walk-meaning keeping (items_of (kept_entries entries)))
 
 parse-items : (reading : PushReading) (bytes : List ℕ) (entries : List Entry)
     → Itemises item_of bytes entries
@@ -440,18 +440,18 @@ parse-items reading (b ∷ bs) entries i =
 -- the bytes of a descriptor are read as their kept items
 pub parse-kept : (keeping : PushKeeps) (bytes : List ℕ) (entries : List Entry)
     → Itemises item_of bytes entries
-    → parse_by (reading_of keeping) bytes ≡ at_offset (kept entries)
-    (meaning_by (reading_of keeping) (items_of (kept entries)))
+    → parse_by (reading_of keeping) bytes ≡ at_offset (kept_entries entries)
+    (meaning_by (reading_of keeping) (items_of (kept_entries entries)))
 parse-kept keeping bytes entries i = parse-items (reading_of keeping) bytes entries i
     ∙ meaning-kept keeping entries
 
 -- and so are the bytes that are written for these
 pub parse-rebuilt : (reading : PushReading) (bytes : List ℕ) (entries : List Entry)
-    → Itemises item_of bytes entries → rebuilt entries ≢ []
-    → parse_by reading (rebuilt entries) ≡ at_offset (respelled 0 (items_of (kept entries)))
-    (meaning_by reading (items_of (kept entries)))
+    → Itemises item_of bytes entries → rebuilt_bytes entries ≢ []
+    → parse_by reading (rebuilt_bytes entries) ≡ at_offset (canonical_entries 0 (items_of (kept_entries entries)))
+    (meaning_by reading (items_of (kept_entries entries)))
 parse-rebuilt reading bytes entries i some =
-    let xs = items_of (kept entries) in
-    parse-items reading (rebuilt entries) (respelled 0 xs)
+    let xs = items_of (kept_entries entries) in
+    parse-items reading (rebuilt_bytes entries) (canonical_entries 0 xs)
     (itemises-again xs (are_kept entries i.each) some)
-    ∙ ap (λ l. at_offset (respelled 0 xs) (meaning_by reading l)) (respelled-items xs 0)
+    ∙ ap (λ l. at_offset (canonical_entries 0 xs) (meaning_by reading l)) (respelled-items xs 0)

@@ -21,7 +21,7 @@ use Rattle.hidreport_lists.specs.Entry.{Entry}
 use Rattle.hidreport_lists.specs.Itemising.{itemise}
 use Rattle.hidreport.specs.Meaning.{meaning_by, parse_by, parse_items, at_offset}
 use Rattle.hidreport.specs.Records.{DescriptorRecord}
-use Rattle.hidreport.specs.Segments.{HasNoLocal, IsMatched, with_segment, moved}
+use Rattle.hidreport.specs.Segments.{HasNoLocal, IsMatched, with_segment, moved_fault}
 use Rattle.hidreport.specs.declared.parser.push_keeps.PushKeeps.{PushKeeps}
 use Rattle.hidreport.specs.declared.parser.push_keeps.PushKeeps.TheVariants as push_keeps
 use Rattle.hidreport.proofs.DataLemmas.{quiet, step-push, step-pop, last_force-end, all-but-last}
@@ -39,21 +39,21 @@ step-ok h next k x xs e = ap (λ r. go_on r k (λ n. walk n (k + 1) xs)) e
 
 moved-by : (r : Result Held MeaningFault) (h : Held) (at n k : ℕ) (x : ItemType)
     (xs : List ItemType) → step h x ≡ r → at ≤ k
-    → ((next : Held) → moved at n (walk next (k + 1) xs) ≡ walk next (k + 1 + n) xs)
-    → moved at n (walk h k (x ∷ xs)) ≡ walk h (k + n) (x ∷ xs)
+    → ((next : Held) → moved_fault at n (walk next (k + 1) xs) ≡ walk next (k + 1 + n) xs)
+    → moved_fault at n (walk h k (x ∷ xs)) ≡ walk h (k + n) (x ∷ xs)
 moved-by (Ok next) h at n k x xs e le rest =
-    ap (λ r. moved at n (go_on r k (λ m. walk m (k + 1) xs))) e ∙ rest next
+    ap (λ r. moved_fault at n (go_on r k (λ m. walk m (k + 1) xs))) e ∙ rest next
     ∙ ap (λ p. walk next p xs) (let p : k + 1 + n ≡ k + n + 1 = omega arith in p)
     ∙ sym (ap (λ r. go_on r (k + n) (λ m. walk m (k + n + 1) xs)) e)
 moved-by (Err f) h at n k x xs e le rest =
     let behind : nat_lt k at ≡ false = grind (arith, common_steps) in
-    ap (λ r. moved at n (go_on r k (λ m. walk m (k + 1) xs))) e
+    ap (λ r. moved_fault at n (go_on r k (λ m. walk m (k + 1) xs))) e
     ∙ ap (λ b. Err (cond b k (k + n), f)) behind
     ∙ sym (ap (λ r. go_on r (k + n) (λ m. walk m (k + n + 1) xs)) e)
 
 -- faults behind the place move with their items
 moved-behind : (h : Held) (at n k : ℕ) (xs : List ItemType) → at ≤ k
-    → moved at n (walk h k xs) ≡ walk h (k + n) xs
+    → moved_fault at n (walk h k xs) ≡ walk h (k + n) xs
 moved-behind h at n k [] le = refl
 moved-behind h at n k (x ∷ xs) le =
     moved-by (step h x) h at n k x xs refl le
@@ -62,18 +62,18 @@ moved-behind h at n k (x ∷ xs) le =
 front-by : (r : Result Held MeaningFault) (h : Held) (n k : ℕ) (x : ItemType)
     (xs more rest : List ItemType) → step h x ≡ r
     → ((next : Held) → step h x ≡ Ok next
-    → walk next (k + 1) (xs ++ more) ≡ moved (k + 1 + length xs) n
+    → walk next (k + 1) (xs ++ more) ≡ moved_fault (k + 1 + length xs) n
     (walk next (k + 1) (xs ++ rest)))
-    → walk h k (x ∷ (xs ++ more)) ≡ moved (k + suc (length xs)) n (walk h k (x ∷ (xs ++ rest)))
+    → walk h k (x ∷ (xs ++ more)) ≡ moved_fault (k + suc (length xs)) n (walk h k (x ∷ (xs ++ rest)))
 front-by (Ok next) h n k x xs more rest e later =
     step-ok h next k x (xs ++ more) e ∙ later next e
-    ∙ ap (λ p. moved p n (walk next (k + 1) (xs ++ rest)))
+    ∙ ap (λ p. moved_fault p n (walk next (k + 1) (xs ++ rest)))
     (let p : k + 1 + length xs ≡ k + suc (length xs) = omega arith in p)
-    ∙ ap (moved (k + suc (length xs)) n) (sym (step-ok h next k x (xs ++ rest) e))
+    ∙ ap (moved_fault (k + suc (length xs)) n) (sym (step-ok h next k x (xs ++ rest) e))
 front-by (Err f) h n k x xs more rest e later =
     let before : nat_lt k (k + suc (length xs)) ≡ true = grind (arith, common_steps) in
     ap (λ r. go_on r k (λ m. walk m (k + 1) (xs ++ more))) e
-    ∙ sym (ap (λ r. moved (k + suc (length xs)) n (go_on r k (λ m. walk m (k + 1) (xs ++ rest)))) e
+    ∙ sym (ap (λ r. moved_fault (k + suc (length xs)) n (go_on r k (λ m. walk m (k + 1) (xs ++ rest)))) e
     ∙ ap (λ b. Err (cond b k (k + n), f)) before)
 
 -- what a Push keeps is the same behind every item
@@ -87,7 +87,7 @@ keeping-by (Some fault) h next x e = cc
 front-kept : (keeping : PushKeeps) (front more rest : List ItemType) (n : ℕ)
     → ((h : Held) (k : ℕ) → h.keeping ≡ keeping → walk h k more ≡ walk h (k + n) rest)
     → (h : Held) (k : ℕ) → h.keeping ≡ keeping
-    → walk h k (front ++ more) ≡ moved (k + length front) n (walk h k (front ++ rest))
+    → walk h k (front ++ more) ≡ moved_fault (k + length front) n (walk h k (front ++ rest))
 front-kept keeping [] more rest n same h k is =
     same h k is ∙ sym (moved-behind h (k + 0) n k rest (omega arith))
 front-kept keeping (x ∷ xs) more rest n same h k is =
@@ -336,7 +336,7 @@ segment-kept xs rest m h k spares =
 -- the meaning is that of the items around it
 pub meaning-struck : (keeping : PushKeeps) (front xs rest : List ItemType) → IsMatched xs
     → Spares keeping xs
-    → meaning_by (reading_of keeping) (with_segment front xs rest) ≡ moved (length front)
+    → meaning_by (reading_of keeping) (with_segment front xs rest) ≡ moved_fault (length front)
     (length xs + 2) (meaning_by (reading_of keeping) (front ++ rest))
 meaning-struck keeping front xs rest m spares =
     let held = nothing_held keeping in
@@ -344,9 +344,9 @@ meaning-struck keeping front xs rest m spares =
     ∙ front-kept keeping front (item.Global global.Push ∷ (xs ++ (item.Global global.Pop ∷ rest)))
     rest (length xs + 2)
     (λ h k e. segment-kept xs rest m h k (subst (λ r. Spares r xs) (sym e) spares)) held 0 refl
-    ∙ ap (λ p. moved p (length xs + 2) (walk held 0 (front ++ rest)))
+    ∙ ap (λ p. moved_fault p (length xs + 2) (walk held 0 (front ++ rest)))
     (let p : 0 + length front ≡ length front = omega arith in p)
-    ∙ ap (moved (length front) (length xs + 2)) (walk-meaning keeping (front ++ rest))
+    ∙ ap (moved_fault (length front) (length xs + 2)) (walk-meaning keeping (front ++ rest))
 
 -- the same of a descriptor's bytes
 pub parse-struck : (keeping : PushKeeps) (bytes : List ℕ) (entries : List Entry)
@@ -354,7 +354,7 @@ pub parse-struck : (keeping : PushKeeps) (bytes : List ℕ) (entries : List Entr
     → Spares keeping xs
     → map (λ (e : Entry). e.item) entries ≡ with_segment front xs rest
     → parse_by (reading_of keeping) bytes ≡ at_offset entries
-    (moved (length front) (length xs + 2) (meaning_by (reading_of keeping) (front ++ rest)))
+    (moved_fault (length front) (length xs + 2) (meaning_by (reading_of keeping) (front ++ rest)))
 parse-struck keeping [] entries front xs rest e m spares is = cc
 parse-struck keeping (b ∷ bs) entries front xs rest e m spares is =
     ap (parse_items (reading_of keeping)) e

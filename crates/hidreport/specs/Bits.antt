@@ -6,11 +6,11 @@ use Rattle.hidreport.specs.Records.{FieldRecord, VariableRecord, ArrayRecord, Co
 use Rattle.hidreport.specs.Tiling.{place_of}
 
 -- how many bits from its first one on a field's elements have
-abbrev pub covered : FieldRecord → ℕ
-covered (VariableRecord place usage shared) = place.end - place.first
-covered (ArrayRecord place usages is_range count shared) =
+abbrev pub covered_bits : FieldRecord → ℕ
+covered_bits (VariableRecord place usage shared) = place.end - place.first
+covered_bits (ArrayRecord place usages is_range count shared) =
     element_width place.first place.end count * count
-covered (ConstantRecord place) = 0
+covered_bits (ConstantRecord place) = 0
 
 -- both have the same bits there
 abbrev pub AgreeOn : ℕ → ℕ → List ℕ → List ℕ → Type 0
@@ -21,4 +21,4 @@ AgreeOn first count bytes other = (i : ℕ) → i < count
 abbrev pub FixesBits : FieldRecord → List ℕ → Type 0
 FixesBits field bytes = (other : List ℕ) (xs ys : List ValueRecord)
     → reads field bytes ≡ Ok xs → reads field other ≡ Ok ys
-    → (xs ≡ ys) ↔ AgreeOn (place_of field).first (covered field) bytes other
+    → (xs ≡ ys) ↔ AgreeOn (place_of field).first (covered_bits field) bytes other

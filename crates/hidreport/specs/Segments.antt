@@ -29,8 +29,8 @@ with_segment front inside rest =
     front ++ (item.Global global.Push ∷ (inside ++ (item.Global global.Pop ∷ rest)))
 
 -- the same meaning, or the fault of the same item, where so many items were put in at an index
-abbrev pub moved : ℕ → ℕ → Result DescriptorRecord (ℕ × MeaningFault)
+abbrev pub moved_fault : ℕ → ℕ → Result DescriptorRecord (ℕ × MeaningFault)
     → Result DescriptorRecord (ℕ × MeaningFault)
-moved index count (Ok descriptor) = Ok descriptor
-moved index count (Err fault) =
+moved_fault index count (Ok descriptor) = Ok descriptor
+moved_fault index count (Err fault) =
     Err (if nat_lt fault.0 index then fault.0 else fault.0 + count, fault.1)

@@ -10,7 +10,7 @@ use Rattle.hidreport.specs.Answer.{Refusal, Bounds, Mismatch}
 use Rattle.hidreport.specs.Reading.{ValueRecord, element, is_signed, one_value, read_bits, with_id}
 use Rattle.hidreport.specs.Records.{FieldRecord, VariableRecord, ArrayRecord, ConstantRecord}
 use Rattle.hidreport_c.specs.Field.{as_c}
-use Rattle.hidreport_c.specs.Value.{extracted, only, value_at}
+use Rattle.hidreport_c.specs.Value.{extracted_value, only, value_at}
 
 -- the id, by whether there is one
 id-again : (id : Option ℕ) → (if is_some id then Some (unwrap_or id 0) else None) ≡ id
@@ -72,7 +72,7 @@ past-count : {A : Type 0} (i n : ℕ) (x y : A) → n ≤ i → cond (nat_lt i n
 past-count i n x y past = past-by i n x y past (leb_tells (suc i) n)
 
 pub value_at-described : (f : FieldRecord) (bytes : List ℕ) (index : ℕ)
-    → value_at (as_c f) bytes index ≡ extracted f bytes index
+    → value_at (as_c f) bytes index ≡ extracted_value f bytes index
 value_at-described (VariableRecord place usage shared) bytes zero =
     ap (λ id. with_id id bytes (element place.first place.end 1 (is_signed shared) bytes 0))
     (id-again place.report_id)

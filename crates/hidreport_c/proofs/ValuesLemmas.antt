@@ -9,12 +9,12 @@ use Rattle.std.proofs.lemmas.Bool.Decides.{leb_tells}
 use Rattle.std.specs.Prelude.{◌==◌, min, slice_get}
 use Rattle.hidreport.specs.Answer.{Refusal, Bounds, Mismatch}
 use Rattle.hidreport.specs.Reading.{ValueRecord, before_values, element, elements_from, with_id}
-use Rattle.hidreport_c.specs.Answer.{as_answer, offset_of, written}
+use Rattle.hidreport_c.specs.Answer.{as_answer, offset_of, array_after}
 use Rattle.hidreport_c.specs.Status.{by_status, status_of}
-use Rattle.hidreport_c.specs.Value.{accepted, elements_at, id_of, numbers, values_at}
+use Rattle.hidreport_c.specs.Value.{acceptance, elements_at, id_of, value_numbers, values_at}
 use Rattle.hidreport_c.specs.declared.field.HidreportField.{HidreportField}
 
-pub accepted-ok : {A : Type 0} (r : Result A Refusal) → IsOk r → by_status (accepted r) ≡ Ok tt
+pub accepted-ok : {A : Type 0} (r : Result A Refusal) → IsOk r → by_status (acceptance r) ≡ Ok tt
 accepted-ok (Ok x) ok = refl
 accepted-ok (Err refusal) ok = cc
 
@@ -23,25 +23,25 @@ ok-is (Ok xs) ok = (xs, refl)
 ok-is (Err refusal) ok = cc
 
 -- nothing written changes nothing
-pub written-none : {A : Type 0} (old : List A) → written [] old ≡ old
+pub written-none : {A : Type 0} (old : List A) → array_after [] old ≡ old
 written-none old = ap (λ xs. xs ++ old) (take-nil (length old))
 
 -- one more is written behind those before it
 pub set-written : {A : Type 0} (xs old : List A) (j : ℕ) (x : A) → slice_get xs j ≡ Some x
     → j < length old
-    → slice_set (written (take j xs) old) j x ≡ written (take (suc j) xs) old
+    → slice_set (array_after (take j xs) old) j x ≡ array_after (take (suc j) xs) old
 set-written [] old j x at within = cc
 set-written (y ∷ xs) [] j x at within = absurd (omega (arith, within))
 set-written (y ∷ xs) (o ∷ old) zero x at within =
     let same : y ≡ x = cc in
-    ap (λ rest. x ∷ rest) (sym (written-none old)) ∙ ap (λ z. z ∷ written [] old) (sym same)
+    ap (λ rest. x ∷ rest) (sym (written-none old)) ∙ ap (λ z. z ∷ array_after [] old) (sym same)
 set-written (y ∷ xs) (o ∷ old) (suc j) x at within =
     ap (λ rest. y ∷ rest) (set-written xs old j x at (omega (arith, within)))
 
 -- where all are written, or the array is full, nothing more is
 pub written-whole : {A : Type 0} (xs old : List A) (i : ℕ) → (length xs ≤ i) ⊎ (length old ≤ i)
-    → written (take i xs) old ≡ written xs old
-written-whole [] old i past = ap (λ ys. written ys old) (take-nil i)
+    → array_after (take i xs) old ≡ array_after xs old
+written-whole [] old i past = ap (λ ys. array_after ys old) (take-nil i)
 written-whole (x ∷ xs) [] i past = drop-nil (length (take i (x ∷ xs)))
     ∙ sym (drop-nil (length (x ∷ xs)))
 written-whole (x ∷ xs) (o ∷ old) zero (inl past) = absurd (omega (arith, past))
@@ -146,8 +146,8 @@ id-place (Some id) [] a r h more = let is : Bounds ≡ r = cc in ap offset_of (s
 id-place (Some id) (b ∷ bytes) a r h more = byte-place (b == id) a r h more
 
 told : (a : Result (List ValueRecord) Refusal) (status : ℕ)
-    → ((r : Refusal) → a ≡ Err r → offset_of r ≡ 0) → Err status ≡ by_status (accepted a)
-    → record { count = 0; offset = 0; status = status } ≡ as_answer (numbers a)
+    → ((r : Refusal) → a ≡ Err r → offset_of r ≡ 0) → Err status ≡ by_status (acceptance a)
+    → record { count = 0; offset = 0; status = status } ≡ as_answer (value_numbers a)
 told (Ok xs) status place h = cc
 told (Err r) status place h =
     let is : status ≡ status_of r = cc in
@@ -156,8 +156,8 @@ told (Err r) status place h =
 
 -- a refusal of values has no place
 pub values-refused : (f : HidreportField) (bytes : List ℕ) (status : ℕ)
-    → Err status ≡ by_status (accepted (values_at f bytes))
-    → record { count = 0; offset = 0; status = status } ≡ as_answer (numbers (values_at f bytes))
+    → Err status ≡ by_status (acceptance (values_at f bytes))
+    → record { count = 0; offset = 0; status = status } ≡ as_answer (value_numbers (values_at f bytes))
 values-refused f bytes status h =
     told (values_at f bytes) status (λ r e. id-place (id_of f) bytes (elements_at f bytes) r e
     (λ inside. elements-place f.first_bit f.end_bit f.value_count _ bytes 0 f.value_count r inside))

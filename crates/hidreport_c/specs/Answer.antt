@@ -24,26 +24,26 @@ no_memory = record { count = 0; offset = 0; status = 4 }
 
 -- what an array holds once these are written to it: as many as it has room for, and what stood
 -- behind them
-abbrev pub written : {A : Type 0} → List A → List A → List A
-written xs old = take (length old) xs ++ drop (length xs) old
+abbrev pub array_after : {A : Type 0} → List A → List A → List A
+array_after xs old = take (length old) xs ++ drop (length xs) old
 
 -- what there is to write: nothing where it is refused
-abbrev pub listed : {A : Type 0} → Result (List A) Refusal → List A
-listed (Ok xs) = xs
-listed (Err refusal) = []
+abbrev pub list_or_nothing : {A : Type 0} → Result (List A) Refusal → List A
+list_or_nothing (Ok xs) = xs
+list_or_nothing (Err refusal) = []
 
 -- the caller is told how many there are, or why there are none, and has what there was room for; or
 -- memory was refused, and the array is as it was
 abbrev pub Lists : {A : Type 0} → Result (List A) Refusal → List A → List A → HidreportAnswer
     → Type 0
 Lists answer old new told =
-    ((told ≡ as_answer answer) × (new ≡ written (listed answer) old))
+    ((told ≡ as_answer answer) × (new ≡ array_after (list_or_nothing answer) old))
     ⊎ ((told ≡ no_memory) × (new ≡ old))
 
 -- an error as C has it
-abbrev pub refused : ParserError → HidreportAnswer
-refused (errors.InvalidData offset message) = record { count = 0; offset = offset; status = 1 }
-refused errors.OutOfBounds = record { count = 0; offset = 0; status = 2 }
-refused errors.MismatchingReportId = record { count = 0; offset = 0; status = 3 }
-refused errors.OutOfMemory = no_memory
-refused (errors.BudgetExceeded offset) = record { count = 0; offset = offset; status = 5 }
+abbrev pub error_as_c : ParserError → HidreportAnswer
+error_as_c (errors.InvalidData offset message) = record { count = 0; offset = offset; status = 1 }
+error_as_c errors.OutOfBounds = record { count = 0; offset = 0; status = 2 }
+error_as_c errors.MismatchingReportId = record { count = 0; offset = 0; status = 3 }
+error_as_c errors.OutOfMemory = no_memory
+error_as_c (errors.BudgetExceeded offset) = record { count = 0; offset = offset; status = 5 }

@@ -12,16 +12,16 @@ use Rattle.hidreport_c.specs.declared.field.HidreportMeasures.{HidreportMeasures
 use Rattle.hidreport_c.specs.declared.field.HidreportUsages.{HidreportUsages}
 
 -- the number of a usage in a list
-abbrev pub usage_at : List Usage → ℕ → ℕ
-usage_at usages index = unwrap_or (option_map usage_number (slice_get usages index)) 0
+abbrev pub usage_number_at : List Usage → ℕ → ℕ
+usage_number_at usages index = unwrap_or (option_map usage_number (slice_get usages index)) 0
 
 -- how many usages there are, the first and the last of them, and whether a minimum and a maximum
 -- gave them
 abbrev pub usages_as_c : List Usage → Bool → HidreportUsages
 usages_as_c usages is_range = record {
   count = length usages;
-  first = usage_at usages 0;
-  last = usage_at usages (length usages - 1);
+  first = usage_number_at usages 0;
+  last = usage_number_at usages (length usages - 1);
   is_range = is_range;
 }
 
@@ -90,9 +90,9 @@ nothing_set = record {
 }
 
 -- a field at this place and with this id of its own, of this kind and with so many values
-abbrev pub placed : FieldPlace → Option ℕ → ℕ → ℕ → HidreportUsages → HidreportMeasures
+abbrev pub field_at : FieldPlace → Option ℕ → ℕ → ℕ → HidreportUsages → HidreportMeasures
     → HidreportFlags → HidreportCollections → HidreportField
-placed place id kind values usages measures flags collections = record {
+field_at place id kind values usages measures flags collections = record {
   number = place.id;
   kind = kind;
   first_bit = place.first;
@@ -106,15 +106,15 @@ placed place id kind values usages measures flags collections = record {
   report_id = unwrap_or id 0;
 }
 
-abbrev pub with_data : FieldPlace → ℕ → ℕ → List Usage → Bool → Attributes → HidreportField
-with_data place kind values usages is_range shared =
-    placed place place.report_id kind values (usages_as_c usages is_range)
+abbrev pub data_field : FieldPlace → ℕ → ℕ → List Usage → Bool → Attributes → HidreportField
+data_field place kind values usages is_range shared =
+    field_at place place.report_id kind values (usages_as_c usages is_range)
     (measures_as_c shared) (flags_as_c shared) (collections_as_c shared.collections)
 
 -- a field of any kind: 0 is variable, 1 an array, 2 padding, which is read from any report
 abbrev pub as_c : FieldRecord → HidreportField
-as_c (VariableRecord place usage shared) = with_data place 0 1 (usage ∷ []) false shared
+as_c (VariableRecord place usage shared) = data_field place 0 1 (usage ∷ []) false shared
 as_c (ArrayRecord place usages is_range count shared) =
-    with_data place 1 count usages is_range shared
+    data_field place 1 count usages is_range shared
 as_c (ConstantRecord place) =
-    placed place None 2 0 (usages_as_c [] false) nothing_measured nothing_set (collections_as_c [])
+    field_at place None 2 0 (usages_as_c [] false) nothing_measured nothing_set (collections_as_c [])

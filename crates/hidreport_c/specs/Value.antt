@@ -38,18 +38,18 @@ only (Ok (v ∷ vs)) = Ok v
 only (Err refusal) = Err refusal
 
 -- what `extract` reads of a variable field, and `extract_one` of an array; padding has no value
-abbrev pub extracted : FieldRecord → List ℕ → ℕ → Result ValueRecord Refusal
-extracted (VariableRecord place usage shared) bytes zero =
+abbrev pub extracted_value : FieldRecord → List ℕ → ℕ → Result ValueRecord Refusal
+extracted_value (VariableRecord place usage shared) bytes zero =
     only (reads (VariableRecord place usage shared) bytes)
-extracted (VariableRecord place usage shared) bytes (suc n) = Err Bounds
-extracted (ArrayRecord place usages is_range count shared) bytes index =
+extracted_value (VariableRecord place usage shared) bytes (suc n) = Err Bounds
+extracted_value (ArrayRecord place usages is_range count shared) bytes index =
     reads_element (ArrayRecord place usages is_range count shared) bytes index
-extracted (ConstantRecord place) bytes index = Err Bounds
+extracted_value (ConstantRecord place) bytes index = Err Bounds
 
 -- the numbers of values
-abbrev pub numbers : Result (List ValueRecord) Refusal → Result (List ℤ) Refusal
-numbers (Ok values) = Ok (map value_number values)
-numbers (Err refusal) = Err refusal
+abbrev pub value_numbers : Result (List ValueRecord) Refusal → Result (List ℤ) Refusal
+value_numbers (Ok values) = Ok (map value_number values)
+value_numbers (Err refusal) = Err refusal
 
 -- all values of the field, whatever the report's id
 abbrev pub elements_at : HidreportField → List ℕ → Result (List ValueRecord) Refusal
@@ -61,6 +61,6 @@ abbrev pub values_at : HidreportField → List ℕ → Result (List ValueRecord)
 values_at f bytes = with_id (id_of f) bytes (elements_at f bytes)
 
 -- that there are some
-abbrev pub accepted : {A : Type 0} → Result A Refusal → Result (Unit {0}) Refusal
-accepted (Ok x) = Ok tt
-accepted (Err refusal) = Err refusal
+abbrev pub acceptance : {A : Type 0} → Result A Refusal → Result (Unit {0}) Refusal
+acceptance (Ok x) = Ok tt
+acceptance (Err refusal) = Err refusal

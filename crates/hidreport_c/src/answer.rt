@@ -1,7 +1,7 @@
 //! Lists as C gets them: into an array of the caller's, which may be too short.
 ghost use Rattle.std.specs.Prelude.{◌≡◌, List, Result, length};
 ghost use Rattle.hidreport.specs.Answer.{AnswersBy, Refusal};
-ghost use Rattle.hidreport_c.specs.Answer.{Lists, refused, written};
+ghost use Rattle.hidreport_c.specs.Answer.{Lists, error_as_c, array_after};
 
 use crate::status::{
     ACCEPTED, BUDGET_EXCEEDED, INVALID_DATA, MISMATCHING_REPORT_ID, OUT_OF_BOUNDS, OUT_OF_MEMORY,
@@ -37,7 +37,7 @@ pub(crate) fn answer<T: Copy + Drop>(
 /// Writes as many as there is room for.
 fn write_to<T: Copy>(listed: &[T], array: &mut [T]) -> HidreportAnswer
     ensures count { result ≡ record { count = length listed.now; offset = 0; status = 0 } }
-    ensures written { array.new ≡ written listed.now array.old }
+    ensures written { array.new ≡ array_after listed.now array.old }
 {
     let count = listed.len().min(array.len());
     array[..count].copy_from_slice(&listed[..count]);
@@ -50,7 +50,7 @@ fn write_to<T: Copy>(listed: &[T], array: &mut [T]) -> HidreportAnswer
 
 /// A refusal as its number and its place.
 fn refusal(error: &ParserError) -> HidreportAnswer
-    ensures { result ≡ refused error.now }
+    ensures { result ≡ error_as_c error.now }
 {
     let (status, offset) = match error {
         ParserError::InvalidData { offset, .. } => (INVALID_DATA, *offset),

@@ -4,7 +4,7 @@ ghost use Rattle.hidreport.specs.Meaning.{parse};
 ghost use Rattle.hidreport.specs.Answer.{AnswersBy};
 ghost use Rattle.hidreport.specs.Views.{field_record};
 ghost use Rattle.hidreport_c.specs.Answer.{Lists};
-ghost use Rattle.hidreport_c.specs.Describe.{described, fields_of, found, message_in, reports_of};
+ghost use Rattle.hidreport_c.specs.Describe.{described_fields, fields_as_c, report_fields, message_in, reports_in_direction};
 ghost use Rattle.hidreport_c.specs.Field.{as_c};
 
 use crate::answer::{HidreportAnswer, answer};
@@ -26,7 +26,7 @@ pub extern "C" fn hidreport_describe(
     direction: u32,
     fields: &mut [HidreportField],
 ) -> HidreportAnswer
-    ensures { Lists (described direction descriptor.now) fields.old fields.new result }
+    ensures { Lists (described_fields direction descriptor.now) fields.old fields.new result }
 {
     answer(fields_described(alloc, descriptor, direction), fields)
 }
@@ -44,7 +44,7 @@ pub extern "C" fn hidreport_find(
     report: &[u8],
     fields: &mut [HidreportField],
 ) -> HidreportAnswer
-    ensures { Lists (found direction descriptor.now report.now) fields.old fields.new result }
+    ensures { Lists (report_fields direction descriptor.now report.now) fields.old fields.new result }
 {
     answer(fields_found(alloc, descriptor, direction, report), fields)
 }
@@ -67,7 +67,7 @@ pub(crate) fn fields_described(
     descriptor: &[u8],
     direction: u32,
 ) -> Result<Vec<HidreportField>, ParserError>
-    ensures { AnswersBy (λ fields. fields.items) result (described direction descriptor.now) }
+    ensures { AnswersBy (λ fields. fields.items) result (described_fields direction descriptor.now) }
 {
     let descriptor = ReportDescriptor::try_from(alloc, descriptor)?;
     Ok(fields_of(alloc, reports_of(&descriptor, direction))?)
@@ -80,7 +80,7 @@ fn fields_found(
     report: &[u8],
 ) -> Result<Vec<HidreportField>, ParserError>
     ensures { AnswersBy (λ fields. fields.items) result
-        (found direction descriptor.now report.now) }
+        (report_fields direction descriptor.now report.now) }
 {
     let descriptor = ReportDescriptor::try_from(alloc, descriptor)?;
     let mut fields = Vec::new(alloc);
@@ -102,7 +102,7 @@ fn message(alloc: Global, descriptor: &[u8]) -> Result<Vec<u8>, ParserError>
 
 /// The reports of a direction.
 fn reports_of(descriptor: &ReportDescriptor, direction: u32) -> &[RDescReport]
-    ensures { result.now ≡ reports_of direction descriptor.now }
+    ensures { result.now ≡ reports_in_direction direction descriptor.now }
 {
     match direction {
         0 => descriptor.input_reports(),
@@ -119,7 +119,7 @@ fn report_of<'a>(
     report: &[u8],
 ) -> Option<&'a RDescReport>
     ensures { option_copied result
-        ≡ find_report (reports_of direction descriptor.now) report.now }
+        ≡ find_report (reports_in_direction direction descriptor.now) report.now }
 {
     match direction {
         0 => descriptor.find_input_report(report),
@@ -131,7 +131,7 @@ fn report_of<'a>(
 
 /// All fields of these reports.
 fn fields_of(alloc: Global, reports: &[RDescReport]) -> Result<Vec<HidreportField>, AllocError>
-    ensures { IfOk result (λ fields. fields.items ≡ fields_of reports.now) }
+    ensures { IfOk result (λ fields. fields.items ≡ fields_as_c reports.now) }
 {
     let mut fields = Vec::new(alloc);
     for report in reports {

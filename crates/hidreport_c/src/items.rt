@@ -1,7 +1,7 @@
 ghost use Rattle.std.specs.Prelude.{◌≡◌, IfOk, map};
 ghost use Rattle.hidreport.specs.Itemising.{as_refusal, itemise};
 ghost use Rattle.hidreport.specs.Answer.{AnswersBy};
-ghost use Rattle.hidreport.specs.Rebuilt.{rebuilding};
+ghost use Rattle.hidreport.specs.Rebuilt.{rebuild_answer};
 ghost use Rattle.hidreport.specs.Spelling.{item_of};
 ghost use Rattle.hidreport_c.specs.Answer.{Lists};
 ghost use Rattle.hidreport_c.specs.Items.{item_as_c, items_as_c};
@@ -44,7 +44,7 @@ pub extern "C" fn hidreport_rebuild(
     descriptor: &[u8],
     bytes: &mut [u8],
 ) -> HidreportAnswer
-    ensures { Lists (as_refusal (rebuilding (itemise item_of descriptor.now)))
+    ensures { Lists (as_refusal (rebuild_answer (itemise item_of descriptor.now)))
         bytes.old bytes.new result }
 {
     answer(rebuild(alloc, descriptor), bytes)

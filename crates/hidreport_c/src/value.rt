@@ -2,11 +2,11 @@ ghost use Rattle.std.specs.Prelude.{◌≡◌, ◌+◌, ◌*◌, ◌<◌, ◌^�
 ghost use Rattle.hidreport.specs.Answer.{Bounds};
 ghost use Rattle.hidreport.specs.Reading.{element_width, reads, with_id};
 ghost use Rattle.hidreport.specs.Records.{FieldRecord};
-ghost use Rattle.hidreport_c.specs.Answer.{as_answer, listed, written};
+ghost use Rattle.hidreport_c.specs.Answer.{as_answer, list_or_nothing, array_after};
 ghost use Rattle.hidreport_c.specs.Field.{as_c};
 ghost use Rattle.hidreport_c.specs.Status.{by_status};
-ghost use Rattle.hidreport_c.specs.Value.{accepted, as_value, element_at, elements_at, extracted};
-ghost use Rattle.hidreport_c.specs.Value.{id_of, numbers, value_at, values_at};
+ghost use Rattle.hidreport_c.specs.Value.{acceptance, as_value, element_at, elements_at, extracted_value};
+ghost use Rattle.hidreport_c.specs.Value.{id_of, value_numbers, value_at, values_at};
 
 use crate::answer::HidreportAnswer;
 use crate::field::HidreportField;
@@ -38,7 +38,7 @@ pub extern "C" fn hidreport_value(
 ) -> HidreportValue
     ensures value { result ≡ as_value (value_at field.now report.now index) }
     ensures extract { (read : FieldRecord) → field.now ≡ as_c read
-        → result ≡ as_value (extracted read report.now index) }
+        → result ≡ as_value (extracted_value read report.now index) }
 {
     field.value(report, index)
 }
@@ -55,9 +55,9 @@ pub extern "C" fn hidreport_values(
     report: &[u8],
     values: &mut [i64],
 ) -> HidreportAnswer
-    ensures answer { result ≡ as_answer (numbers (values_at field.now report.now)) }
+    ensures answer { result ≡ as_answer (value_numbers (values_at field.now report.now)) }
     ensures written { values.new
-        ≡ written (listed (numbers (values_at field.now report.now))) values.old }
+        ≡ array_after (list_or_nothing (value_numbers (values_at field.now report.now))) values.old }
     ensures extract { (read : FieldRecord) → field.now ≡ as_c read
         → values_at field.now report.now ≡ reads read report.now }
 {
@@ -113,7 +113,7 @@ impl HidreportField {
 
     /// Whether all values can be read: where the last one can, so can those before it.
     fn check_values(&self, report: &[u8]) -> Result<(), u32>
-        ensures { result ≡ by_status (accepted (values_at self.now report.now)) }
+        ensures { result ≡ by_status (acceptance (values_at self.now report.now)) }
     {
         self.check_id(report)?;
         self.check_elements(report)
@@ -121,7 +121,7 @@ impl HidreportField {
 
     /// The same whatever the report's id.
     fn check_elements(&self, report: &[u8]) -> Result<(), u32>
-        ensures { result ≡ by_status (accepted (elements_at self.now report.now)) }
+        ensures { result ≡ by_status (acceptance (elements_at self.now report.now)) }
     {
         if self.value_count == 0 {
             return Ok(());
@@ -135,9 +135,9 @@ impl HidreportField {
     /// Writes as many values as there is room for.
     fn write_values(&self, report: &[u8], values: &mut [i64]) -> HidreportAnswer
         requires { IsOk (elements_at self.now report.now) }
-        ensures answer { result ≡ as_answer (numbers (elements_at self.now report.now)) }
+        ensures answer { result ≡ as_answer (value_numbers (elements_at self.now report.now)) }
         ensures written { values.new
-            ≡ written (listed (numbers (elements_at self.now report.now))) values.old }
+            ≡ array_after (list_or_nothing (value_numbers (elements_at self.now report.now))) values.old }
     {
         let width = self.element_width();
         for index in 0..self.value_count.min(values.len()) {

@@ -81,19 +81,19 @@ feature_reports (Ok d) = d.feature
 feature_reports (Err refusal) = []
 
 -- a field's number over the descriptor, and those of the collections that it lies in
-abbrev pub numbers : FieldRecord → ℕ × List ℕ
-numbers (VariableRecord place usage shared) = (place.id, map (λ c. c.id) shared.collections)
-numbers (ArrayRecord place usages is_range count shared) =
+abbrev pub own_numbers : FieldRecord → ℕ × List ℕ
+own_numbers (VariableRecord place usage shared) = (place.id, map (λ c. c.id) shared.collections)
+own_numbers (ArrayRecord place usages is_range count shared) =
     (place.id, map (λ c. c.id) shared.collections)
-numbers (ConstantRecord place) = (place.id, [])
+own_numbers (ConstantRecord place) = (place.id, [])
 
 -- the same of all fields of these reports
 abbrev pub all_numbers : List ReportRecord → List (ℕ × List ℕ)
-all_numbers reports = flat_map (λ r. map numbers r.fields) reports
+all_numbers reports = flat_map (λ r. map own_numbers r.fields) reports
 
 -- the input report that a report's bytes are of
-abbrev pub found : List ℕ → List ℕ → Option ReportSummary
-found text report = option_map report_summary
+abbrev pub report_found : List ℕ → List ℕ → Option ReportSummary
+report_found text report = option_map report_summary
     (find_report (input_reports (announced_by text)) (hex report))
 
 abbrev pub read_fields : List ReportRecord → List ℕ → List (Result (List ValueRecord) Refusal)
@@ -105,11 +105,11 @@ abbrev pub readings : List ℕ → List ℕ → List (Result (List ValueRecord) 
 readings text report = read_fields (input_reports (announced_by text)) (hex report)
 
 -- values as they are kept: the word, unsigned or signed
-abbrev pub unsigned : ℕ → ValueRecord
-unsigned n = record { word = n; is_signed = false }
+abbrev pub unsigned_value : ℕ → ValueRecord
+unsigned_value n = record { word = n; is_signed = false }
 
-abbrev pub signed : ℕ → ValueRecord
-signed n = record { word = n; is_signed = true }
+abbrev pub signed_value : ℕ → ValueRecord
+signed_value n = record { word = n; is_signed = true }
 
 -- what a field has that no item sets: bounds of 0, no physical bounds, no unit, no collections and
 -- no flags
@@ -132,17 +132,17 @@ unset = record {
 }
 
 -- the place of a field without a report id: its number, its first bit and the bit behind its last
-abbrev pub place_of : ℕ → ℕ → ℕ → FieldPlace
-place_of id first last = record { id = id; report_id = None; first = first; «end» = last }
+abbrev pub place_at : ℕ → ℕ → ℕ → FieldPlace
+place_at id first last = record { id = id; report_id = None; first = first; «end» = last }
 
 -- a field with one value from bit `first` up to `end`, at least so much
 abbrev pub variable_at : ℕ → ℕ → ℤ → FieldRecord
-variable_at first last least = VariableRecord (place_of 0 first last)
+variable_at first last least = VariableRecord (place_at 0 first last)
     (make_usage 1 0x30) (record unset { logical_minimum = least })
 
 -- a field with so many values there
 abbrev pub array_at : ℕ → ℕ → ℕ → ℤ → FieldRecord
-array_at first last count least = ArrayRecord (place_of 0 first last)
+array_at first last count least = ArrayRecord (place_at 0 first last)
     [] false count (record unset { logical_minimum = least })
 
 -- the fields of the first input report, or none
@@ -181,8 +181,8 @@ of_report id (ArrayRecord place usages is_range count shared) =
 of_report id (ConstantRecord place) = ConstantRecord (with_report_id place id)
 
 -- so many fields and so many collections before an item, and nothing else
-abbrev pub numbered : ℕ → ℕ → Counts
-numbered fields collections = record
+abbrev pub only_counts : ℕ → ℕ → Counts
+only_counts fields collections = record
     { level = 0; depth = 0; collections = collections; fields = fields; start = 0 }
 
 -- in force are a size of one bit and a count of one

@@ -2,7 +2,7 @@
 ghost use Rattle.std.specs.Prelude.{◌≡◌, pos, negsuc, List, [], ◌∷◌, None, Some, codes, true, false};
 ghost use Rattle.hidreport.specs.Records.{VariableRecord};
 ghost use Rattle.hidreport.specs.Usages.{make_usage};
-ghost use Rattle.hidreport_definitions.specs.Summary.{announced_by, feature_attributes, input_attributes, place_of, unset};
+ghost use Rattle.hidreport_definitions.specs.Summary.{announced_by, feature_attributes, input_attributes, place_at, unset};
 
 /// Bounds, unit and flags are those in force; where one physical bound is set the other is 0.
 pub fn a_field_has_the_bounds_and_the_unit_in_force()
@@ -14,7 +14,7 @@ pub fn a_field_has_the_bounds_and_the_unit_in_force()
             id = None;
             size = 8;
             fields =
-                VariableRecord (place_of 0 0 8) (make_usage 1 0x30)
+                VariableRecord (place_at 0 0 8) (make_usage 1 0x30)
                 (record unset {
                   physical_minimum = Some (pos 1);
                   physical_maximum = Some (pos 0);
@@ -35,12 +35,12 @@ pub fn only_input_fields_leave_volatility_out()
           input = record {
             id = None;
             size = 8;
-            fields = VariableRecord (place_of 1 0 8) (make_usage 1 0x31) unset ∷ [];
+            fields = VariableRecord (place_at 1 0 8) (make_usage 1 0x31) unset ∷ [];
           } ∷ [];
           output = record {
             id = None;
             size = 8;
-            fields = VariableRecord (place_of 0 0 8) (make_usage 1 0x30) (record unset { volatile = Some false }) ∷ [];
+            fields = VariableRecord (place_at 0 0 8) (make_usage 1 0x30) (record unset { volatile = Some false }) ∷ [];
           } ∷ [];
           feature = [];
         }) }

@@ -1,7 +1,7 @@
 //! A whole descriptor: a mouse with five buttons, a wheel and feature reports.
 ghost use Rattle.std.specs.Prelude.{◌≡◌, List, [], ◌∷◌, None, Some, codes};
 ghost use Rattle.hidreport_definitions.specs.Mouse.{mouse, mouse_with_segment};
-ghost use Rattle.hidreport_definitions.specs.Summary.{Variable, Constant, Report, announced_by, summary, input_reports, feature_reports, all_numbers, found, readings, unsigned, signed};
+ghost use Rattle.hidreport_definitions.specs.Summary.{Variable, Constant, Report, announced_by, summary, input_reports, feature_reports, all_numbers, report_found, readings, unsigned_value, signed_value};
 
 /// The reports of each direction, the places of their fields, and their usages.
 pub fn a_mouse_has_two_input_and_two_feature_reports()
@@ -65,22 +65,22 @@ pub fn a_mouse_has_eighteen_fields_in_seven_collections()
 /// The values of a report: both axes are signed.
 pub fn a_mouse_report_gives_its_values()
     ensures { readings mouse (codes "1a 00 ff ff fe ff 00 00 00 00")
-        ≡ Ok (unsigned 0 ∷ [])
-        ∷ Ok (unsigned 0 ∷ [])
-        ∷ Ok (unsigned 0 ∷ [])
-        ∷ Ok (unsigned 0 ∷ [])
-        ∷ Ok (unsigned 0 ∷ [])
+        ≡ Ok (unsigned_value 0 ∷ [])
+        ∷ Ok (unsigned_value 0 ∷ [])
+        ∷ Ok (unsigned_value 0 ∷ [])
+        ∷ Ok (unsigned_value 0 ∷ [])
+        ∷ Ok (unsigned_value 0 ∷ [])
         ∷ Ok []
-        ∷ Ok (signed 0xffffffff ∷ [])
-        ∷ Ok (signed 0xfffffffe ∷ [])
-        ∷ Ok (signed 0 ∷ [])
-        ∷ Ok (signed 0 ∷ [])
+        ∷ Ok (signed_value 0xffffffff ∷ [])
+        ∷ Ok (signed_value 0xfffffffe ∷ [])
+        ∷ Ok (signed_value 0 ∷ [])
+        ∷ Ok (signed_value 0 ∷ [])
         ∷ [] }
 {}
 
 /// No report of the mouse has the id 07.
 pub fn a_mouse_has_no_other_input_report()
-    ensures { found mouse (codes "07 00") ≡ None }
+    ensures { report_found mouse (codes "07 00") ≡ None }
 {}
 
 /// A segment between Push and Pop that makes no field changes nothing, also where usages wait for

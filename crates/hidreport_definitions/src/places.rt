@@ -7,7 +7,7 @@ ghost use Rattle.hidreport.specs.Flags.{flags_of};
 ghost use Rattle.hidreport.specs.ItemType.TheVariants as item;
 ghost use Rattle.hidreport.specs.MainItem.TheVariants as main;
 ghost use Rattle.hidreport.specs.MeaningFault.{PastBounds};
-ghost use Rattle.hidreport_definitions.specs.Summary.{Variable, Constant, Report, summary, inputs, no_reports, all_numbers, announced_by, found, input_reports, numbered, one_bit};
+ghost use Rattle.hidreport_definitions.specs.Summary.{Variable, Constant, Report, summary, inputs, no_reports, all_numbers, announced_by, report_found, input_reports, only_counts, one_bit};
 
 /// A report id that comes later begins a second report, and the first, which has no id, is found
 /// for any byte.
@@ -15,7 +15,7 @@ pub fn a_report_without_id_is_found_for_any_byte()
     ensures reports { summary (codes "05 01 75 08 95 01 09 30 81 02 85 02 09 31 81 02")
         ≡ inputs (Report None 8 (Variable 0 8 0x00010030 ∷ [])
         ∷ Report (Some 2) 16 (Variable 8 16 0x00010031 ∷ []) ∷ []) }
-    ensures lookup { found (codes "05 01 75 08 95 01 09 30 81 02 85 02 09 31 81 02") (codes "02 00")
+    ensures lookup { report_found (codes "05 01 75 08 95 01 09 30 81 02 85 02 09 31 81 02") (codes "02 00")
         ≡ Some (Report None 8 (Variable 0 8 0x00010030 ∷ [])) }
 {}
 
@@ -65,16 +65,16 @@ pub fn fields_of_a_report_follow_each_other()
 
 /// 2^32 fields have an id of their own, and as many collections; one more is refused.
 pub fn ids_have_32_bits()
-    ensures last_field { item_fault (numbered 0xffffffff 0) one_bit (item.Main
+    ensures last_field { item_fault (only_counts 0xffffffff 0) one_bit (item.Main
         (main.Input (flags_of 1)))
         ≡ None }
-    ensures one_field_more { item_fault (numbered 0x100000000 0) one_bit (item.Main
+    ensures one_field_more { item_fault (only_counts 0x100000000 0) one_bit (item.Main
         (main.Input (flags_of 1)))
         ≡ Some PastBounds }
-    ensures last_collection { item_fault (numbered 0 0xffffffff) one_bit (item.Main
+    ensures last_collection { item_fault (only_counts 0 0xffffffff) one_bit (item.Main
         (main.Collection kind.Physical))
         ≡ None }
-    ensures one_collection_more { item_fault (numbered 0 0x100000000) one_bit (item.Main
+    ensures one_collection_more { item_fault (only_counts 0 0x100000000) one_bit (item.Main
         (main.Collection kind.Physical))
         ≡ Some PastBounds }
 {}

@@ -4,7 +4,7 @@ ghost use Rattle.hidreport.specs.CollectionItem.TheVariants as kind;
 ghost use Rattle.hidreport.specs.Answer.{InvalidAt, Mismatch};
 ghost use Rattle.hidreport.specs.Records.{VariableRecord};
 ghost use Rattle.hidreport.specs.Usages.{make_usage};
-ghost use Rattle.hidreport_definitions.specs.Summary.{Report, Variable, announced_by, found, inputs, no_reports, place_of, readings, summary, unset, unsigned};
+ghost use Rattle.hidreport_definitions.specs.Summary.{Report, Variable, announced_by, report_found, inputs, no_reports, place_at, readings, summary, unset, unsigned_value};
 
 /// A usage that is used between a Push and its Pop is there again behind the Pop.
 pub fn a_usage_used_inside_comes_back()
@@ -14,8 +14,8 @@ pub fn a_usage_used_inside_comes_back()
             id = None;
             size = 16;
             fields =
-                VariableRecord (place_of 0 0 8) (make_usage 1 0x30) (record unset { logical_maximum = pos 127 })
-                ∷ VariableRecord (place_of 1 8 16) (make_usage 1 0x30) (record unset { logical_maximum = pos 127 })
+                VariableRecord (place_at 0 0 8) (make_usage 1 0x30) (record unset { logical_maximum = pos 127 })
+                ∷ VariableRecord (place_at 1 8 16) (make_usage 1 0x30) (record unset { logical_maximum = pos 127 })
                 ∷ [];
           } ∷ [];
           output = [];
@@ -43,12 +43,12 @@ pub fn a_report_id_set_inside_is_taken_back()
     ensures reports { summary (codes "05 01 75 08 95 01 a4 85 05 09 30 81 02 b4 09 31 81 02")
         ≡ inputs (Report (Some 5) 24 (Variable 8 16 0x00010030 ∷ Variable 16 24 0x00010031
         ∷ []) ∷ []) }
-    ensures lookup { found (codes "05 01 75 08 95 01 a4 85 05 09 30 81 02 b4 09 31 81 02")
+    ensures lookup { report_found (codes "05 01 75 08 95 01 a4 85 05 09 30 81 02 b4 09 31 81 02")
         (codes "07 11 22")
         ≡ None }
     ensures values { readings (codes "05 01 75 08 95 01 a4 85 05 09 30 81 02 b4 09 31 81 02")
         (codes "07 11 22")
-        ≡ Err Mismatch ∷ Ok (unsigned 0x22 ∷ []) ∷ [] }
+        ≡ Err Mismatch ∷ Ok (unsigned_value 0x22 ∷ []) ∷ [] }
 {}
 
 /// Pushes nest, and a Pop brings back the usages that its own Push kept.
@@ -73,7 +73,7 @@ pub fn a_collection_keeps_its_usages()
             id = None;
             size = 8;
             fields =
-                VariableRecord (place_of 0 0 8) (make_usage 1 0x31)
+                VariableRecord (place_at 0 0 8) (make_usage 1 0x31)
                 (record unset {
                   collections = record {
                     id = 0;

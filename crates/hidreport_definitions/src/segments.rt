@@ -5,7 +5,7 @@ ghost use Rattle.hidreport.specs.GlobalItem.TheVariants as global;
 ghost use Rattle.hidreport.specs.ItemType.TheVariants as item;
 ghost use Rattle.hidreport.specs.LocalItem.TheVariants as local;
 ghost use Rattle.hidreport.specs.MeaningFault.{TooManyEnds};
-ghost use Rattle.hidreport.specs.Segments.{IsMatched, moved, with_segment};
+ghost use Rattle.hidreport.specs.Segments.{IsMatched, moved_fault, with_segment};
 ghost use Rattle.hidreport_definitions.specs.Summary.{Variable, Report, summary, inputs};
 
 /// Items without a main item in which each Push has its Pop: some, none, and a whole segment.
@@ -25,9 +25,9 @@ pub fn a_segment_stands_between_others()
         ∷ []) (item.Global (global.ReportCount 1) ∷ [])
         ≡ item.Global (global.ReportSize 8) ∷ item.Global global.Push ∷ item.Local (local.UsageId 9)
         ∷ item.Global global.Pop ∷ item.Global (global.ReportCount 1) ∷ [] }
-    ensures before { moved 1 3 (Err (0, TooManyEnds)) ≡ Err (0, TooManyEnds) }
-    ensures behind { moved 1 3 (Err (1, TooManyEnds)) ≡ Err (4, TooManyEnds) }
-    ensures further { moved 1 3 (Err (5, TooManyEnds)) ≡ Err (8, TooManyEnds) }
+    ensures before { moved_fault 1 3 (Err (0, TooManyEnds)) ≡ Err (0, TooManyEnds) }
+    ensures behind { moved_fault 1 3 (Err (1, TooManyEnds)) ≡ Err (4, TooManyEnds) }
+    ensures further { moved_fault 1 3 (Err (5, TooManyEnds)) ≡ Err (8, TooManyEnds) }
 {}
 
 /// What stands around a segment means the same without it, a fault at the same item.

@@ -4,9 +4,9 @@ ghost use Rattle.hidreport.specs.Records.{ArrayRecord, ConstantRecord};
 ghost use Rattle.hidreport.specs.Tiling.{Covers, HasNoRest, HasRange, HaveOwnCollections};
 ghost use Rattle.hidreport.specs.Tiling.{HaveOwnIds, HaveOwnNumbers, IsFilled, IsOf, IsTiled};
 ghost use Rattle.hidreport.specs.Usages.{make_usage, range_from};
-ghost use Rattle.hidreport_definitions.specs.Summary.{announced_by, array_at, of_report, place_of};
+ghost use Rattle.hidreport_definitions.specs.Summary.{announced_by, array_at, of_report, place_at};
 ghost use Rattle.hidreport_definitions.specs.Summary.{unset, variable_at};
-ghost use Rattle.hidreport_definitions.specs.Tiled.{field_in, logical, physical, report_of};
+ghost use Rattle.hidreport_definitions.specs.Tiled.{field_in, logical, physical, empty_report};
 ghost use Rattle.hidreport_definitions.specs.Tiled.{two_reports};
 
 /// A report of a bit field, padding and a report of an array, in one collection: their fields have
@@ -49,11 +49,11 @@ pub fn a_field_is_of_its_own_report()
 /// No two reports have one id, and one without an id is the first.
 pub fn a_report_has_an_id_of_its_own()
     ensures none { HaveOwnIds [] }
-    ensures first_without { HaveOwnIds (report_of None ∷ report_of (Some 2) ∷ []) }
-    ensures twice { HaveOwnIds (report_of (Some 1) ∷ report_of (Some 1) ∷ []) → ⊥ }
+    ensures first_without { HaveOwnIds (empty_report None ∷ empty_report (Some 2) ∷ []) }
+    ensures twice { HaveOwnIds (empty_report (Some 1) ∷ empty_report (Some 1) ∷ []) → ⊥ }
     ensures apart { HaveOwnIds
-        (report_of (Some 1) ∷ report_of (Some 2) ∷ report_of (Some 1) ∷ []) → ⊥ }
-    ensures second_without { HaveOwnIds (report_of (Some 1) ∷ report_of None ∷ []) → ⊥ }
+        (empty_report (Some 1) ∷ empty_report (Some 2) ∷ empty_report (Some 1) ∷ []) → ⊥ }
+    ensures second_without { HaveOwnIds (empty_report (Some 1) ∷ empty_report None ∷ []) → ⊥ }
 {}
 
 /// No two fields have one number.
@@ -71,7 +71,7 @@ pub fn a_collection_has_a_number_of_its_own()
         (field_in (physical 0 ∷ []) ∷ field_in (logical 1 ∷ []) ∷ []) }
     ensures nested { HaveOwnCollections
         (field_in (physical 0 ∷ logical 1 ∷ []) ∷ field_in (physical 0 ∷ logical 2 ∷ []) ∷ []) }
-    ensures padding { HaveOwnCollections (ConstantRecord (place_of 0 0 8) ∷ []) }
+    ensures padding { HaveOwnCollections (ConstantRecord (place_at 0 0 8) ∷ []) }
     ensures two_kinds { HaveOwnCollections
         (field_in (physical 0 ∷ []) ∷ field_in (logical 0 ∷ []) ∷ []) → ⊥ }
     ensures two_in_one_field { HaveOwnCollections
@@ -85,10 +85,10 @@ pub fn a_collection_has_a_number_of_its_own()
 
 /// An array of a range has the usages from its minimum to its maximum, all of them.
 pub fn an_array_of_a_range_has_all_its_usages()
-    ensures range { HasRange (ArrayRecord (place_of 0 0 8) (range_from 7 4 4) true 1 unset) }
-    ensures single { HasRange (ArrayRecord (place_of 0 0 8)
+    ensures range { HasRange (ArrayRecord (place_at 0 0 8) (range_from 7 4 4) true 1 unset) }
+    ensures single { HasRange (ArrayRecord (place_at 0 0 8)
         (make_usage 7 4 ∷ make_usage 7 6 ∷ []) false 1 unset) }
-    ensures two_pages { HasRange (ArrayRecord (place_of 0 0 8)
+    ensures two_pages { HasRange (ArrayRecord (place_at 0 0 8)
         (make_usage 7 4 ∷ make_usage 8 5 ∷ []) true 1 unset)
         → ⊥ }
 {}

@@ -7,7 +7,7 @@ ghost use Rattle.hidreport.specs.declared.field.usage.Usage.{Usage};
 ghost use Rattle.hidreport.specs.Tiling.{IsRangeOf};
 ghost use Rattle.hidreport.specs.UsageRange.{HasExactly, usage_within};
 ghost use Rattle.hidreport.specs.Usages.{make_usage, range_from};
-ghost use Rattle.hidreport_definitions.specs.Summary.{Report, Variable, announced_by, inputs, no_reports, four_keys, place_of, summary, unset};
+ghost use Rattle.hidreport_definitions.specs.Summary.{Report, Variable, announced_by, inputs, no_reports, four_keys, place_at, summary, unset};
 
 /// Fields beyond the usages take the last one.
 pub fn the_last_usage_is_repeated()
@@ -47,7 +47,7 @@ pub fn a_range_wraps_within_its_page()
             id = None;
             size = 8;
             fields =
-                ArrayRecord (place_of 0 0 8) (make_usage 1 0xffff ∷ make_usage 1 0 ∷ make_usage 1 1
+                ArrayRecord (place_at 0 0 8) (make_usage 1 0xffff ∷ make_usage 1 0 ∷ make_usage 1 1
                 ∷ []) true 1 unset
                 ∷ [];
           } ∷ [];
@@ -66,7 +66,7 @@ pub fn an_array_has_all_usages_of_a_range()
             id = None;
             size = 24;
             fields =
-                ArrayRecord (place_of 0 0 24) (range_from 1 1 255) true 3
+                ArrayRecord (place_at 0 0 24) (range_from 1 1 255) true 3
                 (record unset {
                   logical_maximum = pos 255;
                   collections = record {

@@ -20,15 +20,15 @@ abbrev pub numbers_at : List ℕ → FieldRecord → Result (List ℤ) Refusal
 numbers_at bytes field = each_number (reads field bytes)
 
 -- both; the first refusal is the whole's
-abbrev pub joined : Result (List ℤ) Refusal → Result (List ℤ) Refusal → Result (List ℤ) Refusal
-joined (Err refusal) rest = Err refusal
-joined (Ok ns) (Err refusal) = Err refusal
-joined (Ok ns) (Ok ms) = Ok (ns ++ ms)
+abbrev pub both_numbers : Result (List ℤ) Refusal → Result (List ℤ) Refusal → Result (List ℤ) Refusal
+both_numbers (Err refusal) rest = Err refusal
+both_numbers (Ok ns) (Err refusal) = Err refusal
+both_numbers (Ok ns) (Ok ms) = Ok (ns ++ ms)
 
 -- those of all fields, in order
 abbrev pub numbers_of : List ℕ → List FieldRecord → Result (List ℤ) Refusal
 numbers_of bytes [] = Ok []
-numbers_of bytes (f ∷ fields) = joined (numbers_at bytes f) (numbers_of bytes fields)
+numbers_of bytes (f ∷ fields) = both_numbers (numbers_at bytes f) (numbers_of bytes fields)
 
 -- none where no input report fits
 abbrev pub found_numbers : List ℕ → Option ReportRecord → Result (List ℤ) Refusal

@@ -12,7 +12,7 @@ use Rattle.hidreport_items.specs.Canonical.{IsCanonical, is_bare}
 use Rattle.hidreport_items.specs.Flags.{Flags, flags_of, is_flag_set}
 use Rattle.hidreport_items.specs.Kept.{is_kept}
 use Rattle.hidreport_items.specs.Numbers.{word, signed, is_short_length}
-use Rattle.hidreport_items.specs.Spelling.{announced, following}
+use Rattle.hidreport_items.specs.Spelling.{data_length, following_length}
 use Rattle.hidreport_items.specs.Spelling.{item_of, main_item, global_item, local_item, usage_item}
 use Rattle.hidreport_items.specs.Spelling.{read_as, with_data, of_short_length, input_item}
 use Rattle.hidreport_items.specs.Spelling.{output_item, feature_item, collection_item}
@@ -190,7 +190,7 @@ pub record Behind (bs : List ℕ) (x : ItemType) : Type 0 where
 behind : (h : ℕ) (bs : List ℕ) (x : ItemType) → is_kept x ≡ true → Spells (h ∷ bs) x → Behind bs x
 behind h bs x kept s =
     let four = announced-four h in
-    let size : length bs ≡ announced h = s.1 ∙ kept-short h bs x s.2 kept in
+    let size : length bs ≡ data_length h = s.1 ∙ kept-short h bs x s.2 kept in
     record {
       are = bytes-behind h bs s.0;
       short = omega (arith, four.0, size);
@@ -200,7 +200,7 @@ behind h bs x kept s =
 
 -- data of a header that reads it so spells what it reads
 spelled-by : (p : ℕ) (f : List ℕ → ItemType) (bs : List ℕ) → AreBytes bs → HasShape bs → p < 0xf0
-    → announced (p + 1) ≡ 1 → announced (p + 2) ≡ 2 → announced (p + 3) ≡ 4
+    → data_length (p + 1) ≡ 1 → data_length (p + 2) ≡ 2 → data_length (p + 3) ≡ 4
     → ((a : ℕ) → item_of (p + 1) (a ∷ []) ≡ Ok (f (a ∷ [])))
     → ((a b : ℕ) → item_of (p + 2) (a ∷ b ∷ []) ≡ Ok (f (a ∷ b ∷ [])))
     → ((a b c d : ℕ) → item_of (p + 3) (a ∷ b ∷ c ∷ d ∷ []) ≡ Ok (f (a ∷ b ∷ c ∷ d ∷ [])))
@@ -263,7 +263,7 @@ canonical-by x p bs spells said some least = record {
 -- items that say an unsigned number as it is
 plain-canonical : (p : ℕ) (k : ℕ → ItemType) (n : ℕ) (bs : List ℕ) → Behind bs (k n)
     → ((l : List ℕ) (m : ℕ) → Says l (k m) → word l ≡ m) → ((m : ℕ) → IsSaid (k m))
-    → p < 0xf0 → announced (p + 1) ≡ 1 → announced (p + 2) ≡ 2 → announced (p + 3) ≡ 4
+    → p < 0xf0 → data_length (p + 1) ≡ 1 → data_length (p + 2) ≡ 2 → data_length (p + 3) ≡ 4
     → ((a : ℕ) → item_of (p + 1) (a ∷ []) ≡ Ok (k (word (a ∷ []))))
     → ((a b : ℕ) → item_of (p + 2) (a ∷ b ∷ []) ≡ Ok (k (word (a ∷ b ∷ []))))
     → ((a b c d : ℕ) → item_of (p + 3) (a ∷ b ∷ c ∷ d ∷ []) ≡ Ok (k (word (a ∷ b ∷ c ∷ d ∷ []))))
@@ -282,7 +282,7 @@ plain-canonical p k n bs b says bare room one two four read_one read_two read_fo
 -- items that say a signed number
 signed-canonical : (p : ℕ) (k : ℤ → ItemType) (z : ℤ) (bs : List ℕ) → Behind bs (k z)
     → ((l : List ℕ) (y : ℤ) → Says l (k y) → signed l ≡ y) → ((y : ℤ) → IsSaid (k y))
-    → p < 0xf0 → announced (p + 1) ≡ 1 → announced (p + 2) ≡ 2 → announced (p + 3) ≡ 4
+    → p < 0xf0 → data_length (p + 1) ≡ 1 → data_length (p + 2) ≡ 2 → data_length (p + 3) ≡ 4
     → ((a : ℕ) → item_of (p + 1) (a ∷ []) ≡ Ok (k (signed (a ∷ []))))
     → ((a b : ℕ) → item_of (p + 2) (a ∷ b ∷ []) ≡ Ok (k (signed (a ∷ b ∷ []))))
     → ((a b c d : ℕ) → item_of (p + 3) (a ∷ b ∷ c ∷ d ∷ []) ≡ Ok (k (signed (a ∷ b ∷ c ∷ d ∷ []))))
@@ -490,7 +490,7 @@ count-is n small = cond-true (nat_lt n 4294967296) (unsigned_data n) (four_bytes
     (lt-ltb n 4294967296 small)
 
 -- an item that says all by its header
-bare-canonical : (x : ItemType) (h : ℕ) → is_bare x ≡ true → h < 256 → following h [] ≡ 0
+bare-canonical : (x : ItemType) (h : ℕ) → is_bare x ≡ true → h < 256 → following_length h [] ≡ 0
     → item_of h [] ≡ Ok x → IsCanonical (h ∷ []) x
 bare-canonical x h bare small none reads = record {
   spells = (are-one h small, sym none, reads);

@@ -5,16 +5,16 @@ use Rattle.std.proofs.Common.{◌∷◌, ◌++◌, length, take, Result, Ok, ref
 use Rattle.std.proofs.lemmas.Bool.{cond-false, eqb-true, ne_eqb}
 use Rattle.hidreport_items.specs.Answer.{Fault}
 use Rattle.hidreport_items.specs.Kept.{is_kept}
-use Rattle.hidreport_items.specs.Spelling.{announced, first_or_zero, following, is_long_header}
+use Rattle.hidreport_items.specs.Spelling.{data_length, first_or_zero, following_length, is_long_header}
 use Rattle.hidreport_items.specs.Spelling.{item_of}
 use Rattle.hidreport_items.specs.declared.item.ItemType.{ItemType}
 use Rattle.hidreport_items.specs.declared.item.ItemType.TheVariants as item
 
 -- a header that isn't a long item's
-pub short-follow : (h : ℕ) (bs : List ℕ) → is_long_header h ≡ false → following h bs ≡ announced h
-short-follow h bs e = cond-false (is_long_header h) (2 + first_or_zero bs) (announced h) e
+pub short-follow : (h : ℕ) (bs : List ℕ) → is_long_header h ≡ false → following_length h bs ≡ data_length h
+short-follow h bs e = cond-false (is_long_header h) (2 + first_or_zero bs) (data_length h) e
 
-pub small-short : (h : ℕ) (bs : List ℕ) → h < 0xfe → following h bs ≡ announced h
+pub small-short : (h : ℕ) (bs : List ℕ) → h < 0xfe → following_length h bs ≡ data_length h
 small-short h bs small = short-follow h bs (ne_eqb h 0xfe (λ e. omega arith))
 
 long-not-kept : (x : ItemType) → item.Long ≡ x → is_kept x ≡ true → ⊥
@@ -28,10 +28,10 @@ ok-long x e = cc
 
 -- an item that is kept is a short one
 pub kept-short : (h : ℕ) (bs : List ℕ) (x : ItemType) → item_of h bs ≡ Ok x → is_kept x ≡ true
-    → following h bs ≡ announced h
+    → following_length h bs ≡ data_length h
 kept-short h bs x is kept = kept-by (is_long_header h) refl
   where
-    kept-by : (b : Bool) → is_long_header h ≡ b → following h bs ≡ announced h
+    kept-by : (b : Bool) → is_long_header h ≡ b → following_length h bs ≡ data_length h
     kept-by true e =
         let same : read-is item.Long ≡ read-is x =
         subst (λ n. item_of n bs ≡ Ok x) (eqb-true h 0xfe e) is in
@@ -39,9 +39,9 @@ kept-short h bs x is kept = kept-by (is_long_header h) refl
     kept-by false e = short-follow h bs e
 
 -- a beginning that has all that follows the header says the same
-pub following-cut : (h n : ℕ) (bs : List ℕ) → following h bs ≤ n
-    → following h (take n bs) ≡ following h bs
-following-cut h zero bs le = cut-by (is_long_header h) (announced h) le
+pub following-cut : (h n : ℕ) (bs : List ℕ) → following_length h bs ≤ n
+    → following_length h (take n bs) ≡ following_length h bs
+following-cut h zero bs le = cut-by (is_long_header h) (data_length h) le
   where
     cut-by : (b : Bool) (a : ℕ) → cond b (2 + first_or_zero bs) a ≤ 0
         → cond b (2 + first_or_zero []) a ≡ cond b (2 + first_or_zero bs) a
@@ -51,9 +51,9 @@ following-cut h (suc n) [] le = refl
 following-cut h (suc n) (b ∷ bs) le = refl
 
 -- what stands behind all that follows the header isn't looked at
-pub following-more : (h : ℕ) (bs rest : List ℕ) → following h bs ≤ length bs
-    → following h (bs ++ rest) ≡ following h bs
-following-more h [] rest le = more-by (is_long_header h) (announced h) le
+pub following-more : (h : ℕ) (bs rest : List ℕ) → following_length h bs ≤ length bs
+    → following_length h (bs ++ rest) ≡ following_length h bs
+following-more h [] rest le = more-by (is_long_header h) (data_length h) le
   where
     more-by : (b : Bool) (a : ℕ) → cond b 2 a ≤ 0 → cond b (2 + first_or_zero rest) a ≡ cond b 2 a
     more-by true a le = absurd (omega arith)
@@ -61,9 +61,9 @@ following-more h [] rest le = more-by (is_long_header h) (announced h) le
 following-more h (b ∷ bs) rest le = refl
 
 -- a beginning that is all that follows the header by what it says
-pub following-within : (h n : ℕ) (bs : List ℕ) → length (take n bs) ≡ following h (take n bs)
-    → following h (take n bs) ≡ following h bs
-following-within h zero bs is = within-by (is_long_header h) (announced h) is
+pub following-within : (h n : ℕ) (bs : List ℕ) → length (take n bs) ≡ following_length h (take n bs)
+    → following_length h (take n bs) ≡ following_length h bs
+following-within h zero bs is = within-by (is_long_header h) (data_length h) is
   where
     within-by : (b : Bool) (a : ℕ) → 0 ≡ cond b 2 a → cond b 2 a ≡ cond b (2 + first_or_zero bs) a
     within-by true a is = absurd (omega arith)

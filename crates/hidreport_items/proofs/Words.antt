@@ -8,11 +8,11 @@ use Rattle.std.proofs.lemmas.Bool.{lt-ltb, le-leb, lt-leb, eqb-false}
 use Rattle.std.proofs.lemmas.Int.{ints}
 use Rattle.std.proofs.lemmas.List.Elements.{All-from_recursion}
 use Rattle.hidreport_items.specs.Numbers.{word, signed}
-use Rattle.hidreport_items.specs.Spelling.{announced, AreBytes}
+use Rattle.hidreport_items.specs.Spelling.{data_length, AreBytes}
 use Rattle.hidreport_items.specs.Writing.{two_bytes, four_bytes, unsigned_data, signed_data}
 
 -- a header announces 0, 1, 2 or 4 bytes
-pub announced-four : (h : ℕ) → (announced h ≤ 4) × (announced h ≢ 3)
+pub announced-four : (h : ℕ) → (data_length h ≤ 4) × (data_length h ≢ 3)
 announced-four h = cond_both (h % 4 == 3) 4 (h % 4) (λ n. (n ≤ 4) × (n ≢ 3))
     (λ e. (omega arith, λ e3. omega arith))
     (λ e. (omega arith, λ e3. eqb-false (h % 4) 3 e e3))

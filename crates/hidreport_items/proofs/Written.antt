@@ -5,7 +5,7 @@ use Rattle.std.proofs.Common.{nat_lt, false}
 use Rattle.std.proofs.lemmas.Bool.{cond_both}
 use Rattle.hidreport_items.specs.Answer.{Fault}
 use Rattle.hidreport_items.specs.Flags.{Flags}
-use Rattle.hidreport_items.specs.Spelling.{announced, is_long_header, item_of}
+use Rattle.hidreport_items.specs.Spelling.{data_length, is_long_header, item_of}
 use Rattle.hidreport_items.specs.Writing.{with_header, four_bytes, unsigned_data, signed_data}
 use Rattle.hidreport_items.specs.Writing.{count_data, flags_data, item_bytes, main_bytes}
 use Rattle.hidreport_items.specs.Writing.{global_bytes, local_bytes}
@@ -29,7 +29,7 @@ IsRead (Err e) = ⊥
 -- a short item's header, just the data that it announces, and some item that they are read as
 abbrev pub AreAnItem : List ℕ → Type 0
 AreAnItem [] = ⊥
-AreAnItem (h ∷ bs) = (length bs ≡ announced h) × (is_long_header h ≡ false) × IsRead (item_of h bs)
+AreAnItem (h ∷ bs) = (length bs ≡ data_length h) × (is_long_header h ≡ false) × IsRead (item_of h bs)
 
 by-header : (p : ℕ) (bs : List ℕ) → HasShape bs
     → ((a : ℕ) → AreAnItem (with_header p (a ∷ [])))
@@ -128,7 +128,7 @@ local-read (local.Reserved value) = (refl, refl, tt)
 -- bytes that are none, or an item's
 abbrev pub NoneOrAnItem : List ℕ → Type 0
 NoneOrAnItem [] = Unit {0}
-NoneOrAnItem (h ∷ bs) = (length bs ≡ announced h) × (is_long_header h ≡ false) × IsRead
+NoneOrAnItem (h ∷ bs) = (length bs ≡ data_length h) × (is_long_header h ≡ false) × IsRead
     (item_of h bs)
 
 some-or-none : (bytes : List ℕ) → AreAnItem bytes → NoneOrAnItem bytes

@@ -16,6 +16,6 @@ told_fault faults.Long = Invalid long_message
 told_fault faults.Short = Invalid not_long_message
 
 -- what was read, a fault by its message
-abbrev pub told : {A : Type 0} → Result A ItemFault → Result A Fault
-told (Ok x) = Ok x
-told (Err fault) = Err (told_fault fault)
+abbrev pub told_answer : {A : Type 0} → Result A ItemFault → Result A Fault
+told_answer (Ok x) = Ok x
+told_answer (Err fault) = Err (told_fault fault)

@@ -18,8 +18,8 @@ use Rattle.hidreport_items.specs.declared.item.ItemType.{ItemType}
 use Rattle.hidreport_items.specs.declared.item.ItemType.TheVariants as item
 
 -- how many data bytes the header announces: size codes 0, 1, 2, 3 mean 0, 1, 2, 4
-abbrev pub announced : ℕ → ℕ
-announced h = if h % 4 == 3 then 4 else h % 4
+abbrev pub data_length : ℕ → ℕ
+data_length h = if h % 4 == 3 then 4 else h % 4
 
 -- the first data byte, or 0 where there is none
 abbrev pub first_or_zero : List ℕ → ℕ
@@ -32,8 +32,8 @@ is_long_header h = h == 0xfe
 
 -- how many bytes follow a header, by the bytes that stand behind it: of a short item its data; of a
 -- long one the byte that has the length of its data, the tag, and so many data bytes
-abbrev pub following : ℕ → List ℕ → ℕ
-following h bs = if is_long_header h then 2 + first_or_zero bs else announced h
+abbrev pub following_length : ℕ → List ℕ → ℕ
+following_length h bs = if is_long_header h then 2 + first_or_zero bs else data_length h
 
 -- bits 2 to 3 of the header: 0 main, 1 global, 2 local, 3 reserved
 abbrev pub type_of : ℕ → ℕ
@@ -169,4 +169,4 @@ AreBytes bs = All (λ b. b < 256) bs
 -- the bytes are a header and just those that follow it, and denote the item
 abbrev pub Spells : List ℕ → ItemType → Type 0
 Spells [] x = ⊥
-Spells (h ∷ bs) x = AreBytes (h ∷ bs) × (length bs ≡ following h bs) × (item_of h bs ≡ Ok x)
+Spells (h ∷ bs) x = AreBytes (h ∷ bs) × (length bs ≡ following_length h bs) × (item_of h bs ≡ Ok x)

@@ -1,6 +1,6 @@
 ghost use Rattle.std.specs.Prelude.{◌≡◌, not};
 ghost use Rattle.hidreport_items.specs.Answer.{GivesInPlace, Writes};
-ghost use Rattle.hidreport_items.specs.InPlace.{told};
+ghost use Rattle.hidreport_items.specs.InPlace.{told_answer};
 ghost use Rattle.hidreport_items.specs.Spelling.{feature_item, read_with};
 ghost use Rattle.hidreport_items.specs.Writing.{main_bytes};
 ghost use Rattle.hidreport_items.specs.declared.main_item.MainItem.TheVariants.{Feature};
@@ -65,7 +65,7 @@ impl FeatureItem {
 
     /// The item that these data bytes spell.
     pub(crate) fn from_data(bytes: &[u8]) -> Result<FeatureItem, ItemFault>
-        ensures { told result ≡ feature_item bytes.now }
+        ensures { told_answer result ≡ feature_item bytes.now }
     {
         Ok(FeatureItem::from_flags(ItemFlags::from_data(bytes)?))
     }

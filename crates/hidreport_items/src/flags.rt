@@ -1,6 +1,6 @@
 ghost use Rattle.std.specs.Prelude.{◌≡◌, not};
 ghost use Rattle.hidreport_items.specs.Flags.{Flags, flags_of};
-ghost use Rattle.hidreport_items.specs.InPlace.{told};
+ghost use Rattle.hidreport_items.specs.InPlace.{told_answer};
 ghost use Rattle.hidreport_items.specs.Spelling.{output_item};
 
 use crate::item_fault::ItemFault;
@@ -150,7 +150,7 @@ impl Model for ItemFlags {
 impl ItemFlags {
     /// The flags that these data bytes spell, all nine.
     pub(crate) fn from_data(bytes: &[u8]) -> Result<ItemFlags, ItemFault>
-        ensures { told result ≡ output_item bytes.now }
+        ensures { told_answer result ≡ output_item bytes.now }
     {
         if bytes.is_empty() {
             return Err(ItemFault::TooFew);

@@ -1,5 +1,5 @@
 ghost use Rattle.hidreport_items.specs.Answer.{GivesInPlace, Writes};
-ghost use Rattle.hidreport_items.specs.InPlace.{told};
+ghost use Rattle.hidreport_items.specs.InPlace.{told_answer};
 ghost use Rattle.std.specs.Prelude.{◌≡◌};
 ghost use Rattle.hidreport_items.specs.Spelling.{global_item, read_with};
 ghost use Rattle.hidreport_items.specs.Writing.{global_bytes, global_prefix};
@@ -133,7 +133,7 @@ impl GlobalItem {
 
     /// The global item with this header and data.
     pub(crate) fn from_parts(header: u8, bytes: &[u8]) -> Result<GlobalItem, ItemFault>
-        ensures { told result ≡ global_item header bytes.now }
+        ensures { told_answer result ≡ global_item header bytes.now }
     {
         if !is_short_length(bytes.len()) {
             return Err(ItemFault::Length(bytes.len()));

@@ -1,6 +1,6 @@
 ghost use Rattle.std.specs.Prelude.{◌≡◌, false};
 ghost use Rattle.hidreport_items.specs.Answer.{GivesInPlace, Writes};
-ghost use Rattle.hidreport_items.specs.InPlace.{told};
+ghost use Rattle.hidreport_items.specs.InPlace.{told_answer};
 ghost use Rattle.hidreport_items.specs.Spelling.{input_item, read_with};
 ghost use Rattle.hidreport_items.specs.Writing.{main_bytes};
 ghost use Rattle.hidreport_items.specs.declared.main_item.MainItem.TheVariants.{Input};
@@ -69,7 +69,7 @@ impl InputItem {
 
     /// The item that these data bytes spell.
     pub(crate) fn from_data(bytes: &[u8]) -> Result<InputItem, ItemFault>
-        ensures { told result ≡ input_item bytes.now }
+        ensures { told_answer result ≡ input_item bytes.now }
     {
         Ok(InputItem::from_flags(ItemFlags::from_data(bytes)?))
     }

@@ -1,5 +1,5 @@
 ghost use Rattle.hidreport_items.specs.Answer.{GivesInPlace, Writes};
-ghost use Rattle.hidreport_items.specs.InPlace.{told};
+ghost use Rattle.hidreport_items.specs.InPlace.{told_answer};
 ghost use Rattle.hidreport_items.specs.Writing.{item_bytes};
 ghost use Rattle.std.specs.Prelude.{◌≡◌, ◌==◌, true, ℕ, IfOk, List, Ok};
 ghost use Rattle.hidreport_items.specs.Canonical.{IsCanonical};
@@ -93,7 +93,7 @@ pub fn is_long_header(header: u8) -> bool
 /// missing, `Length` where there is data of another length, `Tag` where a main item has another tag
 /// than the five.
 pub fn read_item(header: u8, data_bytes: &[u8]) -> Result<ItemType, ItemFault>
-    ensures { told result ≡ item_of header data_bytes.now }
+    ensures { told_answer result ≡ item_of header data_bytes.now }
 {
     match header >> 2 & 0x03 {
         0 => Ok(ItemType::Main(MainItem::from_parts(header, data_bytes)?)),

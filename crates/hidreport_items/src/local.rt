@@ -1,6 +1,6 @@
 ghost use Rattle.std.specs.Prelude.{◌≡◌, ◌+◌, ◌*◌};
 ghost use Rattle.hidreport_items.specs.Answer.{GivesInPlace, Writes};
-ghost use Rattle.hidreport_items.specs.InPlace.{told};
+ghost use Rattle.hidreport_items.specs.InPlace.{told_answer};
 ghost use Rattle.hidreport_items.specs.Writing.{local_bytes, local_prefix};
 ghost use Rattle.hidreport_items.specs.Spelling.{local_item, usage_item, read_with};
 
@@ -129,7 +129,7 @@ impl LocalItem {
 
     /// The local item with this header and data.
     pub(crate) fn from_parts(header: u8, bytes: &[u8]) -> Result<LocalItem, ItemFault>
-        ensures { told result ≡ local_item header bytes.now }
+        ensures { told_answer result ≡ local_item header bytes.now }
     {
         if bytes.is_empty() {
             return Err(ItemFault::TooFew);

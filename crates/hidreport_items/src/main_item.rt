@@ -1,6 +1,6 @@
 ghost use Rattle.std.specs.Prelude.{◌≡◌, [], MatchResult, Ok};
 ghost use Rattle.hidreport_items.specs.Answer.{GivesInPlace, Writes};
-ghost use Rattle.hidreport_items.specs.InPlace.{told};
+ghost use Rattle.hidreport_items.specs.InPlace.{told_answer};
 ghost use Rattle.hidreport_items.specs.Writing.{main_bytes};
 ghost use Rattle.hidreport_items.specs.declared.error.HidError.TheVariants.{InsufficientData};
 ghost use Rattle.hidreport_items.specs.Spelling.{main_item, collection_item, collection_of};
@@ -207,7 +207,7 @@ impl MainItem {
 
     /// The main item with this header and data.
     pub(crate) fn from_parts(header: u8, bytes: &[u8]) -> Result<MainItem, ItemFault>
-        ensures { told result ≡ main_item header bytes.now }
+        ensures { told_answer result ≡ main_item header bytes.now }
     {
         match header & 0xfc {
             0x80 => Ok(MainItem::Input(InputItem::from_data(bytes)?)),

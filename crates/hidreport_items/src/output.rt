@@ -1,6 +1,6 @@
 ghost use Rattle.std.specs.Prelude.{◌≡◌, not};
 ghost use Rattle.hidreport_items.specs.Answer.{GivesInPlace, Writes};
-ghost use Rattle.hidreport_items.specs.InPlace.{told};
+ghost use Rattle.hidreport_items.specs.InPlace.{told_answer};
 ghost use Rattle.hidreport_items.specs.Spelling.{output_item, read_with};
 ghost use Rattle.hidreport_items.specs.Writing.{main_bytes};
 ghost use Rattle.hidreport_items.specs.declared.main_item.MainItem.TheVariants.{Output};
@@ -65,7 +65,7 @@ impl OutputItem {
 
     /// The item that these data bytes spell.
     pub(crate) fn from_data(bytes: &[u8]) -> Result<OutputItem, ItemFault>
-        ensures { told result ≡ output_item bytes.now }
+        ensures { told_answer result ≡ output_item bytes.now }
     {
         Ok(OutputItem::from_flags(ItemFlags::from_data(bytes)?))
     }

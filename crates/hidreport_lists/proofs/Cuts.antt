@@ -9,12 +9,12 @@ use Rattle.std.proofs.lemmas.Grind.{get_or_default_zero}
 use Rattle.std.proofs.lemmas.List.Elements.{All-take, All-drop}
 use Rattle.std.proofs.Math.Seq.{take-append_seam, drop-append_seam}
 use Rattle.hidreport_items.specs.Answer.{Fault, Insufficient}
-use Rattle.hidreport_items.specs.Spelling.{following, AreBytes}
+use Rattle.hidreport_items.specs.Spelling.{following_length, AreBytes}
 use Rattle.hidreport_items.proofs.Following.{following-cut, following-more, following-within}
 use Rattle.hidreport_items.specs.declared.item.ItemType.{ItemType}
 use Rattle.hidreport_lists.specs.Answer.{InvalidAt, Bounds, Mismatch, OverBudget, Answers}
 use Rattle.hidreport_lists.specs.Entry.{Entry}
-use Rattle.hidreport_lists.specs.Itemising.{Reader, Reads, joined, AreInPlace, AreRead, Itemises}
+use Rattle.hidreport_lists.specs.Itemising.{Reader, Reads, all_bytes, AreInPlace, AreRead, Itemises}
 use Rattle.hidreport_lists.specs.Itemising.{IsFaultAt, IsGrammarFault, item_at, with_entry}
 use Rattle.hidreport_lists.specs.Itemising.{items_from, itemise, as_refusal}
 use Rattle.hidreport_lists.specs.Messages.{grammar_message}
@@ -25,15 +25,15 @@ use Rattle.hidreport_lists.proofs.Items.{with_front, itemise-some}
 
 -- a header and its data, before other bytes, are the first item
 step-header : (read : Reader) (offset h : ℕ) (bs : List ℕ) (x : ItemType) (rest : List ℕ)
-    → length bs ≡ following h bs → read h bs ≡ Ok x
+    → length bs ≡ following_length h bs → read h bs ≡ Ok x
     → items_from read offset 0 (h ∷ (bs ++ rest)) ≡ with_entry offset (h ∷ bs) (Ok x)
     (items_from read (offset + length (h ∷ bs)) 0 rest)
 step-header read offset h bs x rest size is =
     let whole = bs ++ rest in
-    let n = following h whole in
+    let n = following_length h whole in
     let sized : length bs ≡ n = size
     ∙ sym (following-more h bs rest
-    (let le : following h bs ≤ length bs = omega (arith, size) in le)) in
+    (let le : following_length h bs ≤ length bs = omega (arith, size) in le)) in
     let same : take n whole ≡ bs =
     subst (λ k. take k whole ≡ bs) sized (take-append_seam bs rest) in
     let behind : drop n whole ≡ rest =
@@ -62,10 +62,10 @@ step read offset (h ∷ bs) x rest r = step-header read offset h bs x rest r.1 r
 
 -- items in place are what is cut
 cut-all : (read : Reader) (entries : List Entry) (offset : ℕ) → AreRead read entries
-    → AreInPlace offset entries → items_from read offset 0 (joined entries) ≡ Ok entries
+    → AreInPlace offset entries → items_from read offset 0 (all_bytes entries) ≡ Ok entries
 cut-all read [] offset each places = refl
 cut-all read (e ∷ es) offset each places =
-    step read offset e.bytes e.item (joined es) each.0
+    step read offset e.bytes e.item (all_bytes es) each.0
     ∙ ap (with_entry offset e.bytes (Ok e.item))
     (cut-all read es (offset + length e.bytes) each.1 places.1)
     ∙ ap (λ n. Ok (record { offset = n; bytes = e.bytes; item = e.item } ∷ es)) (sym places.0)
@@ -73,20 +73,20 @@ cut-all read (e ∷ es) offset each places =
 -- what stands behind items and can't be read is the fault
 stop-all : (read : Reader) (entries : List Entry) (offset header : ℕ) (after : List ℕ)
     (fault : Fault) → AreRead read entries → item_at read header after ≡ Err fault
-    → items_from read offset 0 (joined entries ++ header ∷ after) ≡ Err
-    (offset + length (joined entries), fault)
+    → items_from read offset 0 (all_bytes entries ++ header ∷ after) ≡ Err
+    (offset + length (all_bytes entries), fault)
 stop-all read [] offset header after fault each why =
     ap (λ (r : Result ItemType Fault). with_entry offset
-    (header ∷ take (following header after) after) r
-    (items_from read (offset + 1) (following header after) after)) why
+    (header ∷ take (following_length header after) after) r
+    (items_from read (offset + 1) (following_length header after) after)) why
     ∙ ap (λ n. Err (n, fault)) (let e : offset ≡ offset + 0 = omega arith in e)
 stop-all read (e ∷ es) offset header after fault each why =
-    ap (items_from read offset 0) (append_assoc e.bytes (joined es) (header ∷ after))
-    ∙ step read offset e.bytes e.item (joined es ++ header ∷ after) each.0
+    ap (items_from read offset 0) (append_assoc e.bytes (all_bytes es) (header ∷ after))
+    ∙ step read offset e.bytes e.item (all_bytes es ++ header ∷ after) each.0
     ∙ ap (with_entry offset e.bytes (Ok e.item))
     (stop-all read es (offset + length e.bytes) header after fault each.1 why)
     ∙ ap (λ n. Err (n, fault))
-    (let e2 : offset + length e.bytes + length (joined es) ≡ offset + length (e.bytes ++ joined es) = simp length-append (omega arith) in e2)
+    (let e2 : offset + length e.bytes + length (all_bytes es) ≡ offset + length (e.bytes ++ all_bytes es) = simp length-append (omega arith) in e2)
 
 -- an itemising is the one that is computed
 pub itemise-items : (read : Reader) (bytes : List ℕ) (entries : List Entry)
@@ -103,16 +103,16 @@ not_nil (b ∷ front) h after bytes e none = let bad : b ∷ (front ++ h ∷ aft
 pub itemise-fault : (read : Reader) (bytes : List ℕ) (offset : ℕ) (fault : Fault)
     → IsFaultAt read bytes offset fault → itemise read bytes ≡ Err (offset, fault)
 itemise-fault read bytes offset fault f =
-    itemise-some read bytes (not_nil (joined f.entries) f.header f.after bytes f.whole)
+    itemise-some read bytes (not_nil (all_bytes f.entries) f.header f.after bytes f.whole)
     ∙ ap (items_from read 0 0) (sym f.whole)
     ∙ stop-all read f.entries 0 f.header f.after fault f.each f.why
     ∙ ap (λ n. Err (n, fault))
-    (let e : 0 + length (joined f.entries) ≡ offset = omega (arith, f.place) in e)
+    (let e : 0 + length (all_bytes f.entries) ≡ offset = omega (arith, f.place) in e)
 
 -- the bytes are items, the first at an offset
 record Cut (read : Reader) (offset : ℕ) (bytes : List ℕ) : Type 0 where
   entries : List Entry
-  whole : joined entries ≡ bytes
+  whole : all_bytes entries ≡ bytes
   each : AreRead read entries
   places : AreInPlace offset entries
 
@@ -122,7 +122,7 @@ record Stops (read : Reader) (bytes : List ℕ) : Type 0 where
   header : ℕ
   after : List ℕ
   fault : Fault
-  whole : joined entries ++ header ∷ after ≡ bytes
+  whole : all_bytes entries ++ header ∷ after ≡ bytes
   each : AreRead read entries
   none : (n : ℕ) (x : ItemType) → Reads read (take n (header ∷ after)) x → ⊥
   why : item_at read header after ≡ Err fault
@@ -132,10 +132,10 @@ none-read : (read : Reader) (h : ℕ) (bs : List ℕ) (fault : Fault) → item_a
     → (n : ℕ) (x : ItemType) → Reads read (take n (h ∷ bs)) x → ⊥
 none-read read h bs fault why zero x r = r
 none-read read h bs fault why (suc n) x r =
-    let size : min n (length bs) ≡ following h bs = sym (length-take n bs) ∙ r.1
+    let size : min n (length bs) ≡ following_length h bs = sym (length-take n bs) ∙ r.1
     ∙ following-within h n bs r.1 in
-    let room : following h bs ≤ length bs = omega (arith, size) in
-    let same : take (following h bs) bs ≡ take n bs = ap (λ k. take k bs) (sym size)
+    let room : following_length h bs ≤ length bs = omega (arith, size) in
+    let same : take (following_length h bs) bs ≡ take n bs = ap (λ k. take k bs) (sym size)
     ∙ take_min n bs in
     let is : item_at read h bs ≡ Ok x = item_at-enough read h bs room ∙ ap (read h) same ∙ r.2 in
     let bad : Err fault ≡ Ok x = sym why ∙ is in
@@ -143,13 +143,13 @@ none-read read h bs fault why (suc n) x r =
 
 -- what is read at a header is an item, before the rest
 cut-first : (read : Reader) (h : ℕ) (bs : List ℕ) (x : ItemType) → AreBytes (h ∷ bs)
-    → item_at read h bs ≡ Ok x → Reads read (h ∷ take (following h bs) bs) x
+    → item_at read h bs ≡ Ok x → Reads read (h ∷ take (following_length h bs) bs) x
 cut-first read h bs x bytes is =
-    let n = following h bs in
+    let n = following_length h bs in
     let got = chosen_ok (nat_lt (length bs) n) Insufficient (read h (take n bs)) x is in
     let room : n ≤ length bs = enough (length bs) n got.0 in
     let size : length (take n bs) ≡ n = simp length-take (omega (arith, room)) in
-    let le : following h bs ≤ n = omega arith in
+    let le : following_length h bs ≤ n = omega arith in
     (All-take (λ b. b < 256) (suc n) (h ∷ bs) bytes, size ∙ sym (following-cut h n bs le), got.1)
 
 -- one more item in front
@@ -169,7 +169,7 @@ more-stops read offset front x rest r s = record {
   header = s.header;
   after = s.after;
   fault = s.fault;
-  whole = append_assoc front (joined s.entries) (s.header ∷ s.after) ∙ ap (λ l. front ++ l) s.whole;
+  whole = append_assoc front (all_bytes s.entries) (s.header ∷ s.after) ∙ ap (λ l. front ++ l) s.whole;
   each = (r, s.each);
   none = s.none;
   why = s.why;
@@ -180,7 +180,7 @@ Ends read offset bytes = Cut read offset bytes ⊎ Stops read bytes
 
 -- by what the first item is
 ends-item : (read : Reader) (offset h : ℕ) (bs : List ℕ) → AreBytes (h ∷ bs)
-    → ((at : ℕ) → Cut read at (drop (following h bs) bs) ⊎ Stops read (drop (following h bs) bs))
+    → ((at : ℕ) → Cut read at (drop (following_length h bs) bs) ⊎ Stops read (drop (following_length h bs) bs))
     → (r : Result ItemType Fault) → item_at read h bs ≡ r → Cut read offset (h ∷ bs)
     ⊎ Stops read (h ∷ bs)
 ends-item read offset h bs bytes rest (Err fault) e = inr (record {
@@ -194,15 +194,15 @@ ends-item read offset h bs bytes rest (Err fault) e = inr (record {
   why = e;
 })
 ends-item read offset h bs bytes rest (Ok x) e =
-    let front : List ℕ = h ∷ take (following h bs) bs in
-    let whole : front ++ drop (following h bs) bs ≡ h ∷ bs =
-    ap (λ l. h ∷ l) (take-append-drop (following h bs) bs) in
+    let front : List ℕ = h ∷ take (following_length h bs) bs in
+    let whole : front ++ drop (following_length h bs) bs ≡ h ∷ bs =
+    ap (λ l. h ∷ l) (take-append-drop (following_length h bs) bs) in
     let first : Reads read front x = cut-first read h bs x bytes e in
     elim (rest (offset + length front)) [
       | inl c ↦ inl (subst (Cut read offset) whole
-          (more-cut read offset front x (drop (following h bs) bs) first c))
+          (more-cut read offset front x (drop (following_length h bs) bs) first c))
       | inr s ↦ inr (subst (Stops read) whole
-          (more-stops read offset front x (drop (following h bs) bs) first s))
+          (more-stops read offset front x (drop (following_length h bs) bs) first s))
     ]
 
 -- bytes are items to their end, or items up to a fault
@@ -211,10 +211,10 @@ ends : (read : Reader) (n offset : ℕ) (bytes : List ℕ) → length bytes ≤ 
 ends read n offset [] le bytes = inl (record { entries = []; whole = refl; each = tt; places = tt })
 ends read zero offset (h ∷ bs) le bytes = absurd (omega arith)
 ends read (suc n) offset (h ∷ bs) le bytes =
-    let short : length (drop (following h bs) bs) ≤ n = simp length-drop (omega arith) in
+    let short : length (drop (following_length h bs) bs) ≤ n = simp length-drop (omega arith) in
     ends-item read offset h bs bytes
-    (λ at. ends read n at (drop (following h bs) bs) short
-    (All-drop (λ b. b < 256) (suc (following h bs)) (h ∷ bs) bytes)) (item_at read h bs) refl
+    (λ at. ends read n at (drop (following_length h bs) bs) short
+    (All-drop (λ b. b < 256) (suc (following_length h bs)) (h ∷ bs) bytes)) (item_at read h bs) refl
 
 -- bytes, of which there are some, are items or have a fault
 pub items_or_fault : (read : Reader) (bytes : List ℕ) → AreBytes bytes → bytes ≢ []
@@ -228,7 +228,7 @@ items_or_fault read bytes are some =
             { some = some; whole = c.whole; each = c.each; places = c.places },
       )
       | inr s ↦ inr (
-        length (joined s.entries),
+        length (all_bytes s.entries),
         s.fault,
         record {
           entries = s.entries;

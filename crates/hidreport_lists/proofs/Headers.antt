@@ -3,7 +3,7 @@ use Rattle.std.proofs.Common.{◌≡◌, ℕ, zero, suc, ◌+◌, ◌<◌, ◌�
 use Rattle.std.proofs.Common.{drop, ◌-◌, refl, ap, ◌∙◌, subst, arith, length-drop}
 use Rattle.std.proofs.Math.Seq.{take-length}
 use Rattle.std.proofs.lemmas.List.{drop-drop, drop_more}
-use Rattle.hidreport_items.specs.Spelling.{following}
+use Rattle.hidreport_items.specs.Spelling.{following_length}
 use Rattle.hidreport_lists.specs.Headers.{headers_from}
 
 headers-inside : (inside : ℕ) (bs : List ℕ)
@@ -14,9 +14,9 @@ headers-inside (suc inside) (b ∷ bs) = headers-inside inside bs
 
 headers-first : (bytes : List ℕ) (i : ℕ) → i < length bytes
     → headers_from 0 (drop i bytes) ≡ 1 + headers_from 0
-    (drop (i + (1 + following (get_or bytes i 0) (drop (i + 1) bytes))) bytes)
+    (drop (i + (1 + following_length (get_or bytes i 0) (drop (i + 1) bytes))) bytes)
 headers-first bytes i lt =
-    let a = following (get_or bytes i 0) (drop (i + 1) bytes) in
+    let a = following_length (get_or bytes i 0) (drop (i + 1) bytes) in
     ap (headers_from 0) (drop_more bytes i 0 lt)
     ∙ ap (λ n. 1 + n) (headers-inside a (drop (i + 1) bytes)
     ∙ ap (headers_from 0) (drop-drop a (i + 1) bytes
@@ -29,13 +29,13 @@ behind bytes i = subst (λ n. take n (drop i bytes) ≡ drop i bytes) (length-dr
 
 -- one header more
 pub headers-step : (bytes : List ℕ) (count i a : ℕ) → i < length bytes
-    → a ≡ following (get_or bytes i 0) (drop (i + 1) bytes)
+    → a ≡ following_length (get_or bytes i 0) (drop (i + 1) bytes)
     → count + headers_from 0 (drop i bytes) ≡ headers_from 0 bytes
     → count + 1 + headers_from 0 (drop (i + (1 + a)) bytes) ≡ headers_from 0 bytes
 headers-step bytes count i a lt is so_far =
     let first = headers-first bytes i lt in
     let same : headers_from 0 (drop (i + (1 + a)) bytes) ≡ headers_from 0
-    (drop (i + (1 + following (get_or bytes i 0) (drop (i + 1) bytes))) bytes) =
+    (drop (i + (1 + following_length (get_or bytes i 0) (drop (i + 1) bytes))) bytes) =
     ap (λ n. headers_from 0 (drop (i + (1 + n)) bytes)) is in
     omega (arith, first, same, so_far)
 

@@ -12,7 +12,7 @@ use Rattle.hidreport_items.proofs.Following.{short-follow}
 use Rattle.hidreport_items.proofs.Written.{IsRead, NoneOrAnItem, written-read}
 use Rattle.hidreport_items.specs.declared.error.HidError.{HidError}
 use Rattle.hidreport_items.specs.declared.error.HidError.TheVariants as errors
-use Rattle.hidreport_items.specs.Spelling.{announced, first_or_zero, following, is_long_header}
+use Rattle.hidreport_items.specs.Spelling.{data_length, first_or_zero, following_length, is_long_header}
 use Rattle.hidreport_items.specs.Spelling.{item_of, read_as}
 use Rattle.hidreport_items.specs.Writing.{item_bytes}
 use Rattle.hidreport_items.specs.declared.item.ItemType.{ItemType}
@@ -51,11 +51,11 @@ never-read : {A : Type 0} (r : Result A Fault) (fault : Fault) → IsRead r → 
 never-read (Ok x) fault is e = cc
 never-read (Err d) fault is e = is
 
-pub item_at-enough : (read : Reader) (h : ℕ) (bs : List ℕ) → following h bs ≤ length bs
-    → item_at read h bs ≡ read h (take (following h bs) bs)
+pub item_at-enough : (read : Reader) (h : ℕ) (bs : List ℕ) → following_length h bs ≤ length bs
+    → item_at read h bs ≡ read h (take (following_length h bs) bs)
 item_at-enough read h bs le = ap
-    (λ b. cond b (Err Insufficient) (read h (take (following h bs) bs)))
-    (not_short (length bs) (following h bs) le)
+    (λ b. cond b (Err Insufficient) (read h (take (following_length h bs) bs)))
+    (not_short (length bs) (following_length h bs) le)
 
 -- a short item is the one at the front
 pub short-front : (h : ℕ) (bs : List ℕ) → is_long_header h ≡ false
@@ -64,11 +64,11 @@ short-front h bs e = cond-false (is_long_header h) (Err (Invalid long_message))
     (front_item item_of (h ∷ bs)) e
 
 -- with all that follows its header, it is what is read
-pub front-read : (h : ℕ) (bs : List ℕ) → following h bs ≤ length bs
+pub front-read : (h : ℕ) (bs : List ℕ) → following_length h bs ≤ length bs
     → front_item item_of (h ∷ bs) ≡ read_as
-    (λ x. record { bytes = h ∷ take (following h bs) bs; item = x })
-    (item_of h (take (following h bs) bs))
-front-read h bs room = ap (read_as (λ x. record { bytes = h ∷ take (following h bs) bs; item = x }))
+    (λ x. record { bytes = h ∷ take (following_length h bs) bs; item = x })
+    (item_of h (take (following_length h bs) bs))
+front-read h bs room = ap (read_as (λ x. record { bytes = h ∷ take (following_length h bs) bs; item = x }))
     (item_at-enough item_of h bs room)
 
 -- the item at the front begins with the first byte
@@ -76,34 +76,34 @@ pub front-header : (bytes : List ℕ) (s : Spelled) → front_item item_of bytes
     → first_or_zero s.bytes ≡ first_or_zero bytes
 front-header [] s e = cc
 front-header (h ∷ bs) s e =
-    let got = read_as_ok (λ x. record { bytes = h ∷ take (following h bs) bs; item = x })
+    let got = read_as_ok (λ x. record { bytes = h ∷ take (following_length h bs) bs; item = x })
     (item_at item_of h bs) s e in
     ap (λ (y : Spelled). first_or_zero y.bytes) (sym got.2)
 
 -- a fault of the header and its data is the item's
 pub short_item-err : (h : ℕ) (after : List ℕ) (a : ℕ) (fault : Fault) → is_long_header h ≡ false
-    → a ≡ announced h → a ≤ length after → Err fault ≡ item_of h (take a after)
+    → a ≡ data_length h → a ≤ length after → Err fault ≡ item_of h (take a after)
     → Err fault ≡ short_item item_of (h ∷ after)
 short_item-err h after a fault short announces room e =
-    let is : a ≡ following h after = announces ∙ sym (short-follow h after short) in
-    let enough_bytes : following h after ≤ length after = subst (λ n. n ≤ length after) is room in
-    let same : item_of h (take (following h after) after) ≡ Err fault =
+    let is : a ≡ following_length h after = announces ∙ sym (short-follow h after short) in
+    let enough_bytes : following_length h after ≤ length after = subst (λ n. n ≤ length after) is room in
+    let same : item_of h (take (following_length h after) after) ≡ Err fault =
     ap (λ n. item_of h (take n after)) (sym is) ∙ sym e in
     sym (short-front h after short ∙ front-read h after enough_bytes
-    ∙ ap (read_as (λ x. record { bytes = h ∷ take (following h after) after; item = x })) same)
+    ∙ ap (read_as (λ x. record { bytes = h ∷ take (following_length h after) after; item = x })) same)
 
 -- what is written for an item has no fault but that there is nothing
 written-fault : (bytes : List ℕ) (fault : Fault) → NoneOrAnItem bytes
     → short_item item_of bytes ≡ Err fault → fault ≡ Insufficient
 written-fault [] fault are e = cc
 written-fault (h ∷ bs) fault are e =
-    let size : length bs ≡ following h bs = are.0 ∙ sym (short-follow h bs are.1) in
-    let room : following h bs ≤ length bs = omega (arith, size) in
-    let same : take (following h bs) bs ≡ bs = subst (λ n. take n bs ≡ bs) size (take-length bs) in
+    let size : length bs ≡ following_length h bs = are.0 ∙ sym (short-follow h bs are.1) in
+    let room : following_length h bs ≤ length bs = omega (arith, size) in
+    let same : take (following_length h bs) bs ≡ bs = subst (λ n. take n bs ≡ bs) size (take-length bs) in
     absurd (never-read (item_of h bs) fault are.2 (
     ap (item_of h) (sym same)
     ∙ sym (item_at-enough item_of h bs room)
-    ∙ read_as_err (λ y. record { bytes = h ∷ take (following h bs) bs; item = y })
+    ∙ read_as_err (λ y. record { bytes = h ∷ take (following_length h bs) bs; item = y })
     (item_at item_of h bs) fault (sym (short-front h bs are.1) ∙ e)))
 
 pub item-fault : (x : ItemType) (fault : Fault) → short_item item_of (item_bytes x) ≡ Err fault
@@ -151,9 +151,9 @@ pub items_from-fault : (offset : ℕ) (bytes : List ℕ) (fault : Fault) → byt
     → items_from item_of offset 0 bytes ≡ Err (offset, fault)
 items_from-fault offset [] fault ne e = absurd (ne refl)
 items_from-fault offset (h ∷ bs) fault ne e =
-    ap (λ (r : Result ItemType Fault). with_entry offset (h ∷ take (following h bs) bs) r
-    (items_from item_of (offset + 1) (following h bs) bs))
-    (read_as_err (λ x. record { bytes = h ∷ take (following h bs) bs; item = x })
+    ap (λ (r : Result ItemType Fault). with_entry offset (h ∷ take (following_length h bs) bs) r
+    (items_from item_of (offset + 1) (following_length h bs) bs))
+    (read_as_err (λ x. record { bytes = h ∷ take (following_length h bs) bs; item = x })
     (item_at item_of h bs) fault e)
 
 -- an item that is read stands before the items of the rest
@@ -163,7 +163,7 @@ pub items_from-item : (offset : ℕ) (bytes : List ℕ) (s : Spelled) → front_
     (items_from item_of (offset + length s.bytes) 0 (drop (length s.bytes) bytes)))
 items_from-item offset [] s e = cc
 items_from-item offset (h ∷ bs) s e =
-    let n = following h bs in
+    let n = following_length h bs in
     let got = read_as_ok (λ x. record { bytes = h ∷ take n bs; item = x }) (item_at item_of h bs) s
     e in
     let room : n ≤ length bs = enough (length bs) n

@@ -5,7 +5,7 @@ use Rattle.std.specs.Prelude.{◌≡◌, ◌≢◌, ℕ, ◌+◌, zero, suc, nat
 use Rattle.std.specs.Prelude.{◌++◌, length, take, flat_map, Result, Ok, Err, string_bytes}
 use Rattle.hidreport_items.specs.Answer.{Fault, Invalid, Insufficient}
 use Rattle.hidreport_items.specs.Messages.{long_message, not_long_message}
-use Rattle.hidreport_items.specs.Spelling.{following, is_long_header, AreBytes, read_as}
+use Rattle.hidreport_items.specs.Spelling.{following_length, is_long_header, AreBytes, read_as}
 use Rattle.hidreport_items.specs.declared.item.ItemType.{ItemType}
 use Rattle.hidreport_lists.specs.Answer.{Refusal, InvalidAt}
 use Rattle.hidreport_lists.specs.Entry.{Spelled, Entry}
@@ -20,11 +20,11 @@ Reader = ℕ → List ℕ → Result ItemType Fault
 -- the bytes are a header and just those that follow it, and are read as the item
 abbrev pub Reads : Reader → List ℕ → ItemType → Type 0
 Reads read [] x = ⊥
-Reads read (h ∷ bs) x = AreBytes (h ∷ bs) × (length bs ≡ following h bs) × (read h bs ≡ Ok x)
+Reads read (h ∷ bs) x = AreBytes (h ∷ bs) × (length bs ≡ following_length h bs) × (read h bs ≡ Ok x)
 
 -- the bytes of all these items, joined
-abbrev pub joined : List Entry → List ℕ
-joined entries = flat_map (λ e. e.bytes) entries
+abbrev pub all_bytes : List Entry → List ℕ
+all_bytes entries = flat_map (λ e. e.bytes) entries
 
 -- each item stands behind all bytes of those before it
 abbrev pub AreInPlace : ℕ → List Entry → Type 0
@@ -39,15 +39,15 @@ AreRead read (e ∷ entries) = Reads read e.bytes e.item × AreRead read entries
 -- the bytes are these items, and there are some
 pub record Itemises (read : Reader) (bytes : List ℕ) (entries : List Entry) : Type 0 where
   pub some : bytes ≢ []
-  pub whole : joined entries ≡ bytes
+  pub whole : all_bytes entries ≡ bytes
   pub each : AreRead read entries
   pub places : AreInPlace 0 entries
 
 -- what the first item of h and the bytes after it is, or why there is none
 abbrev pub item_at : Reader → ℕ → List ℕ → Result ItemType Fault
 item_at read h bs =
-    if nat_lt (length bs) (following h bs) then Err Insufficient
-    else read h (take (following h bs) bs)
+    if nat_lt (length bs) (following_length h bs) then Err Insufficient
+    else read h (take (following_length h bs) bs)
 
 -- The bytes before the offset are items, or none; no beginning of the rest, which isn't empty, is
 -- one, and this is why.
@@ -55,9 +55,9 @@ pub record IsFaultAt (read : Reader) (bytes : List ℕ) (offset : ℕ) (fault : 
   pub entries : List Entry
   pub header : ℕ
   pub after : List ℕ
-  pub whole : joined entries ++ header ∷ after ≡ bytes
+  pub whole : all_bytes entries ++ header ∷ after ≡ bytes
   pub each : AreRead read entries
-  pub place : length (joined entries) ≡ offset
+  pub place : length (all_bytes entries) ≡ offset
   pub none : (n : ℕ) (x : ItemType) → Reads read (take n (header ∷ after)) x → ⊥
   pub why : item_at read header after ≡ Err fault
 
@@ -85,8 +85,8 @@ with_entry offset bytes (Ok x) (Ok entries) =
 abbrev pub items_from : Reader → ℕ → ℕ → List ℕ → Result (List Entry) (ℕ × Fault)
 items_from read offset inside [] = Ok []
 items_from read offset zero (h ∷ bs) =
-    with_entry offset (h ∷ take (following h bs) bs) (item_at read h bs)
-    (items_from read (offset + 1) (following h bs) bs)
+    with_entry offset (h ∷ take (following_length h bs) bs) (item_at read h bs)
+    (items_from read (offset + 1) (following_length h bs) bs)
 items_from read offset (suc inside) (b ∷ bs) = items_from read (offset + 1) inside bs
 
 -- the items of a descriptor, or its grammar fault
@@ -103,7 +103,7 @@ as_refusal (Err fault) = Err (InvalidAt fault.0 (grammar_message fault.1))
 abbrev pub front_item : Reader → List ℕ → Result Spelled Fault
 front_item read [] = Err Insufficient
 front_item read (h ∷ bs) =
-    read_as (λ x. record { bytes = h ∷ take (following h bs) bs; item = x }) (item_at read h bs)
+    read_as (λ x. record { bytes = h ∷ take (following_length h bs) bs; item = x }) (item_at read h bs)
 
 -- the same, of a short item alone (Section 6.2.2.2)
 abbrev pub short_item : Reader → List ℕ → Result Spelled Fault
@@ -114,8 +114,8 @@ short_item read (h ∷ bs) =
 -- a header and all that follows it, where these bytes have so much
 abbrev pub whole_item : ℕ → List ℕ → Result (List ℕ) Fault
 whole_item h bs =
-    if nat_lt (length bs) (following h bs) then Err Insufficient
-    else Ok (h ∷ take (following h bs) bs)
+    if nat_lt (length bs) (following_length h bs) then Err Insufficient
+    else Ok (h ∷ take (following_length h bs) bs)
 
 -- the bytes of the long item at the front of the bytes (Section 6.2.2.3)
 abbrev pub long_item : List ℕ → Result (List ℕ) Fault

@@ -14,24 +14,24 @@ abbrev pub items_of : List Entry → List ItemType
 items_of entries = map (λ e. e.item) entries
 
 -- those of them that are neither long nor of a kind which the standard keeps for later
-abbrev pub kept : List Entry → List Entry
-kept entries = filter (λ e. is_kept e.item) entries
+abbrev pub kept_entries : List Entry → List Entry
+kept_entries entries = filter (λ e. is_kept e.item) entries
 
 -- these items in the bytes that are written for them, the first at the offset
-abbrev pub respelled : ℕ → List ItemType → List Entry
-respelled offset [] = []
-respelled offset (x ∷ xs) =
+abbrev pub canonical_entries : ℕ → List ItemType → List Entry
+canonical_entries offset [] = []
+canonical_entries offset (x ∷ xs) =
     record { offset = offset; bytes = item_bytes x; item = x }
-    ∷ respelled (offset + length (item_bytes x)) xs
+    ∷ canonical_entries (offset + length (item_bytes x)) xs
 
 -- the canonical bytes of the kept items, joined
-abbrev pub rebuilt : List Entry → List ℕ
-rebuilt entries = flat_map item_bytes (items_of (kept entries))
+abbrev pub rebuilt_bytes : List Entry → List ℕ
+rebuilt_bytes entries = flat_map item_bytes (items_of (kept_entries entries))
 
 -- the same, or the fault of bytes that are no items
-abbrev pub rebuilding : Result (List Entry) (ℕ × Fault) → Result (List ℕ) (ℕ × Fault)
-rebuilding (Ok entries) = Ok (rebuilt entries)
-rebuilding (Err fault) = Err fault
+abbrev pub rebuild_answer : Result (List Entry) (ℕ × Fault) → Result (List ℕ) (ℕ × Fault)
+rebuild_answer (Ok entries) = Ok (rebuilt_bytes entries)
+rebuild_answer (Err fault) = Err fault
 
 -- each item stands in its canonical spelling
 abbrev pub AreCanonical : List Entry → Type 0

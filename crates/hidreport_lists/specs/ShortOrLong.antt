@@ -10,9 +10,9 @@ use Rattle.hidreport_lists.specs.declared.any_item.AnyItem.{AnyItem}
 use Rattle.hidreport_lists.specs.declared.any_item.AnyItem.TheVariants as any
 
 -- the item with its bytes
-abbrev pub spelled : AnyItem → Spelled
-spelled (any.Short item) = item
-spelled (any.Long bytes) = record { bytes = bytes; item = item.Long }
+abbrev pub spelling_of : AnyItem → Spelled
+spelling_of (any.Short item) = item
+spelling_of (any.Long bytes) = record { bytes = bytes; item = item.Long }
 
 -- the item is a long one
 abbrev pub is_long_one : AnyItem → Bool

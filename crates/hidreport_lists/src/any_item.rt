@@ -2,7 +2,7 @@ ghost use Rattle.std.specs.Prelude.{◌≡◌, false, IfOk};
 ghost use Rattle.hidreport_items.specs.Answer.{GivesBy};
 ghost use Rattle.hidreport_items.specs.Spelling.{first_or_zero, is_long_header, item_of};
 ghost use Rattle.hidreport_lists.specs.Itemising.{front_item};
-ghost use Rattle.hidreport_lists.specs.ShortOrLong.{any_data, any_tag, is_long_one, spelled};
+ghost use Rattle.hidreport_lists.specs.ShortOrLong.{any_data, any_tag, is_long_one, spelling_of};
 ghost use Rattle.hidreport_lists.specs.ShortOrLong.{IsByHeader, RefusesInPlace};
 
 use crate::data::ItemData;
@@ -29,7 +29,7 @@ impl AnyItem {
     /// No bytes are `InsufficientData`. The refusals are those of `LongItem::try_from` and
     /// `ShortItem::try_from`; a short item takes no memory.
     pub fn try_from(alloc: Global, bytes: &[u8]) -> Result<AnyItem, HidError>
-        ensures exact { GivesBy spelled result (front_item item_of bytes.now) }
+        ensures exact { GivesBy spelling_of result (front_item item_of bytes.now) }
         ensures kind { IfOk result (λ item. IsByHeader item bytes.now) }
         ensures memory { is_long_header (first_or_zero bytes.now) ≡ false
             → RefusesInPlace result (front_item item_of bytes.now) }
@@ -44,9 +44,9 @@ impl AnyItem {
 }
 
 impl Item for AnyItem {
-    ghost item_bytes = { λ a. (spelled a).bytes };
+    ghost item_bytes = { λ a. (spelling_of a).bytes };
 
-    ghost item_meaning = { λ a. (spelled a).item };
+    ghost item_meaning = { λ a. (spelling_of a).item };
 
     ghost item_tag = { λ a. any_tag a };
 

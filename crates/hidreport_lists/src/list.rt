@@ -7,7 +7,7 @@ ghost use Rattle.hidreport_lists.specs.Headers.{headers_from};
 ghost use Rattle.hidreport_lists.specs.Itemising.{as_refusal, itemise, Itemises, IsFaultAt};
 ghost use Rattle.hidreport_lists.specs.Itemising.{IsGrammarFault};
 ghost use Rattle.hidreport_lists.specs.Messages.{grammar_message};
-ghost use Rattle.hidreport_lists.specs.ShortOrLong.{spelled, IsByHeader};
+ghost use Rattle.hidreport_lists.specs.ShortOrLong.{spelling_of, IsByHeader};
 ghost use Rattle.hidreport_lists.specs.WithoutLong.{ItemisesShort};
 
 use crate::any_item::AnyItem;
@@ -27,18 +27,18 @@ pub struct ReportDescriptorItem {
 
 impl Model for ReportDescriptorItem {
     ghost use Rattle.hidreport_lists.specs.Entry.{Entry};
-    ghost use Rattle.hidreport_lists.specs.ShortOrLong.{spelled, IsByHeader};
+    ghost use Rattle.hidreport_lists.specs.ShortOrLong.{spelling_of, IsByHeader};
 
     ghost Value = { Entry };
 
     ghost view = { λ i. record {
       offset = i.offset;
-      bytes = (spelled i.item).bytes;
-      item = (spelled i.item).item;
+      bytes = (spelling_of i.item).bytes;
+      item = (spelling_of i.item).item;
     } };
 
     // A long item just where the header is one's.
-    ghost invariant = { λ i. IsByHeader i.item (spelled i.item).bytes };
+    ghost invariant = { λ i. IsByHeader i.item (spelling_of i.item).bytes };
 }
 
 impl ReportDescriptorItem {
@@ -51,7 +51,7 @@ impl ReportDescriptorItem {
 
     /// The item, a long one just where its header is one's.
     pub fn item(&self) -> &AnyItem
-        ensures item { spelled result.now
+        ensures item { spelling_of result.now
             ≡ record { bytes = self.now.bytes; item = self.now.item } }
         ensures kind { IsByHeader result.now self.now.bytes }
     {

@@ -4,9 +4,9 @@ ghost use Rattle.hidreport_items.specs.Spelling.{item_of};
 ghost use Rattle.hidreport_items.specs.Writing.{item_bytes};
 ghost use Rattle.hidreport_lists.specs.Answer.{AnswersBy};
 ghost use Rattle.hidreport_lists.specs.Entry.{Entry};
-ghost use Rattle.hidreport_lists.specs.Itemising.{as_refusal, itemise, Itemises, joined};
-ghost use Rattle.hidreport_lists.specs.Rebuilt.{AreCanonical, items_of, kept};
-ghost use Rattle.hidreport_lists.specs.Rebuilt.{rebuilding, rebuilt, respelled};
+ghost use Rattle.hidreport_lists.specs.Itemising.{as_refusal, itemise, Itemises, all_bytes};
+ghost use Rattle.hidreport_lists.specs.Rebuilt.{AreCanonical, items_of, kept_entries};
+ghost use Rattle.hidreport_lists.specs.Rebuilt.{rebuild_answer, rebuilt_bytes, canonical_entries};
 
 use crate::error::ParserError;
 use crate::list::{ReportDescriptorItem, ReportDescriptorItems};
@@ -26,18 +26,18 @@ use std::alloc::{AllocError, Global};
 /// (`alike`).
 pub fn rebuild(alloc: Global, bytes: &[u8]) -> Result<Vec<u8>, ParserError>
     ensures exact { AnswersBy (λ written. written.items) result
-        (as_refusal (rebuilding (itemise item_of bytes.now))) }
+        (as_refusal (rebuild_answer (itemise item_of bytes.now))) }
     ensures canonical { (entries : List Entry) → Itemises item_of bytes.now entries
-        → IfOk result (λ bytes. (joined (respelled 0 (items_of (kept entries))) ≡ bytes.items)
-        × AreCanonical (respelled 0 (items_of (kept entries)))) }
+        → IfOk result (λ bytes. (all_bytes (canonical_entries 0 (items_of (kept_entries entries))) ≡ bytes.items)
+        × AreCanonical (canonical_entries 0 (items_of (kept_entries entries)))) }
     ensures again { (entries : List Entry) → Itemises item_of bytes.now entries
         → IfOk result (λ bytes. bytes.items ≢ []
-        → Itemises item_of bytes.items (respelled 0 (items_of (kept entries)))) }
+        → Itemises item_of bytes.items (canonical_entries 0 (items_of (kept_entries entries)))) }
     ensures itself { IfOk result (λ bytes. bytes.items ≢ []
-        → rebuilding (itemise item_of bytes.items) ≡ Ok bytes.items) }
+        → rebuild_answer (itemise item_of bytes.items) ≡ Ok bytes.items) }
     ensures alike { (other : List ℕ) (entries others : List Entry)
         → Itemises item_of bytes.now entries → Itemises item_of other others
-        → (rebuilt entries ≡ rebuilt others) ↔ (items_of (kept entries) ≡ items_of (kept others)) }
+        → (rebuilt_bytes entries ≡ rebuilt_bytes others) ↔ (items_of (kept_entries entries) ≡ items_of (kept_entries others)) }
 {
     let items = ReportDescriptorItems::try_from(alloc, bytes)?;
     Ok(rebuilt(alloc, bytes.len(), items.as_slice())?)
@@ -49,7 +49,7 @@ fn rebuilt(
     room: usize,
     items: &[ReportDescriptorItem],
 ) -> Result<Vec<u8>, AllocError>
-    ensures { IfOk result (λ bytes. bytes.items ≡ rebuilt items.now) }
+    ensures { IfOk result (λ bytes. bytes.items ≡ rebuilt_bytes items.now) }
 {
     let mut bytes = Vec::with_capacity(alloc, room)?;
     for entry in items {

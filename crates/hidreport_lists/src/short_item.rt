@@ -1,8 +1,8 @@
 ghost use Rattle.std.specs.Prelude.{◌≡◌, ◌≢◌, ◌≤◌, ◌+◌, ◌%◌, Bool, false, Err, List, ℕ, length};
 ghost use Rattle.hidreport_items.specs.Answer.{GivesInPlace};
-ghost use Rattle.hidreport_items.specs.InPlace.{told};
+ghost use Rattle.hidreport_items.specs.InPlace.{told_answer};
 ghost use Rattle.hidreport_items.specs.Spelling.{item_of};
-ghost use Rattle.hidreport_items.specs.Spelling.{announced, first_or_zero, following};
+ghost use Rattle.hidreport_items.specs.Spelling.{data_length, first_or_zero, following_length};
 ghost use Rattle.hidreport_items.specs.Writing.{item_bytes};
 ghost use Rattle.hidreport_items.specs.declared.item.ItemType.{ItemType};
 ghost use Rattle.hidreport_lists.specs.Data.{short_data, short_tag, some_data};
@@ -104,7 +104,7 @@ impl ShortItem {
 
     /// What `try_from` answers, without a message.
     pub(crate) fn read(bytes: &[u8]) -> Result<ShortItem, ItemFault>
-        ensures { told result ≡ short_item item_of bytes.now }
+        ensures { told_answer result ≡ short_item item_of bytes.now }
     {
         let Some((header, after)) = bytes.split_first() else {
             return Err(ItemFault::TooFew);
@@ -174,7 +174,7 @@ impl Item for ShortItem {
 /// How many bytes follow a header that has these behind it.
 pub(crate) fn following(header: u8, after: &[u8]) -> usize
     ensures within { result ≤ 257 }
-    ensures value { result ≡ following header after.now }
+    ensures value { result ≡ following_length header after.now }
 {
     if !is_long_header(header) {
         return announced(header);
@@ -189,7 +189,7 @@ pub(crate) fn following(header: u8, after: &[u8]) -> usize
 /// and 4.
 fn announced(header: u8) -> usize
     ensures within { result ≤ 4 }
-    ensures value { result ≡ announced header }
+    ensures value { result ≡ data_length header }
 {
     match header & 0x03 {
         3 => 4,

@@ -5,7 +5,7 @@ use Rattle.hidreport_items.specs.Spelling.{item_of}
 use Rattle.hidreport_lists.specs.Answer.{Refusal, InvalidAt, Bounds, Mismatch, OverBudget}
 use Rattle.hidreport_lists.specs.Entry.{Entry}
 use Rattle.hidreport_lists.specs.Itemising.{as_refusal, itemise}
-use Rattle.hidreport_lists.specs.Rebuilt.{rebuilding}
+use Rattle.hidreport_lists.specs.Rebuilt.{rebuild_answer}
 use Rattle.hidreport_lists.specs.declared.error.ParserError.{ParserError}
 use Rattle.hidreport_lists.specs.declared.error.ParserError.TheVariants as errors
 use Rattle.hidreport.specs.Budget.{parse_within}
@@ -60,7 +60,7 @@ output (ValuesWithin limit) descriptor bytes =
     values_output (parse_within limit descriptor) bytes
 output ValuesGlobals descriptor bytes = values_output (parse_globals_only descriptor) bytes
 output Rebuild descriptor bytes =
-    rebuild_output (as_refusal (rebuilding (itemise item_of descriptor)))
+    rebuild_output (as_refusal (rebuild_answer (itemise item_of descriptor)))
 
 -- what an error says of a descriptor; want of memory says nothing
 abbrev pub refusal_of : ParserError → Option Refusal

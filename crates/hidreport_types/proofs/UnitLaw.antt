@@ -23,7 +23,7 @@ use Rattle.hidreport_types.specs.UnitTable.{nibble, nibble_exponent, system_of, 
 use Rattle.hidreport_types.specs.UnitTable.{temperature_in, length_of, mass_of, time_of}
 use Rattle.hidreport_types.specs.UnitTable.{temperature_of, current_of, luminosity_of, places_of}
 use Rattle.hidreport_types.specs.UnitTable.{is_unit, units_of, if_any, system_number}
-use Rattle.hidreport_types.specs.UnitTable.{exponent_nibble, exponent_at, unit_number, joined}
+use Rattle.hidreport_types.specs.UnitTable.{exponent_nibble, exponent_at, unit_number, with_units}
 use Rattle.hidreport_types.specs.UnitTable.{MakeUp}
 use Rattle.hidreport_types.proofs.Nibbles.{next_nibble}
 
@@ -33,9 +33,9 @@ nibble-again n small = grind (arith, nat_tests)
 
 -- no unit adds nothing, any other joins
 pub joined-kept : (number : ℕ) (u : Units) (us : List Units)
-    → joined number (filter is_unit (u ∷ us)) ≡ joined (bit_or number (unit_number u))
+    → with_units number (filter is_unit (u ∷ us)) ≡ with_units (bit_or number (unit_number u))
     (filter is_unit us)
-joined-kept number NoUnit us = ap (λ m. joined m (filter is_unit us)) (sym (or_zero_r number))
+joined-kept number NoUnit us = ap (λ m. with_units m (filter is_unit us)) (sym (or_zero_r number))
 joined-kept number (Centimeter e) us = refl
 joined-kept number (Radians e) us = refl
 joined-kept number (Inch e) us = refl
@@ -115,7 +115,7 @@ at-length m s unit small system number =
     ∙ or_within m s system)
 
 pub joined-six : (s : ℕ) (a b c d e f : Units)
-    → joined s (filter is_unit (a ∷ b ∷ c ∷ d ∷ e ∷ f ∷ []))
+    → with_units s (filter is_unit (a ∷ b ∷ c ∷ d ∷ e ∷ f ∷ []))
     ≡ bit_or (bit_or (bit_or (bit_or (bit_or (bit_or s (unit_number a)) (unit_number b))
     (unit_number c)) (unit_number d)) (unit_number e)) (unit_number f)
 joined-six s a b c d e f =
@@ -135,7 +135,7 @@ pub joined-nibbles : (n s : ℕ) (a b c d e f : Units) → bit_or s (unit_number
     → unit_number b ≡ (n / 256 % 16) * 256 → unit_number c ≡ (n / 4096 % 16) * 4096
     → unit_number d ≡ (n / 65536 % 16) * 65536
     → unit_number e ≡ (n / 1048576 % 16) * 1048576 → unit_number f ≡ (n / 16777216 % 16) * 16777216
-    → joined s (filter is_unit (a ∷ b ∷ c ∷ d ∷ e ∷ f ∷ [])) ≡ n % 268435456
+    → with_units s (filter is_unit (a ∷ b ∷ c ∷ d ∷ e ∷ f ∷ [])) ≡ n % 268435456
 joined-nibbles n s a b c d e f ha hb hc hd he hf =
     rw (
       joined-six s a b c d e f,

@@ -60,26 +60,26 @@ exponent_in number place =
     if nibble number place == 0 then None else Some (nibble_exponent (nibble number place))
 
 -- a unit with the exponent in a place, or no unit
-abbrev pub measured : ℕ → ℕ → (ℤ → Units) → Units
-measured number place unit = unwrap_or (option_map unit (exponent_in number place)) NoUnit
+abbrev pub measure_of : ℕ → ℕ → (ℤ → Units) → Units
+measure_of number place unit = unwrap_or (option_map unit (exponent_in number place)) NoUnit
 
 abbrev pub length_of : ℕ → Units
-length_of number = measured number 1 (length_in (system_of number))
+length_of number = measure_of number 1 (length_in (system_of number))
 
 abbrev pub mass_of : ℕ → Units
-mass_of number = measured number 2 (mass_in (system_of number))
+mass_of number = measure_of number 2 (mass_in (system_of number))
 
 abbrev pub time_of : ℕ → Units
-time_of number = measured number 3 (λ e. Seconds e)
+time_of number = measure_of number 3 (λ e. Seconds e)
 
 abbrev pub temperature_of : ℕ → Units
-temperature_of number = measured number 4 (temperature_in (system_of number))
+temperature_of number = measure_of number 4 (temperature_in (system_of number))
 
 abbrev pub current_of : ℕ → Units
-current_of number = measured number 5 (λ e. Ampere e)
+current_of number = measure_of number 5 (λ e. Ampere e)
 
 abbrev pub luminosity_of : ℕ → Units
-luminosity_of number = measured number 6 (λ e. Candela e)
+luminosity_of number = measure_of number 6 (λ e. Candela e)
 
 abbrev pub is_unit : Units → Bool
 is_unit NoUnit = false
@@ -144,16 +144,16 @@ unit_number (Ampere e) = exponent_at 5 e
 unit_number (Candela e) = exponent_at 6 e
 
 -- a number with the numbers of some units OR-ed to it
-abbrev pub joined : ℕ → List Units → ℕ
-joined number [] = number
-joined number (u ∷ us) = joined (bit_or number (unit_number u)) us
+abbrev pub with_units : ℕ → List Units → ℕ
+with_units number [] = number
+with_units number (u ∷ us) = with_units (bit_or number (unit_number u)) us
 
 -- where a system is named and the highest nibble, which means nothing, is 0, the system and the
 -- units make up the number
 abbrev pub MakeUp : List Units → ℕ → Type 0
 MakeUp units number =
     0 < nibble number 0 → nibble number 0 < 5 → number < 16 ^ 7 →
-    joined (system_number (system_of number)) units ≡ number
+    with_units (system_number (system_of number)) units ≡ number
 
 -- the power of ten of a UnitExponent item: a nibble as two's complement, or any other number cut to
 -- its low byte

@@ -31,22 +31,22 @@ exponent_text (negsuc n) =
     if nat_lt n 8 then Some (superscript_minus ++ superscript (n + 1)) else None
 
 -- a name with its exponent; where the exponent has no text nothing is written at all
-abbrev pub powered : List ℕ → ℤ → List ℕ
-powered name e = unwrap_or (option_map (λ text. name ++ text) (exponent_text e)) []
+abbrev pub power_text : List ℕ → ℤ → List ℕ
+power_text name e = unwrap_or (option_map (λ text. name ++ text) (exponent_text e)) []
 
 abbrev pub units_text : Units → List ℕ
 units_text NoUnit = []
-units_text (Centimeter e) = powered (codes "cm") e
-units_text (Radians e) = powered (codes "rad") e
-units_text (Inch e) = powered (codes "in") e
-units_text (Degrees e) = powered (codes "deg") e
-units_text (Gram e) = powered (codes "g") e
-units_text (Slug e) = powered (codes "slug") e
-units_text (Seconds e) = powered (codes "s") e
-units_text (Kelvin e) = powered (codes "K") e
-units_text (Fahrenheit e) = powered (codes "F") e
-units_text (Ampere e) = powered (codes "A") e
-units_text (Candela e) = powered (codes "cd") e
+units_text (Centimeter e) = power_text (codes "cm") e
+units_text (Radians e) = power_text (codes "rad") e
+units_text (Inch e) = power_text (codes "in") e
+units_text (Degrees e) = power_text (codes "deg") e
+units_text (Gram e) = power_text (codes "g") e
+units_text (Slug e) = power_text (codes "slug") e
+units_text (Seconds e) = power_text (codes "s") e
+units_text (Kelvin e) = power_text (codes "K") e
+units_text (Fahrenheit e) = power_text (codes "F") e
+units_text (Ampere e) = power_text (codes "A") e
+units_text (Candela e) = power_text (codes "cd") e
 
 -- the units of a number, in the order of their places
 abbrev pub unit_text : ℕ → List ℕ

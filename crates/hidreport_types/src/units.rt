@@ -4,7 +4,7 @@ ghost use Rattle.std.specs.Option.{option_map};
 ghost use Rattle.std.specs.Fmt.{WritesOnOk, WritesStyledOnOk};
 ghost use Rattle.hidreport_types.specs.UnitTable.{unit_number, system_number, exponent_at};
 ghost use Rattle.hidreport_types.specs.UnitTable.{exponent_nibble, is_unit};
-ghost use Rattle.hidreport_types.specs.UnitText.{units_text, powered, exponent_text};
+ghost use Rattle.hidreport_types.specs.UnitText.{units_text, power_text, exponent_text};
 
 use crate::unit_system::UnitSystem;
 use std::fmt;
@@ -80,9 +80,9 @@ impl fmt::Display for Units {
 
 /// Writes a name with an exponent; where nothing is written of the exponent, none of the name is.
 fn write_powered<W: fmt::Write>(f: &mut fmt::Formatter<W>, name: &str, exponent: i8) -> fmt::Result
-    ensures plain { WritesOnOk W.write_str_gives f.old result (powered name.now exponent) f.new }
+    ensures plain { WritesOnOk W.write_str_gives f.old result (power_text name.now exponent) f.new }
     ensures styled { WritesStyledOnOk W.write_str_gives f.old result
-        (powered name.now exponent) f.new }
+        (power_text name.now exponent) f.new }
 {
     match superscript(exponent) {
         Some(superscript) => {

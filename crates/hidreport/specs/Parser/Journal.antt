@@ -23,19 +23,19 @@ change_of (entries.Globals old) = WasGlobals old
 change_of (entries.Locals old) = WasLocals old.items
 
 -- one change more, which is nothing to remember where no Push is open
-abbrev pub noted : Change → List Change → List Change
-noted change [] = []
-noted change (c ∷ cs) = change ∷ c ∷ cs
+abbrev pub with_change : Change → List Change → List Change
+with_change change [] = []
+with_change change (c ∷ cs) = change ∷ c ∷ cs
 
 -- what each open Push keeps, innermost first: of what was in force there, from these globals and
 -- locals back
-abbrev pub undone : PushKeeps → List Change → Globals → List LocalItem → List Force
-undone keeping [] globals locals = []
-undone keeping (Opened count ∷ cs) globals locals =
-    kept_of keeping (force_of globals (take count locals)) ∷ undone keeping cs globals
+abbrev pub undone_stack : PushKeeps → List Change → Globals → List LocalItem → List Force
+undone_stack keeping [] globals locals = []
+undone_stack keeping (Opened count ∷ cs) globals locals =
+    kept_of keeping (force_of globals (take count locals)) ∷ undone_stack keeping cs globals
     (take count locals)
-undone keeping (WasGlobals old ∷ cs) globals locals = undone keeping cs old locals
-undone keeping (WasLocals old ∷ cs) globals locals = undone keeping cs globals old
+undone_stack keeping (WasGlobals old ∷ cs) globals locals = undone_stack keeping cs old locals
+undone_stack keeping (WasLocals old ∷ cs) globals locals = undone_stack keeping cs globals old
 
 -- no Push counted more locals than there are
 abbrev pub IsCounted : List Change → List LocalItem → Type 0

@@ -19,14 +19,14 @@ pub(crate) struct InForce {
 impl Model for InForce {
     ghost use Rattle.std.specs.Prelude.{reverse};
     ghost use Rattle.hidreport.specs.Parser.Forces.{Forces, force_of};
-    ghost use Rattle.hidreport.specs.Parser.Journal.{Fits, undone};
+    ghost use Rattle.hidreport.specs.Parser.Journal.{Fits, undone_stack};
 
     ghost Value = { Forces };
 
     ghost view = { λ f. record {
       keeping = f.keeping;
       now = force_of f.globals f.locals.items;
-      kept = reverse (undone f.keeping f.journal f.globals f.locals.items);
+      kept = reverse (undone_stack f.keeping f.journal f.globals f.locals.items);
     } };
 
     ghost invariant = { λ f. Fits f.keeping f.journal f.locals.items };

@@ -35,7 +35,7 @@ impl Model for Journal {
 
 impl Journal {
     ghost use Rattle.std.specs.Prelude.{◌≡◌, [], ◌∷◌, Some, None, true, false, IfSome, OnErr, OnOk, IsNone};
-    ghost use Rattle.hidreport.specs.Parser.Journal.{change_of, noted, Opened, WasGlobals, WasLocals};
+    ghost use Rattle.hidreport.specs.Parser.Journal.{change_of, with_change, Opened, WasGlobals, WasLocals};
 
     /// No Push is open.
     pub(crate) fn new(alloc: Global) -> Journal
@@ -65,7 +65,7 @@ impl Journal {
 
     /// Remembers the globals before one is set, where a Push is open.
     pub(crate) fn note_globals(&mut self, globals: Globals) -> Result<(), AllocError>
-        ensures ok { OnOk result (self.new ≡ noted (WasGlobals globals) self.old) }
+        ensures ok { OnOk result (self.new ≡ with_change (WasGlobals globals) self.old) }
         ensures err { OnErr result (self.new ≡ self.old) }
     {
         if self.is_open() {
@@ -76,7 +76,7 @@ impl Journal {
 
     /// Ends the local items. Where a Push is open they are moved into the journal.
     pub(crate) fn end_locals(&mut self, locals: &mut Vec<LocalItem>) -> Result<(), AllocError>
-        ensures ok { OnOk result (self.new ≡ noted (WasLocals locals.old.items) self.old) }
+        ensures ok { OnOk result (self.new ≡ with_change (WasLocals locals.old.items) self.old) }
         ensures ended { OnOk result (locals.new.items ≡ []) }
         ensures err { OnErr result ((self.new ≡ self.old) × (locals.new.items ≡ locals.old.items)) }
     {

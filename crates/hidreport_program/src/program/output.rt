@@ -2,7 +2,7 @@
 ghost use Rattle.std.specs.Prelude.{◌≡◌, ◌<◌, IfOk, IsSomeAnd, string_bytes, string_len};
 ghost use Rattle.hidreport_items.specs.Spelling.{item_of};
 ghost use Rattle.hidreport_lists.specs.Itemising.{as_refusal, itemise};
-ghost use Rattle.hidreport_lists.specs.Rebuilt.{rebuilding};
+ghost use Rattle.hidreport_lists.specs.Rebuilt.{rebuild_answer};
 ghost use Rattle.hidreport.specs.Lookup.{find_report};
 ghost use Rattle.hidreport.specs.Options.{parse_as};
 ghost use Rattle.hidreport_program.specs.Lines.{refusal_line};
@@ -82,9 +82,9 @@ fn items(alloc: Global, descriptor: &[u8]) -> Result<Written, AllocError>
 /// What `rebuild` writes of a descriptor's bytes.
 fn rebuilt(alloc: Global, descriptor: &[u8]) -> Result<Written, AllocError>
     ensures text { IfOk result (λ w. string_bytes w.text
-        ≡ (rebuild_output (as_refusal (rebuilding (itemise item_of descriptor.now)))).text) }
+        ≡ (rebuild_output (as_refusal (rebuild_answer (itemise item_of descriptor.now)))).text) }
     ensures outcome { IfOk result (λ w. w.outcome
-        ≡ (rebuild_output (as_refusal (rebuilding (itemise item_of descriptor.now)))).outcome) }
+        ≡ (rebuild_output (as_refusal (rebuild_answer (itemise item_of descriptor.now)))).outcome) }
 {
     match rebuild(alloc, descriptor) {
         Ok(bytes) => {

@@ -2,7 +2,7 @@ use Rattle.std.proofs.Common.{◌≡◌, List, [], ◌∷◌, ap, arith, refl}
 use Rattle.hidreport.specs.CollectionItem.TheVariants as kind
 use Rattle.hidreport.specs.Records.{CollectionRecord, ConstantRecord}
 use Rattle.hidreport.proofs.OwnCollections.{own-collections}
-use Rattle.hidreport_definitions.specs.Summary.{place_of}
+use Rattle.hidreport_definitions.specs.Summary.{place_at}
 use Rattle.hidreport_definitions.specs.Tiled.{field_in, logical, physical}
 use Rattle.hidreport_definitions.proofs.tiling.a_collection_has_a_number_of_its_own.Goals as goal
 
@@ -23,7 +23,7 @@ returns-clause-nested c = own-collections
     ((refl, (refl, tt)), ((refl, (refl, tt)), tt))
 
 pub returns-clause-padding : goal.returns-clause-padding
-returns-clause-padding c = own-collections [] (ConstantRecord (place_of 0 0 8) ∷ []) (tt, tt)
+returns-clause-padding c = own-collections [] (ConstantRecord (place_at 0 0 8) ∷ []) (tt, tt)
 
 pub returns-clause-two_kinds : goal.returns-clause-two_kinds
 returns-clause-two_kinds c = λ own.

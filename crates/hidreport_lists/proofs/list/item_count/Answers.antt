@@ -1,5 +1,5 @@
 use Rattle.std.proofs.Common.{◌+◌, ◌∙◌, ap, arith, get_or}
-use Rattle.hidreport_items.specs.Spelling.{following}
+use Rattle.hidreport_items.specs.Spelling.{following_length}
 use Rattle.hidreport_lists.proofs.Headers.{behind, headers-step, headers-all}
 use Rattle.hidreport_lists.proofs.list.item_count.Goals as goal
 
@@ -8,7 +8,7 @@ loop-index-preserved c = record {
   few = omega (arith, c.loop-index.invariant.few);
   all = headers-step c.args.bytes.now c.loop-index.count c.loop-index.index c.following.result
       c.loop-index-test.true (c.following.ensures.value
-      ∙ ap (following (get_or c.args.bytes.now c.loop-index.index 0))
+      ∙ ap (following_length (get_or c.args.bytes.now c.loop-index.index 0))
       (behind c.args.bytes.now (c.loop-index.index + 1))) c.loop-index.invariant.all;
 }
 

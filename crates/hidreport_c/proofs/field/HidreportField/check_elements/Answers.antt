@@ -2,7 +2,7 @@ use Rattle.std.proofs.Common.{◌≡◌, ◌-◌, ◌+◌, ◌<◌, pos, int_lt,
 use Rattle.hidreport.proofs.ElementLemmas.{elements_from-last, elements_from-outside}
 use Rattle.hidreport_c.proofs.ValuesLemmas.{accepted-ok}
 use Rattle.hidreport_c.specs.Status.{by_status}
-use Rattle.hidreport_c.specs.Value.{accepted, elements_at}
+use Rattle.hidreport_c.specs.Value.{acceptance, elements_at}
 use Rattle.hidreport_c.proofs.field.HidreportField.check_elements.Goals as goal
 
 pub returns-in-Some : goal.returns-in-Some
@@ -19,6 +19,6 @@ returns-in-None c =
     let f = c.args.self.now in
     let is_signed = int_lt f.measures.logical_minimum (pos 0) in
     let within : f.value_count - 1 < f.value_count = omega (arith, c.if-self-eq0.false) in
-    sym (ap (λ r. by_status (accepted r))
+    sym (ap (λ r. by_status (acceptance r))
     (elements_from-outside f.first_bit f.end_bit f.value_count is_signed c.args.report.now
     f.value_count (f.value_count - 1) within (search rules)))

@@ -10,8 +10,8 @@ use Rattle.hidreport.specs.Reading.{element}
 use Rattle.hidreport.specs.Choosing.{value_number}
 use Rattle.hidreport_c.proofs.ValuesLemmas.{element-listed, elements-length, past-least}
 use Rattle.hidreport_c.proofs.ValuesLemmas.{refused-not-ok, set-written, written-whole}
-use Rattle.hidreport_c.specs.Answer.{as_answer, listed, written}
-use Rattle.hidreport_c.specs.Value.{elements_at, numbers}
+use Rattle.hidreport_c.specs.Answer.{as_answer, list_or_nothing, array_after}
+use Rattle.hidreport_c.specs.Value.{elements_at, value_numbers}
 use Rattle.hidreport_c.proofs.field.HidreportField.write_values.Goals as goal
 use Rattle.hidreport_c.proofs.field.HidreportField.write_values.Goals.{in-Some, in_default}
 
@@ -46,7 +46,7 @@ loop-index-preserved c =
                 (to_z-of_z w64 w.from.result (record { sfits = w.from.type_inv }) ∙ w.from.ensures)
                 ∙ ap (λ l. slice_set l index (value_number value)) c.loop-index.invariant.2
                 ∙ set-written (map value_number all) old index (value_number value) number_at inside
-                ∙ ap (λ n. written (take n (map value_number all)) old) next,
+                ∙ ap (λ n. array_after (take n (map value_number all)) old) next,
           )
       | in_default w ↦
           let outside = elements_from-outside f.first_bit f.end_bit f.value_count is_signed bytes
@@ -63,7 +63,7 @@ returns-clause-answer c =
     ∙ elements-length f.first_bit f.end_bit f.value_count is_signed c.args.report.now 0
     f.value_count all c.loop-index.invariant.1 in
     ap (λ n. record { count = n; offset = 0; status = 0 }) (sym count)
-    ∙ ap (λ r. as_answer (numbers r)) (sym c.loop-index.invariant.1)
+    ∙ ap (λ r. as_answer (value_numbers r)) (sym c.loop-index.invariant.1)
 
 pub returns-clause-written : goal.returns-clause-written
 returns-clause-written c =
@@ -77,4 +77,4 @@ returns-clause-written c =
     c.loop-index.index (rw (count, sym c.min-index-end.ensures) c.loop-index-test.false) in
     c.loop-index.invariant.2
     ∙ written-whole (map value_number all) c.args.values.now c.loop-index.index past
-    ∙ ap (λ r. written (listed (numbers r)) c.args.values.now) (sym c.loop-index.invariant.1)
+    ∙ ap (λ r. array_after (list_or_nothing (value_numbers r)) c.args.values.now) (sym c.loop-index.invariant.1)

@@ -1,7 +1,7 @@
 use Rattle.std.proofs.Common.{◌≡◌, List, Ok, map, take}
 use Rattle.hidreport.specs.Choosing.{value_number}
 use Rattle.hidreport.specs.Reading.{ValueRecord}
-use Rattle.hidreport_c.specs.Answer.{written}
+use Rattle.hidreport_c.specs.Answer.{array_after}
 use Rattle.hidreport_c.specs.Value.{elements_at}
 use Rattle.hidreport_c.proofs.field.HidreportField.write_values.Given as goal
 
@@ -9,4 +9,4 @@ use Rattle.hidreport_c.proofs.field.HidreportField.write_values.Given as goal
 abbrev pub invariant-loop-index : goal.invariant-loop-index
 invariant-loop-index l =
     (values : List ValueRecord) × (elements_at l.self l.report ≡ Ok values)
-    × (l.values ≡ written (take l.index (map value_number values)) l.initial.values)
+    × (l.values ≡ array_after (take l.index (map value_number values)) l.initial.values)

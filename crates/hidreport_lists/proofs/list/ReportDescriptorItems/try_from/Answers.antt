@@ -2,7 +2,7 @@ use Rattle.std.proofs.Common.{◌≡◌, ◌≢◌, ◌+◌, ◌∙◌, [], ◌�
 use Rattle.std.proofs.Common.{Err, subst, arith}
 use Rattle.std.proofs.lemmas.Grind.{common_steps}
 use Rattle.hidreport_items.specs.Spelling.{is_long_header, item_of}
-use Rattle.hidreport_lists.specs.ShortOrLong.{spelled, is_long_one}
+use Rattle.hidreport_lists.specs.ShortOrLong.{spelling_of, is_long_one}
 use Rattle.hidreport_lists.specs.Itemising.{items_from}
 use Rattle.hidreport_lists.proofs.Cuts.{are_bytes, answer-done, answer-items, answer-only}
 use Rattle.hidreport_lists.proofs.Cuts.{answer-fault, answer-only_fault}
@@ -13,7 +13,7 @@ use Rattle.hidreport_lists.proofs.list.ReportDescriptorItems.try_from.Goals as g
 
 pub split_at-requires : goal.split_at-requires
 split_at-requires c =
-    let step = items_from-item c.loop-rest.offset c.loop-rest.rest.now (spelled c.in-Ok.item)
+    let step = items_from-item c.loop-rest.offset c.loop-rest.rest.now (spelling_of c.in-Ok.item)
     c.in-Ok.ensures.exact in
     omega (arith, step.0, c.size-size.ensures)
 
@@ -21,12 +21,12 @@ pub invariant_of-push : goal.invariant_of-push
 invariant_of-push c =
     let item = c.in-Ok.item in
     subst (λ n. is_long_one item ≡ is_long_header n)
-    (sym (front-header c.loop-rest.rest.now (spelled item) c.in-Ok.ensures.exact))
+    (sym (front-header c.loop-rest.rest.now (spelling_of item) c.in-Ok.ensures.exact))
     c.in-Ok.ensures.kind
 
 pub loop-rest-smaller : goal.loop-rest-smaller
 loop-rest-smaller c =
-    let step = items_from-item c.loop-rest.offset c.loop-rest.rest.now (spelled c.in-Ok.item)
+    let step = items_from-item c.loop-rest.offset c.loop-rest.rest.now (spelling_of c.in-Ok.item)
     c.in-Ok.ensures.exact in
     rw c.split_at.ensures.back (simp length-drop
     (omega (arith, step.0, step.1, c.size-size.ensures)))
@@ -35,7 +35,7 @@ pub loop-rest-preserved : goal.loop-rest-preserved
 loop-rest-preserved c =
     let offset = c.loop-rest.offset in
     let rest = c.loop-rest.rest.now in
-    let item = spelled c.in-Ok.item in
+    let item = spelling_of c.in-Ok.item in
     let step = items_from-item offset rest item c.in-Ok.ensures.exact in
     let after : items_from item_of (offset + c.size-size.result) 0 c.split_at.result.1.now
     ≡ items_from item_of (offset + length item.bytes) 0 (drop (length item.bytes) rest) =

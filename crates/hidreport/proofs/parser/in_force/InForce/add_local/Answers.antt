@@ -3,7 +3,7 @@ use Rattle.hidreport_items.specs.declared.item.ItemType.TheVariants as items
 use Rattle.hidreport_items.specs.declared.local.LocalItem.{LocalItem}
 use Rattle.hidreport.specs.InForce.{Force}
 use Rattle.hidreport.specs.Parser.Forces.{Forces, force_of}
-use Rattle.hidreport.specs.Parser.Journal.{Fits, undone}
+use Rattle.hidreport.specs.Parser.Journal.{Fits, undone_stack}
 use Rattle.hidreport.specs.Parser.Machine.{next_force}
 use Rattle.hidreport.proofs.JournalLemmas.{fits-added, undone-added}
 use Rattle.hidreport.proofs.parser.in_force.InForce.add_local.Goals as goal
@@ -21,7 +21,7 @@ returns c =
       keeping = s.keeping;
       now = force_of s.globals ls;
       kept =
-          reverse (undone s.keeping s.journal s.globals ls);
+          reverse (undone_stack s.keeping s.journal s.globals ls);
     }) c.in_ok-push.ensures.items
     ∙ ap (λ (l : List Force). record {
       keeping = s.keeping;

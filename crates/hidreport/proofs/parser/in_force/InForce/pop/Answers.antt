@@ -1,7 +1,7 @@
 use Rattle.std.proofs.Common.{◌≡◌, ◌∷◌, ◌∙◌, List, ap, reverse, take}
 use Rattle.hidreport_items.specs.declared.local.LocalItem.{LocalItem}
 use Rattle.hidreport.specs.Parser.Forces.{force_of}
-use Rattle.hidreport.specs.Parser.Journal.{Opened, WasLocals, change_of, undone}
+use Rattle.hidreport.specs.Parser.Journal.{Opened, WasLocals, change_of, undone_stack}
 use Rattle.hidreport.specs.declared.parser.journal.Entry.{Entry}
 use Rattle.hidreport.specs.declared.parser.push_keeps.PushKeeps.{PushKeeps}
 use Rattle.hidreport.specs.declared.parser.push_keeps.PushKeeps.TheVariants as push_keeps
@@ -32,7 +32,7 @@ returns-then-has_locals-2-clause-back c = λ _.
     let same = c.loop-entry.invariant.2 in
     let all : l.keeping ≡ push_keeps.All = same
     ∙ c.has_locals-has_locals.ensures.all c.if-has_locals-2.true in
-    let kept = undone s.keeping s.journal s.globals s.locals.items in
+    let kept = undone_stack s.keeping s.journal s.globals s.locals.items in
     let old = ap (λ (r : PushKeeps). forces r now (reverse kept)) same ∙ c.self.view_is in
     let cut = c.truncate.ensures.items in
     popped c.args.self.now l.keeping now (force_of l.globals c.truncate.new.self.items) l.journal
@@ -40,7 +40,7 @@ returns-then-has_locals-2-clause-back c = λ _.
     old newest c.loop-entry.invariant.0
     (ap (λ (ls : List LocalItem). force_of l.globals ls) cut
     ∙ back-all l.keeping now (force_of l.globals (take c.in-Push.locals l.locals.items)) all)
-    (ap (undone l.keeping rest l.globals) cut)
+    (ap (undone_stack l.keeping rest l.globals) cut)
 
 pub returns-else-has_locals-2-clause-back : goal.returns-else-has_locals-2-clause-back
 returns-else-has_locals-2-clause-back c = λ _.
@@ -53,7 +53,7 @@ returns-else-has_locals-2-clause-back c = λ _.
     let same = c.loop-entry.invariant.2 in
     let bare : l.keeping ≡ push_keeps.Globals = same
     ∙ c.has_locals-has_locals.ensures.globals c.if-has_locals-2.false in
-    let kept = undone s.keeping s.journal s.globals s.locals.items in
+    let kept = undone_stack s.keeping s.journal s.globals s.locals.items in
     let old = ap (λ (r : PushKeeps). forces r now (reverse kept)) same ∙ c.self.view_is in
     let left = take c.in-Push.locals l.locals.items in
     popped c.args.self.now l.keeping now (force_of l.globals l.locals.items) l.journal rest

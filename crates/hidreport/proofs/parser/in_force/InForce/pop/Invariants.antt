@@ -1,14 +1,14 @@
 use Rattle.std.proofs.Common.{◌≡◌, length}
-use Rattle.hidreport.specs.Parser.Journal.{Fits, undone}
+use Rattle.hidreport.specs.Parser.Journal.{Fits, undone_stack}
 use Rattle.hidreport.specs.declared.parser.push_keeps.PushKeeps.TheVariants as push_keeps
 use Rattle.hidreport.proofs.parser.in_force.InForce.pop.Given as goal
 
 -- what was taken back so far changes nothing that is kept, and no locals that aren't
 abbrev pub invariant-loop-entry : goal.invariant-loop-entry
 invariant-loop-entry l =
-    (undone l.self-inside.keeping l.self-inside.journal l.self-inside.globals
+    (undone_stack l.self-inside.keeping l.self-inside.journal l.self-inside.globals
     l.self-inside.locals.items
-    ≡ undone l.initial.self-inside.keeping l.initial.self-inside.journal
+    ≡ undone_stack l.initial.self-inside.keeping l.initial.self-inside.journal
     l.initial.self-inside.globals l.initial.self-inside.locals.items)
     × Fits l.self-inside.keeping l.self-inside.journal l.self-inside.locals.items
     × (l.self-inside.keeping ≡ l.initial.self-inside.keeping)

@@ -3,7 +3,7 @@ use Rattle.hidreport_items.specs.declared.item.ItemType.TheVariants as items
 use Rattle.hidreport_items.specs.declared.local.LocalItem.{LocalItem}
 use Rattle.hidreport.specs.InForce.{Force}
 use Rattle.hidreport.specs.Parser.Forces.{Forces, force_of}
-use Rattle.hidreport.specs.Parser.Journal.{Change, undone}
+use Rattle.hidreport.specs.Parser.Journal.{Change, undone_stack}
 use Rattle.hidreport.specs.Parser.Machine.{next_force}
 use Rattle.hidreport.proofs.JournalLemmas.{undone-set}
 use Rattle.hidreport.proofs.parser.in_force.InForce.set.Goals as goal
@@ -13,12 +13,12 @@ returns c =
     let s = c.self.inside in
     let locals = s.locals.items in
     let old : Force = force_of s.globals locals in
-    let kept : List Force = reverse (undone s.keeping s.journal s.globals locals) in
+    let kept : List Force = reverse (undone_stack s.keeping s.journal s.globals locals) in
     ap (λ (cs : List Change). record {
       keeping = s.keeping;
       now = force_of c.set.new.self locals;
       kept =
-          reverse (undone s.keeping cs c.set.new.self locals);
+          reverse (undone_stack s.keeping cs c.set.new.self locals);
     }) c.in_ok-note_globals.ensures.ok
     ∙ ap (λ (l : List Force). record
     { keeping = s.keeping; now = force_of c.set.new.self locals; kept = reverse l })
