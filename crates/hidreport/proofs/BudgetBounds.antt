@@ -7,7 +7,7 @@ use Rattle.std.specs.Prelude.{nat_lt, sum_by}
 use Rattle.std.proofs.lemmas.Bool.Decides.{nat_tests}
 use Rattle.std.proofs.lemmas.Grind.{common_steps}
 use Rattle.std.proofs.lemmas.List.Sums.{sum_by-append, sum_by-cons}
-use Rattle.hidreport_items.specs.Answer.{Fault}
+use Rattle.hidreport_items.specs.Answer.{GrammarFault}
 use Rattle.hidreport_items.specs.Flags.{Flags}
 use Rattle.hidreport_items.specs.Spelling.{item_of}
 use Rattle.hidreport_items.specs.declared.item.ItemType.{ItemType}
@@ -171,7 +171,7 @@ found-ok : (entries : List Entry) (r : Result DescriptorRecord (ℕ × MeaningFa
 found-ok entries (Ok announced) d e = let same : announced ≡ d = cc in ap Ok same
 found-ok entries (Err first) d e = cc
 
-bounded-items : (keeping : PushKeeps) (limit : ℕ) (r : Result (List Entry) (ℕ × Fault))
+bounded-items : (keeping : PushKeeps) (limit : ℕ) (r : Result (List Entry) (ℕ × GrammarFault))
     (d : DescriptorRecord) → parse_items_within (reading_of keeping) limit r ≡ Ok d
     → descriptor_weight d ≤ limit
 bounded-items keeping limit (Ok entries) d e =
@@ -201,7 +201,7 @@ plain-of : (o : Option Indexed) (r : Result DescriptorRecord (ℕ × MeaningFaul
 plain-of None r d e = e
 plain-of (Some p) r d e = kept-by (is_faulty_by p.0 r) r (p.0, PastBudget) d e
 
-plain-items : (reading : PushReading) (limit : ℕ) (r : Result (List Entry) (ℕ × Fault))
+plain-items : (reading : PushReading) (limit : ℕ) (r : Result (List Entry) (ℕ × GrammarFault))
     (d : DescriptorRecord) → parse_items_within reading limit r ≡ Ok d
     → parse_items reading r ≡ Ok d
 plain-items reading limit (Ok entries) d e =

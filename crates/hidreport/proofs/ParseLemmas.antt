@@ -2,7 +2,7 @@
 use Rattle.std.proofs.Common.{◌≡◌, ◌≢◌, ℕ, zero, suc, ◌+◌, ◌<◌, ◌≤◌, false, List, [], ◌∷◌, length}
 use Rattle.std.proofs.Common.{get_or, drop, map, Option, None, Some, IfSome, Result, Ok, Err, refl}
 use Rattle.std.proofs.Common.{sym, ap, ◌∙◌, subst, arith, add-one}
-use Rattle.hidreport_items.specs.Answer.{Fault as ReadFault}
+use Rattle.hidreport_items.specs.Answer.{GrammarFault}
 use Rattle.hidreport_items.specs.Spelling.{item_of}
 use Rattle.hidreport_items.specs.declared.item.ItemType.{ItemType}
 use Rattle.hidreport_lists.specs.Answer.{Refusal, InvalidAt, Bounds, OverBudget, Refuses}
@@ -160,7 +160,7 @@ err_refuses (errors.BudgetExceeded offset) r h =
     let same : r ≡ OverBudget offset = cc in ap Err same
 
 grammar-refuses : (keeping : PushKeeps) (limit : Option ℕ) (e : ParserError)
-    (r : Result (List Entry) (ℕ × ReadFault)) → Refuses e (as_refusal r)
+    (r : Result (List Entry) (ℕ × GrammarFault)) → Refuses e (as_refusal r)
     → Refuses e (walk_items keeping limit r)
 grammar-refuses keeping limit e (Ok entries) h =
     ok_refuses e entries (walk_items keeping limit (Ok entries)) h
@@ -176,7 +176,7 @@ bytes-grammar keeping limit bytes e some h =
     (sym (walk-some keeping limit bytes some))
     (grammar-refuses keeping limit e (itemise item_of bytes) h)
 
-items_ok : (r : Result (List Entry) (ℕ × ReadFault)) (entries : List Entry)
+items_ok : (r : Result (List Entry) (ℕ × GrammarFault)) (entries : List Entry)
     → as_refusal r ≡ Ok entries → r ≡ Ok entries
 items_ok (Ok xs) entries h = let same : xs ≡ entries = cc in ap Ok same
 items_ok (Err fault) entries h = cc
@@ -191,7 +191,7 @@ bytes-walked keeping limit bytes entries some h = walk-some keeping limit bytes 
 
 -- without a limit this is the parse by the reading
 
-plain-items : (keeping : PushKeeps) (r : Result (List Entry) (ℕ × ReadFault))
+plain-items : (keeping : PushKeeps) (r : Result (List Entry) (ℕ × GrammarFault))
     → walk_items keeping None r ≡ parse_items (reading_of keeping) r
 plain-items keeping (Ok entries) =
     ap (at_offset entries) (walk-unlimited (nothing_held keeping) 0 (items_of entries)
@@ -205,7 +205,7 @@ plain-bytes keeping (b ∷ bs) = plain-items keeping (itemise item_of (b ∷ bs)
 
 -- under a limit it is the parse under it
 
-limited-items : (keeping : PushKeeps) (limit : ℕ) (r : Result (List Entry) (ℕ × ReadFault))
+limited-items : (keeping : PushKeeps) (limit : ℕ) (r : Result (List Entry) (ℕ × GrammarFault))
     → walk_items keeping (Some limit) r ≡ parse_items_within (reading_of keeping) limit r
 limited-items keeping limit (Ok entries) =
     ap (at_offset entries) (walk-within keeping limit (items_of entries))

@@ -2,7 +2,7 @@
 use Rattle.std.proofs.Common.{◌≡◌, ◌≢◌, ℕ, Bool, true, false, cond, List, [], ◌∷◌, Option, None}
 use Rattle.std.proofs.Common.{Some, Result, Ok, Err, ap, refl, ◌∙◌}
 use Rattle.std.specs.List.{enumerate_from}
-use Rattle.hidreport_items.specs.Answer.{Fault}
+use Rattle.hidreport_items.specs.Answer.{GrammarFault}
 use Rattle.hidreport_items.specs.Flags.{Flags}
 use Rattle.hidreport_items.specs.Spelling.{item_of}
 use Rattle.hidreport_items.specs.declared.global.GlobalItem.TheVariants as global
@@ -48,13 +48,13 @@ mismatch-at entries (Err (k, MissingUsages)) is = cc
 mismatch-at entries (Err (k, PastBounds)) is = cc
 mismatch-at entries (Err (k, PastBudget)) is = cc
 
-mismatch-items : (reading : PushReading) (r : Result (List Entry) (ℕ × Fault))
+mismatch-items : (reading : PushReading) (r : Result (List Entry) (ℕ × GrammarFault))
     → parse_items reading r ≢ Err Mismatch
 mismatch-items reading (Ok entries) is =
     mismatch-at entries (meaning_by reading (items_of entries)) is
 mismatch-items reading (Err bad) is = cc
 
-mismatch-within : (reading : PushReading) (limit : ℕ) (r : Result (List Entry) (ℕ × Fault))
+mismatch-within : (reading : PushReading) (limit : ℕ) (r : Result (List Entry) (ℕ × GrammarFault))
     → parse_items_within reading limit r ≢ Err Mismatch
 mismatch-within reading limit (Ok entries) is =
     mismatch-at entries (meaning_within_by reading limit (items_of entries)) is
@@ -205,7 +205,7 @@ over-at entries (Err (k, MissingUsages)) offset plain is = cc
 over-at entries (Err (k, PastBounds)) offset plain is = cc
 over-at entries (Err (k, PastBudget)) offset plain is = plain k refl
 
-over-items : (reading : PushReading) (r : Result (List Entry) (ℕ × Fault)) (offset : ℕ)
+over-items : (reading : PushReading) (r : Result (List Entry) (ℕ × GrammarFault)) (offset : ℕ)
     → parse_items reading r ≢ Err (OverBudget offset)
 over-items reading (Ok entries) offset is =
     let items = items_of entries in

@@ -5,7 +5,7 @@ use Rattle.std.proofs.Common.{Some, is_some, slice_get, Result, Ok, Err, refl, s
 use Rattle.std.proofs.Common.{arith}
 use Rattle.std.proofs.lemmas.Grind.{common_steps, flat_map-append}
 use Rattle.hidreport_items.specs.Flags.{Flags}
-use Rattle.hidreport_items.specs.Answer.{Fault}
+use Rattle.hidreport_items.specs.Answer.{GrammarFault}
 use Rattle.hidreport_items.specs.Spelling.{item_of}
 use Rattle.hidreport_items.specs.declared.main_item.CollectionItem.{CollectionItem}
 use Rattle.hidreport_items.specs.declared.item.ItemType.{ItemType}
@@ -379,7 +379,7 @@ found-ok : (entries : List Entry) (r : Result DescriptorRecord (ℕ × MeaningFa
 found-ok entries (Ok announced) d e = let same : announced ≡ d = cc in ap Ok same
 found-ok entries (Err first) d e = cc
 
-tiled-items : (keeping : PushKeeps) (r : Result (List Entry) (ℕ × Fault)) (d : DescriptorRecord)
+tiled-items : (keeping : PushKeeps) (r : Result (List Entry) (ℕ × GrammarFault)) (d : DescriptorRecord)
     → parse_items (reading_of keeping) r ≡ Ok d → IsTiled d
 tiled-items keeping (Ok entries) d e =
     let xs = items_of entries in

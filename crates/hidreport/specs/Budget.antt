@@ -2,7 +2,7 @@
 -- more than a limit.
 use Rattle.std.specs.Prelude.{ℕ, nat_le, Bool, false, if◌then◌else◌, List, [], ◌∷◌, map, Option}
 use Rattle.std.specs.Prelude.{None, Some, Result, Ok, Err}
-use Rattle.hidreport_items.specs.Answer.{Fault}
+use Rattle.hidreport_items.specs.Answer.{GrammarFault}
 use Rattle.hidreport_items.specs.Spelling.{item_of}
 use Rattle.hidreport_items.specs.declared.item.ItemType.{ItemType}
 use Rattle.hidreport_lists.specs.Answer.{Refusal, InvalidAt}
@@ -34,7 +34,7 @@ meaning_within_by reading limit items =
     unless_past (first_past (reading items) limit items) (meaning_by reading items)
 
 -- a grammar fault, or else the meaning of the items under the limit
-abbrev pub parse_items_within : PushReading → ℕ → Result (List Entry) (ℕ × Fault)
+abbrev pub parse_items_within : PushReading → ℕ → Result (List Entry) (ℕ × GrammarFault)
     → Result DescriptorRecord Refusal
 parse_items_within reading limit (Err fault) =
     Err (InvalidAt fault.0 (grammar_message fault.1))

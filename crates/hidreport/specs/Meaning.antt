@@ -2,7 +2,7 @@
 use Rattle.std.specs.Prelude.{ℕ, if◌then◌else◌, List, [], ◌∷◌, length, map, flat_map, slice_get}
 use Rattle.std.specs.Prelude.{unwrap_or, Option, None, Some, Result, Ok, Err, codes, option_map}
 use Rattle.std.specs.List.{enumerate_from, list_any}
-use Rattle.hidreport_items.specs.Answer.{Fault}
+use Rattle.hidreport_items.specs.Answer.{GrammarFault}
 use Rattle.hidreport_items.specs.Spelling.{item_of}
 use Rattle.hidreport_items.specs.declared.item.ItemType.{ItemType}
 use Rattle.hidreport_lists.specs.Answer.{Refusal, InvalidAt, Bounds, OverBudget}
@@ -103,7 +103,7 @@ at_offset entries (Ok announced) = Ok announced
 at_offset entries (Err first) = Err (refusal_at (offset_at entries first.0) first.1)
 
 -- a grammar fault, or else the meaning of the items
-abbrev pub parse_items : PushReading → Result (List Entry) (ℕ × Fault)
+abbrev pub parse_items : PushReading → Result (List Entry) (ℕ × GrammarFault)
     → Result DescriptorRecord Refusal
 parse_items reading (Err fault) = Err (InvalidAt fault.0 (grammar_message fault.1))
 parse_items reading (Ok entries) =

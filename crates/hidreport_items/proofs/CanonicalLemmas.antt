@@ -5,7 +5,7 @@ use Rattle.std.proofs.Common.{IfOk, Vec, Global, refl, sym, ap, ◌∙◌, subst
 use Rattle.std.specs.Prelude.{ℤ, ◌==◌}
 use Rattle.std.proofs.lemmas.Bool.{cond_both, cond-true, cond-false, eqb-true, ne_eqb, lt-ltb}
 use Rattle.std.proofs.lemmas.Bool.Decides.{nat_tests}
-use Rattle.hidreport_items.specs.Answer.{Fault, Invalid, Writes}
+use Rattle.hidreport_items.specs.Answer.{GrammarFault, Invalid, Writes}
 use Rattle.hidreport_items.specs.declared.error.HidError.{HidError}
 use Rattle.hidreport_items.specs.Messages.{size_message}
 use Rattle.hidreport_items.specs.Canonical.{IsCanonical, is_bare}
@@ -85,25 +85,25 @@ Says bs item.Long = Unit {0}
 Says bs item.Reserved = Unit {0}
 
 -- what was read says this
-abbrev pub IfRead : {A : Type 0} → (A → Type 0) → Result A Fault → Type 0
+abbrev pub IfRead : {A : Type 0} → (A → Type 0) → Result A GrammarFault → Type 0
 IfRead P (Ok x) = P x
 IfRead P (Err e) = Unit {0}
 
-says-short : {A : Type 0} (P : A → Type 0) (bs : List ℕ) (r : Result A Fault) → IfRead P r
+says-short : {A : Type 0} (P : A → Type 0) (bs : List ℕ) (r : Result A GrammarFault) → IfRead P r
     → IfRead P (of_short_length bs r)
 says-short {A} P bs r h = says-short-by (is_short_length (length bs))
     (Err (Invalid (size_message (length bs)))) tt
   where
-    says-short-by : (b : Bool) (e : Result A Fault) → IfRead P e → IfRead P (cond b r e)
+    says-short-by : (b : Bool) (e : Result A GrammarFault) → IfRead P e → IfRead P (cond b r e)
     says-short-by true e none = h
     says-short-by false e none = none
 
-says-data : {A : Type 0} (P : A → Type 0) (bs : List ℕ) (r : Result A Fault) → IfRead P r
+says-data : {A : Type 0} (P : A → Type 0) (bs : List ℕ) (r : Result A GrammarFault) → IfRead P r
     → IfRead P (with_data bs r)
 says-data P [] r h = tt
 says-data P (b ∷ bs) r h = h
 
-says-as : {A B : Type 0} (P : A → Type 0) (Q : B → Type 0) (f : A → B) (r : Result A Fault)
+says-as : {A B : Type 0} (P : A → Type 0) (Q : B → Type 0) (f : A → B) (r : Result A GrammarFault)
     → ((x : A) → P x → Q (f x)) → IfRead P r → IfRead Q (read_as f r)
 says-as P Q f (Ok x) step h = step x h
 says-as P Q f (Err e) step h = tt
@@ -129,7 +129,7 @@ says-either {A} P {false} {x} {y} first second = second
 says-main : (h : ℕ) (bs : List ℕ) → IfRead (SaysMain bs) (main_item h bs)
 says-main h bs =
     let f : Flags = flags_of (word bs) in
-    let P : Result MainItem Fault → Type 0 = IfRead (SaysMain bs) in
+    let P : Result MainItem GrammarFault → Type 0 = IfRead (SaysMain bs) in
     says-either P
     (says-as (λ g. g ≡ record f { volatile = false }) (SaysMain bs) main.Input (input_item bs)
     (λ g is. is) (says-input bs))
@@ -143,7 +143,7 @@ says-main h bs =
 
 says-global : (h : ℕ) (bs : List ℕ) → IfRead (SaysGlobal bs) (global_item h bs)
 says-global h bs =
-    let P : Result GlobalItem Fault → Type 0 = IfRead (SaysGlobal bs) in
+    let P : Result GlobalItem GrammarFault → Type 0 = IfRead (SaysGlobal bs) in
     says-short (SaysGlobal bs) bs _
     (says-either P refl (says-either P refl (says-either P refl (says-either P refl
     (says-either P refl (says-either P refl (says-either P refl
@@ -169,7 +169,7 @@ says-local h bs =
 -- what a header and data spell, the data says
 pub says-item : (h : ℕ) (bs : List ℕ) → IfRead (Says bs) (item_of h bs)
 says-item h bs =
-    let P : Result ItemType Fault → Type 0 = IfRead (Says bs) in
+    let P : Result ItemType GrammarFault → Type 0 = IfRead (Says bs) in
     says-either P
     (says-as (SaysMain bs) (Says bs) item.Main (main_item h bs) (λ x is. is) (says-main h bs))
     (says-either P

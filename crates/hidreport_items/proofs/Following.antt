@@ -3,7 +3,7 @@
 use Rattle.std.proofs.Common.{◌≡◌, ℕ, zero, suc, ◌+◌, ◌<◌, ◌≤◌, Bool, true, false, cond, List, []}
 use Rattle.std.proofs.Common.{◌∷◌, ◌++◌, length, take, Result, Ok, refl, sym, subst, arith}
 use Rattle.std.proofs.lemmas.Bool.{cond-false, eqb-true, ne_eqb}
-use Rattle.hidreport_items.specs.Answer.{Fault}
+use Rattle.hidreport_items.specs.Answer.{GrammarFault}
 use Rattle.hidreport_items.specs.Kept.{is_kept}
 use Rattle.hidreport_items.specs.Spelling.{data_length, first_or_zero, following_length, is_long_header}
 use Rattle.hidreport_items.specs.Spelling.{item_of}
@@ -20,7 +20,7 @@ small-short h bs small = short-follow h bs (ne_eqb h 0xfe (λ e. omega arith))
 long-not-kept : (x : ItemType) → item.Long ≡ x → is_kept x ≡ true → ⊥
 long-not-kept x e kept = let bad : false ≡ true = subst (λ y. is_kept y ≡ true) (sym e) kept in cc
 
-abbrev read-is : ItemType → Result ItemType Fault
+abbrev read-is : ItemType → Result ItemType GrammarFault
 read-is x = Ok x
 
 ok-long : (x : ItemType) → read-is item.Long ≡ read-is x → item.Long ≡ x

@@ -3,7 +3,7 @@
 use Rattle.std.proofs.Common.{◌≡◌, ℕ, ◌%◌, List, [], ◌∷◌, length, Result, Ok, Err, refl, arith}
 use Rattle.std.proofs.Common.{nat_lt, false}
 use Rattle.std.proofs.lemmas.Bool.{cond_both}
-use Rattle.hidreport_items.specs.Answer.{Fault}
+use Rattle.hidreport_items.specs.Answer.{GrammarFault}
 use Rattle.hidreport_items.specs.Flags.{Flags}
 use Rattle.hidreport_items.specs.Spelling.{data_length, is_long_header, item_of}
 use Rattle.hidreport_items.specs.Writing.{with_header, four_bytes, unsigned_data, signed_data}
@@ -22,7 +22,7 @@ use Rattle.hidreport_items.proofs.FlagWords.{length-flags}
 use Rattle.hidreport_items.proofs.CanonicalLemmas.{unvolatile}
 
 -- something was read
-abbrev pub IsRead : {A : Type 0} → Result A Fault → Type 0
+abbrev pub IsRead : {A : Type 0} → Result A GrammarFault → Type 0
 IsRead (Ok x) = Unit {0}
 IsRead (Err e) = ⊥
 

@@ -5,40 +5,40 @@ use Rattle.hidreport_items.specs.declared.error.HidError.{HidError}
 use Rattle.hidreport_items.specs.declared.error.HidError.TheVariants as errors
 
 -- why bytes are no item: they are wrong, for the reason that the message gives, or too few
-pub data Fault : Type 0 where
-  Invalid : List ℕ → Fault
-  Insufficient : Fault
+pub data GrammarFault : Type 0 where
+  Invalid : List ℕ → GrammarFault
+  Insufficient : GrammarFault
 
 -- the error is this fault; want of memory says nothing
-abbrev pub Fails : {A : Type 0} → HidError → Result A Fault → Type 0
+abbrev pub Fails : {A : Type 0} → HidError → Result A GrammarFault → Type 0
 Fails (errors.InvalidData message) read = read ≡ Err (Invalid (string_bytes message))
 Fails errors.InsufficientData read = read ≡ Err Insufficient
 Fails errors.OutOfMemory read = Unit {0}
 
 -- the answer is what reading gives
-abbrev pub Gives : {A : Type 0} → Result A HidError → Result A Fault → Type 0
+abbrev pub Gives : {A : Type 0} → Result A HidError → Result A GrammarFault → Type 0
 Gives (Ok x) read = read ≡ Ok x
 Gives (Err e) read = Fails e read
 
 -- the refusal has a message
-abbrev pub HasMessage : {A : Type 0} → Result A Fault → Type 0
+abbrev pub HasMessage : {A : Type 0} → Result A GrammarFault → Type 0
 HasMessage (Ok x) = ⊥
 HasMessage (Err (Invalid text)) = Unit {0}
 HasMessage (Err Insufficient) = ⊥
 
 -- the error is this fault; only a message takes memory
-abbrev pub FailsInPlace : {A : Type 0} → HidError → Result A Fault → Type 0
+abbrev pub FailsInPlace : {A : Type 0} → HidError → Result A GrammarFault → Type 0
 FailsInPlace (errors.InvalidData message) read = read ≡ Err (Invalid (string_bytes message))
 FailsInPlace errors.InsufficientData read = read ≡ Err Insufficient
 FailsInPlace errors.OutOfMemory read = HasMessage read
 
 -- the answer is what reading gives; only a message takes memory
-abbrev pub GivesInPlace : {A : Type 0} → Result A HidError → Result A Fault → Type 0
+abbrev pub GivesInPlace : {A : Type 0} → Result A HidError → Result A GrammarFault → Type 0
 GivesInPlace (Ok x) read = read ≡ Ok x
 GivesInPlace (Err e) read = FailsInPlace e read
 
 -- the answer, seen by `view`, is what reading gives
-abbrev pub GivesBy : {A B : Type 0} → (A → B) → Result A HidError → Result B Fault → Type 0
+abbrev pub GivesBy : {A B : Type 0} → (A → B) → Result A HidError → Result B GrammarFault → Type 0
 GivesBy view (Ok x) read = read ≡ Ok (view x)
 GivesBy view (Err e) read = Fails e read
 

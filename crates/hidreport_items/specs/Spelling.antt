@@ -2,7 +2,7 @@
 -- have to follow it.
 use Rattle.std.specs.Prelude.{◌≡◌, ℕ, ◌+◌, ◌-◌, ◌/◌, ◌%◌, ◌<◌, ◌==◌, nat_le, Bool, false}
 use Rattle.std.specs.Prelude.{if◌then◌else◌, List, [], ◌∷◌, length, All, Result, Ok, Err}
-use Rattle.hidreport_items.specs.Answer.{Fault, Invalid, Insufficient}
+use Rattle.hidreport_items.specs.Answer.{GrammarFault, Invalid, Insufficient}
 use Rattle.hidreport_items.specs.Flags.{Flags, flags_of}
 use Rattle.hidreport_items.specs.Messages.{size_message, tag_message}
 use Rattle.hidreport_items.specs.Numbers.{word, signed, is_short_length}
@@ -44,31 +44,31 @@ abbrev pub prefix : ℕ → ℕ
 prefix h = h - h % 4
 
 -- what is read, as a value of a wider type
-abbrev pub read_as : {A B : Type 0} → (A → B) → Result A Fault → Result B Fault
+abbrev pub read_as : {A B : Type 0} → (A → B) → Result A GrammarFault → Result B GrammarFault
 read_as f (Ok x) = Ok (f x)
 read_as f (Err e) = Err e
 
 -- an item whose data has 0, 1, 2 or 4 bytes
-abbrev pub of_short_length : {A : Type 0} → List ℕ → Result A Fault → Result A Fault
+abbrev pub of_short_length : {A : Type 0} → List ℕ → Result A GrammarFault → Result A GrammarFault
 of_short_length bs read =
     if is_short_length (length bs) then read else Err (Invalid (size_message (length bs)))
 
 -- an item that needs a data byte
-abbrev pub with_data : {A : Type 0} → List ℕ → Result A Fault → Result A Fault
+abbrev pub with_data : {A : Type 0} → List ℕ → Result A GrammarFault → Result A GrammarFault
 with_data [] read = Err Insufficient
 with_data (b ∷ bs) read = read
 
 -- an Input's flags; it has no flag 7
-abbrev pub input_item : List ℕ → Result Flags Fault
+abbrev pub input_item : List ℕ → Result Flags GrammarFault
 input_item bs =
     with_data bs (of_short_length bs (Ok (record (flags_of (word bs)) { volatile = false })))
 
 -- an Output's flags
-abbrev pub output_item : List ℕ → Result Flags Fault
+abbrev pub output_item : List ℕ → Result Flags GrammarFault
 output_item bs = with_data bs (of_short_length bs (Ok (flags_of (word bs))))
 
 -- a Feature's flags
-abbrev pub feature_item : List ℕ → Result Flags Fault
+abbrev pub feature_item : List ℕ → Result Flags GrammarFault
 feature_item bs = with_data bs (of_short_length bs (Ok (flags_of (word bs))))
 
 -- the kind of collection with this number (Section 6.2.2.6)
@@ -97,11 +97,11 @@ kind_number (kind.Reserved n) = n
 kind_number (kind.VendorDefined n) = n
 
 -- a Collection by its first data byte
-abbrev pub collection_of : List ℕ → Result CollectionItem Fault
+abbrev pub collection_of : List ℕ → Result CollectionItem GrammarFault
 collection_of bs = Ok (collection_item (first_or_zero bs))
 
 -- main items (Section 6.2.2.4)
-abbrev pub main_item : ℕ → List ℕ → Result MainItem Fault
+abbrev pub main_item : ℕ → List ℕ → Result MainItem GrammarFault
 main_item h bs =
     if prefix h == 0x80 then read_as main.Input (input_item bs)
     else (if prefix h == 0x90 then read_as main.Output (output_item bs)
@@ -111,7 +111,7 @@ main_item h bs =
     else Err (Invalid (tag_message (prefix h)))))))
 
 -- global items (Section 6.2.2.7); a report's size, id and count need a data byte
-abbrev pub global_item : ℕ → List ℕ → Result GlobalItem Fault
+abbrev pub global_item : ℕ → List ℕ → Result GlobalItem GrammarFault
 global_item h bs = of_short_length bs (
     if prefix h == 0x04 then Ok (global.UsagePage (word bs % 65536))
     else (if prefix h == 0x14 then Ok (global.LogicalMinimum (signed bs))
@@ -134,7 +134,7 @@ usage_item number length =
     else local.UsageId (number % 65536)
 
 -- local items (Section 6.2.2.8); each needs a data byte
-abbrev pub local_item : ℕ → List ℕ → Result LocalItem Fault
+abbrev pub local_item : ℕ → List ℕ → Result LocalItem GrammarFault
 local_item h bs = with_data bs (of_short_length bs (Ok (
     if prefix h == 0x08 then usage_item (word bs) (length bs)
     else (if prefix h == 0x18 then local.UsageMinimum (word bs)
@@ -149,7 +149,7 @@ local_item h bs = with_data bs (of_short_length bs (Ok (
     else local.Reserved (prefix h)))))))))))))
 
 -- the item of a header and its data, or why they are none
-abbrev pub item_of : ℕ → List ℕ → Result ItemType Fault
+abbrev pub item_of : ℕ → List ℕ → Result ItemType GrammarFault
 item_of h bs =
     if type_of h == 0 then read_as item.Main (main_item h bs)
     else (if type_of h == 1 then read_as item.Global (global_item h bs)
@@ -158,7 +158,7 @@ item_of h bs =
     else Ok item.Reserved)))
 
 -- what is read of a header and of all bytes behind it, as many as there are
-abbrev pub read_with : {A : Type 0} → (ℕ → List ℕ → Result A Fault) → List ℕ → Result A Fault
+abbrev pub read_with : {A : Type 0} → (ℕ → List ℕ → Result A GrammarFault) → List ℕ → Result A GrammarFault
 read_with read [] = Err Insufficient
 read_with read (h ∷ bs) = read h bs
 

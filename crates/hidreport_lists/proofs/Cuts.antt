@@ -8,7 +8,7 @@ use Rattle.std.proofs.lemmas.List.{take-append-drop, take_min}
 use Rattle.std.proofs.lemmas.Grind.{get_or_default_zero}
 use Rattle.std.proofs.lemmas.List.Elements.{All-take, All-drop}
 use Rattle.std.proofs.Math.Seq.{take-append_seam, drop-append_seam}
-use Rattle.hidreport_items.specs.Answer.{Fault, Insufficient}
+use Rattle.hidreport_items.specs.Answer.{GrammarFault, Insufficient}
 use Rattle.hidreport_items.specs.Spelling.{following_length, AreBytes}
 use Rattle.hidreport_items.proofs.Following.{following-cut, following-more, following-within}
 use Rattle.hidreport_items.specs.declared.item.ItemType.{ItemType}
@@ -72,11 +72,11 @@ cut-all read (e ∷ es) offset each places =
 
 -- what stands behind items and can't be read is the fault
 stop-all : (read : Reader) (entries : List Entry) (offset header : ℕ) (after : List ℕ)
-    (fault : Fault) → AreRead read entries → item_at read header after ≡ Err fault
+    (fault : GrammarFault) → AreRead read entries → item_at read header after ≡ Err fault
     → items_from read offset 0 (all_bytes entries ++ header ∷ after) ≡ Err
     (offset + length (all_bytes entries), fault)
 stop-all read [] offset header after fault each why =
-    ap (λ (r : Result ItemType Fault). with_entry offset
+    ap (λ (r : Result ItemType GrammarFault). with_entry offset
     (header ∷ take (following_length header after) after) r
     (items_from read (offset + 1) (following_length header after) after)) why
     ∙ ap (λ n. Err (n, fault)) (let e : offset ≡ offset + 0 = omega arith in e)
@@ -100,7 +100,7 @@ not_nil [] h after bytes e none = let bad : h ∷ after ≡ [] = e ∙ none in c
 not_nil (b ∷ front) h after bytes e none = let bad : b ∷ (front ++ h ∷ after) ≡ [] = e ∙ none in cc
 
 -- a fault is the one that is computed
-pub itemise-fault : (read : Reader) (bytes : List ℕ) (offset : ℕ) (fault : Fault)
+pub itemise-fault : (read : Reader) (bytes : List ℕ) (offset : ℕ) (fault : GrammarFault)
     → IsFaultAt read bytes offset fault → itemise read bytes ≡ Err (offset, fault)
 itemise-fault read bytes offset fault f =
     itemise-some read bytes (not_nil (all_bytes f.entries) f.header f.after bytes f.whole)
@@ -121,14 +121,14 @@ record Stops (read : Reader) (bytes : List ℕ) : Type 0 where
   entries : List Entry
   header : ℕ
   after : List ℕ
-  fault : Fault
+  fault : GrammarFault
   whole : all_bytes entries ++ header ∷ after ≡ bytes
   each : AreRead read entries
   none : (n : ℕ) (x : ItemType) → Reads read (take n (header ∷ after)) x → ⊥
   why : item_at read header after ≡ Err fault
 
 -- a beginning that is read as an item has all that follows its header
-none-read : (read : Reader) (h : ℕ) (bs : List ℕ) (fault : Fault) → item_at read h bs ≡ Err fault
+none-read : (read : Reader) (h : ℕ) (bs : List ℕ) (fault : GrammarFault) → item_at read h bs ≡ Err fault
     → (n : ℕ) (x : ItemType) → Reads read (take n (h ∷ bs)) x → ⊥
 none-read read h bs fault why zero x r = r
 none-read read h bs fault why (suc n) x r =
@@ -181,7 +181,7 @@ Ends read offset bytes = Cut read offset bytes ⊎ Stops read bytes
 -- by what the first item is
 ends-item : (read : Reader) (offset h : ℕ) (bs : List ℕ) → AreBytes (h ∷ bs)
     → ((at : ℕ) → Cut read at (drop (following_length h bs) bs) ⊎ Stops read (drop (following_length h bs) bs))
-    → (r : Result ItemType Fault) → item_at read h bs ≡ r → Cut read offset (h ∷ bs)
+    → (r : Result ItemType GrammarFault) → item_at read h bs ≡ r → Cut read offset (h ∷ bs)
     ⊎ Stops read (h ∷ bs)
 ends-item read offset h bs bytes rest (Err fault) e = inr (record {
   entries = [];
@@ -219,7 +219,7 @@ ends read (suc n) offset (h ∷ bs) le bytes =
 -- bytes, of which there are some, are items or have a fault
 pub items_or_fault : (read : Reader) (bytes : List ℕ) → AreBytes bytes → bytes ≢ []
     → ((entries : List Entry) × Itemises read bytes entries)
-    ⊎ ((offset : ℕ) × (fault : Fault) × IsFaultAt read bytes offset fault)
+    ⊎ ((offset : ℕ) × (fault : GrammarFault) × IsFaultAt read bytes offset fault)
 items_or_fault read bytes are some =
     elim (ends read (length bytes) 0 bytes (omega arith) are) [
       | inl c ↦ inl (
@@ -250,11 +250,11 @@ err_same : {A E : Type 0} (r : Result A E) (x y : E) → r ≡ Err x → r ≡ E
 err_same r x y e f = cc
 
 -- the answer names one fault
-one-fault : (read : Reader) (bytes : List ℕ) (a b : ℕ) (x y : Fault)
-    (r : Result (List Entry) (ℕ × Fault)) → r ≡ Err (a, x) → r ≡ Err (b, y)
+one-fault : (read : Reader) (bytes : List ℕ) (a b : ℕ) (x y : GrammarFault)
+    (r : Result (List Entry) (ℕ × GrammarFault)) → r ≡ Err (a, x) → r ≡ Err (b, y)
     → IsFaultAt read bytes a x → IsFaultAt read bytes b y
 one-fault read bytes a b x y r e f at =
-    subst (λ (p : ℕ × Fault). IsFaultAt read bytes p.0 p.1) (err_same r (a, x) (b, y) e f) at
+    subst (λ (p : ℕ × GrammarFault). IsFaultAt read bytes p.0 p.1) (err_same r (a, x) (b, y) e f) at
 
 -- what is computed is an itemising
 pub itemise-ok : (read : Reader) (bytes : List ℕ) (entries : List Entry) → AreBytes bytes
@@ -267,7 +267,7 @@ itemise-ok read bytes entries are some e =
     ]
 
 -- what is computed is a fault
-pub itemise-err : (read : Reader) (bytes : List ℕ) (offset : ℕ) (fault : Fault) → AreBytes bytes
+pub itemise-err : (read : Reader) (bytes : List ℕ) (offset : ℕ) (fault : GrammarFault) → AreBytes bytes
     → bytes ≢ [] → itemise read bytes ≡ Err (offset, fault) → IsFaultAt read bytes offset fault
 itemise-err read bytes offset fault are some e =
     elim (items_or_fault read bytes are some) [
@@ -282,26 +282,26 @@ are_bytes bytes each k d lt = rw (get_or_default_zero bytes k d lt) (each k)
 
 -- what holds of an answer, beside that it is the one computed
 
-refusal-ok : {A : Type 0} (r : Result A (ℕ × Fault)) (x : A) → as_refusal r ≡ Ok x → r ≡ Ok x
+refusal-ok : {A : Type 0} (r : Result A (ℕ × GrammarFault)) (x : A) → as_refusal r ≡ Ok x → r ≡ Ok x
 refusal-ok (Ok y) x e = cc
 refusal-ok (Err f) x e = cc
 
-refusal-err : {A : Type 0} (r : Result A (ℕ × Fault)) (offset : ℕ) (message : List ℕ)
+refusal-err : {A : Type 0} (r : Result A (ℕ × GrammarFault)) (offset : ℕ) (message : List ℕ)
     → as_refusal r ≡ Err (InvalidAt offset message)
-    → (fault : Fault) × (r ≡ Err (offset, fault)) × (message ≡ grammar_message fault)
+    → (fault : GrammarFault) × (r ≡ Err (offset, fault)) × (message ≡ grammar_message fault)
 refusal-err (Ok y) offset message e = cc
 refusal-err (Err f) offset message e =
     (f.1, ap (λ n. Err (n, f.1)) (let s : f.0 ≡ offset = cc in s), (cc))
 
-not_bounds : {A : Type 0} (r : Result A (ℕ × Fault)) → as_refusal r ≡ Err Bounds → ⊥
+not_bounds : {A : Type 0} (r : Result A (ℕ × GrammarFault)) → as_refusal r ≡ Err Bounds → ⊥
 not_bounds (Ok x) e = cc
 not_bounds (Err f) e = cc
 
-not_mismatch : {A : Type 0} (r : Result A (ℕ × Fault)) → as_refusal r ≡ Err Mismatch → ⊥
+not_mismatch : {A : Type 0} (r : Result A (ℕ × GrammarFault)) → as_refusal r ≡ Err Mismatch → ⊥
 not_mismatch (Ok x) e = cc
 not_mismatch (Err f) e = cc
 
-not_over_budget : {A : Type 0} (r : Result A (ℕ × Fault)) (offset : ℕ)
+not_over_budget : {A : Type 0} (r : Result A (ℕ × GrammarFault)) (offset : ℕ)
     → as_refusal r ≡ Err (OverBudget offset) → ⊥
 not_over_budget (Ok x) offset e = cc
 not_over_budget (Err f) offset e = cc
@@ -333,7 +333,7 @@ pub answer-only : (read : Reader) (bytes : List ℕ) (answer : Result (List Entr
     → Answers answer (as_refusal (itemise read bytes)) → (entries : List Entry)
     → Itemises read bytes entries → Answers answer (Ok entries)
 answer-only read bytes answer exact entries i =
-    subst (λ (r : Result (List Entry) (ℕ × Fault)). Answers answer (as_refusal r))
+    subst (λ (r : Result (List Entry) (ℕ × GrammarFault)). Answers answer (as_refusal r))
     (itemise-items read bytes entries i) exact
 
 pub answer-fault : (read : Reader) (bytes : List ℕ) (answer : Result (List Entry) ParserError)
@@ -353,9 +353,9 @@ answer-fault read bytes (Err (parser.BudgetExceeded offset)) are exact some =
     not_over_budget (itemise read bytes) offset exact
 
 pub answer-only_fault : (read : Reader) (bytes : List ℕ) (answer : Result (List Entry) ParserError)
-    → Answers answer (as_refusal (itemise read bytes)) → (offset : ℕ) (fault : Fault)
+    → Answers answer (as_refusal (itemise read bytes)) → (offset : ℕ) (fault : GrammarFault)
     → IsFaultAt read bytes offset fault
     → Answers answer (Err (InvalidAt offset (grammar_message fault)))
 answer-only_fault read bytes answer exact offset fault f =
-    subst (λ (r : Result (List Entry) (ℕ × Fault)). Answers answer (as_refusal r))
+    subst (λ (r : Result (List Entry) (ℕ × GrammarFault)). Answers answer (as_refusal r))
     (itemise-fault read bytes offset fault f) exact

@@ -6,7 +6,7 @@ use Rattle.std.proofs.Common.{append_assoc}
 use Rattle.std.proofs.Math.Seq.{take-length}
 use Rattle.std.proofs.lemmas.Bool.{cond-false}
 use Rattle.std.proofs.lemmas.Grind.{common_steps}
-use Rattle.hidreport_items.specs.Answer.{Fault, Invalid, Insufficient, Fails}
+use Rattle.hidreport_items.specs.Answer.{GrammarFault, Invalid, Insufficient, Fails}
 use Rattle.hidreport_items.specs.Messages.{long_message}
 use Rattle.hidreport_items.proofs.Following.{short-follow}
 use Rattle.hidreport_items.proofs.Written.{IsRead, NoneOrAnItem, written-read}
@@ -30,12 +30,12 @@ pub chosen_ok : {A E : Type 0} (b : Bool) (e : E) (r : Result A E) (x : A) → c
 chosen_ok true e r x h = cc
 chosen_ok false e r x h = (refl, h)
 
-pub read_as_ok : {A B : Type 0} (f : A → B) (r : Result A Fault) (y : B) → read_as f r ≡ Ok y
+pub read_as_ok : {A B : Type 0} (f : A → B) (r : Result A GrammarFault) (y : B) → read_as f r ≡ Ok y
     → (x : A) × (r ≡ Ok x) × (f x ≡ y)
 read_as_ok f (Ok x) y h = (x, refl, cc)
 read_as_ok f (Err e) y h = cc
 
-pub read_as_err : {A B : Type 0} (f : A → B) (r : Result A Fault) (e : Fault) → read_as f r ≡ Err e
+pub read_as_err : {A B : Type 0} (f : A → B) (r : Result A GrammarFault) (e : GrammarFault) → read_as f r ≡ Err e
     → r ≡ Err e
 read_as_err f (Ok x) e h = cc
 read_as_err f (Err d) e h = cc
@@ -47,7 +47,7 @@ enough n a e = grind (arith, common_steps)
 pub not_short : (n a : ℕ) → a ≤ n → nat_lt n a ≡ false
 not_short n a e = grind (arith, common_steps)
 
-never-read : {A : Type 0} (r : Result A Fault) (fault : Fault) → IsRead r → r ≡ Err fault → ⊥
+never-read : {A : Type 0} (r : Result A GrammarFault) (fault : GrammarFault) → IsRead r → r ≡ Err fault → ⊥
 never-read (Ok x) fault is e = cc
 never-read (Err d) fault is e = is
 
@@ -81,7 +81,7 @@ front-header (h ∷ bs) s e =
     ap (λ (y : Spelled). first_or_zero y.bytes) (sym got.2)
 
 -- a fault of the header and its data is the item's
-pub short_item-err : (h : ℕ) (after : List ℕ) (a : ℕ) (fault : Fault) → is_long_header h ≡ false
+pub short_item-err : (h : ℕ) (after : List ℕ) (a : ℕ) (fault : GrammarFault) → is_long_header h ≡ false
     → a ≡ data_length h → a ≤ length after → Err fault ≡ item_of h (take a after)
     → Err fault ≡ short_item item_of (h ∷ after)
 short_item-err h after a fault short announces room e =
@@ -93,7 +93,7 @@ short_item-err h after a fault short announces room e =
     ∙ ap (read_as (λ x. record { bytes = h ∷ take (following_length h after) after; item = x })) same)
 
 -- what is written for an item has no fault but that there is nothing
-written-fault : (bytes : List ℕ) (fault : Fault) → NoneOrAnItem bytes
+written-fault : (bytes : List ℕ) (fault : GrammarFault) → NoneOrAnItem bytes
     → short_item item_of bytes ≡ Err fault → fault ≡ Insufficient
 written-fault [] fault are e = cc
 written-fault (h ∷ bs) fault are e =
@@ -106,13 +106,13 @@ written-fault (h ∷ bs) fault are e =
     ∙ read_as_err (λ y. record { bytes = h ∷ take (following_length h bs) bs; item = y })
     (item_at item_of h bs) fault (sym (short-front h bs are.1) ∙ e)))
 
-pub item-fault : (x : ItemType) (fault : Fault) → short_item item_of (item_bytes x) ≡ Err fault
+pub item-fault : (x : ItemType) (fault : GrammarFault) → short_item item_of (item_bytes x) ≡ Err fault
     → short_item item_of (item_bytes x) ≡ Err Insufficient
 item-fault x fault e = e ∙ ap Err (written-fault (item_bytes x) fault (written-read x) e)
 
 -- the items before, and then those of the rest
-abbrev pub with_front : List Entry → Result (List Entry) (ℕ × Fault)
-    → Result (List Entry) (ℕ × Fault)
+abbrev pub with_front : List Entry → Result (List Entry) (ℕ × GrammarFault)
+    → Result (List Entry) (ℕ × GrammarFault)
 with_front front (Ok entries) = Ok (front ++ entries)
 with_front front (Err fault) = Err fault
 
@@ -120,16 +120,16 @@ with_front front (Err fault) = Err fault
 abbrev pub at_offset : ℕ → Spelled → Entry
 at_offset offset s = record { offset = offset; bytes = s.bytes; item = s.item }
 
-pub with_front-nil : (r : Result (List Entry) (ℕ × Fault)) → with_front [] r ≡ r
+pub with_front-nil : (r : Result (List Entry) (ℕ × GrammarFault)) → with_front [] r ≡ r
 with_front-nil (Ok entries) = refl
 with_front-nil (Err fault) = refl
 
-pub with_front-more : (front : List Entry) (e : Entry) (r : Result (List Entry) (ℕ × Fault))
+pub with_front-more : (front : List Entry) (e : Entry) (r : Result (List Entry) (ℕ × GrammarFault))
     → with_front (front ++ e ∷ []) r ≡ with_front front (with_front (e ∷ []) r)
 with_front-more front e (Ok entries) = ap Ok (append_assoc front (e ∷ []) entries)
 with_front-more front e (Err fault) = refl
 
-with_entry-ok : (offset : ℕ) (bytes : List ℕ) (x : ItemType) (r : Result (List Entry) (ℕ × Fault))
+with_entry-ok : (offset : ℕ) (bytes : List ℕ) (x : ItemType) (r : Result (List Entry) (ℕ × GrammarFault))
     → with_entry offset bytes (Ok x) r ≡ with_front
     (record { offset = offset; bytes = bytes; item = x } ∷ []) r
 with_entry-ok offset bytes x (Ok entries) = refl
@@ -146,12 +146,12 @@ items_from-inside read offset (suc inside) (b ∷ bs) le =
     ∙ ap (λ n. items_from read n 0 (drop inside bs)) (omega arith)
 
 -- an item that can't be read is the fault
-pub items_from-fault : (offset : ℕ) (bytes : List ℕ) (fault : Fault) → bytes ≢ []
+pub items_from-fault : (offset : ℕ) (bytes : List ℕ) (fault : GrammarFault) → bytes ≢ []
     → front_item item_of bytes ≡ Err fault
     → items_from item_of offset 0 bytes ≡ Err (offset, fault)
 items_from-fault offset [] fault ne e = absurd (ne refl)
 items_from-fault offset (h ∷ bs) fault ne e =
-    ap (λ (r : Result ItemType Fault). with_entry offset (h ∷ take (following_length h bs) bs) r
+    ap (λ (r : Result ItemType GrammarFault). with_entry offset (h ∷ take (following_length h bs) bs) r
     (items_from item_of (offset + 1) (following_length h bs) bs))
     (read_as_err (λ x. record { bytes = h ∷ take (following_length h bs) bs; item = x })
     (item_at item_of h bs) fault e)
@@ -172,7 +172,7 @@ items_from-item offset (h ∷ bs) s e =
     ∙ (let e1 : length (h ∷ take n bs) ≡ suc n = simp length-take (omega arith) in e1) in
     let first : items_from item_of offset 0 (h ∷ bs) ≡ with_front (at_offset offset s ∷ [])
     (items_from item_of (offset + 1) n bs) =
-    ap (λ (r : Result ItemType Fault). with_entry offset (h ∷ take n bs) r
+    ap (λ (r : Result ItemType GrammarFault). with_entry offset (h ∷ take n bs) r
     (items_from item_of (offset + 1) n bs)) got.1
     ∙ with_entry-ok offset (h ∷ take n bs) got.0 (items_from item_of (offset + 1) n bs)
     ∙ ap (λ (y : Spelled). with_front (at_offset offset y ∷ [])
@@ -209,7 +209,7 @@ itemise-some read [] ne = absurd (ne refl)
 itemise-some read (b ∷ bs) ne = refl
 
 -- the fault of the rest is that of all the bytes
-fault-whole : (bytes rest : List ℕ) (front : List Entry) (offset : ℕ) (fault : Fault) → bytes ≢ []
+fault-whole : (bytes rest : List ℕ) (front : List Entry) (offset : ℕ) (fault : GrammarFault) → bytes ≢ []
     → rest ≢ []
     → with_front front (items_from item_of offset 0 rest) ≡ items_from item_of 0 0 bytes
     → front_item item_of rest ≡ Err fault

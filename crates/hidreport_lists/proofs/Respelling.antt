@@ -2,7 +2,7 @@
 -- items has them.
 use Rattle.std.proofs.Common.{◌≡◌, ◌≢◌, ◌↔◌, ℕ, ◌+◌, Bool, true, false, cond, List, [], ◌∷◌, ◌++◌}
 use Rattle.std.proofs.Common.{length, flat_map, Result, Ok, Err, refl, sym, ap, ◌∙◌, subst}
-use Rattle.hidreport_items.specs.Answer.{Fault}
+use Rattle.hidreport_items.specs.Answer.{GrammarFault}
 use Rattle.hidreport_items.specs.Canonical.{IsCanonical}
 use Rattle.hidreport_items.specs.Kept.{is_kept}
 use Rattle.hidreport_items.specs.Spelling.{item_of, Spells}
@@ -100,7 +100,7 @@ none-written [] k e = refl
 none-written (x ∷ xs) k e = absurd
     (spelled-some (item_bytes x) x (flat_map item_bytes xs) k.1.spells e)
 
-abbrev found : List Entry → Result (List Entry) (ℕ × Fault)
+abbrev found : List Entry → Result (List Entry) (ℕ × GrammarFault)
 found entries = Ok entries
 
 ok-same : (x y : List Entry) → found x ≡ found y → x ≡ y
@@ -182,7 +182,7 @@ err-same : (x y : Refusal) → refused (List Entry) x ≡ refused (List Entry) y
 err-same x y e = let s : x ≡ y = cc in ap Err s
 
 -- a refusal of the items is one of rebuilding them
-pub refuses-rebuilding : (e : ParserError) (r : Result (List Entry) (ℕ × Fault))
+pub refuses-rebuilding : (e : ParserError) (r : Result (List Entry) (ℕ × GrammarFault))
     → Refuses e (as_refusal r) → Refuses e (as_refusal (rebuild_answer r))
 refuses-rebuilding (parser.InvalidData offset message) (Ok entries) f = cc
 refuses-rebuilding (parser.InvalidData offset message) (Err fault) f = err-same _ _ f

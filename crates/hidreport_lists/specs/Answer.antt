@@ -1,6 +1,6 @@
 -- What a parser's answer says, want of memory apart.
 use Rattle.std.specs.Prelude.{◌≡◌, ℕ, List, Result, Ok, Err, Option, Some, None, string_bytes}
-use Rattle.hidreport_items.specs.Answer.{Fault, Invalid, Insufficient}
+use Rattle.hidreport_items.specs.Answer.{GrammarFault, Invalid, Insufficient}
 use Rattle.hidreport_items.specs.declared.error.HidError.{HidError}
 use Rattle.hidreport_items.specs.declared.error.HidError.TheVariants as faults
 use Rattle.hidreport_lists.specs.declared.error.ParserError.{ParserError}
@@ -44,7 +44,7 @@ IsInvalidAt errors.OutOfMemory offset message = Unit {0}
 IsInvalidAt (errors.BudgetExceeded at) offset message = ⊥
 
 -- what a reader's error says of the bytes; want of memory says nothing
-abbrev pub fault_of : HidError → Option Fault
+abbrev pub fault_of : HidError → Option GrammarFault
 fault_of (faults.InvalidData message) = Some (Invalid (string_bytes message))
 fault_of faults.InsufficientData = Some Insufficient
 fault_of faults.OutOfMemory = None

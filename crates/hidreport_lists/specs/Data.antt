@@ -3,7 +3,7 @@
 use Rattle.std.specs.Prelude.{ℕ, ◌/◌, if◌then◌else◌, List, [], ◌∷◌, ◌++◌, length, drop}
 use Rattle.std.specs.Prelude.{Option, None, Some}
 use Rattle.std.specs.Prelude.{Result, Ok, Err, codes, decimal}
-use Rattle.hidreport_items.specs.Answer.{Fault, Invalid, Insufficient}
+use Rattle.hidreport_items.specs.Answer.{GrammarFault, Invalid, Insufficient}
 use Rattle.hidreport_items.specs.Numbers.{word, is_short_length}
 use Rattle.hidreport_items.specs.Spelling.{first_or_zero}
 
@@ -30,22 +30,22 @@ abbrev pub byte_message : ℕ → List ℕ
 byte_message n = codes "Cannot convert " ++ (decimal n ++ codes " bytes to u8")
 
 -- data of 1, 2 or 4 bytes
-abbrev pub of_data : {A : Type 0} → List ℕ → A → Result A Fault
+abbrev pub of_data : {A : Type 0} → List ℕ → A → Result A GrammarFault
 of_data [] x = Err Insufficient
 of_data (b ∷ bs) x =
     if is_short_length (length (b ∷ bs)) then Ok x
     else Err (Invalid (length_message (length (b ∷ bs))))
 
 -- data as an unsigned number
-abbrev pub data_number : List ℕ → Result ℕ Fault
+abbrev pub data_number : List ℕ → Result ℕ GrammarFault
 data_number bs = of_data bs (word bs)
 
 -- data as a list of its own
-abbrev pub data_list : List ℕ → Result (List ℕ) Fault
+abbrev pub data_list : List ℕ → Result (List ℕ) GrammarFault
 data_list bs = of_data bs bs
 
 -- data as one byte
-abbrev pub data_byte : List ℕ → Result ℕ Fault
+abbrev pub data_byte : List ℕ → Result ℕ GrammarFault
 data_byte [] = Err Insufficient
 data_byte (b ∷ []) = Ok b
 data_byte (b ∷ c ∷ bs) = Err (Invalid (byte_message (length (b ∷ c ∷ bs))))

@@ -2,7 +2,7 @@
 -- meaning, each in its canonical spelling.
 use Rattle.std.specs.Prelude.{ℕ, ◌+◌, List, [], ◌∷◌, length, map, filter, flat_map}
 use Rattle.std.specs.Prelude.{Result, Ok, Err}
-use Rattle.hidreport_items.specs.Answer.{Fault}
+use Rattle.hidreport_items.specs.Answer.{GrammarFault}
 use Rattle.hidreport_items.specs.Canonical.{IsCanonical}
 use Rattle.hidreport_items.specs.Kept.{is_kept}
 use Rattle.hidreport_items.specs.Writing.{item_bytes}
@@ -29,7 +29,7 @@ abbrev pub rebuilt_bytes : List Entry → List ℕ
 rebuilt_bytes entries = flat_map item_bytes (items_of (kept_entries entries))
 
 -- the same, or the fault of bytes that are no items
-abbrev pub rebuild_answer : Result (List Entry) (ℕ × Fault) → Result (List ℕ) (ℕ × Fault)
+abbrev pub rebuild_answer : Result (List Entry) (ℕ × GrammarFault) → Result (List ℕ) (ℕ × GrammarFault)
 rebuild_answer (Ok entries) = Ok (rebuilt_bytes entries)
 rebuild_answer (Err fault) = Err fault
 

@@ -1,6 +1,6 @@
 //! Laws of the definitions: a descriptor's bytes are one list of items, or have one fault.
 ghost use Rattle.std.specs.Prelude.{◌≡◌, ◌≢◌, ◌⊎◌, ℕ, List, [], Ok, Err};
-ghost use Rattle.hidreport_items.specs.Answer.{Fault};
+ghost use Rattle.hidreport_items.specs.Answer.{GrammarFault};
 ghost use Rattle.hidreport_items.specs.Spelling.{AreBytes};
 ghost use Rattle.hidreport_lists.specs.Entry.{Entry};
 ghost use Rattle.hidreport_lists.specs.Itemising.{IsFaultAt, Itemises, Reader, itemise};
@@ -10,9 +10,9 @@ ghost use Rattle.hidreport_lists.specs.Itemising.{IsFaultAt, Itemises, Reader, i
 pub fn bytes_are_items_or_have_a_fault()
     ensures either { (read : Reader) (bytes : List ℕ) → AreBytes bytes → bytes ≢ []
         → ((entries : List Entry) × Itemises read bytes entries)
-        ⊎ ((offset : ℕ) × (fault : Fault) × IsFaultAt read bytes offset fault) }
+        ⊎ ((offset : ℕ) × (fault : GrammarFault) × IsFaultAt read bytes offset fault) }
     ensures one_way { (read : Reader) (bytes : List ℕ) (entries : List Entry)
         → Itemises read bytes entries → itemise read bytes ≡ Ok entries }
-    ensures one_fault { (read : Reader) (bytes : List ℕ) (offset : ℕ) (fault : Fault)
+    ensures one_fault { (read : Reader) (bytes : List ℕ) (offset : ℕ) (fault : GrammarFault)
         → IsFaultAt read bytes offset fault → itemise read bytes ≡ Err (offset, fault) }
 {}

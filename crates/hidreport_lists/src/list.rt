@@ -1,5 +1,5 @@
 ghost use Rattle.std.specs.Prelude.{◌≡◌, ◌≢◌, ℕ, List, [], IfErr, IfOk};
-ghost use Rattle.hidreport_items.specs.Answer.{Fault};
+ghost use Rattle.hidreport_items.specs.Answer.{GrammarFault};
 ghost use Rattle.hidreport_items.specs.Spelling.{item_of};
 ghost use Rattle.hidreport_lists.specs.Answer.{Answers, InvalidAt};
 ghost use Rattle.hidreport_lists.specs.Entry.{Entry};
@@ -89,7 +89,7 @@ impl ReportDescriptorItems {
             → Itemises item_of bytes.now entries → Answers result (Ok entries) }
         ensures fault { bytes.now ≢ []
             → IfErr result (λ error. IsGrammarFault item_of bytes.now error) }
-        ensures only_fault { (offset : ℕ) (fault : Fault)
+        ensures only_fault { (offset : ℕ) (fault : GrammarFault)
             → IsFaultAt item_of bytes.now offset fault
             → Answers result (Err (InvalidAt offset (grammar_message fault))) }
         ensures short { (entries : List Entry)

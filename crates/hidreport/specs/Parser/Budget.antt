@@ -1,7 +1,7 @@
 -- The walk under a budget: what of it is left between two items, and what an item spends.
 use Rattle.std.specs.Prelude.{ℕ, ◌+◌, ◌-◌, nat_lt, Bool, true, false, if◌then◌else◌, List, [], ◌∷◌}
 use Rattle.std.specs.Prelude.{length, map, sum_by, Option, None, Some, Result, Ok, Err}
-use Rattle.hidreport_items.specs.Answer.{Fault}
+use Rattle.hidreport_items.specs.Answer.{GrammarFault}
 use Rattle.hidreport_items.specs.Flags.{Flags}
 use Rattle.hidreport_items.specs.Spelling.{item_of}
 use Rattle.hidreport_items.specs.declared.main_item.CollectionItem.{CollectionItem}
@@ -64,7 +64,7 @@ walk_within left h k (x ∷ xs) = go_on (unless_fault (stop_in left h x) (next_h
     (λ next. walk_within (left_behind left (weight_in h x)) next (k + 1) xs)
 
 -- a grammar fault, or else what the walk over the items gives
-abbrev pub walk_items : PushKeeps → Option ℕ → Result (List Entry) (ℕ × Fault)
+abbrev pub walk_items : PushKeeps → Option ℕ → Result (List Entry) (ℕ × GrammarFault)
     → Result DescriptorRecord Refusal
 walk_items keeping limit (Err fault) = Err (InvalidAt fault.0 (grammar_message fault.1))
 walk_items keeping limit (Ok entries) =
