@@ -17,15 +17,15 @@ use Rattle.hidreport_lists.specs.Rebuilt.{items_of}
 use Rattle.hidreport.specs.Budget.{is_faulty_by, meaning_within_by, parse_items_within}
 use Rattle.hidreport.specs.Budget.{parse_within_by, unless_past}
 use Rattle.hidreport.specs.Fields.{fields_of}
-use Rattle.hidreport.specs.InForce.{first_of}
+use Rattle.hidreport.specs.ItemState.{first_of}
 use Rattle.hidreport.specs.Kinds.{Indexed, Direction, Input, Output, Feature, data_of, goes}
 use Rattle.hidreport.specs.Making.{extent, same_key}
 use Rattle.hidreport.specs.Meaning.{PushReading, at_offset, meaning_by, parse_by, parse_items}
 use Rattle.hidreport.specs.MeaningFault.{MeaningFault, PastBudget}
 use Rattle.hidreport.specs.Options.{parse_limited, reading_of}
 use Rattle.hidreport.specs.Parser.Budget.{past_fault, walk_within, weight_in, weight_made_in}
-use Rattle.hidreport.specs.Parser.Machine.{Held, added_to, adds, fault_in, go_on, key_in, next_held}
-use Rattle.hidreport.specs.Parser.Machine.{next_reports, nothing_held, reports_in, start_in}
+use Rattle.hidreport.specs.Parser.Machine.{StateRecord, added_to, adds, fault_in, go_on, key_in, next_state}
+use Rattle.hidreport.specs.Parser.Machine.{next_reports, first_state, reports_in, start_in}
 use Rattle.hidreport.specs.Parser.Machine.{unless_fault}
 use Rattle.hidreport.specs.Places.{bits_of}
 use Rattle.hidreport.specs.Records.{DescriptorRecord, FieldRecord, ReportRecord}
@@ -70,51 +70,51 @@ added-weight id bits fields (r ∷ rs) =
     added-by (same_key r.id id) id bits fields r rs refl (added-weight id bits fields rs)
 
 -- in a direction, the reports weigh at most what the item's fields weigh more
-next-by : (b : Bool) (d : Direction) (h : Held) (x : ItemType) → adds d h x ≡ b
+next-by : (b : Bool) (d : Direction) (h : StateRecord) (x : ItemType) → adds d h x ≡ b
     → sum_by report_weight (next_reports d h x)
     ≡ sum_by report_weight (reports_in d h.descriptor) + cond b
-    (sum_by field_weight (fields_of h.force h.opened h.fields (start_in d h) (data_of x)
-    (extent h.force))) 0
+    (sum_by field_weight (fields_of h.item_state h.opened h.fields (start_in d h) (data_of x)
+    (extent h.item_state))) 0
 next-by true d h x is =
-    let fields = fields_of h.force h.opened h.fields (start_in d h) (data_of x) (extent h.force) in
+    let fields = fields_of h.item_state h.opened h.fields (start_in d h) (data_of x) (extent h.item_state) in
     ap (λ b. sum_by report_weight (cond b
-    (added_to (key_in d h) (bits_of (extent h.force)) fields (reports_in d h.descriptor))
+    (added_to (key_in d h) (bits_of (extent h.item_state)) fields (reports_in d h.descriptor))
     (reports_in d h.descriptor))) is
-    ∙ added-weight (key_in d h) (bits_of (extent h.force)) fields (reports_in d h.descriptor)
+    ∙ added-weight (key_in d h) (bits_of (extent h.item_state)) fields (reports_in d h.descriptor)
 next-by false d h x is =
-    let fields = fields_of h.force h.opened h.fields (start_in d h) (data_of x) (extent h.force) in
+    let fields = fields_of h.item_state h.opened h.fields (start_in d h) (data_of x) (extent h.item_state) in
     ap (λ b. sum_by report_weight (cond b
-    (added_to (key_in d h) (bits_of (extent h.force)) fields (reports_in d h.descriptor))
+    (added_to (key_in d h) (bits_of (extent h.item_state)) fields (reports_in d h.descriptor))
     (reports_in d h.descriptor))) is
     ∙ (let e : sum_by report_weight (reports_in d h.descriptor) ≡ sum_by report_weight (reports_in d h.descriptor) + 0 = omega arith in e)
 
 -- the fields go to one direction
-abbrev made_in : Direction → Held → Option (Direction × Flags) → ℕ
-made_in d h o = cond (goes d o && is_some (extent h.force))
-    (sum_by field_weight (fields_of h.force h.opened h.fields (start_in d h) o (extent h.force))) 0
+abbrev made_in : Direction → StateRecord → Option (Direction × Flags) → ℕ
+made_in d h o = cond (goes d o && is_some (extent h.item_state))
+    (sum_by field_weight (fields_of h.item_state h.opened h.fields (start_in d h) o (extent h.item_state))) 0
 
 part-le : (b : Bool) (n : ℕ) → cond b n 0 ≤ n
 part-le true n = omega arith
 part-le false n = omega arith
 
-one-direction : (h : Held) (o : Option (Direction × Flags))
+one-direction : (h : StateRecord) (o : Option (Direction × Flags))
     → made_in Input h o + (made_in Output h o + made_in Feature h o) ≤ weight_made_in h o
 one-direction h None = omega arith
 one-direction h (Some (Input, flags)) =
-    let part = part-le (is_some (extent h.force))
-    (sum_by field_weight (fields_of h.force h.opened h.fields (start_in Input h)
-    (Some (Input, flags)) (extent h.force))) in omega (arith, part)
+    let part = part-le (is_some (extent h.item_state))
+    (sum_by field_weight (fields_of h.item_state h.opened h.fields (start_in Input h)
+    (Some (Input, flags)) (extent h.item_state))) in omega (arith, part)
 one-direction h (Some (Output, flags)) =
-    let part = part-le (is_some (extent h.force))
-    (sum_by field_weight (fields_of h.force h.opened h.fields (start_in Output h)
-    (Some (Output, flags)) (extent h.force))) in omega (arith, part)
+    let part = part-le (is_some (extent h.item_state))
+    (sum_by field_weight (fields_of h.item_state h.opened h.fields (start_in Output h)
+    (Some (Output, flags)) (extent h.item_state))) in omega (arith, part)
 one-direction h (Some (Feature, flags)) =
-    let part = part-le (is_some (extent h.force))
-    (sum_by field_weight (fields_of h.force h.opened h.fields (start_in Feature h)
-    (Some (Feature, flags)) (extent h.force))) in omega (arith, part)
+    let part = part-le (is_some (extent h.item_state))
+    (sum_by field_weight (fields_of h.item_state h.opened h.fields (start_in Feature h)
+    (Some (Feature, flags)) (extent h.item_state))) in omega (arith, part)
 
-next-weight : (h : Held) (x : ItemType)
-    → descriptor_weight (next_held h x).descriptor ≤ descriptor_weight h.descriptor + weight_in h x
+next-weight : (h : StateRecord) (x : ItemType)
+    → descriptor_weight (next_state h x).descriptor ≤ descriptor_weight h.descriptor + weight_in h x
 next-weight h x =
     let i = next-by (adds Input h x) Input h x refl in
     let o = next-by (adds Output h x) Output h x refl in
@@ -126,33 +126,33 @@ abbrev pub Announces : Result DescriptorRecord (ℕ × MeaningFault) → Descrip
 Announces r d = r ≡ Ok d
 
 -- an item where the walk goes on is within what is left
-bounded-by : (o : Option MeaningFault) (b : Bool) (h : Held) (k left : ℕ) (x : ItemType)
+bounded-by : (o : Option MeaningFault) (b : Bool) (h : StateRecord) (k left : ℕ) (x : ItemType)
     (xs : List ItemType) (d : DescriptorRecord) → fault_in h x ≡ o → nat_lt left (weight_in h x) ≡ b
     → Announces (walk_within (Some left) h k (x ∷ xs)) d
     → (weight_in h x ≤ left
-    → Announces (walk_within (Some (left - weight_in h x)) (next_held h x) (k + 1) xs) d
+    → Announces (walk_within (Some (left - weight_in h x)) (next_state h x) (k + 1) xs) d
     → descriptor_weight d ≤ descriptor_weight h.descriptor + left)
     → descriptor_weight d ≤ descriptor_weight h.descriptor + left
 bounded-by (Some f) b h k left x xs d e past is later =
     let bad : Announces (Err (k, f)) d =
     sym (ap (λ o. go_on (unless_fault
-    (first_of o (past_fault (nat_lt left (weight_in h x)))) (next_held h x)) k
+    (first_of o (past_fault (nat_lt left (weight_in h x)))) (next_state h x)) k
     (λ n. walk_within (Some (left - weight_in h x)) n (k + 1) xs)) e) ∙ is in cc
 bounded-by None true h k left x xs d e past is later =
     let bad : Announces (Err (k, PastBudget)) d =
     sym (ap (λ o. go_on (unless_fault
-    (first_of o (past_fault (nat_lt left (weight_in h x)))) (next_held h x)) k
+    (first_of o (past_fault (nat_lt left (weight_in h x)))) (next_state h x)) k
     (λ n. walk_within (Some (left - weight_in h x)) n (k + 1) xs)) e
-    ∙ ap (λ b. go_on (unless_fault (past_fault b) (next_held h x)) k
+    ∙ ap (λ b. go_on (unless_fault (past_fault b) (next_state h x)) k
     (λ n. walk_within (Some (left - weight_in h x)) n (k + 1) xs)) past) ∙ is in cc
 bounded-by None false h k left x xs d e past is later =
     later (grind (arith, nat_tests))
     (sym (ap (λ o. go_on (unless_fault (first_of o (past_fault (nat_lt left (weight_in h x))))
-    (next_held h x)) k (λ n. walk_within (Some (left - weight_in h x)) n (k + 1) xs)) e
-    ∙ ap (λ b. go_on (unless_fault (past_fault b) (next_held h x)) k
+    (next_state h x)) k (λ n. walk_within (Some (left - weight_in h x)) n (k + 1) xs)) e
+    ∙ ap (λ b. go_on (unless_fault (past_fault b) (next_state h x)) k
     (λ n. walk_within (Some (left - weight_in h x)) n (k + 1) xs)) past) ∙ is)
 
-bounded-from : (h : Held) (k left : ℕ) (xs : List ItemType) (d : DescriptorRecord)
+bounded-from : (h : StateRecord) (k left : ℕ) (xs : List ItemType) (d : DescriptorRecord)
     → Announces (walk_within (Some left) h k xs) d
     → descriptor_weight d ≤ descriptor_weight h.descriptor + left
 bounded-from h k left [] d is =
@@ -162,7 +162,7 @@ bounded-from h k left [] d is =
 bounded-from h k left (x ∷ xs) d is =
     bounded-by (fault_in h x) (nat_lt left (weight_in h x)) h k left x xs d refl refl is
     (λ fits rest.
-    let later = bounded-from (next_held h x) (k + 1) (left - weight_in h x) xs d rest in
+    let later = bounded-from (next_state h x) (k + 1) (left - weight_in h x) xs d rest in
     let grown = next-weight h x in
     omega (arith, fits, later, grown))
 
@@ -175,10 +175,10 @@ bounded-items : (keeping : PushKeeps) (limit : ℕ) (r : Result (List Entry) (�
     (d : DescriptorRecord) → parse_items_within (reading_of keeping) limit r ≡ Ok d
     → descriptor_weight d ≤ limit
 bounded-items keeping limit (Ok entries) d e =
-    let bound = bounded-from (nothing_held keeping) 0 limit (items_of entries) d
+    let bound = bounded-from (first_state keeping) 0 limit (items_of entries) d
     (walk-within keeping limit (items_of entries)
     ∙ found-ok entries (meaning_within_by (reading_of keeping) limit (items_of entries)) d e) in
-    let none : descriptor_weight (nothing_held keeping).descriptor ≡ 0 = omega arith in
+    let none : descriptor_weight (first_state keeping).descriptor ≡ 0 = omega arith in
     omega (arith, bound, none)
 bounded-items keeping limit (Err fault) d e = cc
 
@@ -191,15 +191,15 @@ within-bounded keeping limit (b ∷ bs) d e =
 
 -- they are what the plain parse announces
 
-kept-by : (b : Bool) (r : Result DescriptorRecord (ℕ × MeaningFault)) (bad : ℕ × MeaningFault)
+stack-by : (b : Bool) (r : Result DescriptorRecord (ℕ × MeaningFault)) (bad : ℕ × MeaningFault)
     (d : DescriptorRecord) → Announces (cond b r (Err bad)) d → Announces r d
-kept-by true r bad d e = e
-kept-by false r bad d e = cc
+stack-by true r bad d e = e
+stack-by false r bad d e = cc
 
 plain-of : (o : Option Indexed) (r : Result DescriptorRecord (ℕ × MeaningFault))
     (d : DescriptorRecord) → Announces (unless_past o r) d → Announces r d
 plain-of None r d e = e
-plain-of (Some p) r d e = kept-by (is_faulty_by p.0 r) r (p.0, PastBudget) d e
+plain-of (Some p) r d e = stack-by (is_faulty_by p.0 r) r (p.0, PastBudget) d e
 
 plain-items : (reading : PushReading) (limit : ℕ) (r : Result (List Entry) (ℕ × GrammarFault))
     (d : DescriptorRecord) → parse_items_within reading limit r ≡ Ok d

@@ -14,7 +14,7 @@ use Rattle.hidreport_items.specs.declared.item.ItemType.{ItemType}
 use Rattle.hidreport.specs.Budget.{meaning_within_by, unless_past}
 use Rattle.hidreport.specs.Faults.{fault}
 use Rattle.hidreport.specs.Fields.{fields_of, list_or_none}
-use Rattle.hidreport.specs.InForce.{Force, first_of, force, force_globals_only}
+use Rattle.hidreport.specs.ItemState.{ItemState, first_of, item_state, item_state_globals_only}
 use Rattle.hidreport.specs.Kinds.{Indexed, Direction, collection_of, data_of}
 use Rattle.hidreport.specs.Making.{extent}
 use Rattle.hidreport.specs.Meaning.{PushReading, descriptor, fault_here, first_fault, unless_first}
@@ -22,7 +22,7 @@ use Rattle.hidreport.specs.MeaningFault.{MeaningFault, PastBudget}
 use Rattle.hidreport.specs.Options.{reading_of}
 use Rattle.hidreport.specs.Parser.Budget.{past_fault, walk_within, weight_in, weight_made_in}
 use Rattle.hidreport.specs.Parser.Budget.{weight_opened_in}
-use Rattle.hidreport.specs.Parser.Machine.{Held, fault_in, go_on, next_held, nothing_held, start_in}
+use Rattle.hidreport.specs.Parser.Machine.{StateRecord, fault_in, go_on, next_state, first_state, start_in}
 use Rattle.hidreport.specs.Parser.Machine.{unless_fault, walk}
 use Rattle.hidreport.specs.Records.{DescriptorRecord}
 use Rattle.hidreport.specs.Usages.{usages_of}
@@ -32,53 +32,53 @@ use Rattle.hidreport.specs.declared.parser.push_keeps.PushKeeps.TheVariants as p
 use Rattle.hidreport.specs.Weight.{field_weight, unless_faulty, weight, weight_before, weight_made}
 use Rattle.hidreport.specs.Weight.{weight_opened}
 use Rattle.hidreport.proofs.AllKept.{all-follows}
-use Rattle.hidreport.proofs.GlobalsAlone.{globals-follows, kept_bare}
-use Rattle.hidreport.proofs.LevelLemmas.{kept}
+use Rattle.hidreport.proofs.GlobalsAlone.{globals-follows, stack_bare}
+use Rattle.hidreport.proofs.LevelLemmas.{stack}
 use Rattle.hidreport.proofs.Walk.{before-next, first_of-none}
 use Rattle.hidreport.proofs.WalkLemmas.{Follows, Holds, at-end, fault-held, fields-held, holds-next}
 use Rattle.hidreport.proofs.WalkLemmas.{holds-nothing}
 
 -- the weight of an item, from what is held
 
-opened-held : (o : Option CollectionItem) (force : ℕ → Force) (kept : ℕ → List Force)
-    (items : List ItemType) (k : ℕ) (h : Held) (x : ItemType) → Holds force kept items k h
-    → weight_opened force o items (k, x) ≡ weight_opened_in h o
-opened-held None force kept items k h x held = refl
-opened-held (Some kind) force kept items k h x held =
-    ap (λ (f : Force). 1 + length (list_or_none (usages_of f)).usages) (sym held.in_force)
+opened-held : (o : Option CollectionItem) (item_state : ℕ → ItemState) (stack : ℕ → List ItemState)
+    (items : List ItemType) (k : ℕ) (h : StateRecord) (x : ItemType) → Holds item_state stack items k h
+    → weight_opened item_state o items (k, x) ≡ weight_opened_in h o
+opened-held None item_state stack items k h x held = refl
+opened-held (Some kind) item_state stack items k h x held =
+    ap (λ (f : ItemState). 1 + length (list_or_none (usages_of f)).usages) (sym held.item_states)
 
-made-held : (o : Option (Direction × Flags)) (force : ℕ → Force) (kept : ℕ → List Force)
-    (items : List ItemType) (k : ℕ) (h : Held) (x : ItemType) → data_of x ≡ o
-    → Holds force kept items k h
-    → weight_made force o items (k, x) ≡ weight_made_in h o
-made-held None force kept items k h x e held = refl
-made-held (Some y) force kept items k h x e held =
-    ap (sum_by field_weight) (fields-held force kept items k h y.0 x held
-    ∙ ap (λ d. fields_of h.force h.opened h.fields (start_in y.0 h) d (extent h.force)) e)
+made-held : (o : Option (Direction × Flags)) (item_state : ℕ → ItemState) (stack : ℕ → List ItemState)
+    (items : List ItemType) (k : ℕ) (h : StateRecord) (x : ItemType) → data_of x ≡ o
+    → Holds item_state stack items k h
+    → weight_made item_state o items (k, x) ≡ weight_made_in h o
+made-held None item_state stack items k h x e held = refl
+made-held (Some y) item_state stack items k h x e held =
+    ap (sum_by field_weight) (fields-held item_state stack items k h y.0 x held
+    ∙ ap (λ d. fields_of h.item_state h.opened h.fields (start_in y.0 h) d (extent h.item_state)) e)
 
-weight-held : (force : ℕ → Force) (kept : ℕ → List Force) (items : List ItemType) (k : ℕ) (h : Held)
-    (x : ItemType) → ((n : ℕ) → length (kept n) ≡ level items n) → Holds force kept items k h
-    → fault_in h x ≡ None → weight force items k x ≡ weight_in h x
-weight-held force kept items k h x leveled held faultless =
-    ap (λ f. unless_faulty f (weight_opened force (collection_of x) items (k, x) + weight_made force
-    (data_of x) items (k, x))) (fault-held force kept items k h x leveled held ∙ faultless)
-    ∙ ap (λ n. n + weight_made force (data_of x) items (k, x))
-    (opened-held (collection_of x) force kept items k h x held)
+weight-held : (item_state : ℕ → ItemState) (stack : ℕ → List ItemState) (items : List ItemType) (k : ℕ) (h : StateRecord)
+    (x : ItemType) → ((n : ℕ) → length (stack n) ≡ level items n) → Holds item_state stack items k h
+    → fault_in h x ≡ None → weight item_state items k x ≡ weight_in h x
+weight-held item_state stack items k h x leveled held faultless =
+    ap (λ f. unless_faulty f (weight_opened item_state (collection_of x) items (k, x) + weight_made item_state
+    (data_of x) items (k, x))) (fault-held item_state stack items k h x leveled held ∙ faultless)
+    ∙ ap (λ n. n + weight_made item_state (data_of x) items (k, x))
+    (opened-held (collection_of x) item_state stack items k h x held)
     ∙ ap (λ n. weight_opened_in h (collection_of x) + n)
-    (made-held (data_of x) force kept items k h x refl held)
+    (made-held (data_of x) item_state stack items k h x refl held)
 
 -- the weight of one item more
-weight-next : (force : ℕ → Force) (items front rest : List ItemType) (x : ItemType)
+weight-next : (item_state : ℕ → ItemState) (items front rest : List ItemType) (x : ItemType)
     → items ≡ front ++ x ∷ rest
-    → weight_before force items (suc (length front)) ≡ weight_before force items (length front) +
-    weight force items (length front) x
-weight-next force items front rest x e =
-    let w = λ (p : Indexed). weight force items p.0 p.1 in
+    → weight_before item_state items (suc (length front)) ≡ weight_before item_state items (length front) +
+    weight item_state items (length front) x
+weight-next item_state items front rest x e =
+    let w = λ (p : Indexed). weight item_state items p.0 p.1 in
     let k = length front in
-    let one : sum_by w ((k, x) ∷ []) ≡ weight force items k x = grind (arith, common_steps) in
+    let one : sum_by w ((k, x) ∷ []) ≡ weight item_state items k x = grind (arith, common_steps) in
     ap (sum_by w) (before-next items front rest x e)
     ∙ sum_by-append w (before items k) ((k, x) ∷ [])
-    ∙ ap (λ n. weight_before force items k + n) one
+    ∙ ap (λ n. weight_before item_state items k + n) one
 
 -- the indices of a list go on from its first
 
@@ -104,13 +104,13 @@ fault-here-from : (o : Option MeaningFault) (n k : ℕ) (later : Option (ℕ × 
 fault-here-from None n k later le h = h
 fault-here-from (Some f) n k later le h = le
 
-fault-from : (force : ℕ → Force) (items : List ItemType) (n k : ℕ) (xs : List ItemType) → n ≤ k
-    → IsFaultFrom n (first_fault force items (enumerate_from k xs))
-fault-from force items n k [] le = tt
-fault-from force items n k (x ∷ xs) le =
-    fault-here-from (fault force items k x) n k
-    (first_fault force items (enumerate_from (k + 1) xs)) le
-    (fault-from force items n (k + 1) xs (omega arith))
+fault-from : (item_state : ℕ → ItemState) (items : List ItemType) (n k : ℕ) (xs : List ItemType) → n ≤ k
+    → IsFaultFrom n (first_fault item_state items (enumerate_from k xs))
+fault-from item_state items n k [] le = tt
+fault-from item_state items n k (x ∷ xs) le =
+    fault-here-from (fault item_state items k x) n k
+    (first_fault item_state items (enumerate_from (k + 1) xs)) le
+    (fault-from item_state items n (k + 1) xs (omega arith))
 
 -- the answers of a walk
 abbrev pub Answer : Type 0
@@ -148,125 +148,125 @@ past-left limit spent w le = past-by (nat_lt limit (spent + w)) (nat_lt (limit -
     past-by false true p q = grind (arith, nat_tests)
 
 -- the item at which the weight passes the limit, from index k on
-abbrev past_from : (ℕ → Force) → List ItemType → ℕ → ℕ → List ItemType → Option Indexed
-past_from force items limit k xs =
-    find (λ (p : Indexed). nat_lt limit (weight_before force items (suc p.0))) (enumerate_from k xs)
+abbrev past_from : (ℕ → ItemState) → List ItemType → ℕ → ℕ → List ItemType → Option Indexed
+past_from item_state items limit k xs =
+    find (λ (p : Indexed). nat_lt limit (weight_before item_state items (suc p.0))) (enumerate_from k xs)
 
 -- the look-back answer from index k on
-abbrev within_from : (ℕ → Force) → List ItemType → ℕ → ℕ → List ItemType → Answer
-within_from force items limit k xs =
-    unless_past (past_from force items limit k xs)
-    (unless_first (first_fault force items (enumerate_from k xs)) (descriptor force items))
+abbrev within_from : (ℕ → ItemState) → List ItemType → ℕ → ℕ → List ItemType → Answer
+within_from item_state items limit k xs =
+    unless_past (past_from item_state items limit k xs)
+    (unless_first (first_fault item_state items (enumerate_from k xs)) (descriptor item_state items))
 
 -- one item, by its fault and by whether it passes the limit
-within-by : (o : Option MeaningFault) (b : Bool) (force : ℕ → Force) (items : List ItemType)
-    (limit left k : ℕ) (h : Held) (x : ItemType) (xs : List ItemType)
-    → fault force items k x ≡ fault_in h x → fault_in h x ≡ o
+within-by : (o : Option MeaningFault) (b : Bool) (item_state : ℕ → ItemState) (items : List ItemType)
+    (limit left k : ℕ) (h : StateRecord) (x : ItemType) (xs : List ItemType)
+    → fault item_state items k x ≡ fault_in h x → fault_in h x ≡ o
     → (fault_in h x ≡ None
-    → nat_lt limit (weight_before force items (suc k)) ≡ nat_lt left (weight_in h x))
+    → nat_lt limit (weight_before item_state items (suc k)) ≡ nat_lt left (weight_in h x))
     → nat_lt left (weight_in h x) ≡ b
     → (fault_in h x ≡ None → nat_lt left (weight_in h x) ≡ false
-    → walk_within (Some (left - weight_in h x)) (next_held h x) (k + 1) xs ≡ within_from force items
+    → walk_within (Some (left - weight_in h x)) (next_state h x) (k + 1) xs ≡ within_from item_state items
     limit (k + 1) xs)
-    → walk_within (Some left) h k (x ∷ xs) ≡ within_from force items limit k (x ∷ xs)
-within-by (Some f) b force items limit left k h x xs same e past is rest =
+    → walk_within (Some left) h k (x ∷ xs) ≡ within_from item_state items limit k (x ∷ xs)
+within-by (Some f) b item_state items limit left k h x xs same e past is rest =
     ap (λ o. go_on (unless_fault (first_of o (past_fault (nat_lt left (weight_in h x))))
-    (next_held h x)) k (λ next. walk_within (Some (left - weight_in h x)) next (k + 1) xs)) e
-    ∙ sym (ap (λ o. unless_past (past_from force items limit k (x ∷ xs))
-    (unless_first (fault_here o k (first_fault force items (enumerate_from (k + 1) xs)))
-    (descriptor force items))) (same ∙ e)
-    ∙ faulty-first (past_from force items limit k (x ∷ xs)) k f
-    (find-from (λ (p : Indexed). nat_lt limit (weight_before force items (suc p.0))) k k
+    (next_state h x)) k (λ next. walk_within (Some (left - weight_in h x)) next (k + 1) xs)) e
+    ∙ sym (ap (λ o. unless_past (past_from item_state items limit k (x ∷ xs))
+    (unless_first (fault_here o k (first_fault item_state items (enumerate_from (k + 1) xs)))
+    (descriptor item_state items))) (same ∙ e)
+    ∙ faulty-first (past_from item_state items limit k (x ∷ xs)) k f
+    (find-from (λ (p : Indexed). nat_lt limit (weight_before item_state items (suc p.0))) k k
     (x ∷ xs) (omega arith)))
-within-by None true force items limit left k h x xs same e past is rest =
+within-by None true item_state items limit left k h x xs same e past is rest =
     ap (λ o. go_on (unless_fault (first_of o (past_fault (nat_lt left (weight_in h x))))
-    (next_held h x)) k (λ next. walk_within (Some (left - weight_in h x)) next (k + 1) xs)) e
-    ∙ ap (λ b. go_on (unless_fault (past_fault b) (next_held h x)) k
+    (next_state h x)) k (λ next. walk_within (Some (left - weight_in h x)) next (k + 1) xs)) e
+    ∙ ap (λ b. go_on (unless_fault (past_fault b) (next_state h x)) k
     (λ next. walk_within (Some (left - weight_in h x)) next (k + 1) xs)) is
-    ∙ sym (ap (λ o. unless_past (past_from force items limit k (x ∷ xs))
-    (unless_first (fault_here o k (first_fault force items (enumerate_from (k + 1) xs)))
-    (descriptor force items))) (same ∙ e)
-    ∙ ap (λ b. unless_past (cond b (Some (k, x)) (past_from force items limit (k + 1) xs))
-    (unless_first (first_fault force items (enumerate_from (k + 1) xs))
-    (descriptor force items))) (past e ∙ is)
-    ∙ past-first (first_fault force items (enumerate_from (k + 1) xs)) k x (descriptor force items)
-    (fault-from force items (suc k) (k + 1) xs (omega arith)))
-within-by None false force items limit left k h x xs same e past is rest =
+    ∙ sym (ap (λ o. unless_past (past_from item_state items limit k (x ∷ xs))
+    (unless_first (fault_here o k (first_fault item_state items (enumerate_from (k + 1) xs)))
+    (descriptor item_state items))) (same ∙ e)
+    ∙ ap (λ b. unless_past (cond b (Some (k, x)) (past_from item_state items limit (k + 1) xs))
+    (unless_first (first_fault item_state items (enumerate_from (k + 1) xs))
+    (descriptor item_state items))) (past e ∙ is)
+    ∙ past-first (first_fault item_state items (enumerate_from (k + 1) xs)) k x (descriptor item_state items)
+    (fault-from item_state items (suc k) (k + 1) xs (omega arith)))
+within-by None false item_state items limit left k h x xs same e past is rest =
     ap (λ o. go_on (unless_fault (first_of o (past_fault (nat_lt left (weight_in h x))))
-    (next_held h x)) k (λ next. walk_within (Some (left - weight_in h x)) next (k + 1) xs)) e
-    ∙ ap (λ b. go_on (unless_fault (past_fault b) (next_held h x)) k
+    (next_state h x)) k (λ next. walk_within (Some (left - weight_in h x)) next (k + 1) xs)) e
+    ∙ ap (λ b. go_on (unless_fault (past_fault b) (next_state h x)) k
     (λ next. walk_within (Some (left - weight_in h x)) next (k + 1) xs)) is
     ∙ rest e is
-    ∙ sym (ap (λ o. unless_past (past_from force items limit k (x ∷ xs))
-    (unless_first (fault_here o k (first_fault force items (enumerate_from (k + 1) xs)))
-    (descriptor force items))) (same ∙ e)
-    ∙ ap (λ b. unless_past (cond b (Some (k, x)) (past_from force items limit (k + 1) xs))
-    (unless_first (first_fault force items (enumerate_from (k + 1) xs))
-    (descriptor force items))) (past e ∙ is))
+    ∙ sym (ap (λ o. unless_past (past_from item_state items limit k (x ∷ xs))
+    (unless_first (fault_here o k (first_fault item_state items (enumerate_from (k + 1) xs)))
+    (descriptor item_state items))) (same ∙ e)
+    ∙ ap (λ b. unless_past (cond b (Some (k, x)) (past_from item_state items limit (k + 1) xs))
+    (unless_first (first_fault item_state items (enumerate_from (k + 1) xs))
+    (descriptor item_state items))) (past e ∙ is))
 
-within-walk : (keeping : PushKeeps) (force : ℕ → Force) (kept : ℕ → List Force)
-    (items front rest : List ItemType) (h : Held) (limit : ℕ) → Follows keeping force kept items
-    → h.keeping ≡ keeping → items ≡ front ++ rest → Holds force kept items (length front) h
-    → weight_before force items (length front) ≤ limit
-    → walk_within (Some (limit - weight_before force items (length front))) h (length front) rest
-    ≡ within_from force items limit (length front) rest
-within-walk keeping force kept items front [] h limit follows reads e held room =
+within-walk : (keeping : PushKeeps) (item_state : ℕ → ItemState) (stack : ℕ → List ItemState)
+    (items front rest : List ItemType) (h : StateRecord) (limit : ℕ) → Follows keeping item_state stack items
+    → h.keeping ≡ keeping → items ≡ front ++ rest → Holds item_state stack items (length front) h
+    → weight_before item_state items (length front) ≤ limit
+    → walk_within (Some (limit - weight_before item_state items (length front))) h (length front) rest
+    ≡ within_from item_state items limit (length front) rest
+within-walk keeping item_state stack items front [] h limit follows reads e held room =
     let whole : items ≡ front = e ∙ append-nil front in
-    ap Ok (at-end force kept items h
-    (subst (λ n. Holds force kept items n h) (ap length (sym whole)) held))
-within-walk keeping force kept items front (x ∷ xs) h limit follows reads e held room =
+    ap Ok (at-end item_state stack items h
+    (subst (λ n. Holds item_state stack items n h) (ap length (sym whole)) held))
+within-walk keeping item_state stack items front (x ∷ xs) h limit follows reads e held room =
     let k = length front in
-    let spent = weight_before force items k in
+    let spent = weight_before item_state items k in
     let w = weight_in h x in
     let more : items ≡ (front ++ x ∷ []) ++ xs = e ∙ sym (append_assoc front (x ∷ []) xs) in
     let size : length (front ++ x ∷ []) ≡ suc k = grind (arith, common_steps) in
     let size_one : length (front ++ x ∷ []) ≡ k + 1 = size ∙ sym (add-one k) in
-    let heavier : fault_in h x ≡ None → weight_before force items (suc k) ≡ spent + w =
-    λ faultless. weight-next force items front xs x e
-    ∙ ap (λ n. spent + n) (weight-held force kept items k h x follows.leveled held faultless) in
-    within-by (fault_in h x) (nat_lt (limit - spent) w) force items limit (limit - spent) k h x xs
-    (fault-held force kept items k h x follows.leveled held) refl
+    let heavier : fault_in h x ≡ None → weight_before item_state items (suc k) ≡ spent + w =
+    λ faultless. weight-next item_state items front xs x e
+    ∙ ap (λ n. spent + n) (weight-held item_state stack items k h x follows.leveled held faultless) in
+    within-by (fault_in h x) (nat_lt (limit - spent) w) item_state items limit (limit - spent) k h x xs
+    (fault-held item_state stack items k h x follows.leveled held) refl
     (λ faultless. ap (nat_lt limit) (heavier faultless) ∙ past-left limit spent w room) refl
     (λ faultless within.
-    let next : Holds force kept items (length (front ++ x ∷ [])) (next_held h x) =
-    subst (λ n. Holds force kept items n (next_held h x)) (sym size)
-    (holds-next keeping force kept items front xs h x follows reads e held faultless) in
-    let spent_next : weight_before force items (length (front ++ x ∷ [])) ≡ spent + w =
-    ap (weight_before force items) size ∙ heavier faultless in
+    let next : Holds item_state stack items (length (front ++ x ∷ [])) (next_state h x) =
+    subst (λ n. Holds item_state stack items n (next_state h x)) (sym size)
+    (holds-next keeping item_state stack items front xs h x follows reads e held faultless) in
+    let spent_next : weight_before item_state items (length (front ++ x ∷ [])) ≡ spent + w =
+    ap (weight_before item_state items) size ∙ heavier faultless in
     let fits : w ≤ limit - spent = grind (arith, nat_tests) in
-    let room_next : weight_before force items (length (front ++ x ∷ [])) ≤ limit =
+    let room_next : weight_before item_state items (length (front ++ x ∷ [])) ≤ limit =
     omega (arith, spent_next, fits, room) in
-    let left_next : limit - weight_before force items (length (front ++ x ∷ [])) ≡ limit - spent -
+    let left_next : limit - weight_before item_state items (length (front ++ x ∷ [])) ≡ limit - spent -
     w = omega (arith, spent_next, fits, room) in
-    let walked = within-walk keeping force kept items (front ++ x ∷ []) xs (next_held h x) limit
+    let walked = within-walk keeping item_state stack items (front ++ x ∷ []) xs (next_state h x) limit
     follows reads more next room_next in
-    ap (λ l. walk_within (Some l) (next_held h x) (k + 1) xs) (sym left_next)
-    ∙ ap (λ n. walk_within (Some (limit - weight_before force items (length (front ++ x ∷ []))))
-    (next_held h x) n xs) (sym size_one)
-    ∙ walked ∙ ap (λ n. within_from force items limit n xs) size_one)
+    ap (λ l. walk_within (Some l) (next_state h x) (k + 1) xs) (sym left_next)
+    ∙ ap (λ n. walk_within (Some (limit - weight_before item_state items (length (front ++ x ∷ []))))
+    (next_state h x) n xs) (sym size_one)
+    ∙ walked ∙ ap (λ n. within_from item_state items limit n xs) size_one)
 
 -- the walk under a limit is the meaning under it, by each reading that the walk follows
-pub walk-follows-within : (keeping : PushKeeps) (reading : PushReading) (saved : ℕ → List Force)
+pub walk-follows-within : (keeping : PushKeeps) (reading : PushReading) (saved : ℕ → List ItemState)
     (items : List ItemType) (limit : ℕ) → Follows keeping (reading items) saved items
-    → walk_within (Some limit) (nothing_held keeping) 0 items ≡ meaning_within_by reading limit
+    → walk_within (Some limit) (first_state keeping) 0 items ≡ meaning_within_by reading limit
     items
 walk-follows-within keeping reading saved items limit follows =
     let all : limit ≡ limit - 0 = omega arith in
-    ap (λ n. walk_within (Some n) (nothing_held keeping) 0 items) all
-    ∙ within-walk keeping (reading items) saved items [] items (nothing_held keeping) limit follows
+    ap (λ n. walk_within (Some n) (first_state keeping) 0 items) all
+    ∙ within-walk keeping (reading items) saved items [] items (first_state keeping) limit follows
     refl refl (holds-nothing keeping (reading items) saved items follows) (omega arith)
 
 -- by the reading where a Push keeps this
 pub walk-within : (keeping : PushKeeps) (limit : ℕ) (items : List ItemType)
-    → walk_within (Some limit) (nothing_held keeping) 0 items ≡ meaning_within_by
+    → walk_within (Some limit) (first_state keeping) 0 items ≡ meaning_within_by
     (reading_of keeping) limit items
 walk-within push_keeps.All limit items =
-    walk-follows-within push_keeps.All force (kept items) items limit (all-follows items)
+    walk-follows-within push_keeps.All item_state (stack items) items limit (all-follows items)
 walk-within push_keeps.Globals limit items =
-    walk-follows-within push_keeps.Globals force_globals_only (kept_bare items) items limit
+    walk-follows-within push_keeps.Globals item_state_globals_only (stack_bare items) items limit
     (globals-follows items)
 
-unlimited-by : (o : Option MeaningFault) (h : Held) (k : ℕ) (xs : List ItemType)
+unlimited-by : (o : Option MeaningFault) (h : StateRecord) (k : ℕ) (xs : List ItemType)
     → walk_within None h (k + 1) xs ≡ walk h (k + 1) xs
     → go_on (unless_fault o h) k (λ next. walk_within None next (k + 1) xs) ≡ go_on
     (unless_fault o h) k (λ next. walk next (k + 1) xs)
@@ -274,9 +274,9 @@ unlimited-by None h k xs rest = rest
 unlimited-by (Some f) h k xs rest = refl
 
 -- without a limit it is the plain walk
-pub walk-unlimited : (h : Held) (k : ℕ) (xs : List ItemType) → walk_within None h k xs ≡ walk h k xs
+pub walk-unlimited : (h : StateRecord) (k : ℕ) (xs : List ItemType) → walk_within None h k xs ≡ walk h k xs
 walk-unlimited h k [] = refl
 walk-unlimited h k (x ∷ xs) =
-    ap (λ o. go_on (unless_fault o (next_held h x)) k (λ next. walk_within None next (k + 1) xs))
+    ap (λ o. go_on (unless_fault o (next_state h x)) k (λ next. walk_within None next (k + 1) xs))
     (first_of-none (fault_in h x))
-    ∙ unlimited-by (fault_in h x) (next_held h x) k xs (walk-unlimited (next_held h x) (k + 1) xs)
+    ∙ unlimited-by (fault_in h x) (next_state h x) k xs (walk-unlimited (next_state h x) (k + 1) xs)

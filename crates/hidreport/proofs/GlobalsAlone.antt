@@ -7,31 +7,31 @@ use Rattle.hidreport_items.specs.declared.item.ItemType.TheVariants as item
 use Rattle.hidreport_items.specs.declared.global.GlobalItem.TheVariants as global
 use Rattle.hidreport_items.specs.declared.local.LocalItem.{LocalItem}
 use Rattle.hidreport_items.specs.declared.item.ItemType.{ItemType}
-use Rattle.hidreport.specs.InForce.{Force, force, force_globals_only, locals_globals_only}
-use Rattle.hidreport.specs.InForce.{unended_locals}
+use Rattle.hidreport.specs.ItemState.{ItemState, item_state, item_state_globals_only, locals_globals_only}
+use Rattle.hidreport.specs.ItemState.{unended_locals}
 use Rattle.hidreport.specs.Kinds.{is_main, is_push, is_pop}
-use Rattle.hidreport.specs.Parser.Machine.{brought_back, kept_of, last_force, next_force}
+use Rattle.hidreport.specs.Parser.Machine.{after_pop, pushed_copy, last_item_state, next_item_state}
 use Rattle.hidreport.specs.Parser.Machine.{next_locals}
 use Rattle.hidreport.specs.Visibility.{before}
 use Rattle.hidreport.specs.declared.parser.push_keeps.PushKeeps.TheVariants as push_keeps
 use Rattle.hidreport.proofs.AllKept.{all-follows}
 use Rattle.hidreport.proofs.IndexedLemmas.{subst-below}
-use Rattle.hidreport.proofs.LevelLemmas.{kept, length-kept}
+use Rattle.hidreport.proofs.LevelLemmas.{stack, length-stack}
 use Rattle.hidreport.proofs.Walk.{before-next, unended_locals-next}
 use Rattle.hidreport.proofs.WalkLemmas.{Steps, Follows}
 
 -- without its locals
-abbrev pub bare : Force → Force
-bare f = kept_of push_keeps.Globals f
+abbrev pub bare : ItemState → ItemState
+bare f = pushed_copy push_keeps.Globals f
 
 -- what the open Pushes keep
-abbrev pub kept_bare : List ItemType → ℕ → List Force
-kept_bare items k = map bare (kept items k)
+abbrev pub stack_bare : List ItemType → ℕ → List ItemState
+stack_bare items k = map bare (stack items k)
 
 -- the last of them, with these locals
-last-bare : (f g : Force) (ls : List LocalItem) (ts : List Force)
+last-bare : (f g : ItemState) (ls : List LocalItem) (ts : List ItemState)
     → record f { locals = ls } ≡ record g { locals = ls }
-    → record (last_force f (map bare ts)) { locals = ls } ≡ record (last_force g ts) { locals = ls }
+    → record (last_item_state f (map bare ts)) { locals = ls } ≡ record (last_item_state g ts) { locals = ls }
 last-bare f g ls [] e = e
 last-bare f g ls (t ∷ ts) e = last-bare (bare t) t ls ts refl
 
@@ -55,54 +55,54 @@ pop-locals ls item.Long e = cc
 pop-locals ls item.Reserved e = cc
 
 -- what is in force behind an item, by whether it is a Pop
-in-force-by : (b : Bool) (f next : Force) (ls : List LocalItem) (ts : List Force) (x : ItemType)
+in-item_state-by : (b : Bool) (f next : ItemState) (ls : List LocalItem) (ts : List ItemState) (x : ItemType)
     → is_pop x ≡ b
-    → next ≡ cond b (last_force f ts) (next_force f x)
+    → next ≡ cond b (last_item_state f ts) (next_item_state f x)
     → record next { locals = next_locals ls x }
-    ≡ cond b (brought_back push_keeps.Globals (record f { locals = ls })
-    (last_force (record f { locals = ls }) (map bare ts)))
-    (next_force (record f { locals = ls }) x)
-in-force-by true f next ls ts x pop e =
-    ap (λ (g : Force). record g { locals = next_locals ls x }) e
-    ∙ ap (λ (l : List LocalItem). record (last_force f ts) { locals = l }) (pop-locals ls x pop)
+    ≡ cond b (after_pop push_keeps.Globals (record f { locals = ls })
+    (last_item_state (record f { locals = ls }) (map bare ts)))
+    (next_item_state (record f { locals = ls }) x)
+in-item_state-by true f next ls ts x pop e =
+    ap (λ (g : ItemState). record g { locals = next_locals ls x }) e
+    ∙ ap (λ (l : List LocalItem). record (last_item_state f ts) { locals = l }) (pop-locals ls x pop)
     ∙ sym (last-bare (record f { locals = ls }) f ls ts refl)
-in-force-by false f next ls ts x pop e =
-    ap (λ (g : Force). record g { locals = next_locals ls x }) e
+in-item_state-by false f next ls ts x pop e =
+    ap (λ (g : ItemState). record g { locals = next_locals ls x }) e
 
 -- what the open Pushes keep, by the kind of item
-kept-by : (a b : Bool) (f : Force) (ts : List Force)
+stack-by : (a b : Bool) (f : ItemState) (ts : List ItemState)
     → map bare (cond a (take (length ts - 1) ts) (cond b (ts ++ f ∷ []) ts))
     ≡ cond a (take (length (map bare ts) - 1) (map bare ts))
     (cond b (map bare ts ++ bare f ∷ []) (map bare ts))
-kept-by true b f ts = sym (ap (λ n. take (n - 1) (map bare ts)) (length-map ts bare)
+stack-by true b f ts = sym (ap (λ n. take (n - 1) (map bare ts)) (length-map ts bare)
     ∙ take-map bare (length ts - 1) ts)
-kept-by false true f ts = map-append bare ts (f ∷ [])
-kept-by false false f ts = refl
+stack-by false true f ts = map-append bare ts (f ∷ [])
+stack-by false false f ts = refl
 
 globals-step : (items front rest : List ItemType) (x : ItemType) → items ≡ front ++ x ∷ rest
-    → Steps push_keeps.All (force items) (kept items) items (length front) x
-    → Steps push_keeps.Globals (force_globals_only items) (kept_bare items) items (length front) x
+    → Steps push_keeps.All (item_state items) (stack items) items (length front) x
+    → Steps push_keeps.Globals (item_state_globals_only items) (stack_bare items) items (length front) x
 globals-step items front rest x e s =
     let k = length front in
     let ls = locals_globals_only items k in
     record {
-      in_force_next = ap (λ (l : List LocalItem). record (force items (suc k)) { locals = l })
+      item_states_next = ap (λ (l : List LocalItem). record (item_state items (suc k)) { locals = l })
           (locals-next items front rest x e)
-          ∙ in-force-by (is_pop x) (force items k) (force items (suc k)) ls (kept items k) x refl
-          s.in_force_next;
-      kept_next = ap (map bare) s.kept_next
-          ∙ kept-by (is_pop x) (is_push x) (force items k) (kept items k);
+          ∙ in-item_state-by (is_pop x) (item_state items k) (item_state items (suc k)) ls (stack items k) x refl
+          s.item_states_next;
+      stack_next = ap (map bare) s.stack_next
+          ∙ stack-by (is_pop x) (is_push x) (item_state items k) (stack items k);
       rests_next = s.rests_next;
     }
 
 pub globals-follows : (items : List ItemType)
-    → Follows push_keeps.Globals (force_globals_only items) (kept_bare items) items
+    → Follows push_keeps.Globals (item_state_globals_only items) (stack_bare items) items
 globals-follows items =
     let all = all-follows items in
     record {
       begins = refl;
       empty = refl;
-      leveled = λ k. length-map (kept items k) bare ∙ length-kept items k;
+      leveled = λ k. length-map (stack items k) bare ∙ length-stack items k;
       goes_on = λ front rest x e rests deep. globals-step items front rest x e
           (all.goes_on front rest x e rests deep);
     }

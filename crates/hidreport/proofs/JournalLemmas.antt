@@ -4,15 +4,15 @@ use Rattle.std.proofs.Common.{refl, sym, ap, ◌∙◌, arith}
 use Rattle.std.proofs.lemmas.Grind.{common_steps}
 use Rattle.std.proofs.lemmas.List.{reverse-append}
 use Rattle.hidreport_items.specs.declared.local.LocalItem.{LocalItem}
-use Rattle.hidreport.specs.InForce.{Force}
-use Rattle.hidreport.specs.Parser.Forces.{Forces, force_of}
-use Rattle.hidreport.specs.Parser.Journal.{Change, Opened, WasGlobals, WasLocals, Fits, IsCounted}
+use Rattle.hidreport.specs.ItemState.{ItemState}
+use Rattle.hidreport.specs.Parser.ItemStates.{ItemStates, item_state_of}
+use Rattle.hidreport.specs.Parser.Journal.{ChangeRecord, Opened, WasGlobals, WasLocals, Fits, IsCounted}
 use Rattle.hidreport.specs.Parser.Journal.{with_change, undone_stack}
-use Rattle.hidreport.specs.Parser.Machine.{brought_back, kept_of, last_force}
+use Rattle.hidreport.specs.Parser.Machine.{after_pop, pushed_copy, last_item_state}
 use Rattle.hidreport.specs.declared.parser.globals.Globals.{Globals}
 use Rattle.hidreport.specs.declared.parser.push_keeps.PushKeeps.{PushKeeps}
 use Rattle.hidreport.specs.declared.parser.push_keeps.PushKeeps.TheVariants as push_keeps
-use Rattle.hidreport.proofs.DataLemmas.{last_force-end, all-but-last}
+use Rattle.hidreport.proofs.DataLemmas.{last_item_state-end, all-but-last}
 
 take-front : (n : ℕ) (xs ys : List LocalItem) → n ≤ length xs → take n (xs ++ ys) ≡ take n xs
 take-front n xs ys le = grind (arith, common_steps)
@@ -21,25 +21,25 @@ take-all : (xs : List LocalItem) → take (length xs) xs ≡ xs
 take-all xs = grind (arith, common_steps)
 
 -- where Pushes keep no locals, what they keep is the same whatever the locals
-undone-bare : (cs : List Change) (g : Globals) (ls ms : List LocalItem)
+undone-bare : (cs : List ChangeRecord) (g : Globals) (ls ms : List LocalItem)
     → undone_stack push_keeps.Globals cs g ls ≡ undone_stack push_keeps.Globals cs g ms
 undone-bare [] g ls ms = refl
 undone-bare (Opened n ∷ cs) g ls ms =
-    ap (λ (l : List Force). force_of g [] ∷ l) (undone-bare cs g (take n ls) (take n ms))
+    ap (λ (l : List ItemState). item_state_of g [] ∷ l) (undone-bare cs g (take n ls) (take n ms))
 undone-bare (WasGlobals old ∷ cs) g ls ms = undone-bare cs old ls ms
 undone-bare (WasLocals old ∷ cs) g ls ms = refl
 
 -- locals that are added change nothing that is kept
-added-all : (cs : List Change) (g : Globals) (ls more : List LocalItem) → IsCounted cs ls
+added-all : (cs : List ChangeRecord) (g : Globals) (ls more : List LocalItem) → IsCounted cs ls
     → undone_stack push_keeps.All cs g (ls ++ more) ≡ undone_stack push_keeps.All cs g ls
 added-all [] g ls more f = refl
 added-all (Opened n ∷ cs) g ls more f =
-    ap (λ (l : List LocalItem). force_of g l ∷ undone_stack push_keeps.All cs g l)
+    ap (λ (l : List LocalItem). item_state_of g l ∷ undone_stack push_keeps.All cs g l)
     (take-front n ls more f.0)
 added-all (WasGlobals old ∷ cs) g ls more f = added-all cs old ls more f
 added-all (WasLocals old ∷ cs) g ls more f = refl
 
-pub undone-added : (keeping : PushKeeps) (cs : List Change) (g : Globals) (ls more : List LocalItem)
+pub undone-added : (keeping : PushKeeps) (cs : List ChangeRecord) (g : Globals) (ls more : List LocalItem)
     → Fits keeping cs ls → undone_stack keeping cs g (ls ++ more) ≡ undone_stack keeping cs g ls
 undone-added push_keeps.All cs g ls more f = added-all cs g ls more f
 undone-added push_keeps.Globals cs g ls more f = undone-bare cs g (ls ++ more) ls
@@ -49,11 +49,11 @@ longer n ls more le =
     let size : length (ls ++ more) ≡ length ls + length more =
     grind (arith, common_steps) in omega (arith, le, size)
 
-counted-same : (cs : List Change) (ls ms : List LocalItem) → ls ≡ ms → IsCounted cs ls
+counted-same : (cs : List ChangeRecord) (ls ms : List LocalItem) → ls ≡ ms → IsCounted cs ls
     → IsCounted cs ms
 counted-same cs ls ms e f = rw (sym e) f
 
-counted-added : (cs : List Change) (ls more : List LocalItem) → IsCounted cs ls
+counted-added : (cs : List ChangeRecord) (ls more : List LocalItem) → IsCounted cs ls
     → IsCounted cs (ls ++ more)
 counted-added [] ls more f = tt
 counted-added (Opened n ∷ cs) ls more f = (
@@ -64,44 +64,44 @@ counted-added (Opened n ∷ cs) ls more f = (
 counted-added (WasGlobals old ∷ cs) ls more f = counted-added cs ls more f
 counted-added (WasLocals old ∷ cs) ls more f = f
 
-pub fits-added : (keeping : PushKeeps) (cs : List Change) (ls more : List LocalItem)
+pub fits-added : (keeping : PushKeeps) (cs : List ChangeRecord) (ls more : List LocalItem)
     → Fits keeping cs ls → Fits keeping cs (ls ++ more)
 fits-added push_keeps.All cs ls more f = counted-added cs ls more f
 fits-added push_keeps.Globals cs ls more f = tt
 
 -- globals that are set are brought back
-pub undone-set : (keeping : PushKeeps) (cs : List Change) (old new : Globals) (ls : List LocalItem)
+pub undone-set : (keeping : PushKeeps) (cs : List ChangeRecord) (old new : Globals) (ls : List LocalItem)
     → undone_stack keeping (with_change (WasGlobals old) cs) new ls ≡ undone_stack keeping cs old ls
 undone-set keeping [] old new ls = refl
 undone-set keeping (c ∷ cs) old new ls = refl
 
-set-all : (cs : List Change) (old : Globals) (ls : List LocalItem) → IsCounted cs ls
+set-all : (cs : List ChangeRecord) (old : Globals) (ls : List LocalItem) → IsCounted cs ls
     → IsCounted (with_change (WasGlobals old) cs) ls
 set-all [] old ls f = tt
 set-all (c ∷ cs) old ls f = f
 
-pub fits-set : (keeping : PushKeeps) (cs : List Change) (old : Globals) (ls : List LocalItem)
+pub fits-set : (keeping : PushKeeps) (cs : List ChangeRecord) (old : Globals) (ls : List LocalItem)
     → Fits keeping cs ls → Fits keeping (with_change (WasGlobals old) cs) ls
 fits-set push_keeps.All cs old ls f = set-all cs old ls f
 fits-set push_keeps.Globals cs old ls f = tt
 
 -- so are locals that are ended
-pub undone-ended : (keeping : PushKeeps) (cs : List Change) (g : Globals) (ls : List LocalItem)
+pub undone-ended : (keeping : PushKeeps) (cs : List ChangeRecord) (g : Globals) (ls : List LocalItem)
     → undone_stack keeping (with_change (WasLocals ls) cs) g [] ≡ undone_stack keeping cs g ls
 undone-ended keeping [] g ls = refl
 undone-ended keeping (c ∷ cs) g ls = refl
 
-ended-all : (cs : List Change) (ls : List LocalItem) → IsCounted cs ls
+ended-all : (cs : List ChangeRecord) (ls : List LocalItem) → IsCounted cs ls
     → IsCounted (with_change (WasLocals ls) cs) []
 ended-all [] ls f = tt
 ended-all (c ∷ cs) ls f = f
 
-pub fits-ended : (keeping : PushKeeps) (cs : List Change) (ls : List LocalItem) → Fits keeping cs ls
+pub fits-ended : (keeping : PushKeeps) (cs : List ChangeRecord) (ls : List LocalItem) → Fits keeping cs ls
     → Fits keeping (with_change (WasLocals ls) cs) []
 fits-ended push_keeps.All cs ls f = ended-all cs ls f
 fits-ended push_keeps.Globals cs ls f = tt
 
-pub fits-pushed : (keeping : PushKeeps) (cs : List Change) (ls : List LocalItem) → Fits keeping cs ls
+pub fits-pushed : (keeping : PushKeeps) (cs : List ChangeRecord) (ls : List LocalItem) → Fits keeping cs ls
     → Fits keeping (Opened (length ls) ∷ cs) ls
 fits-pushed push_keeps.All cs ls f =
     (omega arith, counted-same cs ls (take (length ls) ls) (sym (take-all ls)) f)
@@ -110,63 +110,63 @@ fits-pushed push_keeps.Globals cs ls f = tt
 -- a Pop takes back what was noted behind its Push, newest change first
 
 -- where Pushes keep no locals, ended locals are passed over
-pub passed-over : (keeping : PushKeeps) (cs rest : List Change) (g : Globals)
-    (ls old : List LocalItem) (kept : List Force) → keeping ≡ push_keeps.Globals
+pub passed-over : (keeping : PushKeeps) (cs rest : List ChangeRecord) (g : Globals)
+    (ls old : List LocalItem) (stack : List ItemState) → keeping ≡ push_keeps.Globals
     → cs ≡ WasLocals old ∷ rest
-    → undone_stack keeping cs g ls ≡ kept → (undone_stack keeping rest g ls ≡ kept) × Fits keeping rest ls
-passed-over push_keeps.All cs rest g ls old kept is newest same = cc
-passed-over push_keeps.Globals cs rest g ls old kept is newest same = (
+    → undone_stack keeping cs g ls ≡ stack → (undone_stack keeping rest g ls ≡ stack) × Fits keeping rest ls
+passed-over push_keeps.All cs rest g ls old stack is newest same = cc
+passed-over push_keeps.Globals cs rest g ls old stack is newest same = (
   undone-bare rest g ls old
-      ∙ ap (λ (l : List Change). undone_stack push_keeps.Globals l g ls) (sym newest) ∙ same,
+      ∙ ap (λ (l : List ChangeRecord). undone_stack push_keeps.Globals l g ls) (sym newest) ∙ same,
   tt,
 )
 
 -- what the Pop brings back, where Pushes keep locals
-pub back-all : (keeping : PushKeeps) (now f : Force) → keeping ≡ push_keeps.All
-    → f ≡ brought_back keeping now (kept_of keeping f)
+pub back-all : (keeping : PushKeeps) (now f : ItemState) → keeping ≡ push_keeps.All
+    → f ≡ after_pop keeping now (pushed_copy keeping f)
 back-all push_keeps.All now f is = refl
 back-all push_keeps.Globals now f is = cc
 
 -- and where they don't
-pub back-globals : (keeping : PushKeeps) (now : Force) (g : Globals) (ls xs : List LocalItem)
+pub back-globals : (keeping : PushKeeps) (now : ItemState) (g : Globals) (ls xs : List LocalItem)
     → keeping ≡ push_keeps.Globals → ls ≡ now.locals
-    → force_of g ls ≡ brought_back keeping now (kept_of keeping (force_of g xs))
+    → item_state_of g ls ≡ after_pop keeping now (pushed_copy keeping (item_state_of g xs))
 back-globals push_keeps.All now g ls xs is same = cc
-back-globals push_keeps.Globals now g ls xs is same = ap (λ (l : List LocalItem). force_of g l) same
+back-globals push_keeps.Globals now g ls xs is same = ap (λ (l : List LocalItem). item_state_of g l) same
 
-pub same-bare : (keeping : PushKeeps) (cs : List Change) (g : Globals) (ls ms : List LocalItem)
+pub same-bare : (keeping : PushKeeps) (cs : List ChangeRecord) (g : Globals) (ls ms : List LocalItem)
     → keeping ≡ push_keeps.Globals → undone_stack keeping cs g ls ≡ undone_stack keeping cs g ms
 same-bare push_keeps.All cs g ls ms is = cc
 same-bare push_keeps.Globals cs g ls ms is = undone-bare cs g ls ms
 
-abbrev pub forces : PushKeeps → Force → List Force → Forces
-forces keeping now kept = record { keeping = keeping; now = now; kept = kept }
+abbrev pub item_states : PushKeeps → ItemState → List ItemState → ItemStates
+item_states keeping now stack = record { keeping = keeping; now = now; stack = stack }
 
 -- behind the Push's own note
-pub popped : (old : Forces) (keeping : PushKeeps) (now back : Force) (cs rest : List Change)
-    (g : Globals) (ls ms : List LocalItem) (n : ℕ) (kept : List Force)
-    → forces keeping now (reverse kept) ≡ old → cs ≡ Opened n ∷ rest → undone_stack keeping cs g ls ≡ kept
-    → back ≡ brought_back keeping now (kept_of keeping (force_of g (take n ls)))
+pub popped : (old : ItemStates) (keeping : PushKeeps) (now back : ItemState) (cs rest : List ChangeRecord)
+    (g : Globals) (ls ms : List LocalItem) (n : ℕ) (stack : List ItemState)
+    → item_states keeping now (reverse stack) ≡ old → cs ≡ Opened n ∷ rest → undone_stack keeping cs g ls ≡ stack
+    → back ≡ after_pop keeping now (pushed_copy keeping (item_state_of g (take n ls)))
     → undone_stack keeping rest g ms ≡ undone_stack keeping rest g (take n ls)
-    → forces keeping back (reverse (undone_stack keeping rest g ms))
-    ≡ forces old.keeping (brought_back old.keeping old.now (last_force old.now old.kept))
-    (take (length old.kept - 1) old.kept)
-popped old keeping now back cs rest g ls ms n kept is newest same brought bare =
-    let f = kept_of keeping (force_of g (take n ls)) in
+    → item_states keeping back (reverse (undone_stack keeping rest g ms))
+    ≡ item_states old.keeping (after_pop old.keeping old.now (last_item_state old.now old.stack))
+    (take (length old.stack - 1) old.stack)
+popped old keeping now back cs rest g ls ms n stack is newest same brought bare =
+    let f = pushed_copy keeping (item_state_of g (take n ls)) in
     let fs = undone_stack keeping rest g (take n ls) in
-    let all : reverse fs ++ f ∷ [] ≡ reverse kept =
+    let all : reverse fs ++ f ∷ [] ≡ reverse stack =
     sym (reverse-append (f ∷ []) fs)
-    ∙ ap (λ (l : List Force). reverse l)
-    (ap (λ (l : List Change). undone_stack keeping l g ls) (sym newest) ∙ same) in
-    let after : List Force → Forces =
-    λ l. forces keeping (brought_back keeping now (last_force now l)) (take (length l - 1) l) in
-    let behind : Forces → Forces =
-    λ o. forces o.keeping (brought_back o.keeping o.now (last_force o.now o.kept))
-    (take (length o.kept - 1) o.kept) in
-    ap (λ (l : List Force). forces keeping back (reverse l)) bare
-    ∙ ap (λ (x : Force). forces keeping x (reverse fs))
-    (brought ∙ ap (brought_back keeping now) (sym (last_force-end now f (reverse fs))))
-    ∙ ap (λ (l : List Force). forces keeping
-    (brought_back keeping now (last_force now (reverse fs ++ f ∷ []))) l)
+    ∙ ap (λ (l : List ItemState). reverse l)
+    (ap (λ (l : List ChangeRecord). undone_stack keeping l g ls) (sym newest) ∙ same) in
+    let after : List ItemState → ItemStates =
+    λ l. item_states keeping (after_pop keeping now (last_item_state now l)) (take (length l - 1) l) in
+    let behind : ItemStates → ItemStates =
+    λ o. item_states o.keeping (after_pop o.keeping o.now (last_item_state o.now o.stack))
+    (take (length o.stack - 1) o.stack) in
+    ap (λ (l : List ItemState). item_states keeping back (reverse l)) bare
+    ∙ ap (λ (x : ItemState). item_states keeping x (reverse fs))
+    (brought ∙ ap (after_pop keeping now) (sym (last_item_state-end now f (reverse fs))))
+    ∙ ap (λ (l : List ItemState). item_states keeping
+    (after_pop keeping now (last_item_state now (reverse fs ++ f ∷ []))) l)
     (sym (all-but-last f (reverse fs)))
     ∙ ap after all ∙ ap behind is

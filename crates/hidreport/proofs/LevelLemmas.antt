@@ -7,15 +7,15 @@ use Rattle.std.proofs.lemmas.Grind.{common_steps}
 use Rattle.std.proofs.lemmas.List.{map-append, take-map}
 use Rattle.std.proofs.lemmas.List.Elements.{filter-append}
 use Rattle.hidreport_items.specs.declared.item.ItemType.{ItemType}
-use Rattle.hidreport.specs.InForce.{Force, force}
+use Rattle.hidreport.specs.ItemState.{ItemState, item_state}
 use Rattle.hidreport.specs.Kinds.{Indexed, is_push, is_pop}
-use Rattle.hidreport.specs.Parser.Machine.{next_force, last_force}
+use Rattle.hidreport.specs.Parser.Machine.{next_item_state, last_item_state}
 use Rattle.hidreport.specs.Visibility.{before, level, stays_up, is_visible, visible}
-use Rattle.hidreport.proofs.DataLemmas.{last_force-end}
+use Rattle.hidreport.proofs.DataLemmas.{last_item_state-end}
 use Rattle.hidreport.proofs.IndexedLemmas.{count_up, length-count_up, count_up-next, take-count_up}
 use Rattle.hidreport.proofs.IndexedLemmas.{filter-both, filter-same-below, and_last, and_true}
 use Rattle.hidreport.proofs.IndexedLemmas.{subst-below}
-use Rattle.hidreport.proofs.Walk.{before-next, count-next, in_force, in_force-next, AreBelow}
+use Rattle.hidreport.proofs.Walk.{before-next, count-next, item_states, item_states-next, AreBelow}
 
 -- whether an item is visible one place further
 is_visible-next : (items : List ItemType) (j k : ℕ) → j < k
@@ -144,14 +144,14 @@ up_to-more items n ps p lt =
     ∙ ap (λ b. up_to items n ps ++ cond b (p ∷ []) []) above ∙ append-nil (up_to items n ps)
 
 -- what was in force at the level n
-abbrev pub force_at : List ItemType → ℕ → ℕ → Force
-force_at items k n = in_force (up_to items n (visible items k))
+abbrev pub item_state_at : List ItemType → ℕ → ℕ → ItemState
+item_state_at items k n = item_states (up_to items n (visible items k))
 
-map-count_up : (f g : ℕ → Force) (a n : ℕ) → ((i : ℕ) → i < a + n → f i ≡ g i)
+map-count_up : (f g : ℕ → ItemState) (a n : ℕ) → ((i : ℕ) → i < a + n → f i ≡ g i)
     → map f (count_up a n) ≡ map g (count_up a n)
 map-count_up f g a zero h = refl
 map-count_up f g a (suc n) h =
-    ap (λ (x : Force). x ∷ map f (count_up (a + 1) n)) (h a (omega arith))
+    ap (λ (x : ItemState). x ∷ map f (count_up (a + 1) n)) (h a (omega arith))
     ∙ ap (λ l. g a ∷ l) (map-count_up f g (a + 1) n (λ i lt. h i (omega arith)))
 
 -- what is visible is of the level or below, and no more Pops than Pushes came
@@ -164,12 +164,12 @@ pub rests-nothing : (items : List ItemType) → Rests items 0
 rests-nothing items = record { low = tt; below = tt; balanced = omega arith }
 
 -- what the open Pushes keep
-abbrev pub kept : List ItemType → ℕ → List Force
-kept items k = map (force_at items k) (count_up 0 (level items k))
+abbrev pub stack : List ItemType → ℕ → List ItemState
+stack items k = map (item_state_at items k) (count_up 0 (level items k))
 
-pub length-kept : (items : List ItemType) (k : ℕ) → length (kept items k) ≡ level items k
-length-kept items k =
-    let size : length (kept items k) ≡ length (count_up 0 (level items k)) =
+pub length-stack : (items : List ItemType) (k : ℕ) → length (stack items k) ≡ level items k
+length-stack items k =
+    let size : length (stack items k) ≡ length (count_up 0 (level items k)) =
     grind (arith, common_steps) in
     size ∙ length-count_up 0 (level items k)
 
@@ -196,8 +196,8 @@ below-later k (q ∷ ps) below = (omega (arith, below.0), below-later k ps below
 
 -- what is in force behind such an item, and what it leaves of the levels below it
 record Risen (items : List ItemType) (k : ℕ) (x : ItemType) : Type 0 where
-  pub goes_on : force items (suc k) ≡ next_force (force items k) x
-  pub older : (n : ℕ) → n < level items k → force_at items (suc k) n ≡ force_at items k n
+  pub goes_on : item_state items (suc k) ≡ next_item_state (item_state items k) x
+  pub older : (n : ℕ) → n < level items k → item_state_at items (suc k) n ≡ item_state_at items k n
   pub rests : Rests items (suc k)
 
 risen : (items front rest : List ItemType) (x : ItemType) → items ≡ front ++ x ∷ rest
@@ -208,8 +208,8 @@ risen items front rest x e r le balanced =
     let k = length front in
     let all = risen-visible items front rest x e r le in
     record {
-      goes_on = ap in_force all ∙ in_force-next (visible items k) k x r.below;
-      older = λ n lt. ap in_force (ap (up_to items n) all
+      goes_on = ap item_states all ∙ item_states-next (visible items k) k x r.below;
+      older = λ n lt. ap item_states (ap (up_to items n) all
           ∙ up_to-more items n (visible items k) (k, x) lt);
       rests = record {
         low = subst (λ (l : List Indexed). AreLow items (level items (suc k)) l) (sym all)
@@ -222,16 +222,16 @@ risen items front rest x e r le balanced =
     }
 
 -- a step: what is in force, what is kept, and that it rests
-pub record Stepped (items : List ItemType) (k : ℕ) (f : Force) (saved : List Force) : Type 0 where
-  pub in_force_next : force items (suc k) ≡ f
-  pub kept_next : kept items (suc k) ≡ saved
+pub record Stepped (items : List ItemType) (k : ℕ) (f : ItemState) (saved : List ItemState) : Type 0 where
+  pub item_states_next : item_state items (suc k) ≡ f
+  pub stack_next : stack items (suc k) ≡ saved
   pub rests_next : Rests items (suc k)
 
 -- an item that is neither Push nor Pop
 pub plain-step : (items front rest : List ItemType) (x : ItemType) → items ≡ front ++ x ∷ rest
     → Rests items (length front) → is_push x ≡ false → is_pop x ≡ false
-    → Stepped items (length front) (next_force (force items (length front)) x)
-    (kept items (length front))
+    → Stepped items (length front) (next_item_state (item_state items (length front)) x)
+    (stack items (length front))
 plain-step items front rest x e r no_push no_pop =
     let k = length front in
     let pushes = count-next is_push items front rest x e
@@ -242,9 +242,9 @@ plain-step items front rest x e r no_push no_pop =
     let up = risen items front rest x e r (omega (arith, same))
     (omega (arith, pushes, pops, r.balanced)) in
     record {
-      in_force_next = up.goes_on;
-      kept_next = ap (λ n. map (force_at items (suc k)) (count_up 0 n)) same
-          ∙ map-count_up (force_at items (suc k)) (force_at items k) 0 (level items k)
+      item_states_next = up.goes_on;
+      stack_next = ap (λ n. map (item_state_at items (suc k)) (count_up 0 n)) same
+          ∙ map-count_up (item_state_at items (suc k)) (item_state_at items k) 0 (level items k)
           (λ i lt. up.older i (omega (arith, lt)));
       rests_next = up.rests;
     }
@@ -252,9 +252,9 @@ plain-step items front rest x e r no_push no_pop =
 -- a Push
 pub push-step : (items front rest : List ItemType) (x : ItemType) → items ≡ front ++ x ∷ rest
     → Rests items (length front) → is_push x ≡ true → is_pop x ≡ false
-    → next_force (force items (length front)) x ≡ force items (length front)
-    → Stepped items (length front) (next_force (force items (length front)) x)
-    (kept items (length front) ++ force items (length front) ∷ [])
+    → next_item_state (item_state items (length front)) x ≡ item_state items (length front)
+    → Stepped items (length front) (next_item_state (item_state items (length front)) x)
+    (stack items (length front) ++ item_state items (length front) ∷ [])
 push-step items front rest x e r push no_pop unchanged =
     let k = length front in
     let pushes = count-next is_push items front rest x e
@@ -266,22 +266,22 @@ push-step items front rest x e r push no_pop unchanged =
     let up = risen items front rest x e r (omega (arith, higher))
     (omega (arith, pushes, pops, r.balanced)) in
     let all = risen-visible items front rest x e r (omega (arith, higher)) in
-    let own : force_at items (suc k) (level items k) ≡ force items k =
-    ap in_force (ap (up_to items (level items k)) all
+    let own : item_state_at items (suc k) (level items k) ≡ item_state items k =
+    ap item_states (ap (up_to items (level items k)) all
     ∙ low-all items (level items k) (visible items k ++ (k, x) ∷ [])
     (low-more items (level items k) (visible items k) (k, x) r.low (omega arith)) ∙ sym all)
     ∙ up.goes_on ∙ unchanged in
     record {
-      in_force_next = up.goes_on;
-      kept_next = ap (λ n. map (force_at items (suc k)) (count_up 0 n)) higher
-          ∙ ap (map (force_at items (suc k))) (count_up-next 0 (level items k))
-          ∙ map-append (force_at items (suc k)) (count_up 0 (level items k))
+      item_states_next = up.goes_on;
+      stack_next = ap (λ n. map (item_state_at items (suc k)) (count_up 0 n)) higher
+          ∙ ap (map (item_state_at items (suc k))) (count_up-next 0 (level items k))
+          ∙ map-append (item_state_at items (suc k)) (count_up 0 (level items k))
           ((0 + level items k) ∷ [])
-          ∙ ap (λ l. l ++ force_at items (suc k) (0 + level items k) ∷ [])
-          (map-count_up (force_at items (suc k)) (force_at items k) 0 (level items k)
+          ∙ ap (λ l. l ++ item_state_at items (suc k) (0 + level items k) ∷ [])
+          (map-count_up (item_state_at items (suc k)) (item_state_at items k) 0 (level items k)
           (λ i lt. up.older i (omega (arith, lt))))
-          ∙ ap (λ n. kept items k ++ force_at items (suc k) n ∷ []) (zero-add (level items k))
-          ∙ ap (λ (f : Force). kept items k ++ f ∷ []) own;
+          ∙ ap (λ n. stack items k ++ item_state_at items (suc k) n ∷ []) (zero-add (level items k))
+          ∙ ap (λ (f : ItemState). stack items k ++ f ∷ []) own;
       rests_next = up.rests;
     }
 
@@ -289,9 +289,9 @@ push-step items front rest x e r push no_pop unchanged =
 pub pop-step : (items front rest : List ItemType) (x : ItemType) → items ≡ front ++ x ∷ rest
     → Rests items (length front) → is_push x ≡ false → is_pop x ≡ true
     → 0 < level items (length front)
-    → (f : Force)
-    → Stepped items (length front) (last_force f (kept items (length front)))
-    (take (length (kept items (length front)) - 1) (kept items (length front)))
+    → (f : ItemState)
+    → Stepped items (length front) (last_item_state f (stack items (length front)))
+    (take (length (stack items (length front)) - 1) (stack items (length front)))
 pop-step items front rest x e r no_push pop deep f =
     let k = length front in
     let pushes = count-next is_push items front rest x e
@@ -307,27 +307,27 @@ pop-step items front rest x e r no_push pop deep f =
     ∙ ap (λ b. up_to items (level items (suc k)) (visible items k) ++ cond b ((k, x) ∷ []) [])
     hidden
     ∙ append-nil (up_to items (level items (suc k)) (visible items k)) in
-    let ended : kept items k ≡ map (force_at items k) (count_up 0 (level items (suc k))) ++ force_at
+    let ended : stack items k ≡ map (item_state_at items k) (count_up 0 (level items (suc k))) ++ item_state_at
     items k (level items (suc k)) ∷ [] =
-    ap (λ n. map (force_at items k) (count_up 0 n)) more
-    ∙ ap (map (force_at items k)) (count_up-next 0 (level items (suc k)))
-    ∙ map-append (force_at items k) (count_up 0 (level items (suc k)))
+    ap (λ n. map (item_state_at items k) (count_up 0 n)) more
+    ∙ ap (map (item_state_at items k)) (count_up-next 0 (level items (suc k)))
+    ∙ map-append (item_state_at items k) (count_up 0 (level items (suc k)))
     ((0 + level items (suc k)) ∷ [])
-    ∙ ap (λ n. map (force_at items k) (count_up 0 (level items (suc k))) ++ force_at items k n ∷ [])
+    ∙ ap (λ n. map (item_state_at items k) (count_up 0 (level items (suc k))) ++ item_state_at items k n ∷ [])
     (zero-add (level items (suc k))) in
-    let fewer : length (kept items k) - 1 ≡ level items (suc k) =
-    omega (arith, length-kept items k, more) in
+    let fewer : length (stack items k) - 1 ≡ level items (suc k) =
+    omega (arith, length-stack items k, more) in
     record {
-      in_force_next = ap in_force all
-          ∙ sym (ap (last_force f) ended
-          ∙ last_force-end f (force_at items k (level items (suc k)))
-          (map (force_at items k) (count_up 0 (level items (suc k)))));
-      kept_next = map-count_up (force_at items (suc k)) (force_at items k) 0 (level items (suc k))
-          (λ i lt. ap in_force (ap (up_to items i) all
+      item_states_next = ap item_states all
+          ∙ sym (ap (last_item_state f) ended
+          ∙ last_item_state-end f (item_state_at items k (level items (suc k)))
+          (map (item_state_at items k) (count_up 0 (level items (suc k)))));
+      stack_next = map-count_up (item_state_at items (suc k)) (item_state_at items k) 0 (level items (suc k))
+          (λ i lt. ap item_states (ap (up_to items i) all
           ∙ up_to-twice items i (level items (suc k)) (visible items k) (omega (arith, lt))))
-          ∙ sym (ap (λ n. take n (kept items k)) fewer
-          ∙ take-map (force_at items k) (level items (suc k)) (count_up 0 (level items k))
-          ∙ ap (map (force_at items k)) (take-count_up (level items (suc k)) 0 (level items k)
+          ∙ sym (ap (λ n. take n (stack items k)) fewer
+          ∙ take-map (item_state_at items k) (level items (suc k)) (count_up 0 (level items k))
+          ∙ ap (map (item_state_at items k)) (take-count_up (level items (suc k)) 0 (level items k)
           (omega (arith, more))));
       rests_next = record {
         low = subst (λ (l : List Indexed). AreLow items (level items (suc k)) l) (sym all)

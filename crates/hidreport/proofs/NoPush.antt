@@ -11,14 +11,14 @@ use Rattle.hidreport_items.specs.declared.item.ItemType.TheVariants as item
 use Rattle.hidreport_lists.specs.Entry.{Entry}
 use Rattle.hidreport_lists.specs.Itemising.{itemise}
 use Rattle.hidreport_lists.specs.Rebuilt.{items_of}
-use Rattle.hidreport.specs.InForce.{Force, force, force_globals_only}
+use Rattle.hidreport.specs.ItemState.{ItemState, item_state, item_state_globals_only}
 use Rattle.hidreport.specs.Faults.{item_fault}
 use Rattle.hidreport.specs.Kinds.{Direction, Input, Output, Feature, data_of, is_push, is_pop}
 use Rattle.hidreport.specs.Meaning.{at_offset, meaning, meaning_globals_only, parse}
 use Rattle.hidreport.specs.Meaning.{parse_globals_only, parse_items}
 use Rattle.hidreport.specs.MeaningFault.{MeaningFault, TooManyPops}
-use Rattle.hidreport.specs.Parser.Machine.{Held, brought_back, fault_in, go_on, kept_of, last_force}
-use Rattle.hidreport.specs.Parser.Machine.{next_force, next_held, nothing_held, start_for}
+use Rattle.hidreport.specs.Parser.Machine.{StateRecord, after_pop, fault_in, go_on, pushed_copy, last_item_state}
+use Rattle.hidreport.specs.Parser.Machine.{next_item_state, next_state, first_state, start_for}
 use Rattle.hidreport.specs.Parser.Machine.{unless_fault, walk}
 use Rattle.hidreport.specs.Segments.{HasNoPush}
 use Rattle.hidreport.specs.declared.parser.push_keeps.PushKeeps.{PushKeeps}
@@ -27,34 +27,34 @@ use Rattle.hidreport.proofs.Readings.{walk-meaning}
 use Rattle.hidreport.proofs.Reports.{or_cases}
 
 -- the same held, where a Push keeps this
-abbrev as_kept : PushKeeps → Held → Held
+abbrev as_kept : PushKeeps → StateRecord → StateRecord
 as_kept keeping h = record h { keeping = keeping }
 
-start-same : (o : Option (Direction × Flags)) (keeping : PushKeeps) (h : Held)
+start-same : (o : Option (Direction × Flags)) (keeping : PushKeeps) (h : StateRecord)
     → start_for o (as_kept keeping h) ≡ start_for o h
 start-same None keeping h = refl
 start-same (Some (Input, flags)) keeping h = refl
 start-same (Some (Output, flags)) keeping h = refl
 start-same (Some (Feature, flags)) keeping h = refl
 
-fault-same : (keeping : PushKeeps) (h : Held) (x : ItemType)
+fault-same : (keeping : PushKeeps) (h : StateRecord) (x : ItemType)
     → fault_in (as_kept keeping h) x ≡ fault_in h x
 fault-same keeping h x =
     ap (λ (n : ℕ). item_fault (record {
-      level = length h.kept;
+      level = length h.stack;
       depth = length h.opened;
       collections = h.collections;
       fields =
           h.fields;
       start = n;
-    }) h.force x)
+    }) h.item_state x)
     (start-same (data_of x) keeping h)
 
 -- a Pop without a Push is a fault
-pop-fault : (h : Held) (x : ItemType) → is_pop x ≡ true → h.kept ≡ []
+pop-fault : (h : StateRecord) (x : ItemType) → is_pop x ≡ true → h.stack ≡ []
     → fault_in h x ≡ Some TooManyPops
 pop-fault h (item.Global global.Pop) pop none =
-    ap (λ (l : List Force). cond (length l == 0) (Some TooManyPops) None) none
+    ap (λ (l : List ItemState). cond (length l == 0) (Some TooManyPops) None) none
 pop-fault h (item.Global g) pop none = cc
 pop-fault h (item.Main y) pop none = cc
 pop-fault h (item.Local y) pop none = cc
@@ -62,54 +62,54 @@ pop-fault h item.Long pop none = cc
 pop-fault h item.Reserved pop none = cc
 
 -- any other item leaves the same behind
-next-same : (keeping : PushKeeps) (h : Held) (x : ItemType) → is_push x ≡ false → is_pop x ≡ false
-    → next_held (as_kept keeping h) x ≡ as_kept keeping
-    (record (next_held h x) { force = next_force h.force x; kept = h.kept })
+next-same : (keeping : PushKeeps) (h : StateRecord) (x : ItemType) → is_push x ≡ false → is_pop x ≡ false
+    → next_state (as_kept keeping h) x ≡ as_kept keeping
+    (record (next_state h x) { item_state = next_item_state h.item_state x; stack = h.stack })
 next-same keeping h x push pop =
-    let n = next_held h x in
-    let made : Force → List Force
-    → Held = λ f l. record n { keeping = keeping; force = f; kept = l } in
-    ap (λ b. made (cond b (brought_back keeping h.force (last_force h.force h.kept))
-    (next_force h.force x))
-    (cond b (take (length h.kept - 1) h.kept)
-    (cond (is_push x) (h.kept ++ kept_of keeping h.force ∷ []) h.kept))) pop
-    ∙ ap (λ b. made (next_force h.force x) (cond b (h.kept ++ kept_of keeping h.force ∷ []) h.kept))
+    let n = next_state h x in
+    let made : ItemState → List ItemState
+    → StateRecord = λ f l. record n { keeping = keeping; item_state = f; stack = l } in
+    ap (λ b. made (cond b (after_pop keeping h.item_state (last_item_state h.item_state h.stack))
+    (next_item_state h.item_state x))
+    (cond b (take (length h.stack - 1) h.stack)
+    (cond (is_push x) (h.stack ++ pushed_copy keeping h.item_state ∷ []) h.stack))) pop
+    ∙ ap (λ b. made (next_item_state h.item_state x) (cond b (h.stack ++ pushed_copy keeping h.item_state ∷ []) h.stack))
     push
 
-abbrev Same : Held → ℕ → List ItemType → Type 0
+abbrev Same : StateRecord → ℕ → List ItemType → Type 0
 Same h k xs = walk (as_kept push_keeps.Globals h) k xs ≡ walk (as_kept push_keeps.All h) k xs
 
-same-by : (o : Option MeaningFault) (h : Held) (k : ℕ) (x : ItemType) (xs : List ItemType)
+same-by : (o : Option MeaningFault) (h : StateRecord) (k : ℕ) (x : ItemType) (xs : List ItemType)
     → fault_in h x ≡ o → is_push x ≡ false → is_pop x ≡ false
-    → Same (record (next_held h x) { force = next_force h.force x; kept = h.kept }) (k + 1) xs
+    → Same (record (next_state h x) { item_state = next_item_state h.item_state x; stack = h.stack }) (k + 1) xs
     → Same h k (x ∷ xs)
 same-by (Some f) h k x xs fault push pop later =
-    ap (λ o. go_on (unless_fault o (next_held (as_kept push_keeps.Globals h) x)) k
+    ap (λ o. go_on (unless_fault o (next_state (as_kept push_keeps.Globals h) x)) k
     (λ n. walk n (k + 1) xs)) (fault-same push_keeps.Globals h x ∙ fault)
-    ∙ sym (ap (λ o. go_on (unless_fault o (next_held (as_kept push_keeps.All h) x)) k
+    ∙ sym (ap (λ o. go_on (unless_fault o (next_state (as_kept push_keeps.All h) x)) k
     (λ n. walk n (k + 1) xs)) (fault-same push_keeps.All h x ∙ fault))
 same-by None h k x xs fault push pop later =
-    ap (λ o. go_on (unless_fault o (next_held (as_kept push_keeps.Globals h) x)) k
+    ap (λ o. go_on (unless_fault o (next_state (as_kept push_keeps.Globals h) x)) k
     (λ n. walk n (k + 1) xs)) (fault-same push_keeps.Globals h x ∙ fault)
     ∙ ap (λ n. walk n (k + 1) xs) (next-same push_keeps.Globals h x push pop) ∙ later
-    ∙ sym (ap (λ o. go_on (unless_fault o (next_held (as_kept push_keeps.All h) x)) k
+    ∙ sym (ap (λ o. go_on (unless_fault o (next_state (as_kept push_keeps.All h) x)) k
     (λ n. walk n (k + 1) xs)) (fault-same push_keeps.All h x ∙ fault)
     ∙ ap (λ n. walk n (k + 1) xs) (next-same push_keeps.All h x push pop))
 
-same-item : (b : Bool) (h : Held) (k : ℕ) (x : ItemType) (xs : List ItemType) → h.kept ≡ []
+same-item : (b : Bool) (h : StateRecord) (k : ℕ) (x : ItemType) (xs : List ItemType) → h.stack ≡ []
     → is_push x ≡ false → is_pop x ≡ b
-    → ((h : Held) → h.kept ≡ [] → Same h (k + 1) xs) → Same h k (x ∷ xs)
+    → ((h : StateRecord) → h.stack ≡ [] → Same h (k + 1) xs) → Same h k (x ∷ xs)
 same-item true h k x xs none push pop later =
     let fault = pop-fault h x pop none in
-    ap (λ o. go_on (unless_fault o (next_held (as_kept push_keeps.Globals h) x)) k
+    ap (λ o. go_on (unless_fault o (next_state (as_kept push_keeps.Globals h) x)) k
     (λ n. walk n (k + 1) xs)) (fault-same push_keeps.Globals h x ∙ fault)
-    ∙ sym (ap (λ o. go_on (unless_fault o (next_held (as_kept push_keeps.All h) x)) k
+    ∙ sym (ap (λ o. go_on (unless_fault o (next_state (as_kept push_keeps.All h) x)) k
     (λ n. walk n (k + 1) xs)) (fault-same push_keeps.All h x ∙ fault))
 same-item false h k x xs none push pop later =
     same-by (fault_in h x) h k x xs refl push pop
-    (later (record (next_held h x) { force = next_force h.force x; kept = h.kept }) none)
+    (later (record (next_state h x) { item_state = next_item_state h.item_state x; stack = h.stack }) none)
 
-same-walk : (h : Held) (k : ℕ) (xs : List ItemType) → h.kept ≡ [] → HasNoPush xs → Same h k xs
+same-walk : (h : StateRecord) (k : ℕ) (xs : List ItemType) → h.stack ≡ [] → HasNoPush xs → Same h k xs
 same-walk h k [] none no_push = refl
 same-walk h k (x ∷ xs) none no_push =
     let parts = or_cases (is_push x) (list_any is_push xs) no_push in
@@ -119,7 +119,7 @@ meaning-same : (items : List ItemType) → HasNoPush items
     → meaning_globals_only items ≡ meaning items
 meaning-same items no_push =
     sym (walk-meaning push_keeps.Globals items)
-    ∙ same-walk (nothing_held push_keeps.All) 0 items refl no_push
+    ∙ same-walk (first_state push_keeps.All) 0 items refl no_push
     ∙ walk-meaning push_keeps.All items
 
 -- the two readings of a descriptor's bytes agree
@@ -127,6 +127,6 @@ pub parse-same : (bytes : List ℕ) (entries : List Entry) → itemise item_of b
     → HasNoPush (items_of entries) → parse_globals_only bytes ≡ parse bytes
 parse-same [] entries e no_push = refl
 parse-same (b ∷ bs) entries e no_push =
-    ap (parse_items force_globals_only) e
+    ap (parse_items item_state_globals_only) e
     ∙ ap (at_offset entries) (meaning-same (items_of entries) no_push)
-    ∙ sym (ap (parse_items force) e)
+    ∙ sym (ap (parse_items item_state) e)

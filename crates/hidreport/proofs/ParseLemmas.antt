@@ -12,12 +12,12 @@ use Rattle.hidreport_lists.specs.Messages.{grammar_message}
 use Rattle.hidreport_lists.specs.declared.error.ParserError.{ParserError}
 use Rattle.hidreport_lists.specs.declared.error.ParserError.TheVariants as errors
 use Rattle.hidreport.specs.Budget.{parse_items_within}
-use Rattle.hidreport.specs.InForce.{first_of}
+use Rattle.hidreport.specs.ItemState.{first_of}
 use Rattle.hidreport.specs.MeaningFault.{MeaningFault}
 use Rattle.hidreport.specs.Parser.Budget.{is_past, left_behind, past_fault, stop_in, walk_bytes}
 use Rattle.hidreport.specs.Parser.Budget.{walk_items, walk_within, weight_in}
-use Rattle.hidreport.specs.Parser.Machine.{Held, fault_in, next_held, unless_fault, step, go_on}
-use Rattle.hidreport.specs.Parser.Machine.{nothing_held}
+use Rattle.hidreport.specs.Parser.Machine.{StateRecord, fault_in, next_state, unless_fault, step, go_on}
+use Rattle.hidreport.specs.Parser.Machine.{first_state}
 use Rattle.hidreport.specs.Meaning.{parse_by, parse_items, at_offset, offset_at, refusal_at}
 use Rattle.hidreport.specs.Records.{DescriptorRecord}
 use Rattle.hidreport.specs.Parser.Refusals.{IsFaultOf, IsRefusal, fault_named}
@@ -51,24 +51,24 @@ drop-end [] (suc i) le = refl
 drop-end (x ∷ xs) zero le = absurd (omega arith)
 drop-end (x ∷ xs) (suc i) le = let less : length xs ≤ i = omega arith in drop-end xs i less
 
-abbrev step_of : Result Held MeaningFault → Result Held MeaningFault
+abbrev step_of : Result StateRecord MeaningFault → Result StateRecord MeaningFault
 step_of r = r
 
 -- an item that stops the walk neither by a fault nor by its weight
-goes-on : (left : Option ℕ) (h next : Held) (x : ItemType) (o : Option MeaningFault)
+goes-on : (left : Option ℕ) (h next : StateRecord) (x : ItemType) (o : Option MeaningFault)
     → fault_in h x ≡ o → step h x ≡ Ok next → is_past left (weight_in h x) ≡ false
-    → unless_fault (stop_in left h x) (next_held h x) ≡ Ok next
+    → unless_fault (stop_in left h x) (next_state h x) ≡ Ok next
 goes-on left h next x None faultless stepped within =
-    ap (λ o. unless_fault (first_of o (past_fault (is_past left (weight_in h x)))) (next_held h x))
+    ap (λ o. unless_fault (first_of o (past_fault (is_past left (weight_in h x)))) (next_state h x))
     faultless
-    ∙ ap (λ b. unless_fault (past_fault b) (next_held h x)) within
-    ∙ ap (λ o. unless_fault o (next_held h x)) (sym faultless) ∙ stepped
+    ∙ ap (λ b. unless_fault (past_fault b) (next_state h x)) within
+    ∙ ap (λ o. unless_fault o (next_state h x)) (sym faultless) ∙ stepped
 goes-on left h next x (Some f) fault stepped within =
     let bad : step_of (Err f) ≡ step_of (Ok next) =
-    sym (ap (λ o. unless_fault o (next_held h x)) fault) ∙ stepped in cc
+    sym (ap (λ o. unless_fault o (next_state h x)) fault) ∙ stepped in cc
 
 -- one item further
-pub walked-on : (entries : List Entry) (i : ℕ) (e : Entry) (left behind : Option ℕ) (h next : Held)
+pub walked-on : (entries : List Entry) (i : ℕ) (e : Entry) (left behind : Option ℕ) (h next : StateRecord)
     → i < length entries → e ≡ get_or entries i e
     → step h e.item ≡ Ok next → is_past left (weight_in h e.item) ≡ false
     → behind ≡ left_behind left (weight_in h e.item)
@@ -83,8 +83,8 @@ walked-on entries i e left behind h next lt here stepped within is =
     ∙ ap (λ k. walk_within behind next (i + 1) (drop k (items_of entries))) (sym (add-one i))
 
 -- what stops the walk at an item is the answer
-pub meaning-fault : (first : Held) (entries : List Entry) (limit : Option ℕ) (i : ℕ) (e : Entry)
-    (left : Option ℕ) (h : Held) (f : MeaningFault) → i < length entries → e ≡ get_or entries i e
+pub meaning-fault : (first : StateRecord) (entries : List Entry) (limit : Option ℕ) (i : ℕ) (e : Entry)
+    (left : Option ℕ) (h : StateRecord) (f : MeaningFault) → i < length entries → e ≡ get_or entries i e
     → walk_within left h i (drop i (items_of entries)) ≡ walk_within limit first 0
     (items_of entries)
     → stop_in left h e.item ≡ Some f
@@ -92,14 +92,14 @@ pub meaning-fault : (first : Held) (entries : List Entry) (limit : Option ℕ) (
     (refusal_at e.offset f)
 meaning-fault first entries limit i e left h f lt here walked stops =
     ap (at_offset entries) (sym walked ∙ ap (walk_within left h i) (drop-item entries i e lt here)
-    ∙ ap (λ o. go_on (unless_fault o (next_held h e.item)) i
+    ∙ ap (λ o. go_on (unless_fault o (next_state h e.item)) i
     (λ n. walk_within (left_behind left (weight_in h e.item)) n (i + 1)
     (drop (suc i) (items_of entries)))) stops)
     ∙ ap (λ o. Err (refusal_at o f)) (offset-at entries i e lt here)
 
 -- at the end the answer is what is held
-pub meaning-end : (first : Held) (entries : List Entry) (limit : Option ℕ) (i : ℕ) (left : Option ℕ)
-    (h : Held) → length entries ≤ i
+pub meaning-end : (first : StateRecord) (entries : List Entry) (limit : Option ℕ) (i : ℕ) (left : Option ℕ)
+    (h : StateRecord) → length entries ≤ i
     → walk_within left h i (drop i (items_of entries)) ≡ walk_within limit first 0
     (items_of entries)
     → at_offset entries (walk_within limit first 0 (items_of entries)) ≡ Ok h.descriptor
@@ -185,7 +185,7 @@ items_ok (Err fault) entries h = cc
 pub bytes-walked : (keeping : PushKeeps) (limit : Option ℕ) (bytes : List ℕ) (entries : List Entry)
     → bytes ≢ [] → as_refusal (itemise item_of bytes) ≡ Ok entries
     → walk_bytes keeping limit bytes ≡ at_offset entries
-    (walk_within limit (nothing_held keeping) 0 (items_of entries))
+    (walk_within limit (first_state keeping) 0 (items_of entries))
 bytes-walked keeping limit bytes entries some h = walk-some keeping limit bytes some
     ∙ ap (walk_items keeping limit) (items_ok (itemise item_of bytes) entries h)
 
@@ -194,7 +194,7 @@ bytes-walked keeping limit bytes entries some h = walk-some keeping limit bytes 
 plain-items : (keeping : PushKeeps) (r : Result (List Entry) (ℕ × GrammarFault))
     → walk_items keeping None r ≡ parse_items (reading_of keeping) r
 plain-items keeping (Ok entries) =
-    ap (at_offset entries) (walk-unlimited (nothing_held keeping) 0 (items_of entries)
+    ap (at_offset entries) (walk-unlimited (first_state keeping) 0 (items_of entries)
     ∙ walk-meaning keeping (items_of entries))
 plain-items keeping (Err fault) = refl
 

@@ -1,20 +1,20 @@
 -- The walk gives the meaning by each reading of Push and Pop.
 use Rattle.std.proofs.Common.{◌≡◌, List}
 use Rattle.hidreport_items.specs.declared.item.ItemType.{ItemType}
-use Rattle.hidreport.specs.InForce.{force, force_globals_only}
+use Rattle.hidreport.specs.ItemState.{item_state, item_state_globals_only}
 use Rattle.hidreport.specs.Meaning.{meaning_by}
 use Rattle.hidreport.specs.Options.{reading_of}
-use Rattle.hidreport.specs.Parser.Machine.{nothing_held, walk}
+use Rattle.hidreport.specs.Parser.Machine.{first_state, walk}
 use Rattle.hidreport.specs.declared.parser.push_keeps.PushKeeps.{PushKeeps}
 use Rattle.hidreport.specs.declared.parser.push_keeps.PushKeeps.TheVariants as push_keeps
 use Rattle.hidreport.proofs.AllKept.{all-follows}
-use Rattle.hidreport.proofs.GlobalsAlone.{globals-follows, kept_bare}
-use Rattle.hidreport.proofs.LevelLemmas.{kept}
+use Rattle.hidreport.proofs.GlobalsAlone.{globals-follows, stack_bare}
+use Rattle.hidreport.proofs.LevelLemmas.{stack}
 use Rattle.hidreport.proofs.WalkLemmas.{walk-follows}
 
 pub walk-meaning : (keeping : PushKeeps) (items : List ItemType)
-    → walk (nothing_held keeping) 0 items ≡ meaning_by (reading_of keeping) items
+    → walk (first_state keeping) 0 items ≡ meaning_by (reading_of keeping) items
 walk-meaning push_keeps.All items =
-    walk-follows push_keeps.All force (kept items) items (all-follows items)
+    walk-follows push_keeps.All item_state (stack items) items (all-follows items)
 walk-meaning push_keeps.Globals items =
-    walk-follows push_keeps.Globals force_globals_only (kept_bare items) items (globals-follows items)
+    walk-follows push_keeps.Globals item_state_globals_only (stack_bare items) items (globals-follows items)

@@ -20,7 +20,7 @@ use Rattle.hidreport_lists.specs.declared.error.ParserError.TheVariants as error
 use Rattle.hidreport.specs.Budget.{meaning_within_by, parse_items_within}
 use Rattle.hidreport.specs.Faults.{Counts, data_fault, fault, if_no_usages, item_fault}
 use Rattle.hidreport.specs.Faults.{limit_fault, needed_usages_fault, usage_fault}
-use Rattle.hidreport.specs.InForce.{Force, first_of}
+use Rattle.hidreport.specs.ItemState.{ItemState, first_of}
 use Rattle.hidreport.specs.Kinds.{Indexed}
 use Rattle.hidreport.specs.Making.{extent}
 use Rattle.hidreport.specs.Meaning.{PushReading, at_offset, descriptor, fault_here, first_fault}
@@ -110,12 +110,12 @@ range-plain low None page is = cc
 range-plain low (Some high) None is = cc
 range-plain low (Some high) (Some page) is = cc
 
-usages-by-plain : (low : Option ℕ) (f : Force) → usages_by low f ≢ Err PastBudget
+usages-by-plain : (low : Option ℕ) (f : ItemState) → usages_by low f ≢ Err PastBudget
 usages-by-plain (Some low) f = range-plain low (last_local maximum_of f.locals) f.usage_page
 usages-by-plain None f = as-single-plain (single_usages f.usage_page f.locals)
     (single-plain f.usage_page f.locals)
 
-usages-plain : (f : Force) → usages_of f ≢ Err PastBudget
+usages-plain : (f : ItemState) → usages_of f ≢ Err PastBudget
 usages-plain f = usages-by-plain (last_local minimum_of f.locals) f
 
 first-of-plain : (a b : Option MeaningFault) → a ≢ Some PastBudget → b ≢ Some PastBudget
@@ -151,7 +151,7 @@ either-plain : (b : Bool) (f : MeaningFault) → f ≢ PastBudget
 either-plain true f plain is = let same : f ≡ PastBudget = cc in plain same
 either-plain false f plain is = cc
 
-data-plain : (n : Counts) (f : Force) (flags : Flags) (e : Option (ℕ × ℕ))
+data-plain : (n : Counts) (f : ItemState) (flags : Flags) (e : Option (ℕ × ℕ))
     → data_fault n f flags e ≢ Some PastBudget
 data-plain n f flags None is = cc
 data-plain n f flags (Some e) is = first-of-plain
@@ -159,7 +159,7 @@ data-plain n f flags (Some e) is = first-of-plain
     (unless-plain flags.constant (needed_usages_fault (usages_of f))
     (needed-plain (usages_of f) (usages-plain f))) (limit-plain _) is
 
-item-plain : (n : Counts) (f : Force) (x : ItemType) → item_fault n f x ≢ Some PastBudget
+item-plain : (n : Counts) (f : ItemState) (x : ItemType) → item_fault n f x ≢ Some PastBudget
 item-plain n f (item.Global global.Pop) is = either-plain _ TooManyPops (λ e. cc) is
 item-plain n f (item.Global g) is = cc
 item-plain n f (item.Main main.EndCollection) is = either-plain _ TooManyEnds (λ e. cc) is
@@ -181,12 +181,12 @@ here-plain (Some f) j k later plain rest is =
     plain (ap (λ (p : ℕ × MeaningFault). Some p.1) pair)
 here-plain None j k later plain rest is = rest is
 
-first-plain : (force : ℕ → Force) (items : List ItemType) (ps : List Indexed) (k : ℕ)
-    → first_fault force items ps ≢ Some (k, PastBudget)
-first-plain force items [] k is = cc
-first-plain force items (p ∷ ps) k is =
-    here-plain (fault force items p.0 p.1) p.0 k (first_fault force items ps)
-    (item-plain _ (force p.0) p.1) (first-plain force items ps k) is
+first-plain : (item_state : ℕ → ItemState) (items : List ItemType) (ps : List Indexed) (k : ℕ)
+    → first_fault item_state items ps ≢ Some (k, PastBudget)
+first-plain item_state items [] k is = cc
+first-plain item_state items (p ∷ ps) k is =
+    here-plain (fault item_state items p.0 p.1) p.0 k (first_fault item_state items ps)
+    (item-plain _ (item_state p.0) p.1) (first-plain item_state items ps k) is
 
 unless-first-plain : (o : Option (ℕ × MeaningFault)) (d : DescriptorRecord) (k : ℕ)
     → o ≢ Some (k, PastBudget) → unless_first o d ≢ Err (k, PastBudget)

@@ -11,10 +11,10 @@ use Rattle.hidreport_items.specs.declared.item.ItemType.{ItemType}
 use Rattle.hidreport_items.specs.declared.local.LocalItem.{LocalItem}
 use Rattle.hidreport_items.specs.declared.item.ItemType.TheVariants as item
 use Rattle.hidreport.specs.MeaningFault.{MeaningFault}
-use Rattle.hidreport.specs.InForce.{Force}
+use Rattle.hidreport.specs.ItemState.{ItemState}
 use Rattle.hidreport.specs.Kinds.{is_main, is_push, is_pop, local_of}
-use Rattle.hidreport.specs.Parser.Machine.{Held, brought_back, kept_of, fault_in, step, go_on}
-use Rattle.hidreport.specs.Parser.Machine.{last_force, next_force, next_held, nothing_held}
+use Rattle.hidreport.specs.Parser.Machine.{StateRecord, after_pop, pushed_copy, fault_in, step, go_on}
+use Rattle.hidreport.specs.Parser.Machine.{last_item_state, next_item_state, next_state, first_state}
 use Rattle.hidreport.specs.Parser.Machine.{unless_fault, walk}
 use Rattle.hidreport_items.specs.Spelling.{item_of}
 use Rattle.hidreport_lists.specs.Entry.{Entry}
@@ -24,7 +24,7 @@ use Rattle.hidreport.specs.Records.{DescriptorRecord}
 use Rattle.hidreport.specs.Segments.{HasNoLocal, IsMatched, with_segment, moved_fault}
 use Rattle.hidreport.specs.declared.parser.push_keeps.PushKeeps.{PushKeeps}
 use Rattle.hidreport.specs.declared.parser.push_keeps.PushKeeps.TheVariants as push_keeps
-use Rattle.hidreport.proofs.DataLemmas.{quiet, step-push, step-pop, last_force-end, all-but-last}
+use Rattle.hidreport.proofs.DataLemmas.{quiet, step-push, step-pop, last_item_state-end, all-but-last}
 use Rattle.hidreport.proofs.Reports.{or_cases}
 use Rattle.hidreport.specs.Laws.{Spares}
 use Rattle.hidreport.specs.Options.{reading_of}
@@ -33,13 +33,13 @@ use Rattle.hidreport.proofs.Readings.{walk-meaning}
 abbrev pub Answer : Type 0
 Answer = Result DescriptorRecord (ℕ × MeaningFault)
 
-step-ok : (h next : Held) (k : ℕ) (x : ItemType) (xs : List ItemType) → step h x ≡ Ok next
+step-ok : (h next : StateRecord) (k : ℕ) (x : ItemType) (xs : List ItemType) → step h x ≡ Ok next
     → walk h k (x ∷ xs) ≡ walk next (k + 1) xs
 step-ok h next k x xs e = ap (λ r. go_on r k (λ n. walk n (k + 1) xs)) e
 
-moved-by : (r : Result Held MeaningFault) (h : Held) (at n k : ℕ) (x : ItemType)
+moved-by : (r : Result StateRecord MeaningFault) (h : StateRecord) (at n k : ℕ) (x : ItemType)
     (xs : List ItemType) → step h x ≡ r → at ≤ k
-    → ((next : Held) → moved_fault at n (walk next (k + 1) xs) ≡ walk next (k + 1 + n) xs)
+    → ((next : StateRecord) → moved_fault at n (walk next (k + 1) xs) ≡ walk next (k + 1 + n) xs)
     → moved_fault at n (walk h k (x ∷ xs)) ≡ walk h (k + n) (x ∷ xs)
 moved-by (Ok next) h at n k x xs e le rest =
     ap (λ r. moved_fault at n (go_on r k (λ m. walk m (k + 1) xs))) e ∙ rest next
@@ -52,16 +52,16 @@ moved-by (Err f) h at n k x xs e le rest =
     ∙ sym (ap (λ r. go_on r (k + n) (λ m. walk m (k + n + 1) xs)) e)
 
 -- faults behind the place move with their items
-moved-behind : (h : Held) (at n k : ℕ) (xs : List ItemType) → at ≤ k
+moved-behind : (h : StateRecord) (at n k : ℕ) (xs : List ItemType) → at ≤ k
     → moved_fault at n (walk h k xs) ≡ walk h (k + n) xs
 moved-behind h at n k [] le = refl
 moved-behind h at n k (x ∷ xs) le =
     moved-by (step h x) h at n k x xs refl le
     (λ next. moved-behind next at n (k + 1) xs (omega (arith, le)))
 
-front-by : (r : Result Held MeaningFault) (h : Held) (n k : ℕ) (x : ItemType)
+front-by : (r : Result StateRecord MeaningFault) (h : StateRecord) (n k : ℕ) (x : ItemType)
     (xs more rest : List ItemType) → step h x ≡ r
-    → ((next : Held) → step h x ≡ Ok next
+    → ((next : StateRecord) → step h x ≡ Ok next
     → walk next (k + 1) (xs ++ more) ≡ moved_fault (k + 1 + length xs) n
     (walk next (k + 1) (xs ++ rest)))
     → walk h k (x ∷ (xs ++ more)) ≡ moved_fault (k + suc (length xs)) n (walk h k (x ∷ (xs ++ rest)))
@@ -77,31 +77,31 @@ front-by (Err f) h n k x xs more rest e later =
     ∙ ap (λ b. Err (cond b k (k + n), f)) before)
 
 -- what a Push keeps is the same behind every item
-keeping-by : (o : Option MeaningFault) (h next : Held) (x : ItemType)
-    → unless_fault o (next_held h x) ≡ Ok next → next.keeping ≡ h.keeping
-keeping-by None h next x e = let same : next_held h x ≡ next = cc in ap (λ (g : Held). g.keeping)
+keeping-by : (o : Option MeaningFault) (h next : StateRecord) (x : ItemType)
+    → unless_fault o (next_state h x) ≡ Ok next → next.keeping ≡ h.keeping
+keeping-by None h next x e = let same : next_state h x ≡ next = cc in ap (λ (g : StateRecord). g.keeping)
     (sym same)
 keeping-by (Some fault) h next x e = cc
 
 -- what changes nothing behind a front changes nothing behind more
-front-kept : (keeping : PushKeeps) (front more rest : List ItemType) (n : ℕ)
-    → ((h : Held) (k : ℕ) → h.keeping ≡ keeping → walk h k more ≡ walk h (k + n) rest)
-    → (h : Held) (k : ℕ) → h.keeping ≡ keeping
+front-stack : (keeping : PushKeeps) (front more rest : List ItemType) (n : ℕ)
+    → ((h : StateRecord) (k : ℕ) → h.keeping ≡ keeping → walk h k more ≡ walk h (k + n) rest)
+    → (h : StateRecord) (k : ℕ) → h.keeping ≡ keeping
     → walk h k (front ++ more) ≡ moved_fault (k + length front) n (walk h k (front ++ rest))
-front-kept keeping [] more rest n same h k is =
+front-stack keeping [] more rest n same h k is =
     same h k is ∙ sym (moved-behind h (k + 0) n k rest (omega arith))
-front-kept keeping (x ∷ xs) more rest n same h k is =
+front-stack keeping (x ∷ xs) more rest n same h k is =
     front-by (step h x) h n k x xs more rest refl
-    (λ next e. front-kept keeping xs more rest n same next (k + 1)
+    (λ next e. front-stack keeping xs more rest n same next (k + 1)
     (keeping-by (fault_in h x) h next x e ∙ is))
 
 -- what is held inside a segment: other values in force, and more kept
-abbrev pub inside : Held → Force → List Force → Held
-inside h f ts = record h { force = f; kept = (h.kept ++ kept_of h.keeping h.force ∷ []) ++ ts }
+abbrev pub inside : StateRecord → ItemState → List ItemState → StateRecord
+inside h f ts = record h { item_state = f; stack = (h.stack ++ pushed_copy h.keeping h.item_state ∷ []) ++ ts }
 
 -- a Pop brings back what was in force at its Push
-abbrev pub Returns : PushKeeps → Force → Force → Type 0
-Returns keeping f g = brought_back keeping f (kept_of keeping g) ≡ g
+abbrev pub Returns : PushKeeps → ItemState → ItemState → Type 0
+Returns keeping f g = after_pop keeping f (pushed_copy keeping g) ≡ g
 
 -- what holds of the items up to the segment's Pop, with so many Pushes open inside it
 pub record Closes (keeping : PushKeeps) (n : ℕ) (xs : List ItemType) : Type 0 where
@@ -117,15 +117,15 @@ count-cons : (p : ItemType → Bool) (x : ItemType) (xs : List ItemType)
     → count_by p (x ∷ xs) ≡ cond (p x) 1 0 + count_by p xs
 count-cons p x xs = grind (arith, common_steps)
 
-plain-inside : (h : Held) (x : ItemType) → is_main x ≡ false → is_push x ≡ false → is_pop x ≡ false
-    → step h x ≡ Ok (record h { force = next_force h.force x })
+plain-inside : (h : StateRecord) (x : ItemType) → is_main x ≡ false → is_push x ≡ false → is_pop x ≡ false
+    → step h x ≡ Ok (record h { item_state = next_item_state h.item_state x })
 plain-inside h (item.Main y) a b c = cc
 plain-inside h (item.Global global.Push) a b c = cc
 plain-inside h (item.Global global.Pop) a b c = cc
-plain-inside h (item.Global g) a b c = quiet h (next_force h.force (item.Global g)) h.kept
-plain-inside h (item.Local y) a b c = quiet h (next_force h.force (item.Local y)) h.kept
-plain-inside h item.Long a b c = quiet h (next_force h.force item.Long) h.kept
-plain-inside h item.Reserved a b c = quiet h (next_force h.force item.Reserved) h.kept
+plain-inside h (item.Global g) a b c = quiet h (next_item_state h.item_state (item.Global g)) h.stack
+plain-inside h (item.Local y) a b c = quiet h (next_item_state h.item_state (item.Local y)) h.stack
+plain-inside h item.Long a b c = quiet h (next_item_state h.item_state item.Long) h.stack
+plain-inside h item.Reserved a b c = quiet h (next_item_state h.item_state item.Reserved) h.stack
 
 is-push : (x : ItemType) → is_push x ≡ true → x ≡ item.Global global.Push
 is-push (item.Global global.Push) e = refl
@@ -169,18 +169,18 @@ closes-next keeping n m x xs c e = record {
   closed = omega (arith, c.closed, count-cons is_pop x xs, count-cons is_push x xs, e);
 }
 
-none-left : (ts : List Force) → length ts ≡ 0 → ts ≡ []
+none-left : (ts : List ItemState) → length ts ≡ 0 → ts ≡ []
 none-left [] e = refl
 none-left (t ∷ ts) e = absurd (omega (arith, e))
 
-take-kept : (base ts : List Force) → 0 < length ts
+take-stack : (base ts : List ItemState) → 0 < length ts
     → take (length (base ++ ts) - 1) (base ++ ts) ≡ base ++ take (length ts - 1) ts
-take-kept base ts some =
+take-stack base ts some =
     let size : length (base ++ ts) ≡ length base + length ts = grind (arith, common_steps) in
     ap (λ n. take n (base ++ ts))
     (let e : length (base ++ ts) - 1 ≡ length base + (length ts - 1) = omega (arith, size, some) in e) ∙ take-append-add base ts (length ts - 1)
 
-length-less : (ts : List Force) → length (take (length ts - 1) ts) ≡ length ts - 1
+length-less : (ts : List ItemState) → length (take (length ts - 1) ts) ≡ length ts - 1
 length-less ts = grind (arith, common_steps)
 
 same-locals : (ls : List LocalItem) (b : Bool) (o : Option LocalItem) → b ≡ false
@@ -189,9 +189,9 @@ same-locals ls b None plain none = ap (λ c. cond c [] (ls ++ [])) plain ∙ app
 same-locals ls b (Some x) plain none = cc
 
 -- an item of a segment leaves what comes back
-returns-next : (keeping : PushKeeps) (f g : Force) (x : ItemType) (xs : List ItemType)
+returns-next : (keeping : PushKeeps) (f g : ItemState) (x : ItemType) (xs : List ItemType)
     → is_main x ≡ false → Spares keeping (x ∷ xs) → Returns keeping f g
-    → Returns keeping (next_force f x) g
+    → Returns keeping (next_item_state f x) g
 returns-next push_keeps.All f g x xs plain s r = r
 returns-next push_keeps.Globals f g x xs plain s r =
     let none : is_some (local_of x) ≡ false =
@@ -201,73 +201,73 @@ returns-next push_keeps.Globals f g x xs plain s r =
     (same-locals f.locals (is_main x) (local_of x) plain none) ∙ r
 
 -- so does a Pop inside it
-returns-back : (keeping : PushKeeps) (f g t : Force) → Returns keeping f g
-    → Returns keeping (brought_back keeping f t) g
+returns-back : (keeping : PushKeeps) (f g t : ItemState) → Returns keeping f g
+    → Returns keeping (after_pop keeping f t) g
 returns-back push_keeps.All f g t r = r
 returns-back push_keeps.Globals f g t r = r
 
-returns-own : (keeping : PushKeeps) (f : Force) → Returns keeping f f
+returns-own : (keeping : PushKeeps) (f : ItemState) → Returns keeping f f
 returns-own push_keeps.All f = refl
 returns-own push_keeps.Globals f = refl
 
-abbrev pub InsideGoesOn : Held → ℕ → List ItemType → List ItemType → Type 0
-InsideGoesOn h n xs rest = (f : Force) (ts : List Force) (k : ℕ) → length ts ≡ n
-    → Closes h.keeping n xs → Returns h.keeping f h.force
+abbrev pub InsideGoesOn : StateRecord → ℕ → List ItemType → List ItemType → Type 0
+InsideGoesOn h n xs rest = (f : ItemState) (ts : List ItemState) (k : ℕ) → length ts ≡ n
+    → Closes h.keeping n xs → Returns h.keeping f h.item_state
     → walk (inside h f ts) k (xs ++ (item.Global global.Pop ∷ rest)) ≡ walk h (k + length xs + 1)
     rest
 
-inside-end : (h : Held) (f : Force) (ts : List Force) (k n : ℕ) (rest : List ItemType)
-    → length ts ≡ n → Closes h.keeping n [] → Returns h.keeping f h.force
+inside-end : (h : StateRecord) (f : ItemState) (ts : List ItemState) (k n : ℕ) (rest : List ItemType)
+    → length ts ≡ n → Closes h.keeping n [] → Returns h.keeping f h.item_state
     → walk (inside h f ts) k (item.Global global.Pop ∷ rest) ≡ walk h (k + 0 + 1) rest
 inside-end h f ts k n rest size c back =
     let none : ts ≡ [] = none-left ts (omega (arith, size, c.closed)) in
-    let own = kept_of h.keeping h.force in
-    let base = h.kept ++ own ∷ [] in
-    let alone : inside h f ts ≡ record h { force = f; kept = base } =
-    ap (λ (l : List Force). record h { force = f; kept = l })
+    let own = pushed_copy h.keeping h.item_state in
+    let base = h.stack ++ own ∷ [] in
+    let alone : inside h f ts ≡ record h { item_state = f; stack = base } =
+    ap (λ (l : List ItemState). record h { item_state = f; stack = l })
     (ap (λ l. base ++ l) none ∙ append-nil base) in
     let some : 0 < length base =
-    let s : length base ≡ suc (length h.kept) =
+    let s : length base ≡ suc (length h.stack) =
     grind (arith, common_steps) in omega (arith, s) in
-    let popped : step (record h { force = f; kept = base }) (item.Global global.Pop) ≡ Ok h =
-    step-pop (record h { force = f; kept = base }) some
-    ∙ ap (λ (g : Force). Ok (record h
-    { force = brought_back h.keeping f g; kept = take (length base - 1) base }))
-    (last_force-end f own h.kept)
-    ∙ ap (λ (g : Force). Ok (record h { force = g; kept = take (length base - 1) base })) back
-    ∙ ap (λ (l : List Force). Ok (record h { kept = l })) (all-but-last own h.kept) in
-    ap (λ (g : Held). walk g k (item.Global global.Pop ∷ rest)) alone
-    ∙ step-ok (record h { force = f; kept = base }) h k (item.Global global.Pop) rest popped
+    let popped : step (record h { item_state = f; stack = base }) (item.Global global.Pop) ≡ Ok h =
+    step-pop (record h { item_state = f; stack = base }) some
+    ∙ ap (λ (g : ItemState). Ok (record h
+    { item_state = after_pop h.keeping f g; stack = take (length base - 1) base }))
+    (last_item_state-end f own h.stack)
+    ∙ ap (λ (g : ItemState). Ok (record h { item_state = g; stack = take (length base - 1) base })) back
+    ∙ ap (λ (l : List ItemState). Ok (record h { stack = l })) (all-but-last own h.stack) in
+    ap (λ (g : StateRecord). walk g k (item.Global global.Pop ∷ rest)) alone
+    ∙ step-ok (record h { item_state = f; stack = base }) h k (item.Global global.Pop) rest popped
     ∙ ap (λ p. walk h p rest) (let p : k + 1 ≡ k + 0 + 1 = omega arith in p)
 
-inside-by : (a b : Bool) (h : Held) (f : Force) (ts : List Force) (k n : ℕ) (x : ItemType)
+inside-by : (a b : Bool) (h : StateRecord) (f : ItemState) (ts : List ItemState) (k n : ℕ) (x : ItemType)
     (xs rest : List ItemType) → is_push x ≡ a → is_pop x ≡ b → length ts ≡ n
-    → Closes h.keeping n (x ∷ xs) → Returns h.keeping f h.force
+    → Closes h.keeping n (x ∷ xs) → Returns h.keeping f h.item_state
     → ((m : ℕ) → InsideGoesOn h m xs rest)
     → walk (inside h f ts) k (x ∷ (xs ++ (item.Global global.Pop ∷ rest))) ≡ walk h
     (k + suc (length xs) + 1) rest
 inside-by true b h f ts k n x xs rest push pop size c back later =
-    let own = kept_of h.keeping h.force in
-    let base = h.kept ++ own ∷ [] in
+    let own = pushed_copy h.keeping h.item_state in
+    let base = h.stack ++ own ∷ [] in
     let no_pop : is_pop x ≡ false = ap is_pop (is-push x push) in
-    let stepped : step (inside h f ts) x ≡ Ok (inside h f (ts ++ kept_of h.keeping f ∷ [])) =
+    let stepped : step (inside h f ts) x ≡ Ok (inside h f (ts ++ pushed_copy h.keeping f ∷ [])) =
     ap (step (inside h f ts)) (is-push x push) ∙ step-push (inside h f ts)
-    ∙ ap (λ (l : List Force). Ok (record h { force = f; kept = l }))
-    (append_assoc base ts (kept_of h.keeping f ∷ [])) in
-    let longer : length (ts ++ kept_of h.keeping f ∷ []) ≡ suc n =
-    let s : length (ts ++ kept_of h.keeping f ∷ []) ≡ suc (length ts) =
+    ∙ ap (λ (l : List ItemState). Ok (record h { item_state = f; stack = l }))
+    (append_assoc base ts (pushed_copy h.keeping f ∷ [])) in
+    let longer : length (ts ++ pushed_copy h.keeping f ∷ []) ≡ suc n =
+    let s : length (ts ++ pushed_copy h.keeping f ∷ []) ≡ suc (length ts) =
     grind (arith, common_steps) in omega (arith, s, size) in
     let next : Closes h.keeping (suc n) xs =
     closes-next h.keeping n (suc n) x xs c (omega (arith, ap one_if push, ap one_if no_pop))
     in
-    step-ok (inside h f ts) (inside h f (ts ++ kept_of h.keeping f ∷ [])) k x
+    step-ok (inside h f ts) (inside h f (ts ++ pushed_copy h.keeping f ∷ [])) k x
     (xs ++ (item.Global global.Pop ∷ rest)) stepped
-    ∙ later (suc n) f (ts ++ kept_of h.keeping f ∷ []) (k + 1) longer next back
+    ∙ later (suc n) f (ts ++ pushed_copy h.keeping f ∷ []) (k + 1) longer next back
     ∙ ap (λ p. walk h p rest)
     (let p : k + 1 + length xs + 1 ≡ k + suc (length xs) + 1 = omega arith in p)
 inside-by false true h f ts k n x xs rest push pop size c back later =
-    let own = kept_of h.keeping h.force in
-    let base = h.kept ++ own ∷ [] in
+    let own = pushed_copy h.keeping h.item_state in
+    let base = h.stack ++ own ∷ [] in
     let open_inside : 0 < n = omega (
       arith,
       c.within 1,
@@ -279,47 +279,47 @@ inside-by false true h f ts k n x xs rest push pop size c back later =
     let some : 0 < length (base ++ ts) =
     let s : length (base ++ ts) ≡ length base + length ts =
     grind (arith, common_steps) in omega (arith, s, size, open_inside) in
-    let g = brought_back h.keeping f (last_force f (base ++ ts)) in
+    let g = after_pop h.keeping f (last_item_state f (base ++ ts)) in
     let fewer = take (length ts - 1) ts in
     let stepped : step (inside h f ts) x ≡ Ok (inside h g fewer) =
     ap (step (inside h f ts)) (is-pop x pop) ∙ step-pop (inside h f ts) some
-    ∙ ap (λ (l : List Force). Ok (record h { force = g; kept = l }))
-    (take-kept base ts (omega (arith, size, open_inside))) in
+    ∙ ap (λ (l : List ItemState). Ok (record h { item_state = g; stack = l }))
+    (take-stack base ts (omega (arith, size, open_inside))) in
     let shorter : length fewer ≡ n - 1 = omega (arith, length-less ts, size) in
     let next : Closes h.keeping (n - 1) xs =
     closes-next h.keeping n (n - 1) x xs c
     (omega (arith, ap one_if push, ap one_if pop, open_inside)) in
     step-ok (inside h f ts) (inside h g fewer) k x (xs ++ (item.Global global.Pop ∷ rest)) stepped
     ∙ later (n - 1) g fewer (k + 1) shorter next
-    (returns-back h.keeping f h.force (last_force f (base ++ ts)) back)
+    (returns-back h.keeping f h.item_state (last_item_state f (base ++ ts)) back)
     ∙ ap (λ p. walk h p rest)
     (let p : k + 1 + length xs + 1 ≡ k + suc (length xs) + 1 = omega arith in p)
 inside-by false false h f ts k n x xs rest push pop size c back later =
     let plain : is_main x ≡ false = (or_cases (is_main x) (list_any is_main xs) c.idle).0 in
     let next : Closes h.keeping n xs =
     closes-next h.keeping n n x xs c (omega (arith, ap one_if push, ap one_if pop)) in
-    step-ok (inside h f ts) (inside h (next_force f x) ts) k x
+    step-ok (inside h f ts) (inside h (next_item_state f x) ts) k x
     (xs ++ (item.Global global.Pop ∷ rest)) (plain-inside (inside h f ts) x plain push pop)
-    ∙ later n (next_force f x) ts (k + 1) size next
-    (returns-next h.keeping f h.force x xs plain c.spares back)
+    ∙ later n (next_item_state f x) ts (k + 1) size next
+    (returns-next h.keeping f h.item_state x xs plain c.spares back)
     ∙ ap (λ p. walk h p rest)
     (let p : k + 1 + length xs + 1 ≡ k + suc (length xs) + 1 = omega arith in p)
 
-inside-on : (h : Held) (xs rest : List ItemType) (n : ℕ) → InsideGoesOn h n xs rest
+inside-on : (h : StateRecord) (xs rest : List ItemType) (n : ℕ) → InsideGoesOn h n xs rest
 inside-on h [] rest n f ts k size c back = inside-end h f ts k n rest size c back
 inside-on h (x ∷ xs) rest n f ts k size c back =
     inside-by (is_push x) (is_pop x) h f ts k n x xs rest refl refl size c back
     (λ m. inside-on h xs rest m)
 
 -- a segment changes nothing
-segment-kept : (xs rest : List ItemType) → IsMatched xs → (h : Held) (k : ℕ) → Spares h.keeping xs
+segment-stack : (xs rest : List ItemType) → IsMatched xs → (h : StateRecord) (k : ℕ) → Spares h.keeping xs
     → walk h k (item.Global global.Push ∷ (xs ++ (item.Global global.Pop ∷ rest))) ≡ walk h
     (k + (length xs + 2)) rest
-segment-kept xs rest m h k spares =
-    let own = kept_of h.keeping h.force in
-    let base = h.kept ++ own ∷ [] in
-    let stepped : step h (item.Global global.Push) ≡ Ok (inside h h.force []) =
-    step-push h ∙ ap (λ (l : List Force). Ok (record h { kept = l })) (sym (append-nil base)) in
+segment-stack xs rest m h k spares =
+    let own = pushed_copy h.keeping h.item_state in
+    let base = h.stack ++ own ∷ [] in
+    let stepped : step h (item.Global global.Push) ≡ Ok (inside h h.item_state []) =
+    step-push h ∙ ap (λ (l : List ItemState). Ok (record h { stack = l })) (sym (append-nil base)) in
     let c : Closes h.keeping 0 xs =
     record {
       spares = spares;
@@ -327,9 +327,9 @@ segment-kept xs rest m h k spares =
       within = λ i. omega (arith, m.within i);
       closed = omega (arith, m.closed);
     } in
-    step-ok h (inside h h.force []) k (item.Global global.Push)
+    step-ok h (inside h h.item_state []) k (item.Global global.Push)
     (xs ++ (item.Global global.Pop ∷ rest)) stepped
-    ∙ inside-on h xs rest 0 h.force [] (k + 1) refl c (returns-own h.keeping h.force)
+    ∙ inside-on h xs rest 0 h.item_state [] (k + 1) refl c (returns-own h.keeping h.item_state)
     ∙ ap (λ p. walk h p rest) (let p : k + 1 + length xs + 1 ≡ k + (length xs + 2) = omega arith in
     p)
 
@@ -339,11 +339,11 @@ pub meaning-struck : (keeping : PushKeeps) (front xs rest : List ItemType) → I
     → meaning_by (reading_of keeping) (with_segment front xs rest) ≡ moved_fault (length front)
     (length xs + 2) (meaning_by (reading_of keeping) (front ++ rest))
 meaning-struck keeping front xs rest m spares =
-    let held = nothing_held keeping in
+    let held = first_state keeping in
     sym (walk-meaning keeping (with_segment front xs rest))
-    ∙ front-kept keeping front (item.Global global.Push ∷ (xs ++ (item.Global global.Pop ∷ rest)))
+    ∙ front-stack keeping front (item.Global global.Push ∷ (xs ++ (item.Global global.Pop ∷ rest)))
     rest (length xs + 2)
-    (λ h k e. segment-kept xs rest m h k (subst (λ r. Spares r xs) (sym e) spares)) held 0 refl
+    (λ h k e. segment-stack xs rest m h k (subst (λ r. Spares r xs) (sym e) spares)) held 0 refl
     ∙ ap (λ p. moved_fault p (length xs + 2) (walk held 0 (front ++ rest)))
     (let p : 0 + length front ≡ length front = omega arith in p)
     ∙ ap (moved_fault (length front) (length xs + 2)) (walk-meaning keeping (front ++ rest))

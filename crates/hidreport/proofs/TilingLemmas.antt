@@ -10,7 +10,7 @@ use Rattle.std.proofs.lemmas.Bool.Decides.{nat_tests}
 use Rattle.hidreport_items.specs.Flags.{Flags}
 use Rattle.hidreport.specs.Fields.{each_from, field_count, list_or_none, make_fields, make_place}
 use Rattle.hidreport.specs.Fields.{usage_at, variable_fields}
-use Rattle.hidreport.specs.InForce.{Force, first_of}
+use Rattle.hidreport.specs.ItemState.{ItemState, first_of}
 use Rattle.hidreport.specs.Making.{both_set, extent, same_key}
 use Rattle.hidreport.specs.Parser.Machine.{added_to, first_id, size_in}
 use Rattle.hidreport.specs.Places.{id_bits}
@@ -199,11 +199,11 @@ single-by : (r : Result (List Usage) MeaningFault) → IsRanged (list_or_none (a
 single-by (Ok us) = λ e. cc
 single-by (Err fault) = λ e. cc
 
-ranged-in : (low : Option ℕ) (f : Force) → IsRanged (list_or_none (usages_by low f))
+ranged-in : (low : Option ℕ) (f : ItemState) → IsRanged (list_or_none (usages_by low f))
 ranged-in (Some low) f = range-by low (last_local maximum_of f.locals) f.usage_page
 ranged-in None f = single-by (single_usages f.usage_page f.locals)
 
-pub ranged : (f : Force) → IsRanged (list_or_none (usages_of f))
+pub ranged : (f : ItemState) → IsRanged (list_or_none (usages_of f))
 ranged f = ranged-in (last_local minimum_of f.locals) f
 
 set-by : (size count : ℕ) (b : Bool) (e : ℕ × ℕ) → (size == 0 || count == 0) ≡ b
@@ -219,7 +219,7 @@ both-some (Some size) (Some count) e h = set-by size count (size == 0 || count =
 both-some None count e h = cc
 both-some (Some size) None e h = cc
 
-pub extent-some : (f : Force) (e : ℕ × ℕ) → extent f ≡ Some e → (0 < e.0) × (0 < e.1)
+pub extent-some : (f : ItemState) (e : ℕ × ℕ) → extent f ≡ Some e → (0 < e.0) × (0 < e.1)
 extent-some f e h = both-some f.report_size f.report_count e h
 
 -- the reports with one item's fields added

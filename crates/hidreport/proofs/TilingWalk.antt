@@ -13,14 +13,14 @@ use Rattle.hidreport_lists.specs.Entry.{Entry}
 use Rattle.hidreport_lists.specs.Itemising.{itemise}
 use Rattle.hidreport_lists.specs.Rebuilt.{items_of}
 use Rattle.hidreport.specs.Fields.{attributes, fields_made, fields_of, list_or_none}
-use Rattle.hidreport.specs.InForce.{Force, first_of}
+use Rattle.hidreport.specs.ItemState.{ItemState, first_of}
 use Rattle.hidreport.specs.Kinds.{Direction, Input, Output, Feature, data_of, goes}
 use Rattle.hidreport.specs.Kinds.{is_end_collection, collection_of}
 use Rattle.hidreport.specs.Making.{extent}
 use Rattle.hidreport.specs.Meaning.{at_offset, meaning_by, parse_by, parse_items}
 use Rattle.hidreport.specs.MeaningFault.{MeaningFault}
-use Rattle.hidreport.specs.Parser.Machine.{Held, first_id, adds, added_to, fault_in, key_in}
-use Rattle.hidreport.specs.Parser.Machine.{new_collection, next_held, next_reports, nothing_held}
+use Rattle.hidreport.specs.Parser.Machine.{StateRecord, first_id, adds, added_to, fault_in, key_in}
+use Rattle.hidreport.specs.Parser.Machine.{new_collection, next_state, next_reports, first_state}
 use Rattle.hidreport.specs.Parser.Machine.{reports_in, start_in, unless_fault, go_on, walk}
 use Rattle.hidreport.specs.Places.{bits_of}
 use Rattle.hidreport.specs.Records.{CollectionRecord, DescriptorRecord, FieldRecord, ReportRecord}
@@ -59,7 +59,7 @@ no-and : (b : Bool) → (b && false) ≡ true → ⊥
 no-and true e = cc
 no-and false e = cc
 
-made-of : (known : List (List CollectionRecord)) (key : Option ℕ) (f : Force) (cs : List CollectionRecord)
+made-of : (known : List (List CollectionRecord)) (key : Option ℕ) (f : ItemState) (cs : List CollectionRecord)
     (id first : ℕ) (d : Direction) (o : Option (Direction × Flags)) (e : Option (ℕ × ℕ))
     → (goes d o && is_some e) ≡ true
     → ((z : ℕ × ℕ) → e ≡ Some z → (0 < z.0) × (0 < z.1)) → AreOpened known [] cs
@@ -83,7 +83,7 @@ grown-none n id count most = record { once = omega arith; above = λ lt. refl; b
 abbrev pub one_if : Bool → ℕ
 one_if b = cond b 1 0
 
-grown-by : (b : Bool) (n : ℕ) (f : Force) (cs : List CollectionRecord) (id first : ℕ)
+grown-by : (b : Bool) (n : ℕ) (f : ItemState) (cs : List CollectionRecord) (id first : ℕ)
     (y : Direction × Flags) (z : ℕ × ℕ)
     → Grown n id (fields_made (Some y) (Some z)) (one_if b)
     (cond (b && true) (with_number n (fields_of f cs id first (Some y) (Some z))) 0)
@@ -97,7 +97,7 @@ grown-not : (b : Bool) (n id new most : ℕ) → Grown n id 0 most (cond (b && f
 grown-not true n id new most = grown-none n id 0 most
 grown-not false n id new most = grown-none n id 0 most
 
-grown : (n : ℕ) (f : Force) (cs : List CollectionRecord) (id first : ℕ) (d : Direction)
+grown : (n : ℕ) (f : ItemState) (cs : List CollectionRecord) (id first : ℕ) (d : Direction)
     (o : Option (Direction × Flags)) (e : Option (ℕ × ℕ))
     → Grown n id (fields_made o e) (one_if (goes d o))
     (cond (goes d o && is_some e) (with_number n (fields_of f cs id first o e)) 0)
@@ -120,7 +120,7 @@ one-way (Some (Feature, flags)) = omega arith
 abbrev total : ℕ → DescriptorRecord → ℕ
 total n d = numbered n d.input + (numbered n d.output + numbered n d.feature)
 
-record Keeps (known : List (List CollectionRecord)) (h : Held) : Type 0 where
+record Keeps (known : List (List CollectionRecord)) (h : StateRecord) : Type 0 where
   filled : (d : Direction) → Each (IsGood known) (reports_in d h.descriptor)
   own : (d : Direction) → HaveOwnIds (reports_in d h.descriptor)
   once : (n : ℕ) → total n h.descriptor ≤ 1
@@ -128,52 +128,52 @@ record Keeps (known : List (List CollectionRecord)) (h : Held) : Type 0 where
   counted : length known ≡ h.collections
   opened : AreOpened known [] h.opened
 
-abbrev made_in : Direction → Held → ItemType → List FieldRecord
-made_in d h x = fields_of h.force h.opened h.fields (start_in d h) (data_of x) (extent h.force)
+abbrev made_in : Direction → StateRecord → ItemType → List FieldRecord
+made_in d h x = fields_of h.item_state h.opened h.fields (start_in d h) (data_of x) (extent h.item_state)
 
-good-by : (b : Bool) (known : List (List CollectionRecord)) (d : Direction) (h : Held) (x : ItemType)
+good-by : (b : Bool) (known : List (List CollectionRecord)) (d : Direction) (h : StateRecord) (x : ItemType)
     → adds d h x ≡ b → Each (IsGood known) (reports_in d h.descriptor)
     → AreOpened known [] h.opened
-    → Each (IsGood known) (cond b (added_to (key_in d h) (bits_of (extent h.force)) (made_in d h x)
+    → Each (IsGood known) (cond b (added_to (key_in d h) (bits_of (extent h.item_state)) (made_in d h x)
     (reports_in d h.descriptor)) (reports_in d h.descriptor))
 good-by true known d h x makes g l =
-    added-good known (key_in d h) (bits_of (extent h.force)) (made_in d h x)
+    added-good known (key_in d h) (bits_of (extent h.item_state)) (made_in d h x)
     (reports_in d h.descriptor) g
-    (made-of known (key_in d h) h.force h.opened h.fields (start_in d h) d (data_of x)
-    (extent h.force) makes (λ z e. extent-some h.force z e) l
-    (own-key h.force.report_id (first_id (reports_in d h.descriptor))))
+    (made-of known (key_in d h) h.item_state h.opened h.fields (start_in d h) d (data_of x)
+    (extent h.item_state) makes (λ z e. extent-some h.item_state z e) l
+    (own-key h.item_state.report_id (first_id (reports_in d h.descriptor))))
 good-by false known d h x makes g l = g
 
-good-next : (known : List (List CollectionRecord)) (d : Direction) (h : Held) (x : ItemType)
+good-next : (known : List (List CollectionRecord)) (d : Direction) (h : StateRecord) (x : ItemType)
     → Keeps known h → Each (IsGood known) (next_reports d h x)
 good-next known d h x k = good-by (adds d h x) known d h x refl (k.filled d) k.opened
 
-own-by : (b : Bool) (d : Direction) (h : Held) (x : ItemType)
+own-by : (b : Bool) (d : Direction) (h : StateRecord) (x : ItemType)
     → HaveOwnIds (reports_in d h.descriptor)
-    → HaveOwnIds (cond b (added_to (key_in d h) (bits_of (extent h.force)) (made_in d h x)
+    → HaveOwnIds (cond b (added_to (key_in d h) (bits_of (extent h.item_state)) (made_in d h x)
     (reports_in d h.descriptor)) (reports_in d h.descriptor))
-own-by true d h x o = added-own h.force.report_id (bits_of (extent h.force)) (made_in d h x)
+own-by true d h x o = added-own h.item_state.report_id (bits_of (extent h.item_state)) (made_in d h x)
     (reports_in d h.descriptor) o
 own-by false d h x o = o
 
-numbered-by : (b : Bool) (n : ℕ) (d : Direction) (h : Held) (x : ItemType)
-    → numbered n (cond b (added_to (key_in d h) (bits_of (extent h.force)) (made_in d h x)
+numbered-by : (b : Bool) (n : ℕ) (d : Direction) (h : StateRecord) (x : ItemType)
+    → numbered n (cond b (added_to (key_in d h) (bits_of (extent h.item_state)) (made_in d h x)
     (reports_in d h.descriptor)) (reports_in d h.descriptor))
     ≡ numbered n (reports_in d h.descriptor) + cond b (with_number n (made_in d h x)) 0
-numbered-by true n d h x = numbered-added n (key_in d h) (bits_of (extent h.force)) (made_in d h x)
+numbered-by true n d h x = numbered-added n (key_in d h) (bits_of (extent h.item_state)) (made_in d h x)
     (reports_in d h.descriptor)
 numbered-by false n d h x = omega arith
 
-grown-in : (n : ℕ) (d : Direction) (h : Held) (x : ItemType)
-    → Grown n h.fields (fields_made (data_of x) (extent h.force)) (one_if (goes d (data_of x)))
+grown-in : (n : ℕ) (d : Direction) (h : StateRecord) (x : ItemType)
+    → Grown n h.fields (fields_made (data_of x) (extent h.item_state)) (one_if (goes d (data_of x)))
     (cond (adds d h x) (with_number n (made_in d h x)) 0)
-grown-in n d h x = grown n h.force h.opened h.fields (start_in d h) d (data_of x) (extent h.force)
+grown-in n d h x = grown n h.item_state h.opened h.fields (start_in d h) d (data_of x) (extent h.item_state)
 
-abbrev next_total : ℕ → Held → ItemType → ℕ
+abbrev next_total : ℕ → StateRecord → ItemType → ℕ
 next_total n h x = numbered n (next_reports Input h x) +
     (numbered n (next_reports Output h x) + numbered n (next_reports Feature h x))
 
-once-by : (n : ℕ) (h : Held) (x : ItemType) → (n < h.fields) ⊎ (h.fields ≤ n)
+once-by : (n : ℕ) (h : StateRecord) (x : ItemType) → (n < h.fields) ⊎ (h.fields ≤ n)
     → total n h.descriptor ≤ 1 → (h.fields ≤ n → total n h.descriptor ≡ 0) → next_total n h x ≤ 1
 once-by n h x (inl lt) once unused =
     let i = grown-in n Input h x in let o = grown-in n Output h x in
@@ -207,8 +207,8 @@ once-by n h x (inr le) once unused =
           (data_of x),
     )
 
-unused-next : (n : ℕ) (h : Held) (x : ItemType) → (h.fields ≤ n → total n h.descriptor ≡ 0)
-    → h.fields + fields_made (data_of x) (extent h.force) ≤ n → next_total n h x ≡ 0
+unused-next : (n : ℕ) (h : StateRecord) (x : ItemType) → (h.fields ≤ n → total n h.descriptor ≡ 0)
+    → h.fields + fields_made (data_of x) (extent h.item_state) ≤ n → next_total n h x ≡ 0
 unused-next n h x unused le =
     let i = grown-in n Input h x in let o = grown-in n Output h x in
     let f = grown-in n Feature h x in
@@ -225,27 +225,27 @@ unused-next n h x unused le =
     )
 
 -- the collection that an item opens, inside the open ones
-abbrev new_opening : Held → Option CollectionItem → List (List CollectionRecord)
+abbrev new_opening : StateRecord → Option CollectionItem → List (List CollectionRecord)
 new_opening h None = []
 new_opening h (Some kind) = (h.opened ++ new_collection h (Some kind)) ∷ []
 
-new-opened : (known : List (List CollectionRecord)) (h : Held) (o : Option CollectionItem)
+new-opened : (known : List (List CollectionRecord)) (h : StateRecord) (o : Option CollectionItem)
     → length known ≡ h.collections
     → AreOpened (known ++ new_opening h o) h.opened (new_collection h o)
 new-opened known h None e = tt
 new-opened known h (Some kind) e = opened-new known h.opened (record {
   id = h.collections;
   kind = kind;
-  usages = (list_or_none (usages_of h.force)).usages;
+  usages = (list_or_none (usages_of h.item_state)).usages;
 }) e
 
-opened-by : (b : Bool) (known : List (List CollectionRecord)) (h : Held)
+opened-by : (b : Bool) (known : List (List CollectionRecord)) (h : StateRecord)
     (new : List CollectionRecord) → AreOpened known [] h.opened → AreOpened known h.opened new
     → AreOpened known [] (cond b (take (length h.opened - 1) h.opened) (h.opened ++ new))
 opened-by true known h new l m = opened-take known [] (length h.opened - 1) h.opened l
 opened-by false known h new l m = opened-append known [] h.opened new l m
 
-as-many : (h : Held) (o : Option CollectionItem)
+as-many : (h : StateRecord) (o : Option CollectionItem)
     → length (new_opening h o) ≡ length (new_collection h o)
 as-many h None = refl
 as-many h (Some kind) = refl
@@ -254,18 +254,18 @@ counted-more : (known new : List (List CollectionRecord))
     → length (known ++ new) ≡ length known + length new
 counted-more known new = grind (arith, common_steps)
 
-keeps-next : (known : List (List CollectionRecord)) (h : Held) (x : ItemType) → Keeps known h
-    → Keeps (known ++ new_opening h (collection_of x)) (next_held h x)
+keeps-next : (known : List (List CollectionRecord)) (h : StateRecord) (x : ItemType) → Keeps known h
+    → Keeps (known ++ new_opening h (collection_of x)) (next_state h x)
 keeps-next known h x k =
     let new = new_opening h (collection_of x) in
     record {
       filled = λ d. elim d as (λ d. Each (IsGood (known ++ new))
-          (reports_in d (next_held h x).descriptor)) [
+          (reports_in d (next_state h x).descriptor)) [
             | Input ↦ all-good known new (next_reports Input h x) (good-next known Input h x k)
             | Output ↦ all-good known new (next_reports Output h x) (good-next known Output h x k)
             | Feature ↦ all-good known new (next_reports Feature h x) (good-next known Feature h x k)
           ];
-      own = λ d. elim d as (λ d. HaveOwnIds (reports_in d (next_held h x).descriptor)) [
+      own = λ d. elim d as (λ d. HaveOwnIds (reports_in d (next_state h x).descriptor)) [
         | Input ↦ own-by (adds Input h x) Input h x (k.own Input)
         | Output ↦ own-by (adds Output h x) Output h x (k.own Output)
         | Feature ↦ own-by (adds Feature h x) Feature h x (k.own Feature)
@@ -310,7 +310,7 @@ filled-end known r g = record {
   ranges = each-more (IsWell known r.id) HasRange r.fields (λ f w. w.3) g.2;
 }
 
-tiled-end : (known : List (List CollectionRecord)) (h : Held) → Keeps known h → IsTiled h.descriptor
+tiled-end : (known : List (List CollectionRecord)) (h : StateRecord) → Keeps known h → IsTiled h.descriptor
 tiled-end known h k =
     let good = whole (IsGood known) h.descriptor (k.filled Input) (k.filled Output)
     (k.filled Feature) in
@@ -332,35 +332,35 @@ tiled-end known h k =
 abbrev Announces : Result DescriptorRecord (ℕ × MeaningFault) → DescriptorRecord → Type 0
 Announces r d = r ≡ Ok d
 
-tiled-by : (o : Option MeaningFault) (h : Held) (k : ℕ) (x : ItemType) (xs : List ItemType)
+tiled-by : (o : Option MeaningFault) (h : StateRecord) (k : ℕ) (x : ItemType) (xs : List ItemType)
     (d : DescriptorRecord) → fault_in h x ≡ o
-    → Announces (walk h k (x ∷ xs)) d → (Announces (walk (next_held h x) (k + 1) xs) d → IsTiled d)
+    → Announces (walk h k (x ∷ xs)) d → (Announces (walk (next_state h x) (k + 1) xs) d → IsTiled d)
     → IsTiled d
 tiled-by None h k x xs d e is later =
-    later (sym (ap (λ o. go_on (unless_fault o (next_held h x)) k (λ n. walk n (k + 1) xs)) e) ∙ is)
+    later (sym (ap (λ o. go_on (unless_fault o (next_state h x)) k (λ n. walk n (k + 1) xs)) e) ∙ is)
 tiled-by (Some fault) h k x xs d e is later =
     let bad : Announces (Err (k, fault)) d =
-    sym (ap (λ o. go_on (unless_fault o (next_held h x)) k (λ n. walk n (k + 1) xs)) e)
+    sym (ap (λ o. go_on (unless_fault o (next_state h x)) k (λ n. walk n (k + 1) xs)) e)
     ∙ is in cc
 
-tiled-from : (known : List (List CollectionRecord)) (h : Held) (k : ℕ) (items : List ItemType)
+tiled-from : (known : List (List CollectionRecord)) (h : StateRecord) (k : ℕ) (items : List ItemType)
     (d : DescriptorRecord) → Keeps known h
     → Announces (walk h k items) d → IsTiled d
 tiled-from known h k [] d keeps is =
     let same : h.descriptor ≡ d = cc in subst IsTiled same (tiled-end known h keeps)
 tiled-from known h k (x ∷ xs) d keeps is =
     tiled-by (fault_in h x) h k x xs d refl is
-    (λ rest. tiled-from (known ++ new_opening h (collection_of x)) (next_held h x) (k + 1) xs d
+    (λ rest. tiled-from (known ++ new_opening h (collection_of x)) (next_state h x) (k + 1) xs d
     (keeps-next known h x keeps) rest)
 
 none-own : HaveOwnIds []
 none-own = record { once = λ id. omega arith; first = tt }
 
-keeps-nothing : (keeping : PushKeeps) → Keeps [] (nothing_held keeping)
+keeps-nothing : (keeping : PushKeeps) → Keeps [] (first_state keeping)
 keeps-nothing keeping = record {
-  filled = λ d. elim d as (λ d. Each (IsGood []) (reports_in d (nothing_held keeping).descriptor))
+  filled = λ d. elim d as (λ d. Each (IsGood []) (reports_in d (first_state keeping).descriptor))
       [ Input ↦ tt | Output ↦ tt | Feature ↦ tt ];
-  own = λ d. elim d as (λ d. HaveOwnIds (reports_in d (nothing_held keeping).descriptor))
+  own = λ d. elim d as (λ d. HaveOwnIds (reports_in d (first_state keeping).descriptor))
       [ Input ↦ none-own | Output ↦ none-own | Feature ↦ none-own ];
   once = λ n. omega arith;
   unused = λ n le. refl;
@@ -370,9 +370,9 @@ keeps-nothing keeping = record {
 
 -- whatever a Pop brings back
 pub walk-tiled : (keeping : PushKeeps) (items : List ItemType) (d : DescriptorRecord)
-    → walk (nothing_held keeping) 0 items ≡ Ok d → IsTiled d
+    → walk (first_state keeping) 0 items ≡ Ok d → IsTiled d
 walk-tiled keeping items d is =
-    tiled-from [] (nothing_held keeping) 0 items d (keeps-nothing keeping) is
+    tiled-from [] (first_state keeping) 0 items d (keeps-nothing keeping) is
 
 found-ok : (entries : List Entry) (r : Result DescriptorRecord (ℕ × MeaningFault))
     (d : DescriptorRecord) → at_offset entries r ≡ Ok d → r ≡ Ok d

@@ -12,12 +12,12 @@ use Rattle.std.proofs.lemmas.List.Sums.{sum_by-append}
 use Rattle.hidreport_items.specs.declared.item.ItemType.{ItemType}
 use Rattle.hidreport_items.specs.declared.item.ItemType.TheVariants as item
 use Rattle.hidreport_items.specs.declared.local.LocalItem.{LocalItem}
-use Rattle.hidreport.specs.InForce.{Force, last_value, unended_locals, first_of}
+use Rattle.hidreport.specs.ItemState.{ItemState, last_value, unended_locals, first_of}
 use Rattle.hidreport.specs.Kinds.{Indexed, is_main, local_of, usage_page_of, logical_minimum_of}
 use Rattle.hidreport.specs.Kinds.{logical_maximum_of, physical_minimum_of, physical_maximum_of}
 use Rattle.hidreport.specs.Kinds.{unit_exponent_of, unit_of, report_size_of, report_id_of}
 use Rattle.hidreport.specs.Kinds.{report_count_of}
-use Rattle.hidreport.specs.Parser.Machine.{next_force}
+use Rattle.hidreport.specs.Parser.Machine.{next_item_state}
 use Rattle.hidreport.specs.Visibility.{before}
 
 pub enumerate_from-append : {A : Type 0} (n : ℕ) (xs ys : List A)
@@ -193,8 +193,8 @@ unended_locals-next true ps k x below main = unended_locals-main ps k x below ma
 unended_locals-next false ps k x below main = unended_locals-plain ps k x below main
 
 -- what is in force behind these visible items
-abbrev pub in_force : List Indexed → Force
-in_force ps = record {
+abbrev pub item_states : List Indexed → ItemState
+item_states ps = record {
   usage_page = last_value usage_page_of ps;
   logical_minimum = last_value logical_minimum_of ps;
   logical_maximum = last_value logical_maximum_of ps;
@@ -208,9 +208,9 @@ in_force ps = record {
   locals = unended_locals ps;
 }
 
-pub in_force-next : (ps : List Indexed) (k : ℕ) (x : ItemType) → AreBelow k ps
-    → in_force (ps ++ (k, x) ∷ []) ≡ next_force (in_force ps) x
-in_force-next ps k x below =
+pub item_states-next : (ps : List Indexed) (k : ℕ) (x : ItemType) → AreBelow k ps
+    → item_states (ps ++ (k, x) ∷ []) ≡ next_item_state (item_states ps) x
+item_states-next ps k x below =
     let p : Indexed = (k, x) in
     let page = last_value-next usage_page_of ps p in
     let low = last_value-next logical_minimum_of ps p in

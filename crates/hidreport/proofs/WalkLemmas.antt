@@ -21,14 +21,14 @@ use Rattle.hidreport_items.specs.declared.item.ItemType.{ItemType}
 use Rattle.hidreport.specs.Faults.{item_fault, fault, counts, start_of}
 use Rattle.hidreport.specs.Fields.{fields_at, fields_of, fields_made, fields_before, collections_at}
 use Rattle.hidreport.specs.Fields.{collection_record, list_or_none}
-use Rattle.hidreport.specs.InForce.{Force, first_of}
+use Rattle.hidreport.specs.ItemState.{ItemState, first_of}
 use Rattle.hidreport.specs.Kinds.{Indexed, Direction, Input, Output, Feature, data_of, goes}
 use Rattle.hidreport.specs.Kinds.{is_push, is_pop, is_collection, is_end_collection, collection_of}
-use Rattle.hidreport.specs.Parser.Machine.{Held, brought_back, kept_of, nothing_in_force}
+use Rattle.hidreport.specs.Parser.Machine.{StateRecord, after_pop, pushed_copy, no_item_state}
 use Rattle.hidreport.specs.Parser.Machine.{reports_of, size_in, first_id, added_to, reports_in}
 use Rattle.hidreport.specs.Parser.Machine.{key_in, start_in, start_for, counts_in, fault_in, adds}
-use Rattle.hidreport.specs.Parser.Machine.{next_force, last_force, next_reports, next_opened}
-use Rattle.hidreport.specs.Parser.Machine.{new_collection, next_held, unless_fault, nothing_held}
+use Rattle.hidreport.specs.Parser.Machine.{next_item_state, last_item_state, next_reports, next_opened}
+use Rattle.hidreport.specs.Parser.Machine.{new_collection, next_state, unless_fault, first_state}
 use Rattle.hidreport.specs.Parser.Machine.{go_on, walk}
 use Rattle.hidreport.specs.Making.{extent, key, makers, first_report_id}
 use Rattle.hidreport.specs.Meaning.{PushReading, meaning_by, unless_first, first_fault, fault_here}
@@ -47,204 +47,204 @@ use Rattle.hidreport.proofs.OpenLemmas.{opened-next, closed-next}
 use Rattle.hidreport.proofs.Reports.{reports-next, size-in_reports}
 
 -- the reports of a direction that the items before k make
-abbrev pub reports_before : (ℕ → Force) → Direction → List ItemType → ℕ → List ReportRecord
-reports_before force d items k =
-    reports_of (λ p. key force d items p.0) (λ p. bits_of (extent (force p.0)))
-    (fields_at force d items) (makers force d items k)
+abbrev pub reports_before : (ℕ → ItemState) → Direction → List ItemType → ℕ → List ReportRecord
+reports_before item_state d items k =
+    reports_of (λ p. key item_state d items p.0) (λ p. bits_of (extent (item_state p.0)))
+    (fields_at item_state d items) (makers item_state d items k)
 
 -- what is in force behind an item, and what the open Pushes keep there
-pub record Steps (keeping : PushKeeps) (force : ℕ → Force) (kept : ℕ → List Force)
+pub record Steps (keeping : PushKeeps) (item_state : ℕ → ItemState) (stack : ℕ → List ItemState)
     (items : List ItemType) (k : ℕ) (x : ItemType) : Type 0 where
-  pub in_force_next : force (suc k) ≡ cond (is_pop x)
-      (brought_back keeping (force k) (last_force (force k) (kept k))) (next_force (force k) x)
-  pub kept_next : kept (suc k) ≡ cond (is_pop x) (take (length (kept k) - 1) (kept k))
-      (cond (is_push x) (kept k ++ kept_of keeping (force k) ∷ []) (kept k))
+  pub item_states_next : item_state (suc k) ≡ cond (is_pop x)
+      (after_pop keeping (item_state k) (last_item_state (item_state k) (stack k))) (next_item_state (item_state k) x)
+  pub stack_next : stack (suc k) ≡ cond (is_pop x) (take (length (stack k) - 1) (stack k))
+      (cond (is_push x) (stack k ++ pushed_copy keeping (item_state k) ∷ []) (stack k))
   pub rests_next : Rests items (suc k)
 
 -- All that the walk asks of a reading of Push and Pop: what is in force before the first item and
 -- behind each one.
-pub record Follows (keeping : PushKeeps) (force : ℕ → Force) (kept : ℕ → List Force)
+pub record Follows (keeping : PushKeeps) (item_state : ℕ → ItemState) (stack : ℕ → List ItemState)
     (items : List ItemType) : Type 0 where
-  pub begins : nothing_in_force ≡ force 0
-  pub empty : (nothing_held keeping).kept ≡ kept 0
-  pub leveled : (k : ℕ) → length (kept k) ≡ level items k
+  pub begins : no_item_state ≡ item_state 0
+  pub empty : (first_state keeping).stack ≡ stack 0
+  pub leveled : (k : ℕ) → length (stack k) ≡ level items k
   pub goes_on : (front rest : List ItemType) (x : ItemType) → items ≡ front ++ x ∷ rest
       → Rests items (length front)
       → (is_pop x ≡ true → 0 < level items (length front))
-      → Steps keeping force kept items (length front) x
+      → Steps keeping item_state stack items (length front) x
 
 -- what is held at k is what the definitions say of the items before k
-pub record Holds (force : ℕ → Force) (kept : ℕ → List Force) (items : List ItemType) (k : ℕ)
-    (h : Held) : Type 0 where
-  pub in_force : h.force ≡ force k
+pub record Holds (item_state : ℕ → ItemState) (stack : ℕ → List ItemState) (items : List ItemType) (k : ℕ)
+    (h : StateRecord) : Type 0 where
+  pub item_states : h.item_state ≡ item_state k
   pub rests : Rests items k
-  pub keeps : h.kept ≡ kept k
-  pub listed : (d : Direction) → reports_in d h.descriptor ≡ reports_before force d items k
+  pub keeps : h.stack ≡ stack k
+  pub listed : (d : Direction) → reports_in d h.descriptor ≡ reports_before item_state d items k
   pub first : (d : Direction)
-      → first_report_id force (makers force d items k) ≡ first_id (reports_in d h.descriptor)
-  pub numbered : h.fields ≡ fields_before force items k
+      → first_report_id item_state (makers item_state d items k) ≡ first_id (reports_in d h.descriptor)
+  pub numbered : h.fields ≡ fields_before item_state items k
   pub stands : Stands items k
-  pub inside : h.opened ≡ collections_at force items k
+  pub inside : h.opened ≡ collections_at item_state items k
   pub counted : h.collections ≡ collections_before items k
 
-key-held : (force : ℕ → Force) (kept : ℕ → List Force) (items : List ItemType) (k : ℕ) (h : Held)
-    (d : Direction) → Holds force kept items k h → key force d items k ≡ key_in d h
-key-held force kept items k h d held =
-    ap (λ (f : Force). first_of f.report_id (first_report_id force (makers force d items k)))
-    (sym held.in_force) ∙ ap (first_of h.force.report_id) (held.first d)
+key-held : (item_state : ℕ → ItemState) (stack : ℕ → List ItemState) (items : List ItemType) (k : ℕ) (h : StateRecord)
+    (d : Direction) → Holds item_state stack items k h → key item_state d items k ≡ key_in d h
+key-held item_state stack items k h d held =
+    ap (λ (f : ItemState). first_of f.report_id (first_report_id item_state (makers item_state d items k)))
+    (sym held.item_states) ∙ ap (first_of h.item_state.report_id) (held.first d)
 
-start-held : (force : ℕ → Force) (kept : ℕ → List Force) (items : List ItemType) (k : ℕ) (h : Held)
-    (d : Direction) → Holds force kept items k h → start force d items k ≡ start_in d h
-start-held force kept items k h d held =
-    sym (size-in_reports (λ p. key force d items p.0) (λ p. bits_of (extent (force p.0)))
-    (fields_at force d items) (makers force d items k) (key force d items k))
-    ∙ ap (size_in (key force d items k)) (sym (held.listed d))
-    ∙ ap (λ id. size_in id (reports_in d h.descriptor)) (key-held force kept items k h d held)
+start-held : (item_state : ℕ → ItemState) (stack : ℕ → List ItemState) (items : List ItemType) (k : ℕ) (h : StateRecord)
+    (d : Direction) → Holds item_state stack items k h → start item_state d items k ≡ start_in d h
+start-held item_state stack items k h d held =
+    sym (size-in_reports (λ p. key item_state d items p.0) (λ p. bits_of (extent (item_state p.0)))
+    (fields_at item_state d items) (makers item_state d items k) (key item_state d items k))
+    ∙ ap (size_in (key item_state d items k)) (sym (held.listed d))
+    ∙ ap (λ id. size_in id (reports_in d h.descriptor)) (key-held item_state stack items k h d held)
 
-start-for : (force : ℕ → Force) (kept : ℕ → List Force) (items : List ItemType) (k : ℕ) (h : Held)
-    (o : Option (Direction × Flags)) → Holds force kept items k h
-    → start_of force o items k ≡ start_for o h
-start-for force kept items k h None held = refl
-start-for force kept items k h (Some x) held = start-held force kept items k h x.0 held
+start-for : (item_state : ℕ → ItemState) (stack : ℕ → List ItemState) (items : List ItemType) (k : ℕ) (h : StateRecord)
+    (o : Option (Direction × Flags)) → Holds item_state stack items k h
+    → start_of item_state o items k ≡ start_for o h
+start-for item_state stack items k h None held = refl
+start-for item_state stack items k h (Some x) held = start-held item_state stack items k h x.0 held
 
 -- as many collections are held as the depth says
-depth-held : (force : ℕ → Force) (kept : ℕ → List Force) (items : List ItemType) (k : ℕ) (h : Held)
-    → Holds force kept items k h → depth items k ≡ length h.opened
-depth-held force kept items k h held =
-    let size : length (collections_at force items k) ≡ length (open_at items k) =
+depth-held : (item_state : ℕ → ItemState) (stack : ℕ → List ItemState) (items : List ItemType) (k : ℕ) (h : StateRecord)
+    → Holds item_state stack items k h → depth items k ≡ length h.opened
+depth-held item_state stack items k h held =
+    let size : length (collections_at item_state items k) ≡ length (open_at items k) =
     grind (arith, common_steps) in
     sym (ap length held.inside ∙ size ∙ open-length items k held.stands)
 
-counts-held : (force : ℕ → Force) (kept : ℕ → List Force) (items : List ItemType) (k : ℕ) (h : Held)
-    (x : ItemType) → ((n : ℕ) → length (kept n) ≡ level items n) → Holds force kept items k h
-    → counts force items k x ≡ counts_in h x
-counts-held force kept items k h x leveled held =
-    let l : level items k ≡ length h.kept = sym (ap length held.keeps ∙ leveled k) in
-    let d : depth items k ≡ length h.opened = depth-held force kept items k h held in
+counts-held : (item_state : ℕ → ItemState) (stack : ℕ → List ItemState) (items : List ItemType) (k : ℕ) (h : StateRecord)
+    (x : ItemType) → ((n : ℕ) → length (stack n) ≡ level items n) → Holds item_state stack items k h
+    → counts item_state items k x ≡ counts_in h x
+counts-held item_state stack items k h x leveled held =
+    let l : level items k ≡ length h.stack = sym (ap length held.keeps ∙ leveled k) in
+    let d : depth items k ≡ length h.opened = depth-held item_state stack items k h held in
     let c : collections_before items k ≡ h.collections = sym held.counted in
-    let f : fields_before force items k ≡ h.fields = sym held.numbered in
-    let s : start_of force (data_of x) items k ≡ start_for (data_of x) h =
-    start-for force kept items k h (data_of x) held in
+    let f : fields_before item_state items k ≡ h.fields = sym held.numbered in
+    let s : start_of item_state (data_of x) items k ≡ start_for (data_of x) h =
+    start-for item_state stack items k h (data_of x) held in
     cc
 
-pub fault-held : (force : ℕ → Force) (kept : ℕ → List Force) (items : List ItemType) (k : ℕ)
-    (h : Held) (x : ItemType) → ((n : ℕ) → length (kept n) ≡ level items n)
-    → Holds force kept items k h
-    → fault force items k x ≡ item_fault (counts_in h x) h.force x
-fault-held force kept items k h x leveled held =
-    ap (λ n. item_fault n (force k) x) (counts-held force kept items k h x leveled held)
-    ∙ ap (λ f. item_fault (counts_in h x) f x) (sym held.in_force)
+pub fault-held : (item_state : ℕ → ItemState) (stack : ℕ → List ItemState) (items : List ItemType) (k : ℕ)
+    (h : StateRecord) (x : ItemType) → ((n : ℕ) → length (stack n) ≡ level items n)
+    → Holds item_state stack items k h
+    → fault item_state items k x ≡ item_fault (counts_in h x) h.item_state x
+fault-held item_state stack items k h x leveled held =
+    ap (λ n. item_fault n (item_state k) x) (counts-held item_state stack items k h x leveled held)
+    ∙ ap (λ f. item_fault (counts_in h x) f x) (sym held.item_states)
 
-pub fields-held : (force : ℕ → Force) (kept : ℕ → List Force) (items : List ItemType) (k : ℕ)
-    (h : Held) (d : Direction) (x : ItemType) → Holds force kept items k h
-    → fields_at force d items (k, x) ≡ fields_of h.force h.opened h.fields (start_in d h)
-    (data_of x) (extent h.force)
-fields-held force kept items k h d x held =
-    ap (λ cs. fields_of (force k) cs (fields_before force items k) (start force d items k)
-    (data_of x) (extent (force k))) (sym held.inside)
-    ∙ ap (λ f. fields_of f h.opened (fields_before force items k) (start force d items k)
-    (data_of x) (extent f)) (sym held.in_force)
-    ∙ ap (λ n. fields_of h.force h.opened n (start force d items k) (data_of x) (extent h.force))
+pub fields-held : (item_state : ℕ → ItemState) (stack : ℕ → List ItemState) (items : List ItemType) (k : ℕ)
+    (h : StateRecord) (d : Direction) (x : ItemType) → Holds item_state stack items k h
+    → fields_at item_state d items (k, x) ≡ fields_of h.item_state h.opened h.fields (start_in d h)
+    (data_of x) (extent h.item_state)
+fields-held item_state stack items k h d x held =
+    ap (λ cs. fields_of (item_state k) cs (fields_before item_state items k) (start item_state d items k)
+    (data_of x) (extent (item_state k))) (sym held.inside)
+    ∙ ap (λ f. fields_of f h.opened (fields_before item_state items k) (start item_state d items k)
+    (data_of x) (extent f)) (sym held.item_states)
+    ∙ ap (λ n. fields_of h.item_state h.opened n (start item_state d items k) (data_of x) (extent h.item_state))
     (sym held.numbered)
-    ∙ ap (λ s. fields_of h.force h.opened h.fields s (data_of x) (extent h.force))
-    (start-held force kept items k h d held)
+    ∙ ap (λ s. fields_of h.item_state h.opened h.fields s (data_of x) (extent h.item_state))
+    (start-held item_state stack items k h d held)
 
 -- the items that make fields, with one more item
-makers-next : (force : ℕ → Force) (items front rest : List ItemType) (x : ItemType) (d : Direction)
+makers-next : (item_state : ℕ → ItemState) (items front rest : List ItemType) (x : ItemType) (d : Direction)
     → items ≡ front ++ x ∷ rest
-    → makers force d items (suc (length front)) ≡ makers force d items (length front) ++ cond
-    (goes d (data_of x) && is_some (extent (force (length front)))) ((length front, x) ∷ []) []
-makers-next force items front rest x d e =
-    let test = λ (p : Indexed). goes d (data_of p.1) && is_some (extent (force p.0)) in
+    → makers item_state d items (suc (length front)) ≡ makers item_state d items (length front) ++ cond
+    (goes d (data_of x) && is_some (extent (item_state (length front)))) ((length front, x) ∷ []) []
+makers-next item_state items front rest x d e =
+    let test = λ (p : Indexed). goes d (data_of p.1) && is_some (extent (item_state p.0)) in
     ap (filter test) (before-next items front rest x e)
     ∙ filter-append test (before items (length front)) ((length front, x) ∷ [])
 
-listed-by : (b : Bool) (force : ℕ → Force) (kept : ℕ → List Force)
-    (items front rest : List ItemType) (h : Held) (x : ItemType) (d : Direction)
-    → items ≡ front ++ x ∷ rest → Holds force kept items (length front) h
-    → (goes d (data_of x) && is_some (extent (force (length front)))) ≡ b
-    → reports_before force d items (suc (length front))
-    ≡ cond b (added_to (key_in d h) (bits_of (extent h.force))
-    (fields_of h.force h.opened h.fields (start_in d h) (data_of x) (extent h.force))
+listed-by : (b : Bool) (item_state : ℕ → ItemState) (stack : ℕ → List ItemState)
+    (items front rest : List ItemType) (h : StateRecord) (x : ItemType) (d : Direction)
+    → items ≡ front ++ x ∷ rest → Holds item_state stack items (length front) h
+    → (goes d (data_of x) && is_some (extent (item_state (length front)))) ≡ b
+    → reports_before item_state d items (suc (length front))
+    ≡ cond b (added_to (key_in d h) (bits_of (extent h.item_state))
+    (fields_of h.item_state h.opened h.fields (start_in d h) (data_of x) (extent h.item_state))
     (reports_in d h.descriptor)) (reports_in d h.descriptor)
-listed-by true force kept items front rest h x d e held t =
+listed-by true item_state stack items front rest h x d e held t =
     let k = length front in
-    let key_of = λ (p : Indexed). key force d items p.0 in
-    let bits = λ (p : Indexed). bits_of (extent (force p.0)) in
-    let parts = fields_at force d items in
-    let ms = makers force d items k in
+    let key_of = λ (p : Indexed). key item_state d items p.0 in
+    let bits = λ (p : Indexed). bits_of (extent (item_state p.0)) in
+    let parts = fields_at item_state d items in
+    let ms = makers item_state d items k in
     ap (reports_of key_of bits parts)
-    (makers-next force items front rest x d e ∙ ap (λ b. ms ++ cond b ((k, x) ∷ []) []) t)
+    (makers-next item_state items front rest x d e ∙ ap (λ b. ms ++ cond b ((k, x) ∷ []) []) t)
     ∙ reports-next key_of bits parts ms (k, x)
-    ∙ ap (λ id. added_to id (bits_of (extent (force k))) (fields_at force d items (k, x))
-    (reports_of key_of bits parts ms)) (key-held force kept items k h d held)
-    ∙ ap (λ f. added_to (key_in d h) (bits_of (extent f)) (fields_at force d items (k, x))
-    (reports_of key_of bits parts ms)) (sym held.in_force)
-    ∙ ap (λ fs. added_to (key_in d h) (bits_of (extent h.force)) fs
-    (reports_of key_of bits parts ms)) (fields-held force kept items k h d x held)
-    ∙ ap (added_to (key_in d h) (bits_of (extent h.force))
-    (fields_of h.force h.opened h.fields (start_in d h) (data_of x) (extent h.force)))
+    ∙ ap (λ id. added_to id (bits_of (extent (item_state k))) (fields_at item_state d items (k, x))
+    (reports_of key_of bits parts ms)) (key-held item_state stack items k h d held)
+    ∙ ap (λ f. added_to (key_in d h) (bits_of (extent f)) (fields_at item_state d items (k, x))
+    (reports_of key_of bits parts ms)) (sym held.item_states)
+    ∙ ap (λ fs. added_to (key_in d h) (bits_of (extent h.item_state)) fs
+    (reports_of key_of bits parts ms)) (fields-held item_state stack items k h d x held)
+    ∙ ap (added_to (key_in d h) (bits_of (extent h.item_state))
+    (fields_of h.item_state h.opened h.fields (start_in d h) (data_of x) (extent h.item_state)))
     (sym (held.listed d))
-listed-by false force kept items front rest h x d e held t =
+listed-by false item_state stack items front rest h x d e held t =
     let k = length front in
-    let ms = makers force d items k in
-    ap (reports_of (λ p. key force d items p.0) (λ p. bits_of (extent (force p.0)))
-    (fields_at force d items)) (makers-next force items front rest x d e
+    let ms = makers item_state d items k in
+    ap (reports_of (λ p. key item_state d items p.0) (λ p. bits_of (extent (item_state p.0)))
+    (fields_at item_state d items)) (makers-next item_state items front rest x d e
     ∙ ap (λ b. ms ++ cond b ((k, x) ∷ []) []) t ∙ append-nil ms)
     ∙ sym (held.listed d)
 
-listed-next : (force : ℕ → Force) (kept : ℕ → List Force) (items front rest : List ItemType)
-    (h : Held) (x : ItemType) (d : Direction) → items ≡ front ++ x ∷ rest
-    → Holds force kept items (length front) h
-    → reports_before force d items (suc (length front)) ≡ next_reports d h x
-listed-next force kept items front rest h x d e held =
-    listed-by (adds d h x) force kept items front rest h x d e held
-    (ap (λ f. goes d (data_of x) && is_some (extent f)) (sym held.in_force))
+listed-next : (item_state : ℕ → ItemState) (stack : ℕ → List ItemState) (items front rest : List ItemType)
+    (h : StateRecord) (x : ItemType) (d : Direction) → items ≡ front ++ x ∷ rest
+    → Holds item_state stack items (length front) h
+    → reports_before item_state d items (suc (length front)) ≡ next_reports d h x
+listed-next item_state stack items front rest h x d e held =
+    listed-by (adds d h x) item_state stack items front rest h x d e held
+    (ap (λ f. goes d (data_of x) && is_some (extent f)) (sym held.item_states))
 
 -- the first report's id, with one more item
-first-more : (force : ℕ → Force) (items : List ItemType) (ms : List Indexed)
+first-more : (item_state : ℕ → ItemState) (items : List ItemType) (ms : List Indexed)
     (key_of : Indexed → Option ℕ) (bits : Indexed → ℕ) (parts : Indexed → List FieldRecord)
     (m : Indexed)
-    → (ms ≡ [] → (force m.0).report_id ≡ key_of m)
-    → first_report_id force ms ≡ first_id (reports_of key_of bits parts ms)
-    → first_report_id force (ms ++ m ∷ []) ≡ first_id (reports_of key_of bits parts (ms ++ m ∷ []))
-first-more force items [] key_of bits parts m new old = new refl
-first-more force items (p ∷ ps) key_of bits parts m new old = old
+    → (ms ≡ [] → (item_state m.0).report_id ≡ key_of m)
+    → first_report_id item_state ms ≡ first_id (reports_of key_of bits parts ms)
+    → first_report_id item_state (ms ++ m ∷ []) ≡ first_id (reports_of key_of bits parts (ms ++ m ∷ []))
+first-more item_state items [] key_of bits parts m new old = new refl
+first-more item_state items (p ∷ ps) key_of bits parts m new old = old
 
-first-by : (b : Bool) (force : ℕ → Force) (kept : ℕ → List Force) (items front rest : List ItemType)
-    (h : Held) (x : ItemType) (d : Direction) → items ≡ front ++ x ∷ rest
-    → Holds force kept items (length front) h
-    → (goes d (data_of x) && is_some (extent (force (length front)))) ≡ b
-    → first_report_id force (makers force d items (suc (length front))) ≡ first_id
-    (reports_before force d items (suc (length front)))
-first-by b force kept items front rest h x d e held t = first-at b refl where
+first-by : (b : Bool) (item_state : ℕ → ItemState) (stack : ℕ → List ItemState) (items front rest : List ItemType)
+    (h : StateRecord) (x : ItemType) (d : Direction) → items ≡ front ++ x ∷ rest
+    → Holds item_state stack items (length front) h
+    → (goes d (data_of x) && is_some (extent (item_state (length front)))) ≡ b
+    → first_report_id item_state (makers item_state d items (suc (length front))) ≡ first_id
+    (reports_before item_state d items (suc (length front)))
+first-by b item_state stack items front rest h x d e held t = first-at b refl where
   k : ℕ
   k = length front
 
   key_of : Indexed → Option ℕ
-  key_of p = key force d items p.0
+  key_of p = key item_state d items p.0
 
   bits : Indexed → ℕ
-  bits p = bits_of (extent (force p.0))
+  bits p = bits_of (extent (item_state p.0))
 
   ms : List Indexed
-  ms = makers force d items k
+  ms = makers item_state d items k
 
-  old : first_report_id force ms ≡ first_id (reports_of key_of bits (fields_at force d items) ms)
+  old : first_report_id item_state ms ≡ first_id (reports_of key_of bits (fields_at item_state d items) ms)
   old = held.first d ∙ ap first_id (held.listed d)
 
-  all : (c : Bool) → b ≡ c → makers force d items (suc k) ≡ ms ++ cond c ((k, x) ∷ []) []
-  all c s = makers-next force items front rest x d e
+  all : (c : Bool) → b ≡ c → makers item_state d items (suc k) ≡ ms ++ cond c ((k, x) ∷ []) []
+  all c s = makers-next item_state items front rest x d e
       ∙ ap (λ b. ms ++ cond b ((k, x) ∷ []) []) (t ∙ s)
 
   both : List Indexed → Type 0
-  both l = first_report_id force l ≡ first_id (reports_of key_of bits (fields_at force d items) l)
+  both l = first_report_id item_state l ≡ first_id (reports_of key_of bits (fields_at item_state d items) l)
 
-  first-at : (c : Bool) → b ≡ c → both (makers force d items (suc k))
+  first-at : (c : Bool) → b ≡ c → both (makers item_state d items (suc k))
   first-at true s = subst both (sym (all true s))
-      (first-more force items ms key_of bits (fields_at force d items) (k, x)
-      (λ n. sym (ap (λ l. first_of (force k).report_id (first_report_id force l)) n
-      ∙ first_of-none (force k).report_id)) old)
+      (first-more item_state items ms key_of bits (fields_at item_state d items) (k, x)
+      (λ n. sym (ap (λ l. first_of (item_state k).report_id (first_report_id item_state l)) n
+      ∙ first_of-none (item_state k).report_id)) old)
   first-at false s = subst both (sym (all false s ∙ append-nil ms)) old
 
 -- the number of fields, with one more item
@@ -266,40 +266,40 @@ one-direction (Some (Input, flags)) (Some e) = omega arith
 one-direction (Some (Output, flags)) (Some e) = omega arith
 one-direction (Some (Feature, flags)) (Some e) = omega arith
 
-numbered-next : (force : ℕ → Force) (kept : ℕ → List Force) (items front rest : List ItemType)
-    (h : Held) (x : ItemType) → items ≡ front ++ x ∷ rest → Holds force kept items (length front) h
-    → fields_before force items (suc (length front)) ≡ h.fields + fields_made (data_of x)
-    (extent h.force)
-numbered-next force kept items front rest h x e held =
+numbered-next : (item_state : ℕ → ItemState) (stack : ℕ → List ItemState) (items front rest : List ItemType)
+    (h : StateRecord) (x : ItemType) → items ≡ front ++ x ∷ rest → Holds item_state stack items (length front) h
+    → fields_before item_state items (suc (length front)) ≡ h.fields + fields_made (data_of x)
+    (extent h.item_state)
+numbered-next item_state stack items front rest h x e held =
     let k = length front in
-    let f = λ (p : Indexed). fields_made (data_of p.1) (extent (force p.0)) in
+    let f = λ (p : Indexed). fields_made (data_of p.1) (extent (item_state p.0)) in
     let o = data_of x in
-    let a = extent (force k) in
-    let in_next = ap (sum_by f) (makers-next force items front rest x Input e)
-    ∙ sum-next (goes Input o && is_some a) f (makers force Input items k) (k, x) in
-    let out_next = ap (sum_by f) (makers-next force items front rest x Output e)
-    ∙ sum-next (goes Output o && is_some a) f (makers force Output items k) (k, x) in
-    let feature_next = ap (sum_by f) (makers-next force items front rest x Feature e)
-    ∙ sum-next (goes Feature o && is_some a) f (makers force Feature items k) (k, x) in
+    let a = extent (item_state k) in
+    let in_next = ap (sum_by f) (makers-next item_state items front rest x Input e)
+    ∙ sum-next (goes Input o && is_some a) f (makers item_state Input items k) (k, x) in
+    let out_next = ap (sum_by f) (makers-next item_state items front rest x Output e)
+    ∙ sum-next (goes Output o && is_some a) f (makers item_state Output items k) (k, x) in
+    let feature_next = ap (sum_by f) (makers-next item_state items front rest x Feature e)
+    ∙ sum-next (goes Feature o && is_some a) f (makers item_state Feature items k) (k, x) in
     let one = one-direction o a in
-    let old : h.fields ≡ sum_by f (makers force Input items k) +
-    (sum_by f (makers force Output items k) + sum_by f (makers force Feature items k)) =
+    let old : h.fields ≡ sum_by f (makers item_state Input items k) +
+    (sum_by f (makers item_state Output items k) + sum_by f (makers item_state Feature items k)) =
     held.numbered in
-    let joined : fields_before force items (suc k) ≡ h.fields + fields_made o a =
+    let joined : fields_before item_state items (suc k) ≡ h.fields + fields_made o a =
     omega (arith, in_next, out_next, feature_next, one, old) in
-    joined ∙ ap (λ g. h.fields + fields_made o (extent g)) (sym held.in_force)
+    joined ∙ ap (λ g. h.fields + fields_made o (extent g)) (sym held.item_states)
 
-in_direction : (d : Direction) (h : Held) (x : ItemType)
-    → reports_in d (next_held h x).descriptor ≡ next_reports d h x
+in_direction : (d : Direction) (h : StateRecord) (x : ItemType)
+    → reports_in d (next_state h x).descriptor ≡ next_reports d h x
 in_direction Input h x = refl
 in_direction Output h x = refl
 in_direction Feature h x = refl
 
 -- the open collections, with one more item
-record OpenedNext (force : ℕ → Force) (items : List ItemType) (k : ℕ) (h : Held) (x : ItemType) :
+record OpenedNext (item_state : ℕ → ItemState) (items : List ItemType) (k : ℕ) (h : StateRecord) (x : ItemType) :
     Type 0 where
   pub stands : Stands items (suc k)
-  pub inside : next_opened h x ≡ collections_at force items (suc k)
+  pub inside : next_opened h x ≡ collections_at item_state items (suc k)
 
 not_both_kinds : (x : ItemType) (kind : CollectionItem) → collection_of x ≡ Some kind
     → is_end_collection x ≡ false
@@ -316,7 +316,7 @@ some-deep true n e h = cc
 some-deep false n e h = grind (arith, nat_tests)
 
 -- an EndCollection without a fault closes a collection
-end-deep : (h : Held) (x : ItemType) → is_end_collection x ≡ true → fault_in h x ≡ None
+end-deep : (h : StateRecord) (x : ItemType) → is_end_collection x ≡ true → fault_in h x ≡ None
     → 0 < length h.opened
 end-deep h (item.Main main.EndCollection) e faultless =
     some-deep (length h.opened == 0) (length h.opened) refl faultless
@@ -329,39 +329,39 @@ end-deep h (item.Local y) e faultless = cc
 end-deep h item.Long e faultless = cc
 end-deep h item.Reserved e faultless = cc
 
-opened-by : (o : Option CollectionItem) (b : Bool) (force : ℕ → Force) (kept : ℕ → List Force)
-    (items front rest : List ItemType) (h : Held) (x : ItemType) → items ≡ front ++ x ∷ rest
-    → Holds force kept items (length front) h
+opened-by : (o : Option CollectionItem) (b : Bool) (item_state : ℕ → ItemState) (stack : ℕ → List ItemState)
+    (items front rest : List ItemType) (h : StateRecord) (x : ItemType) → items ≡ front ++ x ∷ rest
+    → Holds item_state stack items (length front) h
     → fault_in h x ≡ None → collection_of x ≡ o → is_end_collection x ≡ b
-    → OpenedNext force items (length front) h x
-opened-by (Some kind) b force kept items front rest h x e held faultless opens closes =
+    → OpenedNext item_state items (length front) h x
+opened-by (Some kind) b item_state stack items front rest h x e held faultless opens closes =
     let k = length front in
     let plain : is_end_collection x ≡ false = not_both_kinds x kind opens in
     let next = opened-next items front rest x e held.stands (ap is_some opens) plain in
-    let new : collection_record force items (k, x) ≡ record {
+    let new : collection_record item_state items (k, x) ≡ record {
       id = h.collections;
       kind = kind;
       usages =
-          (list_or_none (usages_of h.force)).usages;
+          (list_or_none (usages_of h.item_state)).usages;
     } =
     ap (λ (o : Option CollectionItem). record {
       id = collections_before items k;
       kind = unwrap_or o kinds.Physical;
       usages =
-          (list_or_none (usages_of (force k))).usages;
+          (list_or_none (usages_of (item_state k))).usages;
     }) opens
     ∙ ap (λ (n : ℕ). record {
       id = n;
       kind = kind;
       usages =
-          (list_or_none (usages_of (force k))).usages;
+          (list_or_none (usages_of (item_state k))).usages;
     }) (sym held.counted)
-    ∙ ap (λ (f : Force). record {
+    ∙ ap (λ (f : ItemState). record {
       id = h.collections;
       kind = kind;
       usages =
           (list_or_none (usages_of f)).usages;
-    }) (sym held.in_force) in
+    }) (sym held.item_states) in
     record {
       stands = next.1;
       inside = ap (λ c. cond c (take (length h.opened - 1) h.opened)
@@ -371,13 +371,13 @@ opened-by (Some kind) b force kept items front rest h x e held faultless opens c
             id = h.collections;
             kind = kind;
             usages =
-                (list_or_none (usages_of h.force)).usages;
+                (list_or_none (usages_of h.item_state)).usages;
           } ∷ []) held.inside
-          ∙ ap (λ (c : CollectionRecord). collections_at force items k ++ c ∷ []) (sym new)
-          ∙ sym (map-append (collection_record force items) (open_at items k) ((k, x) ∷ []))
-          ∙ ap (map (collection_record force items)) (sym next.0);
+          ∙ ap (λ (c : CollectionRecord). collections_at item_state items k ++ c ∷ []) (sym new)
+          ∙ sym (map-append (collection_record item_state items) (open_at items k) ((k, x) ∷ []))
+          ∙ ap (map (collection_record item_state items)) (sym next.0);
     }
-opened-by None false force kept items front rest h x e held faultless opens closes =
+opened-by None false item_state stack items front rest h x e held faultless opens closes =
     let k = length front in
     let next = plain-next items front rest x e held.stands (ap is_some opens) closes in
     record {
@@ -385,39 +385,39 @@ opened-by None false force kept items front rest h x e held faultless opens clos
       inside = ap (λ c. cond c (take (length h.opened - 1) h.opened)
           (h.opened ++ new_collection h (collection_of x))) closes
           ∙ ap (λ o. h.opened ++ new_collection h o) opens ∙ append-nil h.opened
-          ∙ held.inside ∙ ap (map (collection_record force items)) (sym next.0);
+          ∙ held.inside ∙ ap (map (collection_record item_state items)) (sym next.0);
     }
-opened-by None true force kept items front rest h x e held faultless opens closes =
+opened-by None true item_state stack items front rest h x e held faultless opens closes =
     let k = length front in
     let deep : 0 < depth items k =
-    omega (arith, end-deep h x closes faultless, depth-held force kept items k h held) in
+    omega (arith, end-deep h x closes faultless, depth-held item_state stack items k h held) in
     let next = closed-next items front rest x e held.stands (ap is_some opens) closes deep in
     let size : length h.opened ≡ length (open_at items k) =
-    sym (depth-held force kept items k h held) ∙ sym (open-length items k held.stands) in
+    sym (depth-held item_state stack items k h held) ∙ sym (open-length items k held.stands) in
     record {
       stands = next.1;
       inside = ap (λ c. cond c (take (length h.opened - 1) h.opened)
           (h.opened ++ new_collection h (collection_of x))) closes
           ∙ ap (λ n. take (n - 1) h.opened) size
           ∙ ap (take (length (open_at items k) - 1)) held.inside
-          ∙ take-map (collection_record force items) (length (open_at items k) - 1)
+          ∙ take-map (collection_record item_state items) (length (open_at items k) - 1)
           (open_at items k)
-          ∙ ap (map (collection_record force items)) (sym next.0);
+          ∙ ap (map (collection_record item_state items)) (sym next.0);
     }
 
-one-opened : (h : Held) (o : Option CollectionItem)
+one-opened : (h : StateRecord) (o : Option CollectionItem)
     → length (new_collection h o) ≡ cond (is_some o) 1 0
 one-opened h None = refl
 one-opened h (Some kind) = refl
 
-some-kept : (b : Bool) (n : ℕ) → (n == 0) ≡ b → cond b (Some TooManyPops) None ≡ None → 0 < n
-some-kept true n e h = cc
-some-kept false n e h = grind (arith, nat_tests)
+some-stack : (b : Bool) (n : ℕ) → (n == 0) ≡ b → cond b (Some TooManyPops) None ≡ None → 0 < n
+some-stack true n e h = cc
+some-stack false n e h = grind (arith, nat_tests)
 
 -- a Pop without a fault has an open Push
-pop-deep : (h : Held) (x : ItemType) → is_pop x ≡ true → fault_in h x ≡ None → 0 < length h.kept
+pop-deep : (h : StateRecord) (x : ItemType) → is_pop x ≡ true → fault_in h x ≡ None → 0 < length h.stack
 pop-deep h (item.Global global.Pop) e faultless =
-    some-kept (length h.kept == 0) (length h.kept) refl faultless
+    some-stack (length h.stack == 0) (length h.stack) refl faultless
 pop-deep h (item.Global global.Push) e faultless = cc
 pop-deep h (item.Global g) e faultless = cc
 pop-deep h (item.Main y) e faultless = cc
@@ -426,39 +426,39 @@ pop-deep h item.Long e faultless = cc
 pop-deep h item.Reserved e faultless = cc
 
 -- what is held goes on by one item
-pub holds-next : (keeping : PushKeeps) (force : ℕ → Force) (kept : ℕ → List Force)
-    (items front rest : List ItemType) (h : Held) (x : ItemType) → Follows keeping force kept items
-    → h.keeping ≡ keeping → items ≡ front ++ x ∷ rest → Holds force kept items (length front) h
-    → fault_in h x ≡ None → Holds force kept items (suc (length front)) (next_held h x)
-holds-next keeping force kept items front rest h x follows reads e held faultless =
+pub holds-next : (keeping : PushKeeps) (item_state : ℕ → ItemState) (stack : ℕ → List ItemState)
+    (items front rest : List ItemType) (h : StateRecord) (x : ItemType) → Follows keeping item_state stack items
+    → h.keeping ≡ keeping → items ≡ front ++ x ∷ rest → Holds item_state stack items (length front) h
+    → fault_in h x ≡ None → Holds item_state stack items (suc (length front)) (next_state h x)
+holds-next keeping item_state stack items front rest h x follows reads e held faultless =
     let k = length front in
-    let opened = opened-by (collection_of x) (is_end_collection x) force kept items front rest h x e
+    let opened = opened-by (collection_of x) (is_end_collection x) item_state stack items front rest h x e
     held faultless refl refl in
     let deep : is_pop x ≡ true
     → 0 < level items k = λ pop. omega
     (arith, pop-deep h x pop faultless, ap length held.keeps, follows.leveled k) in
     let stepped = follows.goes_on front rest x e held.rests deep in
     record {
-      in_force = ap (λ r. cond (is_pop x) (brought_back r h.force (last_force h.force h.kept))
-          (next_force h.force x)) reads
-          ∙ ap (λ f. cond (is_pop x) (brought_back keeping f (last_force f h.kept))
-          (next_force f x)) held.in_force
-          ∙ ap (λ l. cond (is_pop x) (brought_back keeping (force k) (last_force (force k) l))
-          (next_force (force k) x)) held.keeps ∙ sym stepped.in_force_next;
+      item_states = ap (λ r. cond (is_pop x) (after_pop r h.item_state (last_item_state h.item_state h.stack))
+          (next_item_state h.item_state x)) reads
+          ∙ ap (λ f. cond (is_pop x) (after_pop keeping f (last_item_state f h.stack))
+          (next_item_state f x)) held.item_states
+          ∙ ap (λ l. cond (is_pop x) (after_pop keeping (item_state k) (last_item_state (item_state k) l))
+          (next_item_state (item_state k) x)) held.keeps ∙ sym stepped.item_states_next;
       rests = stepped.rests_next;
-      keeps = ap (λ r. cond (is_pop x) (take (length h.kept - 1) h.kept)
-          (cond (is_push x) (h.kept ++ kept_of r h.force ∷ []) h.kept)) reads
+      keeps = ap (λ r. cond (is_pop x) (take (length h.stack - 1) h.stack)
+          (cond (is_push x) (h.stack ++ pushed_copy r h.item_state ∷ []) h.stack)) reads
           ∙ ap (λ l. cond (is_pop x) (take (length l - 1) l)
-          (cond (is_push x) (l ++ kept_of keeping h.force ∷ []) l)) held.keeps
-          ∙ ap (λ f. cond (is_pop x) (take (length (kept k) - 1) (kept k))
-          (cond (is_push x) (kept k ++ kept_of keeping f ∷ []) (kept k))) held.in_force
-          ∙ sym stepped.kept_next;
-      listed = λ d. in_direction d h x ∙ sym (listed-next force kept items front rest h x d e held);
-      first = λ d. first-by (goes d (data_of x) && is_some (extent (force (length front)))) force
-          kept items front rest h x d e held refl
-          ∙ ap first_id (listed-next force kept items front rest h x d e held
+          (cond (is_push x) (l ++ pushed_copy keeping h.item_state ∷ []) l)) held.keeps
+          ∙ ap (λ f. cond (is_pop x) (take (length (stack k) - 1) (stack k))
+          (cond (is_push x) (stack k ++ pushed_copy keeping f ∷ []) (stack k))) held.item_states
+          ∙ sym stepped.stack_next;
+      listed = λ d. in_direction d h x ∙ sym (listed-next item_state stack items front rest h x d e held);
+      first = λ d. first-by (goes d (data_of x) && is_some (extent (item_state (length front)))) item_state
+          stack items front rest h x d e held refl
+          ∙ ap first_id (listed-next item_state stack items front rest h x d e held
           ∙ sym (in_direction d h x));
-      numbered = sym (numbered-next force kept items front rest h x e held);
+      numbered = sym (numbered-next item_state stack items front rest h x e held);
       stands = opened.stands;
       inside = opened.inside;
       counted = ap (λ n. n + length (new_collection h (collection_of x))) held.counted
@@ -467,21 +467,21 @@ holds-next keeping force kept items front rest h x follows reads e held faultles
     }
 
 -- the fault of the item, and what the rest gives where it has none
-walked-by : (o : Option MeaningFault) (force : ℕ → Force) (items : List ItemType) (k : ℕ) (h : Held)
+walked-by : (o : Option MeaningFault) (item_state : ℕ → ItemState) (items : List ItemType) (k : ℕ) (h : StateRecord)
     (x : ItemType) (xs : List ItemType) (all : DescriptorRecord)
-    → fault force items k x ≡ fault_in h x → fault_in h x ≡ o
+    → fault item_state items k x ≡ fault_in h x → fault_in h x ≡ o
     → (fault_in h x ≡ None
-    → walk (next_held h x) (k + 1) xs ≡ unless_first
-    (first_fault force items (enumerate_from (k + 1) xs)) all)
-    → walk h k (x ∷ xs) ≡ unless_first (first_fault force items (enumerate_from k (x ∷ xs))) all
-walked-by None force items k h x xs all same e rest =
-    ap (λ f. go_on (unless_fault f (next_held h x)) k (λ next. walk next (k + 1) xs)) e ∙ rest e
+    → walk (next_state h x) (k + 1) xs ≡ unless_first
+    (first_fault item_state items (enumerate_from (k + 1) xs)) all)
+    → walk h k (x ∷ xs) ≡ unless_first (first_fault item_state items (enumerate_from k (x ∷ xs))) all
+walked-by None item_state items k h x xs all same e rest =
+    ap (λ f. go_on (unless_fault f (next_state h x)) k (λ next. walk next (k + 1) xs)) e ∙ rest e
     ∙ sym (ap (λ f. unless_first (fault_here f k
-    (first_fault force items (enumerate_from (k + 1) xs))) all) (same ∙ e))
-walked-by (Some f) force items k h x xs all same e rest =
-    ap (λ f. go_on (unless_fault f (next_held h x)) k (λ next. walk next (k + 1) xs)) e
+    (first_fault item_state items (enumerate_from (k + 1) xs))) all) (same ∙ e))
+walked-by (Some f) item_state items k h x xs all same e rest =
+    ap (λ f. go_on (unless_fault f (next_state h x)) k (λ next. walk next (k + 1) xs)) e
     ∙ sym (ap (λ f. unless_first (fault_here f k
-    (first_fault force items (enumerate_from (k + 1) xs))) all) (same ∙ e))
+    (first_fault item_state items (enumerate_from (k + 1) xs))) all) (same ∙ e))
 
 descriptor-of : (r : DescriptorRecord) (i o f : List ReportRecord) → r.input ≡ i → r.output ≡ o
     → r.feature ≡ f → r ≡ record { input = i; output = o; feature = f }
@@ -491,48 +491,48 @@ descriptor-of r i o f p q s =
     first ∙ ap (λ a. record { input = i; output = a; feature = r.feature }) q
     ∙ ap (λ a. record { input = i; output = o; feature = a }) s
 
-pub at-end : (force : ℕ → Force) (kept : ℕ → List Force) (items : List ItemType) (h : Held)
-    → Holds force kept items (length items) h → h.descriptor ≡ descriptor force items
-at-end force kept items h held =
-    descriptor-of h.descriptor (reports force Input items) (reports force Output items)
-    (reports force Feature items) (held.listed Input) (held.listed Output) (held.listed Feature)
+pub at-end : (item_state : ℕ → ItemState) (stack : ℕ → List ItemState) (items : List ItemType) (h : StateRecord)
+    → Holds item_state stack items (length items) h → h.descriptor ≡ descriptor item_state items
+at-end item_state stack items h held =
+    descriptor-of h.descriptor (reports item_state Input items) (reports item_state Output items)
+    (reports item_state Feature items) (held.listed Input) (held.listed Output) (held.listed Feature)
 
-walk-from : (keeping : PushKeeps) (force : ℕ → Force) (kept : ℕ → List Force)
-    (items front rest : List ItemType) (h : Held) → Follows keeping force kept items
-    → h.keeping ≡ keeping → items ≡ front ++ rest → Holds force kept items (length front) h
+walk-from : (keeping : PushKeeps) (item_state : ℕ → ItemState) (stack : ℕ → List ItemState)
+    (items front rest : List ItemType) (h : StateRecord) → Follows keeping item_state stack items
+    → h.keeping ≡ keeping → items ≡ front ++ rest → Holds item_state stack items (length front) h
     → walk h (length front) rest ≡ unless_first
-    (first_fault force items (enumerate_from (length front) rest)) (descriptor force items)
-walk-from keeping force kept items front [] h follows reads e held =
+    (first_fault item_state items (enumerate_from (length front) rest)) (descriptor item_state items)
+walk-from keeping item_state stack items front [] h follows reads e held =
     let whole : items ≡ front = e ∙ append-nil front in
-    ap Ok (at-end force kept items h
-    (subst (λ n. Holds force kept items n h) (ap length (sym whole)) held))
-walk-from keeping force kept items front (x ∷ xs) h follows reads e held =
+    ap Ok (at-end item_state stack items h
+    (subst (λ n. Holds item_state stack items n h) (ap length (sym whole)) held))
+walk-from keeping item_state stack items front (x ∷ xs) h follows reads e held =
     let k = length front in
     let more : items ≡ (front ++ x ∷ []) ++ xs = e ∙ sym (append_assoc front (x ∷ []) xs) in
     let size : length (front ++ x ∷ []) ≡ suc k = grind (arith, common_steps) in
     let size_one : length (front ++ x ∷ []) ≡ k + 1 = size ∙ sym (add-one k) in
-    walked-by (fault_in h x) force items k h x xs (descriptor force items)
-    (fault-held force kept items k h x follows.leveled held) refl
+    walked-by (fault_in h x) item_state items k h x xs (descriptor item_state items)
+    (fault-held item_state stack items k h x follows.leveled held) refl
     (λ faultless.
-    let next : Holds force kept items (length (front ++ x ∷ [])) (next_held h x) =
-    subst (λ n. Holds force kept items n (next_held h x)) (sym size)
-    (holds-next keeping force kept items front xs h x follows reads e held faultless) in
-    subst (λ n. walk (next_held h x) n xs ≡ unless_first
-    (first_fault force items (enumerate_from n xs)) (descriptor force items)) size_one
-    (walk-from keeping force kept items (front ++ x ∷ []) xs (next_held h x) follows reads more
+    let next : Holds item_state stack items (length (front ++ x ∷ [])) (next_state h x) =
+    subst (λ n. Holds item_state stack items n (next_state h x)) (sym size)
+    (holds-next keeping item_state stack items front xs h x follows reads e held faultless) in
+    subst (λ n. walk (next_state h x) n xs ≡ unless_first
+    (first_fault item_state items (enumerate_from n xs)) (descriptor item_state items)) size_one
+    (walk-from keeping item_state stack items (front ++ x ∷ []) xs (next_state h x) follows reads more
     next))
 
-pub holds-nothing : (keeping : PushKeeps) (force : ℕ → Force) (kept : ℕ → List Force)
-    (items : List ItemType) → Follows keeping force kept items
-    → Holds force kept items 0 (nothing_held keeping)
-holds-nothing keeping force kept items follows = record {
-  in_force = follows.begins;
+pub holds-nothing : (keeping : PushKeeps) (item_state : ℕ → ItemState) (stack : ℕ → List ItemState)
+    (items : List ItemType) → Follows keeping item_state stack items
+    → Holds item_state stack items 0 (first_state keeping)
+holds-nothing keeping item_state stack items follows = record {
+  item_states = follows.begins;
   rests = rests-nothing items;
   keeps = follows.empty;
-  listed = λ d. elim d as (λ d. reports_in d (nothing_held keeping).descriptor ≡ reports_before
-      force d items 0) [ Input ↦ refl | Output ↦ refl | Feature ↦ refl ];
-  first = λ d. elim d as (λ d. first_report_id force (makers force d items 0) ≡ first_id
-      (reports_in d (nothing_held keeping).descriptor))
+  listed = λ d. elim d as (λ d. reports_in d (first_state keeping).descriptor ≡ reports_before
+      item_state d items 0) [ Input ↦ refl | Output ↦ refl | Feature ↦ refl ];
+  first = λ d. elim d as (λ d. first_report_id item_state (makers item_state d items 0) ≡ first_id
+      (reports_in d (first_state keeping).descriptor))
       [ Input ↦ refl | Output ↦ refl | Feature ↦ refl ];
   numbered = refl;
   stands = stands-nothing items;
@@ -541,9 +541,9 @@ holds-nothing keeping force kept items follows = record {
 }
 
 -- the walk gives the meaning, by each reading that it follows
-pub walk-follows : (keeping : PushKeeps) (reading : PushReading) (kept : ℕ → List Force)
-    (items : List ItemType) → Follows keeping (reading items) kept items
-    → walk (nothing_held keeping) 0 items ≡ meaning_by reading items
-walk-follows keeping reading kept items follows =
-    walk-from keeping (reading items) kept items [] items (nothing_held keeping) follows refl refl
-    (holds-nothing keeping (reading items) kept items follows)
+pub walk-follows : (keeping : PushKeeps) (reading : PushReading) (stack : ℕ → List ItemState)
+    (items : List ItemType) → Follows keeping (reading items) stack items
+    → walk (first_state keeping) 0 items ≡ meaning_by reading items
+walk-follows keeping reading stack items follows =
+    walk-from keeping (reading items) stack items [] items (first_state keeping) follows refl refl
+    (holds-nothing keeping (reading items) stack items follows)

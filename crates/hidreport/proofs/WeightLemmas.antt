@@ -8,14 +8,14 @@ use Rattle.std.proofs.lemmas.List.Sums.{sum_by-cons}
 use Rattle.hidreport_items.specs.Flags.{Flags}
 use Rattle.hidreport.specs.Fields.{attributes, each_from, field_count, fields_of, list_or_none}
 use Rattle.hidreport.specs.Fields.{make_fields, make_place, usage_at}
-use Rattle.hidreport.specs.InForce.{Force, first_of}
+use Rattle.hidreport.specs.ItemState.{ItemState, first_of}
 use Rattle.hidreport.specs.Kinds.{Direction, Input, Output, Feature}
 use Rattle.hidreport.specs.Making.{extent}
 use Rattle.hidreport.specs.MeaningFault.{PastBudget}
 use Rattle.hidreport.specs.Parser.Budget.{is_past, left_behind, past_fault, stop_in, weight_in}
 use Rattle.hidreport.specs.Parser.Budget.{weight_of_each}
 use Rattle.hidreport.specs.Parser.DataItem.{item_with}
-use Rattle.hidreport.specs.Parser.Machine.{Held, fault_in, start_in}
+use Rattle.hidreport.specs.Parser.Machine.{StateRecord, fault_in, start_in}
 use Rattle.hidreport.specs.Parser.Usages.{HasUsages, usage_list}
 use Rattle.hidreport.specs.Records.{Attributes, FieldRecord, VariableRecord}
 use Rattle.hidreport.specs.Usages.{UsageList, usages_of}
@@ -49,7 +49,7 @@ made-by false true report_id id first e flags us shared c v =
 made-by false false report_id id first e flags us shared c v = rw (c, v) (omega arith)
 
 -- padding has no usages to weigh
-usages-by : (constant : Bool) (flags : Flags) (f : Force) (us : Usages) (count around : ℕ)
+usages-by : (constant : Bool) (flags : Flags) (f : ItemState) (us : Usages) (count around : ℕ)
     → flags.constant ≡ constant → HasUsages flags f us
     → field_count flags count * weight_of_each flags (length (list_or_none (usages_of f)).usages)
     around ≡ field_count flags count * weight_of_each flags (length (usage_list us).usages)
@@ -59,36 +59,36 @@ usages-by false flags f us count around c has =
     ap (λ (l : UsageList). field_count flags count * weight_of_each flags (length l.usages) around)
     (ap list_or_none (has c).0)
 
-weight-with : (h : Held) (d : Direction) (flags : Flags)
+weight-with : (h : StateRecord) (d : Direction) (flags : Flags)
     → weight_in h (item_with d flags) ≡ sum_by field_weight
-    (fields_of h.force h.opened h.fields (start_in d h) (Some (d, flags)) (extent h.force))
+    (fields_of h.item_state h.opened h.fields (start_in d h) (Some (d, flags)) (extent h.item_state))
 weight-with h Input flags = zero-add _
 weight-with h Output flags = zero-add _
 weight-with h Feature flags = zero-add _
 
 -- the weight of a data item, from what the parser finds
-pub data-weight : (h : Held) (g : Force) (d : Direction) (flags : Flags) (size count : ℕ)
-    (us : Usages) → g ≡ h.force → extent g ≡ Some (size, count) → HasUsages flags h.force us
+pub data-weight : (h : StateRecord) (g : ItemState) (d : Direction) (flags : Flags) (size count : ℕ)
+    (us : Usages) → g ≡ h.item_state → extent g ≡ Some (size, count) → HasUsages flags h.item_state us
     → weight_in h (item_with d flags) ≡ field_count flags count * weight_of_each flags
     (length (usage_list us).usages) (sum_by collection_weight h.opened)
 data-weight h g d flags size count us same made has =
     weight-with h d flags
     ∙ ap (λ e. sum_by field_weight
-    (fields_of h.force h.opened h.fields (start_in d h) (Some (d, flags)) e))
+    (fields_of h.item_state h.opened h.fields (start_in d h) (Some (d, flags)) e))
     (ap extent (sym same) ∙ made)
-    ∙ made-by flags.constant flags.variable h.force.report_id h.fields (start_in d h) (size, count)
-    flags (list_or_none (usages_of h.force)) (attributes h.force h.opened d flags) refl refl
-    ∙ usages-by flags.constant flags h.force us count (sum_by collection_weight h.opened) refl has
+    ∙ made-by flags.constant flags.variable h.item_state.report_id h.fields (start_in d h) (size, count)
+    flags (list_or_none (usages_of h.item_state)) (attributes h.item_state h.opened d flags) refl refl
+    ∙ usages-by flags.constant flags h.item_state us count (sum_by collection_weight h.opened) refl has
 
 -- the same, from its numbers one by one
-pub data-weighs : (h now : Held) (g : Force) (d : Direction) (flags : Flags) (size count : ℕ)
-    (us : Usages) (n w around : ℕ) → h ≡ now → g ≡ h.force → extent g ≡ Some (size, count)
-    → HasUsages flags h.force us
+pub data-weighs : (h now : StateRecord) (g : ItemState) (d : Direction) (flags : Flags) (size count : ℕ)
+    (us : Usages) (n w around : ℕ) → h ≡ now → g ≡ h.item_state → extent g ≡ Some (size, count)
+    → HasUsages flags h.item_state us
     → n ≡ field_count flags count → w ≡ weight_of_each flags (length (usage_list us).usages) around
     → around ≡ sum_by collection_weight h.opened
     → weight_in now (item_with d flags) ≡ n * w
 data-weighs h now g d flags size count us n w around view same made has n_is w_is around_is =
-    subst (λ (z : Held). weight_in z (item_with d flags) ≡ n * w) view
+    subst (λ (z : StateRecord). weight_in z (item_with d flags) ≡ n * w) view
     (data-weight h g d flags size count us same made has
     ∙ ap (λ m. field_count flags count * m)
     (sym (w_is ∙ ap (weight_of_each flags (length (usage_list us).usages)) around_is))
@@ -104,7 +104,7 @@ nothing-spent None = refl
 nothing-spent (Some n) = ap (λ m. Some m) (let e : n - 0 ≡ n = omega arith in e)
 
 -- an item without a fault that is past what is left
-pub stop-past : (left : Option ℕ) (h : Held) (d : Direction) (flags : Flags) (w : ℕ)
+pub stop-past : (left : Option ℕ) (h : StateRecord) (d : Direction) (flags : Flags) (w : ℕ)
     → fault_in h (item_with d flags) ≡ None → weight_in h (item_with d flags) ≡ w
     → is_past left w ≡ true
     → stop_in left h (item_with d flags) ≡ Some PastBudget

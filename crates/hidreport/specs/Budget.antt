@@ -9,7 +9,7 @@ use Rattle.hidreport_lists.specs.Answer.{Refusal, InvalidAt}
 use Rattle.hidreport_lists.specs.Entry.{Entry}
 use Rattle.hidreport_lists.specs.Itemising.{itemise}
 use Rattle.hidreport_lists.specs.Messages.{grammar_message}
-use Rattle.hidreport.specs.InForce.{force}
+use Rattle.hidreport.specs.ItemState.{item_state}
 use Rattle.hidreport.specs.Kinds.{Indexed}
 use Rattle.hidreport.specs.Meaning.{PushReading, at_offset, empty_descriptor, meaning_by}
 use Rattle.hidreport.specs.MeaningFault.{MeaningFault, PastBudget}
@@ -50,4 +50,4 @@ parse_within_by reading limit (b ∷ bs) =
 
 -- the same where Push keeps globals and locals
 abbrev pub parse_within : ℕ → List ℕ → Result DescriptorRecord Refusal
-parse_within = parse_within_by force
+parse_within = parse_within_by item_state

@@ -7,7 +7,7 @@ use Rattle.hidreport_items.specs.declared.global.GlobalItem.TheVariants as globa
 use Rattle.hidreport_items.specs.declared.item.ItemType.{ItemType}
 use Rattle.hidreport_items.specs.declared.item.ItemType.TheVariants as item
 use Rattle.hidreport.specs.Fields.{field_count, fields_before}
-use Rattle.hidreport.specs.InForce.{Force, first_of}
+use Rattle.hidreport.specs.ItemState.{ItemState, first_of}
 use Rattle.hidreport.specs.Kinds.{Direction, data_of}
 use Rattle.hidreport.specs.Making.{extent}
 use Rattle.hidreport.specs.MeaningFault.{MeaningFault, TooManyPops, TooManyEnds, MissingUsages}
@@ -56,7 +56,7 @@ limit_fault false = None
 
 -- a data item that makes fields: its usages unless it is constant, then its report's end and the
 -- number of fields
-abbrev pub data_fault : Counts → Force → Flags → Option (ℕ × ℕ) → Option MeaningFault
+abbrev pub data_fault : Counts → ItemState → Flags → Option (ℕ × ℕ) → Option MeaningFault
 data_fault n f flags None = None
 data_fault n f flags (Some e) = first_of
     (if flags.constant then None else needed_usages_fault (usages_of f))
@@ -64,7 +64,7 @@ data_fault n f flags (Some e) = first_of
     || nat_lt id_count (n.fields + field_count flags e.1)))
 
 -- the fault of an item where so much was counted and this is in force
-abbrev pub item_fault : Counts → Force → ItemType → Option MeaningFault
+abbrev pub item_fault : Counts → ItemState → ItemType → Option MeaningFault
 item_fault n f (item.Global global.Pop) = if n.level == 0 then Some TooManyPops else None
 item_fault n f (item.Main main.EndCollection) = if n.depth == 0 then Some TooManyEnds else None
 item_fault n f (item.Main (main.Collection kind)) =
@@ -75,20 +75,20 @@ item_fault n f (item.Main (main.Feature flags)) = data_fault n f flags (extent f
 item_fault n f _ = None
 
 -- where the fields of a data item begin; other items have none
-abbrev pub start_of : (ℕ → Force) → Option (Direction × Flags) → List ItemType → ℕ → ℕ
-start_of force None items k = 0
-start_of force (Some x) items k = start force x.0 items k
+abbrev pub start_of : (ℕ → ItemState) → Option (Direction × Flags) → List ItemType → ℕ → ℕ
+start_of item_state None items k = 0
+start_of item_state (Some x) items k = start item_state x.0 items k
 
 -- the counts at k, where x stands
-abbrev pub counts : (ℕ → Force) → List ItemType → ℕ → ItemType → Counts
-counts force items k x = record {
+abbrev pub counts : (ℕ → ItemState) → List ItemType → ℕ → ItemType → Counts
+counts item_state items k x = record {
   level = level items k;
   depth = depth items k;
   collections = collections_before items k;
-  fields = fields_before force items k;
-  start = start_of force (data_of x) items k;
+  fields = fields_before item_state items k;
+  start = start_of item_state (data_of x) items k;
 }
 
 -- the fault of the item x at k, if it has one
-abbrev pub fault : (ℕ → Force) → List ItemType → ℕ → ItemType → Option MeaningFault
-fault force items k x = item_fault (counts force items k x) (force k) x
+abbrev pub fault : (ℕ → ItemState) → List ItemType → ℕ → ItemType → Option MeaningFault
+fault item_state items k x = item_fault (counts item_state items k x) (item_state k) x

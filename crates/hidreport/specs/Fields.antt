@@ -5,7 +5,7 @@ use Rattle.std.specs.Prelude.{◌∷◌, map, sum_by, unwrap_or, Option, None, S
 use Rattle.hidreport_items.specs.Flags.{Flags}
 use Rattle.hidreport_items.specs.declared.main_item.CollectionItem.TheVariants as kind
 use Rattle.hidreport_items.specs.declared.item.ItemType.{ItemType}
-use Rattle.hidreport.specs.InForce.{Force}
+use Rattle.hidreport.specs.ItemState.{ItemState}
 use Rattle.hidreport.specs.Kinds.{Indexed, Direction, Input, Output, Feature, data_of}
 use Rattle.hidreport.specs.Kinds.{collection_of}
 use Rattle.hidreport.specs.Making.{extent, makers}
@@ -28,15 +28,15 @@ fields_made (Some x) None = 0
 fields_made None e = 0
 
 -- how many fields the items before k made in a direction
-abbrev pub fields_in : (ℕ → Force) → Direction → List ItemType → ℕ → ℕ
-fields_in force d items k =
-    sum_by (λ p. fields_made (data_of p.1) (extent (force p.0))) (makers force d items k)
+abbrev pub fields_in : (ℕ → ItemState) → Direction → List ItemType → ℕ → ℕ
+fields_in item_state d items k =
+    sum_by (λ p. fields_made (data_of p.1) (extent (item_state p.0))) (makers item_state d items k)
 
 -- how many fields the items before k made, in all directions
-abbrev pub fields_before : (ℕ → Force) → List ItemType → ℕ → ℕ
-fields_before force items k =
-    fields_in force Input items k +
-    (fields_in force Output items k + fields_in force Feature items k)
+abbrev pub fields_before : (ℕ → ItemState) → List ItemType → ℕ → ℕ
+fields_before item_state items k =
+    fields_in item_state Input items k +
+    (fields_in item_state Output items k + fields_in item_state Feature items k)
 
 -- the usages, none for a fault
 abbrev pub list_or_none : Result UsageList MeaningFault → UsageList
@@ -44,16 +44,16 @@ list_or_none (Ok us) = us
 list_or_none (Err fault) = record { usages = []; is_range = false }
 
 -- a Collection as the fields inside it carry it
-abbrev pub collection_record : (ℕ → Force) → List ItemType → Indexed → CollectionRecord
-collection_record force items p = record {
+abbrev pub collection_record : (ℕ → ItemState) → List ItemType → Indexed → CollectionRecord
+collection_record item_state items p = record {
   id = collections_before items p.0;
   kind = unwrap_or (collection_of p.1) kind.Physical;
-  usages = (list_or_none (usages_of (force p.0))).usages;
+  usages = (list_or_none (usages_of (item_state p.0))).usages;
 }
 
 -- the collections that a field made at k lies in, outermost first
-abbrev pub collections_at : (ℕ → Force) → List ItemType → ℕ → List CollectionRecord
-collections_at force items k = map (collection_record force items) (open_at items k)
+abbrev pub collections_at : (ℕ → ItemState) → List ItemType → ℕ → List CollectionRecord
+collections_at item_state items k = map (collection_record item_state items) (open_at items k)
 
 -- where just one physical bound is set the other is 0
 abbrev pub physical_bound : Option ℤ → Option ℤ → Option ℤ
@@ -77,7 +77,7 @@ pub record Measures : Type 0 where
   pub unit_exponent : Option ℤ
 
 -- logical bounds that aren't set are 0
-abbrev pub measures : Force → Measures
+abbrev pub measures : ItemState → Measures
 measures f = record {
   logical_minimum = unwrap_or f.logical_minimum (pos 0);
   logical_maximum = unwrap_or f.logical_maximum (pos 0);
@@ -108,7 +108,7 @@ attributes_with d flags m collections = record {
 }
 
 -- what the fields of one item share
-abbrev pub attributes : Force → List CollectionRecord → Direction → Flags → Attributes
+abbrev pub attributes : ItemState → List CollectionRecord → Direction → Flags → Attributes
 attributes f collections d flags = attributes_with d flags (measures f) collections
 
 -- usage c of a list, or the last one where there are fewer
@@ -147,7 +147,7 @@ make_fields report_id id first e flags us shared =
     us.usages us.is_range e.1 shared ∷ [])
 
 -- the same where the item makes fields
-abbrev pub fields_of : Force → List CollectionRecord → ℕ → ℕ
+abbrev pub fields_of : ItemState → List CollectionRecord → ℕ → ℕ
     → Option (Direction × Flags) → Option (ℕ × ℕ) → List FieldRecord
 fields_of f collections id first (Some x) (Some e) =
     make_fields f.report_id id first e x.1 (list_or_none (usages_of f))
@@ -156,6 +156,6 @@ fields_of f collections id first (Some x) None = []
 fields_of f collections id first None e = []
 
 -- the fields that an item of direction d makes
-abbrev pub fields_at : (ℕ → Force) → Direction → List ItemType → Indexed → List FieldRecord
-fields_at force d items p = fields_of (force p.0) (collections_at force items p.0)
-    (fields_before force items p.0) (start force d items p.0) (data_of p.1) (extent (force p.0))
+abbrev pub fields_at : (ℕ → ItemState) → Direction → List ItemType → Indexed → List FieldRecord
+fields_at item_state d items p = fields_of (item_state p.0) (collections_at item_state items p.0)
+    (fields_before item_state items p.0) (start item_state d items p.0) (data_of p.1) (extent (item_state p.0))

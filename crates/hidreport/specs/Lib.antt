@@ -5,7 +5,7 @@ pub mod Budget
 pub mod Choosing
 pub mod Faults
 pub mod Fields
-pub mod InForce
+pub mod ItemState
 pub mod Kinds
 pub mod Laws
 pub mod Lookup

@@ -3,7 +3,7 @@
 use Rattle.std.specs.Prelude.{ℕ, ◌==◌, ◌||◌, ◌&&◌, Bool, true, false, if◌then◌else◌, List, [], ◌∷◌}
 use Rattle.std.specs.Prelude.{filter, is_some, Option, Some, None}
 use Rattle.hidreport_items.specs.declared.item.ItemType.{ItemType}
-use Rattle.hidreport.specs.InForce.{Force, first_of}
+use Rattle.hidreport.specs.ItemState.{ItemState, first_of}
 use Rattle.hidreport.specs.Kinds.{Indexed, Direction, data_of, goes}
 use Rattle.hidreport.specs.Visibility.{before}
 
@@ -14,26 +14,26 @@ both_set None count = None
 both_set (Some size) None = None
 
 -- the size and the count that make fields of a data item
-abbrev pub extent : Force → Option (ℕ × ℕ)
+abbrev pub extent : ItemState → Option (ℕ × ℕ)
 extent f = both_set f.report_size f.report_count
 
 -- the item is of direction d and makes fields
-abbrev pub makes : (ℕ → Force) → Direction → Indexed → Bool
-makes force d p = goes d (data_of p.1) && is_some (extent (force p.0))
+abbrev pub makes : (ℕ → ItemState) → Direction → Indexed → Bool
+makes item_state d p = goes d (data_of p.1) && is_some (extent (item_state p.0))
 
 -- the items of direction d before k that make fields, in order
-abbrev pub makers : (ℕ → Force) → Direction → List ItemType → ℕ → List Indexed
-makers force d items k = filter (makes force d) (before items k)
+abbrev pub makers : (ℕ → ItemState) → Direction → List ItemType → ℕ → List Indexed
+makers item_state d items k = filter (makes item_state d) (before items k)
 
 -- the report id in force at the first of these items
-abbrev pub first_report_id : (ℕ → Force) → List Indexed → Option ℕ
-first_report_id force [] = None
-first_report_id force (p ∷ ps) = (force p.0).report_id
+abbrev pub first_report_id : (ℕ → ItemState) → List Indexed → Option ℕ
+first_report_id item_state [] = None
+first_report_id item_state (p ∷ ps) = (item_state p.0).report_id
 
 -- The report that an item of direction d at k adds to: that with the id in force; without one, the
 -- report of the first item of its direction that makes fields.
-abbrev pub key : (ℕ → Force) → Direction → List ItemType → ℕ → Option ℕ
-key force d items k = first_of (force k).report_id (first_report_id force (makers force d items k))
+abbrev pub key : (ℕ → ItemState) → Direction → List ItemType → ℕ → Option ℕ
+key item_state d items k = first_of (item_state k).report_id (first_report_id item_state (makers item_state d items k))
 
 -- two keys are the same
 abbrev pub same_key : Option ℕ → Option ℕ → Bool
@@ -43,6 +43,6 @@ same_key None (Some b) = false
 same_key (Some a) None = false
 
 -- the items of direction d before k that add to this report
-abbrev pub makers_of : (ℕ → Force) → Direction → Option ℕ → List ItemType → ℕ → List Indexed
-makers_of force d id items k =
-    filter (λ p. same_key (key force d items p.0) id) (makers force d items k)
+abbrev pub makers_of : (ℕ → ItemState) → Direction → Option ℕ → List ItemType → ℕ → List Indexed
+makers_of item_state d id items k =
+    filter (λ p. same_key (key item_state d items p.0) id) (makers item_state d items k)

@@ -11,7 +11,7 @@ use Rattle.hidreport_lists.specs.Itemising.{itemise}
 use Rattle.hidreport_lists.specs.Messages.{grammar_message}
 use Rattle.hidreport.specs.Faults.{fault}
 use Rattle.hidreport.specs.Fields.{fields_at}
-use Rattle.hidreport.specs.InForce.{Force, force, force_globals_only}
+use Rattle.hidreport.specs.ItemState.{ItemState, item_state, item_state_globals_only}
 use Rattle.hidreport.specs.Kinds.{Indexed, Direction, Input, Output, Feature}
 use Rattle.hidreport.specs.Making.{key, makers, makers_of, same_key}
 use Rattle.hidreport.specs.MeaningFault.{MeaningFault, PastBudget, text}
@@ -20,7 +20,7 @@ use Rattle.hidreport.specs.Records.{ReportRecord, DescriptorRecord}
 
 -- A reading of Push and Pop: what is in force at each index of a list of items.
 abbrev pub PushReading : Type 0
-PushReading = List ItemType → ℕ → Force
+PushReading = List ItemType → ℕ → ItemState
 
 -- the first of each kind, without those seen before
 abbrev pub firsts_after : List (Option ℕ) → List (Option ℕ) → List (Option ℕ)
@@ -29,28 +29,28 @@ firsts_after seen (x ∷ xs) =
     if list_any (same_key x) seen then firsts_after seen xs else x ∷ firsts_after (x ∷ seen) xs
 
 -- the keys of direction d, in order of first appearance
-abbrev pub keys : (ℕ → Force) → Direction → List ItemType → List (Option ℕ)
-keys force d items =
-    firsts_after [] (map (λ p. key force d items p.0) (makers force d items (length items)))
+abbrev pub keys : (ℕ → ItemState) → Direction → List ItemType → List (Option ℕ)
+keys item_state d items =
+    firsts_after [] (map (λ p. key item_state d items p.0) (makers item_state d items (length items)))
 
 -- the report with this key: the fields of the items that add to it, and the end of the last one
-abbrev pub report : (ℕ → Force) → Direction → List ItemType → Option ℕ → ReportRecord
-report force d items id = record {
+abbrev pub report : (ℕ → ItemState) → Direction → List ItemType → Option ℕ → ReportRecord
+report item_state d items id = record {
   id = id;
-  size = end_before force d id items (length items);
-  fields = flat_map (fields_at force d items) (makers_of force d id items (length items));
+  size = end_before item_state d id items (length items);
+  fields = flat_map (fields_at item_state d items) (makers_of item_state d id items (length items));
 }
 
 -- the reports of direction d
-abbrev pub reports : (ℕ → Force) → Direction → List ItemType → List ReportRecord
-reports force d items = map (report force d items) (keys force d items)
+abbrev pub reports : (ℕ → ItemState) → Direction → List ItemType → List ReportRecord
+reports item_state d items = map (report item_state d items) (keys item_state d items)
 
 -- the reports of the three directions
-abbrev pub descriptor : (ℕ → Force) → List ItemType → DescriptorRecord
-descriptor force items = record {
-  input = reports force Input items;
-  output = reports force Output items;
-  feature = reports force Feature items;
+abbrev pub descriptor : (ℕ → ItemState) → List ItemType → DescriptorRecord
+descriptor item_state items = record {
+  input = reports item_state Input items;
+  output = reports item_state Output items;
+  feature = reports item_state Feature items;
 }
 
 abbrev pub fault_here : Option MeaningFault → ℕ → Option (ℕ × MeaningFault)
@@ -59,10 +59,10 @@ fault_here (Some x) k later = Some (k, x)
 fault_here None k later = later
 
 -- the first of these items that has a fault, with its index
-abbrev pub first_fault : (ℕ → Force) → List ItemType → List Indexed → Option (ℕ × MeaningFault)
-first_fault force items [] = None
-first_fault force items (p ∷ ps) =
-    fault_here (fault force items p.0 p.1) p.0 (first_fault force items ps)
+abbrev pub first_fault : (ℕ → ItemState) → List ItemType → List Indexed → Option (ℕ × MeaningFault)
+first_fault item_state items [] = None
+first_fault item_state items (p ∷ ps) =
+    fault_here (fault item_state items p.0 p.1) p.0 (first_fault item_state items ps)
 
 abbrev pub unless_first : Option (ℕ × MeaningFault) → DescriptorRecord
     → Result DescriptorRecord (ℕ × MeaningFault)
@@ -76,11 +76,11 @@ meaning_by reading items = unless_first
 
 -- the same where Push keeps globals and locals
 abbrev pub meaning : List ItemType → Result DescriptorRecord (ℕ × MeaningFault)
-meaning = meaning_by force
+meaning = meaning_by item_state
 
 -- the same where Push keeps globals alone
 abbrev pub meaning_globals_only : List ItemType → Result DescriptorRecord (ℕ × MeaningFault)
-meaning_globals_only = meaning_by force_globals_only
+meaning_globals_only = meaning_by item_state_globals_only
 
 -- the offset of the entry at an index
 abbrev pub offset_at : List Entry → ℕ → ℕ
@@ -119,8 +119,8 @@ parse_by reading (b ∷ bs) = parse_items reading (itemise item_of (b ∷ bs))
 
 -- the same where Push keeps globals and locals
 abbrev pub parse : List ℕ → Result DescriptorRecord Refusal
-parse = parse_by force
+parse = parse_by item_state
 
 -- the same where Push keeps globals alone
 abbrev pub parse_globals_only : List ℕ → Result DescriptorRecord Refusal
-parse_globals_only = parse_by force_globals_only
+parse_globals_only = parse_by item_state_globals_only

@@ -2,7 +2,7 @@
 use Rattle.std.specs.Prelude.{ℕ, List, Option, None, Some, Result}
 use Rattle.hidreport_lists.specs.Answer.{Refusal}
 use Rattle.hidreport.specs.Budget.{parse_within_by}
-use Rattle.hidreport.specs.InForce.{force, force_globals_only}
+use Rattle.hidreport.specs.ItemState.{item_state, item_state_globals_only}
 use Rattle.hidreport.specs.Meaning.{PushReading, parse_by}
 use Rattle.hidreport.specs.Records.{DescriptorRecord}
 use Rattle.hidreport.specs.declared.parse_options.ParseOptions.{ParseOptions}
@@ -11,8 +11,8 @@ use Rattle.hidreport.specs.declared.parser.push_keeps.PushKeeps.TheVariants as p
 
 -- what is in force where a Push keeps this (Section 6.2.2.7)
 abbrev pub reading_of : PushKeeps → PushReading
-reading_of push_keeps.All = force
-reading_of push_keeps.Globals = force_globals_only
+reading_of push_keeps.All = item_state
+reading_of push_keeps.Globals = item_state_globals_only
 
 -- the reports by a reading, under a limit, if any
 abbrev pub parse_limited : PushReading → Option ℕ → List ℕ → Result DescriptorRecord Refusal

@@ -2,7 +2,7 @@
 -- it.
 pub mod Budget
 pub mod DataItem
-pub mod Forces
+pub mod ItemStates
 pub mod Journal
 pub mod Layout
 pub mod Ids

@@ -1,7 +1,7 @@
 -- Places (Section 5.6): where a report's fields lie in it, in bits.
 use Rattle.std.specs.Prelude.{ℕ, ◌+◌, ◌*◌, List, sum_by, Option, None, Some}
 use Rattle.hidreport_items.specs.declared.item.ItemType.{ItemType}
-use Rattle.hidreport.specs.InForce.{Force}
+use Rattle.hidreport.specs.ItemState.{ItemState}
 use Rattle.hidreport.specs.Kinds.{Direction}
 use Rattle.hidreport.specs.Making.{extent, key, makers_of}
 
@@ -17,10 +17,10 @@ bits_of (Some e) = e.0 * e.1
 
 -- where the report ends behind the items before k: the id's bits and those of each item that adds
 -- to it
-abbrev pub end_before : (ℕ → Force) → Direction → Option ℕ → List ItemType → ℕ → ℕ
-end_before force d id items k =
-    id_bits id + sum_by (λ p. bits_of (extent (force p.0))) (makers_of force d id items k)
+abbrev pub end_before : (ℕ → ItemState) → Direction → Option ℕ → List ItemType → ℕ → ℕ
+end_before item_state d id items k =
+    id_bits id + sum_by (λ p. bits_of (extent (item_state p.0))) (makers_of item_state d id items k)
 
 -- where the fields of an item of direction d at k begin
-abbrev pub start : (ℕ → Force) → Direction → List ItemType → ℕ → ℕ
-start force d items k = end_before force d (key force d items k) items k
+abbrev pub start : (ℕ → ItemState) → Direction → List ItemType → ℕ → ℕ
+start item_state d items k = end_before item_state d (key item_state d items k) items k

@@ -3,7 +3,7 @@ use Rattle.std.specs.Prelude.{ℕ, ◌+◌, ◌-◌, ◌%◌, zero, suc, Bool, t
 use Rattle.std.specs.Prelude.{None, Some, Result, Ok, Err}
 use Rattle.hidreport_items.specs.declared.local.LocalItem.{LocalItem}
 use Rattle.hidreport_items.specs.declared.local.LocalItem.TheVariants as local
-use Rattle.hidreport.specs.InForce.{Force, first_of}
+use Rattle.hidreport.specs.ItemState.{ItemState, first_of}
 use Rattle.hidreport.specs.MeaningFault.{MeaningFault, MissingUsageMaximum, MissingUsagePage}
 use Rattle.hidreport.specs.declared.field.usage.Usage.{Usage}
 
@@ -63,10 +63,10 @@ as_single (Ok us) = Ok (record { usages = us; is_range = false })
 as_single (Err fault) = Err fault
 
 -- with a minimum in force the range, and else the single usages
-abbrev pub usages_by : Option ℕ → Force → Result UsageList MeaningFault
+abbrev pub usages_by : Option ℕ → ItemState → Result UsageList MeaningFault
 usages_by (Some low) f = range_usages low (last_local maximum_of f.locals) f.usage_page
 usages_by None f = as_single (single_usages f.usage_page f.locals)
 
 -- the usages that what is in force gives an item, or their fault
-abbrev pub usages_of : Force → Result UsageList MeaningFault
+abbrev pub usages_of : ItemState → Result UsageList MeaningFault
 usages_of f = usages_by (last_local minimum_of f.locals) f

@@ -7,7 +7,7 @@ use Rattle.hidreport_items.specs.declared.main_item.CollectionItem.{CollectionIt
 use Rattle.hidreport_items.specs.declared.item.ItemType.{ItemType}
 use Rattle.hidreport.specs.Faults.{fault}
 use Rattle.hidreport.specs.Fields.{collection_record, fields_at}
-use Rattle.hidreport.specs.InForce.{Force}
+use Rattle.hidreport.specs.ItemState.{ItemState}
 use Rattle.hidreport.specs.Kinds.{Indexed, Direction, collection_of, data_of}
 use Rattle.hidreport.specs.MeaningFault.{MeaningFault}
 use Rattle.hidreport.specs.Records.{CollectionRecord, FieldRecord, VariableRecord, ArrayRecord}
@@ -27,14 +27,14 @@ field_weight (ArrayRecord place usages is_range count shared) =
 field_weight (ConstantRecord place) = 1
 
 -- the collection that an item opens
-abbrev pub weight_opened : (ℕ → Force) → Option CollectionItem → List ItemType → Indexed → ℕ
-weight_opened force None items p = 0
-weight_opened force (Some kind) items p = collection_weight (collection_record force items p)
+abbrev pub weight_opened : (ℕ → ItemState) → Option CollectionItem → List ItemType → Indexed → ℕ
+weight_opened item_state None items p = 0
+weight_opened item_state (Some kind) items p = collection_weight (collection_record item_state items p)
 
 -- the fields that a data item makes
-abbrev pub weight_made : (ℕ → Force) → Option (Direction × Flags) → List ItemType → Indexed → ℕ
-weight_made force None items p = 0
-weight_made force (Some x) items p = sum_by field_weight (fields_at force x.0 items p)
+abbrev pub weight_made : (ℕ → ItemState) → Option (Direction × Flags) → List ItemType → Indexed → ℕ
+weight_made item_state None items p = 0
+weight_made item_state (Some x) items p = sum_by field_weight (fields_at item_state x.0 items p)
 
 -- an item with a fault weighs nothing
 abbrev pub unless_faulty : Option MeaningFault → ℕ → ℕ
@@ -42,19 +42,19 @@ unless_faulty None weight = weight
 unless_faulty (Some fault) weight = 0
 
 -- the weight of the item x at k
-abbrev pub weight : (ℕ → Force) → List ItemType → ℕ → ItemType → ℕ
-weight force items k x = unless_faulty (fault force items k x)
-    (weight_opened force (collection_of x) items (k, x) + weight_made force (data_of x) items
+abbrev pub weight : (ℕ → ItemState) → List ItemType → ℕ → ItemType → ℕ
+weight item_state items k x = unless_faulty (fault item_state items k x)
+    (weight_opened item_state (collection_of x) items (k, x) + weight_made item_state (data_of x) items
     (k, x))
 
 -- the weight of the items before k
-abbrev pub weight_before : (ℕ → Force) → List ItemType → ℕ → ℕ
-weight_before force items k = sum_by (λ p. weight force items p.0 p.1) (before items k)
+abbrev pub weight_before : (ℕ → ItemState) → List ItemType → ℕ → ℕ
+weight_before item_state items k = sum_by (λ p. weight item_state items p.0 p.1) (before items k)
 
 -- the first item with which the weight passes the limit
-abbrev pub first_past : (ℕ → Force) → ℕ → List ItemType → Option Indexed
-first_past force limit items =
-    find (λ p. nat_lt limit (weight_before force items (suc p.0))) (enumerate_from 0 items)
+abbrev pub first_past : (ℕ → ItemState) → ℕ → List ItemType → Option Indexed
+first_past item_state limit items =
+    find (λ p. nat_lt limit (weight_before item_state items (suc p.0))) (enumerate_from 0 items)
 
 -- the fields of a report together
 abbrev pub report_weight : ReportRecord → ℕ

@@ -4,13 +4,13 @@ ghost use Rattle.hidreport_lists.specs.Answer.{Answers, InvalidAt};
 ghost use Rattle.hidreport_lists.specs.Entry.{Entry};
 ghost use Rattle.hidreport.specs.Meaning.{at_offset, empty_descriptor};
 ghost use Rattle.hidreport.specs.Parser.Budget.{walk_bytes, walk_within};
-ghost use Rattle.hidreport.specs.Parser.Machine.{nothing_held};
+ghost use Rattle.hidreport.specs.Parser.Machine.{first_state};
 ghost use Rattle.hidreport.specs.Parser.Refusals.{IsRefusal};
 
 mod budget;
 mod fault;
 mod globals;
-mod in_force;
+mod item_state_table;
 mod journal;
 mod layout;
 mod measures;
@@ -66,7 +66,7 @@ fn reports_of(
 ) -> Result<Reports, ParserError>
     ensures { Answers result
         (at_offset items.now
-        (walk_within limit (nothing_held keeping) 0 (map (λ (e : Entry). e.item) items.now))) }
+        (walk_within limit (first_state keeping) 0 (map (λ (e : Entry). e.item) items.now))) }
 {
     let mut state = State::new(alloc, keeping);
     let mut budget = Budget::new(limit);

@@ -4,7 +4,7 @@ use Rattle.std.specs.Prelude.{Some, option_map, Result, Ok, Err}
 use Rattle.hidreport.specs.Answer.{Refusal}
 use Rattle.hidreport.specs.Faults.{Counts}
 use Rattle.hidreport.specs.GlobalItem.TheVariants as global
-use Rattle.hidreport.specs.InForce.{Force, force}
+use Rattle.hidreport.specs.ItemState.{ItemState, item_state}
 use Rattle.hidreport.specs.ItemType.TheVariants as item
 use Rattle.hidreport.specs.Lookup.{find_report}
 use Rattle.hidreport.specs.Meaning.{parse, parse_globals_only}
@@ -186,8 +186,8 @@ only_counts fields collections = record
     { level = 0; depth = 0; collections = collections; fields = fields; start = 0 }
 
 -- in force are a size of one bit and a count of one
-abbrev pub one_bit : Force
-one_bit = force (item.Global (global.ReportSize 1) ∷ item.Global (global.ReportCount 1) ∷ []) 2
+abbrev pub one_bit : ItemState
+one_bit = item_state (item.Global (global.ReportSize 1) ∷ item.Global (global.ReportCount 1) ∷ []) 2
 
 -- the range of usages 4 to 7 of page 7
 abbrev pub four_keys : RangeRecord

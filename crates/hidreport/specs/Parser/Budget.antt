@@ -11,12 +11,12 @@ use Rattle.hidreport_lists.specs.Entry.{Entry}
 use Rattle.hidreport_lists.specs.Itemising.{itemise}
 use Rattle.hidreport_lists.specs.Messages.{grammar_message}
 use Rattle.hidreport.specs.Fields.{fields_of, list_or_none}
-use Rattle.hidreport.specs.InForce.{first_of}
+use Rattle.hidreport.specs.ItemState.{first_of}
 use Rattle.hidreport.specs.Kinds.{Direction, collection_of, data_of}
 use Rattle.hidreport.specs.Making.{extent}
 use Rattle.hidreport.specs.Meaning.{at_offset, empty_descriptor}
 use Rattle.hidreport.specs.MeaningFault.{MeaningFault, PastBudget}
-use Rattle.hidreport.specs.Parser.Machine.{Held, fault_in, go_on, next_held, nothing_held, start_in}
+use Rattle.hidreport.specs.Parser.Machine.{StateRecord, fault_in, go_on, next_state, first_state, start_in}
 use Rattle.hidreport.specs.Parser.Machine.{unless_fault}
 use Rattle.hidreport.specs.Records.{DescriptorRecord}
 use Rattle.hidreport.specs.Usages.{usages_of}
@@ -24,18 +24,18 @@ use Rattle.hidreport.specs.Weight.{field_weight}
 use Rattle.hidreport.specs.declared.parser.push_keeps.PushKeeps.{PushKeeps}
 
 -- the collection that an item opens
-abbrev pub weight_opened_in : Held → Option CollectionItem → ℕ
+abbrev pub weight_opened_in : StateRecord → Option CollectionItem → ℕ
 weight_opened_in h None = 0
-weight_opened_in h (Some kind) = 1 + length (list_or_none (usages_of h.force)).usages
+weight_opened_in h (Some kind) = 1 + length (list_or_none (usages_of h.item_state)).usages
 
 -- the fields that a data item makes
-abbrev pub weight_made_in : Held → Option (Direction × Flags) → ℕ
+abbrev pub weight_made_in : StateRecord → Option (Direction × Flags) → ℕ
 weight_made_in h None = 0
 weight_made_in h (Some x) = sum_by field_weight
-    (fields_of h.force h.opened h.fields (start_in x.0 h) (Some x) (extent h.force))
+    (fields_of h.item_state h.opened h.fields (start_in x.0 h) (Some x) (extent h.item_state))
 
 -- the weight of an item without a fault, from what is held
-abbrev pub weight_in : Held → ItemType → ℕ
+abbrev pub weight_in : StateRecord → ItemType → ℕ
 weight_in h x = weight_opened_in h (collection_of x) + weight_made_in h (data_of x)
 
 -- the weight passes what is left; none is without a limit
@@ -53,14 +53,14 @@ past_fault true = Some PastBudget
 past_fault false = None
 
 -- why the walk ends at the item: its fault, or else its weight
-abbrev pub stop_in : Option ℕ → Held → ItemType → Option MeaningFault
+abbrev pub stop_in : Option ℕ → StateRecord → ItemType → Option MeaningFault
 stop_in left h x = first_of (fault_in h x) (past_fault (is_past left (weight_in h x)))
 
 -- the walk over the items from index k on, where so much is left
-abbrev pub walk_within : Option ℕ → Held → ℕ → List ItemType
+abbrev pub walk_within : Option ℕ → StateRecord → ℕ → List ItemType
     → Result DescriptorRecord (ℕ × MeaningFault)
 walk_within left h k [] = Ok h.descriptor
-walk_within left h k (x ∷ xs) = go_on (unless_fault (stop_in left h x) (next_held h x)) k
+walk_within left h k (x ∷ xs) = go_on (unless_fault (stop_in left h x) (next_state h x)) k
     (λ next. walk_within (left_behind left (weight_in h x)) next (k + 1) xs)
 
 -- a grammar fault, or else what the walk over the items gives
@@ -68,7 +68,7 @@ abbrev pub walk_items : PushKeeps → Option ℕ → Result (List Entry) (ℕ ×
     → Result DescriptorRecord Refusal
 walk_items keeping limit (Err fault) = Err (InvalidAt fault.0 (grammar_message fault.1))
 walk_items keeping limit (Ok entries) =
-    at_offset entries (walk_within limit (nothing_held keeping) 0 (map (λ e. e.item) entries))
+    at_offset entries (walk_within limit (first_state keeping) 0 (map (λ e. e.item) entries))
 
 -- the same of a descriptor's bytes
 abbrev pub walk_bytes : PushKeeps → Option ℕ → List ℕ → Result DescriptorRecord Refusal

@@ -1,50 +1,50 @@
 -- The journal of what changed inside open Pushes, as the parser holds it, newest change first.
 use Rattle.std.specs.Prelude.{ℕ, ◌≤◌, List, [], ◌∷◌, length, take}
 use Rattle.hidreport_items.specs.declared.local.LocalItem.{LocalItem}
-use Rattle.hidreport.specs.InForce.{Force}
-use Rattle.hidreport.specs.Parser.Forces.{force_of}
-use Rattle.hidreport.specs.Parser.Machine.{kept_of}
+use Rattle.hidreport.specs.ItemState.{ItemState}
+use Rattle.hidreport.specs.Parser.ItemStates.{item_state_of}
+use Rattle.hidreport.specs.Parser.Machine.{pushed_copy}
 use Rattle.hidreport.specs.declared.parser.globals.Globals.{Globals}
 use Rattle.hidreport.specs.declared.parser.push_keeps.PushKeeps.{PushKeeps}
 use Rattle.hidreport.specs.declared.parser.push_keeps.PushKeeps.TheVariants as push_keeps
-use Rattle.hidreport.specs.declared.parser.journal.Entry.{Entry}
-use Rattle.hidreport.specs.declared.parser.journal.Entry.TheVariants as entries
+use Rattle.hidreport.specs.declared.parser.journal.Change.{Change}
+use Rattle.hidreport.specs.declared.parser.journal.Change.TheVariants as changes
 
 -- a Push, where so many locals were in force; what the globals were before one was set; what the
 -- locals were before a main item ended them
-pub data Change : Type 0 where
-  Opened : ℕ → Change
-  WasGlobals : Globals → Change
-  WasLocals : List LocalItem → Change
+pub data ChangeRecord : Type 0 where
+  Opened : ℕ → ChangeRecord
+  WasGlobals : Globals → ChangeRecord
+  WasLocals : List LocalItem → ChangeRecord
 
-abbrev pub change_of : Entry → Change
-change_of (entries.Push count) = Opened count
-change_of (entries.Globals old) = WasGlobals old
-change_of (entries.Locals old) = WasLocals old.items
+abbrev pub change_of : Change → ChangeRecord
+change_of (changes.Push count) = Opened count
+change_of (changes.Globals old) = WasGlobals old
+change_of (changes.Locals old) = WasLocals old.items
 
 -- one change more, which is nothing to remember where no Push is open
-abbrev pub with_change : Change → List Change → List Change
+abbrev pub with_change : ChangeRecord → List ChangeRecord → List ChangeRecord
 with_change change [] = []
 with_change change (c ∷ cs) = change ∷ c ∷ cs
 
 -- what each open Push keeps, innermost first: of what was in force there, from these globals and
 -- locals back
-abbrev pub undone_stack : PushKeeps → List Change → Globals → List LocalItem → List Force
+abbrev pub undone_stack : PushKeeps → List ChangeRecord → Globals → List LocalItem → List ItemState
 undone_stack keeping [] globals locals = []
 undone_stack keeping (Opened count ∷ cs) globals locals =
-    kept_of keeping (force_of globals (take count locals)) ∷ undone_stack keeping cs globals
+    pushed_copy keeping (item_state_of globals (take count locals)) ∷ undone_stack keeping cs globals
     (take count locals)
 undone_stack keeping (WasGlobals old ∷ cs) globals locals = undone_stack keeping cs old locals
 undone_stack keeping (WasLocals old ∷ cs) globals locals = undone_stack keeping cs globals old
 
 -- no Push counted more locals than there are
-abbrev pub IsCounted : List Change → List LocalItem → Type 0
+abbrev pub IsCounted : List ChangeRecord → List LocalItem → Type 0
 IsCounted [] locals = Unit {0}
 IsCounted (Opened count ∷ cs) locals = (count ≤ length locals) × IsCounted cs (take count locals)
 IsCounted (WasGlobals old ∷ cs) locals = IsCounted cs locals
 IsCounted (WasLocals old ∷ cs) locals = IsCounted cs old
 
 -- the same, where Pushes keep locals
-abbrev pub Fits : PushKeeps → List Change → List LocalItem → Type 0
+abbrev pub Fits : PushKeeps → List ChangeRecord → List LocalItem → Type 0
 Fits push_keeps.All cs locals = IsCounted cs locals
 Fits push_keeps.Globals cs locals = Unit {0}

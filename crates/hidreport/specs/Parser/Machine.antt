@@ -8,7 +8,7 @@ use Rattle.hidreport_items.specs.declared.item.ItemType.{ItemType}
 use Rattle.hidreport_items.specs.declared.local.LocalItem.{LocalItem}
 use Rattle.hidreport.specs.Faults.{Counts, item_fault}
 use Rattle.hidreport.specs.Fields.{fields_of, fields_made, list_or_none}
-use Rattle.hidreport.specs.InForce.{Force, first_of}
+use Rattle.hidreport.specs.ItemState.{ItemState, first_of}
 use Rattle.hidreport.specs.Making.{extent, same_key}
 use Rattle.hidreport.specs.Meaning.{firsts_after}
 use Rattle.hidreport.specs.MeaningFault.{MeaningFault}
@@ -28,8 +28,8 @@ abbrev pub next_locals : List LocalItem → ItemType → List LocalItem
 next_locals xs x = if is_main x then [] else xs ++ option_to_list (local_of x)
 
 -- what is in force behind one more item
-abbrev pub next_force : Force → ItemType → Force
-next_force f x = record {
+abbrev pub next_item_state : ItemState → ItemType → ItemState
+next_item_state f x = record {
   usage_page = first_of (usage_page_of x) f.usage_page;
   logical_minimum = first_of (logical_minimum_of x) f.logical_minimum;
   logical_maximum = first_of (logical_maximum_of x) f.logical_maximum;
@@ -84,10 +84,10 @@ added_to id bits fields (r ∷ rs) =
 -- what is held between two items: what a Push keeps, what is in force, what the open Pushes keep,
 -- outermost first, the reports so far and how many fields they have, the open collections,
 -- outermost first, and how many were opened
-pub record Held : Type 0 where
+pub record StateRecord : Type 0 where
   pub keeping : PushKeeps
-  pub force : Force
-  pub kept : List Force
+  pub item_state : ItemState
+  pub stack : List ItemState
   pub descriptor : DescriptorRecord
   pub fields : ℕ
   pub opened : List CollectionRecord
@@ -106,21 +106,21 @@ with_reports Output rs r = record { input = r.input; output = rs; feature = r.fe
 with_reports Feature rs r = record { input = r.input; output = r.output; feature = rs }
 
 -- the id of the report that a data item of a direction adds to
-abbrev pub key_in : Direction → Held → Option ℕ
-key_in d h = first_of h.force.report_id (first_id (reports_in d h.descriptor))
+abbrev pub key_in : Direction → StateRecord → Option ℕ
+key_in d h = first_of h.item_state.report_id (first_id (reports_in d h.descriptor))
 
 -- where its fields begin
-abbrev pub start_in : Direction → Held → ℕ
+abbrev pub start_in : Direction → StateRecord → ℕ
 start_in d h = size_in (key_in d h) (reports_in d h.descriptor)
 
-abbrev pub start_for : Option (Direction × Flags) → Held → ℕ
+abbrev pub start_for : Option (Direction × Flags) → StateRecord → ℕ
 start_for None h = 0
 start_for (Some x) h = start_in x.0 h
 
 -- the counts before an item
-abbrev pub counts_in : Held → ItemType → Counts
+abbrev pub counts_in : StateRecord → ItemType → Counts
 counts_in h x = record {
-  level = length h.kept;
+  level = length h.stack;
   depth = length h.opened;
   collections = h.collections;
   fields = h.fields;
@@ -128,90 +128,90 @@ counts_in h x = record {
 }
 
 -- the item makes fields in this direction
-abbrev pub adds : Direction → Held → ItemType → Bool
-adds d h x = goes d (data_of x) && is_some (extent h.force)
+abbrev pub adds : Direction → StateRecord → ItemType → Bool
+adds d h x = goes d (data_of x) && is_some (extent h.item_state)
 
 -- the reports of a direction behind the item
-abbrev pub next_reports : Direction → Held → ItemType → List ReportRecord
+abbrev pub next_reports : Direction → StateRecord → ItemType → List ReportRecord
 next_reports d h x =
-    if adds d h x then added_to (key_in d h) (bits_of (extent h.force))
-    (fields_of h.force h.opened h.fields (start_in d h) (data_of x) (extent h.force))
+    if adds d h x then added_to (key_in d h) (bits_of (extent h.item_state))
+    (fields_of h.item_state h.opened h.fields (start_in d h) (data_of x) (extent h.item_state))
     (reports_in d h.descriptor)
     else reports_in d h.descriptor
 
 -- the collection that an item opens
-abbrev pub new_collection : Held → Option CollectionItem → List CollectionRecord
+abbrev pub new_collection : StateRecord → Option CollectionItem → List CollectionRecord
 new_collection h None = []
 new_collection h (Some kind) = record {
   id = h.collections;
   kind = kind;
-  usages = (list_or_none (usages_of h.force)).usages;
+  usages = (list_or_none (usages_of h.item_state)).usages;
 } ∷ []
 
 -- the open collections behind the item: an EndCollection closes the last
-abbrev pub next_opened : Held → ItemType → List CollectionRecord
+abbrev pub next_opened : StateRecord → ItemType → List CollectionRecord
 next_opened h x =
     if is_end_collection x then take (length h.opened - 1) h.opened
     else h.opened ++ new_collection h (collection_of x)
 
 -- the last of a list, or else the first argument
-abbrev pub last_force : Force → List Force → Force
-last_force f [] = f
-last_force f (g ∷ gs) = last_force g gs
+abbrev pub last_item_state : ItemState → List ItemState → ItemState
+last_item_state f [] = f
+last_item_state f (g ∷ gs) = last_item_state g gs
 
 -- what a Push keeps of what is in force
-abbrev pub kept_of : PushKeeps → Force → Force
-kept_of push_keeps.All now = now
-kept_of push_keeps.Globals now = record now { locals = [] }
+abbrev pub pushed_copy : PushKeeps → ItemState → ItemState
+pushed_copy push_keeps.All now = now
+pushed_copy push_keeps.Globals now = record now { locals = [] }
 
 -- what a Pop brings back, from what is in force there and what its Push kept
-abbrev pub brought_back : PushKeeps → Force → Force → Force
-brought_back push_keeps.All now kept = kept
-brought_back push_keeps.Globals now kept = record kept { locals = now.locals }
+abbrev pub after_pop : PushKeeps → ItemState → ItemState → ItemState
+after_pop push_keeps.All now stack = stack
+after_pop push_keeps.Globals now stack = record stack { locals = now.locals }
 
 -- what is in force behind the item
-abbrev pub held_force : Held → ItemType → Force
-held_force h x =
-    if is_pop x then brought_back h.keeping h.force (last_force h.force h.kept) else next_force
-    h.force x
+abbrev pub item_state_behind : StateRecord → ItemType → ItemState
+item_state_behind h x =
+    if is_pop x then after_pop h.keeping h.item_state (last_item_state h.item_state h.stack) else next_item_state
+    h.item_state x
 
 -- what the open Pushes keep behind the item
-abbrev pub next_kept : Held → ItemType → List Force
-next_kept h x =
-    if is_pop x then take (length h.kept - 1) h.kept
-    else (if is_push x then h.kept ++ kept_of h.keeping h.force ∷ [] else h.kept)
+abbrev pub next_stack : StateRecord → ItemType → List ItemState
+next_stack h x =
+    if is_pop x then take (length h.stack - 1) h.stack
+    else (if is_push x then h.stack ++ pushed_copy h.keeping h.item_state ∷ [] else h.stack)
 
 -- what is held behind an item without a fault
-abbrev pub next_held : Held → ItemType → Held
-next_held h x = record {
+abbrev pub next_state : StateRecord → ItemType → StateRecord
+next_state h x = record {
   keeping = h.keeping;
-  force = held_force h x;
-  kept = next_kept h x;
+  item_state = item_state_behind h x;
+  stack = next_stack h x;
   descriptor = record {
     input = next_reports Input h x;
     output = next_reports Output h x;
     feature = next_reports Feature h x;
   };
-  fields = h.fields + fields_made (data_of x) (extent h.force);
+  fields = h.fields + fields_made (data_of x) (extent h.item_state);
   opened = next_opened h x;
   collections = h.collections + length (new_collection h (collection_of x));
 }
 
-abbrev pub unless_fault : Option MeaningFault → Held → Result Held MeaningFault
+abbrev pub unless_fault : Option MeaningFault → StateRecord → Result StateRecord MeaningFault
 unless_fault None h = Ok h
 unless_fault (Some f) h = Err f
 
 -- the fault of an item where this is held
-abbrev pub fault_in : Held → ItemType → Option MeaningFault
-fault_in h x = item_fault (counts_in h x) h.force x
+abbrev pub fault_in : StateRecord → ItemType → Option MeaningFault
+fault_in h x = item_fault (counts_in h x) h.item_state x
 
 -- one item further, or its fault
-abbrev pub step : Held → ItemType → Result Held MeaningFault
-step h x = unless_fault (fault_in h x) (next_held h x)
+abbrev pub step : StateRecord → ItemType → Result StateRecord MeaningFault
+step h x = unless_fault (fault_in h x) (next_state h x)
 
 -- before the first item nothing is in force
-abbrev pub nothing_in_force : Force
-nothing_in_force = record {
+abbrev pub no_item_state : ItemState
+no_item_state = record {
   usage_page = None;
   logical_minimum = None;
   logical_maximum = None;
@@ -226,24 +226,24 @@ nothing_in_force = record {
 }
 
 -- nor is anything kept, made or open
-abbrev pub nothing_held : PushKeeps → Held
-nothing_held keeping = record {
+abbrev pub first_state : PushKeeps → StateRecord
+first_state keeping = record {
   keeping = keeping;
-  force = nothing_in_force;
-  kept = [];
+  item_state = no_item_state;
+  stack = [];
   descriptor = record { input = []; output = []; feature = [] };
   fields = 0;
   opened = [];
   collections = 0;
 }
 
-abbrev pub go_on : Result Held MeaningFault → ℕ
-    → (Held → Result DescriptorRecord (ℕ × MeaningFault))
+abbrev pub go_on : Result StateRecord MeaningFault → ℕ
+    → (StateRecord → Result DescriptorRecord (ℕ × MeaningFault))
     → Result DescriptorRecord (ℕ × MeaningFault)
 go_on (Ok h) k rest = rest h
 go_on (Err f) k rest = Err (k, f)
 
 -- the walk over the items from index k on
-abbrev pub walk : Held → ℕ → List ItemType → Result DescriptorRecord (ℕ × MeaningFault)
+abbrev pub walk : StateRecord → ℕ → List ItemType → Result DescriptorRecord (ℕ × MeaningFault)
 walk h k [] = Ok h.descriptor
 walk h k (x ∷ xs) = go_on (step h x) k (λ next. walk next (k + 1) xs)

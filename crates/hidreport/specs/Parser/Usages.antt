@@ -5,7 +5,7 @@ use Rattle.hidreport_items.specs.Flags.{Flags}
 use Rattle.hidreport_items.specs.declared.local.LocalItem.{LocalItem}
 use Rattle.hidreport_items.specs.declared.local.LocalItem.TheVariants as local
 use Rattle.hidreport.specs.Faults.{needed_usages_fault}
-use Rattle.hidreport.specs.InForce.{Force}
+use Rattle.hidreport.specs.ItemState.{ItemState}
 use Rattle.hidreport.specs.MeaningFault.{MeaningFault, MissingUsagePage}
 use Rattle.hidreport.specs.Usages.{UsageList, make_usage, range_from, usages_of}
 use Rattle.hidreport.specs.declared.field.usage.Usage.{Usage}
@@ -34,11 +34,11 @@ usage_list (usages.One u) = record { usages = u ∷ []; is_range = false }
 usage_list (usages.Several us) = record { usages = us.items; is_range = false }
 
 -- the fault of a data item's usages; a constant item has none
-abbrev pub usages_fault : Flags → Force → Option MeaningFault
+abbrev pub usages_fault : Flags → ItemState → Option MeaningFault
 usages_fault flags f = if flags.constant then None else needed_usages_fault (usages_of f)
 
 -- the usages of a data item that needs some
-abbrev pub HasUsages : Flags → Force → Usages → Type 0
+abbrev pub HasUsages : Flags → ItemState → Usages → Type 0
 HasUsages flags f us =
     flags.constant ≡ false
     → (usages_of f ≡ Ok (usage_list us)) × (0 < length (usage_list us).usages)

@@ -26,12 +26,12 @@ impl Globals {
     ghost use Rattle.hidreport.specs.Making.{both_set};
     ghost use Rattle.hidreport_items.specs.declared.local.LocalItem.{LocalItem};
     ghost use Rattle.hidreport_items.specs.declared.item.ItemType.TheVariants as items;
-    ghost use Rattle.hidreport.specs.Parser.Forces.{force_of};
-    ghost use Rattle.hidreport.specs.Parser.Machine.{next_force, nothing_in_force};
+    ghost use Rattle.hidreport.specs.Parser.ItemStates.{item_state_of};
+    ghost use Rattle.hidreport.specs.Parser.Machine.{next_item_state, no_item_state};
 
     /// Nothing is set.
     pub(crate) fn new() -> Globals
-        ensures { force_of result [] ≡ nothing_in_force }
+        ensures { item_state_of result [] ≡ no_item_state }
     {
         Globals {
             usage_page: None,
@@ -49,8 +49,8 @@ impl Globals {
 
     /// Sets the item's value; a Push, a Pop and a reserved item have none.
     pub(crate) fn set(&mut self, item: GlobalItem)
-        ensures { (locals : List LocalItem) → force_of self.new locals
-            ≡ record (next_force (force_of self.old locals) (items.Global item)) {
+        ensures { (locals : List LocalItem) → item_state_of self.new locals
+            ≡ record (next_item_state (item_state_of self.old locals) (items.Global item)) {
               locals = locals;
             } }
     {
@@ -85,7 +85,7 @@ impl Globals {
     /// What fields with data have of them; logical bounds that aren't set are 0.
     #[inline(always)]
     pub(crate) fn measures(&self) -> Measures
-        ensures { result ≡ measures (force_of self.now []) }
+        ensures { result ≡ measures (item_state_of self.now []) }
     {
         Measures {
             logical_minimum: self.logical_minimum.unwrap_or(LogicalMinimum::from(0)),

@@ -8,12 +8,12 @@ use std::mem;
 /// (Section 6.2.2.7). Outside every Push it is empty: nothing has to be taken back.
 #[derive(Drop)]
 pub(crate) struct Journal {
-    entries: Vec<Entry>,
+    entries: Vec<Change>,
 }
 
 /// What one change replaced, or where a Push stands.
 #[derive(Drop)]
-pub(crate) enum Entry {
+pub(crate) enum Change {
     /// A Push, and how many local items were in force there: where a Push keeps locals, those that
     /// are added behind it are cut off again. Its Pop drops it, last of all that it takes back.
     Push(usize),
@@ -26,9 +26,9 @@ pub(crate) enum Entry {
 
 impl Model for Journal {
     ghost use Rattle.std.specs.Prelude.{List, map, reverse};
-    ghost use Rattle.hidreport.specs.Parser.Journal.{Change, change_of};
+    ghost use Rattle.hidreport.specs.Parser.Journal.{ChangeRecord, change_of};
 
-    ghost Value = { List Change };
+    ghost Value = { List ChangeRecord };
 
     ghost view = { λ j. reverse (map change_of j.entries.items) };
 }
@@ -59,7 +59,7 @@ impl Journal {
         ensures ok { OnOk result (self.new ≡ Opened locals ∷ self.old) }
         ensures err { OnErr result (self.new ≡ self.old) }
     {
-        self.entries.push(Entry::Push(locals))?;
+        self.entries.push(Change::Push(locals))?;
         Ok(())
     }
 
@@ -69,7 +69,7 @@ impl Journal {
         ensures err { OnErr result (self.new ≡ self.old) }
     {
         if self.is_open() {
-            self.entries.push(Entry::Globals(globals))?;
+            self.entries.push(Change::Globals(globals))?;
         }
         Ok(())
     }
@@ -87,12 +87,12 @@ impl Journal {
         self.entries.reserve(1)?;
         let alloc = *locals.allocator();
         let ended = mem::replace(locals, Vec::new(alloc));
-        self.entries.push(Entry::Locals(ended))?;
+        self.entries.push(Change::Locals(ended))?;
         Ok(())
     }
 
     /// Takes the newest entry; none where no Push is open.
-    pub(crate) fn undo(&mut self) -> Option<Entry>
+    pub(crate) fn undo(&mut self) -> Option<Change>
         ensures some { IfSome result (λ entry. self.old ≡ change_of entry ∷ self.new) }
         ensures none { IsNone result → (self.old ≡ []) × (self.new ≡ []) }
     {

@@ -12,7 +12,7 @@ use crate::field::variable_field::VariableField;
 use crate::field::{Field, FieldId};
 use crate::parser::budget::{Budget, weight_of_each};
 use crate::parser::fault::Fault;
-use crate::parser::in_force::InForce;
+use crate::parser::item_state_table::ItemStateTable;
 use crate::parser::measures::Measures;
 use crate::parser::state::State;
 use crate::parser::usages::{Usages, usages_of};
@@ -31,7 +31,7 @@ impl State {
     ghost use Rattle.std.specs.Prelude.{◌≡◌, false, None, IfErr, OnOk};
     ghost use Rattle.hidreport.specs.Parser.Budget.{is_past, left_behind, stop_in, weight_in};
     ghost use Rattle.hidreport.specs.Parser.DataItem.{as_item};
-    ghost use Rattle.hidreport.specs.Parser.Machine.{fault_in, next_held};
+    ghost use Rattle.hidreport.specs.Parser.Machine.{fault_in, next_state};
     ghost use Rattle.hidreport.specs.Parser.Refusals.{IsFaultOf};
 
     /// Adds the fields of a data item to their report, which is made at need.
@@ -47,17 +47,17 @@ impl State {
         ensures left { OnOk result (budget.new
             ≡ left_behind budget.old (weight_in self.old (as_item item.now))) }
         ensures held { OnOk result (self.new ≡ record self.old {
-          descriptor = (next_held self.old (as_item item.now)).descriptor;
-          fields = (next_held self.old (as_item item.now)).fields;
+          descriptor = (next_state self.old (as_item item.now)).descriptor;
+          fields = (next_state self.old (as_item item.now)).fields;
         }) }
         ensures err { IfErr result (λ e.
             IsFaultOf e (stop_in budget.old self.old (as_item item.now))) }
     {
-        let globals = self.in_force.globals();
+        let globals = self.item_states.globals();
         let Some((size, count)) = globals.extent() else {
             return Ok(());
         };
-        let mut usages = needed_usages(alloc, item, &self.in_force)?;
+        let mut usages = needed_usages(alloc, item, &self.item_states)?;
         let reports = self.reports.of(item.direction);
         let slot = reports.slot_of(globals.report_id);
         let first_bit = reports.size_at(slot);
@@ -87,16 +87,16 @@ impl State {
 }
 
 /// The usages of a data item, of which it needs some unless it is constant.
-fn needed_usages(alloc: Global, item: &DataItem, in_force: &InForce) -> Result<Usages, Fault>
-    ensures faultless { OnOk result (usages_fault (item_flags item.now) in_force.now.now ≡ None) }
-    ensures usages { IfOk result (HasUsages (item_flags item.now) in_force.now.now) }
+fn needed_usages(alloc: Global, item: &DataItem, item_states: &ItemStateTable) -> Result<Usages, Fault>
+    ensures faultless { OnOk result (usages_fault (item_flags item.now) item_states.now.now ≡ None) }
+    ensures usages { IfOk result (HasUsages (item_flags item.now) item_states.now.now) }
     ensures err { IfErr result (λ e.
-        IsFaultOf e (usages_fault (item_flags item.now) in_force.now.now)) }
+        IsFaultOf e (usages_fault (item_flags item.now) item_states.now.now)) }
 {
     if item.is_constant {
         return Ok(Usages::Several(Vec::new(alloc)));
     }
-    let usages = usages_of(alloc, in_force)?;
+    let usages = usages_of(alloc, item_states)?;
     if usages.count() == 0 {
         return Err(Fault::MissingUsages);
     }

@@ -36,7 +36,7 @@ impl Model for ReportList {
 
 impl ReportList {
     ghost use Rattle.std.specs.Prelude.{◌≡◌, ◌+◌, ◌<◌, ◌^◌, [], OnOk};
-    ghost use Rattle.hidreport.specs.InForce.{first_of};
+    ghost use Rattle.hidreport.specs.ItemState.{first_of};
     ghost use Rattle.hidreport.specs.Parser.Layout.{IsPossible, laid_out};
     ghost use Rattle.hidreport.specs.Parser.Machine.{added_to, first_id, index_in, size_in};
     ghost use Rattle.hidreport.specs.Parser.Usages.{usage_list};

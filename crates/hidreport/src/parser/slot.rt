@@ -1,6 +1,6 @@
 //! The report that a data item adds its fields to (Sections 5.6 and 6.2.2.7).
 ghost use Rattle.std.specs.Prelude.{◌≡◌, ◌+◌, ◌*◌, ◌<◌, ◌≤◌, ◌^◌, true, IfSome, IsSomeAnd, OnOk};
-ghost use Rattle.hidreport.specs.InForce.{first_of};
+ghost use Rattle.hidreport.specs.ItemState.{first_of};
 ghost use Rattle.hidreport.specs.Making.{same_key};
 ghost use Rattle.hidreport.specs.Parser.Ids.{AllBelow};
 ghost use Rattle.hidreport.specs.Parser.Layout.{IsPossible, laid_out};

@@ -1,7 +1,7 @@
 use crate::field::data_item::DataItem;
 use crate::parser::budget::Budget;
 use crate::parser::fault::Fault;
-use crate::parser::in_force::InForce;
+use crate::parser::item_state_table::ItemStateTable;
 use crate::parser::open_collections::OpenCollections;
 use crate::parser::push_keeps::PushKeeps;
 use crate::parser::report_lists::ReportLists;
@@ -17,21 +17,21 @@ const COLLECTION_IDS: u64 = 1 << 32;
 /// What the items so far have set, opened and made.
 #[derive(Drop)]
 pub(crate) struct State {
-    pub(crate) in_force: InForce,
+    pub(crate) item_states: ItemStateTable,
     pub(crate) reports: ReportLists,
     pub(crate) field_count: u64,
     pub(crate) collections: OpenCollections,
 }
 
 impl Model for State {
-    ghost use Rattle.hidreport.specs.Parser.Machine.{Held};
+    ghost use Rattle.hidreport.specs.Parser.Machine.{StateRecord};
 
-    ghost Value = { Held };
+    ghost Value = { StateRecord };
 
     ghost view = { λ s. record {
-      keeping = s.in_force.keeping;
-      force = s.in_force.now;
-      kept = s.in_force.kept;
+      keeping = s.item_states.keeping;
+      item_state = s.item_states.now;
+      stack = s.item_states.stack;
       descriptor = s.reports;
       fields = s.field_count;
       opened = s.collections.list;
@@ -42,16 +42,16 @@ impl Model for State {
 impl State {
     ghost use Rattle.std.specs.Prelude.{◌≡◌, ◌+◌, false, None, Ok, IfErr, OnOk};
     ghost use Rattle.hidreport.specs.Parser.Budget.{is_past, left_behind, stop_in, weight_in};
-    ghost use Rattle.hidreport.specs.Parser.Machine.{fault_in, next_opened, nothing_held, step};
+    ghost use Rattle.hidreport.specs.Parser.Machine.{fault_in, next_opened, first_state, step};
     ghost use Rattle.hidreport.specs.Parser.Refusals.{IsFaultOf};
     ghost use Rattle.hidreport.specs.Parser.DataItem.{collection, end_collection};
 
     /// Before the first item.
     pub(crate) fn new(alloc: Global, keeping: PushKeeps) -> State
-        ensures { result ≡ nothing_held keeping }
+        ensures { result ≡ first_state keeping }
     {
         State {
-            in_force: InForce::new(alloc, keeping),
+            item_states: ItemStateTable::new(alloc, keeping),
             reports: ReportLists::new(alloc),
             field_count: 0,
             collections: OpenCollections::new(alloc),
@@ -72,7 +72,7 @@ impl State {
     {
         match item {
             ItemType::Global(item) => self.take_global(item)?,
-            ItemType::Local(item) => self.in_force.add_local(item)?,
+            ItemType::Local(item) => self.item_states.add_local(item)?,
             ItemType::Main(item) => self.take_main(alloc, budget, item)?,
             ItemType::Long | ItemType::Reserved => {}
         }
@@ -85,13 +85,13 @@ impl State {
         ensures err { IfErr result (λ e. IsFaultOf e (fault_in self.old (ItemType.Global item))) }
     {
         match item {
-            GlobalItem::Push => self.in_force.push()?,
+            GlobalItem::Push => self.item_states.push()?,
             GlobalItem::Pop => {
-                if !self.in_force.pop() {
+                if !self.item_states.pop() {
                     return Err(Fault::TooManyPops);
                 }
             }
-            item => self.in_force.set(item)?,
+            item => self.item_states.set(item)?,
         }
         Ok(())
     }
@@ -113,7 +113,7 @@ impl State {
             MainItem::Collection(item) => self.open_collection(alloc, budget, item)?,
             MainItem::EndCollection => self.close_collection()?,
         }
-        self.in_force.end_locals()?;
+        self.item_states.end_locals()?;
         Ok(())
     }
 
@@ -136,7 +136,7 @@ impl State {
         ensures err { IfErr result (λ e.
             IsFaultOf e (stop_in budget.old self.old (collection item))) }
     {
-        let usages = usages_of(alloc, &self.in_force)?;
+        let usages = usages_of(alloc, &self.item_states)?;
         if self.collections.count() >= COLLECTION_IDS {
             return Err(Fault::OutOfBounds);
         }

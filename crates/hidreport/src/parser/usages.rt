@@ -7,7 +7,7 @@ ghost use Rattle.hidreport.specs.Usages.{single_usages, usages_of};
 
 use crate::field::usage::Usage;
 use crate::parser::fault::Fault;
-use crate::parser::in_force::InForce;
+use crate::parser::item_state_table::ItemStateTable;
 use crate::parser::usage_bounds::UsageBounds;
 use hidreport_items::LocalItem;
 use hidreport_types::{UsageMaximum, UsageMinimum, UsagePage};
@@ -104,11 +104,11 @@ impl Usages {
 /// With a minimum they are a range, which needs a maximum, then a page; else they are the single
 /// usages. Of several minima or maxima the last counts.
 #[inline(always)]
-pub(crate) fn usages_of(alloc: Global, in_force: &InForce) -> Result<Usages, Fault>
-    ensures { Finds usage_list result (usages_of in_force.now.now) }
+pub(crate) fn usages_of(alloc: Global, item_states: &ItemStateTable) -> Result<Usages, Fault>
+    ensures { Finds usage_list result (usages_of item_states.now.now) }
 {
-    let locals = in_force.locals();
-    let page = in_force.globals().usage_page;
+    let locals = item_states.locals();
+    let page = item_states.globals().usage_page;
     if let [local] = locals
         && let Some(usage) = single_usage(&page, *local)?
     {

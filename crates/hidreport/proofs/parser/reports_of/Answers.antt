@@ -3,7 +3,7 @@ use Rattle.hidreport_items.specs.declared.item.ItemType.{ItemType}
 use Rattle.hidreport_lists.specs.Entry.{Spelled}
 use Rattle.hidreport.specs.Meaning.{refusal_at}
 use Rattle.hidreport.specs.Parser.Budget.{is_past, left_behind, stop_in, weight_in}
-use Rattle.hidreport.specs.Parser.Machine.{nothing_held, step}
+use Rattle.hidreport.specs.Parser.Machine.{first_state, step}
 use Rattle.hidreport.specs.Parser.Refusals.{IsFaultOf}
 use Rattle.hidreport.proofs.ParseLemmas.{walked-on, meaning-fault, meaning-end, refuses-fault}
 use Rattle.hidreport.proofs.parser.reports_of.Goals as goal
@@ -18,7 +18,7 @@ returns-in-Err c =
     c.in-Err.ensures.err in
     refuses-fault c.in-Err.fault c.offset.result c.at.result
     (stop_in left h c.entry-item.result.item) _ fault c.at.ensures.named c.at.ensures.memory
-    (λ f e. meaning-fault (nothing_held c.args.keeping) c.args.items.now c.args.limit
+    (λ f e. meaning-fault (first_state c.args.keeping) c.args.items.now c.args.limit
     c.loop-entry.entry-index c.entry-item.result left h f c.loop-entry-test.true c.entry-item.is
     c.loop-entry.invariant e
     ∙ ap (λ o. Err (refusal_at o f)) (sym c.offset.ensures))
@@ -41,6 +41,6 @@ loop-entry-preserved c =
 
 pub returns : goal.returns
 returns c =
-    meaning-end (nothing_held c.args.keeping) c.args.items.now c.args.limit c.loop-entry.entry-index
+    meaning-end (first_state c.args.keeping) c.args.items.now c.args.limit c.loop-entry.entry-index
     c.loop-entry.budget c.loop-entry.state c.loop-entry-test.false c.loop-entry.invariant
     ∙ ap Ok (sym c.into_reports.ensures)

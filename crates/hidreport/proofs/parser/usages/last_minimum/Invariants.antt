@@ -1,5 +1,5 @@
 use Rattle.std.proofs.Common.{◌≡◌, drop}
-use Rattle.hidreport.specs.InForce.{first_of}
+use Rattle.hidreport.specs.ItemState.{first_of}
 use Rattle.hidreport.specs.Usages.{last_local, minimum_of}
 use Rattle.hidreport.proofs.parser.usages.last_minimum.Given as goal
 

@@ -2,13 +2,13 @@ use Rattle.std.proofs.Common.{rules, ◌≡◌, ◌+◌, ◌*◌, ◌∙◌, Lis
 use Rattle.std.proofs.lemmas.Result.{err_from_is_err_and}
 use Rattle.hidreport.specs.Parser.Budget.{is_past, left_behind}
 use Rattle.hidreport.specs.Parser.DataItem.{as_item}
-use Rattle.hidreport.specs.Parser.Forces.{force_of}
+use Rattle.hidreport.specs.Parser.ItemStates.{item_state_of}
 use Rattle.hidreport.specs.Fields.{Measures, attributes_with, make_fields}
 use Rattle.hidreport.specs.Parser.Layout.{shared_list}
 use Rattle.hidreport.specs.Parser.Usages.{usage_list}
-use Rattle.hidreport.specs.Parser.Machine.{Held, fault_in, first_id, next_held, size_in}
+use Rattle.hidreport.specs.Parser.Machine.{StateRecord, fault_in, first_id, next_state, size_in}
 use Rattle.hidreport.specs.Parser.Opened.{Opened}
-use Rattle.hidreport.specs.InForce.{first_of}
+use Rattle.hidreport.specs.ItemState.{first_of}
 use Rattle.hidreport.specs.Records.{ReportRecord}
 use Rattle.hidreport.specs.Views.{direction_of, item_flags}
 use Rattle.hidreport.proofs.DataLemmas.{data-held}
@@ -19,26 +19,26 @@ pub returns-clause-held : goal.returns-clause-held
 returns-clause-held c =
     let s = c.self.inside in
     let x = c.args.item.now in
-    let h : Held = record {
-      keeping = s.in_force.keeping;
-      force = s.in_force.now;
-      kept = s.in_force.kept;
+    let h : StateRecord = record {
+      keeping = s.item_states.keeping;
+      item_state = s.item_states.now;
+      stack = s.item_states.stack;
       descriptor = s.reports;
       fields = s.field_count;
       opened = s.collections.list;
       collections = s.collections.count;
     } in
     let count = c.field_count-field_count.result in
-    let new : Held = record {
-      keeping = s.in_force.keeping;
-      force = s.in_force.now;
-      kept = s.in_force.kept;
+    let new : StateRecord = record {
+      keeping = s.item_states.keeping;
+      item_state = s.item_states.now;
+      stack = s.item_states.stack;
       descriptor = c.add.new.self;
       fields = s.field_count + count;
       opened = c.keep.new.self.list;
       collections = c.keep.new.self.count;
     } in
-    let g = force_of c.globals-globals.result.now s.in_force.now.locals in
+    let g = item_state_of c.globals-globals.result.now s.item_states.now.locals in
     let key = c.slot_of-slot.ensures.key
     ∙ ap (λ (rs : List ReportRecord). first_of c.globals-globals.result.now.report_id
     (first_id rs)) c.of-reports.ensures in
@@ -50,10 +50,10 @@ returns-clause-held c =
     let fields = with c.measures.result in
     let first = c.size_at-first_bit.ensures
     ∙ ap (size_in c.slot_of-slot.result.key) c.of-reports.ensures in
-    subst (λ (z : Held). new ≡ record z {
-      descriptor = (next_held z (as_item x)).descriptor;
+    subst (λ (z : StateRecord). new ≡ record z {
+      descriptor = (next_state z (as_item x)).descriptor;
       fields =
-          (next_held z (as_item x)).fields;
+          (next_state z (as_item x)).fields;
     }) c.self.view_is
     (ap (λ (o : Opened). record h {
       descriptor = c.add.new.self;
@@ -73,16 +73,16 @@ pub returns-clause-within : goal.returns-clause-within
 returns-clause-within c =
     let s = c.self.inside in
     let x = c.args.item.now in
-    let h : Held = record {
-      keeping = s.in_force.keeping;
-      force = s.in_force.now;
-      kept = s.in_force.kept;
+    let h : StateRecord = record {
+      keeping = s.item_states.keeping;
+      item_state = s.item_states.now;
+      stack = s.item_states.stack;
       descriptor = s.reports;
       fields = s.field_count;
       opened = s.collections.list;
       collections = s.collections.count;
     } in
-    let g = force_of c.globals-globals.result.now s.in_force.now.locals in
+    let g = item_state_of c.globals-globals.result.now s.item_states.now.locals in
     let weighs = data-weighs h c.args.self.now g (direction_of x.direction) (item_flags x)
     c.in-Some.size c.in-Some.count c.in_ok-usages.usages
     c.field_count.result c.weight_of_each-each.result c.weight.result c.self.view_is
@@ -94,16 +94,16 @@ pub returns-clause-left : goal.returns-clause-left
 returns-clause-left c =
     let s = c.self.inside in
     let x = c.args.item.now in
-    let h : Held = record {
-      keeping = s.in_force.keeping;
-      force = s.in_force.now;
-      kept = s.in_force.kept;
+    let h : StateRecord = record {
+      keeping = s.item_states.keeping;
+      item_state = s.item_states.now;
+      stack = s.item_states.stack;
       descriptor = s.reports;
       fields = s.field_count;
       opened = s.collections.list;
       collections = s.collections.count;
     } in
-    let g = force_of c.globals-globals.result.now s.in_force.now.locals in
+    let g = item_state_of c.globals-globals.result.now s.item_states.now.locals in
     let weighs = data-weighs h c.args.self.now g (direction_of x.direction) (item_flags x)
     c.in-Some.size c.in-Some.count c.in_ok-usages.usages
     c.field_count.result c.weight_of_each-each.result c.weight.result c.self.view_is
@@ -116,16 +116,16 @@ returns-in_err-spend-clause-err c =
     let faultless : fault_in c.args.self.now (as_item c.args.item.now) ≡ None = search rules in
     let s = c.self.inside in
     let x = c.args.item.now in
-    let h : Held = record {
-      keeping = s.in_force.keeping;
-      force = s.in_force.now;
-      kept = s.in_force.kept;
+    let h : StateRecord = record {
+      keeping = s.item_states.keeping;
+      item_state = s.item_states.now;
+      stack = s.item_states.stack;
       descriptor = s.reports;
       fields = s.field_count;
       opened = s.collections.list;
       collections = s.collections.count;
     } in
-    let g = force_of c.globals-globals.result.now s.in_force.now.locals in
+    let g = item_state_of c.globals-globals.result.now s.item_states.now.locals in
     let weighs = data-weighs h c.args.self.now g (direction_of x.direction) (item_flags x)
     c.in-Some.size c.in-Some.count c.in_ok-usages.usages
     c.field_count.result c.weight_of_each-each.result c.weight.result c.self.view_is

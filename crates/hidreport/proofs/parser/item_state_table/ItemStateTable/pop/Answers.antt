@@ -1,13 +1,13 @@
 use Rattle.std.proofs.Common.{◌≡◌, ◌∷◌, ◌∙◌, List, ap, reverse, take}
 use Rattle.hidreport_items.specs.declared.local.LocalItem.{LocalItem}
-use Rattle.hidreport.specs.Parser.Forces.{force_of}
+use Rattle.hidreport.specs.Parser.ItemStates.{item_state_of}
 use Rattle.hidreport.specs.Parser.Journal.{Opened, WasLocals, change_of, undone_stack}
-use Rattle.hidreport.specs.declared.parser.journal.Entry.{Entry}
+use Rattle.hidreport.specs.declared.parser.journal.Change.{Change}
 use Rattle.hidreport.specs.declared.parser.push_keeps.PushKeeps.{PushKeeps}
 use Rattle.hidreport.specs.declared.parser.push_keeps.PushKeeps.TheVariants as push_keeps
-use Rattle.hidreport.proofs.JournalLemmas.{back-all, back-globals, forces, passed-over, popped}
+use Rattle.hidreport.proofs.JournalLemmas.{back-all, back-globals, item_states, passed-over, popped}
 use Rattle.hidreport.proofs.JournalLemmas.{same-bare}
-use Rattle.hidreport.proofs.parser.in_force.InForce.pop.Goals as goal
+use Rattle.hidreport.proofs.parser.item_state_table.ItemStateTable.pop.Goals as goal
 
 pub loop-entry-preserved : goal.loop-entry-preserved
 loop-entry-preserved c =
@@ -26,20 +26,20 @@ returns-then-has_locals-2-clause-back c = λ _.
     let l = c.loop-entry.self-inside in
     let s = c.self.inside in
     let rest = c.undo.new.self in
-    let now = force_of s.globals s.locals.items in
+    let now = item_state_of s.globals s.locals.items in
     let newest : l.journal ≡ Opened c.in-Push.locals ∷ rest = c.in-Some.ensures.some
     ∙ ap (λ (e : Entry). change_of e ∷ rest) c.in-Push.is in
     let same = c.loop-entry.invariant.2 in
     let all : l.keeping ≡ push_keeps.All = same
     ∙ c.has_locals-has_locals.ensures.all c.if-has_locals-2.true in
-    let kept = undone_stack s.keeping s.journal s.globals s.locals.items in
-    let old = ap (λ (r : PushKeeps). forces r now (reverse kept)) same ∙ c.self.view_is in
+    let stack = undone_stack s.keeping s.journal s.globals s.locals.items in
+    let old = ap (λ (r : PushKeeps). item_states r now (reverse stack)) same ∙ c.self.view_is in
     let cut = c.truncate.ensures.items in
-    popped c.args.self.now l.keeping now (force_of l.globals c.truncate.new.self.items) l.journal
-    rest l.globals l.locals.items c.truncate.new.self.items c.in-Push.locals kept
+    popped c.args.self.now l.keeping now (item_state_of l.globals c.truncate.new.self.items) l.journal
+    rest l.globals l.locals.items c.truncate.new.self.items c.in-Push.locals stack
     old newest c.loop-entry.invariant.0
-    (ap (λ (ls : List LocalItem). force_of l.globals ls) cut
-    ∙ back-all l.keeping now (force_of l.globals (take c.in-Push.locals l.locals.items)) all)
+    (ap (λ (ls : List LocalItem). item_state_of l.globals ls) cut
+    ∙ back-all l.keeping now (item_state_of l.globals (take c.in-Push.locals l.locals.items)) all)
     (ap (undone_stack l.keeping rest l.globals) cut)
 
 pub returns-else-has_locals-2-clause-back : goal.returns-else-has_locals-2-clause-back
@@ -47,17 +47,17 @@ returns-else-has_locals-2-clause-back c = λ _.
     let l = c.loop-entry.self-inside in
     let s = c.self.inside in
     let rest = c.undo.new.self in
-    let now = force_of s.globals s.locals.items in
+    let now = item_state_of s.globals s.locals.items in
     let newest : l.journal ≡ Opened c.in-Push.locals ∷ rest = c.in-Some.ensures.some
     ∙ ap (λ (e : Entry). change_of e ∷ rest) c.in-Push.is in
     let same = c.loop-entry.invariant.2 in
     let bare : l.keeping ≡ push_keeps.Globals = same
     ∙ c.has_locals-has_locals.ensures.globals c.if-has_locals-2.false in
-    let kept = undone_stack s.keeping s.journal s.globals s.locals.items in
-    let old = ap (λ (r : PushKeeps). forces r now (reverse kept)) same ∙ c.self.view_is in
+    let stack = undone_stack s.keeping s.journal s.globals s.locals.items in
+    let old = ap (λ (r : PushKeeps). item_states r now (reverse stack)) same ∙ c.self.view_is in
     let left = take c.in-Push.locals l.locals.items in
-    popped c.args.self.now l.keeping now (force_of l.globals l.locals.items) l.journal rest
-    l.globals l.locals.items l.locals.items c.in-Push.locals kept
+    popped c.args.self.now l.keeping now (item_state_of l.globals l.locals.items) l.journal rest
+    l.globals l.locals.items l.locals.items c.in-Push.locals stack
     old newest c.loop-entry.invariant.0
     (back-globals l.keeping now l.globals l.locals.items left bare (c.loop-entry.invariant.3 bare))
     (same-bare l.keeping rest l.globals l.locals.items left bare)

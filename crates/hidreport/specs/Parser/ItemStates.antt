@@ -1,19 +1,19 @@
 -- What the parser keeps in force.
 use Rattle.std.specs.Prelude.{List}
 use Rattle.hidreport_items.specs.declared.local.LocalItem.{LocalItem}
-use Rattle.hidreport.specs.InForce.{Force}
+use Rattle.hidreport.specs.ItemState.{ItemState}
 use Rattle.hidreport.specs.declared.parser.globals.Globals.{Globals}
 use Rattle.hidreport.specs.declared.parser.push_keeps.PushKeeps.{PushKeeps}
 
 -- what a Push keeps, what is in force now, and what each open Push keeps, outermost first
-pub record Forces : Type 0 where
+pub record ItemStates : Type 0 where
   pub keeping : PushKeeps
-  pub now : Force
-  pub kept : List Force
+  pub now : ItemState
+  pub stack : List ItemState
 
 -- the globals and these locals as what is in force
-abbrev pub force_of : Globals → List LocalItem → Force
-force_of g locals = record {
+abbrev pub item_state_of : Globals → List LocalItem → ItemState
+item_state_of g locals = record {
   usage_page = g.usage_page;
   logical_minimum = g.logical_minimum;
   logical_maximum = g.logical_maximum;

@@ -40,7 +40,7 @@ abbrev pub locals_globals_only : List ItemType → ℕ → List LocalItem
 locals_globals_only items k = unended_locals (before items k)
 
 -- all that is in force at an index
-pub record Force : Type 0 where
+pub record ItemState : Type 0 where
   pub usage_page : Option ℕ
   pub logical_minimum : Option ℤ
   pub logical_maximum : Option ℤ
@@ -54,8 +54,8 @@ pub record Force : Type 0 where
   pub locals : List LocalItem
 
 -- what is in force at k
-abbrev pub force : List ItemType → ℕ → Force
-force items k = record {
+abbrev pub item_state : List ItemType → ℕ → ItemState
+item_state items k = record {
   usage_page = global usage_page_of items k;
   logical_minimum = global logical_minimum_of items k;
   logical_maximum = global logical_maximum_of items k;
@@ -70,5 +70,5 @@ force items k = record {
 }
 
 -- what is in force at k where a Push is of globals alone
-abbrev pub force_globals_only : List ItemType → ℕ → Force
-force_globals_only items k = record (force items k) { locals = locals_globals_only items k }
+abbrev pub item_state_globals_only : List ItemType → ℕ → ItemState
+item_state_globals_only items k = record (item_state items k) { locals = locals_globals_only items k }

@@ -1,5 +1,5 @@
 use crate::parser::globals::Globals;
-use crate::parser::journal::{Entry, Journal};
+use crate::parser::journal::{Change, Journal};
 use crate::parser::push_keeps::PushKeeps;
 use hidreport_items::{GlobalItem, LocalItem};
 use std::alloc::{AllocError, Global};
@@ -9,40 +9,40 @@ use std::marker::Model;
 /// keeps of it for its Pop: one record of globals, one list of locals, and a journal of what was
 /// replaced inside open Pushes.
 #[derive(Drop)]
-pub(crate) struct InForce {
+pub(crate) struct ItemStateTable {
     keeping: PushKeeps,
     globals: Globals,
     locals: Vec<LocalItem>,
     journal: Journal,
 }
 
-impl Model for InForce {
+impl Model for ItemStateTable {
     ghost use Rattle.std.specs.Prelude.{reverse};
-    ghost use Rattle.hidreport.specs.Parser.Forces.{Forces, force_of};
+    ghost use Rattle.hidreport.specs.Parser.ItemStates.{ItemStates, item_state_of};
     ghost use Rattle.hidreport.specs.Parser.Journal.{Fits, undone_stack};
 
-    ghost Value = { Forces };
+    ghost Value = { ItemStates };
 
     ghost view = { λ f. record {
       keeping = f.keeping;
-      now = force_of f.globals f.locals.items;
-      kept = reverse (undone_stack f.keeping f.journal f.globals f.locals.items);
+      now = item_state_of f.globals f.locals.items;
+      stack = reverse (undone_stack f.keeping f.journal f.globals f.locals.items);
     } };
 
     ghost invariant = { λ f. Fits f.keeping f.journal f.locals.items };
 }
 
-impl InForce {
+impl ItemStateTable {
     ghost use Rattle.std.specs.Prelude.{◌≡◌, ◌-◌, ◌<◌, [], ◌∷◌, ◌++◌, true, false, length, take, OnOk};
     ghost use Rattle.hidreport_items.specs.declared.item.ItemType.TheVariants as items;
-    ghost use Rattle.hidreport.specs.Parser.Forces.{force_of};
-    ghost use Rattle.hidreport.specs.Parser.Machine.{brought_back, kept_of, last_force, next_force, nothing_in_force};
+    ghost use Rattle.hidreport.specs.Parser.ItemStates.{item_state_of};
+    ghost use Rattle.hidreport.specs.Parser.Machine.{after_pop, pushed_copy, last_item_state, next_item_state, no_item_state};
 
     /// Before the first item.
-    pub(crate) fn new(alloc: Global, keeping: PushKeeps) -> InForce
-        ensures { result ≡ record { keeping = keeping; now = nothing_in_force; kept = [] } }
+    pub(crate) fn new(alloc: Global, keeping: PushKeeps) -> ItemStateTable
+        ensures { result ≡ record { keeping = keeping; now = no_item_state; stack = [] } }
     {
-        InForce {
+        ItemStateTable {
             keeping,
             globals: Globals::new(),
             locals: Vec::new(alloc),
@@ -52,7 +52,7 @@ impl InForce {
 
     /// The values of global items.
     pub(crate) fn globals(&self) -> &Globals
-        ensures { force_of result.now self.now.now.locals ≡ self.now.now }
+        ensures { item_state_of result.now self.now.now.locals ≡ self.now.now }
     {
         &self.globals
     }
@@ -67,7 +67,7 @@ impl InForce {
     /// Sets the value of a global item; a Push, a Pop and a reserved item have none.
     pub(crate) fn set(&mut self, item: GlobalItem) -> Result<(), AllocError>
         ensures { OnOk result (self.new ≡ record self.old {
-          now = next_force self.old.now (items.Global item);
+          now = next_item_state self.old.now (items.Global item);
         }) }
     {
         self.journal.note_globals(self.globals)?;
@@ -78,7 +78,7 @@ impl InForce {
     /// Adds a local item.
     pub(crate) fn add_local(&mut self, item: LocalItem) -> Result<(), AllocError>
         ensures { OnOk result (self.new ≡ record self.old {
-          now = next_force self.old.now (items.Local item);
+          now = next_item_state self.old.now (items.Local item);
         }) }
     {
         self.locals.push(item)?;
@@ -97,7 +97,7 @@ impl InForce {
     /// Keeps for the Pop of a Push what is in force, of locals and globals or of globals alone.
     pub(crate) fn push(&mut self) -> Result<(), AllocError>
         ensures { OnOk result (self.new ≡ record self.old {
-          kept = self.old.kept ++ kept_of self.old.keeping self.old.now ∷ [];
+          stack = self.old.stack ++ pushed_copy self.old.keeping self.old.now ∷ [];
         }) }
     {
         self.journal.push(self.locals.len())
@@ -106,24 +106,24 @@ impl InForce {
     /// Brings back what the last open Push kept, and answers whether a Push was open. Here alone
     /// it matters what a Push keeps: locals that it doesn't keep go on as they are.
     pub(crate) fn pop(&mut self) -> bool
-        ensures open { result ≡ true → 0 < length self.old.kept }
+        ensures open { result ≡ true → 0 < length self.old.stack }
         ensures back { result ≡ true → self.new ≡ record {
           keeping = self.old.keeping;
-          now = brought_back self.old.keeping self.old.now (last_force self.old.now self.old.kept);
-          kept = take (length self.old.kept - 1) self.old.kept;
+          now = after_pop self.old.keeping self.old.now (last_item_state self.old.now self.old.stack);
+          stack = take (length self.old.stack - 1) self.old.stack;
         } }
-        ensures none { result ≡ false → self.old.kept ≡ [] }
+        ensures none { result ≡ false → self.old.stack ≡ [] }
     {
         let has_locals = self.keeping.has_locals();
         while let Some(entry) = self.journal.undo() {
             match entry {
-                Entry::Globals(old) => self.globals = old,
-                Entry::Locals(old) => {
+                Change::Globals(old) => self.globals = old,
+                Change::Locals(old) => {
                     if has_locals {
                         self.locals = old;
                     }
                 }
-                Entry::Push(locals) => {
+                Change::Push(locals) => {
                     if has_locals {
                         self.locals.truncate(locals);
                     }

@@ -1,7 +1,7 @@
 use Rattle.std.proofs.Common.{◌≡◌, length}
 use Rattle.hidreport.specs.Parser.Journal.{Fits, undone_stack}
 use Rattle.hidreport.specs.declared.parser.push_keeps.PushKeeps.TheVariants as push_keeps
-use Rattle.hidreport.proofs.parser.in_force.InForce.pop.Given as goal
+use Rattle.hidreport.proofs.parser.item_state_table.ItemStateTable.pop.Given as goal
 
 -- what was taken back so far changes nothing that is kept, and no locals that aren't
 abbrev pub invariant-loop-entry : goal.invariant-loop-entry
