@@ -37,13 +37,15 @@ push-item_state f item.Reserved e = cc
 -- a step with its kinds of items told
 steps-by : (a b : Bool) (items : List ItemType) (k : ℕ) (x : ItemType) (f : ItemState)
     (saved : List ItemState) → is_push x ≡ a → is_pop x ≡ b
-    → f ≡ cond b (last_item_state (item_state items k) (stack items k)) (next_item_state (item_state items k) x)
+    → f ≡ cond b (last_item_state (item_state items k) (stack items k))
+    (next_item_state (item_state items k) x)
     → saved ≡ cond b (take (length (stack items k) - 1) (stack items k))
     (cond a (stack items k ++ item_state items k ∷ []) (stack items k))
     → Stepped items k f saved → Steps push_keeps.All (item_state items) (stack items) items k x
 steps-by a b items k x f saved push pop is keeps stepped = record {
   item_states_next = stepped.item_states_next ∙ is
-      ∙ ap (λ c. cond c (last_item_state (item_state items k) (stack items k)) (next_item_state (item_state items k) x))
+      ∙ ap (λ c. cond c (last_item_state (item_state items k) (stack items k))
+      (next_item_state (item_state items k) x))
       (sym pop);
   stack_next = stepped.stack_next ∙ keeps
       ∙ ap (λ c. cond c (take (length (stack items k) - 1) (stack items k))
@@ -69,7 +71,8 @@ all-by false false items front rest x e rests deep push pop =
     steps-by false false items (length front) x _ _ push pop refl refl
     (plain-step items front rest x e rests push pop)
 
-pub all-follows : (items : List ItemType) → Follows push_keeps.All (item_state items) (stack items) items
+pub all-follows : (items : List ItemType)
+    → Follows push_keeps.All (item_state items) (stack items) items
 all-follows items = record {
   begins = refl;
   empty = refl;

@@ -24,7 +24,8 @@ use Rattle.hidreport.specs.Meaning.{PushReading, at_offset, meaning_by, parse_by
 use Rattle.hidreport.specs.MeaningFault.{MeaningFault, PastBudget}
 use Rattle.hidreport.specs.Options.{parse_limited, reading_of}
 use Rattle.hidreport.specs.Parser.Budget.{past_fault, walk_within, weight_in, weight_made_in}
-use Rattle.hidreport.specs.Parser.Machine.{StateRecord, added_to, adds, fault_in, go_on, key_in, next_state}
+use Rattle.hidreport.specs.Parser.Machine.{StateRecord, added_to, adds, fault_in, go_on, key_in}
+use Rattle.hidreport.specs.Parser.Machine.{next_state}
 use Rattle.hidreport.specs.Parser.Machine.{next_reports, first_state, reports_in, start_in}
 use Rattle.hidreport.specs.Parser.Machine.{unless_fault}
 use Rattle.hidreport.specs.Places.{bits_of}
@@ -76,22 +77,26 @@ next-by : (b : Bool) (d : Direction) (h : StateRecord) (x : ItemType) → adds d
     (sum_by field_weight (fields_of h.item_state h.opened h.fields (start_in d h) (data_of x)
     (extent h.item_state))) 0
 next-by true d h x is =
-    let fields = fields_of h.item_state h.opened h.fields (start_in d h) (data_of x) (extent h.item_state) in
+    let fields = fields_of h.item_state h.opened h.fields (start_in d h) (data_of x)
+    (extent h.item_state) in
     ap (λ b. sum_by report_weight (cond b
     (added_to (key_in d h) (bits_of (extent h.item_state)) fields (reports_in d h.descriptor))
     (reports_in d h.descriptor))) is
     ∙ added-weight (key_in d h) (bits_of (extent h.item_state)) fields (reports_in d h.descriptor)
 next-by false d h x is =
-    let fields = fields_of h.item_state h.opened h.fields (start_in d h) (data_of x) (extent h.item_state) in
+    let fields = fields_of h.item_state h.opened h.fields (start_in d h) (data_of x)
+    (extent h.item_state) in
     ap (λ b. sum_by report_weight (cond b
     (added_to (key_in d h) (bits_of (extent h.item_state)) fields (reports_in d h.descriptor))
     (reports_in d h.descriptor))) is
-    ∙ (let e : sum_by report_weight (reports_in d h.descriptor) ≡ sum_by report_weight (reports_in d h.descriptor) + 0 = omega arith in e)
+    ∙ (let e : sum_by report_weight (reports_in d h.descriptor)
+    ≡ sum_by report_weight (reports_in d h.descriptor) + 0 = omega arith in e)
 
 -- the fields go to one direction
 abbrev made_in : Direction → StateRecord → Option (Direction × Flags) → ℕ
 made_in d h o = cond (goes d o && is_some (extent h.item_state))
-    (sum_by field_weight (fields_of h.item_state h.opened h.fields (start_in d h) o (extent h.item_state))) 0
+    (sum_by field_weight (fields_of h.item_state h.opened h.fields (start_in d h) o
+    (extent h.item_state))) 0
 
 part-le : (b : Bool) (n : ℕ) → cond b n 0 ≤ n
 part-le true n = omega arith

@@ -22,7 +22,8 @@ use Rattle.hidreport.specs.MeaningFault.{MeaningFault, PastBudget}
 use Rattle.hidreport.specs.Options.{reading_of}
 use Rattle.hidreport.specs.Parser.Budget.{past_fault, walk_within, weight_in, weight_made_in}
 use Rattle.hidreport.specs.Parser.Budget.{weight_opened_in}
-use Rattle.hidreport.specs.Parser.Machine.{StateRecord, fault_in, go_on, next_state, first_state, start_in}
+use Rattle.hidreport.specs.Parser.Machine.{StateRecord, fault_in, go_on, next_state, first_state}
+use Rattle.hidreport.specs.Parser.Machine.{start_in}
 use Rattle.hidreport.specs.Parser.Machine.{unless_fault, walk}
 use Rattle.hidreport.specs.Records.{DescriptorRecord}
 use Rattle.hidreport.specs.Usages.{usages_of}
@@ -41,13 +42,15 @@ use Rattle.hidreport.proofs.WalkLemmas.{holds-nothing}
 -- the weight of an item, from what is held
 
 opened-held : (o : Option CollectionItem) (item_state : ℕ → ItemState) (stack : ℕ → List ItemState)
-    (items : List ItemType) (k : ℕ) (h : StateRecord) (x : ItemType) → Holds item_state stack items k h
+    (items : List ItemType) (k : ℕ) (h : StateRecord) (x : ItemType)
+    → Holds item_state stack items k h
     → weight_opened item_state o items (k, x) ≡ weight_opened_in h o
 opened-held None item_state stack items k h x held = refl
 opened-held (Some kind) item_state stack items k h x held =
     ap (λ (f : ItemState). 1 + length (list_or_none (usages_of f)).usages) (sym held.item_states)
 
-made-held : (o : Option (Direction × Flags)) (item_state : ℕ → ItemState) (stack : ℕ → List ItemState)
+made-held : (o : Option (Direction × Flags)) (item_state : ℕ → ItemState) (stack : ℕ
+    → List ItemState)
     (items : List ItemType) (k : ℕ) (h : StateRecord) (x : ItemType) → data_of x ≡ o
     → Holds item_state stack items k h
     → weight_made item_state o items (k, x) ≡ weight_made_in h o
@@ -56,11 +59,13 @@ made-held (Some y) item_state stack items k h x e held =
     ap (sum_by field_weight) (fields-held item_state stack items k h y.0 x held
     ∙ ap (λ d. fields_of h.item_state h.opened h.fields (start_in y.0 h) d (extent h.item_state)) e)
 
-weight-held : (item_state : ℕ → ItemState) (stack : ℕ → List ItemState) (items : List ItemType) (k : ℕ) (h : StateRecord)
+weight-held : (item_state : ℕ → ItemState) (stack : ℕ → List ItemState) (items : List ItemType)
+    (k : ℕ) (h : StateRecord)
     (x : ItemType) → ((n : ℕ) → length (stack n) ≡ level items n) → Holds item_state stack items k h
     → fault_in h x ≡ None → weight item_state items k x ≡ weight_in h x
 weight-held item_state stack items k h x leveled held faultless =
-    ap (λ f. unless_faulty f (weight_opened item_state (collection_of x) items (k, x) + weight_made item_state
+    ap (λ f. unless_faulty f (weight_opened item_state (collection_of x) items
+    (k, x) + weight_made item_state
     (data_of x) items (k, x))) (fault-held item_state stack items k h x leveled held ∙ faultless)
     ∙ ap (λ n. n + weight_made item_state (data_of x) items (k, x))
     (opened-held (collection_of x) item_state stack items k h x held)
@@ -70,7 +75,8 @@ weight-held item_state stack items k h x leveled held faultless =
 -- the weight of one item more
 weight-next : (item_state : ℕ → ItemState) (items front rest : List ItemType) (x : ItemType)
     → items ≡ front ++ x ∷ rest
-    → weight_before item_state items (suc (length front)) ≡ weight_before item_state items (length front) +
+    → weight_before item_state items (suc (length front))
+    ≡ weight_before item_state items (length front) +
     weight item_state items (length front) x
 weight-next item_state items front rest x e =
     let w = λ (p : Indexed). weight item_state items p.0 p.1 in
@@ -104,7 +110,8 @@ fault-here-from : (o : Option MeaningFault) (n k : ℕ) (later : Option (ℕ × 
 fault-here-from None n k later le h = h
 fault-here-from (Some f) n k later le h = le
 
-fault-from : (item_state : ℕ → ItemState) (items : List ItemType) (n k : ℕ) (xs : List ItemType) → n ≤ k
+fault-from : (item_state : ℕ → ItemState) (items : List ItemType) (n k : ℕ) (xs : List ItemType)
+    → n ≤ k
     → IsFaultFrom n (first_fault item_state items (enumerate_from k xs))
 fault-from item_state items n k [] le = tt
 fault-from item_state items n k (x ∷ xs) le =
@@ -150,23 +157,27 @@ past-left limit spent w le = past-by (nat_lt limit (spent + w)) (nat_lt (limit -
 -- the item at which the weight passes the limit, from index k on
 abbrev past_from : (ℕ → ItemState) → List ItemType → ℕ → ℕ → List ItemType → Option Indexed
 past_from item_state items limit k xs =
-    find (λ (p : Indexed). nat_lt limit (weight_before item_state items (suc p.0))) (enumerate_from k xs)
+    find (λ (p : Indexed). nat_lt limit (weight_before item_state items (suc p.0)))
+    (enumerate_from k xs)
 
 -- the look-back answer from index k on
 abbrev within_from : (ℕ → ItemState) → List ItemType → ℕ → ℕ → List ItemType → Answer
 within_from item_state items limit k xs =
     unless_past (past_from item_state items limit k xs)
-    (unless_first (first_fault item_state items (enumerate_from k xs)) (descriptor item_state items))
+    (unless_first (first_fault item_state items (enumerate_from k xs))
+    (descriptor item_state items))
 
 -- one item, by its fault and by whether it passes the limit
-within-by : (o : Option MeaningFault) (b : Bool) (item_state : ℕ → ItemState) (items : List ItemType)
+within-by : (o : Option MeaningFault) (b : Bool) (item_state : ℕ → ItemState)
+    (items : List ItemType)
     (limit left k : ℕ) (h : StateRecord) (x : ItemType) (xs : List ItemType)
     → fault item_state items k x ≡ fault_in h x → fault_in h x ≡ o
     → (fault_in h x ≡ None
     → nat_lt limit (weight_before item_state items (suc k)) ≡ nat_lt left (weight_in h x))
     → nat_lt left (weight_in h x) ≡ b
     → (fault_in h x ≡ None → nat_lt left (weight_in h x) ≡ false
-    → walk_within (Some (left - weight_in h x)) (next_state h x) (k + 1) xs ≡ within_from item_state items
+    → walk_within (Some (left - weight_in h x)) (next_state h x) (k + 1) xs
+    ≡ within_from item_state items
     limit (k + 1) xs)
     → walk_within (Some left) h k (x ∷ xs) ≡ within_from item_state items limit k (x ∷ xs)
 within-by (Some f) b item_state items limit left k h x xs same e past is rest =
@@ -189,7 +200,8 @@ within-by None true item_state items limit left k h x xs same e past is rest =
     ∙ ap (λ b. unless_past (cond b (Some (k, x)) (past_from item_state items limit (k + 1) xs))
     (unless_first (first_fault item_state items (enumerate_from (k + 1) xs))
     (descriptor item_state items))) (past e ∙ is)
-    ∙ past-first (first_fault item_state items (enumerate_from (k + 1) xs)) k x (descriptor item_state items)
+    ∙ past-first (first_fault item_state items (enumerate_from (k + 1) xs)) k x
+    (descriptor item_state items)
     (fault-from item_state items (suc k) (k + 1) xs (omega arith)))
 within-by None false item_state items limit left k h x xs same e past is rest =
     ap (λ o. go_on (unless_fault (first_of o (past_fault (nat_lt left (weight_in h x))))
@@ -205,10 +217,12 @@ within-by None false item_state items limit left k h x xs same e past is rest =
     (descriptor item_state items))) (past e ∙ is))
 
 within-walk : (keeping : PushKeeps) (item_state : ℕ → ItemState) (stack : ℕ → List ItemState)
-    (items front rest : List ItemType) (h : StateRecord) (limit : ℕ) → Follows keeping item_state stack items
+    (items front rest : List ItemType) (h : StateRecord) (limit : ℕ)
+    → Follows keeping item_state stack items
     → h.keeping ≡ keeping → items ≡ front ++ rest → Holds item_state stack items (length front) h
     → weight_before item_state items (length front) ≤ limit
-    → walk_within (Some (limit - weight_before item_state items (length front))) h (length front) rest
+    → walk_within (Some (limit - weight_before item_state items (length front))) h
+    (length front) rest
     ≡ within_from item_state items limit (length front) rest
 within-walk keeping item_state stack items front [] h limit follows reads e held room =
     let whole : items ≡ front = e ∙ append-nil front in
@@ -223,8 +237,10 @@ within-walk keeping item_state stack items front (x ∷ xs) h limit follows read
     let size_one : length (front ++ x ∷ []) ≡ k + 1 = size ∙ sym (add-one k) in
     let heavier : fault_in h x ≡ None → weight_before item_state items (suc k) ≡ spent + w =
     λ faultless. weight-next item_state items front xs x e
-    ∙ ap (λ n. spent + n) (weight-held item_state stack items k h x follows.leveled held faultless) in
-    within-by (fault_in h x) (nat_lt (limit - spent) w) item_state items limit (limit - spent) k h x xs
+    ∙ ap (λ n. spent + n) (weight-held item_state stack items k h x follows.leveled held
+    faultless) in
+    within-by (fault_in h x) (nat_lt (limit - spent) w) item_state items limit
+    (limit - spent) k h x xs
     (fault-held item_state stack items k h x follows.leveled held) refl
     (λ faultless. ap (nat_lt limit) (heavier faultless) ∙ past-left limit spent w room) refl
     (λ faultless within.
@@ -236,12 +252,15 @@ within-walk keeping item_state stack items front (x ∷ xs) h limit follows read
     let fits : w ≤ limit - spent = grind (arith, nat_tests) in
     let room_next : weight_before item_state items (length (front ++ x ∷ [])) ≤ limit =
     omega (arith, spent_next, fits, room) in
-    let left_next : limit - weight_before item_state items (length (front ++ x ∷ [])) ≡ limit - spent -
+    let left_next : limit - weight_before item_state items (length (front ++ x ∷ []))
+    ≡ limit - spent -
     w = omega (arith, spent_next, fits, room) in
-    let walked = within-walk keeping item_state stack items (front ++ x ∷ []) xs (next_state h x) limit
+    let walked = within-walk keeping item_state stack items (front ++ x ∷ []) xs
+    (next_state h x) limit
     follows reads more next room_next in
     ap (λ l. walk_within (Some l) (next_state h x) (k + 1) xs) (sym left_next)
-    ∙ ap (λ n. walk_within (Some (limit - weight_before item_state items (length (front ++ x ∷ []))))
+    ∙ ap (λ n. walk_within
+    (Some (limit - weight_before item_state items (length (front ++ x ∷ []))))
     (next_state h x) n xs) (sym size_one)
     ∙ walked ∙ ap (λ n. within_from item_state items limit n xs) size_one)
 
@@ -274,7 +293,8 @@ unlimited-by None h k xs rest = rest
 unlimited-by (Some f) h k xs rest = refl
 
 -- without a limit it is the plain walk
-pub walk-unlimited : (h : StateRecord) (k : ℕ) (xs : List ItemType) → walk_within None h k xs ≡ walk h k xs
+pub walk-unlimited : (h : StateRecord) (k : ℕ) (xs : List ItemType)
+    → walk_within None h k xs ≡ walk h k xs
 walk-unlimited h k [] = refl
 walk-unlimited h k (x ∷ xs) =
     ap (λ o. go_on (unless_fault o (next_state h x)) k (λ next. walk_within None next (k + 1) xs))

@@ -17,7 +17,8 @@ use Rattle.hidreport.specs.Parser.DataItem.{item_with}
 use Rattle.hidreport.specs.Fields.{make_fields, attributes, field_count, list_or_none}
 use Rattle.hidreport.specs.ItemState.{ItemState, first_of}
 use Rattle.hidreport.specs.Parser.Machine.{StateRecord, after_pop, pushed_copy, step, unless_fault}
-use Rattle.hidreport.specs.Parser.Machine.{last_item_state, next_item_state, next_state, key_in, start_in}
+use Rattle.hidreport.specs.Parser.Machine.{last_item_state, next_item_state, next_state, key_in}
+use Rattle.hidreport.specs.Parser.Machine.{start_in}
 use Rattle.hidreport.specs.Parser.Machine.{size_in, first_id, added_to, reports_in, with_reports}
 use Rattle.hidreport.specs.Making.{extent}
 use Rattle.hidreport.specs.Records.{CollectionRecord, DescriptorRecord, FieldRecord, ReportRecord}
@@ -26,12 +27,15 @@ use Rattle.hidreport.specs.Usages.{UsageList, usages_of}
 use Rattle.hidreport.specs.declared.parser.usages.Usages.{Usages}
 
 -- the fields that an item of a direction with these flags makes in these collections
-abbrev pub made_fields : StateRecord → Direction → Flags → List CollectionRecord → ℕ × ℕ → UsageList → ℕ
+abbrev pub made_fields : StateRecord → Direction → Flags → List CollectionRecord → ℕ × ℕ
+    → UsageList → ℕ
     → List FieldRecord
 made_fields h d flags cs e us first =
-    make_fields h.item_state.report_id h.fields first e flags us (attributes h.item_state cs d flags)
+    make_fields h.item_state.report_id h.fields first e flags us
+    (attributes h.item_state cs d flags)
 
-made-descriptor : (h : StateRecord) (d : Direction) (flags : Flags) (e : ℕ × ℕ) → extent h.item_state ≡ Some e
+made-descriptor : (h : StateRecord) (d : Direction) (flags : Flags) (e : ℕ × ℕ)
+    → extent h.item_state ≡ Some e
     → (next_state h (item_with d flags)).descriptor
     ≡ with_reports d (added_to (key_in d h) (e.0 * e.1)
     (made_fields h d flags h.opened e (list_or_none (usages_of h.item_state)) (start_in d h))
@@ -41,7 +45,8 @@ made-descriptor h Output flags e made = rw made refl
 made-descriptor h Feature flags e made = rw made refl
 
 -- a constant item's fields have neither usages nor collections
-usages-by : (b : Bool) (h : StateRecord) (d : Direction) (flags : Flags) (cs : List CollectionRecord)
+usages-by : (b : Bool) (h : StateRecord) (d : Direction) (flags : Flags)
+    (cs : List CollectionRecord)
     (e : ℕ × ℕ) (us : Usages) (first : ℕ) → flags.constant ≡ b
     → (flags.constant ≡ false → cs ≡ h.opened) → HasUsages flags h.item_state us
     → made_fields h d flags cs e (usage_list us) first ≡ made_fields h d flags h.opened e
@@ -81,14 +86,16 @@ descriptor-made h d flags cs size count us key first bits fields around made has
     ∙ sym (made-descriptor h d flags (size, count) made)
 
 -- as many fields are numbered behind it
-pub fields-made : (h : StateRecord) (d : Direction) (flags : Flags) (e : ℕ × ℕ) → extent h.item_state ≡ Some e
+pub fields-made : (h : StateRecord) (d : Direction) (flags : Flags) (e : ℕ × ℕ)
+    → extent h.item_state ≡ Some e
     → (next_state h (item_with d flags)).fields ≡ h.fields + field_count flags e.1
 fields-made h Input flags e made = rw made refl
 fields-made h Output flags e made = rw made refl
 fields-made h Feature flags e made = rw made refl
 
 -- what is held behind a data item, from what the parser made of it; `g` is what it found in force
-pub data-held : (h : StateRecord) (g : ItemState) (d : Direction) (flags : Flags) (cs : List CollectionRecord)
+pub data-held : (h : StateRecord) (g : ItemState) (d : Direction) (flags : Flags)
+    (cs : List CollectionRecord)
     (size count : ℕ) (us : Usages) (key : Option ℕ) (first bits : ℕ)
     (fields : List FieldRecord) (rs : DescriptorRecord) (n : ℕ)
     → g ≡ h.item_state → (flags.constant ≡ false → cs ≡ h.opened) → extent g ≡ Some (size, count)
@@ -171,8 +178,10 @@ quiet h f stack =
 
 -- a global item is set, where it is neither Push nor Pop
 pub step-global : (h : StateRecord) (g : GlobalItem) → g ≢ global.Push → g ≢ global.Pop
-    → step h (item.Global g) ≡ Ok (record h
-    { item_state = record (next_item_state h.item_state (item.Global g)) { locals = h.item_state.locals ++ [] } })
+    → step h (item.Global g) ≡ Ok (record h {
+      item_state = record (next_item_state h.item_state
+          (item.Global g)) { locals = h.item_state.locals ++ [] };
+    })
 step-global h global.Push a b = absurd (a refl)
 step-global h global.Pop a b = absurd (b refl)
 step-global h g a b = quiet h (next_item_state h.item_state (item.Global g)) h.stack
@@ -214,7 +223,8 @@ step-pop h some =
     (take (length h.stack - 1) h.stack)
 
 -- the last of a list
-pub last_item_state-end : (f g : ItemState) (gs : List ItemState) → last_item_state f (gs ++ g ∷ []) ≡ g
+pub last_item_state-end : (f g : ItemState) (gs : List ItemState)
+    → last_item_state f (gs ++ g ∷ []) ≡ g
 last_item_state-end f g [] = refl
 last_item_state-end f g (h ∷ hs) = last_item_state-end h g hs
 

@@ -7,7 +7,8 @@ use Rattle.hidreport_items.specs.declared.item.ItemType.TheVariants as item
 use Rattle.hidreport_items.specs.declared.global.GlobalItem.TheVariants as global
 use Rattle.hidreport_items.specs.declared.local.LocalItem.{LocalItem}
 use Rattle.hidreport_items.specs.declared.item.ItemType.{ItemType}
-use Rattle.hidreport.specs.ItemState.{ItemState, item_state, item_state_globals_only, locals_globals_only}
+use Rattle.hidreport.specs.ItemState.{ItemState, item_state, item_state_globals_only}
+use Rattle.hidreport.specs.ItemState.{locals_globals_only}
 use Rattle.hidreport.specs.ItemState.{unended_locals}
 use Rattle.hidreport.specs.Kinds.{is_main, is_push, is_pop}
 use Rattle.hidreport.specs.Parser.Machine.{after_pop, pushed_copy, last_item_state, next_item_state}
@@ -31,7 +32,8 @@ stack_bare items k = map bare (stack items k)
 -- the last of them, with these locals
 last-bare : (f g : ItemState) (ls : List LocalItem) (ts : List ItemState)
     → record f { locals = ls } ≡ record g { locals = ls }
-    → record (last_item_state f (map bare ts)) { locals = ls } ≡ record (last_item_state g ts) { locals = ls }
+    → record (last_item_state f (map bare ts)) { locals = ls }
+    ≡ record (last_item_state g ts) { locals = ls }
 last-bare f g ls [] e = e
 last-bare f g ls (t ∷ ts) e = last-bare (bare t) t ls ts refl
 
@@ -55,7 +57,8 @@ pop-locals ls item.Long e = cc
 pop-locals ls item.Reserved e = cc
 
 -- what is in force behind an item, by whether it is a Pop
-in-item_state-by : (b : Bool) (f next : ItemState) (ls : List LocalItem) (ts : List ItemState) (x : ItemType)
+in-item_state-by : (b : Bool) (f next : ItemState) (ls : List LocalItem) (ts : List ItemState)
+    (x : ItemType)
     → is_pop x ≡ b
     → next ≡ cond b (last_item_state f ts) (next_item_state f x)
     → record next { locals = next_locals ls x }
@@ -64,7 +67,8 @@ in-item_state-by : (b : Bool) (f next : ItemState) (ls : List LocalItem) (ts : L
     (next_item_state (record f { locals = ls }) x)
 in-item_state-by true f next ls ts x pop e =
     ap (λ (g : ItemState). record g { locals = next_locals ls x }) e
-    ∙ ap (λ (l : List LocalItem). record (last_item_state f ts) { locals = l }) (pop-locals ls x pop)
+    ∙ ap (λ (l : List LocalItem). record (last_item_state f ts) { locals = l })
+    (pop-locals ls x pop)
     ∙ sym (last-bare (record f { locals = ls }) f ls ts refl)
 in-item_state-by false f next ls ts x pop e =
     ap (λ (g : ItemState). record g { locals = next_locals ls x }) e
@@ -81,14 +85,17 @@ stack-by false false f ts = refl
 
 globals-step : (items front rest : List ItemType) (x : ItemType) → items ≡ front ++ x ∷ rest
     → Steps push_keeps.All (item_state items) (stack items) items (length front) x
-    → Steps push_keeps.Globals (item_state_globals_only items) (stack_bare items) items (length front) x
+    → Steps push_keeps.Globals (item_state_globals_only items) (stack_bare items) items
+    (length front) x
 globals-step items front rest x e s =
     let k = length front in
     let ls = locals_globals_only items k in
     record {
-      item_states_next = ap (λ (l : List LocalItem). record (item_state items (suc k)) { locals = l })
+      item_states_next = ap (λ (l : List LocalItem). record
+          (item_state items (suc k)) { locals = l })
           (locals-next items front rest x e)
-          ∙ in-item_state-by (is_pop x) (item_state items k) (item_state items (suc k)) ls (stack items k) x refl
+          ∙ in-item_state-by (is_pop x) (item_state items k) (item_state items (suc k)) ls
+          (stack items k) x refl
           s.item_states_next;
       stack_next = ap (map bare) s.stack_next
           ∙ stack-by (is_pop x) (is_push x) (item_state items k) (stack items k);

@@ -6,7 +6,8 @@ use Rattle.std.proofs.lemmas.List.{reverse-append}
 use Rattle.hidreport_items.specs.declared.local.LocalItem.{LocalItem}
 use Rattle.hidreport.specs.ItemState.{ItemState}
 use Rattle.hidreport.specs.Parser.ItemStates.{ItemStates, item_state_of}
-use Rattle.hidreport.specs.Parser.Journal.{ChangeRecord, Opened, WasGlobals, WasLocals, Fits, IsCounted}
+use Rattle.hidreport.specs.Parser.Journal.{ChangeRecord, Opened, WasGlobals, WasLocals, Fits}
+use Rattle.hidreport.specs.Parser.Journal.{IsCounted}
 use Rattle.hidreport.specs.Parser.Journal.{with_change, undone_stack}
 use Rattle.hidreport.specs.Parser.Machine.{after_pop, pushed_copy, last_item_state}
 use Rattle.hidreport.specs.declared.parser.globals.Globals.{Globals}
@@ -39,7 +40,8 @@ added-all (Opened n ∷ cs) g ls more f =
 added-all (WasGlobals old ∷ cs) g ls more f = added-all cs old ls more f
 added-all (WasLocals old ∷ cs) g ls more f = refl
 
-pub undone-added : (keeping : PushKeeps) (cs : List ChangeRecord) (g : Globals) (ls more : List LocalItem)
+pub undone-added : (keeping : PushKeeps) (cs : List ChangeRecord) (g : Globals)
+    (ls more : List LocalItem)
     → Fits keeping cs ls → undone_stack keeping cs g (ls ++ more) ≡ undone_stack keeping cs g ls
 undone-added push_keeps.All cs g ls more f = added-all cs g ls more f
 undone-added push_keeps.Globals cs g ls more f = undone-bare cs g (ls ++ more) ls
@@ -70,7 +72,8 @@ fits-added push_keeps.All cs ls more f = counted-added cs ls more f
 fits-added push_keeps.Globals cs ls more f = tt
 
 -- globals that are set are brought back
-pub undone-set : (keeping : PushKeeps) (cs : List ChangeRecord) (old new : Globals) (ls : List LocalItem)
+pub undone-set : (keeping : PushKeeps) (cs : List ChangeRecord) (old new : Globals)
+    (ls : List LocalItem)
     → undone_stack keeping (with_change (WasGlobals old) cs) new ls ≡ undone_stack keeping cs old ls
 undone-set keeping [] old new ls = refl
 undone-set keeping (c ∷ cs) old new ls = refl
@@ -86,7 +89,8 @@ fits-set push_keeps.All cs old ls f = set-all cs old ls f
 fits-set push_keeps.Globals cs old ls f = tt
 
 -- so are locals that are ended
-pub undone-ended : (keeping : PushKeeps) (cs : List ChangeRecord) (g : Globals) (ls : List LocalItem)
+pub undone-ended : (keeping : PushKeeps) (cs : List ChangeRecord) (g : Globals)
+    (ls : List LocalItem)
     → undone_stack keeping (with_change (WasLocals ls) cs) g [] ≡ undone_stack keeping cs g ls
 undone-ended keeping [] g ls = refl
 undone-ended keeping (c ∷ cs) g ls = refl
@@ -96,12 +100,14 @@ ended-all : (cs : List ChangeRecord) (ls : List LocalItem) → IsCounted cs ls
 ended-all [] ls f = tt
 ended-all (c ∷ cs) ls f = f
 
-pub fits-ended : (keeping : PushKeeps) (cs : List ChangeRecord) (ls : List LocalItem) → Fits keeping cs ls
+pub fits-ended : (keeping : PushKeeps) (cs : List ChangeRecord) (ls : List LocalItem)
+    → Fits keeping cs ls
     → Fits keeping (with_change (WasLocals ls) cs) []
 fits-ended push_keeps.All cs ls f = ended-all cs ls f
 fits-ended push_keeps.Globals cs ls f = tt
 
-pub fits-pushed : (keeping : PushKeeps) (cs : List ChangeRecord) (ls : List LocalItem) → Fits keeping cs ls
+pub fits-pushed : (keeping : PushKeeps) (cs : List ChangeRecord) (ls : List LocalItem)
+    → Fits keeping cs ls
     → Fits keeping (Opened (length ls) ∷ cs) ls
 fits-pushed push_keeps.All cs ls f =
     (omega arith, counted-same cs ls (take (length ls) ls) (sym (take-all ls)) f)
@@ -113,7 +119,8 @@ fits-pushed push_keeps.Globals cs ls f = tt
 pub passed-over : (keeping : PushKeeps) (cs rest : List ChangeRecord) (g : Globals)
     (ls old : List LocalItem) (stack : List ItemState) → keeping ≡ push_keeps.Globals
     → cs ≡ WasLocals old ∷ rest
-    → undone_stack keeping cs g ls ≡ stack → (undone_stack keeping rest g ls ≡ stack) × Fits keeping rest ls
+    → undone_stack keeping cs g ls ≡ stack → (undone_stack keeping rest g ls ≡ stack)
+    × Fits keeping rest ls
 passed-over push_keeps.All cs rest g ls old stack is newest same = cc
 passed-over push_keeps.Globals cs rest g ls old stack is newest same = (
   undone-bare rest g ls old
@@ -132,9 +139,11 @@ pub back-globals : (keeping : PushKeeps) (now : ItemState) (g : Globals) (ls xs 
     → keeping ≡ push_keeps.Globals → ls ≡ now.locals
     → item_state_of g ls ≡ after_pop keeping now (pushed_copy keeping (item_state_of g xs))
 back-globals push_keeps.All now g ls xs is same = cc
-back-globals push_keeps.Globals now g ls xs is same = ap (λ (l : List LocalItem). item_state_of g l) same
+back-globals push_keeps.Globals now g ls xs is same = ap
+    (λ (l : List LocalItem). item_state_of g l) same
 
-pub same-bare : (keeping : PushKeeps) (cs : List ChangeRecord) (g : Globals) (ls ms : List LocalItem)
+pub same-bare : (keeping : PushKeeps) (cs : List ChangeRecord) (g : Globals)
+    (ls ms : List LocalItem)
     → keeping ≡ push_keeps.Globals → undone_stack keeping cs g ls ≡ undone_stack keeping cs g ms
 same-bare push_keeps.All cs g ls ms is = cc
 same-bare push_keeps.Globals cs g ls ms is = undone-bare cs g ls ms
@@ -143,9 +152,11 @@ abbrev pub item_states : PushKeeps → ItemState → List ItemState → ItemStat
 item_states keeping now stack = record { keeping = keeping; now = now; stack = stack }
 
 -- behind the Push's own note
-pub popped : (old : ItemStates) (keeping : PushKeeps) (now back : ItemState) (cs rest : List ChangeRecord)
+pub popped : (old : ItemStates) (keeping : PushKeeps) (now back : ItemState)
+    (cs rest : List ChangeRecord)
     (g : Globals) (ls ms : List LocalItem) (n : ℕ) (stack : List ItemState)
-    → item_states keeping now (reverse stack) ≡ old → cs ≡ Opened n ∷ rest → undone_stack keeping cs g ls ≡ stack
+    → item_states keeping now (reverse stack) ≡ old → cs ≡ Opened n ∷ rest
+    → undone_stack keeping cs g ls ≡ stack
     → back ≡ after_pop keeping now (pushed_copy keeping (item_state_of g (take n ls)))
     → undone_stack keeping rest g ms ≡ undone_stack keeping rest g (take n ls)
     → item_states keeping back (reverse (undone_stack keeping rest g ms))
@@ -159,7 +170,8 @@ popped old keeping now back cs rest g ls ms n stack is newest same brought bare 
     ∙ ap (λ (l : List ItemState). reverse l)
     (ap (λ (l : List ChangeRecord). undone_stack keeping l g ls) (sym newest) ∙ same) in
     let after : List ItemState → ItemStates =
-    λ l. item_states keeping (after_pop keeping now (last_item_state now l)) (take (length l - 1) l) in
+    λ l. item_states keeping (after_pop keeping now (last_item_state now l))
+    (take (length l - 1) l) in
     let behind : ItemStates → ItemStates =
     λ o. item_states o.keeping (after_pop o.keeping o.now (last_item_state o.now o.stack))
     (take (length o.stack - 1) o.stack) in

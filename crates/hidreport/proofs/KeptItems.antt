@@ -39,9 +39,12 @@ use Rattle.hidreport.specs.Records.{CollectionRecord, ReportRecord}
 use Rattle.hidreport.specs.Usages.{UsageList, usages_of, usages_by, last_local, single_usages}
 use Rattle.hidreport.specs.Usages.{before_usages, on_page, range_usages, as_single, minimum_of}
 use Rattle.hidreport.specs.Usages.{maximum_of}
-use Rattle.hidreport.specs.Parser.Machine.{StateRecord, adds, after_pop, pushed_copy, added_to, key_in}
-use Rattle.hidreport.specs.Parser.Machine.{start_in, start_for, counts_in, fault_in, last_item_state}
-use Rattle.hidreport.specs.Parser.Machine.{next_item_state, item_state_behind, next_stack, next_state}
+use Rattle.hidreport.specs.Parser.Machine.{StateRecord, adds, after_pop, pushed_copy, added_to}
+use Rattle.hidreport.specs.Parser.Machine.{key_in}
+use Rattle.hidreport.specs.Parser.Machine.{start_in, start_for, counts_in, fault_in}
+use Rattle.hidreport.specs.Parser.Machine.{last_item_state}
+use Rattle.hidreport.specs.Parser.Machine.{next_item_state, item_state_behind, next_stack}
+use Rattle.hidreport.specs.Parser.Machine.{next_state}
 use Rattle.hidreport.specs.Parser.Machine.{next_opened, next_reports, new_collection, first_state}
 use Rattle.hidreport.specs.Parser.Machine.{unless_fault, go_on, walk}
 use Rattle.hidreport.specs.declared.parser.push_keeps.PushKeeps.{PushKeeps}
@@ -125,7 +128,8 @@ item-thin n f (item.Main (main.Output flags)) = data-thin n f flags (extent f)
 item-thin n f (item.Main (main.Feature flags)) = data-thin n f flags (extent f)
 item-thin n f x = refl
 
-start-thin : (o : Option (Direction × Flags)) (h : StateRecord) → start_for o (thin h) ≡ start_for o h
+start-thin : (o : Option (Direction × Flags)) (h : StateRecord)
+    → start_for o (thin h) ≡ start_for o h
 start-thin None h = refl
 start-thin (Some (Input, flags)) h = refl
 start-thin (Some (Output, flags)) h = refl
@@ -164,7 +168,8 @@ fields-thin f cs id first (Some x) (Some e) =
 fields-thin f cs id first (Some x) None = refl
 fields-thin f cs id first None e = refl
 
-new-thin : (h : StateRecord) (o : Option CollectionItem) → new_collection (thin h) o ≡ new_collection h o
+new-thin : (h : StateRecord) (o : Option CollectionItem)
+    → new_collection (thin h) o ≡ new_collection h o
 new-thin h None = refl
 new-thin h (Some kind) = ap (λ (u : List _). record { id = h.collections; kind = kind; usages = u }
     ∷ []) (ap (λ u. (list_or_none u).usages) (usages-thin h.item_state))
@@ -173,13 +178,16 @@ reports-thin : (d : Direction) (h : StateRecord) (x : ItemType)
     → next_reports d (thin h) x ≡ next_reports d h x
 reports-thin Input h x = ap (λ l. cond (adds Input h x)
     (added_to (key_in Input h) (bits_in h) l h.descriptor.input) h.descriptor.input)
-    (fields-thin h.item_state h.opened h.fields (start_in Input h) (data_of x) (extent h.item_state))
+    (fields-thin h.item_state h.opened h.fields (start_in Input h) (data_of x)
+    (extent h.item_state))
 reports-thin Output h x = ap (λ l. cond (adds Output h x)
     (added_to (key_in Output h) (bits_in h) l h.descriptor.output) h.descriptor.output)
-    (fields-thin h.item_state h.opened h.fields (start_in Output h) (data_of x) (extent h.item_state))
+    (fields-thin h.item_state h.opened h.fields (start_in Output h) (data_of x)
+    (extent h.item_state))
 reports-thin Feature h x = ap (λ l. cond (adds Feature h x)
     (added_to (key_in Feature h) (bits_in h) l h.descriptor.feature) h.descriptor.feature)
-    (fields-thin h.item_state h.opened h.fields (start_in Feature h) (data_of x) (extent h.item_state))
+    (fields-thin h.item_state h.opened h.fields (start_in Feature h) (data_of x)
+    (extent h.item_state))
 
 -- the same step, for an item that is kept
 
@@ -202,13 +210,15 @@ item_state-thin f x e = ap (λ (l : List LocalItem). record (next_item_state f x
     (locals-by (is_main x) f.locals x e)
 
 last-thin : (f : ItemState) (ts : List ItemState)
-    → last_item_state (thin_item_state f) (map thin_item_state ts) ≡ thin_item_state (last_item_state f ts)
+    → last_item_state (thin_item_state f) (map thin_item_state ts)
+    ≡ thin_item_state (last_item_state f ts)
 last-thin f [] = refl
 last-thin f (t ∷ ts) = last-thin t ts
 
 -- what a Pop brings back without reserved local items is what it brings back, without them
 back-thin : (keeping : PushKeeps) (f g : ItemState)
-    → after_pop keeping (thin_item_state f) (thin_item_state g) ≡ thin_item_state (after_pop keeping f g)
+    → after_pop keeping (thin_item_state f) (thin_item_state g)
+    ≡ thin_item_state (after_pop keeping f g)
 back-thin push_keeps.All f g = refl
 back-thin push_keeps.Globals f g = refl
 
@@ -222,22 +232,26 @@ held-by : (b : Bool) (h : StateRecord) (x : ItemType) → is_kept x ≡ true
     → cond b (after_pop h.keeping (thin_item_state h.item_state)
     (last_item_state (thin_item_state h.item_state) (map thin_item_state h.stack)))
     (next_item_state (thin_item_state h.item_state) x)
-    ≡ thin_item_state (cond b (after_pop h.keeping h.item_state (last_item_state h.item_state h.stack))
+    ≡ thin_item_state
+    (cond b (after_pop h.keeping h.item_state (last_item_state h.item_state h.stack))
     (next_item_state h.item_state x))
-held-by true h x e = ap (after_pop h.keeping (thin_item_state h.item_state)) (last-thin h.item_state h.stack)
+held-by true h x e = ap (after_pop h.keeping (thin_item_state h.item_state))
+    (last-thin h.item_state h.stack)
     ∙ back-thin h.keeping h.item_state (last_item_state h.item_state h.stack)
 held-by false h x e = item_state-thin h.item_state x e
 
 abbrev shorter : List ItemState → List ItemState
 shorter ts = take (length ts - 1) ts
 
-shorter-thin : (ts : List ItemState) → shorter (map thin_item_state ts) ≡ map thin_item_state (shorter ts)
+shorter-thin : (ts : List ItemState) → shorter (map thin_item_state ts)
+    ≡ map thin_item_state (shorter ts)
 shorter-thin ts = ap (λ n. take (n - 1) (map thin_item_state ts)) (length-map ts thin_item_state)
     ∙ take-map thin_item_state (length ts - 1) ts
 
 kept-by : (a b : Bool) (keeping : PushKeeps) (f : ItemState) (ts : List ItemState)
     → cond a (shorter (map thin_item_state ts))
-    (cond b (map thin_item_state ts ++ pushed_copy keeping (thin_item_state f) ∷ []) (map thin_item_state ts))
+    (cond b (map thin_item_state ts ++ pushed_copy keeping (thin_item_state f) ∷ [])
+    (map thin_item_state ts))
     ≡ map thin_item_state (cond a (shorter ts) (cond b (ts ++ pushed_copy keeping f ∷ []) ts))
 kept-by true b keeping f ts = shorter-thin ts
 kept-by false true keeping f ts =
@@ -248,7 +262,8 @@ kept-by false false keeping f ts = refl
 next-thin : (h : StateRecord) (x : ItemType) → is_kept x ≡ true
     → next_state (thin h) x ≡ thin (next_state h x)
 next-thin h x e =
-    let made : ItemState → List ItemState → List ReportRecord → List ReportRecord → List ReportRecord
+    let made : ItemState → List ItemState → List ReportRecord → List ReportRecord
+    → List ReportRecord
     → List CollectionRecord → ℕ → StateRecord =
     λ f ts i o t cs n. record {
       keeping = h.keeping;
@@ -269,7 +284,8 @@ next-thin h x e =
     (next_reports Output t x) (next_reports Feature t x) (next_opened t x)
     (h.collections + length (new_collection t (collection_of x))))
     (kept-by (is_pop x) (is_push x) h.keeping h.item_state h.stack)
-    ∙ ap (λ i. made (thin_item_state (item_state_behind h x)) (map thin_item_state (next_stack h x)) i
+    ∙ ap (λ i. made (thin_item_state (item_state_behind h x))
+    (map thin_item_state (next_stack h x)) i
     (next_reports Output t x) (next_reports Feature t x) (next_opened t x)
     (h.collections + length (new_collection t (collection_of x)))) (reports-thin Input h x)
     ∙ ap (λ o. made (thin_item_state (item_state_behind h x)) (map thin_item_state (next_stack h x))
@@ -321,17 +337,20 @@ idle-thin h locals e =
     }
     in
     ap (λ l. made l (h.fields + 0) (h.opened ++ []) (h.collections + 0)) e
-    ∙ ap (λ n. made (filter is_kept_local h.item_state.locals) n (h.opened ++ []) (h.collections + 0))
+    ∙ ap (λ n. made (filter is_kept_local h.item_state.locals) n (h.opened ++ [])
+    (h.collections + 0))
     (add-zero h.fields)
     ∙ ap (λ cs. made (filter is_kept_local h.item_state.locals) h.fields cs (h.collections + 0))
     (append-nil h.opened)
     ∙ ap (λ m. made (filter is_kept_local h.item_state.locals) h.fields h.opened m)
     (add-zero h.collections)
 
-not-kept-thin : (h : StateRecord) (x : ItemType) → is_kept x ≡ false → thin (next_state h x) ≡ thin h
+not-kept-thin : (h : StateRecord) (x : ItemType) → is_kept x ≡ false
+    → thin (next_state h x) ≡ thin h
 not-kept-thin h (item.Main y) e = cc
 not-kept-thin h (item.Global global.Reserved) e =
-    idle-thin h (h.item_state.locals ++ []) (ap (filter is_kept_local) (append-nil h.item_state.locals))
+    idle-thin h (h.item_state.locals ++ [])
+    (ap (filter is_kept_local) (append-nil h.item_state.locals))
 not-kept-thin h (item.Global g) e = cc
 not-kept-thin h (item.Local (local.Reserved n)) e =
     idle-thin h (h.item_state.locals ++ local.Reserved n ∷ [])
@@ -341,7 +360,8 @@ not-kept-thin h (item.Local y) e = cc
 not-kept-thin h item.Long e = idle-thin h (h.item_state.locals ++ [])
     (ap (filter is_kept_local) (append-nil h.item_state.locals))
 not-kept-thin h item.Reserved e =
-    idle-thin h (h.item_state.locals ++ []) (ap (filter is_kept_local) (append-nil h.item_state.locals))
+    idle-thin h (h.item_state.locals ++ [])
+    (ap (filter is_kept_local) (append-nil h.item_state.locals))
 
 -- the walk over all items and that over the kept ones, faults at their own offsets
 
@@ -396,7 +416,8 @@ walk-by : (b : Bool) (front some es : List Entry) (e : Entry) (h : StateRecord) 
     ≡ at_offset (some ++ cond b (e ∷ kept_entries es) (kept_entries es))
     (walk (thin h) (length some) (items_of (cond b (e ∷ kept_entries es) (kept_entries es))))
 walk-by true front some es e h is later =
-    fault-by (fault_in h e.item) front some es (kept_entries es) e h (thin h) refl (fault-thin h e.item)
+    fault-by (fault_in h e.item) front some es (kept_entries es) e h (thin h) refl
+    (fault-thin h e.item)
     (λ faultless. further front es e (next_state h e.item)
     ∙ later (front ++ e ∷ []) (some ++ e ∷ []) (next_state h e.item)
     ∙ ap (λ n. at_offset ((some ++ e ∷ []) ++ kept_entries es)
@@ -408,7 +429,8 @@ walk-by false front some es e h is later =
     (λ n. walk n (length front + 1) (items_of es)))) (not-kept-fault h e.item is)
     ∙ further front es e (next_state h e.item)
     ∙ later (front ++ e ∷ []) some (next_state h e.item)
-    ∙ ap (λ n. at_offset (some ++ kept_entries es) (walk n (length some) (items_of (kept_entries es))))
+    ∙ ap (λ n. at_offset (some ++ kept_entries es)
+    (walk n (length some) (items_of (kept_entries es))))
     (not-kept-thin h e.item is)
 
 walk-from : (front some rest : List Entry) (h : StateRecord) → Walks front some rest h
@@ -448,7 +470,8 @@ parse-kept keeping bytes entries i = parse-items (reading_of keeping) bytes entr
 -- and so are the bytes that are written for these
 pub parse-rebuilt : (reading : PushReading) (bytes : List ℕ) (entries : List Entry)
     → Itemises item_of bytes entries → rebuilt_bytes entries ≢ []
-    → parse_by reading (rebuilt_bytes entries) ≡ at_offset (canonical_entries 0 (items_of (kept_entries entries)))
+    → parse_by reading (rebuilt_bytes entries)
+    ≡ at_offset (canonical_entries 0 (items_of (kept_entries entries)))
     (meaning_by reading (items_of (kept_entries entries)))
 parse-rebuilt reading bytes entries i some =
     let xs = items_of (kept_entries entries) in

@@ -222,7 +222,8 @@ risen items front rest x e r le balanced =
     }
 
 -- a step: what is in force, what is kept, and that it rests
-pub record Stepped (items : List ItemType) (k : ℕ) (f : ItemState) (saved : List ItemState) : Type 0 where
+pub record Stepped (items : List ItemType) (k : ℕ) (f : ItemState)
+    (saved : List ItemState) : Type 0 where
   pub item_states_next : item_state items (suc k) ≡ f
   pub stack_next : stack items (suc k) ≡ saved
   pub rests_next : Rests items (suc k)
@@ -307,13 +308,15 @@ pop-step items front rest x e r no_push pop deep f =
     ∙ ap (λ b. up_to items (level items (suc k)) (visible items k) ++ cond b ((k, x) ∷ []) [])
     hidden
     ∙ append-nil (up_to items (level items (suc k)) (visible items k)) in
-    let ended : stack items k ≡ map (item_state_at items k) (count_up 0 (level items (suc k))) ++ item_state_at
+    let ended : stack items k ≡ map (item_state_at items k) (count_up 0 (level items (suc k)))
+    ++ item_state_at
     items k (level items (suc k)) ∷ [] =
     ap (λ n. map (item_state_at items k) (count_up 0 n)) more
     ∙ ap (map (item_state_at items k)) (count_up-next 0 (level items (suc k)))
     ∙ map-append (item_state_at items k) (count_up 0 (level items (suc k)))
     ((0 + level items (suc k)) ∷ [])
-    ∙ ap (λ n. map (item_state_at items k) (count_up 0 (level items (suc k))) ++ item_state_at items k n ∷ [])
+    ∙ ap (λ n. map (item_state_at items k) (count_up 0 (level items (suc k)))
+    ++ item_state_at items k n ∷ [])
     (zero-add (level items (suc k))) in
     let fewer : length (stack items k) - 1 ≡ level items (suc k) =
     omega (arith, length-stack items k, more) in
@@ -322,7 +325,8 @@ pop-step items front rest x e r no_push pop deep f =
           ∙ sym (ap (last_item_state f) ended
           ∙ last_item_state-end f (item_state_at items k (level items (suc k)))
           (map (item_state_at items k) (count_up 0 (level items (suc k)))));
-      stack_next = map-count_up (item_state_at items (suc k)) (item_state_at items k) 0 (level items (suc k))
+      stack_next = map-count_up (item_state_at items (suc k)) (item_state_at items k) 0
+          (level items (suc k))
           (λ i lt. ap item_states (ap (up_to items i) all
           ∙ up_to-twice items i (level items (suc k)) (visible items k) (omega (arith, lt))))
           ∙ sym (ap (λ n. take n (stack items k)) fewer

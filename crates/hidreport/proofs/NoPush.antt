@@ -17,7 +17,8 @@ use Rattle.hidreport.specs.Kinds.{Direction, Input, Output, Feature, data_of, is
 use Rattle.hidreport.specs.Meaning.{at_offset, meaning, meaning_globals_only, parse}
 use Rattle.hidreport.specs.Meaning.{parse_globals_only, parse_items}
 use Rattle.hidreport.specs.MeaningFault.{MeaningFault, TooManyPops}
-use Rattle.hidreport.specs.Parser.Machine.{StateRecord, after_pop, fault_in, go_on, pushed_copy, last_item_state}
+use Rattle.hidreport.specs.Parser.Machine.{StateRecord, after_pop, fault_in, go_on, pushed_copy}
+use Rattle.hidreport.specs.Parser.Machine.{last_item_state}
 use Rattle.hidreport.specs.Parser.Machine.{next_item_state, next_state, first_state, start_for}
 use Rattle.hidreport.specs.Parser.Machine.{unless_fault, walk}
 use Rattle.hidreport.specs.Segments.{HasNoPush}
@@ -62,7 +63,8 @@ pop-fault h item.Long pop none = cc
 pop-fault h item.Reserved pop none = cc
 
 -- any other item leaves the same behind
-next-same : (keeping : PushKeeps) (h : StateRecord) (x : ItemType) → is_push x ≡ false → is_pop x ≡ false
+next-same : (keeping : PushKeeps) (h : StateRecord) (x : ItemType) → is_push x ≡ false
+    → is_pop x ≡ false
     → next_state (as_kept keeping h) x ≡ as_kept keeping
     (record (next_state h x) { item_state = next_item_state h.item_state x; stack = h.stack })
 next-same keeping h x push pop =
@@ -73,7 +75,8 @@ next-same keeping h x push pop =
     (next_item_state h.item_state x))
     (cond b (take (length h.stack - 1) h.stack)
     (cond (is_push x) (h.stack ++ pushed_copy keeping h.item_state ∷ []) h.stack))) pop
-    ∙ ap (λ b. made (next_item_state h.item_state x) (cond b (h.stack ++ pushed_copy keeping h.item_state ∷ []) h.stack))
+    ∙ ap (λ b. made (next_item_state h.item_state x)
+    (cond b (h.stack ++ pushed_copy keeping h.item_state ∷ []) h.stack))
     push
 
 abbrev Same : StateRecord → ℕ → List ItemType → Type 0
@@ -81,7 +84,10 @@ Same h k xs = walk (as_kept push_keeps.Globals h) k xs ≡ walk (as_kept push_ke
 
 same-by : (o : Option MeaningFault) (h : StateRecord) (k : ℕ) (x : ItemType) (xs : List ItemType)
     → fault_in h x ≡ o → is_push x ≡ false → is_pop x ≡ false
-    → Same (record (next_state h x) { item_state = next_item_state h.item_state x; stack = h.stack }) (k + 1) xs
+    → Same (record (next_state h x) {
+      item_state = next_item_state h.item_state x;
+      stack = h.stack;
+    }) (k + 1) xs
     → Same h k (x ∷ xs)
 same-by (Some f) h k x xs fault push pop later =
     ap (λ o. go_on (unless_fault o (next_state (as_kept push_keeps.Globals h) x)) k
@@ -107,9 +113,13 @@ same-item true h k x xs none push pop later =
     (λ n. walk n (k + 1) xs)) (fault-same push_keeps.All h x ∙ fault))
 same-item false h k x xs none push pop later =
     same-by (fault_in h x) h k x xs refl push pop
-    (later (record (next_state h x) { item_state = next_item_state h.item_state x; stack = h.stack }) none)
+    (later (record (next_state h x) {
+      item_state = next_item_state h.item_state x;
+      stack = h.stack;
+    }) none)
 
-same-walk : (h : StateRecord) (k : ℕ) (xs : List ItemType) → h.stack ≡ [] → HasNoPush xs → Same h k xs
+same-walk : (h : StateRecord) (k : ℕ) (xs : List ItemType) → h.stack ≡ [] → HasNoPush xs
+    → Same h k xs
 same-walk h k [] none no_push = refl
 same-walk h k (x ∷ xs) none no_push =
     let parts = or_cases (is_push x) (list_any is_push xs) no_push in

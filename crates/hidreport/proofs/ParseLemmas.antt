@@ -16,7 +16,8 @@ use Rattle.hidreport.specs.ItemState.{first_of}
 use Rattle.hidreport.specs.MeaningFault.{MeaningFault}
 use Rattle.hidreport.specs.Parser.Budget.{is_past, left_behind, past_fault, stop_in, walk_bytes}
 use Rattle.hidreport.specs.Parser.Budget.{walk_items, walk_within, weight_in}
-use Rattle.hidreport.specs.Parser.Machine.{StateRecord, fault_in, next_state, unless_fault, step, go_on}
+use Rattle.hidreport.specs.Parser.Machine.{StateRecord, fault_in, next_state, unless_fault, step}
+use Rattle.hidreport.specs.Parser.Machine.{go_on}
 use Rattle.hidreport.specs.Parser.Machine.{first_state}
 use Rattle.hidreport.specs.Meaning.{parse_by, parse_items, at_offset, offset_at, refusal_at}
 use Rattle.hidreport.specs.Records.{DescriptorRecord}
@@ -68,7 +69,8 @@ goes-on left h next x (Some f) fault stepped within =
     sym (ap (λ o. unless_fault o (next_state h x)) fault) ∙ stepped in cc
 
 -- one item further
-pub walked-on : (entries : List Entry) (i : ℕ) (e : Entry) (left behind : Option ℕ) (h next : StateRecord)
+pub walked-on : (entries : List Entry) (i : ℕ) (e : Entry) (left behind : Option ℕ)
+    (h next : StateRecord)
     → i < length entries → e ≡ get_or entries i e
     → step h e.item ≡ Ok next → is_past left (weight_in h e.item) ≡ false
     → behind ≡ left_behind left (weight_in h e.item)
@@ -83,8 +85,10 @@ walked-on entries i e left behind h next lt here stepped within is =
     ∙ ap (λ k. walk_within behind next (i + 1) (drop k (items_of entries))) (sym (add-one i))
 
 -- what stops the walk at an item is the answer
-pub meaning-fault : (first : StateRecord) (entries : List Entry) (limit : Option ℕ) (i : ℕ) (e : Entry)
-    (left : Option ℕ) (h : StateRecord) (f : MeaningFault) → i < length entries → e ≡ get_or entries i e
+pub meaning-fault : (first : StateRecord) (entries : List Entry) (limit : Option ℕ) (i : ℕ)
+    (e : Entry)
+    (left : Option ℕ) (h : StateRecord) (f : MeaningFault) → i < length entries
+    → e ≡ get_or entries i e
     → walk_within left h i (drop i (items_of entries)) ≡ walk_within limit first 0
     (items_of entries)
     → stop_in left h e.item ≡ Some f
@@ -98,7 +102,8 @@ meaning-fault first entries limit i e left h f lt here walked stops =
     ∙ ap (λ o. Err (refusal_at o f)) (offset-at entries i e lt here)
 
 -- at the end the answer is what is held
-pub meaning-end : (first : StateRecord) (entries : List Entry) (limit : Option ℕ) (i : ℕ) (left : Option ℕ)
+pub meaning-end : (first : StateRecord) (entries : List Entry) (limit : Option ℕ) (i : ℕ)
+    (left : Option ℕ)
     (h : StateRecord) → length entries ≤ i
     → walk_within left h i (drop i (items_of entries)) ≡ walk_within limit first 0
     (items_of entries)

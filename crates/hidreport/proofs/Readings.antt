@@ -17,4 +17,5 @@ pub walk-meaning : (keeping : PushKeeps) (items : List ItemType)
 walk-meaning push_keeps.All items =
     walk-follows push_keeps.All item_state (stack items) items (all-follows items)
 walk-meaning push_keeps.Globals items =
-    walk-follows push_keeps.Globals item_state_globals_only (stack_bare items) items (globals-follows items)
+    walk-follows push_keeps.Globals item_state_globals_only (stack_bare items) items
+    (globals-follows items)

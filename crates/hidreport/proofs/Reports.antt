@@ -182,7 +182,8 @@ report-extended key bits fields ms m id same =
     ap (λ l. id_bits id + sum_by bits l) all
     ∙ ap (λ n. id_bits id + n) (sum_by-append bits (adding key id ms) (m ∷ []))
     ∙ ap (λ n. id_bits id + (sum_by bits (adding key id ms) + n)) (sum_by-one bits m)
-    ∙ (let e : id_bits id + (sum_by bits (adding key id ms) + bits m) ≡ id_bits id + sum_by bits (adding key id ms) + bits m = omega arith in e) in
+    ∙ (let e : id_bits id + (sum_by bits (adding key id ms) + bits m)
+    ≡ id_bits id + sum_by bits (adding key id ms) + bits m = omega arith in e) in
     let parts : flat_map fields (adding key id (ms ++ m ∷ [])) ≡ flat_map fields (adding key id ms)
     ++ fields m =
     ap (flat_map fields) all ∙ flat_map-append fields (adding key id ms) (m ∷ [])

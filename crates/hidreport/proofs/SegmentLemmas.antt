@@ -13,8 +13,10 @@ use Rattle.hidreport_items.specs.declared.item.ItemType.TheVariants as item
 use Rattle.hidreport.specs.MeaningFault.{MeaningFault}
 use Rattle.hidreport.specs.ItemState.{ItemState}
 use Rattle.hidreport.specs.Kinds.{is_main, is_push, is_pop, local_of}
-use Rattle.hidreport.specs.Parser.Machine.{StateRecord, after_pop, pushed_copy, fault_in, step, go_on}
-use Rattle.hidreport.specs.Parser.Machine.{last_item_state, next_item_state, next_state, first_state}
+use Rattle.hidreport.specs.Parser.Machine.{StateRecord, after_pop, pushed_copy, fault_in, step}
+use Rattle.hidreport.specs.Parser.Machine.{go_on}
+use Rattle.hidreport.specs.Parser.Machine.{last_item_state, next_item_state, next_state}
+use Rattle.hidreport.specs.Parser.Machine.{first_state}
 use Rattle.hidreport.specs.Parser.Machine.{unless_fault, walk}
 use Rattle.hidreport_items.specs.Spelling.{item_of}
 use Rattle.hidreport_lists.specs.Entry.{Entry}
@@ -24,7 +26,8 @@ use Rattle.hidreport.specs.Records.{DescriptorRecord}
 use Rattle.hidreport.specs.Segments.{HasNoLocal, IsMatched, with_segment, moved_fault}
 use Rattle.hidreport.specs.declared.parser.push_keeps.PushKeeps.{PushKeeps}
 use Rattle.hidreport.specs.declared.parser.push_keeps.PushKeeps.TheVariants as push_keeps
-use Rattle.hidreport.proofs.DataLemmas.{quiet, step-push, step-pop, last_item_state-end, all-but-last}
+use Rattle.hidreport.proofs.DataLemmas.{quiet, step-push, step-pop, last_item_state-end}
+use Rattle.hidreport.proofs.DataLemmas.{all-but-last}
 use Rattle.hidreport.proofs.Reports.{or_cases}
 use Rattle.hidreport.specs.Laws.{Spares}
 use Rattle.hidreport.specs.Options.{reading_of}
@@ -64,7 +67,8 @@ front-by : (r : Result StateRecord MeaningFault) (h : StateRecord) (n k : ℕ) (
     → ((next : StateRecord) → step h x ≡ Ok next
     → walk next (k + 1) (xs ++ more) ≡ moved_fault (k + 1 + length xs) n
     (walk next (k + 1) (xs ++ rest)))
-    → walk h k (x ∷ (xs ++ more)) ≡ moved_fault (k + suc (length xs)) n (walk h k (x ∷ (xs ++ rest)))
+    → walk h k (x ∷ (xs ++ more)) ≡ moved_fault (k + suc (length xs)) n
+    (walk h k (x ∷ (xs ++ rest)))
 front-by (Ok next) h n k x xs more rest e later =
     step-ok h next k x (xs ++ more) e ∙ later next e
     ∙ ap (λ p. moved_fault p n (walk next (k + 1) (xs ++ rest)))
@@ -73,13 +77,15 @@ front-by (Ok next) h n k x xs more rest e later =
 front-by (Err f) h n k x xs more rest e later =
     let before : nat_lt k (k + suc (length xs)) ≡ true = grind (arith, common_steps) in
     ap (λ r. go_on r k (λ m. walk m (k + 1) (xs ++ more))) e
-    ∙ sym (ap (λ r. moved_fault (k + suc (length xs)) n (go_on r k (λ m. walk m (k + 1) (xs ++ rest)))) e
+    ∙ sym (ap (λ r. moved_fault (k + suc (length xs)) n
+    (go_on r k (λ m. walk m (k + 1) (xs ++ rest)))) e
     ∙ ap (λ b. Err (cond b k (k + n), f)) before)
 
 -- what a Push keeps is the same behind every item
 keeping-by : (o : Option MeaningFault) (h next : StateRecord) (x : ItemType)
     → unless_fault o (next_state h x) ≡ Ok next → next.keeping ≡ h.keeping
-keeping-by None h next x e = let same : next_state h x ≡ next = cc in ap (λ (g : StateRecord). g.keeping)
+keeping-by None h next x e = let same : next_state h x
+    ≡ next = cc in ap (λ (g : StateRecord). g.keeping)
     (sym same)
 keeping-by (Some fault) h next x e = cc
 
@@ -97,7 +103,11 @@ front-stack keeping (x ∷ xs) more rest n same h k is =
 
 -- what is held inside a segment: other values in force, and more kept
 abbrev pub inside : StateRecord → ItemState → List ItemState → StateRecord
-inside h f ts = record h { item_state = f; stack = (h.stack ++ pushed_copy h.keeping h.item_state ∷ []) ++ ts }
+inside h f ts = record h {
+  item_state = f;
+  stack =
+      (h.stack ++ pushed_copy h.keeping h.item_state ∷ []) ++ ts;
+}
 
 -- a Pop brings back what was in force at its Push
 abbrev pub Returns : PushKeeps → ItemState → ItemState → Type 0
@@ -117,12 +127,14 @@ count-cons : (p : ItemType → Bool) (x : ItemType) (xs : List ItemType)
     → count_by p (x ∷ xs) ≡ cond (p x) 1 0 + count_by p xs
 count-cons p x xs = grind (arith, common_steps)
 
-plain-inside : (h : StateRecord) (x : ItemType) → is_main x ≡ false → is_push x ≡ false → is_pop x ≡ false
+plain-inside : (h : StateRecord) (x : ItemType) → is_main x ≡ false → is_push x ≡ false
+    → is_pop x ≡ false
     → step h x ≡ Ok (record h { item_state = next_item_state h.item_state x })
 plain-inside h (item.Main y) a b c = cc
 plain-inside h (item.Global global.Push) a b c = cc
 plain-inside h (item.Global global.Pop) a b c = cc
-plain-inside h (item.Global g) a b c = quiet h (next_item_state h.item_state (item.Global g)) h.stack
+plain-inside h (item.Global g) a b c = quiet h
+    (next_item_state h.item_state (item.Global g)) h.stack
 plain-inside h (item.Local y) a b c = quiet h (next_item_state h.item_state (item.Local y)) h.stack
 plain-inside h item.Long a b c = quiet h (next_item_state h.item_state item.Long) h.stack
 plain-inside h item.Reserved a b c = quiet h (next_item_state h.item_state item.Reserved) h.stack
@@ -178,7 +190,8 @@ take-stack : (base ts : List ItemState) → 0 < length ts
 take-stack base ts some =
     let size : length (base ++ ts) ≡ length base + length ts = grind (arith, common_steps) in
     ap (λ n. take n (base ++ ts))
-    (let e : length (base ++ ts) - 1 ≡ length base + (length ts - 1) = omega (arith, size, some) in e) ∙ take-append-add base ts (length ts - 1)
+    (let e : length (base ++ ts) - 1 ≡ length base + (length ts - 1) = omega
+    (arith, size, some) in e) ∙ take-append-add base ts (length ts - 1)
 
 length-less : (ts : List ItemState) → length (take (length ts - 1) ts) ≡ length ts - 1
 length-less ts = grind (arith, common_steps)
@@ -216,7 +229,8 @@ InsideGoesOn h n xs rest = (f : ItemState) (ts : List ItemState) (k : ℕ) → l
     → walk (inside h f ts) k (xs ++ (item.Global global.Pop ∷ rest)) ≡ walk h (k + length xs + 1)
     rest
 
-inside-end : (h : StateRecord) (f : ItemState) (ts : List ItemState) (k n : ℕ) (rest : List ItemType)
+inside-end : (h : StateRecord) (f : ItemState) (ts : List ItemState) (k n : ℕ)
+    (rest : List ItemType)
     → length ts ≡ n → Closes h.keeping n [] → Returns h.keeping f h.item_state
     → walk (inside h f ts) k (item.Global global.Pop ∷ rest) ≡ walk h (k + 0 + 1) rest
 inside-end h f ts k n rest size c back =
@@ -234,13 +248,15 @@ inside-end h f ts k n rest size c back =
     ∙ ap (λ (g : ItemState). Ok (record h
     { item_state = after_pop h.keeping f g; stack = take (length base - 1) base }))
     (last_item_state-end f own h.stack)
-    ∙ ap (λ (g : ItemState). Ok (record h { item_state = g; stack = take (length base - 1) base })) back
+    ∙ ap (λ (g : ItemState). Ok (record h { item_state = g; stack = take (length base - 1) base }))
+    back
     ∙ ap (λ (l : List ItemState). Ok (record h { stack = l })) (all-but-last own h.stack) in
     ap (λ (g : StateRecord). walk g k (item.Global global.Pop ∷ rest)) alone
     ∙ step-ok (record h { item_state = f; stack = base }) h k (item.Global global.Pop) rest popped
     ∙ ap (λ p. walk h p rest) (let p : k + 1 ≡ k + 0 + 1 = omega arith in p)
 
-inside-by : (a b : Bool) (h : StateRecord) (f : ItemState) (ts : List ItemState) (k n : ℕ) (x : ItemType)
+inside-by : (a b : Bool) (h : StateRecord) (f : ItemState) (ts : List ItemState) (k n : ℕ)
+    (x : ItemType)
     (xs rest : List ItemType) → is_push x ≡ a → is_pop x ≡ b → length ts ≡ n
     → Closes h.keeping n (x ∷ xs) → Returns h.keeping f h.item_state
     → ((m : ℕ) → InsideGoesOn h m xs rest)
@@ -312,14 +328,16 @@ inside-on h (x ∷ xs) rest n f ts k size c back =
     (λ m. inside-on h xs rest m)
 
 -- a segment changes nothing
-segment-stack : (xs rest : List ItemType) → IsMatched xs → (h : StateRecord) (k : ℕ) → Spares h.keeping xs
+segment-stack : (xs rest : List ItemType) → IsMatched xs → (h : StateRecord) (k : ℕ)
+    → Spares h.keeping xs
     → walk h k (item.Global global.Push ∷ (xs ++ (item.Global global.Pop ∷ rest))) ≡ walk h
     (k + (length xs + 2)) rest
 segment-stack xs rest m h k spares =
     let own = pushed_copy h.keeping h.item_state in
     let base = h.stack ++ own ∷ [] in
     let stepped : step h (item.Global global.Push) ≡ Ok (inside h h.item_state []) =
-    step-push h ∙ ap (λ (l : List ItemState). Ok (record h { stack = l })) (sym (append-nil base)) in
+    step-push h ∙ ap (λ (l : List ItemState). Ok (record h { stack = l }))
+    (sym (append-nil base)) in
     let c : Closes h.keeping 0 xs =
     record {
       spares = spares;

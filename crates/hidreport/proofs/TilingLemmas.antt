@@ -116,7 +116,8 @@ IsMade known id first end fields =
 abbrev pub IsGood : List (List CollectionRecord) → ReportRecord → Type 0
 IsGood known r = IsMade known r.id (id_bits r.id) r.size r.fields
 
-variables-well : (known : List (List CollectionRecord)) (key report_id : Option ℕ) (id first size : ℕ)
+variables-well : (known : List (List CollectionRecord)) (key report_id : Option ℕ)
+    (id first size : ℕ)
     (us : UsageList) (shared : Attributes) (c more : ℕ)
     → AreOpened known [] shared.collections → (report_id ≡ None) ⊎ (report_id ≡ key)
     → Each (IsWell known key) (each_from (variable_at report_id id first size us shared) c more)
@@ -141,7 +142,8 @@ ranged-by : (b : Bool) (place : FieldPlace) (us : UsageList) (count : ℕ) (shar
 ranged-by true place us count shared e r = r e
 ranged-by false place us count shared e r = tt
 
-made-by : (constant variable : Bool) (known : List (List CollectionRecord)) (key report_id : Option ℕ)
+made-by : (constant variable : Bool) (known : List (List CollectionRecord))
+    (key report_id : Option ℕ)
     (id first : ℕ) (e : ℕ × ℕ) (us : UsageList) (shared : Attributes) → 0 < e.0 → 0 < e.1
     → AreOpened known [] shared.collections → (report_id ≡ None) ⊎ (report_id ≡ key)
     → IsRanged us
@@ -178,7 +180,8 @@ made-by false false known key report_id id first e us shared p q l own r = (
 )
 
 -- what an item makes has all its bits
-pub made : (known : List (List CollectionRecord)) (key report_id : Option ℕ) (id first : ℕ) (e : ℕ × ℕ)
+pub made : (known : List (List CollectionRecord)) (key report_id : Option ℕ) (id first : ℕ) (e : ℕ
+    × ℕ)
     (flags : Flags) (us : UsageList) (shared : Attributes) → 0 < e.0 → 0 < e.1
     → AreOpened known [] shared.collections → (report_id ≡ None) ⊎ (report_id ≡ key)
     → IsRanged us

@@ -37,7 +37,8 @@ use Rattle.hidreport.proofs.TilingLemmas.{each-append, each-more, each-take, ext
 use Rattle.hidreport.proofs.TilingLemmas.{less-or-not, made, numbered, numbered-added, with_number}
 use Rattle.hidreport.proofs.TilingLemmas.{with_number-append}
 
-all-good : (known more : List (List CollectionRecord)) (rs : List ReportRecord) → Each (IsGood known) rs
+all-good : (known more : List (List CollectionRecord)) (rs : List ReportRecord)
+    → Each (IsGood known) rs
     → Each (IsGood (known ++ more)) rs
 all-good known more rs g =
     each-more (IsGood known) (IsGood (known ++ more)) rs
@@ -59,7 +60,8 @@ no-and : (b : Bool) → (b && false) ≡ true → ⊥
 no-and true e = cc
 no-and false e = cc
 
-made-of : (known : List (List CollectionRecord)) (key : Option ℕ) (f : ItemState) (cs : List CollectionRecord)
+made-of : (known : List (List CollectionRecord)) (key : Option ℕ) (f : ItemState)
+    (cs : List CollectionRecord)
     (id first : ℕ) (d : Direction) (o : Option (Direction × Flags)) (e : Option (ℕ × ℕ))
     → (goes d o && is_some e) ≡ true
     → ((z : ℕ × ℕ) → e ≡ Some z → (0 < z.0) × (0 < z.1)) → AreOpened known [] cs
@@ -129,12 +131,15 @@ record Keeps (known : List (List CollectionRecord)) (h : StateRecord) : Type 0 w
   opened : AreOpened known [] h.opened
 
 abbrev made_in : Direction → StateRecord → ItemType → List FieldRecord
-made_in d h x = fields_of h.item_state h.opened h.fields (start_in d h) (data_of x) (extent h.item_state)
+made_in d h x = fields_of h.item_state h.opened h.fields (start_in d h) (data_of x)
+    (extent h.item_state)
 
-good-by : (b : Bool) (known : List (List CollectionRecord)) (d : Direction) (h : StateRecord) (x : ItemType)
+good-by : (b : Bool) (known : List (List CollectionRecord)) (d : Direction) (h : StateRecord)
+    (x : ItemType)
     → adds d h x ≡ b → Each (IsGood known) (reports_in d h.descriptor)
     → AreOpened known [] h.opened
-    → Each (IsGood known) (cond b (added_to (key_in d h) (bits_of (extent h.item_state)) (made_in d h x)
+    → Each (IsGood known)
+    (cond b (added_to (key_in d h) (bits_of (extent h.item_state)) (made_in d h x)
     (reports_in d h.descriptor)) (reports_in d h.descriptor))
 good-by true known d h x makes g l =
     added-good known (key_in d h) (bits_of (extent h.item_state)) (made_in d h x)
@@ -152,7 +157,8 @@ own-by : (b : Bool) (d : Direction) (h : StateRecord) (x : ItemType)
     → HaveOwnIds (reports_in d h.descriptor)
     → HaveOwnIds (cond b (added_to (key_in d h) (bits_of (extent h.item_state)) (made_in d h x)
     (reports_in d h.descriptor)) (reports_in d h.descriptor))
-own-by true d h x o = added-own h.item_state.report_id (bits_of (extent h.item_state)) (made_in d h x)
+own-by true d h x o = added-own h.item_state.report_id (bits_of (extent h.item_state))
+    (made_in d h x)
     (reports_in d h.descriptor) o
 own-by false d h x o = o
 
@@ -160,14 +166,16 @@ numbered-by : (b : Bool) (n : ℕ) (d : Direction) (h : StateRecord) (x : ItemTy
     → numbered n (cond b (added_to (key_in d h) (bits_of (extent h.item_state)) (made_in d h x)
     (reports_in d h.descriptor)) (reports_in d h.descriptor))
     ≡ numbered n (reports_in d h.descriptor) + cond b (with_number n (made_in d h x)) 0
-numbered-by true n d h x = numbered-added n (key_in d h) (bits_of (extent h.item_state)) (made_in d h x)
+numbered-by true n d h x = numbered-added n (key_in d h) (bits_of (extent h.item_state))
+    (made_in d h x)
     (reports_in d h.descriptor)
 numbered-by false n d h x = omega arith
 
 grown-in : (n : ℕ) (d : Direction) (h : StateRecord) (x : ItemType)
     → Grown n h.fields (fields_made (data_of x) (extent h.item_state)) (one_if (goes d (data_of x)))
     (cond (adds d h x) (with_number n (made_in d h x)) 0)
-grown-in n d h x = grown n h.item_state h.opened h.fields (start_in d h) d (data_of x) (extent h.item_state)
+grown-in n d h x = grown n h.item_state h.opened h.fields (start_in d h) d (data_of x)
+    (extent h.item_state)
 
 abbrev next_total : ℕ → StateRecord → ItemType → ℕ
 next_total n h x = numbered n (next_reports Input h x) +
@@ -263,7 +271,8 @@ keeps-next known h x k =
           (reports_in d (next_state h x).descriptor)) [
             | Input ↦ all-good known new (next_reports Input h x) (good-next known Input h x k)
             | Output ↦ all-good known new (next_reports Output h x) (good-next known Output h x k)
-            | Feature ↦ all-good known new (next_reports Feature h x) (good-next known Feature h x k)
+            | Feature ↦ all-good known new (next_reports Feature h x)
+                (good-next known Feature h x k)
           ];
       own = λ d. elim d as (λ d. HaveOwnIds (reports_in d (next_state h x).descriptor)) [
         | Input ↦ own-by (adds Input h x) Input h x (k.own Input)
@@ -310,7 +319,8 @@ filled-end known r g = record {
   ranges = each-more (IsWell known r.id) HasRange r.fields (λ f w. w.3) g.2;
 }
 
-tiled-end : (known : List (List CollectionRecord)) (h : StateRecord) → Keeps known h → IsTiled h.descriptor
+tiled-end : (known : List (List CollectionRecord)) (h : StateRecord) → Keeps known h
+    → IsTiled h.descriptor
 tiled-end known h k =
     let good = whole (IsGood known) h.descriptor (k.filled Input) (k.filled Output)
     (k.filled Feature) in
@@ -337,13 +347,15 @@ tiled-by : (o : Option MeaningFault) (h : StateRecord) (k : ℕ) (x : ItemType) 
     → Announces (walk h k (x ∷ xs)) d → (Announces (walk (next_state h x) (k + 1) xs) d → IsTiled d)
     → IsTiled d
 tiled-by None h k x xs d e is later =
-    later (sym (ap (λ o. go_on (unless_fault o (next_state h x)) k (λ n. walk n (k + 1) xs)) e) ∙ is)
+    later (sym (ap (λ o. go_on (unless_fault o (next_state h x)) k (λ n. walk n (k + 1) xs)) e)
+    ∙ is)
 tiled-by (Some fault) h k x xs d e is later =
     let bad : Announces (Err (k, fault)) d =
     sym (ap (λ o. go_on (unless_fault o (next_state h x)) k (λ n. walk n (k + 1) xs)) e)
     ∙ is in cc
 
-tiled-from : (known : List (List CollectionRecord)) (h : StateRecord) (k : ℕ) (items : List ItemType)
+tiled-from : (known : List (List CollectionRecord)) (h : StateRecord) (k : ℕ)
+    (items : List ItemType)
     (d : DescriptorRecord) → Keeps known h
     → Announces (walk h k items) d → IsTiled d
 tiled-from known h k [] d keeps is =
@@ -379,7 +391,8 @@ found-ok : (entries : List Entry) (r : Result DescriptorRecord (ℕ × MeaningFa
 found-ok entries (Ok announced) d e = let same : announced ≡ d = cc in ap Ok same
 found-ok entries (Err first) d e = cc
 
-tiled-items : (keeping : PushKeeps) (r : Result (List Entry) (ℕ × GrammarFault)) (d : DescriptorRecord)
+tiled-items : (keeping : PushKeeps) (r : Result (List Entry) (ℕ × GrammarFault))
+    (d : DescriptorRecord)
     → parse_items (reading_of keeping) r ≡ Ok d → IsTiled d
 tiled-items keeping (Ok entries) d e =
     let xs = items_of entries in

@@ -27,7 +27,8 @@ use Rattle.hidreport.specs.Kinds.{is_push, is_pop, is_collection, is_end_collect
 use Rattle.hidreport.specs.Parser.Machine.{StateRecord, after_pop, pushed_copy, no_item_state}
 use Rattle.hidreport.specs.Parser.Machine.{reports_of, size_in, first_id, added_to, reports_in}
 use Rattle.hidreport.specs.Parser.Machine.{key_in, start_in, start_for, counts_in, fault_in, adds}
-use Rattle.hidreport.specs.Parser.Machine.{next_item_state, last_item_state, next_reports, next_opened}
+use Rattle.hidreport.specs.Parser.Machine.{next_item_state, last_item_state, next_reports}
+use Rattle.hidreport.specs.Parser.Machine.{next_opened}
 use Rattle.hidreport.specs.Parser.Machine.{new_collection, next_state, unless_fault, first_state}
 use Rattle.hidreport.specs.Parser.Machine.{go_on, walk}
 use Rattle.hidreport.specs.Making.{extent, key, makers, first_report_id}
@@ -56,7 +57,8 @@ reports_before item_state d items k =
 pub record Steps (keeping : PushKeeps) (item_state : ℕ → ItemState) (stack : ℕ → List ItemState)
     (items : List ItemType) (k : ℕ) (x : ItemType) : Type 0 where
   pub item_states_next : item_state (suc k) ≡ cond (is_pop x)
-      (after_pop keeping (item_state k) (last_item_state (item_state k) (stack k))) (next_item_state (item_state k) x)
+      (after_pop keeping (item_state k) (last_item_state (item_state k) (stack k)))
+      (next_item_state (item_state k) x)
   pub stack_next : stack (suc k) ≡ cond (is_pop x) (take (length (stack k) - 1) (stack k))
       (cond (is_push x) (stack k ++ pushed_copy keeping (item_state k) ∷ []) (stack k))
   pub rests_next : Rests items (suc k)
@@ -74,26 +76,31 @@ pub record Follows (keeping : PushKeeps) (item_state : ℕ → ItemState) (stack
       → Steps keeping item_state stack items (length front) x
 
 -- what is held at k is what the definitions say of the items before k
-pub record Holds (item_state : ℕ → ItemState) (stack : ℕ → List ItemState) (items : List ItemType) (k : ℕ)
+pub record Holds (item_state : ℕ → ItemState) (stack : ℕ → List ItemState) (items : List ItemType)
+    (k : ℕ)
     (h : StateRecord) : Type 0 where
   pub item_states : h.item_state ≡ item_state k
   pub rests : Rests items k
   pub keeps : h.stack ≡ stack k
   pub listed : (d : Direction) → reports_in d h.descriptor ≡ reports_before item_state d items k
   pub first : (d : Direction)
-      → first_report_id item_state (makers item_state d items k) ≡ first_id (reports_in d h.descriptor)
+      → first_report_id item_state (makers item_state d items k)
+      ≡ first_id (reports_in d h.descriptor)
   pub numbered : h.fields ≡ fields_before item_state items k
   pub stands : Stands items k
   pub inside : h.opened ≡ collections_at item_state items k
   pub counted : h.collections ≡ collections_before items k
 
-key-held : (item_state : ℕ → ItemState) (stack : ℕ → List ItemState) (items : List ItemType) (k : ℕ) (h : StateRecord)
+key-held : (item_state : ℕ → ItemState) (stack : ℕ → List ItemState) (items : List ItemType)
+    (k : ℕ) (h : StateRecord)
     (d : Direction) → Holds item_state stack items k h → key item_state d items k ≡ key_in d h
 key-held item_state stack items k h d held =
-    ap (λ (f : ItemState). first_of f.report_id (first_report_id item_state (makers item_state d items k)))
+    ap (λ (f : ItemState). first_of f.report_id
+    (first_report_id item_state (makers item_state d items k)))
     (sym held.item_states) ∙ ap (first_of h.item_state.report_id) (held.first d)
 
-start-held : (item_state : ℕ → ItemState) (stack : ℕ → List ItemState) (items : List ItemType) (k : ℕ) (h : StateRecord)
+start-held : (item_state : ℕ → ItemState) (stack : ℕ → List ItemState) (items : List ItemType)
+    (k : ℕ) (h : StateRecord)
     (d : Direction) → Holds item_state stack items k h → start item_state d items k ≡ start_in d h
 start-held item_state stack items k h d held =
     sym (size-in_reports (λ p. key item_state d items p.0) (λ p. bits_of (extent (item_state p.0)))
@@ -101,21 +108,24 @@ start-held item_state stack items k h d held =
     ∙ ap (size_in (key item_state d items k)) (sym (held.listed d))
     ∙ ap (λ id. size_in id (reports_in d h.descriptor)) (key-held item_state stack items k h d held)
 
-start-for : (item_state : ℕ → ItemState) (stack : ℕ → List ItemState) (items : List ItemType) (k : ℕ) (h : StateRecord)
+start-for : (item_state : ℕ → ItemState) (stack : ℕ → List ItemState) (items : List ItemType)
+    (k : ℕ) (h : StateRecord)
     (o : Option (Direction × Flags)) → Holds item_state stack items k h
     → start_of item_state o items k ≡ start_for o h
 start-for item_state stack items k h None held = refl
 start-for item_state stack items k h (Some x) held = start-held item_state stack items k h x.0 held
 
 -- as many collections are held as the depth says
-depth-held : (item_state : ℕ → ItemState) (stack : ℕ → List ItemState) (items : List ItemType) (k : ℕ) (h : StateRecord)
+depth-held : (item_state : ℕ → ItemState) (stack : ℕ → List ItemState) (items : List ItemType)
+    (k : ℕ) (h : StateRecord)
     → Holds item_state stack items k h → depth items k ≡ length h.opened
 depth-held item_state stack items k h held =
     let size : length (collections_at item_state items k) ≡ length (open_at items k) =
     grind (arith, common_steps) in
     sym (ap length held.inside ∙ size ∙ open-length items k held.stands)
 
-counts-held : (item_state : ℕ → ItemState) (stack : ℕ → List ItemState) (items : List ItemType) (k : ℕ) (h : StateRecord)
+counts-held : (item_state : ℕ → ItemState) (stack : ℕ → List ItemState) (items : List ItemType)
+    (k : ℕ) (h : StateRecord)
     (x : ItemType) → ((n : ℕ) → length (stack n) ≡ level items n) → Holds item_state stack items k h
     → counts item_state items k x ≡ counts_in h x
 counts-held item_state stack items k h x leveled held =
@@ -127,7 +137,8 @@ counts-held item_state stack items k h x leveled held =
     start-for item_state stack items k h (data_of x) held in
     cc
 
-pub fault-held : (item_state : ℕ → ItemState) (stack : ℕ → List ItemState) (items : List ItemType) (k : ℕ)
+pub fault-held : (item_state : ℕ → ItemState) (stack : ℕ → List ItemState) (items : List ItemType)
+    (k : ℕ)
     (h : StateRecord) (x : ItemType) → ((n : ℕ) → length (stack n) ≡ level items n)
     → Holds item_state stack items k h
     → fault item_state items k x ≡ item_fault (counts_in h x) h.item_state x
@@ -135,24 +146,29 @@ fault-held item_state stack items k h x leveled held =
     ap (λ n. item_fault n (item_state k) x) (counts-held item_state stack items k h x leveled held)
     ∙ ap (λ f. item_fault (counts_in h x) f x) (sym held.item_states)
 
-pub fields-held : (item_state : ℕ → ItemState) (stack : ℕ → List ItemState) (items : List ItemType) (k : ℕ)
+pub fields-held : (item_state : ℕ → ItemState) (stack : ℕ → List ItemState) (items : List ItemType)
+    (k : ℕ)
     (h : StateRecord) (d : Direction) (x : ItemType) → Holds item_state stack items k h
     → fields_at item_state d items (k, x) ≡ fields_of h.item_state h.opened h.fields (start_in d h)
     (data_of x) (extent h.item_state)
 fields-held item_state stack items k h d x held =
-    ap (λ cs. fields_of (item_state k) cs (fields_before item_state items k) (start item_state d items k)
+    ap (λ cs. fields_of (item_state k) cs (fields_before item_state items k)
+    (start item_state d items k)
     (data_of x) (extent (item_state k))) (sym held.inside)
     ∙ ap (λ f. fields_of f h.opened (fields_before item_state items k) (start item_state d items k)
     (data_of x) (extent f)) (sym held.item_states)
-    ∙ ap (λ n. fields_of h.item_state h.opened n (start item_state d items k) (data_of x) (extent h.item_state))
+    ∙ ap (λ n. fields_of h.item_state h.opened n (start item_state d items k) (data_of x)
+    (extent h.item_state))
     (sym held.numbered)
     ∙ ap (λ s. fields_of h.item_state h.opened h.fields s (data_of x) (extent h.item_state))
     (start-held item_state stack items k h d held)
 
 -- the items that make fields, with one more item
-makers-next : (item_state : ℕ → ItemState) (items front rest : List ItemType) (x : ItemType) (d : Direction)
+makers-next : (item_state : ℕ → ItemState) (items front rest : List ItemType) (x : ItemType)
+    (d : Direction)
     → items ≡ front ++ x ∷ rest
-    → makers item_state d items (suc (length front)) ≡ makers item_state d items (length front) ++ cond
+    → makers item_state d items (suc (length front)) ≡ makers item_state d items (length front)
+    ++ cond
     (goes d (data_of x) && is_some (extent (item_state (length front)))) ((length front, x) ∷ []) []
 makers-next item_state items front rest x d e =
     let test = λ (p : Indexed). goes d (data_of p.1) && is_some (extent (item_state p.0)) in
@@ -193,7 +209,8 @@ listed-by false item_state stack items front rest h x d e held t =
     ∙ ap (λ b. ms ++ cond b ((k, x) ∷ []) []) t ∙ append-nil ms)
     ∙ sym (held.listed d)
 
-listed-next : (item_state : ℕ → ItemState) (stack : ℕ → List ItemState) (items front rest : List ItemType)
+listed-next : (item_state : ℕ → ItemState) (stack : ℕ → List ItemState)
+    (items front rest : List ItemType)
     (h : StateRecord) (x : ItemType) (d : Direction) → items ≡ front ++ x ∷ rest
     → Holds item_state stack items (length front) h
     → reports_before item_state d items (suc (length front)) ≡ next_reports d h x
@@ -207,11 +224,13 @@ first-more : (item_state : ℕ → ItemState) (items : List ItemType) (ms : List
     (m : Indexed)
     → (ms ≡ [] → (item_state m.0).report_id ≡ key_of m)
     → first_report_id item_state ms ≡ first_id (reports_of key_of bits parts ms)
-    → first_report_id item_state (ms ++ m ∷ []) ≡ first_id (reports_of key_of bits parts (ms ++ m ∷ []))
+    → first_report_id item_state (ms ++ m ∷ [])
+    ≡ first_id (reports_of key_of bits parts (ms ++ m ∷ []))
 first-more item_state items [] key_of bits parts m new old = new refl
 first-more item_state items (p ∷ ps) key_of bits parts m new old = old
 
-first-by : (b : Bool) (item_state : ℕ → ItemState) (stack : ℕ → List ItemState) (items front rest : List ItemType)
+first-by : (b : Bool) (item_state : ℕ → ItemState) (stack : ℕ → List ItemState)
+    (items front rest : List ItemType)
     (h : StateRecord) (x : ItemType) (d : Direction) → items ≡ front ++ x ∷ rest
     → Holds item_state stack items (length front) h
     → (goes d (data_of x) && is_some (extent (item_state (length front)))) ≡ b
@@ -230,7 +249,8 @@ first-by b item_state stack items front rest h x d e held t = first-at b refl wh
   ms : List Indexed
   ms = makers item_state d items k
 
-  old : first_report_id item_state ms ≡ first_id (reports_of key_of bits (fields_at item_state d items) ms)
+  old : first_report_id item_state ms ≡ first_id
+      (reports_of key_of bits (fields_at item_state d items) ms)
   old = held.first d ∙ ap first_id (held.listed d)
 
   all : (c : Bool) → b ≡ c → makers item_state d items (suc k) ≡ ms ++ cond c ((k, x) ∷ []) []
@@ -238,7 +258,8 @@ first-by b item_state stack items front rest h x d e held t = first-at b refl wh
       ∙ ap (λ b. ms ++ cond b ((k, x) ∷ []) []) (t ∙ s)
 
   both : List Indexed → Type 0
-  both l = first_report_id item_state l ≡ first_id (reports_of key_of bits (fields_at item_state d items) l)
+  both l = first_report_id item_state l ≡ first_id
+      (reports_of key_of bits (fields_at item_state d items) l)
 
   first-at : (c : Bool) → b ≡ c → both (makers item_state d items (suc k))
   first-at true s = subst both (sym (all true s))
@@ -266,8 +287,10 @@ one-direction (Some (Input, flags)) (Some e) = omega arith
 one-direction (Some (Output, flags)) (Some e) = omega arith
 one-direction (Some (Feature, flags)) (Some e) = omega arith
 
-numbered-next : (item_state : ℕ → ItemState) (stack : ℕ → List ItemState) (items front rest : List ItemType)
-    (h : StateRecord) (x : ItemType) → items ≡ front ++ x ∷ rest → Holds item_state stack items (length front) h
+numbered-next : (item_state : ℕ → ItemState) (stack : ℕ → List ItemState)
+    (items front rest : List ItemType)
+    (h : StateRecord) (x : ItemType) → items ≡ front ++ x ∷ rest
+    → Holds item_state stack items (length front) h
     → fields_before item_state items (suc (length front)) ≡ h.fields + fields_made (data_of x)
     (extent h.item_state)
 numbered-next item_state stack items front rest h x e held =
@@ -296,7 +319,8 @@ in_direction Output h x = refl
 in_direction Feature h x = refl
 
 -- the open collections, with one more item
-record OpenedNext (item_state : ℕ → ItemState) (items : List ItemType) (k : ℕ) (h : StateRecord) (x : ItemType) :
+record OpenedNext (item_state : ℕ → ItemState) (items : List ItemType) (k : ℕ) (h : StateRecord)
+    (x : ItemType) :
     Type 0 where
   pub stands : Stands items (suc k)
   pub inside : next_opened h x ≡ collections_at item_state items (suc k)
@@ -329,7 +353,8 @@ end-deep h (item.Local y) e faultless = cc
 end-deep h item.Long e faultless = cc
 end-deep h item.Reserved e faultless = cc
 
-opened-by : (o : Option CollectionItem) (b : Bool) (item_state : ℕ → ItemState) (stack : ℕ → List ItemState)
+opened-by : (o : Option CollectionItem) (b : Bool) (item_state : ℕ → ItemState) (stack : ℕ
+    → List ItemState)
     (items front rest : List ItemType) (h : StateRecord) (x : ItemType) → items ≡ front ++ x ∷ rest
     → Holds item_state stack items (length front) h
     → fault_in h x ≡ None → collection_of x ≡ o → is_end_collection x ≡ b
@@ -415,7 +440,8 @@ some-stack true n e h = cc
 some-stack false n e h = grind (arith, nat_tests)
 
 -- a Pop without a fault has an open Push
-pop-deep : (h : StateRecord) (x : ItemType) → is_pop x ≡ true → fault_in h x ≡ None → 0 < length h.stack
+pop-deep : (h : StateRecord) (x : ItemType) → is_pop x ≡ true → fault_in h x ≡ None
+    → 0 < length h.stack
 pop-deep h (item.Global global.Pop) e faultless =
     some-stack (length h.stack == 0) (length h.stack) refl faultless
 pop-deep h (item.Global global.Push) e faultless = cc
@@ -427,23 +453,28 @@ pop-deep h item.Reserved e faultless = cc
 
 -- what is held goes on by one item
 pub holds-next : (keeping : PushKeeps) (item_state : ℕ → ItemState) (stack : ℕ → List ItemState)
-    (items front rest : List ItemType) (h : StateRecord) (x : ItemType) → Follows keeping item_state stack items
-    → h.keeping ≡ keeping → items ≡ front ++ x ∷ rest → Holds item_state stack items (length front) h
+    (items front rest : List ItemType) (h : StateRecord) (x : ItemType)
+    → Follows keeping item_state stack items
+    → h.keeping ≡ keeping → items ≡ front ++ x ∷ rest
+    → Holds item_state stack items (length front) h
     → fault_in h x ≡ None → Holds item_state stack items (suc (length front)) (next_state h x)
 holds-next keeping item_state stack items front rest h x follows reads e held faultless =
     let k = length front in
-    let opened = opened-by (collection_of x) (is_end_collection x) item_state stack items front rest h x e
+    let opened = opened-by (collection_of x)
+    (is_end_collection x) item_state stack items front rest h x e
     held faultless refl refl in
     let deep : is_pop x ≡ true
     → 0 < level items k = λ pop. omega
     (arith, pop-deep h x pop faultless, ap length held.keeps, follows.leveled k) in
     let stepped = follows.goes_on front rest x e held.rests deep in
     record {
-      item_states = ap (λ r. cond (is_pop x) (after_pop r h.item_state (last_item_state h.item_state h.stack))
+      item_states = ap (λ r. cond (is_pop x)
+          (after_pop r h.item_state (last_item_state h.item_state h.stack))
           (next_item_state h.item_state x)) reads
           ∙ ap (λ f. cond (is_pop x) (after_pop keeping f (last_item_state f h.stack))
           (next_item_state f x)) held.item_states
-          ∙ ap (λ l. cond (is_pop x) (after_pop keeping (item_state k) (last_item_state (item_state k) l))
+          ∙ ap (λ l. cond (is_pop x) (after_pop keeping (item_state k)
+          (last_item_state (item_state k) l))
           (next_item_state (item_state k) x)) held.keeps ∙ sym stepped.item_states_next;
       rests = stepped.rests_next;
       keeps = ap (λ r. cond (is_pop x) (take (length h.stack - 1) h.stack)
@@ -453,8 +484,10 @@ holds-next keeping item_state stack items front rest h x follows reads e held fa
           ∙ ap (λ f. cond (is_pop x) (take (length (stack k) - 1) (stack k))
           (cond (is_push x) (stack k ++ pushed_copy keeping f ∷ []) (stack k))) held.item_states
           ∙ sym stepped.stack_next;
-      listed = λ d. in_direction d h x ∙ sym (listed-next item_state stack items front rest h x d e held);
-      first = λ d. first-by (goes d (data_of x) && is_some (extent (item_state (length front)))) item_state
+      listed = λ d. in_direction d h x ∙ sym
+          (listed-next item_state stack items front rest h x d e held);
+      first = λ d. first-by (goes d (data_of x) && is_some (extent (item_state (length front))))
+          item_state
           stack items front rest h x d e held refl
           ∙ ap first_id (listed-next item_state stack items front rest h x d e held
           ∙ sym (in_direction d h x));
@@ -467,13 +500,15 @@ holds-next keeping item_state stack items front rest h x follows reads e held fa
     }
 
 -- the fault of the item, and what the rest gives where it has none
-walked-by : (o : Option MeaningFault) (item_state : ℕ → ItemState) (items : List ItemType) (k : ℕ) (h : StateRecord)
+walked-by : (o : Option MeaningFault) (item_state : ℕ → ItemState) (items : List ItemType) (k : ℕ)
+    (h : StateRecord)
     (x : ItemType) (xs : List ItemType) (all : DescriptorRecord)
     → fault item_state items k x ≡ fault_in h x → fault_in h x ≡ o
     → (fault_in h x ≡ None
     → walk (next_state h x) (k + 1) xs ≡ unless_first
     (first_fault item_state items (enumerate_from (k + 1) xs)) all)
-    → walk h k (x ∷ xs) ≡ unless_first (first_fault item_state items (enumerate_from k (x ∷ xs))) all
+    → walk h k (x ∷ xs) ≡ unless_first (first_fault item_state items (enumerate_from k (x ∷ xs)))
+    all
 walked-by None item_state items k h x xs all same e rest =
     ap (λ f. go_on (unless_fault f (next_state h x)) k (λ next. walk next (k + 1) xs)) e ∙ rest e
     ∙ sym (ap (λ f. unless_first (fault_here f k
@@ -491,17 +526,20 @@ descriptor-of r i o f p q s =
     first ∙ ap (λ a. record { input = i; output = a; feature = r.feature }) q
     ∙ ap (λ a. record { input = i; output = o; feature = a }) s
 
-pub at-end : (item_state : ℕ → ItemState) (stack : ℕ → List ItemState) (items : List ItemType) (h : StateRecord)
+pub at-end : (item_state : ℕ → ItemState) (stack : ℕ → List ItemState) (items : List ItemType)
+    (h : StateRecord)
     → Holds item_state stack items (length items) h → h.descriptor ≡ descriptor item_state items
 at-end item_state stack items h held =
     descriptor-of h.descriptor (reports item_state Input items) (reports item_state Output items)
-    (reports item_state Feature items) (held.listed Input) (held.listed Output) (held.listed Feature)
+    (reports item_state Feature items) (held.listed Input) (held.listed Output)
+    (held.listed Feature)
 
 walk-from : (keeping : PushKeeps) (item_state : ℕ → ItemState) (stack : ℕ → List ItemState)
     (items front rest : List ItemType) (h : StateRecord) → Follows keeping item_state stack items
     → h.keeping ≡ keeping → items ≡ front ++ rest → Holds item_state stack items (length front) h
     → walk h (length front) rest ≡ unless_first
-    (first_fault item_state items (enumerate_from (length front) rest)) (descriptor item_state items)
+    (first_fault item_state items (enumerate_from (length front) rest))
+    (descriptor item_state items)
 walk-from keeping item_state stack items front [] h follows reads e held =
     let whole : items ≡ front = e ∙ append-nil front in
     ap Ok (at-end item_state stack items h
@@ -519,7 +557,8 @@ walk-from keeping item_state stack items front (x ∷ xs) h follows reads e held
     (holds-next keeping item_state stack items front xs h x follows reads e held faultless) in
     subst (λ n. walk (next_state h x) n xs ≡ unless_first
     (first_fault item_state items (enumerate_from n xs)) (descriptor item_state items)) size_one
-    (walk-from keeping item_state stack items (front ++ x ∷ []) xs (next_state h x) follows reads more
+    (walk-from keeping item_state stack items (front ++ x ∷ []) xs
+    (next_state h x) follows reads more
     next))
 
 pub holds-nothing : (keeping : PushKeeps) (item_state : ℕ → ItemState) (stack : ℕ → List ItemState)

@@ -61,14 +61,16 @@ usages-by false flags f us count around c has =
 
 weight-with : (h : StateRecord) (d : Direction) (flags : Flags)
     → weight_in h (item_with d flags) ≡ sum_by field_weight
-    (fields_of h.item_state h.opened h.fields (start_in d h) (Some (d, flags)) (extent h.item_state))
+    (fields_of h.item_state h.opened h.fields (start_in d h) (Some (d, flags))
+    (extent h.item_state))
 weight-with h Input flags = zero-add _
 weight-with h Output flags = zero-add _
 weight-with h Feature flags = zero-add _
 
 -- the weight of a data item, from what the parser finds
 pub data-weight : (h : StateRecord) (g : ItemState) (d : Direction) (flags : Flags) (size count : ℕ)
-    (us : Usages) → g ≡ h.item_state → extent g ≡ Some (size, count) → HasUsages flags h.item_state us
+    (us : Usages) → g ≡ h.item_state → extent g ≡ Some (size, count)
+    → HasUsages flags h.item_state us
     → weight_in h (item_with d flags) ≡ field_count flags count * weight_of_each flags
     (length (usage_list us).usages) (sum_by collection_weight h.opened)
 data-weight h g d flags size count us same made has =
@@ -76,12 +78,16 @@ data-weight h g d flags size count us same made has =
     ∙ ap (λ e. sum_by field_weight
     (fields_of h.item_state h.opened h.fields (start_in d h) (Some (d, flags)) e))
     (ap extent (sym same) ∙ made)
-    ∙ made-by flags.constant flags.variable h.item_state.report_id h.fields (start_in d h) (size, count)
-    flags (list_or_none (usages_of h.item_state)) (attributes h.item_state h.opened d flags) refl refl
-    ∙ usages-by flags.constant flags h.item_state us count (sum_by collection_weight h.opened) refl has
+    ∙ made-by flags.constant flags.variable h.item_state.report_id h.fields (start_in d h)
+    (size, count)
+    flags (list_or_none (usages_of h.item_state))
+    (attributes h.item_state h.opened d flags) refl refl
+    ∙ usages-by flags.constant flags h.item_state us count
+    (sum_by collection_weight h.opened) refl has
 
 -- the same, from its numbers one by one
-pub data-weighs : (h now : StateRecord) (g : ItemState) (d : Direction) (flags : Flags) (size count : ℕ)
+pub data-weighs : (h now : StateRecord) (g : ItemState) (d : Direction) (flags : Flags)
+    (size count : ℕ)
     (us : Usages) (n w around : ℕ) → h ≡ now → g ≡ h.item_state → extent g ≡ Some (size, count)
     → HasUsages flags h.item_state us
     → n ≡ field_count flags count → w ≡ weight_of_each flags (length (usage_list us).usages) around

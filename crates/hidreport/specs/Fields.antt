@@ -158,4 +158,5 @@ fields_of f collections id first None e = []
 -- the fields that an item of direction d makes
 abbrev pub fields_at : (ℕ → ItemState) → Direction → List ItemType → Indexed → List FieldRecord
 fields_at item_state d items p = fields_of (item_state p.0) (collections_at item_state items p.0)
-    (fields_before item_state items p.0) (start item_state d items p.0) (data_of p.1) (extent (item_state p.0))
+    (fields_before item_state items p.0) (start item_state d items p.0) (data_of p.1)
+    (extent (item_state p.0))

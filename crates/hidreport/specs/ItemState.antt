@@ -71,4 +71,5 @@ item_state items k = record {
 
 -- what is in force at k where a Push is of globals alone
 abbrev pub item_state_globals_only : List ItemType → ℕ → ItemState
-item_state_globals_only items k = record (item_state items k) { locals = locals_globals_only items k }
+item_state_globals_only items k = record
+    (item_state items k) { locals = locals_globals_only items k }

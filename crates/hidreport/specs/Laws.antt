@@ -24,7 +24,8 @@ SegmentsAreIdle keeping bytes = (entries : List Entry) (front inside rest : List
     → itemise item_of bytes ≡ Ok entries → IsMatched inside → Spares keeping inside
     → items_of entries ≡ with_segment front inside rest
     → parse_by (reading_of keeping) bytes ≡ at_offset entries
-    (moved_fault (length front) (length inside + 2) (meaning_by (reading_of keeping) (front ++ rest)))
+    (moved_fault (length front) (length inside + 2)
+    (meaning_by (reading_of keeping) (front ++ rest)))
 
 -- items that aren't kept change nothing: the answer is that of the kept ones
 abbrev pub KeptItemsMean : PushKeeps → List ℕ → Type 0

@@ -33,7 +33,8 @@ first_report_id item_state (p ∷ ps) = (item_state p.0).report_id
 -- The report that an item of direction d at k adds to: that with the id in force; without one, the
 -- report of the first item of its direction that makes fields.
 abbrev pub key : (ℕ → ItemState) → Direction → List ItemType → ℕ → Option ℕ
-key item_state d items k = first_of (item_state k).report_id (first_report_id item_state (makers item_state d items k))
+key item_state d items k = first_of (item_state k).report_id
+    (first_report_id item_state (makers item_state d items k))
 
 -- two keys are the same
 abbrev pub same_key : Option ℕ → Option ℕ → Bool

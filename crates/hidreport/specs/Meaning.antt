@@ -31,7 +31,8 @@ firsts_after seen (x ∷ xs) =
 -- the keys of direction d, in order of first appearance
 abbrev pub keys : (ℕ → ItemState) → Direction → List ItemType → List (Option ℕ)
 keys item_state d items =
-    firsts_after [] (map (λ p. key item_state d items p.0) (makers item_state d items (length items)))
+    firsts_after [] (map (λ p. key item_state d items p.0)
+    (makers item_state d items (length items)))
 
 -- the report with this key: the fields of the items that add to it, and the end of the last one
 abbrev pub report : (ℕ → ItemState) → Direction → List ItemType → Option ℕ → ReportRecord

@@ -29,7 +29,8 @@ field_weight (ConstantRecord place) = 1
 -- the collection that an item opens
 abbrev pub weight_opened : (ℕ → ItemState) → Option CollectionItem → List ItemType → Indexed → ℕ
 weight_opened item_state None items p = 0
-weight_opened item_state (Some kind) items p = collection_weight (collection_record item_state items p)
+weight_opened item_state (Some kind) items p = collection_weight
+    (collection_record item_state items p)
 
 -- the fields that a data item makes
 abbrev pub weight_made : (ℕ → ItemState) → Option (Direction × Flags) → List ItemType → Indexed → ℕ
@@ -44,7 +45,8 @@ unless_faulty (Some fault) weight = 0
 -- the weight of the item x at k
 abbrev pub weight : (ℕ → ItemState) → List ItemType → ℕ → ItemType → ℕ
 weight item_state items k x = unless_faulty (fault item_state items k x)
-    (weight_opened item_state (collection_of x) items (k, x) + weight_made item_state (data_of x) items
+    (weight_opened item_state (collection_of x) items (k, x) + weight_made item_state
+    (data_of x) items
     (k, x))
 
 -- the weight of the items before k

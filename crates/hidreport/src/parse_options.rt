@@ -17,7 +17,8 @@ pub struct ParseOptions {
 }
 
 impl Default for ParseOptions {
-    ghost is_default = { λ options. options ≡ record { push_keeps = push_keeps.All; limit = None } };
+    ghost is_default = { λ options. options
+        ≡ record { push_keeps = push_keeps.All; limit = None } };
 
     fn default() -> ParseOptions {
         ParseOptions {

@@ -157,7 +157,8 @@ told (Err r) status place h =
 -- a refusal of values has no place
 pub values-refused : (f : HidreportField) (bytes : List ℕ) (status : ℕ)
     → Err status ≡ by_status (acceptance (values_at f bytes))
-    → record { count = 0; offset = 0; status = status } ≡ as_answer (value_numbers (values_at f bytes))
+    → record { count = 0; offset = 0; status = status }
+    ≡ as_answer (value_numbers (values_at f bytes))
 values-refused f bytes status h =
     told (values_at f bytes) status (λ r e. id-place (id_of f) bytes (elements_at f bytes) r e
     (λ inside. elements-place f.first_bit f.end_bit f.value_count _ bytes 0 f.value_count r inside))

@@ -19,8 +19,10 @@ reports_in_direction direction d =
 abbrev pub fields_as_c : List ReportRecord → List HidreportField
 fields_as_c reports = map as_c (flat_map (λ r. r.fields) reports)
 
-abbrev pub announced_fields : ℕ → Result DescriptorRecord Refusal → Result (List HidreportField) Refusal
-announced_fields direction (Ok descriptor) = Ok (fields_as_c (reports_in_direction direction descriptor))
+abbrev pub announced_fields : ℕ → Result DescriptorRecord Refusal
+    → Result (List HidreportField) Refusal
+announced_fields direction (Ok descriptor) = Ok
+    (fields_as_c (reports_in_direction direction descriptor))
 announced_fields direction (Err refusal) = Err refusal
 
 -- the fields that a descriptor announces in a direction

@@ -117,4 +117,5 @@ as_c (VariableRecord place usage shared) = data_field place 0 1 (usage ∷ []) f
 as_c (ArrayRecord place usages is_range count shared) =
     data_field place 1 count usages is_range shared
 as_c (ConstantRecord place) =
-    field_at place None 2 0 (usages_as_c [] false) nothing_measured nothing_set (collections_as_c [])
+    field_at place None 2 0 (usages_as_c [] false) nothing_measured nothing_set
+    (collections_as_c [])

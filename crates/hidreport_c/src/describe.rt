@@ -4,7 +4,8 @@ ghost use Rattle.hidreport.specs.Meaning.{parse};
 ghost use Rattle.hidreport.specs.Answer.{AnswersBy};
 ghost use Rattle.hidreport.specs.Views.{field_record};
 ghost use Rattle.hidreport_c.specs.Answer.{Lists};
-ghost use Rattle.hidreport_c.specs.Describe.{described_fields, fields_as_c, report_fields, message_in, reports_in_direction};
+ghost use Rattle.hidreport_c.specs.Describe.{described_fields, fields_as_c, report_fields};
+ghost use Rattle.hidreport_c.specs.Describe.{message_in, reports_in_direction};
 ghost use Rattle.hidreport_c.specs.Field.{as_c};
 
 use crate::answer::{HidreportAnswer, answer};
@@ -44,7 +45,8 @@ pub extern "C" fn hidreport_find(
     report: &[u8],
     fields: &mut [HidreportField],
 ) -> HidreportAnswer
-    ensures { Lists (report_fields direction descriptor.now report.now) fields.old fields.new result }
+    ensures { Lists (report_fields direction descriptor.now report.now) fields.old fields.new
+        result }
 {
     answer(fields_found(alloc, descriptor, direction, report), fields)
 }
@@ -67,7 +69,8 @@ pub(crate) fn fields_described(
     descriptor: &[u8],
     direction: u32,
 ) -> Result<Vec<HidreportField>, ParserError>
-    ensures { AnswersBy (λ fields. fields.items) result (described_fields direction descriptor.now) }
+    ensures { AnswersBy (λ fields. fields.items) result
+        (described_fields direction descriptor.now) }
 {
     let descriptor = ReportDescriptor::try_from(alloc, descriptor)?;
     Ok(fields_of(alloc, reports_of(&descriptor, direction))?)

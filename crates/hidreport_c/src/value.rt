@@ -5,7 +5,8 @@ ghost use Rattle.hidreport.specs.Records.{FieldRecord};
 ghost use Rattle.hidreport_c.specs.Answer.{as_answer, list_or_nothing, array_after};
 ghost use Rattle.hidreport_c.specs.Field.{as_c};
 ghost use Rattle.hidreport_c.specs.Status.{by_status};
-ghost use Rattle.hidreport_c.specs.Value.{acceptance, as_value, element_at, elements_at, extracted_value};
+ghost use Rattle.hidreport_c.specs.Value.{acceptance, as_value, element_at, elements_at};
+ghost use Rattle.hidreport_c.specs.Value.{extracted_value};
 ghost use Rattle.hidreport_c.specs.Value.{id_of, value_numbers, value_at, values_at};
 
 use crate::answer::HidreportAnswer;
@@ -137,7 +138,8 @@ impl HidreportField {
         requires { IsOk (elements_at self.now report.now) }
         ensures answer { result ≡ as_answer (value_numbers (elements_at self.now report.now)) }
         ensures written { values.new
-            ≡ array_after (list_or_nothing (value_numbers (elements_at self.now report.now))) values.old }
+            ≡ array_after (list_or_nothing (value_numbers (elements_at self.now report.now)))
+            values.old }
     {
         let width = self.element_width();
         for index in 0..self.value_count.min(values.len()) {

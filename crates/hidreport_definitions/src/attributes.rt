@@ -1,8 +1,10 @@
 //! What a field has beside its place and its usages.
-ghost use Rattle.std.specs.Prelude.{◌≡◌, pos, negsuc, List, [], ◌∷◌, None, Some, codes, true, false};
+ghost use Rattle.std.specs.Prelude.{◌≡◌, pos, negsuc, List, [], ◌∷◌, None, Some, codes, true};
+ghost use Rattle.std.specs.Prelude.{false};
 ghost use Rattle.hidreport.specs.Records.{VariableRecord};
 ghost use Rattle.hidreport.specs.Usages.{make_usage};
-ghost use Rattle.hidreport_definitions.specs.Summary.{announced_by, feature_attributes, input_attributes, place_at, unset};
+ghost use Rattle.hidreport_definitions.specs.Summary.{announced_by, feature_attributes};
+ghost use Rattle.hidreport_definitions.specs.Summary.{input_attributes, place_at, unset};
 
 /// Bounds, unit and flags are those in force; where one physical bound is set the other is 0.
 pub fn a_field_has_the_bounds_and_the_unit_in_force()
@@ -40,7 +42,8 @@ pub fn only_input_fields_leave_volatility_out()
           output = record {
             id = None;
             size = 8;
-            fields = VariableRecord (place_at 0 0 8) (make_usage 1 0x30) (record unset { volatile = Some false }) ∷ [];
+            fields = VariableRecord (place_at 0 0 8) (make_usage 1 0x30)
+                (record unset { volatile = Some false }) ∷ [];
           } ∷ [];
           feature = [];
         }) }

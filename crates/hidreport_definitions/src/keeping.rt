@@ -5,7 +5,8 @@ ghost use Rattle.hidreport.specs.GlobalItem.TheVariants as global;
 ghost use Rattle.hidreport.specs.ItemType.TheVariants as item;
 ghost use Rattle.hidreport.specs.LocalItem.TheVariants as local;
 ghost use Rattle.hidreport.specs.Segments.{HasNoLocal, HasNoPush};
-ghost use Rattle.hidreport_definitions.specs.Summary.{Report, Variable, globals_summary, inputs, summary};
+ghost use Rattle.hidreport_definitions.specs.Summary.{Report, Variable, globals_summary, inputs};
+ghost use Rattle.hidreport_definitions.specs.Summary.{summary};
 
 /// A usage that is used between a Push and its Pop comes back only where the Push keeps locals.
 pub fn a_usage_used_inside_comes_back_with_locals_alone()

@@ -7,7 +7,10 @@ ghost use Rattle.hidreport.specs.Flags.{flags_of};
 ghost use Rattle.hidreport.specs.ItemType.TheVariants as item;
 ghost use Rattle.hidreport.specs.MainItem.TheVariants as main;
 ghost use Rattle.hidreport.specs.MeaningFault.{PastBounds};
-ghost use Rattle.hidreport_definitions.specs.Summary.{Variable, Constant, Report, summary, inputs, no_reports, all_numbers, announced_by, report_found, input_reports, only_counts, one_bit};
+ghost use Rattle.hidreport_definitions.specs.Summary.{Variable, Constant, Report, summary, inputs};
+ghost use Rattle.hidreport_definitions.specs.Summary.{no_reports, all_numbers, announced_by};
+ghost use Rattle.hidreport_definitions.specs.Summary.{report_found, input_reports, only_counts};
+ghost use Rattle.hidreport_definitions.specs.Summary.{one_bit};
 
 /// A report id that comes later begins a second report, and the first, which has no id, is found
 /// for any byte.
@@ -15,7 +18,8 @@ pub fn a_report_without_id_is_found_for_any_byte()
     ensures reports { summary (codes "05 01 75 08 95 01 09 30 81 02 85 02 09 31 81 02")
         ≡ inputs (Report None 8 (Variable 0 8 0x00010030 ∷ [])
         ∷ Report (Some 2) 16 (Variable 8 16 0x00010031 ∷ []) ∷ []) }
-    ensures lookup { report_found (codes "05 01 75 08 95 01 09 30 81 02 85 02 09 31 81 02") (codes "02 00")
+    ensures lookup { report_found (codes "05 01 75 08 95 01 09 30 81 02 85 02 09 31 81 02")
+        (codes "02 00")
         ≡ Some (Report None 8 (Variable 0 8 0x00010030 ∷ [])) }
 {}
 

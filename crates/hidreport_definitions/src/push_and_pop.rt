@@ -1,10 +1,13 @@
 //! Push keeps what is in force, and Pop brings it back.
-ghost use Rattle.std.specs.Prelude.{◌≡◌, pos, List, [], ◌∷◌, Option, None, Some, codes, true, false};
+ghost use Rattle.std.specs.Prelude.{◌≡◌, pos, List, [], ◌∷◌, Option, None, Some, codes, true};
+ghost use Rattle.std.specs.Prelude.{false};
 ghost use Rattle.hidreport.specs.CollectionItem.TheVariants as kind;
 ghost use Rattle.hidreport.specs.Answer.{InvalidAt, Mismatch};
 ghost use Rattle.hidreport.specs.Records.{VariableRecord};
 ghost use Rattle.hidreport.specs.Usages.{make_usage};
-ghost use Rattle.hidreport_definitions.specs.Summary.{Report, Variable, announced_by, report_found, inputs, no_reports, place_at, readings, summary, unset, unsigned_value};
+ghost use Rattle.hidreport_definitions.specs.Summary.{Report, Variable, announced_by, report_found};
+ghost use Rattle.hidreport_definitions.specs.Summary.{inputs, no_reports, place_at, readings};
+ghost use Rattle.hidreport_definitions.specs.Summary.{summary, unset, unsigned_value};
 
 /// A usage that is used between a Push and its Pop is there again behind the Pop.
 pub fn a_usage_used_inside_comes_back()
@@ -15,7 +18,8 @@ pub fn a_usage_used_inside_comes_back()
             size = 16;
             fields =
                 VariableRecord (place_at 0 0 8) (make_usage 1 0x30) (record unset { logical_maximum = pos 127 })
-                ∷ VariableRecord (place_at 1 8 16) (make_usage 1 0x30) (record unset { logical_maximum = pos 127 })
+                ∷ VariableRecord (place_at 1 8 16) (make_usage 1 0x30)
+                (record unset { logical_maximum = pos 127 })
                 ∷ [];
           } ∷ [];
           output = [];

@@ -1,5 +1,6 @@
 //! Which usages the fields of an item have.
-ghost use Rattle.std.specs.Prelude.{◌≡◌, ◌↔◌, pos, Contains, List, [], ◌∷◌, Option, None, IsSome, codes, true, false};
+ghost use Rattle.std.specs.Prelude.{◌≡◌, ◌↔◌, pos, Contains, List, [], ◌∷◌, Option, None, IsSome};
+ghost use Rattle.std.specs.Prelude.{codes, true, false};
 ghost use Rattle.hidreport.specs.CollectionItem.TheVariants as kind;
 ghost use Rattle.hidreport.specs.Answer.{InvalidAt};
 ghost use Rattle.hidreport.specs.Records.{ArrayRecord};
@@ -7,7 +8,9 @@ ghost use Rattle.hidreport.specs.declared.field.usage.Usage.{Usage};
 ghost use Rattle.hidreport.specs.Tiling.{IsRangeOf};
 ghost use Rattle.hidreport.specs.UsageRange.{HasExactly, usage_within};
 ghost use Rattle.hidreport.specs.Usages.{make_usage, range_from};
-ghost use Rattle.hidreport_definitions.specs.Summary.{Report, Variable, announced_by, inputs, no_reports, four_keys, place_at, summary, unset};
+ghost use Rattle.hidreport_definitions.specs.Summary.{Report, Variable, announced_by, inputs};
+ghost use Rattle.hidreport_definitions.specs.Summary.{no_reports, four_keys, place_at, summary};
+ghost use Rattle.hidreport_definitions.specs.Summary.{unset};
 
 /// Fields beyond the usages take the last one.
 pub fn the_last_usage_is_repeated()

@@ -25,7 +25,8 @@ numbers-more : (bytes : List ℕ) (fs : List FieldRecord) (f : FieldRecord) (ns 
     → numbers_of bytes (fs ++ f ∷ []) ≡ Ok (ns ++ ms)
 numbers-more bytes [] f ns ms e r =
     let none : [] ≡ ns = cc in
-    ap (λ a. both_numbers a (Ok [])) r ∙ ap Ok (append-nil ms) ∙ ap (λ (l : List ℤ). Ok (l ++ ms)) none
+    ap (λ a. both_numbers a (Ok [])) r ∙ ap Ok (append-nil ms)
+    ∙ ap (λ (l : List ℤ). Ok (l ++ ms)) none
 numbers-more bytes (g ∷ fs) f ns ms e r =
     let parts = joined-parts (numbers_at bytes g) (numbers_of bytes fs) ns e in
     ap (λ a. both_numbers a (numbers_of bytes (fs ++ f ∷ []))) parts.2

@@ -20,7 +20,8 @@ abbrev pub numbers_at : List ℕ → FieldRecord → Result (List ℤ) Refusal
 numbers_at bytes field = each_number (reads field bytes)
 
 -- both; the first refusal is the whole's
-abbrev pub both_numbers : Result (List ℤ) Refusal → Result (List ℤ) Refusal → Result (List ℤ) Refusal
+abbrev pub both_numbers : Result (List ℤ) Refusal → Result (List ℤ) Refusal
+    → Result (List ℤ) Refusal
 both_numbers (Err refusal) rest = Err refusal
 both_numbers (Ok ns) (Err refusal) = Err refusal
 both_numbers (Ok ns) (Ok ms) = Ok (ns ++ ms)

@@ -5,13 +5,15 @@ use Rattle.std.proofs.Common.{◌∷◌, ◌++◌, length, take, Result, Ok, ref
 use Rattle.std.proofs.lemmas.Bool.{cond-false, eqb-true, ne_eqb}
 use Rattle.hidreport_items.specs.Answer.{GrammarFault}
 use Rattle.hidreport_items.specs.Kept.{is_kept}
-use Rattle.hidreport_items.specs.Spelling.{data_length, first_or_zero, following_length, is_long_header}
+use Rattle.hidreport_items.specs.Spelling.{data_length, first_or_zero, following_length}
+use Rattle.hidreport_items.specs.Spelling.{is_long_header}
 use Rattle.hidreport_items.specs.Spelling.{item_of}
 use Rattle.hidreport_items.specs.declared.item.ItemType.{ItemType}
 use Rattle.hidreport_items.specs.declared.item.ItemType.TheVariants as item
 
 -- a header that isn't a long item's
-pub short-follow : (h : ℕ) (bs : List ℕ) → is_long_header h ≡ false → following_length h bs ≡ data_length h
+pub short-follow : (h : ℕ) (bs : List ℕ) → is_long_header h ≡ false
+    → following_length h bs ≡ data_length h
 short-follow h bs e = cond-false (is_long_header h) (2 + first_or_zero bs) (data_length h) e
 
 pub small-short : (h : ℕ) (bs : List ℕ) → h < 0xfe → following_length h bs ≡ data_length h

@@ -29,7 +29,8 @@ IsRead (Err e) = ⊥
 -- a short item's header, just the data that it announces, and some item that they are read as
 abbrev pub AreAnItem : List ℕ → Type 0
 AreAnItem [] = ⊥
-AreAnItem (h ∷ bs) = (length bs ≡ data_length h) × (is_long_header h ≡ false) × IsRead (item_of h bs)
+AreAnItem (h ∷ bs) = (length bs ≡ data_length h) × (is_long_header h ≡ false)
+    × IsRead (item_of h bs)
 
 by-header : (p : ℕ) (bs : List ℕ) → HasShape bs
     → ((a : ℕ) → AreAnItem (with_header p (a ∷ [])))

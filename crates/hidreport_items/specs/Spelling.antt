@@ -158,7 +158,8 @@ item_of h bs =
     else Ok item.Reserved)))
 
 -- what is read of a header and of all bytes behind it, as many as there are
-abbrev pub read_with : {A : Type 0} → (ℕ → List ℕ → Result A GrammarFault) → List ℕ → Result A GrammarFault
+abbrev pub read_with : {A : Type 0} → (ℕ → List ℕ → Result A GrammarFault) → List ℕ
+    → Result A GrammarFault
 read_with read [] = Err Insufficient
 read_with read (h ∷ bs) = read h bs
 

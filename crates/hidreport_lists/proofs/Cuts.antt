@@ -86,7 +86,8 @@ stop-all read (e ∷ es) offset header after fault each why =
     ∙ ap (with_entry offset e.bytes (Ok e.item))
     (stop-all read es (offset + length e.bytes) header after fault each.1 why)
     ∙ ap (λ n. Err (n, fault))
-    (let e2 : offset + length e.bytes + length (all_bytes es) ≡ offset + length (e.bytes ++ all_bytes es) = simp length-append (omega arith) in e2)
+    (let e2 : offset + length e.bytes + length (all_bytes es)
+    ≡ offset + length (e.bytes ++ all_bytes es) = simp length-append (omega arith) in e2)
 
 -- an itemising is the one that is computed
 pub itemise-items : (read : Reader) (bytes : List ℕ) (entries : List Entry)
@@ -128,7 +129,8 @@ record Stops (read : Reader) (bytes : List ℕ) : Type 0 where
   why : item_at read header after ≡ Err fault
 
 -- a beginning that is read as an item has all that follows its header
-none-read : (read : Reader) (h : ℕ) (bs : List ℕ) (fault : GrammarFault) → item_at read h bs ≡ Err fault
+none-read : (read : Reader) (h : ℕ) (bs : List ℕ) (fault : GrammarFault)
+    → item_at read h bs ≡ Err fault
     → (n : ℕ) (x : ItemType) → Reads read (take n (h ∷ bs)) x → ⊥
 none-read read h bs fault why zero x r = r
 none-read read h bs fault why (suc n) x r =
@@ -169,7 +171,8 @@ more-stops read offset front x rest r s = record {
   header = s.header;
   after = s.after;
   fault = s.fault;
-  whole = append_assoc front (all_bytes s.entries) (s.header ∷ s.after) ∙ ap (λ l. front ++ l) s.whole;
+  whole = append_assoc front (all_bytes s.entries) (s.header ∷ s.after)
+      ∙ ap (λ l. front ++ l) s.whole;
   each = (r, s.each);
   none = s.none;
   why = s.why;
@@ -180,7 +183,8 @@ Ends read offset bytes = Cut read offset bytes ⊎ Stops read bytes
 
 -- by what the first item is
 ends-item : (read : Reader) (offset h : ℕ) (bs : List ℕ) → AreBytes (h ∷ bs)
-    → ((at : ℕ) → Cut read at (drop (following_length h bs) bs) ⊎ Stops read (drop (following_length h bs) bs))
+    → ((at : ℕ) → Cut read at (drop (following_length h bs) bs)
+    ⊎ Stops read (drop (following_length h bs) bs))
     → (r : Result ItemType GrammarFault) → item_at read h bs ≡ r → Cut read offset (h ∷ bs)
     ⊎ Stops read (h ∷ bs)
 ends-item read offset h bs bytes rest (Err fault) e = inr (record {
@@ -267,7 +271,8 @@ itemise-ok read bytes entries are some e =
     ]
 
 -- what is computed is a fault
-pub itemise-err : (read : Reader) (bytes : List ℕ) (offset : ℕ) (fault : GrammarFault) → AreBytes bytes
+pub itemise-err : (read : Reader) (bytes : List ℕ) (offset : ℕ) (fault : GrammarFault)
+    → AreBytes bytes
     → bytes ≢ [] → itemise read bytes ≡ Err (offset, fault) → IsFaultAt read bytes offset fault
 itemise-err read bytes offset fault are some e =
     elim (items_or_fault read bytes are some) [

@@ -12,7 +12,8 @@ use Rattle.hidreport_items.proofs.Following.{short-follow}
 use Rattle.hidreport_items.proofs.Written.{IsRead, NoneOrAnItem, written-read}
 use Rattle.hidreport_items.specs.declared.error.HidError.{HidError}
 use Rattle.hidreport_items.specs.declared.error.HidError.TheVariants as errors
-use Rattle.hidreport_items.specs.Spelling.{data_length, first_or_zero, following_length, is_long_header}
+use Rattle.hidreport_items.specs.Spelling.{data_length, first_or_zero, following_length}
+use Rattle.hidreport_items.specs.Spelling.{is_long_header}
 use Rattle.hidreport_items.specs.Spelling.{item_of, read_as}
 use Rattle.hidreport_items.specs.Writing.{item_bytes}
 use Rattle.hidreport_items.specs.declared.item.ItemType.{ItemType}
@@ -35,7 +36,8 @@ pub read_as_ok : {A B : Type 0} (f : A → B) (r : Result A GrammarFault) (y : B
 read_as_ok f (Ok x) y h = (x, refl, cc)
 read_as_ok f (Err e) y h = cc
 
-pub read_as_err : {A B : Type 0} (f : A → B) (r : Result A GrammarFault) (e : GrammarFault) → read_as f r ≡ Err e
+pub read_as_err : {A B : Type 0} (f : A → B) (r : Result A GrammarFault) (e : GrammarFault)
+    → read_as f r ≡ Err e
     → r ≡ Err e
 read_as_err f (Ok x) e h = cc
 read_as_err f (Err d) e h = cc
@@ -47,7 +49,8 @@ enough n a e = grind (arith, common_steps)
 pub not_short : (n a : ℕ) → a ≤ n → nat_lt n a ≡ false
 not_short n a e = grind (arith, common_steps)
 
-never-read : {A : Type 0} (r : Result A GrammarFault) (fault : GrammarFault) → IsRead r → r ≡ Err fault → ⊥
+never-read : {A : Type 0} (r : Result A GrammarFault) (fault : GrammarFault) → IsRead r
+    → r ≡ Err fault → ⊥
 never-read (Ok x) fault is e = cc
 never-read (Err d) fault is e = is
 
@@ -68,7 +71,8 @@ pub front-read : (h : ℕ) (bs : List ℕ) → following_length h bs ≤ length 
     → front_item item_of (h ∷ bs) ≡ read_as
     (λ x. record { bytes = h ∷ take (following_length h bs) bs; item = x })
     (item_of h (take (following_length h bs) bs))
-front-read h bs room = ap (read_as (λ x. record { bytes = h ∷ take (following_length h bs) bs; item = x }))
+front-read h bs room = ap
+    (read_as (λ x. record { bytes = h ∷ take (following_length h bs) bs; item = x }))
     (item_at-enough item_of h bs room)
 
 -- the item at the front begins with the first byte
@@ -81,16 +85,19 @@ front-header (h ∷ bs) s e =
     ap (λ (y : Spelled). first_or_zero y.bytes) (sym got.2)
 
 -- a fault of the header and its data is the item's
-pub short_item-err : (h : ℕ) (after : List ℕ) (a : ℕ) (fault : GrammarFault) → is_long_header h ≡ false
+pub short_item-err : (h : ℕ) (after : List ℕ) (a : ℕ) (fault : GrammarFault)
+    → is_long_header h ≡ false
     → a ≡ data_length h → a ≤ length after → Err fault ≡ item_of h (take a after)
     → Err fault ≡ short_item item_of (h ∷ after)
 short_item-err h after a fault short announces room e =
     let is : a ≡ following_length h after = announces ∙ sym (short-follow h after short) in
-    let enough_bytes : following_length h after ≤ length after = subst (λ n. n ≤ length after) is room in
+    let enough_bytes : following_length h after ≤ length after = subst
+    (λ n. n ≤ length after) is room in
     let same : item_of h (take (following_length h after) after) ≡ Err fault =
     ap (λ n. item_of h (take n after)) (sym is) ∙ sym e in
     sym (short-front h after short ∙ front-read h after enough_bytes
-    ∙ ap (read_as (λ x. record { bytes = h ∷ take (following_length h after) after; item = x })) same)
+    ∙ ap (read_as (λ x. record { bytes = h ∷ take (following_length h after) after; item = x }))
+    same)
 
 -- what is written for an item has no fault but that there is nothing
 written-fault : (bytes : List ℕ) (fault : GrammarFault) → NoneOrAnItem bytes
@@ -99,14 +106,16 @@ written-fault [] fault are e = cc
 written-fault (h ∷ bs) fault are e =
     let size : length bs ≡ following_length h bs = are.0 ∙ sym (short-follow h bs are.1) in
     let room : following_length h bs ≤ length bs = omega (arith, size) in
-    let same : take (following_length h bs) bs ≡ bs = subst (λ n. take n bs ≡ bs) size (take-length bs) in
+    let same : take (following_length h bs) bs
+    ≡ bs = subst (λ n. take n bs ≡ bs) size (take-length bs) in
     absurd (never-read (item_of h bs) fault are.2 (
     ap (item_of h) (sym same)
     ∙ sym (item_at-enough item_of h bs room)
     ∙ read_as_err (λ y. record { bytes = h ∷ take (following_length h bs) bs; item = y })
     (item_at item_of h bs) fault (sym (short-front h bs are.1) ∙ e)))
 
-pub item-fault : (x : ItemType) (fault : GrammarFault) → short_item item_of (item_bytes x) ≡ Err fault
+pub item-fault : (x : ItemType) (fault : GrammarFault)
+    → short_item item_of (item_bytes x) ≡ Err fault
     → short_item item_of (item_bytes x) ≡ Err Insufficient
 item-fault x fault e = e ∙ ap Err (written-fault (item_bytes x) fault (written-read x) e)
 
@@ -129,7 +138,8 @@ pub with_front-more : (front : List Entry) (e : Entry) (r : Result (List Entry) 
 with_front-more front e (Ok entries) = ap Ok (append_assoc front (e ∷ []) entries)
 with_front-more front e (Err fault) = refl
 
-with_entry-ok : (offset : ℕ) (bytes : List ℕ) (x : ItemType) (r : Result (List Entry) (ℕ × GrammarFault))
+with_entry-ok : (offset : ℕ) (bytes : List ℕ) (x : ItemType)
+    (r : Result (List Entry) (ℕ × GrammarFault))
     → with_entry offset bytes (Ok x) r ≡ with_front
     (record { offset = offset; bytes = bytes; item = x } ∷ []) r
 with_entry-ok offset bytes x (Ok entries) = refl
@@ -151,7 +161,8 @@ pub items_from-fault : (offset : ℕ) (bytes : List ℕ) (fault : GrammarFault) 
     → items_from item_of offset 0 bytes ≡ Err (offset, fault)
 items_from-fault offset [] fault ne e = absurd (ne refl)
 items_from-fault offset (h ∷ bs) fault ne e =
-    ap (λ (r : Result ItemType GrammarFault). with_entry offset (h ∷ take (following_length h bs) bs) r
+    ap (λ (r : Result ItemType GrammarFault). with_entry offset
+    (h ∷ take (following_length h bs) bs) r
     (items_from item_of (offset + 1) (following_length h bs) bs))
     (read_as_err (λ x. record { bytes = h ∷ take (following_length h bs) bs; item = x })
     (item_at item_of h bs) fault e)
@@ -209,7 +220,8 @@ itemise-some read [] ne = absurd (ne refl)
 itemise-some read (b ∷ bs) ne = refl
 
 -- the fault of the rest is that of all the bytes
-fault-whole : (bytes rest : List ℕ) (front : List Entry) (offset : ℕ) (fault : GrammarFault) → bytes ≢ []
+fault-whole : (bytes rest : List ℕ) (front : List Entry) (offset : ℕ) (fault : GrammarFault)
+    → bytes ≢ []
     → rest ≢ []
     → with_front front (items_from item_of offset 0 rest) ≡ items_from item_of 0 0 bytes
     → front_item item_of rest ≡ Err fault

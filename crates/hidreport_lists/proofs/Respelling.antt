@@ -11,9 +11,11 @@ use Rattle.hidreport_items.specs.declared.item.ItemType.{ItemType}
 use Rattle.hidreport_items.proofs.CanonicalLemmas.{canonical}
 use Rattle.hidreport_lists.specs.Answer.{Refusal, Refuses}
 use Rattle.hidreport_lists.specs.Entry.{Entry}
-use Rattle.hidreport_lists.specs.Itemising.{Reads, all_bytes, AreInPlace, AreRead, Itemises, itemise}
+use Rattle.hidreport_lists.specs.Itemising.{Reads, all_bytes, AreInPlace, AreRead, Itemises}
+use Rattle.hidreport_lists.specs.Itemising.{itemise}
 use Rattle.hidreport_lists.specs.Itemising.{as_refusal}
-use Rattle.hidreport_lists.specs.Rebuilt.{AreCanonical, items_of, kept_entries, rebuild_answer, rebuilt_bytes}
+use Rattle.hidreport_lists.specs.Rebuilt.{AreCanonical, items_of, kept_entries, rebuild_answer}
+use Rattle.hidreport_lists.specs.Rebuilt.{rebuilt_bytes}
 use Rattle.hidreport_lists.specs.Rebuilt.{canonical_entries}
 use Rattle.hidreport_lists.specs.declared.error.ParserError.{ParserError}
 use Rattle.hidreport_lists.specs.declared.error.ParserError.TheVariants as parser
@@ -43,7 +45,8 @@ kept-by : (b : Bool) (e : Entry) (es : List Entry) → is_kept e.item ≡ b → 
 kept-by true e es is s rest = (is, canonical e.item e.bytes s is, rest)
 kept-by false e es is s rest = rest
 
-pub are_kept : (entries : List Entry) → AreRead item_of entries → AreKept (items_of (kept_entries entries))
+pub are_kept : (entries : List Entry) → AreRead item_of entries
+    → AreKept (items_of (kept_entries entries))
 are_kept [] each = tt
 are_kept (e ∷ es) each = kept-by (is_kept e.item) e es refl (spells e.bytes e.item each.0)
     (are_kept es each.1)
@@ -60,7 +63,8 @@ respelled-read [] offset k = tt
 respelled-read (x ∷ xs) offset k =
     (reads (item_bytes x) x k.1.spells, respelled-read xs (offset + length (item_bytes x)) k.2)
 
-respelled-placed : (xs : List ItemType) (offset : ℕ) → AreInPlace offset (canonical_entries offset xs)
+respelled-placed : (xs : List ItemType) (offset : ℕ)
+    → AreInPlace offset (canonical_entries offset xs)
 respelled-placed [] offset = tt
 respelled-placed (x ∷ xs) offset = (refl, respelled-placed xs (offset + length (item_bytes x)))
 
@@ -71,7 +75,8 @@ respelled-joined (x ∷ xs) offset =
     ap (λ l. item_bytes x ++ l) (respelled-joined xs (offset + length (item_bytes x)))
 
 -- the items are those that were written
-pub respelled-items : (xs : List ItemType) (offset : ℕ) → items_of (canonical_entries offset xs) ≡ xs
+pub respelled-items : (xs : List ItemType) (offset : ℕ)
+    → items_of (canonical_entries offset xs) ≡ xs
 respelled-items [] offset = refl
 respelled-items (x ∷ xs) offset =
     ap (λ l. x ∷ l) (respelled-items xs (offset + length (item_bytes x)))
@@ -119,15 +124,18 @@ same-items (x ∷ xs) ys k l e =
     let b = itemise-items item_of (flat_map item_bytes ys) (canonical_entries 0 ys)
     (itemises-again ys l some_too) in
     let both : canonical_entries 0 (x ∷ xs) ≡ canonical_entries 0 ys =
-    ok-same (canonical_entries 0 (x ∷ xs)) (canonical_entries 0 ys) (sym a ∙ ap (itemise item_of) e ∙ b) in
+    ok-same (canonical_entries 0 (x ∷ xs)) (canonical_entries 0 ys)
+    (sym a ∙ ap (itemise item_of) e ∙ b) in
     sym (respelled-items (x ∷ xs) 0) ∙ ap items_of both ∙ respelled-items ys 0
 
 -- two descriptors are written alike where they keep the same items
 pub rebuilt-alike : (bytes other : List ℕ) (entries others : List Entry)
     → Itemises item_of bytes entries → Itemises item_of other others
-    → (rebuilt_bytes entries ≡ rebuilt_bytes others) ↔ (items_of (kept_entries entries) ≡ items_of (kept_entries others))
+    → (rebuilt_bytes entries ≡ rebuilt_bytes others)
+    ↔ (items_of (kept_entries entries) ≡ items_of (kept_entries others))
 rebuilt-alike bytes other entries others i j = (
-  same-items (items_of (kept_entries entries)) (items_of (kept_entries others)) (are_kept entries i.each)
+  same-items (items_of (kept_entries entries)) (items_of (kept_entries others))
+      (are_kept entries i.each)
       (are_kept others j.each),
   ap (flat_map item_bytes),
 )

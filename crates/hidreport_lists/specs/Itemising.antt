@@ -51,7 +51,8 @@ item_at read h bs =
 
 -- The bytes before the offset are items, or none; no beginning of the rest, which isn't empty, is
 -- one, and this is why.
-pub record IsFaultAt (read : Reader) (bytes : List ℕ) (offset : ℕ) (fault : GrammarFault) : Type 0 where
+pub record IsFaultAt (read : Reader) (bytes : List ℕ) (offset : ℕ)
+    (fault : GrammarFault) : Type 0 where
   pub entries : List Entry
   pub header : ℕ
   pub after : List ℕ
@@ -73,7 +74,8 @@ IsGrammarFault read bytes errors.OutOfMemory = Unit {0}
 IsGrammarFault read bytes (errors.BudgetExceeded offset) = ⊥
 
 -- an item before others, unless it or they can't be read
-abbrev pub with_entry : ℕ → List ℕ → Result ItemType GrammarFault → Result (List Entry) (ℕ × GrammarFault)
+abbrev pub with_entry : ℕ → List ℕ → Result ItemType GrammarFault
+    → Result (List Entry) (ℕ × GrammarFault)
     → Result (List Entry) (ℕ × GrammarFault)
 with_entry offset bytes (Err fault) rest = Err (offset, fault)
 with_entry offset bytes (Ok x) (Err fault) = Err fault
@@ -103,7 +105,8 @@ as_refusal (Err fault) = Err (InvalidAt fault.0 (grammar_message fault.1))
 abbrev pub front_item : Reader → List ℕ → Result Spelled GrammarFault
 front_item read [] = Err Insufficient
 front_item read (h ∷ bs) =
-    read_as (λ x. record { bytes = h ∷ take (following_length h bs) bs; item = x }) (item_at read h bs)
+    read_as (λ x. record { bytes = h ∷ take (following_length h bs) bs; item = x })
+    (item_at read h bs)
 
 -- the same, of a short item alone (Section 6.2.2.2)
 abbrev pub short_item : Reader → List ℕ → Result Spelled GrammarFault

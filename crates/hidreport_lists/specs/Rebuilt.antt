@@ -29,7 +29,8 @@ abbrev pub rebuilt_bytes : List Entry → List ℕ
 rebuilt_bytes entries = flat_map item_bytes (items_of (kept_entries entries))
 
 -- the same, or the fault of bytes that are no items
-abbrev pub rebuild_answer : Result (List Entry) (ℕ × GrammarFault) → Result (List ℕ) (ℕ × GrammarFault)
+abbrev pub rebuild_answer : Result (List Entry) (ℕ × GrammarFault)
+    → Result (List ℕ) (ℕ × GrammarFault)
 rebuild_answer (Ok entries) = Ok (rebuilt_bytes entries)
 rebuild_answer (Err fault) = Err fault
 

@@ -11,7 +11,8 @@ use Rattle.hidreport_lists.specs.Itemising.{Reader, all_bytes, AreInPlace}
 abbrev pub ReadsShort : Reader → List ℕ → ItemType → Type 0
 ReadsShort read [] x = ⊥
 ReadsShort read (h ∷ bs) x =
-    AreBytes (h ∷ bs) × (is_long_header h ≡ false) × (length bs ≡ data_length h) × (read h bs ≡ Ok x)
+    AreBytes (h ∷ bs) × (is_long_header h ≡ false) × (length bs ≡ data_length h)
+    × (read h bs ≡ Ok x)
 
 -- each item's bytes spell it so
 abbrev pub AreReadShort : Reader → List Entry → Type 0

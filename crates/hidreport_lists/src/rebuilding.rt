@@ -28,7 +28,8 @@ pub fn rebuild(alloc: Global, bytes: &[u8]) -> Result<Vec<u8>, ParserError>
     ensures exact { AnswersBy (λ written. written.items) result
         (as_refusal (rebuild_answer (itemise item_of bytes.now))) }
     ensures canonical { (entries : List Entry) → Itemises item_of bytes.now entries
-        → IfOk result (λ bytes. (all_bytes (canonical_entries 0 (items_of (kept_entries entries))) ≡ bytes.items)
+        → IfOk result (λ bytes. (all_bytes (canonical_entries 0 (items_of (kept_entries entries)))
+        ≡ bytes.items)
         × AreCanonical (canonical_entries 0 (items_of (kept_entries entries)))) }
     ensures again { (entries : List Entry) → Itemises item_of bytes.now entries
         → IfOk result (λ bytes. bytes.items ≢ []
@@ -37,7 +38,8 @@ pub fn rebuild(alloc: Global, bytes: &[u8]) -> Result<Vec<u8>, ParserError>
         → rebuild_answer (itemise item_of bytes.items) ≡ Ok bytes.items) }
     ensures alike { (other : List ℕ) (entries others : List Entry)
         → Itemises item_of bytes.now entries → Itemises item_of other others
-        → (rebuilt_bytes entries ≡ rebuilt_bytes others) ↔ (items_of (kept_entries entries) ≡ items_of (kept_entries others)) }
+        → (rebuilt_bytes entries ≡ rebuilt_bytes others)
+        ↔ (items_of (kept_entries entries) ≡ items_of (kept_entries others)) }
 {
     let items = ReportDescriptorItems::try_from(alloc, bytes)?;
     Ok(rebuilt(alloc, bytes.len(), items.as_slice())?)

@@ -17,7 +17,8 @@ type Run = (
     &'static [u8],
 );
 
-pub(crate) const TWO_AXES: &[u8] = b"\x05\x01\x15\x81\x25\x7f\x75\x08\x95\x02\x09\x30\x09\x31\x81\x02";
+pub(crate) const TWO_AXES: &[u8] =
+    b"\x05\x01\x15\x81\x25\x7f\x75\x08\x95\x02\x09\x30\x09\x31\x81\x02";
 
 pub(crate) const TWO_AXES_TEXT: &[u8] =
     b"report -- 16\n0..8 variable 00010030 5\n8..16 variable 00010031 -5\n";

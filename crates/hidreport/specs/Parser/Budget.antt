@@ -16,7 +16,8 @@ use Rattle.hidreport.specs.Kinds.{Direction, collection_of, data_of}
 use Rattle.hidreport.specs.Making.{extent}
 use Rattle.hidreport.specs.Meaning.{at_offset, empty_descriptor}
 use Rattle.hidreport.specs.MeaningFault.{MeaningFault, PastBudget}
-use Rattle.hidreport.specs.Parser.Machine.{StateRecord, fault_in, go_on, next_state, first_state, start_in}
+use Rattle.hidreport.specs.Parser.Machine.{StateRecord, fault_in, go_on, next_state, first_state}
+use Rattle.hidreport.specs.Parser.Machine.{start_in}
 use Rattle.hidreport.specs.Parser.Machine.{unless_fault}
 use Rattle.hidreport.specs.Records.{DescriptorRecord}
 use Rattle.hidreport.specs.Usages.{usages_of}

@@ -32,7 +32,8 @@ with_change change (c ∷ cs) = change ∷ c ∷ cs
 abbrev pub undone_stack : PushKeeps → List ChangeRecord → Globals → List LocalItem → List ItemState
 undone_stack keeping [] globals locals = []
 undone_stack keeping (Opened count ∷ cs) globals locals =
-    pushed_copy keeping (item_state_of globals (take count locals)) ∷ undone_stack keeping cs globals
+    pushed_copy keeping (item_state_of globals (take count locals))
+    ∷ undone_stack keeping cs globals
     (take count locals)
 undone_stack keeping (WasGlobals old ∷ cs) globals locals = undone_stack keeping cs old locals
 undone_stack keeping (WasLocals old ∷ cs) globals locals = undone_stack keeping cs globals old

@@ -172,7 +172,8 @@ after_pop push_keeps.Globals now stack = record stack { locals = now.locals }
 -- what is in force behind the item
 abbrev pub item_state_behind : StateRecord → ItemType → ItemState
 item_state_behind h x =
-    if is_pop x then after_pop h.keeping h.item_state (last_item_state h.item_state h.stack) else next_item_state
+    if is_pop x then after_pop h.keeping h.item_state (last_item_state h.item_state h.stack)
+    else next_item_state
     h.item_state x
 
 -- what the open Pushes keep behind the item

@@ -33,10 +33,12 @@ impl Model for ItemStateTable {
 }
 
 impl ItemStateTable {
-    ghost use Rattle.std.specs.Prelude.{◌≡◌, ◌-◌, ◌<◌, [], ◌∷◌, ◌++◌, true, false, length, take, OnOk};
+    ghost use Rattle.std.specs.Prelude.{◌≡◌, ◌-◌, ◌<◌, [], ◌∷◌, ◌++◌, true, false, length, take};
+    ghost use Rattle.std.specs.Prelude.{OnOk};
     ghost use Rattle.hidreport_items.specs.declared.item.ItemType.TheVariants as items;
     ghost use Rattle.hidreport.specs.Parser.ItemStates.{item_state_of};
-    ghost use Rattle.hidreport.specs.Parser.Machine.{after_pop, pushed_copy, last_item_state, next_item_state, no_item_state};
+    ghost use Rattle.hidreport.specs.Parser.Machine.{after_pop, pushed_copy, last_item_state};
+    ghost use Rattle.hidreport.specs.Parser.Machine.{next_item_state, no_item_state};
 
     /// Before the first item.
     pub(crate) fn new(alloc: Global, keeping: PushKeeps) -> ItemStateTable

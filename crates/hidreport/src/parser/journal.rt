@@ -34,8 +34,10 @@ impl Model for Journal {
 }
 
 impl Journal {
-    ghost use Rattle.std.specs.Prelude.{◌≡◌, [], ◌∷◌, Some, None, true, false, IfSome, OnErr, OnOk, IsNone};
-    ghost use Rattle.hidreport.specs.Parser.Journal.{change_of, with_change, Opened, WasGlobals, WasLocals};
+    ghost use Rattle.std.specs.Prelude.{◌≡◌, [], ◌∷◌, Some, None, true, false, IfSome, OnErr, OnOk};
+    ghost use Rattle.std.specs.Prelude.{IsNone};
+    ghost use Rattle.hidreport.specs.Parser.Journal.{change_of, with_change, Opened, WasGlobals};
+    ghost use Rattle.hidreport.specs.Parser.Journal.{WasLocals};
 
     /// No Push is open.
     pub(crate) fn new(alloc: Global) -> Journal

@@ -87,7 +87,11 @@ impl State {
 }
 
 /// The usages of a data item, of which it needs some unless it is constant.
-fn needed_usages(alloc: Global, item: &DataItem, item_states: &ItemStateTable) -> Result<Usages, Fault>
+fn needed_usages(
+    alloc: Global,
+    item: &DataItem,
+    item_states: &ItemStateTable,
+) -> Result<Usages, Fault>
     ensures faultless { OnOk result (usages_fault (item_flags item.now) item_states.now.now ≡ None) }
     ensures usages { IfOk result (HasUsages (item_flags item.now) item_states.now.now) }
     ensures err { IfErr result (λ e.

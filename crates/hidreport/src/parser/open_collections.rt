@@ -38,7 +38,8 @@ impl Model for OpenCollections {
 
 impl OpenCollections {
     ghost use Rattle.std.specs.Arc.{arc_slice_items};
-    ghost use Rattle.std.specs.Prelude.{◌≡◌, ◌<◌, ◌+◌, ◌-◌, ◌^◌, ◌≤◌, true, false, [], ◌∷◌, ◌++◌, length, sum_by, take, IfOk, IfSome, OnOk};
+    ghost use Rattle.std.specs.Prelude.{◌≡◌, ◌<◌, ◌+◌, ◌-◌, ◌^◌, ◌≤◌, true, false, [], ◌∷◌, ◌++◌};
+    ghost use Rattle.std.specs.Prelude.{length, sum_by, take, IfOk, IfSome, OnOk};
     ghost use Rattle.hidreport.specs.Parser.Layout.{shared_list};
     ghost use Rattle.hidreport.specs.Parser.Usages.{usage_list};
     ghost use Rattle.hidreport.specs.Weight.{collection_weight};

@@ -26,7 +26,8 @@ impl Model for ReportLists {
 impl ReportLists {
     ghost use Rattle.std.specs.Prelude.{◌≡◌, ◌+◌, ◌<◌, ◌^◌, [], OnOk};
     ghost use Rattle.hidreport.specs.Parser.Layout.{IsPossible, laid_out};
-    ghost use Rattle.hidreport.specs.Parser.Machine.{added_to, index_in, reports_in, size_in, with_reports};
+    ghost use Rattle.hidreport.specs.Parser.Machine.{added_to, index_in, reports_in, size_in};
+    ghost use Rattle.hidreport.specs.Parser.Machine.{with_reports};
     ghost use Rattle.hidreport.specs.Parser.Usages.{usage_list};
     ghost use Rattle.hidreport.specs.Views.{direction_of};
 

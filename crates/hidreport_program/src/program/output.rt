@@ -49,12 +49,22 @@ pub fn text_of(
         Command::ValuesWithin(limit) => {
             let limit = Some(limit);
             let push_keeps = PushKeeps::All;
-            values(alloc, ParseOptions { push_keeps, limit }, descriptor, report)
+            values(
+                alloc,
+                ParseOptions { push_keeps, limit },
+                descriptor,
+                report,
+            )
         }
         Command::ValuesGlobals => {
             let limit = None;
             let push_keeps = PushKeeps::Globals;
-            values(alloc, ParseOptions { push_keeps, limit }, descriptor, report)
+            values(
+                alloc,
+                ParseOptions { push_keeps, limit },
+                descriptor,
+                report,
+            )
         }
         Command::Rebuild => rebuilt(alloc, descriptor),
     }

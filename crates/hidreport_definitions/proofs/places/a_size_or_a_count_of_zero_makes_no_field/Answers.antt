@@ -1,5 +1,6 @@
 use Rattle.std.proofs.Common.{refl}
-use Rattle.hidreport_definitions.proofs.places.a_size_or_a_count_of_zero_makes_no_field.Goals as goal
+use Rattle.hidreport_definitions.proofs.places.a_size_or_a_count_of_zero_makes_no_field.Goals as
+    goal
 
 pub returns : goal.returns
 returns c = record {

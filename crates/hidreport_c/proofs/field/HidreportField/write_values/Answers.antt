@@ -77,4 +77,5 @@ returns-clause-written c =
     c.loop-index.index (rw (count, sym c.min-index-end.ensures) c.loop-index-test.false) in
     c.loop-index.invariant.2
     ∙ written-whole (map value_number all) c.args.values.now c.loop-index.index past
-    ∙ ap (λ r. array_after (list_or_nothing (value_numbers r)) c.args.values.now) (sym c.loop-index.invariant.1)
+    ∙ ap (λ r. array_after (list_or_nothing (value_numbers r)) c.args.values.now)
+    (sym c.loop-index.invariant.1)

@@ -35,7 +35,8 @@ returns-then-has_locals-2-clause-back c = λ _.
     let stack = undone_stack s.keeping s.journal s.globals s.locals.items in
     let old = ap (λ (r : PushKeeps). item_states r now (reverse stack)) same ∙ c.self.view_is in
     let cut = c.truncate.ensures.items in
-    popped c.args.self.now l.keeping now (item_state_of l.globals c.truncate.new.self.items) l.journal
+    popped c.args.self.now l.keeping now
+    (item_state_of l.globals c.truncate.new.self.items) l.journal
     rest l.globals l.locals.items c.truncate.new.self.items c.in-Push.locals stack
     old newest c.loop-entry.invariant.0
     (ap (λ (ls : List LocalItem). item_state_of l.globals ls) cut
