@@ -4,7 +4,7 @@ use Rattle.std.proofs.Common.{[], ◌∷◌, ◌++◌, length, take, filter, ref
 use Rattle.hidreport_items.specs.declared.item.ItemType.{ItemType}
 use Rattle.hidreport.specs.Kinds.{Indexed}
 use Rattle.hidreport.specs.Visibility.{before}
-use Rattle.hidreport.proofs.Walk.{before-front, AreBelow, enumerated-below}
+use Rattle.hidreport.proofs.ItemStateLemmas.{before-front, AreBelow, enumerated-below}
 
 -- the numbers from a on, so many
 abbrev pub count_up : ℕ → ℕ → List ℕ

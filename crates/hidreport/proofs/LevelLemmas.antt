@@ -15,7 +15,8 @@ use Rattle.hidreport.proofs.DataLemmas.{last_item_state-end}
 use Rattle.hidreport.proofs.IndexedLemmas.{count_up, length-count_up, count_up-next, take-count_up}
 use Rattle.hidreport.proofs.IndexedLemmas.{filter-both, filter-same-below, and_last, and_true}
 use Rattle.hidreport.proofs.IndexedLemmas.{subst-below}
-use Rattle.hidreport.proofs.Walk.{before-next, count-next, item_states, item_states-next, AreBelow}
+use Rattle.hidreport.proofs.ItemStateLemmas.{before-next, count-next, item_states, item_states-next}
+use Rattle.hidreport.proofs.ItemStateLemmas.{AreBelow}
 
 -- whether an item is visible one place further
 is_visible-next : (items : List ItemType) (j k : ℕ) → j < k

@@ -9,7 +9,7 @@ use Rattle.hidreport_items.specs.declared.item.ItemType.{ItemType}
 use Rattle.hidreport.specs.Kinds.{Indexed, is_collection, is_end_collection}
 use Rattle.hidreport.specs.OpenCollections.{depth, is_open, stays_deep, open_at}
 use Rattle.hidreport.specs.Visibility.{before}
-use Rattle.hidreport.proofs.Walk.{before-next, count-next, AreBelow}
+use Rattle.hidreport.proofs.ItemStateLemmas.{before-next, count-next, AreBelow}
 use Rattle.hidreport.proofs.IndexedLemmas.{count_up, length-count_up, count_up-next, take-count_up}
 use Rattle.hidreport.proofs.IndexedLemmas.{take-nil, take-all, filter-both, filter-same-below}
 use Rattle.hidreport.proofs.IndexedLemmas.{and_last, and_true, and_assoc, subst-below}

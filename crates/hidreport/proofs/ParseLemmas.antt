@@ -25,8 +25,8 @@ use Rattle.hidreport.specs.Parser.Refusals.{IsFaultOf, IsRefusal, fault_named}
 use Rattle.hidreport.specs.declared.parser.fault.Fault.{Fault}
 use Rattle.hidreport.specs.declared.parser.push_keeps.PushKeeps.{PushKeeps}
 use Rattle.hidreport.specs.Options.{parse_limited, reading_of}
-use Rattle.hidreport.proofs.Readings.{walk-meaning}
-use Rattle.hidreport.proofs.BudgetWalk.{walk-unlimited, walk-within}
+use Rattle.hidreport.proofs.ReadingLemmas.{walk-meaning}
+use Rattle.hidreport.proofs.BudgetWalkLemmas.{walk-unlimited, walk-within}
 
 -- the items of the entries
 abbrev pub items_of : List Entry → List ItemType

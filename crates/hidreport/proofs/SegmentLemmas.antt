@@ -28,10 +28,10 @@ use Rattle.hidreport.specs.declared.parser.push_keeps.PushKeeps.{PushKeeps}
 use Rattle.hidreport.specs.declared.parser.push_keeps.PushKeeps.TheVariants as push_keeps
 use Rattle.hidreport.proofs.DataLemmas.{quiet, step-push, step-pop, last_item_state-end}
 use Rattle.hidreport.proofs.DataLemmas.{all-but-last}
-use Rattle.hidreport.proofs.Reports.{or_cases}
+use Rattle.hidreport.proofs.ReportLemmas.{or_cases}
 use Rattle.hidreport.specs.Laws.{Spares}
 use Rattle.hidreport.specs.Options.{reading_of}
-use Rattle.hidreport.proofs.Readings.{walk-meaning}
+use Rattle.hidreport.proofs.ReadingLemmas.{walk-meaning}
 
 abbrev pub Answer : Type 0
 Answer = Result DescriptorRecord (ℕ × MeaningFault)

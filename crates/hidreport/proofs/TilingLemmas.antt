@@ -16,14 +16,16 @@ use Rattle.hidreport.specs.Parser.Machine.{added_to, first_id, size_in}
 use Rattle.hidreport.specs.Places.{id_bits}
 use Rattle.hidreport.specs.Records.{Attributes, CollectionRecord, FieldPlace, FieldRecord}
 use Rattle.hidreport.specs.Records.{VariableRecord, ArrayRecord, ConstantRecord, ReportRecord}
-use Rattle.hidreport.specs.Tiling.{Each, place_of, collections_of, Covers, HasNoRest, HasRange}
-use Rattle.hidreport.specs.Tiling.{IsRangeOf, HaveOwnIds, fields_in_all, IsOf}
+use Rattle.hidreport.specs.Tiling.{Each, Covers, HasNoRest, HasRange}
+use Rattle.hidreport.specs.Records.{place_of, collections_of}
+use Rattle.hidreport.specs.Tiling.{IsRangeOf, HaveOwnIds, IsOf}
+use Rattle.hidreport.specs.Records.{fields_in_all}
 use Rattle.hidreport.specs.Usages.{UsageList, as_single, last_local, maximum_of, minimum_of}
 use Rattle.hidreport.specs.Usages.{range_usages, single_usages, usages_by, usages_of}
 use Rattle.hidreport.specs.declared.field.usage.Usage.{Usage}
 use Rattle.hidreport.specs.MeaningFault.{MeaningFault}
-use Rattle.hidreport.proofs.OwnCollections.{AreOpened}
-use Rattle.hidreport.proofs.Reports.{same_key-equal}
+use Rattle.hidreport.proofs.OwnCollectionsLemmas.{AreOpened}
+use Rattle.hidreport.proofs.ReportLemmas.{same_key-equal}
 
 -- lists
 

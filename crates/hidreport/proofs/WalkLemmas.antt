@@ -41,11 +41,11 @@ use Rattle.hidreport.specs.Records.{CollectionRecord, FieldRecord, ReportRecord,
 use Rattle.hidreport.specs.Usages.{usages_of}
 use Rattle.hidreport.specs.Visibility.{before, level}
 use Rattle.hidreport.specs.declared.parser.push_keeps.PushKeeps.{PushKeeps}
-use Rattle.hidreport.proofs.Walk.{before-next, count-next, first_of-none}
+use Rattle.hidreport.proofs.ItemStateLemmas.{before-next, count-next, first_of-none}
 use Rattle.hidreport.proofs.LevelLemmas.{Rests, rests-nothing}
 use Rattle.hidreport.proofs.OpenLemmas.{Stands, stands-nothing, open-length, plain-next}
 use Rattle.hidreport.proofs.OpenLemmas.{opened-next, closed-next}
-use Rattle.hidreport.proofs.Reports.{reports-next, size-in_reports}
+use Rattle.hidreport.proofs.ReportLemmas.{reports-next, size-in_reports}
 
 -- the reports of a direction that the items before k make
 abbrev pub reports_before : (ℕ → ItemState) → Direction → List ItemType → ℕ → List ReportRecord

@@ -3,7 +3,7 @@ use Rattle.std.specs.Prelude.{◌≡◌, ◌↔◌, ℕ, ◌+◌, ◌-◌, ◌*�
 use Rattle.hidreport.specs.BitValue.{bit}
 use Rattle.hidreport.specs.Reading.{ValueRecord, element_width, reads}
 use Rattle.hidreport.specs.Records.{FieldRecord, VariableRecord, ArrayRecord, ConstantRecord}
-use Rattle.hidreport.specs.Tiling.{place_of}
+use Rattle.hidreport.specs.Records.{place_of}
 
 -- how many bits from its first one on a field's elements have
 abbrev pub covered_bits : FieldRecord → ℕ

@@ -6,7 +6,7 @@ use Rattle.std.specs.Prelude.{Result, Ok, Err, int_lt, pos}
 use Rattle.hidreport_lists.specs.Answer.{Refusal, Bounds, Mismatch}
 use Rattle.hidreport.specs.BitValue.{value, as_word}
 use Rattle.hidreport.specs.Records.{Attributes, FieldRecord, VariableRecord, ArrayRecord}
-use Rattle.hidreport.specs.Records.{ConstantRecord}
+use Rattle.hidreport.specs.Records.{ConstantRecord, element_count, own_id}
 
 -- a value as 32 bits, and whether it is signed
 pub record ValueRecord : Type 0 where
@@ -56,12 +56,6 @@ elements_from first end count is_signed bytes index (suc more) =
 abbrev pub is_signed : Attributes → Bool
 is_signed shared = int_lt shared.logical_minimum (pos 0)
 
--- a field's own report id; padding is of every report
-abbrev pub own_id : FieldRecord → Option ℕ
-own_id (VariableRecord place usage shared) = place.report_id
-own_id (ArrayRecord place usages is_range count shared) = place.report_id
-own_id (ConstantRecord place) = None
-
 abbrev pub one_value : Result ValueRecord Refusal → Result (List ValueRecord) Refusal
 one_value (Ok x) = Ok (x ∷ [])
 one_value (Err refusal) = Err refusal
@@ -78,12 +72,6 @@ values_of (ConstantRecord place) bytes = Ok []
 -- the values that a report's bytes give a field, or the first refusal
 abbrev pub reads : FieldRecord → List ℕ → Result (List ValueRecord) Refusal
 reads field bytes = with_id (own_id field) bytes (values_of field bytes)
-
--- how many elements a field has; only an array has some
-abbrev pub element_count : FieldRecord → ℕ
-element_count (VariableRecord place usage shared) = 0
-element_count (ArrayRecord place usages is_range count shared) = count
-element_count (ConstantRecord place) = 0
 
 -- an element of an array, whatever the report's id
 abbrev pub element_of : FieldRecord → List ℕ → ℕ → Result ValueRecord Refusal

@@ -1,5 +1,5 @@
 -- Reports, fields and collections as plain data (Sections 5.6, 6.2.2.4 to 6.2.2.8).
-use Rattle.std.specs.Prelude.{ℕ, ℤ, Bool, false, List, [], ◌∷◌, Option}
+use Rattle.std.specs.Prelude.{ℕ, ℤ, Bool, false, List, [], ◌∷◌, ◌++◌, flat_map, Option, None}
 use Rattle.hidreport_items.specs.declared.main_item.CollectionItem.{CollectionItem}
 use Rattle.hidreport.specs.declared.field.usage.Usage.{Usage}
 
@@ -53,6 +53,30 @@ is_of_range (VariableRecord place usage shared) = false
 is_of_range (ArrayRecord place usages is_range count shared) = is_range
 is_of_range (ConstantRecord place) = false
 
+-- its place
+abbrev pub place_of : FieldRecord → FieldPlace
+place_of (VariableRecord place usage shared) = place
+place_of (ArrayRecord place usages is_range count shared) = place
+place_of (ConstantRecord place) = place
+
+-- the collections that a field lies in; padding carries none
+abbrev pub collections_of : FieldRecord → List CollectionRecord
+collections_of (VariableRecord place usage shared) = shared.collections
+collections_of (ArrayRecord place usages is_range count shared) = shared.collections
+collections_of (ConstantRecord place) = []
+
+-- a field's own report id; padding is of every report
+abbrev pub own_id : FieldRecord → Option ℕ
+own_id (VariableRecord place usage shared) = place.report_id
+own_id (ArrayRecord place usages is_range count shared) = place.report_id
+own_id (ConstantRecord place) = None
+
+-- how many elements a field has; only an array has some
+abbrev pub element_count : FieldRecord → ℕ
+element_count (VariableRecord place usage shared) = 0
+element_count (ArrayRecord place usages is_range count shared) = count
+element_count (ConstantRecord place) = 0
+
 -- a report: its id, where it has one, its size in bits and its fields in order
 pub record ReportRecord : Type 0 where
   pub id : Option ℕ
@@ -64,3 +88,11 @@ pub record DescriptorRecord : Type 0 where
   pub input : List ReportRecord
   pub output : List ReportRecord
   pub feature : List ReportRecord
+
+-- all fields of these reports
+abbrev pub fields_in_all : List ReportRecord → List FieldRecord
+fields_in_all reports = flat_map (λ r. r.fields) reports
+
+-- the reports of all directions
+abbrev pub reports_in_all : DescriptorRecord → List ReportRecord
+reports_in_all d = d.input ++ (d.output ++ d.feature)

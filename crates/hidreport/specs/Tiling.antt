@@ -1,12 +1,13 @@
 -- How fields fill their reports (Sections 5.6 and 6.2.2.4), and what has a number of its own.
 use Rattle.std.specs.Prelude.{◌≡◌, ◌≢◌, ◌⊎◌, true, false, ℕ, suc, ◌+◌, ◌*◌, ◌<◌, ◌≤◌, ◌==◌, List}
-use Rattle.std.specs.Prelude.{[], ◌∷◌, ◌++◌, flat_map, count_by, drop, take, slice_get, Option}
+use Rattle.std.specs.Prelude.{[], ◌∷◌, count_by, drop, take, slice_get, Option}
 use Rattle.std.specs.Prelude.{None, Some}
 use Rattle.hidreport.specs.Making.{same_key}
 use Rattle.hidreport.specs.Places.{id_bits}
-use Rattle.hidreport.specs.Reading.{element_width, own_id}
-use Rattle.hidreport.specs.Records.{CollectionRecord, FieldPlace, FieldRecord, VariableRecord}
-use Rattle.hidreport.specs.Records.{ArrayRecord, ConstantRecord, ReportRecord, DescriptorRecord}
+use Rattle.hidreport.specs.Reading.{element_width}
+use Rattle.hidreport.specs.Records.{CollectionRecord, FieldRecord, VariableRecord, ArrayRecord}
+use Rattle.hidreport.specs.Records.{ConstantRecord, ReportRecord, DescriptorRecord}
+use Rattle.hidreport.specs.Records.{collections_of, fields_in_all, own_id, place_of, reports_in_all}
 use Rattle.hidreport.specs.Usages.{range_from}
 use Rattle.hidreport.specs.declared.field.usage.Usage.{Usage}
 
@@ -14,17 +15,6 @@ use Rattle.hidreport.specs.declared.field.usage.Usage.{Usage}
 abbrev pub Each : {A : Type 0} → (A → Type 0) → List A → Type 0
 Each P [] = Unit {0}
 Each P (x ∷ xs) = P x × Each P xs
-
-abbrev pub place_of : FieldRecord → FieldPlace
-place_of (VariableRecord place usage shared) = place
-place_of (ArrayRecord place usages is_range count shared) = place
-place_of (ConstantRecord place) = place
-
--- the collections that a field lies in; padding carries none
-abbrev pub collections_of : FieldRecord → List CollectionRecord
-collections_of (VariableRecord place usage shared) = shared.collections
-collections_of (ArrayRecord place usages is_range count shared) = shared.collections
-collections_of (ConstantRecord place) = []
 
 -- the first field begins at a bit, each other where the one before ends, and the last ends at
 -- another; none is empty
@@ -71,13 +61,6 @@ pub record IsFilled (report : ReportRecord) : Type 0 where
 pub record HaveOwnIds (reports : List ReportRecord) : Type 0 where
   pub once : (id : Option ℕ) → count_by (λ r. same_key r.id id) reports ≤ 1
   pub first : Each (λ (r : ReportRecord). r.id ≢ None) (drop 1 reports)
-
--- all fields of these reports
-abbrev pub fields_in_all : List ReportRecord → List FieldRecord
-fields_in_all reports = flat_map (λ r. r.fields) reports
-
-abbrev pub reports_in_all : DescriptorRecord → List ReportRecord
-reports_in_all d = d.input ++ (d.output ++ d.feature)
 
 -- at most one field has a number
 abbrev pub HaveOwnNumbers : List FieldRecord → Type 0

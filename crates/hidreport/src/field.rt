@@ -1,6 +1,6 @@
 //! What a field of a report is.
 ghost use Rattle.std.specs.Prelude.{◌≡◌, IfOk};
-ghost use Rattle.hidreport.specs.Reading.{own_id};
+ghost use Rattle.hidreport.specs.Records.{own_id};
 ghost use Rattle.hidreport.specs.Views.{field_bits, field_collections, field_id, field_record};
 
 pub(crate) mod array_field;

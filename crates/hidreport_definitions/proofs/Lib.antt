@@ -1,1 +1,1 @@
-pub mod Relations
+pub mod RelationLemmas

@@ -30,14 +30,18 @@ use Rattle.hidreport_items.specs.declared.local.LocalItem.{LocalItem}
 use Rattle.hidreport_items.specs.declared.local.LocalItem.TheVariants as local
 use Rattle.hidreport_items.specs.declared.item.ItemType.{ItemType}
 use Rattle.hidreport_items.specs.declared.item.ItemType.TheVariants as item
-use Rattle.hidreport_items.proofs.Words.{IsLeast, announced-four, by-shape, bytes-behind, word-four}
-use Rattle.hidreport_items.proofs.Words.{word-unsigned, length-unsigned, unsigned-least}
-use Rattle.hidreport_items.proofs.Words.{signed-least, signed-again, signed-fits-any, word-fits}
-use Rattle.hidreport_items.proofs.Words.{unsigned-two, are-one, are-four, are-unsigned, are-signed}
-use Rattle.hidreport_items.proofs.Words.{HasShape, shape-signed, fits}
-use Rattle.hidreport_items.proofs.Following.{kept-short, small-short}
-use Rattle.hidreport_items.proofs.FlagWords.{flags-again, flags-least, number-le, number-without}
-use Rattle.hidreport_items.proofs.FlagWords.{word-flags, length-flags, are-flags}
+use Rattle.hidreport_items.proofs.WordLemmas.{IsLeast, announced-four, by-shape, bytes-behind}
+use Rattle.hidreport_items.proofs.WordLemmas.{word-four}
+use Rattle.hidreport_items.proofs.WordLemmas.{word-unsigned, length-unsigned, unsigned-least}
+use Rattle.hidreport_items.proofs.WordLemmas.{signed-least, signed-again, signed-fits-any}
+use Rattle.hidreport_items.proofs.WordLemmas.{word-fits}
+use Rattle.hidreport_items.proofs.WordLemmas.{unsigned-two, are-one, are-four, are-unsigned}
+use Rattle.hidreport_items.proofs.WordLemmas.{are-signed}
+use Rattle.hidreport_items.proofs.WordLemmas.{HasShape, shape-signed, fits}
+use Rattle.hidreport_items.proofs.FollowingLemmas.{kept-short, small-short}
+use Rattle.hidreport_items.proofs.FlagWordLemmas.{flags-again, flags-least, number-le}
+use Rattle.hidreport_items.proofs.FlagWordLemmas.{number-without}
+use Rattle.hidreport_items.proofs.FlagWordLemmas.{word-flags, length-flags, are-flags}
 
 -- what data says of the item that it spells
 abbrev pub SaysGlobal : List ℕ → GlobalItem → Type 0

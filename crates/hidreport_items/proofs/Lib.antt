@@ -1,7 +1,7 @@
-pub mod Reading
-pub mod Texts
-pub mod Words
-pub mod Following
-pub mod FlagWords
+pub mod ReadingLemmas
+pub mod TextLemmas
+pub mod WordLemmas
+pub mod FollowingLemmas
+pub mod FlagWordLemmas
 pub mod CanonicalLemmas
-pub mod Written
+pub mod WrittenLemmas

@@ -1,3 +1,3 @@
-pub mod Texts
-pub mod Words
-pub mod SomeText
+pub mod TextLemmas
+pub mod WordLemmas
+pub mod SomeTextLemmas

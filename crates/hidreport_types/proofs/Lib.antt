@@ -1,2 +1,2 @@
-pub mod Nibbles
-pub mod UnitLaw
+pub mod NibbleLemmas
+pub mod UnitLemmas

@@ -208,7 +208,7 @@ impl Unit {
     }
 
     /// A nibble, counted from the lowest.
-    #[tactic(auto, using(crate::proofs::Nibbles::shifted_nibble))]
+    #[tactic(auto, using(crate::proofs::NibbleLemmas::shifted_nibble))]
     fn nibble(&self, place: u32) -> u8
         requires { place < 8 }
         ensures value { result ≡ nibble self.now place }

@@ -11,7 +11,7 @@ use std::fmt::Write;
 #[derive(Clone, Copy)]
 pub struct TwoDigits(pub u8);
 
-#[tactic(auto, using(crate::proofs::Texts::padded_with_zeros))]
+#[tactic(auto, using(crate::proofs::TextLemmas::padded_with_zeros))]
 impl fmt::Display for TwoDigits {
     ghost output = { λ number. Some (hex_digits 2 number.0) };
 
@@ -25,7 +25,7 @@ impl fmt::Display for TwoDigits {
 #[derive(Clone, Copy)]
 pub struct EightDigits(pub u32);
 
-#[tactic(auto, using(crate::proofs::Texts::padded_with_zeros))]
+#[tactic(auto, using(crate::proofs::TextLemmas::padded_with_zeros))]
 impl fmt::Display for EightDigits {
     ghost output = { λ number. Some (hex_digits 8 number.0) };
 

@@ -1,4 +1,4 @@
-use Rattle.hidreport_definitions.proofs.Relations.{open-is, open-from}
+use Rattle.hidreport_definitions.proofs.RelationLemmas.{open-is, open-from}
 use Rattle.hidreport_definitions.proofs.laws.open_collections_are_computed.Goals as goal
 
 pub returns : goal.returns

@@ -1,4 +1,4 @@
-use Rattle.hidreport_definitions.proofs.Relations.{visible-is, visible-from}
+use Rattle.hidreport_definitions.proofs.RelationLemmas.{visible-is, visible-from}
 use Rattle.hidreport_definitions.proofs.laws.visibility_is_computed.Goals as goal
 
 pub returns : goal.returns

@@ -1,7 +1,7 @@
 use Rattle.std.proofs.Common.{◌≡◌, List, [], ◌∷◌, ap, arith, refl}
 use Rattle.hidreport.specs.CollectionItem.TheVariants as kind
 use Rattle.hidreport.specs.Records.{CollectionRecord, ConstantRecord}
-use Rattle.hidreport.proofs.OwnCollections.{own-collections}
+use Rattle.hidreport.proofs.OwnCollectionsLemmas.{own-collections}
 use Rattle.hidreport_definitions.specs.Summary.{place_at}
 use Rattle.hidreport_definitions.specs.Tiled.{field_in, logical, physical}
 use Rattle.hidreport_definitions.proofs.tiling.a_collection_has_a_number_of_its_own.Goals as goal

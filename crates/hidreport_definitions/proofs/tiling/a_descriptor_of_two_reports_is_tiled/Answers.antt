@@ -3,8 +3,8 @@ use Rattle.std.specs.Prelude.{◌==◌}
 use Rattle.std.proofs.lemmas.Bool.Decides.{nat_tests}
 use Rattle.std.proofs.lemmas.Grind.{common_steps}
 use Rattle.hidreport.specs.Making.{same_key}
-use Rattle.hidreport.specs.Tiling.{fields_in_all, place_of, reports_in_all}
-use Rattle.hidreport.proofs.OwnCollections.{own-collections}
+use Rattle.hidreport.specs.Records.{fields_in_all, place_of, reports_in_all}
+use Rattle.hidreport.proofs.OwnCollectionsLemmas.{own-collections}
 use Rattle.hidreport_definitions.specs.Tiled.{in_keyboard, two_reports}
 use Rattle.hidreport_definitions.proofs.tiling.a_descriptor_of_two_reports_is_tiled.Goals as goal
 

@@ -2,7 +2,7 @@ use Rattle.std.proofs.Common.{◌∙◌, ap, sym}
 use Rattle.std.proofs.lemmas.Result.{err_from_is_err_and}
 use Rattle.hidreport_items.specs.declared.item.ItemType.TheVariants as item
 use Rattle.hidreport_items.specs.Spelling.{read_as}
-use Rattle.hidreport_items.proofs.Reading.{item_of-main, item_of-global, item_of-local}
+use Rattle.hidreport_items.proofs.ReadingLemmas.{item_of-main, item_of-global, item_of-local}
 use Rattle.hidreport_items.proofs.item.read_item.Goals as goal
 
 pub returns-in_err-from_parts-in-0 : goal.returns-in_err-from_parts-in-0

@@ -1,7 +1,7 @@
 use Rattle.std.proofs.Common.{◌++◌, ◌∙◌, ap, codes, false}
 use Rattle.std.specs.Fmt.{digits}
 use Rattle.std.proofs.lemmas.Result.{IfOk-weaker}
-use Rattle.hidreport_items.proofs.Texts.{padded_to_six}
+use Rattle.hidreport_items.proofs.TextLemmas.{padded_to_six}
 use Rattle.hidreport_items.proofs.message.tag_text.Goals as goal
 
 pub returns : goal.returns

@@ -1,4 +1,4 @@
-use Rattle.hidreport_lists.proofs.Cuts.{items_or_fault, itemise-items, itemise-fault}
+use Rattle.hidreport_lists.proofs.CutLemmas.{items_or_fault, itemise-items, itemise-fault}
 use Rattle.hidreport_lists.proofs.laws.bytes_are_items_or_have_a_fault.Goals as goal
 
 pub returns : goal.returns

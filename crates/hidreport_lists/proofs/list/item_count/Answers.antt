@@ -1,6 +1,6 @@
 use Rattle.std.proofs.Common.{◌+◌, ◌∙◌, ap, arith, get_or}
 use Rattle.hidreport_items.specs.Spelling.{following_length}
-use Rattle.hidreport_lists.proofs.Headers.{behind, headers-step, headers-all}
+use Rattle.hidreport_lists.proofs.HeaderLemmas.{behind, headers-step, headers-all}
 use Rattle.hidreport_lists.proofs.list.item_count.Goals as goal
 
 pub loop-index-preserved : goal.loop-index-preserved

@@ -3,8 +3,9 @@ use Rattle.std.proofs.lemmas.Result.{err_from_is_err_and}
 use Rattle.hidreport_items.specs.Spelling.{item_of}
 use Rattle.hidreport_lists.specs.Itemising.{itemise}
 use Rattle.hidreport_lists.specs.Rebuilt.{rebuilt_bytes}
-use Rattle.hidreport_lists.proofs.Respelling.{rebuilt-alike, refuses-rebuilding, written-again}
-use Rattle.hidreport_lists.proofs.Respelling.{written-canonical, written-itself}
+use Rattle.hidreport_lists.proofs.RespellingLemmas.{rebuilt-alike, refuses-rebuilding}
+use Rattle.hidreport_lists.proofs.RespellingLemmas.{written-again}
+use Rattle.hidreport_lists.proofs.RespellingLemmas.{written-canonical, written-itself}
 use Rattle.hidreport_lists.proofs.rebuilding.rebuild.Goals as goal
 
 pub returns-in_err-items-clause-exact : goal.returns-in_err-items-clause-exact

@@ -1,6 +1,6 @@
 use Rattle.std.proofs.Common.{rules, arith, ◌<◌, length}
 use Rattle.std.proofs.lemmas.Grind.{common_steps}
-use Rattle.hidreport_transfer.proofs.Transfers.{left_more, written_more}
+use Rattle.hidreport_transfer.proofs.TransferLemmas.{left_more, written_more}
 use Rattle.hidreport_transfer.proofs.transfer.write_all.Goals as goal
 
 pub loop-rest-preserved : goal.loop-rest-preserved

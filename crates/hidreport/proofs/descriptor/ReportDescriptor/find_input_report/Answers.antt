@@ -1,7 +1,7 @@
 use Rattle.std.proofs.Common.{◌∙◌, IfSome, List, Option, ap, subst, sym}
 use Rattle.hidreport.specs.Lookup.{find_report}
 use Rattle.hidreport.specs.Records.{ReportRecord}
-use Rattle.hidreport.proofs.OwnReports.{AllOwn, input-own}
+use Rattle.hidreport.proofs.OwnReportsLemmas.{AllOwn, input-own}
 use Rattle.hidreport.proofs.descriptor.ReportDescriptor.find_input_report.Goals as goal
 
 pub returns-clause-own : goal.returns-clause-own

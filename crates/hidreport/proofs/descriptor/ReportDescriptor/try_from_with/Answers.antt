@@ -4,12 +4,12 @@ use Rattle.hidreport_lists.specs.Answer.{OverBudget, Refusal, Refuses}
 use Rattle.hidreport.specs.Meaning.{PushReading}
 use Rattle.hidreport.specs.Options.{parse_limited, reading_of}
 use Rattle.hidreport.specs.Records.{DescriptorRecord}
-use Rattle.hidreport.proofs.BudgetBounds.{limited-bounded, limited-plain}
-use Rattle.hidreport.proofs.KeptItems.{parse-kept, parse-rebuilt}
+use Rattle.hidreport.proofs.BudgetBoundLemmas.{limited-bounded, limited-plain}
+use Rattle.hidreport.proofs.KeptItemsLemmas.{parse-kept, parse-rebuilt}
 use Rattle.hidreport.proofs.ParseLemmas.{bytes-as}
 use Rattle.hidreport.proofs.RefusalLemmas.{never-mismatch, never-over, no-budget, no-mismatch}
 use Rattle.hidreport.proofs.SegmentLemmas.{parse-struck}
-use Rattle.hidreport.proofs.TilingWalk.{parse-tiled}
+use Rattle.hidreport.proofs.TilingWalkLemmas.{parse-tiled}
 use Rattle.hidreport.proofs.descriptor.ReportDescriptor.try_from_with.Goals as goal
 
 pub returns-in_err-reports-clause-exact : goal.returns-in_err-reports-clause-exact

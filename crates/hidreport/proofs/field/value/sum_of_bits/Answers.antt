@@ -1,6 +1,6 @@
 use Rattle.std.proofs.Common.{◌/◌, ◌%◌, ◌^◌, ◌∙◌, ap, arith}
 use Rattle.hidreport_items.specs.Spelling.{AreBytes}
-use Rattle.hidreport_lists.proofs.Cuts.{are_bytes}
+use Rattle.hidreport_lists.proofs.CutLemmas.{are_bytes}
 use Rattle.hidreport.proofs.WordLemmas.{masked, touched-bits}
 use Rattle.hidreport.proofs.field.value.sum_of_bits.Goals as goal
 

@@ -7,7 +7,7 @@ use Rattle.hidreport.specs.Places.{id_bits}
 use Rattle.hidreport.specs.Records.{FieldRecord, ReportRecord}
 use Rattle.hidreport.specs.Views.{field_record}
 use Rattle.hidreport.specs.declared.field.Field.{Field}
-use Rattle.hidreport.proofs.ReportList.{added_to-found, added_to-new, extended}
+use Rattle.hidreport.proofs.ReportListLemmas.{added_to-found, added_to-new, extended}
 use Rattle.hidreport.proofs.parser.slot.add_fields.Goals as goal
 
 pub overflow_add-report : goal.overflow_add-report

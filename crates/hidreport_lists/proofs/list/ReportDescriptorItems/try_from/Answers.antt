@@ -4,11 +4,12 @@ use Rattle.std.proofs.lemmas.Grind.{common_steps}
 use Rattle.hidreport_items.specs.Spelling.{is_long_header, item_of}
 use Rattle.hidreport_lists.specs.ShortOrLong.{spelling_of, is_long_one}
 use Rattle.hidreport_lists.specs.Itemising.{items_from}
-use Rattle.hidreport_lists.proofs.Cuts.{are_bytes, answer-done, answer-items, answer-only}
-use Rattle.hidreport_lists.proofs.Cuts.{answer-fault, answer-only_fault}
-use Rattle.hidreport_lists.proofs.ShortItems.{itemises-so}
-use Rattle.hidreport_lists.proofs.Items.{front-header, items_from-item, refuses-fault, with_front}
-use Rattle.hidreport_lists.proofs.Items.{with_front-more, at_offset}
+use Rattle.hidreport_lists.proofs.CutLemmas.{are_bytes, answer-done, answer-items, answer-only}
+use Rattle.hidreport_lists.proofs.CutLemmas.{answer-fault, answer-only_fault}
+use Rattle.hidreport_lists.proofs.ShortItemLemmas.{itemises-so}
+use Rattle.hidreport_lists.proofs.ItemLemmas.{front-header, items_from-item, refuses-fault}
+use Rattle.hidreport_lists.proofs.ItemLemmas.{with_front}
+use Rattle.hidreport_lists.proofs.ItemLemmas.{with_front-more, at_offset}
 use Rattle.hidreport_lists.proofs.list.ReportDescriptorItems.try_from.Goals as goal
 
 pub split_at-requires : goal.split_at-requires

@@ -1,7 +1,7 @@
 use Rattle.std.proofs.Common.{◌≡◌, ◌+◌, length}
 use Rattle.hidreport_items.specs.Spelling.{item_of}
 use Rattle.hidreport_lists.specs.Itemising.{items_from}
-use Rattle.hidreport_lists.proofs.Items.{with_front}
+use Rattle.hidreport_lists.proofs.ItemLemmas.{with_front}
 use Rattle.hidreport_lists.proofs.list.ReportDescriptorItems.try_from.Given as goal
 
 -- the items so far, and then those of the rest, are those of all the bytes

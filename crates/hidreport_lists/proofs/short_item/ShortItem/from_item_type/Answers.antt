@@ -2,7 +2,7 @@ use Rattle.std.proofs.Common.{◌∙◌, ap, sym}
 use Rattle.hidreport_items.specs.InPlace.{told_fault}
 use Rattle.hidreport_items.specs.Spelling.{item_of}
 use Rattle.hidreport_lists.specs.Itemising.{short_item}
-use Rattle.hidreport_lists.proofs.Items.{item-fault}
+use Rattle.hidreport_lists.proofs.ItemLemmas.{item-fault}
 use Rattle.hidreport_lists.proofs.short_item.ShortItem.from_item_type.Goals as goal
 
 pub returns-in-Err-clause-exact : goal.returns-in-Err-clause-exact

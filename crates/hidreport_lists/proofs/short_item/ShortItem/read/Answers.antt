@@ -3,7 +3,7 @@ use Rattle.std.proofs.lemmas.Result.{err_from_is_err_and}
 use Rattle.hidreport_items.specs.InPlace.{told_fault}
 use Rattle.hidreport_items.specs.Spelling.{item_of}
 use Rattle.hidreport_lists.specs.Itemising.{short_item}
-use Rattle.hidreport_lists.proofs.Items.{short_item-err}
+use Rattle.hidreport_lists.proofs.ItemLemmas.{short_item-err}
 use Rattle.hidreport_lists.proofs.short_item.ShortItem.read.Goals as goal
 
 pub returns-in_err-item : goal.returns-in_err-item

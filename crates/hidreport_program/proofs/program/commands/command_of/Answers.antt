@@ -1,7 +1,7 @@
 use Rattle.std.proofs.Common.{◌≡◌, rules, arith, string_bytes}
 use Rattle.std.specs.Prelude.{codes}
 use Rattle.hidreport_program.specs.Command.{IsLimit}
-use Rattle.hidreport_program.proofs.Words.{form_of_first, second_word}
+use Rattle.hidreport_program.proofs.WordLemmas.{form_of_first, second_word}
 use Rattle.hidreport_program.proofs.program.commands.command_of.Goals as goal
 
 pub returns-in-len2-clause-asked : goal.returns-in-len2-clause-asked

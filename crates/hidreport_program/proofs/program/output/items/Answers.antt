@@ -4,7 +4,7 @@ use Rattle.hidreport_items.specs.Spelling.{item_of}
 use Rattle.hidreport_lists.specs.Entry.{Entry}
 use Rattle.hidreport_lists.specs.Itemising.{Itemises}
 use Rattle.hidreport_program.specs.ItemLines.{items_text}
-use Rattle.hidreport_program.proofs.SomeText.{some-items}
+use Rattle.hidreport_program.proofs.SomeTextLemmas.{some-items}
 use Rattle.hidreport_program.proofs.program.output.items.Goals as goal
 
 pub returns-in_ok-add_items-in-Ok-clause-some : goal.returns-in_ok-add_items-in-Ok-clause-some

@@ -2,7 +2,7 @@ use Rattle.std.proofs.Common.{◌≡◌, List, subst, sym, arith, None}
 use Rattle.std.proofs.lemmas.Grind.{common_steps}
 use Rattle.hidreport_types.specs.declared.units.Units.{Units}
 use Rattle.hidreport_types.specs.UnitTable.{MakeUp, units_of, if_any}
-use Rattle.hidreport_types.proofs.UnitLaw.{make-up, make-up-none}
+use Rattle.hidreport_types.proofs.UnitLemmas.{make-up, make-up-none}
 use Rattle.hidreport_types.proofs.unit.Unit.units.Goals as goal
 
 pub returns-then-is_empty-clause-law : goal.returns-then-is_empty-clause-law

@@ -1,5 +1,5 @@
 use Rattle.hidreport.specs.Views.{variable_record}
-use Rattle.hidreport.proofs.BitLaws.{fixes}
+use Rattle.hidreport.proofs.FixedBitsLemmas.{fixes}
 use Rattle.hidreport.proofs.field.variable_field.VariableField.extract.Goals as goal
 
 pub returns-clause-fixed : goal.returns-clause-fixed

@@ -19,7 +19,7 @@ use Rattle.hidreport_lists.specs.Rebuilt.{rebuilt_bytes}
 use Rattle.hidreport_lists.specs.Rebuilt.{canonical_entries}
 use Rattle.hidreport_lists.specs.declared.error.ParserError.{ParserError}
 use Rattle.hidreport_lists.specs.declared.error.ParserError.TheVariants as parser
-use Rattle.hidreport_lists.proofs.Cuts.{itemise-items}
+use Rattle.hidreport_lists.proofs.CutLemmas.{itemise-items}
 
 spells : (bytes : List ℕ) (x : ItemType) → Reads item_of bytes x → Spells bytes x
 spells [] x r = r

@@ -9,7 +9,7 @@ use Rattle.hidreport.specs.Parser.Machine.{added_to, index_in, size_in}
 use Rattle.hidreport.specs.Making.{same_key}
 use Rattle.hidreport.specs.Places.{id_bits}
 use Rattle.hidreport.specs.Records.{FieldRecord, ReportRecord}
-use Rattle.hidreport.proofs.Reports.{same_key-refl}
+use Rattle.hidreport.proofs.ReportLemmas.{same_key-refl}
 
 -- a report with more bits and fields
 abbrev pub extended : ReportRecord → ℕ → List FieldRecord → ReportRecord

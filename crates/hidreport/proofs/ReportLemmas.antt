@@ -14,7 +14,7 @@ use Rattle.hidreport.specs.Making.{same_key}
 use Rattle.hidreport.specs.Meaning.{firsts_after}
 use Rattle.hidreport.specs.Places.{id_bits}
 use Rattle.hidreport.specs.Records.{FieldRecord, ReportRecord}
-use Rattle.hidreport.proofs.Walk.{or_false}
+use Rattle.hidreport.proofs.ItemStateLemmas.{or_false}
 
 -- keys that compare alike are one
 pub same_key-equal : (a b : Option ℕ) → same_key a b ≡ true → a ≡ b

@@ -10,7 +10,7 @@ use Rattle.std.proofs.lemmas.List.Elements.{All-take, All-drop}
 use Rattle.std.proofs.Math.Seq.{take-append_seam, drop-append_seam}
 use Rattle.hidreport_items.specs.Answer.{GrammarFault, Insufficient}
 use Rattle.hidreport_items.specs.Spelling.{following_length, AreBytes}
-use Rattle.hidreport_items.proofs.Following.{following-cut, following-more, following-within}
+use Rattle.hidreport_items.proofs.FollowingLemmas.{following-cut, following-more, following-within}
 use Rattle.hidreport_items.specs.declared.item.ItemType.{ItemType}
 use Rattle.hidreport_lists.specs.Answer.{InvalidAt, Bounds, Mismatch, OverBudget, Answers}
 use Rattle.hidreport_lists.specs.Entry.{Entry}
@@ -20,8 +20,8 @@ use Rattle.hidreport_lists.specs.Itemising.{items_from, itemise, as_refusal}
 use Rattle.hidreport_lists.specs.Messages.{grammar_message}
 use Rattle.hidreport_lists.specs.declared.error.ParserError.{ParserError}
 use Rattle.hidreport_lists.specs.declared.error.ParserError.TheVariants as parser
-use Rattle.hidreport_lists.proofs.Items.{items_from-inside, item_at-enough, chosen_ok, enough}
-use Rattle.hidreport_lists.proofs.Items.{with_front, itemise-some}
+use Rattle.hidreport_lists.proofs.ItemLemmas.{items_from-inside, item_at-enough, chosen_ok, enough}
+use Rattle.hidreport_lists.proofs.ItemLemmas.{with_front, itemise-some}
 
 -- a header and its data, before other bytes, are the first item
 step-header : (read : Reader) (offset h : ℕ) (bs : List ℕ) (x : ItemType) (rest : List ℕ)

@@ -8,11 +8,12 @@ use Rattle.hidreport_lists.specs.Answer.{Refusal, Bounds, Mismatch}
 use Rattle.hidreport.specs.Lookup.{find_by, find_report}
 use Rattle.hidreport.specs.Making.{same_key}
 use Rattle.hidreport.specs.Reading.{ValueRecord, before_values, element, elements_from, is_signed}
-use Rattle.hidreport.specs.Reading.{one_value, own_id, read_bits, reads, values_of, with_id}
+use Rattle.hidreport.specs.Reading.{one_value, read_bits, reads, values_of, with_id}
+use Rattle.hidreport.specs.Records.{own_id}
 use Rattle.hidreport.specs.Records.{DescriptorRecord, FieldRecord, VariableRecord, ArrayRecord}
 use Rattle.hidreport.specs.Records.{ConstantRecord, ReportRecord}
 use Rattle.hidreport.specs.Tiling.{Each, IsFilled, IsOf, IsTiled}
-use Rattle.hidreport.proofs.Reports.{same_key-equal}
+use Rattle.hidreport.proofs.ReportLemmas.{same_key-equal}
 use Rattle.hidreport.proofs.TilingLemmas.{each-more}
 
 -- bits are never refused as another report's

@@ -1,6 +1,6 @@
 -- Items without long ones: the same list is the one by what follows each header.
 use Rattle.std.proofs.Common.{ℕ, List, [], ◌∷◌, sym, ◌∙◌}
-use Rattle.hidreport_items.proofs.Following.{short-follow}
+use Rattle.hidreport_items.proofs.FollowingLemmas.{short-follow}
 use Rattle.hidreport_items.specs.declared.item.ItemType.{ItemType}
 use Rattle.hidreport_lists.specs.Entry.{Entry}
 use Rattle.hidreport_lists.specs.Itemising.{Reader, Reads, AreRead, Itemises}

@@ -8,8 +8,8 @@ use Rattle.std.proofs.lemmas.Bool.{cond-false}
 use Rattle.std.proofs.lemmas.Grind.{common_steps}
 use Rattle.hidreport_items.specs.Answer.{GrammarFault, Invalid, Insufficient, Fails}
 use Rattle.hidreport_items.specs.Messages.{long_message}
-use Rattle.hidreport_items.proofs.Following.{short-follow}
-use Rattle.hidreport_items.proofs.Written.{IsRead, NoneOrAnItem, written-read}
+use Rattle.hidreport_items.proofs.FollowingLemmas.{short-follow}
+use Rattle.hidreport_items.proofs.WrittenLemmas.{IsRead, NoneOrAnItem, written-read}
 use Rattle.hidreport_items.specs.declared.error.HidError.{HidError}
 use Rattle.hidreport_items.specs.declared.error.HidError.TheVariants as errors
 use Rattle.hidreport_items.specs.Spelling.{data_length, first_or_zero, following_length}

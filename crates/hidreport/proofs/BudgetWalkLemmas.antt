@@ -32,10 +32,10 @@ use Rattle.hidreport.specs.declared.parser.push_keeps.PushKeeps.{PushKeeps}
 use Rattle.hidreport.specs.declared.parser.push_keeps.PushKeeps.TheVariants as push_keeps
 use Rattle.hidreport.specs.Weight.{field_weight, unless_faulty, weight, weight_before, weight_made}
 use Rattle.hidreport.specs.Weight.{weight_opened}
-use Rattle.hidreport.proofs.AllKept.{all-follows}
-use Rattle.hidreport.proofs.GlobalsAlone.{globals-follows, stack_bare}
+use Rattle.hidreport.proofs.AllKeptLemmas.{all-follows}
+use Rattle.hidreport.proofs.GlobalsAloneLemmas.{globals-follows, stack_bare}
 use Rattle.hidreport.proofs.LevelLemmas.{stack}
-use Rattle.hidreport.proofs.Walk.{before-next, first_of-none}
+use Rattle.hidreport.proofs.ItemStateLemmas.{before-next, first_of-none}
 use Rattle.hidreport.proofs.WalkLemmas.{Follows, Holds, at-end, fault-held, fields-held, holds-next}
 use Rattle.hidreport.proofs.WalkLemmas.{holds-nothing}
 

@@ -15,10 +15,10 @@ use Rattle.hidreport.specs.Parser.Machine.{after_pop, pushed_copy, last_item_sta
 use Rattle.hidreport.specs.Parser.Machine.{next_locals}
 use Rattle.hidreport.specs.Visibility.{before}
 use Rattle.hidreport.specs.declared.parser.push_keeps.PushKeeps.TheVariants as push_keeps
-use Rattle.hidreport.proofs.AllKept.{all-follows}
+use Rattle.hidreport.proofs.AllKeptLemmas.{all-follows}
 use Rattle.hidreport.proofs.IndexedLemmas.{subst-below}
 use Rattle.hidreport.proofs.LevelLemmas.{stack, length-stack}
-use Rattle.hidreport.proofs.Walk.{before-next, unended_locals-next}
+use Rattle.hidreport.proofs.ItemStateLemmas.{before-next, unended_locals-next}
 use Rattle.hidreport.proofs.WalkLemmas.{Steps, Follows}
 
 -- without its locals

@@ -20,8 +20,8 @@ use Rattle.hidreport_items.specs.declared.item.ItemType.TheVariants as item
 use Rattle.hidreport_lists.specs.Entry.{Entry}
 use Rattle.hidreport_lists.specs.Itemising.{Itemises}
 use Rattle.hidreport_lists.specs.Rebuilt.{items_of, kept_entries, rebuilt_bytes, canonical_entries}
-use Rattle.hidreport_lists.proofs.Cuts.{itemise-items}
-use Rattle.hidreport_lists.proofs.Respelling.{are_kept, itemises-again, respelled-items}
+use Rattle.hidreport_lists.proofs.CutLemmas.{itemise-items}
+use Rattle.hidreport_lists.proofs.RespellingLemmas.{are_kept, itemises-again, respelled-items}
 use Rattle.std.specs.Prelude.{◌*◌, ◌||◌, nat_lt, nat_le}
 use Rattle.hidreport.specs.Faults.{Counts, item_fault, data_fault, needed_usages_fault, usage_fault}
 use Rattle.hidreport.specs.Faults.{limit_fault, last_end, id_count}
@@ -50,7 +50,7 @@ use Rattle.hidreport.specs.Parser.Machine.{unless_fault, go_on, walk}
 use Rattle.hidreport.specs.declared.parser.push_keeps.PushKeeps.{PushKeeps}
 use Rattle.hidreport.specs.declared.parser.push_keeps.PushKeeps.TheVariants as push_keeps
 use Rattle.hidreport.specs.Options.{reading_of}
-use Rattle.hidreport.proofs.Readings.{walk-meaning}
+use Rattle.hidreport.proofs.ReadingLemmas.{walk-meaning}
 
 -- the local item isn't of the reserved kind
 abbrev pub is_kept_local : LocalItem → Bool

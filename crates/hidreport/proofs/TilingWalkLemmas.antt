@@ -24,14 +24,16 @@ use Rattle.hidreport.specs.Parser.Machine.{new_collection, next_state, next_repo
 use Rattle.hidreport.specs.Parser.Machine.{reports_in, start_in, unless_fault, go_on, walk}
 use Rattle.hidreport.specs.Places.{bits_of}
 use Rattle.hidreport.specs.Records.{CollectionRecord, DescriptorRecord, FieldRecord, ReportRecord}
-use Rattle.hidreport.specs.Tiling.{Each, collections_of, HasNoRest, HasRange, HaveOwnIds, IsFilled}
-use Rattle.hidreport.specs.Tiling.{IsOf, IsTiled, fields_in_all, reports_in_all}
+use Rattle.hidreport.specs.Tiling.{Each, HasNoRest, HasRange, HaveOwnIds, IsFilled}
+use Rattle.hidreport.specs.Records.{collections_of}
+use Rattle.hidreport.specs.Tiling.{IsOf, IsTiled}
+use Rattle.hidreport.specs.Records.{fields_in_all, reports_in_all}
 use Rattle.hidreport.specs.Usages.{usages_of}
 use Rattle.hidreport.specs.declared.parser.push_keeps.PushKeeps.{PushKeeps}
 use Rattle.hidreport.specs.Options.{reading_of}
-use Rattle.hidreport.proofs.OwnCollections.{AreOpened, opened-append, opened-more, opened-new}
-use Rattle.hidreport.proofs.OwnCollections.{opened-take, own-collections}
-use Rattle.hidreport.proofs.Readings.{walk-meaning}
+use Rattle.hidreport.proofs.OwnCollectionsLemmas.{AreOpened, opened-append, opened-more, opened-new}
+use Rattle.hidreport.proofs.OwnCollectionsLemmas.{opened-take, own-collections}
+use Rattle.hidreport.proofs.ReadingLemmas.{walk-meaning}
 use Rattle.hidreport.proofs.TilingLemmas.{IsGood, IsMade, IsWell, ranged, added-good, added-own}
 use Rattle.hidreport.proofs.TilingLemmas.{each-append, each-more, each-take, extent-some, fresh}
 use Rattle.hidreport.proofs.TilingLemmas.{less-or-not, made, numbered, numbered-added, with_number}

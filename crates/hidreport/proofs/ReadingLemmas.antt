@@ -7,8 +7,8 @@ use Rattle.hidreport.specs.Options.{reading_of}
 use Rattle.hidreport.specs.Parser.Machine.{first_state, walk}
 use Rattle.hidreport.specs.declared.parser.push_keeps.PushKeeps.{PushKeeps}
 use Rattle.hidreport.specs.declared.parser.push_keeps.PushKeeps.TheVariants as push_keeps
-use Rattle.hidreport.proofs.AllKept.{all-follows}
-use Rattle.hidreport.proofs.GlobalsAlone.{globals-follows, stack_bare}
+use Rattle.hidreport.proofs.AllKeptLemmas.{all-follows}
+use Rattle.hidreport.proofs.GlobalsAloneLemmas.{globals-follows, stack_bare}
 use Rattle.hidreport.proofs.LevelLemmas.{stack}
 use Rattle.hidreport.proofs.WalkLemmas.{walk-follows}
 

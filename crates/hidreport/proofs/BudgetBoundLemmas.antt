@@ -32,7 +32,7 @@ use Rattle.hidreport.specs.Places.{bits_of}
 use Rattle.hidreport.specs.Records.{DescriptorRecord, FieldRecord, ReportRecord}
 use Rattle.hidreport.specs.declared.parser.push_keeps.PushKeeps.{PushKeeps}
 use Rattle.hidreport.specs.Weight.{descriptor_weight, field_weight, first_past, report_weight}
-use Rattle.hidreport.proofs.BudgetWalk.{walk-within}
+use Rattle.hidreport.proofs.BudgetWalkLemmas.{walk-within}
 
 -- fields add their weight to the report that they go to
 added-by : (b : Bool) (id : Option ℕ) (bits : ℕ) (fields : List FieldRecord) (r : ReportRecord)

@@ -24,8 +24,8 @@ use Rattle.hidreport.specs.Parser.Machine.{unless_fault, walk}
 use Rattle.hidreport.specs.Segments.{HasNoPush}
 use Rattle.hidreport.specs.declared.parser.push_keeps.PushKeeps.{PushKeeps}
 use Rattle.hidreport.specs.declared.parser.push_keeps.PushKeeps.TheVariants as push_keeps
-use Rattle.hidreport.proofs.Readings.{walk-meaning}
-use Rattle.hidreport.proofs.Reports.{or_cases}
+use Rattle.hidreport.proofs.ReadingLemmas.{walk-meaning}
+use Rattle.hidreport.proofs.ReportLemmas.{or_cases}
 
 -- the same held, where a Push keeps this
 abbrev as_kept : PushKeeps → StateRecord → StateRecord

@@ -25,7 +25,7 @@ use Rattle.hidreport_types.specs.UnitTable.{temperature_of, current_of, luminosi
 use Rattle.hidreport_types.specs.UnitTable.{is_unit, units_of, if_any, system_number}
 use Rattle.hidreport_types.specs.UnitTable.{exponent_nibble, exponent_at, unit_number, with_units}
 use Rattle.hidreport_types.specs.UnitTable.{MakeUp}
-use Rattle.hidreport_types.proofs.Nibbles.{next_nibble}
+use Rattle.hidreport_types.proofs.NibbleLemmas.{next_nibble}
 
 -- a nibble read as an exponent and written again is itself
 pub nibble-again : (n : ℕ) → n < 16 → exponent_nibble (nibble_exponent n) ≡ n

@@ -17,8 +17,8 @@ use Rattle.hidreport_items.specs.declared.local.LocalItem.{LocalItem}
 use Rattle.hidreport_items.specs.declared.local.LocalItem.TheVariants as local
 use Rattle.hidreport_items.specs.declared.item.ItemType.{ItemType}
 use Rattle.hidreport_items.specs.declared.item.ItemType.TheVariants as item
-use Rattle.hidreport_items.proofs.Words.{by-shape, length-unsigned, HasShape, shape-signed}
-use Rattle.hidreport_items.proofs.FlagWords.{length-flags}
+use Rattle.hidreport_items.proofs.WordLemmas.{by-shape, length-unsigned, HasShape, shape-signed}
+use Rattle.hidreport_items.proofs.FlagWordLemmas.{length-flags}
 use Rattle.hidreport_items.proofs.CanonicalLemmas.{unvolatile}
 
 -- something was read

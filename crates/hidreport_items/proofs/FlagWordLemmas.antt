@@ -8,7 +8,7 @@ use Rattle.hidreport_items.specs.Flags.{Flags, is_flag_set, flags_of}
 use Rattle.hidreport_items.specs.Numbers.{word}
 use Rattle.hidreport_items.specs.Spelling.{AreBytes}
 use Rattle.hidreport_items.specs.Writing.{flag_bit, flags_number, flags_data, two_bytes}
-use Rattle.hidreport_items.proofs.Words.{IsLeast, by-shape, bytes-one, are-one, are-two}
+use Rattle.hidreport_items.proofs.WordLemmas.{IsLeast, by-shape, bytes-one, are-one, are-two}
 
 abbrev pub bit_of : Bool → ℕ
 bit_of true = 1

@@ -10,11 +10,12 @@ use Rattle.std.proofs.lemmas.Grind.{common_steps}
 use Rattle.hidreport_lists.specs.Answer.{Refusal, Bounds, Mismatch}
 use Rattle.hidreport.specs.BitValue.{as_word, bit, sum_of_bits, value}
 use Rattle.hidreport.specs.Reading.{ValueRecord, before_values, element, element_width}
-use Rattle.hidreport.specs.Reading.{elements_from, is_signed, one_value, own_id, read_bits}
+use Rattle.hidreport.specs.Reading.{elements_from, is_signed, one_value, read_bits}
+use Rattle.hidreport.specs.Records.{own_id}
 use Rattle.hidreport.specs.Reading.{values_of, with_id}
 use Rattle.hidreport.specs.Records.{FieldRecord, VariableRecord, ArrayRecord, ConstantRecord}
 use Rattle.hidreport.specs.Bits.{AgreeOn, FixesBits, covered_bits}
-use Rattle.hidreport.specs.Tiling.{place_of}
+use Rattle.hidreport.specs.Records.{place_of}
 use Rattle.hidreport.proofs.BitLemmas.{below-word, bit-small, plain-word, sum-small, zero-or-one}
 
 -- a number below P, and P once or not at all: the sum tells both
