@@ -1,20 +1,20 @@
 //! Descriptors under a budget: what an item weighs, and where a limit is passed.
-ghost use Rattle.std.specs.Prelude.{◌≡◌, true, codes};
+ghost use Rattle.std.specs.Prelude.{◌≡◌, codes, IsTrue};
 ghost use Rattle.hidreport.specs.Answer.{InvalidAt, OverBudget};
 ghost use Rattle.hidreport_definitions.specs.Within.{is_read_within, within};
 
 /// Three fields are within a limit of 3 and not of 2; no item is within a limit of 0.
 pub fn fields_weigh_one_each()
-    ensures just { is_read_within 3 (codes "05 01 09 30 75 08 95 03 81 02") ≡ true }
+    ensures just { IsTrue (is_read_within 3 (codes "05 01 09 30 75 08 95 03 81 02")) }
     ensures past { within 2 (codes "05 01 09 30 75 08 95 03 81 02") ≡ Err (OverBudget 8) }
-    ensures nothing { is_read_within 0 (codes "05 01") ≡ true }
+    ensures nothing { IsTrue (is_read_within 0 (codes "05 01")) }
 {}
 
 /// A collection weighs 1 and its usages where it is opened, and again in each field that carries
 /// it.
 pub fn collections_weigh_in_each_field()
-    ensures just { is_read_within 8
-        (codes "05 01 09 02 a1 01 09 30 75 08 95 02 81 02 c0") ≡ true }
+    ensures just { IsTrue (is_read_within 8
+        (codes "05 01 09 02 a1 01 09 30 75 08 95 02 81 02 c0")) }
     ensures in_a_field { within 7 (codes "05 01 09 02 a1 01 09 30 75 08 95 02 81 02 c0")
         ≡ Err (OverBudget 12) }
     ensures opened { within 1 (codes "05 01 09 02 a1 01 09 30 75 08 95 02 81 02 c0")
@@ -23,17 +23,17 @@ pub fn collections_weigh_in_each_field()
 
 /// A collection that is closed weighs no more.
 pub fn closed_collections_weigh_nothing()
-    ensures just { is_read_within 4
-        (codes "05 01 09 02 a1 01 c0 09 30 75 08 95 02 81 02") ≡ true }
+    ensures just { IsTrue (is_read_within 4
+        (codes "05 01 09 02 a1 01 c0 09 30 75 08 95 02 81 02")) }
     ensures past { within 3 (codes "05 01 09 02 a1 01 c0 09 30 75 08 95 02 81 02")
         ≡ Err (OverBudget 13) }
 {}
 
 /// An array weighs its usages, padding weighs 1.
 pub fn arrays_weigh_their_usages()
-    ensures just { is_read_within 6 (codes "05 07 19 01 29 05 75 08 95 07 81 00") ≡ true }
+    ensures just { IsTrue (is_read_within 6 (codes "05 07 19 01 29 05 75 08 95 07 81 00")) }
     ensures past { within 5 (codes "05 07 19 01 29 05 75 08 95 07 81 00") ≡ Err (OverBudget 10) }
-    ensures padding { is_read_within 1 (codes "75 01 95 ff 81 01") ≡ true }
+    ensures padding { IsTrue (is_read_within 1 (codes "75 01 95 ff 81 01")) }
     ensures padding_too { within 0 (codes "75 01 95 ff 81 01") ≡ Err (OverBudget 4) }
 {}
 

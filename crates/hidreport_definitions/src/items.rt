@@ -1,5 +1,5 @@
 //! The laws of written bytes and of short items: what they ask of an item can be met.
-ghost use Rattle.std.specs.Prelude.{◌≡◌, [], ◌∷◌, true, false};
+ghost use Rattle.std.specs.Prelude.{◌≡◌, [], ◌∷◌, false, IsTrue};
 ghost use Rattle.hidreport.specs.GlobalItem.TheVariants as global;
 ghost use Rattle.hidreport.specs.ItemType.TheVariants as item;
 ghost use Rattle.hidreport.specs.Kept.{is_kept};
@@ -25,9 +25,9 @@ pub fn bytes_are_short_items()
 
 /// Items that are kept, those of kinds that the standard keeps for later, and long ones.
 pub fn items_are_kept()
-    ensures page { is_kept (item.Global (global.UsagePage 1)) ≡ true }
-    ensures push { is_kept (item.Global global.Push) ≡ true }
-    ensures usage { is_kept (item.Local (local.Usage 1 0x30)) ≡ true }
+    ensures page { IsTrue (is_kept (item.Global (global.UsagePage 1))) }
+    ensures push { IsTrue (is_kept (item.Global global.Push)) }
+    ensures usage { IsTrue (is_kept (item.Local (local.Usage 1 0x30))) }
     ensures later_global { is_kept (item.Global global.Reserved) ≡ false }
     ensures later_local { is_kept (item.Local (local.Reserved 0xf8)) ≡ false }
     ensures long { is_kept item.Long ≡ false }

@@ -1,7 +1,7 @@
 -- The canonical spelling of an item: of EndCollection, Push and Pop the header alone; of every
 -- other item the shortest spelling that has data, and of those the one whose data is the smallest
 -- number.
-use Rattle.std.specs.Prelude.{◌≡◌, ℕ, ◌<◌, ◌≤◌, Bool, true, false, List, length, drop}
+use Rattle.std.specs.Prelude.{◌≡◌, ℕ, ◌<◌, ◌≤◌, Bool, true, false, List, length, drop, IsTrue}
 use Rattle.hidreport_items.specs.Numbers.{word}
 use Rattle.hidreport_items.specs.Spelling.{Spells}
 use Rattle.hidreport_items.specs.declared.main_item.MainItem.TheVariants as main
@@ -18,7 +18,7 @@ is_bare _ = false
 
 pub record IsCanonical (bytes : List ℕ) (x : ItemType) : Type 0 where
   pub spells : Spells bytes x
-  pub bare : is_bare x ≡ true → length bytes ≡ 1
+  pub bare : IsTrue (is_bare x) → length bytes ≡ 1
   pub has_data : is_bare x ≡ false → 1 < length bytes
   pub shortest : (other : List ℕ) → Spells other x → 1 < length other → length bytes ≤ length other
   pub smallest : (other : List ℕ) → Spells other x → length other ≡ length bytes

@@ -1,7 +1,7 @@
 ghost use Rattle.hidreport_items.specs.Answer.{GivesInPlace, Writes};
 ghost use Rattle.hidreport_items.specs.InPlace.{told_answer};
 ghost use Rattle.hidreport_items.specs.Writing.{item_bytes};
-ghost use Rattle.std.specs.Prelude.{◌≡◌, ◌==◌, true, ℕ, IfOk, List, Ok};
+ghost use Rattle.std.specs.Prelude.{◌≡◌, ◌==◌, ℕ, IfOk, List, Ok, IsTrue};
 ghost use Rattle.hidreport_items.specs.Canonical.{IsCanonical};
 ghost use Rattle.hidreport_items.specs.Kept.{is_kept};
 ghost use Rattle.hidreport_items.specs.Spelling.{is_long_header, item_of, read_with, Spells};
@@ -57,9 +57,11 @@ impl ItemType {
     /// shorter. `OutOfMemory` comes only where a growth is refused.
     pub fn as_bytes(&self, alloc: Global) -> Result<Vec<u8>, HidError>
         ensures exact { Writes result (item_bytes self.now) }
-        ensures canonical { (spelling : List ℕ) → Spells spelling self.now → is_kept self.now ≡ true
+        ensures canonical { (spelling : List ℕ) → Spells spelling self.now
+            → IsTrue (is_kept self.now)
             → IfOk result (λ bytes. IsCanonical bytes.items self.now) }
-        ensures read_back { (spelling : List ℕ) → Spells spelling self.now → is_kept self.now ≡ true
+        ensures read_back { (spelling : List ℕ) → Spells spelling self.now
+            → IsTrue (is_kept self.now)
             → IfOk result (λ bytes. read_with item_of bytes.items ≡ Ok self.now) }
     {
         write_item(self).to_vec(alloc)

@@ -1,5 +1,5 @@
 //! Calls that are written once for Input, Output and Feature items.
-ghost use Rattle.std.specs.Prelude.{◌≡◌, ◌&&◌, ◌||◌, not, true};
+ghost use Rattle.std.specs.Prelude.{◌≡◌, ◌&&◌, ◌||◌, not, IsTrue};
 
 use hidreport::hid::MainDataItem;
 
@@ -23,7 +23,7 @@ pub fn is_plain_button<M: MainDataItem>(item: &M) -> bool
 
 /// The two calls of each flag never agree, whatever the item.
 pub fn each_flag_has_one_state<M: MainDataItem>(item: &M) -> bool
-    ensures { result ≡ true }
+    ensures { IsTrue result }
 {
     item.is_data() != item.is_constant()
         && item.is_array() != item.is_variable()

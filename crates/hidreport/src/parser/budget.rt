@@ -24,7 +24,7 @@ impl Model for Budget {
 }
 
 impl Budget {
-    ghost use Rattle.std.specs.Prelude.{◌≡◌, ◌*◌, true, false, IfErr, OnOk};
+    ghost use Rattle.std.specs.Prelude.{◌≡◌, ◌*◌, false, IfErr, IsTrue, OnOk};
     ghost use Rattle.hidreport.specs.Parser.Budget.{is_past, left_behind};
 
     /// All of the limit is left, if there is one.
@@ -39,7 +39,7 @@ impl Budget {
         ensures within { OnOk result (is_past self.old (count * each) ≡ false) }
         ensures left { OnOk result (self.new ≡ left_behind self.old (count * each)) }
         ensures past { IfErr result (λ e.
-            (e ≡ Fault.BudgetExceeded) × (is_past self.old (count * each) ≡ true)) }
+            (e ≡ Fault.BudgetExceeded) × IsTrue (is_past self.old (count * each))) }
     {
         let Some(left) = self.left else {
             return Ok(());

@@ -33,8 +33,8 @@ impl Model for ItemStateTable {
 }
 
 impl ItemStateTable {
-    ghost use Rattle.std.specs.Prelude.{◌≡◌, ◌-◌, ◌<◌, [], ◌∷◌, ◌++◌, true, false, length, take};
-    ghost use Rattle.std.specs.Prelude.{OnOk};
+    ghost use Rattle.std.specs.Prelude.{◌≡◌, ◌-◌, ◌<◌, [], ◌∷◌, ◌++◌, false, length};
+    ghost use Rattle.std.specs.Prelude.{take, IsTrue, OnOk};
     ghost use Rattle.hidreport_items.specs.declared.item.ItemType.TheVariants as items;
     ghost use Rattle.hidreport.specs.Parser.ItemStates.{item_state_of};
     ghost use Rattle.hidreport.specs.Parser.Machine.{after_pop, pushed_copy, last_item_state};
@@ -108,8 +108,8 @@ impl ItemStateTable {
     /// Brings back what the last open Push kept, and answers whether a Push was open. Here alone
     /// it matters what a Push keeps: locals that it doesn't keep go on as they are.
     pub(crate) fn pop(&mut self) -> bool
-        ensures open { result ≡ true → 0 < length self.old.stack }
-        ensures back { result ≡ true → self.new ≡ record {
+        ensures open { IsTrue result → 0 < length self.old.stack }
+        ensures back { IsTrue result → self.new ≡ record {
           keeping = self.old.keeping;
           now = after_pop self.old.keeping self.old.now (last_item_state self.old.now self.old.stack);
           stack = take (length self.old.stack - 1) self.old.stack;

@@ -34,8 +34,8 @@ impl Model for Journal {
 }
 
 impl Journal {
-    ghost use Rattle.std.specs.Prelude.{◌≡◌, [], ◌∷◌, Some, None, true, false, IfSome, OnErr, OnOk};
-    ghost use Rattle.std.specs.Prelude.{IsNone};
+    ghost use Rattle.std.specs.Prelude.{◌≡◌, [], ◌∷◌, Some, None, false, IfSome, OnErr, OnOk};
+    ghost use Rattle.std.specs.Prelude.{IsNone, IsTrue};
     ghost use Rattle.hidreport.specs.Parser.Journal.{change_of, with_change, Opened, WasGlobals};
     ghost use Rattle.hidreport.specs.Parser.Journal.{WasLocals};
 
@@ -51,7 +51,7 @@ impl Journal {
     /// Whether a Push is open.
     pub(crate) fn is_open(&self) -> bool
         ensures closed { result ≡ false → self.now ≡ [] }
-        ensures open { result ≡ true → self.now ≡ [] → ⊥ }
+        ensures open { IsTrue result → self.now ≡ [] → ⊥ }
     {
         !self.entries.is_empty()
     }

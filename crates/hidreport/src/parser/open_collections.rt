@@ -38,8 +38,8 @@ impl Model for OpenCollections {
 
 impl OpenCollections {
     ghost use Rattle.std.specs.Arc.{arc_slice_items};
-    ghost use Rattle.std.specs.Prelude.{◌≡◌, ◌<◌, ◌+◌, ◌-◌, ◌^◌, ◌≤◌, true, false, [], ◌∷◌, ◌++◌};
-    ghost use Rattle.std.specs.Prelude.{length, sum_by, take, IfOk, IfSome, OnOk};
+    ghost use Rattle.std.specs.Prelude.{◌≡◌, ◌<◌, ◌+◌, ◌-◌, ◌^◌, ◌≤◌, false, [], ◌∷◌, ◌++◌};
+    ghost use Rattle.std.specs.Prelude.{length, sum_by, take, IfOk, IfSome, IsTrue, OnOk};
     ghost use Rattle.hidreport.specs.Parser.Layout.{shared_list};
     ghost use Rattle.hidreport.specs.Parser.Usages.{usage_list};
     ghost use Rattle.hidreport.specs.Weight.{collection_weight};
@@ -98,10 +98,10 @@ impl OpenCollections {
 
     /// Closes the one that was opened last, and answers whether one was open.
     pub(crate) fn close(&mut self) -> bool
-        ensures closed { result ≡ true → self.new ≡ record self.old {
+        ensures closed { IsTrue result → self.new ≡ record self.old {
           list = take (length self.old.list - 1) self.old.list;
         } }
-        ensures deep { result ≡ true → 0 < length self.old.list }
+        ensures deep { IsTrue result → 0 < length self.old.list }
         ensures none { result ≡ false → self.old.list ≡ [] }
     {
         self.shared = None;

@@ -10,12 +10,12 @@ pub enum PushKeeps {
 }
 
 impl PushKeeps {
-    ghost use Rattle.std.specs.Prelude.{◌≡◌, true, false};
+    ghost use Rattle.std.specs.Prelude.{◌≡◌, false, IsTrue};
     ghost use Rattle.hidreport.specs.declared.parser.push_keeps.PushKeeps.TheVariants as push_keeps;
 
     /// Whether local items are kept, too.
     pub(crate) fn has_locals(self) -> bool
-        ensures all { result ≡ true → self ≡ push_keeps.All }
+        ensures all { IsTrue result → self ≡ push_keeps.All }
         ensures globals { result ≡ false → self ≡ push_keeps.Globals }
     {
         match self {

@@ -1,5 +1,5 @@
 //! The report that a data item adds its fields to (Sections 5.6 and 6.2.2.7).
-ghost use Rattle.std.specs.Prelude.{◌≡◌, ◌+◌, ◌*◌, ◌<◌, ◌≤◌, ◌^◌, true, IfSome, IsSomeAnd, OnOk};
+ghost use Rattle.std.specs.Prelude.{◌≡◌, ◌+◌, ◌*◌, ◌<◌, ◌≤◌, ◌^◌, IfSome, IsSomeAnd, OnOk, IsTrue};
 ghost use Rattle.hidreport.specs.ItemState.{first_of};
 ghost use Rattle.hidreport.specs.Making.{same_key};
 ghost use Rattle.hidreport.specs.Parser.Ids.{AllBelow};
@@ -55,7 +55,7 @@ pub(crate) fn slot_of(
 
 /// Whether this is an id past all others, so that no report has it yet.
 fn is_past(ids_below: Option<usize>, key: &Option<ReportId>) -> bool
-    ensures { result ≡ true →
+    ensures { IsTrue result →
         IsSomeAnd ids_below (λ bound. IsSomeAnd key.now (λ id. bound ≤ id)) }
 {
     match (ids_below, key) {

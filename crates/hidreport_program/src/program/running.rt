@@ -1,5 +1,5 @@
 //! A run of the program: its inputs are read, and then its text is written.
-ghost use Rattle.std.specs.Prelude.{◌≡◌, ◌⊎◌, true, false, IfSome, IsErrOf, IsTrue, OnOk};
+ghost use Rattle.std.specs.Prelude.{◌≡◌, ◌⊎◌, false, IfSome, IsErrOf, IsTrue, OnOk};
 ghost use Rattle.std.specs.Io.KnownBytes.{IsAtEnd};
 ghost use Rattle.hidreport_program.specs.Command.{reads_report, report_given};
 ghost use Rattle.hidreport_program.specs.Output.{output};
@@ -27,16 +27,16 @@ pub fn run<D: Source, R: Source, K: Sink>(
 ) -> Result<Outcome, RunFault>
     ensures descriptor_end { BeganWriting result → IsAtEnd (D.left descriptor.new) }
     ensures descriptor_sound { BeganWriting result → D.has_failed descriptor.new ≡ false }
-    ensures report_end { reads_report command ≡ true → BeganWriting result
+    ensures report_end { IsTrue (reads_report command) → BeganWriting result
         → IsAtEnd (R.left report.new) }
-    ensures report_sound { reads_report command ≡ true → BeganWriting result
+    ensures report_sound { IsTrue (reads_report command) → BeganWriting result
         → R.has_failed report.new ≡ false }
     ensures report_unread { reads_report command ≡ false → report.new ≡ report.old }
     // A report is read only after a whole descriptor.
     ensures order { IsTrue (D.has_failed descriptor.new) → report.new ≡ report.old }
-    ensures read_fault { IsErrOf result RunFault.Read → (D.has_failed descriptor.new ≡ true)
-        ⊎ ((reads_report command ≡ true) × (R.has_failed report.new ≡ true)) }
-    ensures write_fault { IsErrOf result RunFault.Write → K.has_failed out.new ≡ true }
+    ensures read_fault { IsErrOf result RunFault.Read → IsTrue (D.has_failed descriptor.new)
+        ⊎ (IsTrue (reads_report command) × IsTrue (R.has_failed report.new)) }
+    ensures write_fault { IsErrOf result RunFault.Write → IsTrue (K.has_failed out.new) }
     ensures out_sound { OnOk result (K.has_failed out.new ≡ false) }
     ensures unwritten { ¬ BeganWriting result → out.new ≡ out.old }
     // Where the readers tell their bytes, this is the text of what was read.
