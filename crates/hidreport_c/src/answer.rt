@@ -14,7 +14,7 @@ use hidreport::ParserError;
 pub struct HidreportAnswer {
     /// How many there are, whether there was room for them or not; 0 where they are refused.
     pub count: usize,
-    /// Where the refused item stands: the bytes before it; 0 for a refusal without a place.
+    /// Where the refused item stands: the bytes before it; 0 for a refusal without an offset.
     pub offset: usize,
     /// 0, or the number of the refusal.
     pub status: u32,
@@ -48,7 +48,7 @@ fn write_to<T: Copy>(listed: &[T], array: &mut [T]) -> HidreportAnswer
     }
 }
 
-/// A refusal as its number and its place.
+/// A refusal as its number and its offset.
 fn refusal(error: &ParserError) -> HidreportAnswer
     ensures { result ≡ error_as_c error.now }
 {

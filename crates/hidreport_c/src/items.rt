@@ -55,10 +55,10 @@ fn items_listed(alloc: Global, descriptor: &[u8]) -> Result<Vec<HidreportItem>, 
         (items_as_c (as_refusal (itemise item_of descriptor.now))) }
 {
     let items = ReportDescriptorItems::try_from(alloc, descriptor)?;
-    Ok(places_of(alloc, items.as_slice())?)
+    Ok(c_items(alloc, items.as_slice())?)
 }
 
-fn places_of(
+fn c_items(
     alloc: Global,
     entries: &[ReportDescriptorItem],
 ) -> Result<Vec<HidreportItem>, AllocError>

@@ -119,7 +119,7 @@ fn has_text(alloc: Global, descriptor: &[u8], wanted: &[u8]) -> bool {
 }
 
 #[test]
-fn a_refusal_has_its_place_and_its_text(rt: HostRuntime) {
+fn a_refusal_has_its_offset_and_its_text(rt: HostRuntime) {
     let pop = b"\x75\x08\xb4";
     assert!(rt; is_answer(hidreport_describe(rt.alloc(), pop, 0, &mut []), 0, 2, 1));
     assert!(rt; has_text(rt.alloc(), pop, b"Too many Pops, not enough Pushes"));
@@ -130,7 +130,7 @@ fn a_refusal_has_its_place_and_its_text(rt: HostRuntime) {
 }
 
 #[test]
-fn items_stand_at_their_places(rt: HostRuntime) {
+fn items_stand_at_their_offsets(rt: HostRuntime) {
     let long = b"\x05\x01\xfe\x01\x00\xaa\x16\x05\x00";
     let nowhere = HidreportItem { offset: 0, size: 0 };
     let mut items = [nowhere, nowhere, nowhere];

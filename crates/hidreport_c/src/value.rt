@@ -58,8 +58,7 @@ pub extern "C" fn hidreport_values(
 ) -> HidreportAnswer
     ensures answer { result ≡ as_answer (value_numbers (values_at field.now report.now)) }
     ensures written { values.new
-        ≡ array_after (list_or_nothing (value_numbers (values_at field.now report.now))) values.old
-        }
+        ≡ array_after (list_or_nothing (value_numbers (values_at field.now report.now))) values.old }
     ensures extract { (read : FieldRecord) → field.now ≡ as_c read
         → values_at field.now report.now ≡ reads read report.now }
 {

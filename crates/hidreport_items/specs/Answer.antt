@@ -27,15 +27,15 @@ HasMessage (Err (Invalid text)) = Unit {0}
 HasMessage (Err Insufficient) = ⊥
 
 -- the error is this fault; only a message takes memory
-abbrev pub FailsInPlace : {A : Type 0} → HidError → Result A GrammarFault → Type 0
-FailsInPlace (errors.InvalidData message) read = read ≡ Err (Invalid (string_bytes message))
-FailsInPlace errors.InsufficientData read = read ≡ Err Insufficient
-FailsInPlace errors.OutOfMemory read = HasMessage read
+abbrev pub FailsWithoutMemory : {A : Type 0} → HidError → Result A GrammarFault → Type 0
+FailsWithoutMemory (errors.InvalidData message) read = read ≡ Err (Invalid (string_bytes message))
+FailsWithoutMemory errors.InsufficientData read = read ≡ Err Insufficient
+FailsWithoutMemory errors.OutOfMemory read = HasMessage read
 
 -- the answer is what reading gives; only a message takes memory
-abbrev pub GivesInPlace : {A : Type 0} → Result A HidError → Result A GrammarFault → Type 0
-GivesInPlace (Ok x) read = read ≡ Ok x
-GivesInPlace (Err e) read = FailsInPlace e read
+abbrev pub GivesWithoutMemory : {A : Type 0} → Result A HidError → Result A GrammarFault → Type 0
+GivesWithoutMemory (Ok x) read = read ≡ Ok x
+GivesWithoutMemory (Err e) read = FailsWithoutMemory e read
 
 -- the answer, seen by `view`, is what reading gives
 abbrev pub GivesBy : {A B : Type 0} → (A → B) → Result A HidError → Result B GrammarFault → Type 0

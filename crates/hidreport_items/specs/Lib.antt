@@ -1,7 +1,7 @@
 pub mod Answer
 pub mod Canonical
 pub mod Flags
-pub mod InPlace
+pub mod ItemFaults
 pub mod Kept
 pub mod Messages
 pub mod Numbers

@@ -1,6 +1,6 @@
 ghost use Rattle.std.specs.Prelude.{◌≡◌, not};
-ghost use Rattle.hidreport_items.specs.Answer.{GivesInPlace, Writes};
-ghost use Rattle.hidreport_items.specs.InPlace.{told_answer};
+ghost use Rattle.hidreport_items.specs.Answer.{GivesWithoutMemory, Writes};
+ghost use Rattle.hidreport_items.specs.ItemFaults.{told_answer};
 ghost use Rattle.hidreport_items.specs.Spelling.{feature_item, read_with};
 ghost use Rattle.hidreport_items.specs.Writing.{main_bytes};
 ghost use Rattle.hidreport_items.specs.declared.main_item.MainItem.TheVariants.{Feature};
@@ -38,7 +38,7 @@ impl FeatureItem {
     /// another length `n` of the data than 1, 2 and 4 is `InvalidData`, `Size {n} cannot happen`.
     /// `OutOfMemory` comes only where there is no memory for the message.
     pub fn try_from(alloc: Global, bytes: &[u8]) -> Result<FeatureItem, HidError>
-        ensures { GivesInPlace result (read_with (λ _. feature_item) bytes.now) }
+        ensures { GivesWithoutMemory result (read_with (λ _. feature_item) bytes.now) }
     {
         let Some((_header, data_bytes)) = bytes.split_first() else {
             return Err(HidError::InsufficientData);

@@ -1,6 +1,6 @@
 ghost use Rattle.std.specs.Prelude.{◌≡◌, not};
 ghost use Rattle.hidreport_items.specs.Flags.{Flags, flags_of};
-ghost use Rattle.hidreport_items.specs.InPlace.{told_answer};
+ghost use Rattle.hidreport_items.specs.ItemFaults.{told_answer};
 ghost use Rattle.hidreport_items.specs.Spelling.{output_item};
 
 use crate::item_fault::ItemFault;

@@ -1,5 +1,5 @@
-ghost use Rattle.hidreport_items.specs.Answer.{GivesInPlace, Writes};
-ghost use Rattle.hidreport_items.specs.InPlace.{told_answer};
+ghost use Rattle.hidreport_items.specs.Answer.{GivesWithoutMemory, Writes};
+ghost use Rattle.hidreport_items.specs.ItemFaults.{told_answer};
 ghost use Rattle.std.specs.Prelude.{◌≡◌};
 ghost use Rattle.hidreport_items.specs.Spelling.{global_item, read_with};
 ghost use Rattle.hidreport_items.specs.Writing.{global_bytes, global_prefix};
@@ -69,7 +69,7 @@ impl GlobalItem {
     /// of no global item is `Reserved`. `OutOfMemory` comes only where there is no memory for a
     /// message.
     pub fn try_from(alloc: Global, bytes: &[u8]) -> Result<GlobalItem, HidError>
-        ensures { GivesInPlace result (read_with global_item bytes.now) }
+        ensures { GivesWithoutMemory result (read_with global_item bytes.now) }
     {
         let Some((header, data_bytes)) = bytes.split_first() else {
             return Err(HidError::InsufficientData);

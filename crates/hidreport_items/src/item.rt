@@ -1,5 +1,5 @@
-ghost use Rattle.hidreport_items.specs.Answer.{GivesInPlace, Writes};
-ghost use Rattle.hidreport_items.specs.InPlace.{told_answer};
+ghost use Rattle.hidreport_items.specs.Answer.{GivesWithoutMemory, Writes};
+ghost use Rattle.hidreport_items.specs.ItemFaults.{told_answer};
 ghost use Rattle.hidreport_items.specs.Writing.{item_bytes};
 ghost use Rattle.std.specs.Prelude.{◌≡◌, ◌==◌, ℕ, IfOk, List, Ok, IsTrue};
 ghost use Rattle.hidreport_items.specs.Canonical.{IsCanonical};
@@ -42,7 +42,7 @@ impl ItemType {
     /// `Reserved`, or with the header FE `Long` (Section 6.2.2.3), whatever the data. No bytes are
     /// `InsufficientData`. `OutOfMemory` comes only where there is no memory for a message.
     pub fn try_from(alloc: Global, bytes: &[u8]) -> Result<ItemType, HidError>
-        ensures { GivesInPlace result (read_with item_of bytes.now) }
+        ensures { GivesWithoutMemory result (read_with item_of bytes.now) }
     {
         let Some((header, data_bytes)) = bytes.split_first() else {
             return Err(HidError::InsufficientData);

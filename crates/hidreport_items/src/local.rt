@@ -1,6 +1,6 @@
 ghost use Rattle.std.specs.Prelude.{◌≡◌, ◌+◌, ◌*◌};
-ghost use Rattle.hidreport_items.specs.Answer.{GivesInPlace, Writes};
-ghost use Rattle.hidreport_items.specs.InPlace.{told_answer};
+ghost use Rattle.hidreport_items.specs.Answer.{GivesWithoutMemory, Writes};
+ghost use Rattle.hidreport_items.specs.ItemFaults.{told_answer};
 ghost use Rattle.hidreport_items.specs.Writing.{local_bytes, local_prefix};
 ghost use Rattle.hidreport_items.specs.Spelling.{local_item, usage_item, read_with};
 
@@ -68,7 +68,7 @@ impl LocalItem {
     /// local item is `Reserved`, with the header without its size code. `OutOfMemory` comes only
     /// where there is no memory for a message.
     pub fn try_from(alloc: Global, bytes: &[u8]) -> Result<LocalItem, HidError>
-        ensures { GivesInPlace result (read_with local_item bytes.now) }
+        ensures { GivesWithoutMemory result (read_with local_item bytes.now) }
     {
         let Some((header, data_bytes)) = bytes.split_first() else {
             return Err(HidError::InsufficientData);

@@ -1,6 +1,6 @@
 ghost use Rattle.std.specs.Prelude.{◌≡◌, [], MatchResult, Ok};
-ghost use Rattle.hidreport_items.specs.Answer.{GivesInPlace, Writes};
-ghost use Rattle.hidreport_items.specs.InPlace.{told_answer};
+ghost use Rattle.hidreport_items.specs.Answer.{GivesWithoutMemory, Writes};
+ghost use Rattle.hidreport_items.specs.ItemFaults.{told_answer};
 ghost use Rattle.hidreport_items.specs.Writing.{main_bytes};
 ghost use Rattle.hidreport_items.specs.declared.error.HidError.TheVariants.{InsufficientData};
 ghost use Rattle.hidreport_items.specs.Spelling.{main_item, collection_item, collection_of};
@@ -174,7 +174,7 @@ impl MainItem {
     /// physical; EndCollection ignores its data. `OutOfMemory` comes only where there is no memory
     /// for a message.
     pub fn try_from(alloc: Global, bytes: &[u8]) -> Result<MainItem, HidError>
-        ensures { GivesInPlace result (read_with main_item bytes.now) }
+        ensures { GivesWithoutMemory result (read_with main_item bytes.now) }
     {
         let Some((header, data_bytes)) = bytes.split_first() else {
             return Err(HidError::InsufficientData);

@@ -1,6 +1,6 @@
 ghost use Rattle.std.specs.Prelude.{◌≡◌, ◌-◌, ◌%◌, Err, IfOk, MatchResult, string_bytes};
-ghost use Rattle.hidreport_items.specs.Answer.{FailsInPlace, GivesInPlace, IsFault};
-ghost use Rattle.hidreport_items.specs.InPlace.{told_answer, told_fault};
+ghost use Rattle.hidreport_items.specs.Answer.{FailsWithoutMemory, GivesWithoutMemory, IsFault};
+ghost use Rattle.hidreport_items.specs.ItemFaults.{told_answer, told_fault};
 ghost use Rattle.hidreport_items.specs.Messages.{long_message, not_long_message};
 ghost use Rattle.hidreport_items.specs.Messages.{size_message, tag_message};
 ghost use Rattle.hidreport_items.specs.Spelling.{prefix};
@@ -13,7 +13,7 @@ use std::alloc::{AllocError, Global};
 ///
 /// `OutOfMemory` comes only where there is no memory for a message.
 pub fn with_message<T: Drop>(alloc: Global, read: Result<T, ItemFault>) -> Result<T, HidError>
-    ensures { GivesInPlace result (told_answer read) }
+    ensures { GivesWithoutMemory result (told_answer read) }
 {
     match read {
         Ok(item) => Ok(item),
@@ -25,7 +25,7 @@ pub fn with_message<T: Drop>(alloc: Global, read: Result<T, ItemFault>) -> Resul
 ///
 /// `OutOfMemory` comes only where there is no memory for a message.
 pub fn error_of(alloc: Global, fault: ItemFault) -> HidError
-    ensures { FailsInPlace {A = Unit {0}} result (Err (told_fault fault)) }
+    ensures { FailsWithoutMemory {A = Unit {0}} result (Err (told_fault fault)) }
 {
     match fault {
         ItemFault::TooFew => HidError::InsufficientData,

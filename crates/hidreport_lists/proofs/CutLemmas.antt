@@ -14,7 +14,8 @@ use Rattle.hidreport_items.proofs.FollowingLemmas.{following-cut, following-more
 use Rattle.hidreport_items.specs.declared.item.ItemType.{ItemType}
 use Rattle.hidreport_lists.specs.Answer.{InvalidAt, Bounds, Mismatch, OverBudget, Answers}
 use Rattle.hidreport_lists.specs.Entry.{Entry}
-use Rattle.hidreport_lists.specs.Itemising.{Reader, Reads, all_bytes, AreInPlace, AreRead, Itemises}
+use Rattle.hidreport_lists.specs.Itemising.{Reader, Reads, all_bytes, AreAtOffsets, AreRead}
+use Rattle.hidreport_lists.specs.Itemising.{Itemises}
 use Rattle.hidreport_lists.specs.Itemising.{IsFaultAt, IsGrammarFault, item_at, with_entry}
 use Rattle.hidreport_lists.specs.Itemising.{items_from, itemise, as_refusal}
 use Rattle.hidreport_lists.specs.Messages.{grammar_message}
@@ -62,8 +63,8 @@ step read offset (h ∷ bs) x rest r = step-header read offset h bs x rest r.1 r
 
 -- items in place are what is cut
 cut-all : (read : Reader) (entries : List Entry) (offset : ℕ) → AreRead read entries
-    → AreInPlace offset entries → items_from read offset 0 (all_bytes entries) ≡ Ok entries
-cut-all read [] offset each places = refl
+    → AreAtOffsets offset entries → items_from read offset 0 (all_bytes entries) ≡ Ok entries
+cut-all read [] offset each offsets = refl
 cut-all read (e ∷ es) offset each places =
     step read offset e.bytes e.item (all_bytes es) each.0
     ∙ ap (with_entry offset e.bytes (Ok e.item))
@@ -94,7 +95,7 @@ pub itemise-items : (read : Reader) (bytes : List ℕ) (entries : List Entry)
     → Itemises read bytes entries → itemise read bytes ≡ Ok entries
 itemise-items read bytes entries i =
     itemise-some read bytes i.some ∙ ap (items_from read 0 0) (sym i.whole)
-    ∙ cut-all read entries 0 i.each i.places
+    ∙ cut-all read entries 0 i.each i.offsets
 
 not_nil : (front : List ℕ) (h : ℕ) (after bytes : List ℕ) → front ++ h ∷ after ≡ bytes → bytes ≢ []
 not_nil [] h after bytes e none = let bad : h ∷ after ≡ [] = e ∙ none in cc
@@ -108,14 +109,14 @@ itemise-fault read bytes offset fault f =
     ∙ ap (items_from read 0 0) (sym f.whole)
     ∙ stop-all read f.entries 0 f.header f.after fault f.each f.why
     ∙ ap (λ n. Err (n, fault))
-    (let e : 0 + length (all_bytes f.entries) ≡ offset = omega (arith, f.place) in e)
+    (let e : 0 + length (all_bytes f.entries) ≡ offset = omega (arith, f.starts) in e)
 
 -- the bytes are items, the first at an offset
 record Cut (read : Reader) (offset : ℕ) (bytes : List ℕ) : Type 0 where
   entries : List Entry
   whole : all_bytes entries ≡ bytes
   each : AreRead read entries
-  places : AreInPlace offset entries
+  offsets : AreAtOffsets offset entries
 
 -- items, and then bytes of which no beginning is one
 record Stops (read : Reader) (bytes : List ℕ) : Type 0 where
@@ -161,7 +162,7 @@ more-cut read offset front x rest r c = record {
   entries = record { offset = offset; bytes = front; item = x } ∷ c.entries;
   whole = ap (λ l. front ++ l) c.whole;
   each = (r, c.each);
-  places = (refl, c.places);
+  offsets = (refl, c.offsets);
 }
 
 more-stops : (read : Reader) (offset : ℕ) (front : List ℕ) (x : ItemType) (rest : List ℕ)
@@ -212,7 +213,8 @@ ends-item read offset h bs bytes rest (Ok x) e =
 -- bytes are items to their end, or items up to a fault
 ends : (read : Reader) (n offset : ℕ) (bytes : List ℕ) → length bytes ≤ n → AreBytes bytes
     → Cut read offset bytes ⊎ Stops read bytes
-ends read n offset [] le bytes = inl (record { entries = []; whole = refl; each = tt; places = tt })
+ends read n offset [] le bytes = inl
+    (record { entries = []; whole = refl; each = tt; offsets = tt })
 ends read zero offset (h ∷ bs) le bytes = absurd (omega arith)
 ends read (suc n) offset (h ∷ bs) le bytes =
     let short : length (drop (following_length h bs) bs) ≤ n = simp length-drop (omega arith) in
@@ -229,7 +231,7 @@ items_or_fault read bytes are some =
       | inl c ↦ inl (
         c.entries,
         record
-            { some = some; whole = c.whole; each = c.each; places = c.places },
+            { some = some; whole = c.whole; each = c.each; offsets = c.offsets },
       )
       | inr s ↦ inr (
         length (all_bytes s.entries),
@@ -240,7 +242,7 @@ items_or_fault read bytes are some =
           after = s.after;
           whole = s.whole;
           each = s.each;
-          place = refl;
+          starts = refl;
           none = s.none;
           why = s.why;
         },

@@ -11,7 +11,7 @@ use Rattle.hidreport_items.specs.declared.item.ItemType.{ItemType}
 use Rattle.hidreport_items.proofs.CanonicalLemmas.{canonical}
 use Rattle.hidreport_lists.specs.Answer.{Refusal, Refuses}
 use Rattle.hidreport_lists.specs.Entry.{Entry}
-use Rattle.hidreport_lists.specs.Itemising.{Reads, all_bytes, AreInPlace, AreRead, Itemises}
+use Rattle.hidreport_lists.specs.Itemising.{Reads, all_bytes, AreAtOffsets, AreRead, Itemises}
 use Rattle.hidreport_lists.specs.Itemising.{itemise}
 use Rattle.hidreport_lists.specs.Itemising.{as_refusal}
 use Rattle.hidreport_lists.specs.Rebuilt.{AreCanonical, items_of, kept_entries, rebuild_answer}
@@ -64,7 +64,7 @@ respelled-read (x ∷ xs) offset k =
     (reads (item_bytes x) x k.1.spells, respelled-read xs (offset + length (item_bytes x)) k.2)
 
 respelled-placed : (xs : List ItemType) (offset : ℕ)
-    → AreInPlace offset (canonical_entries offset xs)
+    → AreAtOffsets offset (canonical_entries offset xs)
 respelled-placed [] offset = tt
 respelled-placed (x ∷ xs) offset = (refl, respelled-placed xs (offset + length (item_bytes x)))
 
@@ -97,7 +97,7 @@ itemises-again xs k some = record {
   some = some;
   whole = respelled-joined xs 0;
   each = respelled-read xs 0 k;
-  places = respelled-placed xs 0;
+  offsets = respelled-placed xs 0;
 }
 
 none-written : (xs : List ItemType) → AreKept xs → flat_map item_bytes xs ≡ [] → xs ≡ []

@@ -22,5 +22,5 @@ itemises-so read bytes entries i = record {
   some = i.some;
   whole = i.whole;
   each = are-read-so read entries i.each;
-  places = i.places;
+  offsets = i.offsets;
 }

@@ -27,9 +27,10 @@ abbrev pub all_bytes : List Entry → List ℕ
 all_bytes entries = flat_map (λ e. e.bytes) entries
 
 -- each item stands behind all bytes of those before it
-abbrev pub AreInPlace : ℕ → List Entry → Type 0
-AreInPlace offset [] = Unit {0}
-AreInPlace offset (e ∷ entries) = (e.offset ≡ offset) × AreInPlace (offset + length e.bytes) entries
+abbrev pub AreAtOffsets : ℕ → List Entry → Type 0
+AreAtOffsets offset [] = Unit {0}
+AreAtOffsets offset (e ∷ entries) = (e.offset ≡ offset)
+    × AreAtOffsets (offset + length e.bytes) entries
 
 -- each item's bytes spell it
 abbrev pub AreRead : Reader → List Entry → Type 0
@@ -41,7 +42,7 @@ pub record Itemises (read : Reader) (bytes : List ℕ) (entries : List Entry) : 
   pub some : bytes ≢ []
   pub whole : all_bytes entries ≡ bytes
   pub each : AreRead read entries
-  pub places : AreInPlace 0 entries
+  pub offsets : AreAtOffsets 0 entries
 
 -- what the first item of h and the bytes after it is, or why there is none
 abbrev pub item_at : Reader → ℕ → List ℕ → Result ItemType GrammarFault
@@ -58,7 +59,7 @@ pub record IsFaultAt (read : Reader) (bytes : List ℕ) (offset : ℕ)
   pub after : List ℕ
   pub whole : all_bytes entries ++ header ∷ after ≡ bytes
   pub each : AreRead read entries
-  pub place : length (all_bytes entries) ≡ offset
+  pub starts : length (all_bytes entries) ≡ offset
   pub none : (n : ℕ) (x : ItemType) → Reads read (take n (header ∷ after)) x → ⊥
   pub why : item_at read header after ≡ Err fault
 

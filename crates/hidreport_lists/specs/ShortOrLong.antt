@@ -1,6 +1,6 @@
 -- An item that is short or long (Sections 6.2.2.2 and 6.2.2.3).
 use Rattle.std.specs.Prelude.{◌≡◌, ℕ, Bool, true, false, List, Result, Ok, Err}
-use Rattle.hidreport_items.specs.Answer.{GrammarFault, FailsInPlace}
+use Rattle.hidreport_items.specs.Answer.{GrammarFault, FailsWithoutMemory}
 use Rattle.hidreport_items.specs.Spelling.{first_or_zero, is_long_header}
 use Rattle.hidreport_items.specs.declared.error.HidError.{HidError}
 use Rattle.hidreport_items.specs.declared.item.ItemType.TheVariants as item
@@ -32,6 +32,6 @@ any_data (any.Short item) = short_data item.bytes
 any_data (any.Long bytes) = long_data bytes
 
 -- an error is this fault; only a message takes memory
-abbrev pub RefusesInPlace : Result AnyItem HidError → Result Spelled GrammarFault → Type 0
-RefusesInPlace (Ok item) read = Unit {0}
-RefusesInPlace (Err e) read = FailsInPlace e read
+abbrev pub RefusesWithoutMemory : Result AnyItem HidError → Result Spelled GrammarFault → Type 0
+RefusesWithoutMemory (Ok item) read = Unit {0}
+RefusesWithoutMemory (Err e) read = FailsWithoutMemory e read

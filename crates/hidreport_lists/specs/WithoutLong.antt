@@ -4,7 +4,7 @@ use Rattle.std.specs.Prelude.{◌≡◌, ◌≢◌, ℕ, false, List, [], ◌∷
 use Rattle.hidreport_items.specs.Spelling.{data_length, is_long_header, AreBytes}
 use Rattle.hidreport_items.specs.declared.item.ItemType.{ItemType}
 use Rattle.hidreport_lists.specs.Entry.{Entry}
-use Rattle.hidreport_lists.specs.Itemising.{Reader, all_bytes, AreInPlace}
+use Rattle.hidreport_lists.specs.Itemising.{Reader, all_bytes, AreAtOffsets}
 
 -- the bytes are a header, not that of a long item, and the data that it announces, and are read as
 -- the item
@@ -24,4 +24,4 @@ pub record ItemisesShort (read : Reader) (bytes : List ℕ) (entries : List Entr
   pub some : bytes ≢ []
   pub whole : all_bytes entries ≡ bytes
   pub each : AreReadShort read entries
-  pub places : AreInPlace 0 entries
+  pub offsets : AreAtOffsets 0 entries

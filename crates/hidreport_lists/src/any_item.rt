@@ -3,7 +3,7 @@ ghost use Rattle.hidreport_items.specs.Answer.{GivesBy};
 ghost use Rattle.hidreport_items.specs.Spelling.{first_or_zero, is_long_header, item_of};
 ghost use Rattle.hidreport_lists.specs.Itemising.{front_item};
 ghost use Rattle.hidreport_lists.specs.ShortOrLong.{any_data, any_tag, is_long_one, spelling_of};
-ghost use Rattle.hidreport_lists.specs.ShortOrLong.{IsByHeader, RefusesInPlace};
+ghost use Rattle.hidreport_lists.specs.ShortOrLong.{IsByHeader, RefusesWithoutMemory};
 
 use crate::data::ItemData;
 use crate::long_item::LongItem;
@@ -32,7 +32,7 @@ impl AnyItem {
         ensures exact { GivesBy spelling_of result (front_item item_of bytes.now) }
         ensures kind { IfOk result (λ item. IsByHeader item bytes.now) }
         ensures memory { is_long_header (first_or_zero bytes.now) ≡ false
-            → RefusesInPlace result (front_item item_of bytes.now) }
+            → RefusesWithoutMemory result (front_item item_of bytes.now) }
     {
         match bytes {
             [header, ..] if is_long_header(*header) => {

@@ -1,5 +1,5 @@
 ghost use Rattle.std.specs.Prelude.{◌≡◌, IfOk, string_bytes};
-ghost use Rattle.hidreport_items.specs.Answer.{GivesBy, GivesInPlace};
+ghost use Rattle.hidreport_items.specs.Answer.{GivesBy, GivesWithoutMemory};
 ghost use Rattle.hidreport_lists.specs.Data.{byte_message, data_byte, data_list, data_number};
 ghost use Rattle.hidreport_lists.specs.Data.{length_message};
 
@@ -42,7 +42,7 @@ impl<'a> ItemData<'a> {
     /// `Size of {n} cannot happen`. `OutOfMemory` comes only where there is no memory for the
     /// message.
     pub fn to_u32(&self, alloc: Global) -> Result<u32, HidError>
-        ensures { GivesInPlace result (data_number self.now) }
+        ensures { GivesWithoutMemory result (data_number self.now) }
     {
         match self.bytes {
             [] => Err(HidError::InsufficientData),
@@ -58,7 +58,7 @@ impl<'a> ItemData<'a> {
     /// No data is `InsufficientData`; `n` bytes are `InvalidData`, `Cannot convert {n} bytes to
     /// u8`. `OutOfMemory` comes only where there is no memory for the message.
     pub fn to_u8(&self, alloc: Global) -> Result<u8, HidError>
-        ensures { GivesInPlace result (data_byte self.now) }
+        ensures { GivesWithoutMemory result (data_byte self.now) }
     {
         match self.bytes {
             [] => Err(HidError::InsufficientData),

@@ -10,7 +10,7 @@ pub enum ParserError {
     /// An item can't be read, or has no meaning where it stands.
     #[error("invalid data at offset {offset}: {message}")]
     InvalidData {
-        /// The place of the item's first byte, counted in bytes from 0.
+        /// The offset of the item's first byte, counted in bytes from 0.
         offset: usize,
         /// What is wrong with it.
         message: String,
@@ -31,7 +31,7 @@ pub enum ParserError {
     /// Under a budget: with this item more would be listed than the budget's limit.
     #[error("budget exceeded at offset {offset}")]
     BudgetExceeded {
-        /// The place of the item's first byte, counted in bytes from 0.
+        /// The offset of the item's first byte, counted in bytes from 0.
         offset: usize,
     },
 }

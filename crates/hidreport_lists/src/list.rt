@@ -42,7 +42,7 @@ impl Model for ReportDescriptorItem {
 }
 
 impl ReportDescriptorItem {
-    /// The place of the item's first byte in the descriptor, counted in bytes from 0.
+    /// The offset of the item's first byte in the descriptor, counted in bytes from 0.
     pub fn offset(&self) -> usize
         ensures { result ≡ self.now.offset }
     {

@@ -1,6 +1,6 @@
 ghost use Rattle.std.specs.Prelude.{◌≡◌, ◌≢◌, ◌≤◌, ◌+◌, ◌%◌, Bool, false, Err, List, ℕ, length};
-ghost use Rattle.hidreport_items.specs.Answer.{GivesInPlace};
-ghost use Rattle.hidreport_items.specs.InPlace.{told_answer};
+ghost use Rattle.hidreport_items.specs.Answer.{GivesWithoutMemory};
+ghost use Rattle.hidreport_items.specs.ItemFaults.{told_answer};
 ghost use Rattle.hidreport_items.specs.Spelling.{item_of};
 ghost use Rattle.hidreport_items.specs.Spelling.{data_length, first_or_zero, following_length};
 ghost use Rattle.hidreport_items.specs.Writing.{item_bytes};
@@ -84,7 +84,7 @@ impl ShortItem {
     /// whatever stands behind it. Fewer bytes than the header announces are `InsufficientData`;
     /// else the refusals are those of `ItemType::try_from` of just the announced bytes.
     pub fn try_from(alloc: Global, bytes: &[u8]) -> Result<ShortItem, HidError>
-        ensures { GivesInPlace result (short_item item_of bytes.now) }
+        ensures { GivesWithoutMemory result (short_item item_of bytes.now) }
     {
         with_message(alloc, ShortItem::read(bytes))
     }
@@ -93,7 +93,7 @@ impl ShortItem {
     ///
     /// `Long` and `Reserved` spell none: `InsufficientData`. There is no other refusal.
     pub fn from_item_type(item: &ItemType) -> Result<ShortItem, HidError>
-        ensures exact { GivesInPlace result (short_item item_of (item_bytes item.now)) }
+        ensures exact { GivesWithoutMemory result (short_item item_of (item_bytes item.now)) }
         ensures memory { result ≢ Err HidError.OutOfMemory }
     {
         match ShortItem::read(write_item(item).as_slice()) {

@@ -92,8 +92,7 @@ fn needed_usages(
     item: &DataItem,
     item_states: &ItemStateTable,
 ) -> Result<Usages, Fault>
-    ensures faultless { OnOk result (usages_fault (item_flags item.now) item_states.now.now ≡ None)
-        }
+    ensures faultless { OnOk result (usages_fault (item_flags item.now) item_states.now.now ≡ None) }
     ensures usages { IfOk result (HasUsages (item_flags item.now) item_states.now.now) }
     ensures err { IfErr result (λ e.
         IsFaultOf e (usages_fault (item_flags item.now) item_states.now.now)) }

@@ -1,5 +1,5 @@
 use Rattle.std.proofs.Common.{◌∙◌, ap, sym}
-use Rattle.hidreport_items.specs.InPlace.{told_fault}
+use Rattle.hidreport_items.specs.ItemFaults.{told_fault}
 use Rattle.hidreport_items.specs.Spelling.{item_of}
 use Rattle.hidreport_lists.specs.Itemising.{short_item}
 use Rattle.hidreport_lists.proofs.ItemLemmas.{item-fault}

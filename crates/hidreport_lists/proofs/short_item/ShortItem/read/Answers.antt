@@ -1,6 +1,6 @@
 use Rattle.std.proofs.Common.{◌≡◌, ◌∙◌, Err, List, ℕ, subst, sym}
 use Rattle.std.proofs.lemmas.Result.{err_from_is_err_and}
-use Rattle.hidreport_items.specs.InPlace.{told_fault}
+use Rattle.hidreport_items.specs.ItemFaults.{told_fault}
 use Rattle.hidreport_items.specs.Spelling.{item_of}
 use Rattle.hidreport_lists.specs.Itemising.{short_item}
 use Rattle.hidreport_lists.proofs.ItemLemmas.{short_item-err}
