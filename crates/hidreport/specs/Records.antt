@@ -65,7 +65,7 @@ collections_of (VariableRecord place usage shared) = shared.collections
 collections_of (ArrayRecord place usages is_range count shared) = shared.collections
 collections_of (ConstantRecord place) = []
 
--- a field's own report id; padding is of every report
+-- the report id that a field is read by; padding has no value to read
 abbrev pub own_id : FieldRecord → Option ℕ
 own_id (VariableRecord place usage shared) = place.report_id
 own_id (ArrayRecord place usages is_range count shared) = place.report_id

@@ -98,7 +98,7 @@ impl Field {
     }
 
     /// The id that a report's first byte has to be for the field to be read (Section 5.6); `None`
-    /// where it is read from any report, as padding is.
+    /// where no id was in force, and for padding, which has no value to read.
     pub fn report_id(&self) -> Option<ReportId>
         ensures { result ≡ own_id (field_record self.now) }
     {

@@ -111,7 +111,7 @@ data_field place kind values usages is_range shared =
     field_at place place.report_id kind values (usages_as_c usages is_range)
     (measures_as_c shared) (flags_as_c shared) (collections_as_c shared.collections)
 
--- a field of any kind: 0 is variable, 1 an array, 2 padding, which is read from any report
+-- a field of any kind: 0 is variable, 1 an array, 2 padding, which has no value to read
 abbrev pub as_c : FieldRecord → HidreportField
 as_c (VariableRecord place usage shared) = data_field place 0 1 (usage ∷ []) false shared
 as_c (ArrayRecord place usages is_range count shared) =

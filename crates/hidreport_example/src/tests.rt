@@ -143,7 +143,7 @@ fn a_range_of_bits_is_a_value(rt: HostRuntime) {
     }
 }
 
-// A report with the id 5: a value, and padding, which is read from any report (Section 5.6).
+// A report with the id 5: a value, and padding, which has no value to read (Section 5.6).
 #[test]
 fn a_field_has_the_id_that_it_is_read_by(rt: HostRuntime) -> Result<(), Fail> {
     let bytes = b"\x85\x05\x05\x01\x75\x08\x95\x01\x09\x30\x81\x02\x81\x01";
