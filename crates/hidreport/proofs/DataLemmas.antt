@@ -25,19 +25,21 @@ use Rattle.hidreport.specs.Records.{CollectionRecord, DescriptorRecord, FieldRec
 use Rattle.hidreport.specs.Parser.Usages.{HasUsages, usage_list}
 use Rattle.hidreport.specs.Usages.{UsageList, usages_of}
 use Rattle.hidreport.specs.declared.parser.usages.Usages.{Usages}
+use Rattle.hidreport.specs.declared.parser.extent.Extent.{Extent}
 
 -- the fields that an item of a direction with these flags makes in these collections
-abbrev pub made_fields : StateRecord → Direction → Flags → List CollectionRecord → ℕ × ℕ
+abbrev pub made_fields : StateRecord → Direction → Flags → List CollectionRecord → Extent
     → UsageList → ℕ
     → List FieldRecord
 made_fields h d flags cs e us first =
-    make_fields h.item_state.report_id h.fields first e flags us
+    make_fields
+    (record { report_id = h.item_state.report_id; number = h.fields; first = first }) e flags us
     (attributes h.item_state cs d flags)
 
-made-descriptor : (h : StateRecord) (d : Direction) (flags : Flags) (e : ℕ × ℕ)
+made-descriptor : (h : StateRecord) (d : Direction) (flags : Flags) (e : Extent)
     → extent h.item_state ≡ Some e
     → (next_state h (item_with d flags)).descriptor
-    ≡ with_reports d (added_to (key_in d h) (e.0 * e.1)
+    ≡ with_reports d (added_to (key_in d h) (e.size * e.count)
     (made_fields h d flags h.opened e (list_or_none (usages_of h.item_state)) (start_in d h))
     (reports_in d h.descriptor)) h.descriptor
 made-descriptor h Input flags e made = rw made refl
@@ -47,7 +49,7 @@ made-descriptor h Feature flags e made = rw made refl
 -- a constant item's fields have neither usages nor collections
 usages-by : (b : Bool) (h : StateRecord) (d : Direction) (flags : Flags)
     (cs : List CollectionRecord)
-    (e : ℕ × ℕ) (us : Usages) (first : ℕ) → flags.constant ≡ b
+    (e : Extent) (us : Usages) (first : ℕ) → flags.constant ≡ b
     → (flags.constant ≡ false → cs ≡ h.opened) → HasUsages flags h.item_state us
     → made_fields h d flags cs e (usage_list us) first ≡ made_fields h d flags h.opened e
     (list_or_none (usages_of h.item_state)) first
@@ -60,35 +62,35 @@ usages-by false h d flags cs e us first constant around has =
 
 -- the reports behind the item, from what the parser made of it
 pub descriptor-made : (h : StateRecord) (d : Direction) (flags : Flags) (cs : List CollectionRecord)
-    (size count : ℕ) (us : Usages) (key : Option ℕ) (first bits : ℕ) (fields : List FieldRecord)
-    → (flags.constant ≡ false → cs ≡ h.opened) → extent h.item_state ≡ Some (size, count)
+    (e : Extent) (us : Usages) (key : Option ℕ) (first bits : ℕ) (fields : List FieldRecord)
+    → (flags.constant ≡ false → cs ≡ h.opened) → extent h.item_state ≡ Some e
     → HasUsages flags h.item_state us
-    → key ≡ key_in d h → first ≡ size_in key (reports_in d h.descriptor) → bits ≡ size * count
-    → fields ≡ made_fields h d flags cs (size, count) (usage_list us) first
+    → key ≡ key_in d h → first ≡ size_in key (reports_in d h.descriptor) → bits ≡ e.size * e.count
+    → fields ≡ made_fields h d flags cs e (usage_list us) first
     → with_reports d (added_to key bits fields (reports_in d h.descriptor)) h.descriptor
     ≡ (next_state h (item_with d flags)).descriptor
-descriptor-made h d flags cs size count us key first bits fields around made has key_is first_is
+descriptor-made h d flags cs e us key first bits fields around made has key_is first_is
     bits_are fields_are =
     let old = reports_in d h.descriptor in
     let begins : first ≡ start_in d h = first_is ∙ ap (λ id. size_in id old) key_is in
-    let listed : fields ≡ made_fields h d flags h.opened (size, count)
+    let listed : fields ≡ made_fields h d flags h.opened e
     (list_or_none (usages_of h.item_state)) (start_in d h) =
-    fields_are ∙ usages-by flags.constant h d flags cs (size, count) us first refl around has
-    ∙ ap (made_fields h d flags h.opened (size, count) (list_or_none (usages_of h.item_state)))
+    fields_are ∙ usages-by flags.constant h d flags cs e us first refl around has
+    ∙ ap (made_fields h d flags h.opened e (list_or_none (usages_of h.item_state)))
     begins in
     ap (λ (rs : List ReportRecord). with_reports d rs h.descriptor)
     (ap (λ l. added_to key bits l old) listed
-    ∙ ap (λ n. added_to key n (made_fields h d flags h.opened (size, count)
+    ∙ ap (λ n. added_to key n (made_fields h d flags h.opened e
     (list_or_none (usages_of h.item_state)) (start_in d h)) old) bits_are
-    ∙ ap (λ id. added_to id (size * count)
-    (made_fields h d flags h.opened (size, count) (list_or_none (usages_of h.item_state))
+    ∙ ap (λ id. added_to id (e.size * e.count)
+    (made_fields h d flags h.opened e (list_or_none (usages_of h.item_state))
     (start_in d h)) old) key_is)
-    ∙ sym (made-descriptor h d flags (size, count) made)
+    ∙ sym (made-descriptor h d flags e made)
 
 -- as many fields are numbered behind it
-pub fields-made : (h : StateRecord) (d : Direction) (flags : Flags) (e : ℕ × ℕ)
+pub fields-made : (h : StateRecord) (d : Direction) (flags : Flags) (e : Extent)
     → extent h.item_state ≡ Some e
-    → (next_state h (item_with d flags)).fields ≡ h.fields + field_count flags e.1
+    → (next_state h (item_with d flags)).fields ≡ h.fields + field_count flags e.count
 fields-made h Input flags e made = rw made refl
 fields-made h Output flags e made = rw made refl
 fields-made h Feature flags e made = rw made refl
@@ -96,39 +98,41 @@ fields-made h Feature flags e made = rw made refl
 -- what is held behind a data item, from what the parser made of it; `g` is what it found in force
 pub data-held : (h : StateRecord) (g : ItemState) (d : Direction) (flags : Flags)
     (cs : List CollectionRecord)
-    (size count : ℕ) (us : Usages) (key : Option ℕ) (first bits : ℕ)
+    (e : Extent) (us : Usages) (key : Option ℕ) (first bits : ℕ)
     (fields : List FieldRecord) (rs : DescriptorRecord) (n : ℕ)
-    → g ≡ h.item_state → (flags.constant ≡ false → cs ≡ h.opened) → extent g ≡ Some (size, count)
+    → g ≡ h.item_state → (flags.constant ≡ false → cs ≡ h.opened) → extent g ≡ Some e
     → HasUsages flags h.item_state us
     → key ≡ first_of g.report_id (first_id (reports_in d h.descriptor))
-    → first ≡ size_in key (reports_in d h.descriptor) → bits ≡ size * count
-    → fields ≡ make_fields g.report_id h.fields first (size, count) flags (usage_list us)
+    → first ≡ size_in key (reports_in d h.descriptor) → bits ≡ e.size * e.count
+    → fields ≡ make_fields
+    (record { report_id = g.report_id; number = h.fields; first = first }) e flags (usage_list us)
     (attributes g cs d flags)
     → rs ≡ with_reports d (added_to key bits fields (reports_in d h.descriptor)) h.descriptor
-    → n ≡ field_count flags count
+    → n ≡ field_count flags e.count
     → record h { descriptor = rs; fields = h.fields + n } ≡ record h {
       descriptor = (next_state h (item_with d flags)).descriptor;
       fields =
           (next_state h (item_with d flags)).fields;
     }
-data-held h g d flags cs size count us key first bits fields rs n same around made has key_is
+data-held h g d flags cs e us key first bits fields rs n same around made has key_is
     first_is bits_are fields_are rs_are n_is =
-    let made_now : extent h.item_state ≡ Some (size, count) = ap extent (sym same) ∙ made in
+    let made_now : extent h.item_state ≡ Some e = ap extent (sym same) ∙ made in
     let key_now : key ≡ key_in d h = key_is
     ∙ ap (λ (f : ItemState). first_of f.report_id (first_id (reports_in d h.descriptor))) same
     in
-    let fields_now : fields ≡ made_fields h d flags cs (size, count) (usage_list us) first =
-    fields_are ∙ ap (λ (f : ItemState). make_fields f.report_id h.fields first (size, count) flags
+    let fields_now : fields ≡ made_fields h d flags cs e (usage_list us) first =
+    fields_are ∙ ap (λ (f : ItemState). make_fields
+    (record { report_id = f.report_id; number = h.fields; first = first }) e flags
     (usage_list us) (attributes f cs d flags)) same in
     ap (λ (r : DescriptorRecord). record h { descriptor = r; fields = h.fields + n })
-    (rs_are ∙ descriptor-made h d flags cs size count us key first bits fields around made_now has
+    (rs_are ∙ descriptor-made h d flags cs e us key first bits fields around made_now has
     key_now first_is bits_are fields_now)
     ∙ ap (λ (m : ℕ). record h {
       descriptor = (next_state h (item_with d flags)).descriptor;
       fields =
           m;
     })
-    (ap (λ (m : ℕ). h.fields + m) n_is ∙ sym (fields-made h d flags (size, count) made_now))
+    (ap (λ (m : ℕ). h.fields + m) n_is ∙ sym (fields-made h d flags e made_now))
 
 abbrev pub held_result : StateRecord → Result StateRecord MeaningFault
 held_result h = Ok h

@@ -51,6 +51,7 @@ use Rattle.hidreport.specs.declared.parser.push_keeps.PushKeeps.{PushKeeps}
 use Rattle.hidreport.specs.declared.parser.push_keeps.PushKeeps.TheVariants as push_keeps
 use Rattle.hidreport.specs.Options.{reading_of}
 use Rattle.hidreport.proofs.ReadingLemmas.{walk-meaning}
+use Rattle.hidreport.specs.declared.parser.extent.Extent.{Extent}
 
 -- the local item isn't of the reserved kind
 abbrev pub is_kept_local : LocalItem → Bool
@@ -64,11 +65,11 @@ abbrev pub thin : StateRecord → StateRecord
 thin h = record h { item_state = thin_item_state h.item_state; stack = map thin_item_state h.stack }
 
 -- the parts of a fault that usages are no part of
-abbrev data_fault_of : Counts → Flags → ℕ × ℕ → Result UsageList MeaningFault → Option MeaningFault
+abbrev data_fault_of : Counts → Flags → Extent → Result UsageList MeaningFault → Option MeaningFault
 data_fault_of n flags e u = first_of
     (cond flags.constant None (needed_usages_fault u))
-    (limit_fault (nat_lt last_end (n.start + e.0 * e.1)
-    || nat_lt id_count (n.fields + field_count flags e.1)))
+    (limit_fault (nat_lt last_end (n.start + e.size * e.count)
+    || nat_lt id_count (n.fields + field_count flags e.count)))
 
 abbrev collections_fault : Counts → Option MeaningFault
 collections_fault n = limit_fault (nat_le id_count n.collections)
@@ -114,7 +115,7 @@ usages-thin f = ap (λ o. usages_by o (thin_item_state f)) (minimum-thin f.local
 
 -- the same faults
 
-data-thin : (n : Counts) (f : ItemState) (flags : Flags) (e : Option (ℕ × ℕ))
+data-thin : (n : Counts) (f : ItemState) (flags : Flags) (e : Option Extent)
     → data_fault n (thin_item_state f) flags e ≡ data_fault n f flags e
 data-thin n f flags None = refl
 data-thin n f flags (Some e) = ap (λ u. data_fault_of n flags e u) (usages-thin f)
@@ -160,10 +161,11 @@ fault-thin h x = ap (λ n. item_fault n (thin_item_state h.item_state) x) (count
 -- the same fields and collections
 
 fields-thin : (f : ItemState) (cs : List CollectionRecord) (id first : ℕ)
-    (o : Option (Direction × Flags)) (e : Option (ℕ × ℕ))
+    (o : Option (Direction × Flags)) (e : Option Extent)
     → fields_of (thin_item_state f) cs id first o e ≡ fields_of f cs id first o e
 fields-thin f cs id first (Some x) (Some e) =
-    ap (λ u. make_fields f.report_id id first e x.1 (list_or_none u) (attributes f cs x.0 x.1))
+    ap (λ u. make_fields (record { report_id = f.report_id; number = id; first = first }) e x.1
+    (list_or_none u) (attributes f cs x.0 x.1))
     (usages-thin f)
 fields-thin f cs id first (Some x) None = refl
 fields-thin f cs id first None e = refl

@@ -34,6 +34,7 @@ use Rattle.hidreport.specs.Usages.{UsageList, as_single, before_usages, last_loc
 use Rattle.hidreport.specs.Usages.{minimum_of, on_page, range_usages, single_usages, usages_by}
 use Rattle.hidreport.specs.Usages.{usages_of}
 use Rattle.hidreport.specs.declared.field.usage.Usage.{Usage}
+use Rattle.hidreport.specs.declared.parser.extent.Extent.{Extent}
 
 -- a report of another id is no refusal of a descriptor
 
@@ -151,7 +152,7 @@ either-plain : (b : Bool) (f : MeaningFault) → f ≢ PastBudget
 either-plain true f plain is = let same : f ≡ PastBudget = cc in plain same
 either-plain false f plain is = cc
 
-data-plain : (n : Counts) (f : ItemState) (flags : Flags) (e : Option (ℕ × ℕ))
+data-plain : (n : Counts) (f : ItemState) (flags : Flags) (e : Option Extent)
     → data_fault n f flags e ≢ Some PastBudget
 data-plain n f flags None is = cc
 data-plain n f flags (Some e) is = first-of-plain

@@ -8,7 +8,8 @@ use Rattle.std.proofs.Math.Nat.{add-mul, mul-div_cancel}
 use Rattle.std.proofs.lemmas.Grind.{common_steps}
 use Rattle.std.proofs.lemmas.Bool.Decides.{nat_tests}
 use Rattle.hidreport_items.specs.Flags.{Flags}
-use Rattle.hidreport.specs.Fields.{each_from, field_count, list_or_none, make_fields, make_place}
+use Rattle.hidreport.specs.Fields.{Beginning, beginning_at, each_from, field_count, list_or_none}
+use Rattle.hidreport.specs.Fields.{make_fields, make_place}
 use Rattle.hidreport.specs.Fields.{usage_at, variable_fields}
 use Rattle.hidreport.specs.ItemState.{ItemState, first_of}
 use Rattle.hidreport.specs.Making.{both_set, extent, same_key}
@@ -26,6 +27,7 @@ use Rattle.hidreport.specs.declared.field.usage.Usage.{Usage}
 use Rattle.hidreport.specs.MeaningFault.{MeaningFault}
 use Rattle.hidreport.proofs.OwnCollectionsLemmas.{AreOpened}
 use Rattle.hidreport.proofs.ReportLemmas.{same_key-equal}
+use Rattle.hidreport.specs.declared.parser.extent.Extent.{Extent}
 
 -- lists
 
@@ -64,10 +66,9 @@ covers-append first middle end [] gs c d = subst (λ n. Covers n gs end) (sym c)
 covers-append first middle end (f ∷ fs) gs c d =
     (c.0, c.1, covers-append (place_of f).end middle end fs gs c.2 d)
 
-abbrev variable_at : Option ℕ → ℕ → ℕ → ℕ → UsageList → Attributes → ℕ → FieldRecord
-variable_at report_id id first size us shared c =
-    VariableRecord (make_place (id + c) report_id (first + c * size) size) (usage_at us.usages c)
-    shared
+abbrev variable_at : Beginning → Extent → UsageList → Attributes → ℕ → FieldRecord
+variable_at b e us shared c =
+    VariableRecord (make_place (beginning_at b e c) e.size) (usage_at us.usages c) shared
 
 product-some : (a b : ℕ) → 0 < a → 0 < b → 0 < a * b
 product-some zero b p q = absurd (omega (arith, p))
@@ -79,23 +80,24 @@ one-more : (c size : ℕ) → (c + 1) * size ≡ c * size + size
 one-more c size = add-mul c 1 size
     ∙ (let e : 1 * size ≡ size = omega arith in ap (λ n. c * size + n) e)
 
-covers-each : (report_id : Option ℕ) (id first size : ℕ) (us : UsageList) (shared : Attributes)
-    (c more : ℕ) → 0 < size
-    → Covers (first + c * size) (each_from (variable_at report_id id first size us shared) c more)
-    (first + (c + more) * size)
-covers-each report_id id first size us shared c zero some =
-    ap (λ n. first + n * size) (let e : c ≡ c + 0 = omega arith in e)
-covers-each report_id id first size us shared c (suc more) some =
-    let next : first + (c + 1) * size ≡ first + c * size + size = omega (arith, one-more c size) in
+covers-each : (b : Beginning) (e : Extent) (us : UsageList) (shared : Attributes)
+    (c more : ℕ) → 0 < e.size
+    → Covers (b.first + c * e.size) (each_from (variable_at b e us shared) c more)
+    (b.first + (c + more) * e.size)
+covers-each b e us shared c zero some =
+    ap (λ n. b.first + n * e.size) (let same : c ≡ c + 0 = omega arith in same)
+covers-each b e us shared c (suc more) some =
+    let next : b.first + (c + 1) * e.size
+    ≡ b.first + c * e.size + e.size = omega (arith, one-more c e.size) in
     let whole : c + 1 + more ≡ c + suc more = omega arith in (
       refl,
       omega (arith, some),
-      subst (λ n. Covers n (each_from (variable_at report_id id first size us shared) (c + 1) more)
-          (first + (c + suc more) * size)) next
-          (subst (λ n. Covers (first + (c + 1) * size)
-          (each_from (variable_at report_id id first size us shared) (c + 1) more)
-          (first + n * size)) whole
-          (covers-each report_id id first size us shared (c + 1) more some)),
+      subst (λ n. Covers n (each_from (variable_at b e us shared) (c + 1) more)
+          (b.first + (c + suc more) * e.size)) next
+          (subst (λ n. Covers (b.first + (c + 1) * e.size)
+          (each_from (variable_at b e us shared) (c + 1) more)
+          (b.first + n * e.size)) whole
+          (covers-each b e us shared (c + 1) more some)),
     )
 
 no-rest : (first size count : ℕ) → 0 < count
@@ -118,22 +120,22 @@ IsMade known id first end fields =
 abbrev pub IsGood : List (List CollectionRecord) → ReportRecord → Type 0
 IsGood known r = IsMade known r.id (id_bits r.id) r.size r.fields
 
-variables-well : (known : List (List CollectionRecord)) (key report_id : Option ℕ)
-    (id first size : ℕ)
+variables-well : (known : List (List CollectionRecord)) (key : Option ℕ)
+    (b : Beginning) (e : Extent)
     (us : UsageList) (shared : Attributes) (c more : ℕ)
-    → AreOpened known [] shared.collections → (report_id ≡ None) ⊎ (report_id ≡ key)
-    → Each (IsWell known key) (each_from (variable_at report_id id first size us shared) c more)
-variables-well known key report_id id first size us shared c zero l own = tt
-variables-well known key report_id id first size us shared c (suc more) l own = (
+    → AreOpened known [] shared.collections → (b.report_id ≡ None) ⊎ (b.report_id ≡ key)
+    → Each (IsWell known key) (each_from (variable_at b e us shared) c more)
+variables-well known key b e us shared c zero l own = tt
+variables-well known key b e us shared c (suc more) l own = (
   (tt, l, own, tt),
-  variables-well known key report_id id first size us shared (c + 1) more l
+  variables-well known key b e us shared (c + 1) more l
       own,
 )
 
-variables-some : (report_id : Option ℕ) (id first size : ℕ) (us : UsageList) (shared : Attributes)
-    (c more : ℕ) → 0 < more → each_from (variable_at report_id id first size us shared) c more ≢ []
-variables-some report_id id first size us shared c zero some e = omega (arith, some)
-variables-some report_id id first size us shared c (suc more) some e = cc
+variables-some : (b : Beginning) (e : Extent) (us : UsageList) (shared : Attributes)
+    (c more : ℕ) → 0 < more → each_from (variable_at b e us shared) c more ≢ []
+variables-some b e us shared c zero some none = omega (arith, some)
+variables-some b e us shared c (suc more) some none = cc
 
 -- usages are those of a range where they are said to be
 abbrev pub IsRanged : UsageList → Type 0
@@ -145,52 +147,55 @@ ranged-by true place us count shared e r = r e
 ranged-by false place us count shared e r = tt
 
 made-by : (constant variable : Bool) (known : List (List CollectionRecord))
-    (key report_id : Option ℕ)
-    (id first : ℕ) (e : ℕ × ℕ) (us : UsageList) (shared : Attributes) → 0 < e.0 → 0 < e.1
-    → AreOpened known [] shared.collections → (report_id ≡ None) ⊎ (report_id ≡ key)
+    (key : Option ℕ)
+    (b : Beginning) (e : Extent) (us : UsageList) (shared : Attributes) → 0 < e.size → 0 < e.count
+    → AreOpened known [] shared.collections → (b.report_id ≡ None) ⊎ (b.report_id ≡ key)
     → IsRanged us
-    → IsMade known key first (first + e.0 * e.1)
-    (cond constant (ConstantRecord (make_place id report_id first (e.0 * e.1)) ∷ [])
-    (cond variable (variable_fields report_id id first e us shared)
-    (ArrayRecord (make_place id report_id first (e.0 * e.1)) us.usages us.is_range e.1 shared
+    → IsMade known key b.first (b.first + e.size * e.count)
+    (cond constant (ConstantRecord (make_place b (e.size * e.count)) ∷ [])
+    (cond variable (variable_fields b e us shared)
+    (ArrayRecord (make_place b (e.size * e.count)) us.usages us.is_range e.count shared
     ∷ [])))
-made-by true variable known key report_id id first e us shared p q l own r =
-    (λ n. cc, (refl, omega (arith, product-some e.0 e.1 p q), refl), ((tt, tt, inl refl, tt), tt))
-made-by false true known key report_id id first e us shared p q l own r =
-    let begins : first + 0 * e.0 ≡ first = omega arith in
-    let ends : first + (0 + e.1) * e.0 ≡ first + e.0 * e.1 = grind (arith, common_steps) in
-    let fields = each_from (variable_at report_id id first e.0 us shared) 0 e.1 in (
-      variables-some report_id id first e.0 us shared 0 e.1 q,
-      subst (λ n. Covers n fields (first + e.0 * e.1)) begins
-          (subst (Covers (first + 0 * e.0) fields) ends
-          (covers-each report_id id first e.0 us shared 0 e.1 p)),
-      variables-well known key report_id id first e.0 us shared 0 e.1 l own,
-    )
-made-by false false known key report_id id first e us shared p q l own r = (
+made-by true variable known key b e us shared p q l own r = (
   λ n. cc,
-  (refl, omega (arith, product-some e.0 e.1 p q), refl),
+  (refl, omega (arith, product-some e.size e.count p q), refl),
+  ((tt, tt, inl refl, tt), tt),
+)
+made-by false true known key b e us shared p q l own r =
+    let begins : b.first + 0 * e.size ≡ b.first = omega arith in
+    let ends : b.first + (0 + e.count) * e.size
+    ≡ b.first + e.size * e.count = grind (arith, common_steps) in
+    let fields = each_from (variable_at b e us shared) 0 e.count in (
+      variables-some b e us shared 0 e.count q,
+      subst (λ n. Covers n fields (b.first + e.size * e.count)) begins
+          (subst (Covers (b.first + 0 * e.size) fields) ends
+          (covers-each b e us shared 0 e.count p)),
+      variables-well known key b e us shared 0 e.count l own,
+    )
+made-by false false known key b e us shared p q l own r = (
+  λ n. cc,
+  (refl, omega (arith, product-some e.size e.count p q), refl),
   (
     (
-      no-rest first e.0 e.1 q,
+      no-rest b.first e.size e.count q,
       l,
       own,
       ranged-by us.is_range
-          (make_place id report_id first (e.0 * e.1)) us e.1 shared refl r,
+          (make_place b (e.size * e.count)) us e.count shared refl r,
     ),
     tt,
   ),
 )
 
 -- what an item makes has all its bits
-pub made : (known : List (List CollectionRecord)) (key report_id : Option ℕ) (id first : ℕ) (e : ℕ
-    × ℕ)
-    (flags : Flags) (us : UsageList) (shared : Attributes) → 0 < e.0 → 0 < e.1
-    → AreOpened known [] shared.collections → (report_id ≡ None) ⊎ (report_id ≡ key)
+pub made : (known : List (List CollectionRecord)) (key : Option ℕ) (b : Beginning) (e : Extent)
+    (flags : Flags) (us : UsageList) (shared : Attributes) → 0 < e.size → 0 < e.count
+    → AreOpened known [] shared.collections → (b.report_id ≡ None) ⊎ (b.report_id ≡ key)
     → IsRanged us
-    → IsMade known key first (first + e.0 * e.1)
-    (make_fields report_id id first e flags us shared)
-made known key report_id id first e flags us shared p q l own r =
-    made-by flags.constant flags.variable known key report_id id first e us shared p q l own r
+    → IsMade known key b.first (b.first + e.size * e.count)
+    (make_fields b e flags us shared)
+made known key b e flags us shared p q l own r =
+    made-by flags.constant flags.variable known key b e us shared p q l own r
 
 -- which usages are of a range
 
@@ -211,20 +216,23 @@ ranged-in None f = single-by (single_usages f.usage_page f.locals)
 pub ranged : (f : ItemState) → IsRanged (list_or_none (usages_of f))
 ranged f = ranged-in (last_local minimum_of f.locals) f
 
-set-by : (size count : ℕ) (b : Bool) (e : ℕ × ℕ) → (size == 0 || count == 0) ≡ b
-    → cond b None (Some (size, count)) ≡ Some e → (0 < e.0) × (0 < e.1)
+set-by : (size count : ℕ) (b : Bool) (e : Extent) → (size == 0 || count == 0) ≡ b
+    → cond b None (Some (record { size = size; count = count })) ≡ Some e → (0 < e.size)
+    × (0 < e.count)
 set-by size count true e t h = cc
 set-by size count false e t h =
-    let a : size ≡ e.0 = cc in
-    let b : count ≡ e.1 = cc in
+    let made : Extent = record { size = size; count = count } in
+    let whole : made ≡ e = cc in
+    let a : size ≡ e.size = ap (λ (x : Extent). x.size) whole in
+    let b : count ≡ e.count = ap (λ (x : Extent). x.count) whole in
     (grind (arith, nat_tests, common_steps), grind (arith, nat_tests, common_steps))
 
-both-some : (a b : Option ℕ) (e : ℕ × ℕ) → both_set a b ≡ Some e → (0 < e.0) × (0 < e.1)
+both-some : (a b : Option ℕ) (e : Extent) → both_set a b ≡ Some e → (0 < e.size) × (0 < e.count)
 both-some (Some size) (Some count) e h = set-by size count (size == 0 || count == 0) e refl h
 both-some None count e h = cc
 both-some (Some size) None e h = cc
 
-pub extent-some : (f : ItemState) (e : ℕ × ℕ) → extent f ≡ Some e → (0 < e.0) × (0 < e.1)
+pub extent-some : (f : ItemState) (e : Extent) → extent f ≡ Some e → (0 < e.size) × (0 < e.count)
 extent-some f e h = both-some f.report_size f.report_count e h
 
 -- the reports with one item's fields added
@@ -459,22 +467,22 @@ fresh-one n id f e =
       below = λ le. omega (arith, c, o.2 (omega (arith, e, le)));
     }
 
-fresh-each : (n : ℕ) (report_id : Option ℕ) (id first size : ℕ) (us : UsageList)
+fresh-each : (n : ℕ) (b : Beginning) (e : Extent) (us : UsageList)
     (shared : Attributes) (c more : ℕ)
-    → IsFresh n (id + c) more (each_from (variable_at report_id id first size us shared) c more)
-fresh-each n report_id id first size us shared c zero =
+    → IsFresh n (b.number + c) more (each_from (variable_at b e us shared) c more)
+fresh-each n b e us shared c zero =
     record { once = omega arith; above = λ lt. refl; below = λ le. refl }
-fresh-each n report_id id first size us shared c (suc more) =
-    let f = variable_at report_id id first size us shared c in
-    let rest = fresh-each n report_id id first size us shared (c + 1) more in
+fresh-each n b e us shared c (suc more) =
+    let f = variable_at b e us shared c in
+    let rest = fresh-each n b e us shared (c + 1) more in
     let head = with_number-cons n f
-    (each_from (variable_at report_id id first size us shared) (c + 1) more) in
-    let o = one-by ((id + c) == n) (id + c) n refl in
+    (each_from (variable_at b e us shared) (c + 1) more) in
+    let o = one-by ((b.number + c) == n) (b.number + c) n refl in
     record {
-      once = elim (none-or-some (one_if ((id + c) == n))) [
+      once = elim (none-or-some (one_if ((b.number + c) == n))) [
         | inl none ↦ omega (arith, head, none, rest.once)
         | inr some ↦
-            let near : n < id + (c + 1) = elim (less-or-not n (id + (c + 1)))
+            let near : n < b.number + (c + 1) = elim (less-or-not n (b.number + (c + 1)))
             [ inl lt ↦ lt | inr ge ↦ absurd (omega (arith, some, o.2 (omega (arith, ge)))) ] in
             omega (arith, head, o.0, rest.above near)
       ];
@@ -482,23 +490,23 @@ fresh-each n report_id id first size us shared c (suc more) =
       below = λ le. omega (arith, head, o.2 (omega (arith, le)), rest.below (omega (arith, le)));
     }
 
-fresh-by : (constant variable : Bool) (n : ℕ) (report_id : Option ℕ) (id first : ℕ) (e : ℕ × ℕ)
+fresh-by : (constant variable : Bool) (n : ℕ) (b : Beginning) (e : Extent)
     (us : UsageList) (shared : Attributes)
-    → IsFresh n id (cond constant 1 (cond variable e.1 1))
-    (cond constant (ConstantRecord (make_place id report_id first (e.0 * e.1)) ∷ [])
-    (cond variable (variable_fields report_id id first e us shared)
-    (ArrayRecord (make_place id report_id first (e.0 * e.1)) us.usages us.is_range e.1 shared
+    → IsFresh n b.number (cond constant 1 (cond variable e.count 1))
+    (cond constant (ConstantRecord (make_place b (e.size * e.count)) ∷ [])
+    (cond variable (variable_fields b e us shared)
+    (ArrayRecord (make_place b (e.size * e.count)) us.usages us.is_range e.count shared
     ∷ [])))
-fresh-by true variable n report_id id first e us shared = fresh-one n id _ refl
-fresh-by false true n report_id id first e us shared =
-    subst (λ m. IsFresh n m e.1 (each_from (variable_at report_id id first e.0 us shared) 0 e.1))
-    (let m : id + 0 ≡ id = omega arith in m)
-    (fresh-each n report_id id first e.0 us shared 0 e.1)
-fresh-by false false n report_id id first e us shared = fresh-one n id _ refl
+fresh-by true variable n b e us shared = fresh-one n b.number _ refl
+fresh-by false true n b e us shared =
+    subst (λ m. IsFresh n m e.count (each_from (variable_at b e us shared) 0 e.count))
+    (let m : b.number + 0 ≡ b.number = omega arith in m)
+    (fresh-each n b e us shared 0 e.count)
+fresh-by false false n b e us shared = fresh-one n b.number _ refl
 
 -- an item's fields have the numbers from one on, each once
-pub fresh : (n : ℕ) (report_id : Option ℕ) (id first : ℕ) (e : ℕ × ℕ) (flags : Flags)
+pub fresh : (n : ℕ) (b : Beginning) (e : Extent) (flags : Flags)
     (us : UsageList) (shared : Attributes)
-    → IsFresh n id (field_count flags e.1) (make_fields report_id id first e flags us shared)
-fresh n report_id id first e flags us shared =
-    fresh-by flags.constant flags.variable n report_id id first e us shared
+    → IsFresh n b.number (field_count flags e.count) (make_fields b e flags us shared)
+fresh n b e flags us shared =
+    fresh-by flags.constant flags.variable n b e us shared

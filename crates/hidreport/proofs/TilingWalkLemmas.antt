@@ -38,6 +38,7 @@ use Rattle.hidreport.proofs.TilingLemmas.{IsGood, IsMade, IsWell, ranged, added-
 use Rattle.hidreport.proofs.TilingLemmas.{each-append, each-more, each-take, extent-some, fresh}
 use Rattle.hidreport.proofs.TilingLemmas.{less-or-not, made, numbered, numbered-added, with_number}
 use Rattle.hidreport.proofs.TilingLemmas.{with_number-append}
+use Rattle.hidreport.specs.declared.parser.extent.Extent.{Extent}
 
 all-good : (known more : List (List CollectionRecord)) (rs : List ReportRecord)
     → Each (IsGood known) rs
@@ -64,16 +65,17 @@ no-and false e = cc
 
 made-of : (known : List (List CollectionRecord)) (key : Option ℕ) (f : ItemState)
     (cs : List CollectionRecord)
-    (id first : ℕ) (d : Direction) (o : Option (Direction × Flags)) (e : Option (ℕ × ℕ))
+    (id first : ℕ) (d : Direction) (o : Option (Direction × Flags)) (e : Option Extent)
     → (goes d o && is_some e) ≡ true
-    → ((z : ℕ × ℕ) → e ≡ Some z → (0 < z.0) × (0 < z.1)) → AreOpened known [] cs
+    → ((z : Extent) → e ≡ Some z → (0 < z.size) × (0 < z.count)) → AreOpened known [] cs
     → (f.report_id ≡ None) ⊎ (f.report_id ≡ key)
     → IsMade known key first (first + bits_of e) (fields_of f cs id first o e)
 made-of known key f cs id first d None e makes some l own = cc
 made-of known key f cs id first d (Some y) None makes some l own =
     absurd (no-and (goes d (Some y)) makes)
 made-of known key f cs id first d (Some y) (Some z) makes some l own =
-    made known key f.report_id id first z y.1 (list_or_none (usages_of f)) (attributes f cs y.0 y.1)
+    made known key (record { report_id = f.report_id; number = id; first = first }) z y.1
+    (list_or_none (usages_of f)) (attributes f cs y.0 y.1)
     (some z refl).0 (some z refl).1 l own (ranged f)
 
 record Grown (n id count most new : ℕ) : Type 0 where
@@ -88,11 +90,12 @@ abbrev pub one_if : Bool → ℕ
 one_if b = cond b 1 0
 
 grown-by : (b : Bool) (n : ℕ) (f : ItemState) (cs : List CollectionRecord) (id first : ℕ)
-    (y : Direction × Flags) (z : ℕ × ℕ)
+    (y : Direction × Flags) (z : Extent)
     → Grown n id (fields_made (Some y) (Some z)) (one_if b)
     (cond (b && true) (with_number n (fields_of f cs id first (Some y) (Some z))) 0)
 grown-by true n f cs id first y z =
-    let own = fresh n f.report_id id first z y.1 (list_or_none (usages_of f))
+    let own = fresh n (record { report_id = f.report_id; number = id; first = first }) z y.1
+    (list_or_none (usages_of f))
     (attributes f cs y.0 y.1) in
     record { once = own.once; above = own.above; below = own.below }
 grown-by false n f cs id first y z = grown-none n id (fields_made (Some y) (Some z)) 0
@@ -102,7 +105,7 @@ grown-not true n id new most = grown-none n id 0 most
 grown-not false n id new most = grown-none n id 0 most
 
 grown : (n : ℕ) (f : ItemState) (cs : List CollectionRecord) (id first : ℕ) (d : Direction)
-    (o : Option (Direction × Flags)) (e : Option (ℕ × ℕ))
+    (o : Option (Direction × Flags)) (e : Option Extent)
     → Grown n id (fields_made o e) (one_if (goes d o))
     (cond (goes d o && is_some e) (with_number n (fields_of f cs id first o e)) 0)
 grown n f cs id first d None e = grown-none n id 0 0

@@ -46,6 +46,7 @@ use Rattle.hidreport.proofs.LevelLemmas.{Rests, rests-nothing}
 use Rattle.hidreport.proofs.OpenLemmas.{Stands, stands-nothing, open-length, plain-next}
 use Rattle.hidreport.proofs.OpenLemmas.{opened-next, closed-next}
 use Rattle.hidreport.proofs.ReportLemmas.{reports-next, size-in_reports}
+use Rattle.hidreport.specs.declared.parser.extent.Extent.{Extent}
 
 -- the reports of a direction that the items before k make
 abbrev pub reports_before : (ℕ → ItemState) → Direction → List ItemType → ℕ → List ReportRecord
@@ -275,7 +276,7 @@ sum-next true f ms m = sum_by-append f ms (m ∷ [])
     ∙ ap (λ n. sum_by f ms + n) (let e : sum_by f (m ∷ []) ≡ f m = grind (arith, common_steps) in e)
 sum-next false f ms m = ap (sum_by f) (append-nil ms) ∙ sym (add-zero (sum_by f ms))
 
-one-direction : (o : Option (Direction × Flags)) (e : Option (ℕ × ℕ))
+one-direction : (o : Option (Direction × Flags)) (e : Option Extent)
     → cond (goes Input o && is_some e) (fields_made o e) 0 +
     (cond (goes Output o && is_some e) (fields_made o e) 0 + cond (goes Feature o && is_some e)
     (fields_made o e) 0) ≡ fields_made o e

@@ -7,7 +7,7 @@ use Rattle.std.proofs.lemmas.Bool.Decides.{nat_tests}
 use Rattle.std.proofs.lemmas.List.Sums.{sum_by-cons}
 use Rattle.hidreport_items.specs.Flags.{Flags}
 use Rattle.hidreport.specs.Fields.{attributes, each_from, field_count, fields_of, list_or_none}
-use Rattle.hidreport.specs.Fields.{make_fields, make_place, usage_at}
+use Rattle.hidreport.specs.Fields.{Beginning, beginning_at, make_fields, make_place, usage_at}
 use Rattle.hidreport.specs.ItemState.{ItemState, first_of}
 use Rattle.hidreport.specs.Kinds.{Direction, Input, Output, Feature}
 use Rattle.hidreport.specs.Making.{extent}
@@ -21,6 +21,7 @@ use Rattle.hidreport.specs.Records.{Attributes, FieldRecord, VariableRecord}
 use Rattle.hidreport.specs.Usages.{UsageList, usages_of}
 use Rattle.hidreport.specs.Weight.{collection_weight, field_weight}
 use Rattle.hidreport.specs.declared.parser.usages.Usages.{Usages}
+use Rattle.hidreport.specs.declared.parser.extent.Extent.{Extent}
 
 -- so many fields of one weight
 each-weight : (f : ℕ → FieldRecord) (w : ℕ) → ((c : ℕ) → field_weight (f c) ≡ w) → (c n : ℕ)
@@ -36,17 +37,17 @@ each-weight f w one c (suc n) =
     omega (arith, all, here, rest, product)
 
 -- the fields of an item that makes some
-made-by : (constant variable : Bool) (report_id : Option ℕ) (id first : ℕ) (e : ℕ × ℕ)
+made-by : (constant variable : Bool) (b : Beginning) (e : Extent)
     (flags : Flags) (us : UsageList) (shared : Attributes) → flags.constant ≡ constant
     → flags.variable ≡ variable
-    → sum_by field_weight (make_fields report_id id first e flags us shared) ≡ field_count flags e.1
+    → sum_by field_weight (make_fields b e flags us shared) ≡ field_count flags e.count
     * weight_of_each flags (length us.usages) (sum_by collection_weight shared.collections)
-made-by true variable report_id id first e flags us shared c v = rw c refl
-made-by false true report_id id first e flags us shared c v =
+made-by true variable b e flags us shared c v = rw c refl
+made-by false true b e flags us shared c v =
     rw (c, v) (each-weight (λ n. VariableRecord
-    (make_place (id + n) report_id (first + n * e.0) e.0) (usage_at us.usages n) shared)
-    (1 + sum_by collection_weight shared.collections) (λ n. refl) 0 e.1)
-made-by false false report_id id first e flags us shared c v = rw (c, v) (omega arith)
+    (make_place (beginning_at b e n) e.size) (usage_at us.usages n) shared)
+    (1 + sum_by collection_weight shared.collections) (λ n. refl) 0 e.count)
+made-by false false b e flags us shared c v = rw (c, v) (omega arith)
 
 -- padding has no usages to weigh
 usages-by : (constant : Bool) (flags : Flags) (f : ItemState) (us : Usages) (count around : ℕ)
@@ -69,7 +70,7 @@ weight-with h Feature flags = zero-add _
 
 -- the weight of a data item, from what the parser finds
 pub data-weight : (h : StateRecord) (g : ItemState) (d : Direction) (flags : Flags) (size count : ℕ)
-    (us : Usages) → g ≡ h.item_state → extent g ≡ Some (size, count)
+    (us : Usages) → g ≡ h.item_state → extent g ≡ Some (record { size = size; count = count })
     → HasUsages flags h.item_state us
     → weight_in h (item_with d flags) ≡ field_count flags count * weight_of_each flags
     (length (usage_list us).usages) (sum_by collection_weight h.opened)
@@ -78,8 +79,9 @@ data-weight h g d flags size count us same made has =
     ∙ ap (λ e. sum_by field_weight
     (fields_of h.item_state h.opened h.fields (start_in d h) (Some (d, flags)) e))
     (ap extent (sym same) ∙ made)
-    ∙ made-by flags.constant flags.variable h.item_state.report_id h.fields (start_in d h)
-    (size, count)
+    ∙ made-by flags.constant flags.variable
+    (record { report_id = h.item_state.report_id; number = h.fields; first = start_in d h })
+    (record { size = size; count = count })
     flags (list_or_none (usages_of h.item_state))
     (attributes h.item_state h.opened d flags) refl refl
     ∙ usages-by flags.constant flags h.item_state us count
@@ -88,7 +90,8 @@ data-weight h g d flags size count us same made has =
 -- the same, from its numbers one by one
 pub data-weighs : (h now : StateRecord) (g : ItemState) (d : Direction) (flags : Flags)
     (size count : ℕ)
-    (us : Usages) (n w around : ℕ) → h ≡ now → g ≡ h.item_state → extent g ≡ Some (size, count)
+    (us : Usages) (n w around : ℕ) → h ≡ now → g ≡ h.item_state
+    → extent g ≡ Some (record { size = size; count = count })
     → HasUsages flags h.item_state us
     → n ≡ field_count flags count → w ≡ weight_of_each flags (length (usage_list us).usages) around
     → around ≡ sum_by collection_weight h.opened

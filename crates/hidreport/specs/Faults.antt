@@ -17,6 +17,7 @@ use Rattle.hidreport.specs.Places.{start}
 use Rattle.hidreport.specs.Usages.{UsageList, usages_of}
 use Rattle.hidreport.specs.Visibility.{level}
 use Rattle.hidreport.specs.declared.field.usage.Usage.{Usage}
+use Rattle.hidreport.specs.declared.parser.extent.Extent.{Extent}
 
 -- the last bit at which a report may end, the greatest number of a `usize`
 abbrev pub last_end : ℕ
@@ -56,12 +57,12 @@ limit_fault false = None
 
 -- a data item that makes fields: its usages unless it is constant, then its report's end and the
 -- number of fields
-abbrev pub data_fault : Counts → ItemState → Flags → Option (ℕ × ℕ) → Option MeaningFault
+abbrev pub data_fault : Counts → ItemState → Flags → Option Extent → Option MeaningFault
 data_fault n f flags None = None
 data_fault n f flags (Some e) = first_of
     (if flags.constant then None else needed_usages_fault (usages_of f))
-    (limit_fault (nat_lt last_end (n.start + e.0 * e.1)
-    || nat_lt id_count (n.fields + field_count flags e.1)))
+    (limit_fault (nat_lt last_end (n.start + e.size * e.count)
+    || nat_lt id_count (n.fields + field_count flags e.count)))
 
 -- the fault of an item where so much was counted and this is in force
 abbrev pub item_fault : Counts → ItemState → ItemType → Option MeaningFault

@@ -16,14 +16,15 @@ use Rattle.hidreport.specs.Records.{CollectionRecord, FieldPlace, Attributes, Fi
 use Rattle.hidreport.specs.Records.{VariableRecord, ArrayRecord, ConstantRecord}
 use Rattle.hidreport.specs.Usages.{UsageList, usages_of, make_usage}
 use Rattle.hidreport.specs.declared.field.usage.Usage.{Usage}
+use Rattle.hidreport.specs.declared.parser.extent.Extent.{Extent}
 
 -- one field for a constant item or an array, `count` for a variable item
 abbrev pub field_count : Flags → ℕ → ℕ
 field_count flags count = if flags.constant then 1 else (if flags.variable then count else 1)
 
 -- how many fields an item with these flags, size and count makes
-abbrev pub fields_made : Option (Direction × Flags) → Option (ℕ × ℕ) → ℕ
-fields_made (Some x) (Some e) = field_count x.1 e.1
+abbrev pub fields_made : Option (Direction × Flags) → Option Extent → ℕ
+fields_made (Some x) (Some e) = field_count x.1 e.count
 fields_made (Some x) None = 0
 fields_made None e = 0
 
@@ -123,37 +124,47 @@ abbrev pub each_from : {A : Type 0} → (ℕ → A) → ℕ → ℕ → List A
 each_from f c zero = []
 each_from f c (suc more) = f c ∷ each_from f (c + 1) more
 
-abbrev pub make_place : ℕ → Option ℕ → ℕ → ℕ → FieldPlace
-make_place id report_id first size = record {
-  id = id;
-  report_id = report_id;
-  first = first;
-  end = first + size;
+-- where the fields of an item begin: in the report of this id, if any, with this number over the
+-- descriptor, and at this bit
+pub record Beginning : Type 0 where
+  pub report_id : Option ℕ
+  pub number : ℕ
+  pub first : ℕ
+
+-- where so many elements further begin
+abbrev pub beginning_at : Beginning → Extent → ℕ → Beginning
+beginning_at b e c = record b { number = b.number + c; first = b.first + c * e.size }
+
+-- a field of so many bits that begins there
+abbrev pub make_place : Beginning → ℕ → FieldPlace
+make_place b size = record {
+  id = b.number;
+  report_id = b.report_id;
+  first = b.first;
+  end = b.first + size;
 }
 
 -- the fields of a variable item: one for each element
-abbrev pub variable_fields : Option ℕ → ℕ → ℕ → ℕ × ℕ → UsageList → Attributes → List FieldRecord
-variable_fields report_id id first e us shared =
-    each_from (λ c. VariableRecord
-    (make_place (id + c) report_id (first + c * e.0) e.0) (usage_at us.usages c) shared) 0 e.1
+abbrev pub variable_fields : Beginning → Extent → UsageList → Attributes → List FieldRecord
+variable_fields b e us shared =
+    each_from (λ c. VariableRecord (make_place (beginning_at b e c) e.size) (usage_at us.usages c)
+    shared) 0 e.count
 
--- the fields of an item with these usages, the first with number `id` and from bit `first` on
-abbrev pub make_fields : Option ℕ → ℕ → ℕ → ℕ × ℕ → Flags → UsageList → Attributes
-    → List FieldRecord
-make_fields report_id id first e flags us shared =
-    if flags.constant then ConstantRecord (make_place id report_id first (e.0 * e.1)) ∷ []
-    else (if flags.variable then variable_fields report_id id first e us shared
-    else ArrayRecord (make_place id report_id first (e.0 * e.1))
-    us.usages us.is_range e.1 shared ∷ [])
+-- the fields of an item with these usages
+abbrev pub make_fields : Beginning → Extent → Flags → UsageList → Attributes → List FieldRecord
+make_fields b e flags us shared =
+    if flags.constant then ConstantRecord (make_place b (e.size * e.count)) ∷ []
+    else (if flags.variable then variable_fields b e us shared
+    else ArrayRecord (make_place b (e.size * e.count)) us.usages us.is_range e.count shared ∷ [])
 
--- the same where the item makes fields
+-- the same where the item makes fields, the first with number `number` and from bit `first` on
 abbrev pub fields_of : ItemState → List CollectionRecord → ℕ → ℕ
-    → Option (Direction × Flags) → Option (ℕ × ℕ) → List FieldRecord
-fields_of f collections id first (Some x) (Some e) =
-    make_fields f.report_id id first e x.1 (list_or_none (usages_of f))
-    (attributes f collections x.0 x.1)
-fields_of f collections id first (Some x) None = []
-fields_of f collections id first None e = []
+    → Option (Direction × Flags) → Option Extent → List FieldRecord
+fields_of f collections number first (Some x) (Some e) =
+    make_fields (record { report_id = f.report_id; number = number; first = first }) e x.1
+    (list_or_none (usages_of f)) (attributes f collections x.0 x.1)
+fields_of f collections number first (Some x) None = []
+fields_of f collections number first None e = []
 
 -- the fields that an item of direction d makes
 abbrev pub fields_at : (ℕ → ItemState) → Direction → List ItemType → Indexed → List FieldRecord

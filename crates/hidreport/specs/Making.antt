@@ -6,15 +6,17 @@ use Rattle.hidreport_items.specs.declared.item.ItemType.{ItemType}
 use Rattle.hidreport.specs.ItemState.{ItemState, first_of}
 use Rattle.hidreport.specs.Kinds.{Indexed, Direction, data_of, goes}
 use Rattle.hidreport.specs.Visibility.{before}
+use Rattle.hidreport.specs.declared.parser.extent.Extent.{Extent}
 
 -- a report size and a report count of which neither is 0
-abbrev pub both_set : Option ℕ → Option ℕ → Option (ℕ × ℕ)
-both_set (Some size) (Some count) = if size == 0 || count == 0 then None else Some (size, count)
+abbrev pub both_set : Option ℕ → Option ℕ → Option Extent
+both_set (Some size) (Some count) =
+    if size == 0 || count == 0 then None else Some (record { size = size; count = count })
 both_set None count = None
 both_set (Some size) None = None
 
 -- the size and the count that make fields of a data item
-abbrev pub extent : ItemState → Option (ℕ × ℕ)
+abbrev pub extent : ItemState → Option Extent
 extent f = both_set f.report_size f.report_count
 
 -- the item is of direction d and makes fields

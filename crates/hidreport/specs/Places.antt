@@ -4,6 +4,7 @@ use Rattle.hidreport_items.specs.declared.item.ItemType.{ItemType}
 use Rattle.hidreport.specs.ItemState.{ItemState}
 use Rattle.hidreport.specs.Kinds.{Direction}
 use Rattle.hidreport.specs.Making.{extent, key, makers_of}
+use Rattle.hidreport.specs.declared.parser.extent.Extent.{Extent}
 
 -- a report with an id begins with one byte for it
 abbrev pub id_bits : Option ℕ → ℕ
@@ -11,9 +12,9 @@ id_bits None = 0
 id_bits (Some id) = 8
 
 -- how many bits an item of this size and count adds
-abbrev pub bits_of : Option (ℕ × ℕ) → ℕ
+abbrev pub bits_of : Option Extent → ℕ
 bits_of None = 0
-bits_of (Some e) = e.0 * e.1
+bits_of (Some e) = e.size * e.count
 
 -- where the report ends behind the items before k: the id's bits and those of each item that adds
 -- to it

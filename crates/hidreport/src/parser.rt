@@ -8,6 +8,7 @@ ghost use Rattle.hidreport.specs.Parser.Machine.{first_state};
 ghost use Rattle.hidreport.specs.Parser.Refusals.{IsRefusal};
 
 mod budget;
+mod extent;
 mod fault;
 mod globals;
 mod item_state_table;

@@ -4,11 +4,13 @@ use Rattle.std.specs.Prelude.{None, Some}
 use Rattle.std.specs.Arc.{arc_slice_items}
 use Rattle.std.specs.Global.{Global}
 use Rattle.std.specs.declared.sync.ArcSlice.{ArcSlice}
-use Rattle.hidreport.specs.Fields.{field_count, make_place, make_fields, usage_at, attributes_with}
+use Rattle.hidreport.specs.Fields.{Beginning, beginning_at, field_count, make_place, make_fields}
+use Rattle.hidreport.specs.Fields.{usage_at, attributes_with}
 use Rattle.hidreport.specs.Records.{Attributes, CollectionRecord, FieldRecord, VariableRecord}
 use Rattle.hidreport.specs.Usages.{UsageList}
 use Rattle.hidreport.specs.Views.{direction_of, item_flags}
 use Rattle.hidreport.specs.declared.parser.layout.Layout.{Layout}
+use Rattle.hidreport.specs.declared.parser.extent.Extent.{Extent}
 
 -- the collections that the fields carry; padding has none
 abbrev pub shared_list : Option (ArcSlice CollectionRecord Global) → List CollectionRecord
@@ -20,15 +22,22 @@ abbrev pub shared_of : Layout → Attributes
 shared_of l = attributes_with (direction_of l.item.direction) (item_flags l.item) l.measures
     (shared_list l.collections)
 
+-- where they begin
+abbrev pub beginning_of : Layout → Beginning
+beginning_of l = record { report_id = l.report_id; number = l.first_id; first = l.first_bit }
+
+-- how large they are
+abbrev pub extent_of : Layout → Extent
+extent_of l = record { size = l.size; count = l.count }
+
 -- the fields, with these usages
 abbrev pub laid_out : Layout → UsageList → List FieldRecord
-laid_out l us = make_fields l.report_id l.first_id l.first_bit (l.size, l.count)
-    (item_flags l.item) us (shared_of l)
+laid_out l us = make_fields (beginning_of l) (extent_of l) (item_flags l.item) us (shared_of l)
 
 -- field number c of a variable item
 abbrev pub variable_of : Layout → UsageList → ℕ → FieldRecord
 variable_of l us c = VariableRecord
-    (make_place (l.first_id + c) l.report_id (l.first_bit + c * l.size) l.size)
+    (make_place (beginning_at (beginning_of l) (extent_of l) c) l.size)
     (usage_at us.usages c) (shared_of l)
 
 -- the fields have ids, their bits can be counted, and there are usages for them

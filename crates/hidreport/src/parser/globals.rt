@@ -1,3 +1,4 @@
+use crate::parser::extent::Extent;
 use crate::parser::measures::Measures;
 use hidreport_items::GlobalItem;
 use hidreport_types::{
@@ -70,7 +71,7 @@ impl Globals {
     }
 
     /// The size and the count that make fields: both are set, and neither is 0.
-    pub(crate) fn extent(&self) -> Option<(usize, usize)>
+    pub(crate) fn extent(&self) -> Option<Extent>
         ensures { result ≡ both_set self.now.report_size self.now.report_count }
     {
         let size = usize::from(self.report_size?);
@@ -78,7 +79,7 @@ impl Globals {
         if size == 0 || count == 0 {
             None
         } else {
-            Some((size, count))
+            Some(Extent { size, count })
         }
     }
 

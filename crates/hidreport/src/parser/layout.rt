@@ -11,6 +11,7 @@ use crate::field::data_item::DataItem;
 use crate::field::variable_field::VariableField;
 use crate::field::{Field, FieldId};
 use crate::parser::budget::{Budget, weight_of_each};
+use crate::parser::extent::Extent;
 use crate::parser::fault::Fault;
 use crate::parser::item_state_table::ItemStateTable;
 use crate::parser::measures::Measures;
@@ -54,7 +55,7 @@ impl State {
             IsFaultOf e (stop_in budget.old self.old (as_item item.now))) }
     {
         let globals = self.item_states.globals();
-        let Some((size, count)) = globals.extent() else {
+        let Some(Extent { size, count }) = globals.extent() else {
             return Ok(());
         };
         let mut usages = needed_usages(alloc, item, &self.item_states)?;
@@ -140,8 +141,8 @@ impl Layout {
     ghost use Rattle.std.specs.Prelude.{◌≡◌, ◌+◌, ◌++◌, ◌*◌, ◌<◌, ◌≤◌, ◌^◌, []};
     ghost use Rattle.std.specs.Prelude.{Some, length, IfOk, OnOk, map};
     ghost use Rattle.hidreport.specs.Fields.{each_from, field_count, make_place};
-    ghost use Rattle.hidreport.specs.Parser.Layout.{IsPossible, laid_out, shared_list, shared_of};
-    ghost use Rattle.hidreport.specs.Parser.Layout.{variable_of};
+    ghost use Rattle.hidreport.specs.Parser.Layout.{IsPossible, beginning_of, laid_out, shared_list};
+    ghost use Rattle.hidreport.specs.Parser.Layout.{shared_of, variable_of};
     ghost use Rattle.hidreport.specs.Parser.Usages.{usage_list};
     ghost use Rattle.hidreport.specs.Records.{ArrayRecord, ConstantRecord};
     ghost use Rattle.hidreport.specs.Views.{field_record};
@@ -183,8 +184,8 @@ impl Layout {
     fn constant_field(&self) -> Field
         requires ids { self.now.first_id < 2 ^ 32 }
         requires bits { self.now.first_bit + self.now.size * self.now.count < 2 ^ 64 }
-        ensures { field_record result ≡ ConstantRecord (make_place self.now.first_id
-            self.now.report_id self.now.first_bit (self.now.size * self.now.count)) }
+        ensures { field_record result ≡ ConstantRecord
+            (make_place (beginning_of self.now) (self.now.size * self.now.count)) }
     {
         Field::Constant(ConstantField {
             id: FieldId::new(self.first_id as u32),
@@ -245,8 +246,7 @@ impl Layout {
         requires bits { self.now.first_bit + self.now.size * self.now.count < 2 ^ 64 }
         requires count { self.now.report_count ≡ Some self.now.count }
         ensures { IfOk result (λ field. field_record field ≡ ArrayRecord
-            (make_place self.now.first_id self.now.report_id self.now.first_bit
-            (self.now.size * self.now.count))
+            (make_place (beginning_of self.now) (self.now.size * self.now.count))
             (usage_list usages.old).usages (usage_list usages.old).is_range self.now.count
             (shared_of self.now)) }
     {

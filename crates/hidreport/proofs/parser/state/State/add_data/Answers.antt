@@ -43,8 +43,11 @@ returns-clause-held c =
     ∙ ap (λ (rs : List ReportRecord). first_of c.globals-globals.result.now.report_id
     (first_id rs)) c.of-reports.ensures in
     let cs = shared_list c.in_ok-shared_by.field-0 in
-    let with = λ (m : Measures). make_fields g.report_id s.field_count c.size_at-first_bit.result
-    (c.in-Some.size, c.in-Some.count) (item_flags x)
+    let with = λ (m : Measures). make_fields (record {
+      report_id = g.report_id;
+      number = s.field_count;
+      first = c.size_at-first_bit.result;
+    }) (record { size = c.in-Some.size; count = c.in-Some.count }) (item_flags x)
     (usage_list c.in_ok-usages.usages)
     (attributes_with (direction_of x.direction) (item_flags x) m cs) in
     let fields = with c.measures.result in
@@ -61,8 +64,8 @@ returns-clause-held c =
       opened = o.list;
       collections = o.count;
     }) (c.keep.ensures ∙ c.in_ok-shared_by.ensures.same)
-    ∙ data-held h g (direction_of x.direction) (item_flags x) cs c.in-Some.size c.in-Some.count
-    c.in_ok-usages.usages
+    ∙ data-held h g (direction_of x.direction) (item_flags x) cs
+    (record { size = c.in-Some.size; count = c.in-Some.count }) c.in_ok-usages.usages
     c.slot_of-slot.result.key c.size_at-first_bit.result c.in_ok-bits.bits fields c.add.new.self
     count
     c.globals-globals.ensures c.in_ok-shared_by.ensures.all (sym c.in-Some.ensures)

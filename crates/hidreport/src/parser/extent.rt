@@ -1,0 +1,6 @@
+/// How many bits each element of a data item has, and how many elements there are (Section 6.2.2.7).
+#[derive(Clone, Copy)]
+pub(crate) struct Extent {
+    pub(crate) size: usize,
+    pub(crate) count: usize,
+}
