@@ -39,6 +39,13 @@ tried=$(ls crates/*/must-fail/*.edit | wc -l)
 of_library=$(ls crates/hidreport/must-fail/*.edit | wc -l)
 [ "$of_library" -le 40 ] || fault "the gate would try $of_library edits of hidreport, more than 40"
 
+# Layout: each source is as `rt fmt` writes it.
+mapfile -t sources < <(find crates \( -name '*.rt' -path '*/src/*' -o -name '*.antt' \) \
+    -not -path '*/out/*')
+if command -v rattle > /dev/null; then
+    rattle fmt --check "${sources[@]}" > /dev/null 2>&1 || fault 'a source is not as rt fmt writes it'
+fi
+
 # Cases: each file of them is asked.
 [ "$(ls crates/hidreport_cases/data)" = "$(cat crates/hidreport_cases/args)" ] ||
     fault 'crates/hidreport_cases: args names other files than data/ has'

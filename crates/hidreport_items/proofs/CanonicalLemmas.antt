@@ -7,12 +7,14 @@ use Rattle.std.proofs.lemmas.Bool.{cond_both, cond-true, cond-false, eqb-true, n
 use Rattle.std.proofs.lemmas.Bool.Decides.{nat_tests}
 use Rattle.hidreport_items.specs.Answer.{GrammarFault, Invalid, Writes}
 use Rattle.hidreport_items.specs.declared.error.HidError.{HidError}
-use Rattle.hidreport_items.specs.Messages.{size_message}
+use Rattle.hidreport_items.specs.Messages.{size_message, tag_message}
 use Rattle.hidreport_items.specs.Canonical.{IsCanonical, is_bare}
 use Rattle.hidreport_items.specs.Flags.{Flags, flags_of, is_flag_set}
 use Rattle.hidreport_items.specs.Kept.{is_kept}
 use Rattle.hidreport_items.specs.Numbers.{word, signed, is_short_length}
-use Rattle.hidreport_items.specs.Spelling.{data_length, following_length}
+use Rattle.hidreport_items.specs.Spelling.{data_length, following_length, is_long_header, prefix}
+use Rattle.hidreport_items.specs.Spelling.{type_of}
+use Rattle.hidreport_items.specs.Spelling.{collection_of}
 use Rattle.hidreport_items.specs.Spelling.{item_of, main_item, global_item, local_item, usage_item}
 use Rattle.hidreport_items.specs.Spelling.{read_as, with_data, of_short_length, input_item}
 use Rattle.hidreport_items.specs.Spelling.{output_item, feature_item, collection_item}
@@ -125,36 +127,65 @@ says-flags bs =
     let f : Flags = flags_of (word bs) in
     says-data (λ g. g ≡ f) bs (of_short_length bs (Ok f)) (says-short (λ g. g ≡ f) bs (Ok f) refl)
 
--- of two ways to read, each says so
-says-either : {A : Type 0} (P : A → Type 0) {b : Bool} {x y : A} → P x → P y → P (cond b x y)
-says-either {A} P {true} {x} {y} first second = first
-says-either {A} P {false} {x} {y} first second = second
+-- a way to read: its test, its value, and that this one says what it is read from
+pub record Way {A : Type 0} (P : A → Type 0) : Type 0 where
+  pub test : Bool
+  pub value : A
+  pub says : P value
+
+abbrev way : {A : Type 0} (P : A → Type 0) (test : Bool) (value : A) → P value → Way P
+way P test value says = record { test = test; value = value; says = says }
+
+-- the value of the first way whose test is true, or else the last
+abbrev pub choose : {A : Type 0} {P : A → Type 0} → List (Way P) → A → A
+choose [] last = last
+choose (w ∷ ways) last = cond w.test w.value (choose ways last)
+
+says-chosen : {A : Type 0} {P : A → Type 0} (ways : List (Way P)) (last : A) → P last
+    → P (choose ways last)
+says-chosen [] last says = says
+says-chosen {A} {P} (w ∷ ways) last says = cond_both w.test w.value (choose ways last) P
+    (λ e. w.says) (λ e. says-chosen ways last says)
 
 says-main : (h : ℕ) (bs : List ℕ) → IfRead (SaysMain bs) (main_item h bs)
 says-main h bs =
-    let f : Flags = flags_of (word bs) in
     let P : Result MainItem GrammarFault → Type 0 = IfRead (SaysMain bs) in
-    says-either P
-    (says-as (λ g. g ≡ record f { volatile = false }) (SaysMain bs) main.Input (input_item bs)
-    (λ g is. is) (says-input bs))
-    (says-either P
-    (says-as (λ g. g ≡ f) (SaysMain bs) main.Output (output_item bs) (λ g is. is) (says-flags bs))
-    (says-either P refl
-    (says-either P
-    (says-as (λ g. g ≡ f) (SaysMain bs) main.Feature (feature_item bs) (λ g is. is)
-    (says-flags bs))
-    (says-either P tt tt))))
+    let f : Flags = flags_of (word bs) in
+    let input = says-as (λ g. g ≡ record f { volatile = false }) (SaysMain bs) main.Input
+    (input_item bs) (λ g is. is) (says-input bs) in
+    let output = says-as (λ g. g ≡ f) (SaysMain bs) main.Output (output_item bs) (λ g is. is)
+    (says-flags bs) in
+    let feature = says-as (λ g. g ≡ f) (SaysMain bs) main.Feature (feature_item bs) (λ g is. is)
+    (says-flags bs) in
+    let ways : List (Way P) =
+    way P (prefix h == 0x80) (read_as main.Input (input_item bs)) input
+    ∷ way P (prefix h == 0x90) (read_as main.Output (output_item bs)) output
+    ∷ way P (prefix h == 0xa0) (read_as main.Collection (collection_of bs)) refl
+    ∷ way P (prefix h == 0xb0) (read_as main.Feature (feature_item bs)) feature
+    ∷ way P (prefix h == 0xc0) (Ok main.EndCollection) tt ∷ [] in
+    says-chosen ways (Err (Invalid (tag_message (prefix h)))) tt
 
 says-global : (h : ℕ) (bs : List ℕ) → IfRead (SaysGlobal bs) (global_item h bs)
 says-global h bs =
     let P : Result GlobalItem GrammarFault → Type 0 = IfRead (SaysGlobal bs) in
-    says-short (SaysGlobal bs) bs _
-    (says-either P refl (says-either P refl (says-either P refl (says-either P refl
-    (says-either P refl (says-either P refl (says-either P refl
-    (says-either P (says-data (SaysGlobal bs) bs (Ok (global.ReportSize (word bs))) refl)
-    (says-either P (says-data (SaysGlobal bs) bs (Ok (global.ReportId (word bs % 256))) refl)
-    (says-either P (says-data (SaysGlobal bs) bs (Ok (global.ReportCount (word bs))) refl)
-    (says-either P tt (says-either P tt tt))))))))))))
+    let size : Result GlobalItem GrammarFault = Ok (global.ReportSize (word bs)) in
+    let id : Result GlobalItem GrammarFault = Ok (global.ReportId (word bs % 256)) in
+    let count : Result GlobalItem GrammarFault = Ok (global.ReportCount (word bs)) in
+    let ways : List (Way P) =
+    way P (prefix h == 0x04) (Ok (global.UsagePage (word bs % 65536))) refl
+    ∷ way P (prefix h == 0x14) (Ok (global.LogicalMinimum (signed bs))) refl
+    ∷ way P (prefix h == 0x24) (Ok (global.LogicalMaximum (signed bs))) refl
+    ∷ way P (prefix h == 0x34) (Ok (global.PhysicalMinimum (signed bs))) refl
+    ∷ way P (prefix h == 0x44) (Ok (global.PhysicalMaximum (signed bs))) refl
+    ∷ way P (prefix h == 0x54) (Ok (global.UnitExponent (signed bs))) refl
+    ∷ way P (prefix h == 0x64) (Ok (global.Unit (word bs))) refl
+    ∷ way P (prefix h == 0x74) (with_data bs size) (says-data (SaysGlobal bs) bs size refl)
+    ∷ way P (prefix h == 0x84) (with_data bs id) (says-data (SaysGlobal bs) bs id refl)
+    ∷ way P (prefix h == 0x94) (with_data bs count) (says-data (SaysGlobal bs) bs count refl)
+    ∷ way P (prefix h == 0xa4) (Ok global.Push) tt
+    ∷ way P (prefix h == 0xb4) (Ok global.Pop) tt ∷ [] in
+    says-short (SaysGlobal bs) bs (choose ways (Ok global.Reserved))
+    (says-chosen ways (Ok global.Reserved) tt)
 
 says-usage : (bs : List ℕ) → SaysLocal bs (usage_item (word bs) (length bs))
 says-usage bs =
@@ -165,24 +196,37 @@ says-usage bs =
 says-local : (h : ℕ) (bs : List ℕ) → IfRead (SaysLocal bs) (local_item h bs)
 says-local h bs =
     let P : LocalItem → Type 0 = SaysLocal bs in
-    says-data P bs _ (says-short P bs (Ok _)
-    (says-either P (says-usage bs) (says-either P refl (says-either P refl (says-either P refl
-    (says-either P refl (says-either P refl (says-either P refl (says-either P refl
-    (says-either P refl (says-either P refl tt)))))))))))
+    let ways : List (Way P) =
+    way P (prefix h == 0x08) (usage_item (word bs) (length bs)) (says-usage bs)
+    ∷ way P (prefix h == 0x18) (local.UsageMinimum (word bs)) refl
+    ∷ way P (prefix h == 0x28) (local.UsageMaximum (word bs)) refl
+    ∷ way P (prefix h == 0x38) (local.DesignatorIndex (word bs)) refl
+    ∷ way P (prefix h == 0x48) (local.DesignatorMinimum (word bs)) refl
+    ∷ way P (prefix h == 0x58) (local.DesignatorMaximum (word bs)) refl
+    ∷ way P (prefix h == 0x78) (local.StringIndex (word bs)) refl
+    ∷ way P (prefix h == 0x88) (local.StringMinimum (word bs)) refl
+    ∷ way P (prefix h == 0x98) (local.StringMaximum (word bs)) refl
+    ∷ way P (prefix h == 0xa8) (local.Delimiter (word bs)) refl ∷ [] in
+    let item : LocalItem = choose ways (local.Reserved (prefix h)) in
+    says-data P bs (of_short_length bs (Ok item)) (says-short P bs (Ok item)
+    (says-chosen ways (local.Reserved (prefix h)) tt))
 
 -- what a header and data spell, the data says
 pub says-item : (h : ℕ) (bs : List ℕ) → IfRead (Says bs) (item_of h bs)
 says-item h bs =
     let P : Result ItemType GrammarFault → Type 0 = IfRead (Says bs) in
-    says-either P
-    (says-as (SaysMain bs) (Says bs) item.Main (main_item h bs) (λ x is. is) (says-main h bs))
-    (says-either P
-    (says-as (SaysGlobal bs) (Says bs) item.Global (global_item h bs) (λ x is. is)
-    (says-global h bs))
-    (says-either P
-    (says-as (SaysLocal bs) (Says bs) item.Local (local_item h bs) (λ x is. is)
-    (says-local h bs))
-    (says-either P tt tt)))
+    let main = says-as (SaysMain bs) (Says bs) item.Main (main_item h bs) (λ x is. is)
+    (says-main h bs) in
+    let global = says-as (SaysGlobal bs) (Says bs) item.Global (global_item h bs) (λ x is. is)
+    (says-global h bs) in
+    let local = says-as (SaysLocal bs) (Says bs) item.Local (local_item h bs) (λ x is. is)
+    (says-local h bs) in
+    let ways : List (Way P) =
+    way P (type_of h == 0) (read_as item.Main (main_item h bs)) main
+    ∷ way P (type_of h == 1) (read_as item.Global (global_item h bs)) global
+    ∷ way P (type_of h == 2) (read_as item.Local (local_item h bs)) local
+    ∷ way P (is_long_header h) (Ok item.Long) tt ∷ [] in
+    says-chosen ways (Ok item.Reserved) tt
 
 -- what a kept item's spelling has behind its header
 pub record Behind (bs : List ℕ) (x : ItemType) : Type 0 where
