@@ -270,7 +270,7 @@ next-thin h x e =
     λ f ts i o t cs n. record {
       keeping = h.keeping;
       item_state = f;
-      kept = ts;
+      stack = ts;
       descriptor =
           record { input = i; output = o; feature = t };
       fields =
@@ -330,7 +330,7 @@ idle-thin h locals e =
     λ l n cs m. record {
       keeping = h.keeping;
       item_state = record h.item_state { locals = l };
-      kept =
+      stack =
           map thin_item_state h.stack;
       descriptor = h.descriptor;
       fields = n;

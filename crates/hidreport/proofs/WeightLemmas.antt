@@ -69,37 +69,37 @@ weight-with h Output flags = zero-add _
 weight-with h Feature flags = zero-add _
 
 -- the weight of a data item, from what the parser finds
-pub data-weight : (h : StateRecord) (g : ItemState) (d : Direction) (flags : Flags) (size count : ℕ)
-    (us : Usages) → g ≡ h.item_state → extent g ≡ Some (record { size = size; count = count })
+pub data-weight : (h : StateRecord) (g : ItemState) (d : Direction) (flags : Flags) (e : Extent)
+    (us : Usages) → g ≡ h.item_state → extent g ≡ Some e
     → HasUsages flags h.item_state us
-    → weight_in h (item_with d flags) ≡ field_count flags count * weight_of_each flags
+    → weight_in h (item_with d flags) ≡ field_count flags e.count * weight_of_each flags
     (length (usage_list us).usages) (sum_by collection_weight h.opened)
-data-weight h g d flags size count us same made has =
+data-weight h g d flags e us same made has =
     weight-with h d flags
-    ∙ ap (λ e. sum_by field_weight
-    (fields_of h.item_state h.opened h.fields (start_in d h) (Some (d, flags)) e))
+    ∙ ap (λ o. sum_by field_weight
+    (fields_of h.item_state h.opened h.fields (start_in d h) (Some (d, flags)) o))
     (ap extent (sym same) ∙ made)
     ∙ made-by flags.constant flags.variable
     (record { report_id = h.item_state.report_id; number = h.fields; first = start_in d h })
-    (record { size = size; count = count })
+    e
     flags (list_or_none (usages_of h.item_state))
     (attributes h.item_state h.opened d flags) refl refl
-    ∙ usages-by flags.constant flags h.item_state us count
+    ∙ usages-by flags.constant flags h.item_state us e.count
     (sum_by collection_weight h.opened) refl has
 
 -- the same, from its numbers one by one
 pub data-weighs : (h now : StateRecord) (g : ItemState) (d : Direction) (flags : Flags)
-    (size count : ℕ)
+    (e : Extent)
     (us : Usages) (n w around : ℕ) → h ≡ now → g ≡ h.item_state
-    → extent g ≡ Some (record { size = size; count = count })
+    → extent g ≡ Some e
     → HasUsages flags h.item_state us
-    → n ≡ field_count flags count → w ≡ weight_of_each flags (length (usage_list us).usages) around
+    → n ≡ field_count flags e.count → w ≡ weight_of_each flags (length (usage_list us).usages) around
     → around ≡ sum_by collection_weight h.opened
     → weight_in now (item_with d flags) ≡ n * w
-data-weighs h now g d flags size count us n w around view same made has n_is w_is around_is =
+data-weighs h now g d flags e us n w around view same made has n_is w_is around_is =
     subst (λ (z : StateRecord). weight_in z (item_with d flags) ≡ n * w) view
-    (data-weight h g d flags size count us same made has
-    ∙ ap (λ m. field_count flags count * m)
+    (data-weight h g d flags e us same made has
+    ∙ ap (λ m. field_count flags e.count * m)
     (sym (w_is ∙ ap (weight_of_each flags (length (usage_list us).usages)) around_is))
     ∙ ap (λ m. m * w) (sym n_is))
 

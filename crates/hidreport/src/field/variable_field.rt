@@ -1,6 +1,7 @@
 ghost use Rattle.std.specs.Prelude.{◌≡◌, ◌≢◌, [], ◌∷◌, pos, int_lt, IfOk};
+ghost use Rattle.hidreport_lists.specs.Answer.{AnswersBy};
 ghost use Rattle.hidreport.specs.Bits.{FixesBits};
-ghost use Rattle.hidreport.specs.Reading.{AnswersBy, reads};
+ghost use Rattle.hidreport.specs.Reading.{reads};
 ghost use Rattle.hidreport.specs.Views.{variable_attributes, variable_record};
 
 use crate::field::FieldId;

@@ -11,7 +11,6 @@ use crate::field::data_item::DataItem;
 use crate::field::variable_field::VariableField;
 use crate::field::{Field, FieldId};
 use crate::parser::budget::{Budget, weight_of_each};
-use crate::parser::extent::Extent;
 use crate::parser::fault::Fault;
 use crate::parser::item_state_table::ItemStateTable;
 use crate::parser::measures::Measures;
@@ -55,20 +54,20 @@ impl State {
             IsFaultOf e (stop_in budget.old self.old (as_item item.now))) }
     {
         let globals = self.item_states.globals();
-        let Some(Extent { size, count }) = globals.extent() else {
+        let Some(extent) = globals.extent() else {
             return Ok(());
         };
         let mut usages = needed_usages(alloc, item, &self.item_states)?;
         let reports = self.reports.of(item.direction);
         let slot = reports.slot_of(globals.report_id);
         let first_bit = reports.size_at(slot);
-        let bits = bits_within(first_bit, size, count)?;
-        let field_count = item.field_count(count) as u64;
+        let bits = bits_within(first_bit, extent.size, extent.count)?;
+        let field_count = item.field_count(extent.count) as u64;
         if field_count > FIELD_IDS || self.field_count > FIELD_IDS - field_count {
             return Err(Fault::OutOfBounds);
         }
         let each = weight_of_each(item, &usages, self.collections.weight());
-        budget.spend(item.field_count(count), each)?;
+        budget.spend(item.field_count(extent.count), each)?;
         let layout = Layout {
             report_id: globals.report_id,
             report_count: globals.report_count,
@@ -77,8 +76,8 @@ impl State {
             collections: self.collections.shared_by(alloc, item)?,
             first_id: self.field_count,
             first_bit,
-            size,
-            count,
+            size: extent.size,
+            count: extent.count,
         };
         self.reports.add(alloc, slot, bits, &layout, &mut usages)?;
         self.collections.keep(layout.collections);

@@ -43,7 +43,7 @@ loop-rest-preserved c =
     ap (items_from item_of (offset + c.size-size.result) 0) c.split_at.ensures.back
     ∙ ap (λ k. items_from item_of (offset + k) 0 (drop k rest)) c.size-size.ensures in
     record {
-      starts = rw c.split_at.ensures.back
+      place = rw c.split_at.ensures.back
           (simp length-drop (omega (
             arith,
             step.0,

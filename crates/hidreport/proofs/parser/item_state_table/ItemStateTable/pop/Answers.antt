@@ -14,7 +14,7 @@ loop-entry-preserved c =
     let l = c.loop-entry.self-inside in
     let rest = c.undo.new.self in
     let newest : l.journal ≡ WasLocals c.in-Locals.old.items ∷ rest = c.in-Some.ensures.some
-    ∙ ap (λ (e : Entry). change_of e ∷ rest) c.in-Locals.is in
+    ∙ ap (λ (e : Change). change_of e ∷ rest) c.in-Locals.is in
     let bare : l.keeping ≡ push_keeps.Globals = c.loop-entry.invariant.2
     ∙ c.has_locals-has_locals.ensures.globals c.if-has_locals.false in
     let passed = passed-over l.keeping l.journal rest l.globals l.locals.items c.in-Locals.old.items
@@ -28,7 +28,7 @@ returns-then-has_locals-2-clause-back c = λ _.
     let rest = c.undo.new.self in
     let now = item_state_of s.globals s.locals.items in
     let newest : l.journal ≡ Opened c.in-Push.locals ∷ rest = c.in-Some.ensures.some
-    ∙ ap (λ (e : Entry). change_of e ∷ rest) c.in-Push.is in
+    ∙ ap (λ (e : Change). change_of e ∷ rest) c.in-Push.is in
     let same = c.loop-entry.invariant.2 in
     let all : l.keeping ≡ push_keeps.All = same
     ∙ c.has_locals-has_locals.ensures.all c.if-has_locals-2.true in
@@ -50,7 +50,7 @@ returns-else-has_locals-2-clause-back c = λ _.
     let rest = c.undo.new.self in
     let now = item_state_of s.globals s.locals.items in
     let newest : l.journal ≡ Opened c.in-Push.locals ∷ rest = c.in-Some.ensures.some
-    ∙ ap (λ (e : Entry). change_of e ∷ rest) c.in-Push.is in
+    ∙ ap (λ (e : Change). change_of e ∷ rest) c.in-Push.is in
     let same = c.loop-entry.invariant.2 in
     let bare : l.keeping ≡ push_keeps.Globals = same
     ∙ c.has_locals-has_locals.ensures.globals c.if-has_locals-2.false in

@@ -47,7 +47,7 @@ returns-clause-held c =
       report_id = g.report_id;
       number = s.field_count;
       first = c.size_at-first_bit.result;
-    }) (record { size = c.in-Some.size; count = c.in-Some.count }) (item_flags x)
+    }) c.in-Some.extent (item_flags x)
     (usage_list c.in_ok-usages.usages)
     (attributes_with (direction_of x.direction) (item_flags x) m cs) in
     let fields = with c.measures.result in
@@ -65,7 +65,7 @@ returns-clause-held c =
       collections = o.count;
     }) (c.keep.ensures ∙ c.in_ok-shared_by.ensures.same)
     ∙ data-held h g (direction_of x.direction) (item_flags x) cs
-    (record { size = c.in-Some.size; count = c.in-Some.count }) c.in_ok-usages.usages
+    c.in-Some.extent c.in_ok-usages.usages
     c.slot_of-slot.result.key c.size_at-first_bit.result c.in_ok-bits.bits fields c.add.new.self
     count
     c.globals-globals.ensures c.in_ok-shared_by.ensures.all (sym c.in-Some.ensures)
@@ -76,18 +76,9 @@ pub returns-clause-within : goal.returns-clause-within
 returns-clause-within c =
     let s = c.self.inside in
     let x = c.args.item.now in
-    let h : StateRecord = record {
-      keeping = s.item_states.keeping;
-      item_state = s.item_states.now;
-      stack = s.item_states.stack;
-      descriptor = s.reports;
-      fields = s.field_count;
-      opened = s.collections.list;
-      collections = s.collections.count;
-    } in
     let g = item_state_of c.globals-globals.result.now s.item_states.now.locals in
-    let weighs = data-weighs h c.args.self.now g (direction_of x.direction) (item_flags x)
-    c.in-Some.size c.in-Some.count c.in_ok-usages.usages
+    let weighs = data-weighs _ c.args.self.now g (direction_of x.direction) (item_flags x)
+    c.in-Some.extent c.in_ok-usages.usages
     c.field_count.result c.weight_of_each-each.result c.weight.result c.self.view_is
     c.globals-globals.ensures (sym c.in-Some.ensures) c.in_ok-usages.ensures.usages
     c.field_count.ensures c.weight_of_each-each.ensures c.weight.ensures.weight in
@@ -97,18 +88,9 @@ pub returns-clause-left : goal.returns-clause-left
 returns-clause-left c =
     let s = c.self.inside in
     let x = c.args.item.now in
-    let h : StateRecord = record {
-      keeping = s.item_states.keeping;
-      item_state = s.item_states.now;
-      stack = s.item_states.stack;
-      descriptor = s.reports;
-      fields = s.field_count;
-      opened = s.collections.list;
-      collections = s.collections.count;
-    } in
     let g = item_state_of c.globals-globals.result.now s.item_states.now.locals in
-    let weighs = data-weighs h c.args.self.now g (direction_of x.direction) (item_flags x)
-    c.in-Some.size c.in-Some.count c.in_ok-usages.usages
+    let weighs = data-weighs _ c.args.self.now g (direction_of x.direction) (item_flags x)
+    c.in-Some.extent c.in_ok-usages.usages
     c.field_count.result c.weight_of_each-each.result c.weight.result c.self.view_is
     c.globals-globals.ensures (sym c.in-Some.ensures) c.in_ok-usages.ensures.usages
     c.field_count.ensures c.weight_of_each-each.ensures c.weight.ensures.weight in
@@ -119,18 +101,9 @@ returns-in_err-spend-clause-err c =
     let faultless : fault_in c.args.self.now (as_item c.args.item.now) ≡ None = search rules in
     let s = c.self.inside in
     let x = c.args.item.now in
-    let h : StateRecord = record {
-      keeping = s.item_states.keeping;
-      item_state = s.item_states.now;
-      stack = s.item_states.stack;
-      descriptor = s.reports;
-      fields = s.field_count;
-      opened = s.collections.list;
-      collections = s.collections.count;
-    } in
     let g = item_state_of c.globals-globals.result.now s.item_states.now.locals in
-    let weighs = data-weighs h c.args.self.now g (direction_of x.direction) (item_flags x)
-    c.in-Some.size c.in-Some.count c.in_ok-usages.usages
+    let weighs = data-weighs _ c.args.self.now g (direction_of x.direction) (item_flags x)
+    c.in-Some.extent c.in_ok-usages.usages
     c.field_count.result c.weight_of_each-each.result c.weight.result c.self.view_is
     c.globals-globals.ensures (sym c.in-Some.ensures) c.in_ok-usages.ensures.usages
     c.field_count.ensures c.weight_of_each-each.ensures c.weight.ensures.weight in
