@@ -5,7 +5,7 @@ use Rattle.std.proofs.Common.{Result, Ok, Err, refl, ap, sym, ◌∙◌, arith}
 use Rattle.std.proofs.Math.Nat.{mul-le-mul_left}
 use Rattle.std.proofs.lemmas.Bool.Decides.{nat_tests}
 use Rattle.hidreport_lists.specs.Answer.{Refusal, Bounds}
-use Rattle.hidreport.specs.Reading.{ValueRecord, before_values, element, elements_from}
+use Rattle.hidreport.specs.Reading.{ValueRecord, before_values, element, each_value}
 use Rattle.hidreport.specs.Reading.{element_width}
 
 -- an element is refused as out of bounds alone
@@ -33,33 +33,33 @@ refused_first (Err e) rest h = let same : e ≡ Bounds = cc in ap (λ (r : Refus
 refused_first (Ok x) rest h = cc
 
 -- where one element is refused, so are all
-elements_from-refused : (first end count : ℕ) (s : Bool) (bytes : List ℕ) (index more j : ℕ)
+elements-refused : (first end count : ℕ) (s : Bool) (bytes : List ℕ) (index more j : ℕ)
     → j < more
     → element first end count s bytes (index + j) ≡ Err Bounds
-    → elements_from first end count s bytes index more ≡ Err Bounds
-elements_from-refused first end count s bytes index zero j within h = absurd (omega arith)
-elements_from-refused first end count s bytes index (suc more) zero within h =
+    → each_value (element first end count s bytes) index more ≡ Err Bounds
+elements-refused first end count s bytes index zero j within h = absurd (omega arith)
+elements-refused first end count s bytes index (suc more) zero within h =
     let here : index + 0 ≡ index = omega arith in
     let e = ap (λ i. element first end count s bytes i) here in
     refused_first (element first end count s bytes index)
-    (elements_from first end count s bytes (index + 1) more) (sym e ∙ h)
-elements_from-refused first end count s bytes index (suc more) (suc j) within h =
+    (each_value (element first end count s bytes) (index + 1) more) (sym e ∙ h)
+elements-refused first end count s bytes index (suc more) (suc j) within h =
     let here : index + 1 + j ≡ index + suc j = omega arith in
     let fewer : j < more = omega arith in
     let e = ap (λ i. element first end count s bytes i) here in
     before_refused (element first end count s bytes index)
-    (elements_from first end count s bytes (index + 1) more)
+    (each_value (element first end count s bytes) (index + 1) more)
     (element_refusal first end count s bytes index)
-    (elements_from-refused first end count s bytes (index + 1) more j fewer (e ∙ h))
+    (elements-refused first end count s bytes (index + 1) more j fewer (e ∙ h))
 
 -- the same from the first element on
-pub elements_from-outside : (first end count : ℕ) (s : Bool) (bytes : List ℕ) (more j : ℕ)
+pub elements-outside : (first end count : ℕ) (s : Bool) (bytes : List ℕ) (more j : ℕ)
     → j < more
     → element first end count s bytes j ≡ Err Bounds
-    → elements_from first end count s bytes 0 more ≡ Err Bounds
-elements_from-outside first end count s bytes more j within h =
+    → each_value (element first end count s bytes) 0 more ≡ Err Bounds
+elements-outside first end count s bytes more j within h =
     let here : 0 + j ≡ j = omega arith in
-    elements_from-refused first end count s bytes 0 more j within
+    elements-refused first end count s bytes 0 more j within
     (ap (λ i. element first end count s bytes i) here ∙ h)
 
 -- one more at the end
@@ -80,35 +80,36 @@ last_of_one : (a : Result ValueRecord Refusal) (xs : List ValueRecord) (x : Valu
 last_of_one (Err e) xs x none found = cc
 last_of_one (Ok y) xs x none found = let same : y ≡ x = cc in rw (sym none, same) refl
 
-elements_from-next : (first end count : ℕ) (s : Bool) (bytes : List ℕ) (index more : ℕ)
+elements-next : (first end count : ℕ) (s : Bool) (bytes : List ℕ) (index more : ℕ)
     (xs : List ValueRecord) (x : ValueRecord)
-    → elements_from first end count s bytes index more ≡ Ok xs
+    → each_value (element first end count s bytes) index more ≡ Ok xs
     → element first end count s bytes (index + more) ≡ Ok x
-    → elements_from first end count s bytes index (suc more) ≡ Ok (xs ++ x ∷ [])
-elements_from-next first end count s bytes index zero xs x h found =
+    → each_value (element first end count s bytes) index (suc more) ≡ Ok (xs ++ x ∷ [])
+elements-next first end count s bytes index zero xs x h found =
     let here : index + 0 ≡ index = omega arith in
     let e = ap (λ i. element first end count s bytes i) here in
     let none : [] ≡ xs = cc in
     last_of_one (element first end count s bytes index) xs x none (sym e ∙ found)
-elements_from-next first end count s bytes index (suc more) xs x h found =
+elements-next first end count s bytes index (suc more) xs x h found =
     let here : index + 1 + more ≡ index + suc more = omega arith in
     let e = ap (λ i. element first end count s bytes i) here in
     before_values-next (element first end count s bytes index)
-    (elements_from first end count s bytes (index + 1) more)
-    (elements_from first end count s bytes (index + 1) (suc more)) xs x h
-    (λ ys rest. elements_from-next first end count s bytes (index + 1) more ys x rest (e ∙ found))
+    (each_value (element first end count s bytes) (index + 1) more)
+    (each_value (element first end count s bytes) (index + 1) (suc more)) xs x h
+    (λ ys rest. elements-next first end count s bytes (index + 1) more ys x rest (e ∙ found))
 
 -- the same for the elements from the first on
-pub elements_from-more : (first end count : ℕ) (s : Bool) (bytes : List ℕ) (n : ℕ)
+pub elements-more : (first end count : ℕ) (s : Bool) (bytes : List ℕ) (n : ℕ)
     (xs : List ValueRecord) (x : ValueRecord)
-    → elements_from first end count s bytes 0 n ≡ Ok xs → element first end count s bytes n ≡ Ok x
-    → elements_from first end count s bytes 0 (n + 1) ≡ Ok (xs ++ x ∷ [])
-elements_from-more first end count s bytes n xs x h found =
+    → each_value (element first end count s bytes) 0 n ≡ Ok xs
+    → element first end count s bytes n ≡ Ok x
+    → each_value (element first end count s bytes) 0 (n + 1) ≡ Ok (xs ++ x ∷ [])
+elements-more first end count s bytes n xs x h found =
     let here : 0 + n ≡ n = omega arith in
     let more : n + 1 ≡ suc n = omega arith in
     let at = ap (λ i. element first end count s bytes i) here in
-    ap (λ k. elements_from first end count s bytes 0 k) more
-    ∙ elements_from-next first end count s bytes 0 n xs x h (at ∙ found)
+    ap (λ k. each_value (element first end count s bytes) 0 k) more
+    ∙ elements-next first end count s bytes 0 n xs x h (at ∙ found)
 
 -- bits that lie before readable bits of the same number are readable
 refused_before : (a w x y n : ℕ) → x ≤ y
@@ -141,21 +142,21 @@ before_readable (Ok x) (Err e) here more = more
 before_readable (Ok x) (Ok xs) here more = refl
 
 -- where each element is readable, so are all
-elements_from-readable : (first end count : ℕ) (s : Bool) (bytes : List ℕ) (index more : ℕ)
+elements-readable : (first end count : ℕ) (s : Bool) (bytes : List ℕ) (index more : ℕ)
     → ((k : ℕ) → k < index + more → IsOk (element first end count s bytes k))
-    → IsOk (elements_from first end count s bytes index more)
-elements_from-readable first end count s bytes index zero each = refl
-elements_from-readable first end count s bytes index (suc more) each =
+    → IsOk (each_value (element first end count s bytes) index more)
+elements-readable first end count s bytes index zero each = refl
+elements-readable first end count s bytes index (suc more) each =
     before_readable (element first end count s bytes index)
-    (elements_from first end count s bytes (index + 1) more) (each index (omega arith))
-    (elements_from-readable first end count s bytes (index + 1) more
+    (each_value (element first end count s bytes) (index + 1) more) (each index (omega arith))
+    (elements-readable first end count s bytes (index + 1) more
     (λ k below. each k (omega arith)))
 
 -- where the last element is readable, so are all
-pub elements_from-last : (first end count : ℕ) (s : Bool) (bytes : List ℕ) (n last : ℕ)
+pub elements-last : (first end count : ℕ) (s : Bool) (bytes : List ℕ) (n last : ℕ)
     (x : ValueRecord) → n ≡ last + 1 → element first end count s bytes last ≡ Ok x
-    → IsOk (elements_from first end count s bytes 0 n)
-elements_from-last first end count s bytes n last x e found =
+    → IsOk (each_value (element first end count s bytes) 0 n)
+elements-last first end count s bytes n last x e found =
     let readable : IsOk (element first end count s bytes last) = ap is_ok found in
-    elements_from-readable first end count s bytes 0 n
+    elements-readable first end count s bytes 0 n
     (λ k below. element-before first end count s bytes k last (omega arith) readable)

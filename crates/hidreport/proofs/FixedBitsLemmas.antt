@@ -10,7 +10,7 @@ use Rattle.std.proofs.lemmas.Grind.{common_steps}
 use Rattle.hidreport_lists.specs.Answer.{Refusal, Bounds, Mismatch}
 use Rattle.hidreport.specs.BitValue.{as_word, bit, sum_of_bits, value}
 use Rattle.hidreport.specs.Reading.{ValueRecord, before_values, element, element_width}
-use Rattle.hidreport.specs.Reading.{elements_from, is_signed, one_value, read_bits}
+use Rattle.hidreport.specs.Reading.{each_value, is_signed, one_value, read_bits}
 use Rattle.hidreport.specs.Records.{own_id}
 use Rattle.hidreport.specs.Reading.{values_of, with_id}
 use Rattle.hidreport.specs.Records.{FieldRecord, VariableRecord, ArrayRecord, ConstantRecord}
@@ -211,8 +211,8 @@ one_more_width w more = grind (arith, common_steps)
 
 elements-fix : (first end count : ℕ) (signed : Bool) (bytes other : List ℕ) (index more : ℕ)
     (xs ys : List ValueRecord)
-    → elements_from first end count signed bytes index more ≡ Ok xs
-    → elements_from first end count signed other index more ≡ Ok ys
+    → each_value (element first end count signed bytes) index more ≡ Ok xs
+    → each_value (element first end count signed other) index more ≡ Ok ys
     → (xs ≡ ys) ↔ AgreeOn (first + element_width first end count * index)
     (element_width first end count * more) bytes other
 elements-fix first end count signed bytes other index zero xs ys p q =
@@ -223,9 +223,9 @@ elements-fix first end count signed bytes other index (suc more) xs ys p q =
     let w = element_width first end count in
     let s = first + w * index in
     let a = split (element first end count signed bytes index)
-    (elements_from first end count signed bytes (index + 1) more) xs p in
+    (each_value (element first end count signed bytes) (index + 1) more) xs p in
     let b = split (element first end count signed other index)
-    (elements_from first end count signed other (index + 1) more) ys q in
+    (each_value (element first end count signed other) (index + 1) more) ys q in
     let head = read-fixes s (s + w) signed bytes other a.first b.first a.is_first b.is_first in
     let rest = elements-fix first end count signed bytes other (index + 1) more a.more b.more
     a.is_rest b.is_rest in

@@ -7,7 +7,7 @@ use Rattle.std.proofs.lemmas.Grind.{common_steps}
 use Rattle.hidreport_lists.specs.Answer.{Refusal, Bounds, Mismatch}
 use Rattle.hidreport.specs.Lookup.{find_by, find_report}
 use Rattle.hidreport.specs.Making.{same_key}
-use Rattle.hidreport.specs.Reading.{ValueRecord, before_values, element, elements_from, is_signed}
+use Rattle.hidreport.specs.Reading.{ValueRecord, before_values, element, each_value, is_signed}
 use Rattle.hidreport.specs.Reading.{one_value, read_bits, reads, values_of, with_id}
 use Rattle.hidreport.specs.Records.{own_id}
 use Rattle.hidreport.specs.Records.{DescriptorRecord, FieldRecord, VariableRecord, ArrayRecord}
@@ -37,11 +37,11 @@ before-own (Ok x) (Err f) own more e = more e
 before-own (Ok x) (Ok xs) own more e = cc
 
 elements-own : (first end count : ℕ) (signed : Bool) (bytes : List ℕ) (index more : ℕ)
-    → IsOwn (elements_from first end count signed bytes index more)
+    → IsOwn (each_value (element first end count signed bytes) index more)
 elements-own first end count signed bytes index zero = λ e. cc
 elements-own first end count signed bytes index (suc more) =
     before-own (element first end count signed bytes index)
-    (elements_from first end count signed bytes (index + 1) more) (bits-by _ _)
+    (each_value (element first end count signed bytes) (index + 1) more) (bits-by _ _)
     (elements-own first end count signed bytes (index + 1) more)
 
 values-own : (f : FieldRecord) (bytes : List ℕ) → IsOwn (values_of f bytes)

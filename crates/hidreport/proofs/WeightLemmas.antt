@@ -93,7 +93,8 @@ pub data-weighs : (h now : StateRecord) (g : ItemState) (d : Direction) (flags :
     (us : Usages) (n w around : ℕ) → h ≡ now → g ≡ h.item_state
     → extent g ≡ Some e
     → HasUsages flags h.item_state us
-    → n ≡ field_count flags e.count → w ≡ weight_of_each flags (length (usage_list us).usages) around
+    → n ≡ field_count flags e.count → w ≡ weight_of_each flags
+    (length (usage_list us).usages) around
     → around ≡ sum_by collection_weight h.opened
     → weight_in now (item_with d flags) ≡ n * w
 data-weighs h now g d flags e us n w around view same made has n_is w_is around_is =

@@ -45,12 +45,10 @@ before_values (Err e) rest = Err e
 before_values (Ok x) (Err e) = Err e
 before_values (Ok x) (Ok xs) = Ok (x ∷ xs)
 
--- so many elements from `index` on
-abbrev pub elements_from : ℕ → ℕ → ℕ → Bool → List ℕ → ℕ → ℕ → Result (List ValueRecord) Refusal
-elements_from first end count is_signed bytes index zero = Ok []
-elements_from first end count is_signed bytes index (suc more) =
-    before_values (element first end count is_signed bytes index)
-    (elements_from first end count is_signed bytes (index + 1) more)
+-- the values at `index` and behind it, so many, or the first refusal
+abbrev pub each_value : (ℕ → Result ValueRecord Refusal) → ℕ → ℕ → Result (List ValueRecord) Refusal
+each_value read index zero = Ok []
+each_value read index (suc more) = before_values (read index) (each_value read (index + 1) more)
 
 -- the values are signed where the least of them is below 0
 abbrev pub is_signed : Attributes → Bool
@@ -66,7 +64,7 @@ abbrev pub values_of : FieldRecord → List ℕ → Result (List ValueRecord) Re
 values_of (VariableRecord place usage shared) bytes =
     one_value (read_bits place.first place.end (is_signed shared) bytes)
 values_of (ArrayRecord place usages is_range count shared) bytes =
-    elements_from place.first place.end count (is_signed shared) bytes 0 count
+    each_value (element place.first place.end count (is_signed shared) bytes) 0 count
 values_of (ConstantRecord place) bytes = Ok []
 
 -- the values that a report's bytes give a field, or the first refusal

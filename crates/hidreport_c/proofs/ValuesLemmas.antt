@@ -8,7 +8,7 @@ use Rattle.std.proofs.Math.Seq.{drop-nil, take-nil}
 use Rattle.std.proofs.lemmas.Bool.Decides.{leb_tells}
 use Rattle.std.specs.Prelude.{◌==◌, min, slice_get}
 use Rattle.hidreport.specs.Answer.{Refusal, Bounds, Mismatch}
-use Rattle.hidreport.specs.Reading.{ValueRecord, before_values, element, elements_from, with_id}
+use Rattle.hidreport.specs.Reading.{ValueRecord, before_values, element, each_value, with_id}
 use Rattle.hidreport_c.specs.Answer.{as_answer, offset_of, array_after}
 use Rattle.hidreport_c.specs.Status.{by_status, status_of}
 use Rattle.hidreport_c.specs.Value.{acceptance, elements_at, id_of, value_numbers, values_at}
@@ -61,12 +61,12 @@ before-parts (Ok x) (Ok xs) all h = (x, xs, refl, refl, cc)
 -- there are as many values as elements
 pub elements-length : (first end count : ℕ) (s : Bool) (bytes : List ℕ) (index more : ℕ)
     (all : List ValueRecord)
-    → elements_from first end count s bytes index more ≡ Ok all → length all ≡ more
+    → each_value (element first end count s bytes) index more ≡ Ok all → length all ≡ more
 elements-length first end count s bytes index zero all h =
     let none : [] ≡ all = cc in ap length (sym none)
 elements-length first end count s bytes index (suc more) all h =
     let parts = before-parts (element first end count s bytes index)
-    (elements_from first end count s bytes (index + 1) more) all h in
+    (each_value (element first end count s bytes) (index + 1) more) all h in
     ap length (sym parts.4)
     ∙ ap suc (elements-length first end count s bytes (index + 1) more parts.1 parts.3)
 
@@ -79,19 +79,19 @@ same-value x y h = cc
 -- each value stands at its index
 pub element-listed : (first end count : ℕ) (s : Bool) (bytes : List ℕ) (index more : ℕ)
     (all : List ValueRecord) (j : ℕ) (x : ValueRecord)
-    → elements_from first end count s bytes index more ≡ Ok all → j < more
+    → each_value (element first end count s bytes) index more ≡ Ok all → j < more
     → element first end count s bytes (index + j) ≡ Ok x → slice_get all j ≡ Some x
 element-listed first end count s bytes index zero all j x h within found =
     absurd (omega (arith, within))
 element-listed first end count s bytes index (suc more) all zero x h within found =
     let parts = before-parts (element first end count s bytes index)
-    (elements_from first end count s bytes (index + 1) more) all h in
+    (each_value (element first end count s bytes) (index + 1) more) all h in
     let here : index + 0 ≡ index = omega arith in
     let is = sym parts.2 ∙ ap (λ i. element first end count s bytes i) (sym here) ∙ found in
     ap (λ l. slice_get l 0) (sym parts.4) ∙ same-value parts.0 x is
 element-listed first end count s bytes index (suc more) all (suc j) x h within found =
     let parts = before-parts (element first end count s bytes index)
-    (elements_from first end count s bytes (index + 1) more) all h in
+    (each_value (element first end count s bytes) (index + 1) more) all h in
     let here : index + 1 + j ≡ index + suc j = omega arith in
     ap (λ l. slice_get l (suc j)) (sym parts.4)
     ∙ element-listed first end count s bytes (index + 1) more parts.1 j x parts.3
@@ -132,11 +132,11 @@ byte-place true a r h more = more h
 byte-place false a r h more = let is : Mismatch ≡ r = cc in ap offset_of (sym is)
 
 elements-place : (first end count : ℕ) (s : Bool) (bytes : List ℕ) (index more : ℕ) (r : Refusal)
-    → elements_from first end count s bytes index more ≡ Err r → offset_of r ≡ 0
+    → each_value (element first end count s bytes) index more ≡ Err r → offset_of r ≡ 0
 elements-place first end count s bytes index zero r h = cc
 elements-place first end count s bytes index (suc more) r h =
     first-place (element first end count s bytes index)
-    (elements_from first end count s bytes (index + 1) more) r h
+    (each_value (element first end count s bytes) (index + 1) more) r h
     (λ e. test-place _ _ r e) (λ e. elements-place first end count s bytes (index + 1) more r e)
 
 id-place : (id : Option ℕ) (bytes : List ℕ) (a : Result (List ValueRecord) Refusal) (r : Refusal)

@@ -3,7 +3,7 @@ use Rattle.std.specs.Prelude.{ℕ, pos, int_lt, nat_lt, zero, suc, if◌then◌e
 use Rattle.std.specs.Prelude.{ℤ, Option, None, Some, Result, Ok, Err}
 use Rattle.hidreport.specs.Answer.{Refusal, Bounds}
 use Rattle.hidreport.specs.Choosing.{value_number}
-use Rattle.hidreport.specs.Reading.{ValueRecord, element, elements_from, reads, reads_element}
+use Rattle.hidreport.specs.Reading.{ValueRecord, element, each_value, reads, reads_element}
 use Rattle.hidreport.specs.Reading.{with_id}
 use Rattle.hidreport.specs.Records.{FieldRecord, VariableRecord, ArrayRecord, ConstantRecord}
 use Rattle.hidreport_c.specs.Status.{status_of}
@@ -53,8 +53,8 @@ value_numbers (Err refusal) = Err refusal
 
 -- all values of the field, whatever the report's id
 abbrev pub elements_at : HidreportField → List ℕ → Result (List ValueRecord) Refusal
-elements_at f bytes = elements_from f.first_bit f.end_bit f.value_count
-    (int_lt f.measures.logical_minimum (pos 0)) bytes 0 f.value_count
+elements_at f bytes = each_value (element f.first_bit f.end_bit f.value_count
+    (int_lt f.measures.logical_minimum (pos 0)) bytes) 0 f.value_count
 
 -- all values of the field in a report that has these bytes
 abbrev pub values_at : HidreportField → List ℕ → Result (List ValueRecord) Refusal

@@ -1,5 +1,5 @@
 use Rattle.std.proofs.Common.{◌≡◌, ◌-◌, ◌+◌, ◌<◌, pos, int_lt, ap, sym, arith, rules}
-use Rattle.hidreport.proofs.ElementLemmas.{elements_from-last, elements_from-outside}
+use Rattle.hidreport.proofs.ElementLemmas.{elements-last, elements-outside}
 use Rattle.hidreport_c.proofs.ValuesLemmas.{accepted-ok}
 use Rattle.hidreport_c.specs.Status.{by_status}
 use Rattle.hidreport_c.specs.Value.{acceptance, elements_at}
@@ -11,7 +11,7 @@ returns-in-Some c =
     let is_signed = int_lt f.measures.logical_minimum (pos 0) in
     let last : f.value_count ≡ f.value_count - 1 + 1 = omega (arith, c.if-self-eq0.false) in
     sym (accepted-ok (elements_at f c.args.report.now)
-    (elements_from-last f.first_bit f.end_bit f.value_count is_signed c.args.report.now
+    (elements-last f.first_bit f.end_bit f.value_count is_signed c.args.report.now
     f.value_count (f.value_count - 1) c.in-Some.field-0 last (search rules)))
 
 pub returns-in-None : goal.returns-in-None
@@ -20,5 +20,5 @@ returns-in-None c =
     let is_signed = int_lt f.measures.logical_minimum (pos 0) in
     let within : f.value_count - 1 < f.value_count = omega (arith, c.if-self-eq0.false) in
     sym (ap (λ r. by_status (acceptance r))
-    (elements_from-outside f.first_bit f.end_bit f.value_count is_signed c.args.report.now
+    (elements-outside f.first_bit f.end_bit f.value_count is_signed c.args.report.now
     f.value_count (f.value_count - 1) within (search rules)))

@@ -5,7 +5,7 @@ use Rattle.std.proofs.Math.Nat.{min-le_left, min-le_right}
 use Rattle.std.proofs.lemmas.Int.{to_z-of_z}
 use Rattle.std.proofs.lemmas.Option.{slice_get-map}
 use Rattle.std.specs.Prelude.{option_map}
-use Rattle.hidreport.proofs.ElementLemmas.{elements_from-outside}
+use Rattle.hidreport.proofs.ElementLemmas.{elements-outside}
 use Rattle.hidreport.specs.Reading.{element}
 use Rattle.hidreport.specs.Choosing.{value_number}
 use Rattle.hidreport_c.proofs.ValuesLemmas.{element-listed, elements-length, past-least}
@@ -49,7 +49,7 @@ loop-index-preserved c =
                 ∙ ap (λ n. array_after (take n (map value_number all)) old) next,
           )
       | in_default w ↦
-          let outside = elements_from-outside f.first_bit f.end_bit f.value_count is_signed bytes
+          let outside = elements-outside f.first_bit f.end_bit f.value_count is_signed bytes
           f.value_count index within (w.in_default.ensures.outside refl) in
           absurd (refused-not-ok (elements_at f bytes) all outside c.loop-index.invariant.1)
     ]
