@@ -1,7 +1,4 @@
 //! Where the fields of a data item lie, and what they share (Sections 6.2.2.4 and 6.2.2.5).
-ghost use Rattle.std.specs.Prelude.{◌≡◌, ◌+◌, ◌*◌, ◌<◌, ◌≤◌, ◌^◌, None, IfOk, IfErr, OnOk};
-ghost use Rattle.hidreport.specs.Parser.Refusals.{IsFaultOf};
-ghost use Rattle.hidreport.specs.Parser.Usages.{HasUsages, usages_fault};
 ghost use Rattle.hidreport.specs.Views.{item_flags};
 
 use crate::field::array_field::ArrayField;
@@ -10,129 +7,28 @@ use crate::field::constant_field::ConstantField;
 use crate::field::data_item::DataItem;
 use crate::field::variable_field::VariableField;
 use crate::field::{Field, FieldId};
-use crate::parser::budget::{Budget, weight_of_each};
-use crate::parser::fault::Fault;
-use crate::parser::item_state_table::ItemStateTable;
 use crate::parser::measures::Measures;
-use crate::parser::state::State;
-use crate::parser::usages::{Usages, usages_of};
+use crate::parser::usages::Usages;
 use hidreport_types::{ReportCount, ReportId};
 use std::alloc::{AllocError, Global};
 use std::ops::Range;
 use std::sync::ArcSlice;
 
-/// How many fields have an id.
-const FIELD_IDS: u64 = 1 << 32;
-
 /// How many fields more than its first item's a report has room for.
 const MORE_FIELDS: usize = 3;
-
-impl State {
-    ghost use Rattle.std.specs.Prelude.{◌≡◌, false, None, IfErr, OnOk};
-    ghost use Rattle.hidreport.specs.Parser.Budget.{is_past, left_behind, stop_in, weight_in};
-    ghost use Rattle.hidreport.specs.Parser.DataItem.{as_item};
-    ghost use Rattle.hidreport.specs.Parser.Machine.{fault_in, next_state};
-    ghost use Rattle.hidreport.specs.Parser.Refusals.{IsFaultOf};
-
-    /// Adds the fields of a data item to their report, which is made at need.
-    pub(crate) fn add_data(
-        &mut self,
-        alloc: Global,
-        budget: &mut Budget,
-        item: &DataItem,
-    ) -> Result<(), Fault>
-        ensures faultless { OnOk result (fault_in self.old (as_item item.now) ≡ None) }
-        ensures within { OnOk result
-            (is_past budget.old (weight_in self.old (as_item item.now)) ≡ false) }
-        ensures left { OnOk result (budget.new
-            ≡ left_behind budget.old (weight_in self.old (as_item item.now))) }
-        ensures held { OnOk result (self.new ≡ record self.old {
-          descriptor = (next_state self.old (as_item item.now)).descriptor;
-          fields = (next_state self.old (as_item item.now)).fields;
-        }) }
-        ensures err { IfErr result (λ e.
-            IsFaultOf e (stop_in budget.old self.old (as_item item.now))) }
-    {
-        let globals = self.item_states.globals();
-        let Some(extent) = globals.extent() else {
-            return Ok(());
-        };
-        let mut usages = needed_usages(alloc, item, &self.item_states)?;
-        let reports = self.reports.of(item.direction);
-        let slot = reports.slot_of(globals.report_id);
-        let first_bit = reports.size_at(slot);
-        let bits = bits_within(first_bit, extent.size, extent.count)?;
-        let field_count = item.field_count(extent.count) as u64;
-        if field_count > FIELD_IDS || self.field_count > FIELD_IDS - field_count {
-            return Err(Fault::OutOfBounds);
-        }
-        let each = weight_of_each(item, &usages, self.collections.weight());
-        budget.spend(item.field_count(extent.count), each)?;
-        let layout = Layout {
-            report_id: globals.report_id,
-            report_count: globals.report_count,
-            measures: globals.measures(),
-            item: *item,
-            collections: self.collections.shared_by(alloc, item)?,
-            first_id: self.field_count,
-            first_bit,
-            size: extent.size,
-            count: extent.count,
-        };
-        self.reports.add(alloc, slot, bits, &layout, &mut usages)?;
-        self.collections.keep(layout.collections);
-        self.field_count += field_count;
-        Ok(())
-    }
-}
-
-/// The usages of a data item, of which it needs some unless it is constant.
-fn needed_usages(
-    alloc: Global,
-    item: &DataItem,
-    item_states: &ItemStateTable,
-) -> Result<Usages, Fault>
-    ensures faultless { OnOk result (usages_fault (item_flags item.now) item_states.now.now ≡ None) }
-    ensures usages { IfOk result (HasUsages (item_flags item.now) item_states.now.now) }
-    ensures err { IfErr result (λ e.
-        IsFaultOf e (usages_fault (item_flags item.now) item_states.now.now)) }
-{
-    if item.is_constant {
-        return Ok(Usages::Several(Vec::new(alloc)));
-    }
-    let usages = usages_of(alloc, item_states)?;
-    if usages.count() == 0 {
-        return Err(Fault::MissingUsages);
-    }
-    Ok(usages)
-}
-
-/// How many bits so many elements take, unless the report's end passes what can be counted.
-fn bits_within(start: usize, size: usize, count: usize) -> Result<usize, Fault>
-    ensures fits { IfOk result (λ bits. (bits ≡ size * count) × (start + size * count < 2 ^ 64)) }
-    ensures past { IfErr result (λ e. (e ≡ Fault.OutOfBounds) × (2 ^ 64 ≤ start + size * count)) }
-{
-    let Some(bits) = size.checked_mul(count) else {
-        return Err(Fault::OutOfBounds);
-    };
-    if start.checked_add(bits).is_none() {
-        return Err(Fault::OutOfBounds);
-    }
-    Ok(bits)
-}
 
 /// What the fields of one item have in common.
 #[derive(Drop)]
 pub(crate) struct Layout {
-    report_id: Option<ReportId>,
-    report_count: Option<ReportCount>,
-    measures: Measures,
+    pub(crate) report_id: Option<ReportId>,
+    pub(crate) report_count: Option<ReportCount>,
+    pub(crate) measures: Measures,
     pub(crate) item: DataItem,
-    collections: Option<ArcSlice<Collection>>,
-    first_id: u64,
-    first_bit: usize,
-    size: usize,
-    count: usize,
+    pub(crate) collections: Option<ArcSlice<Collection>>,
+    pub(crate) first_id: u64,
+    pub(crate) first_bit: usize,
+    pub(crate) size: usize,
+    pub(crate) count: usize,
 }
 
 impl Layout {

@@ -1,11 +1,17 @@
+ghost use Rattle.std.specs.Prelude.{◌≡◌, ◌+◌, ◌*◌, ◌<◌, ◌≤◌, ◌^◌, None, IfOk, IfErr, OnOk};
+ghost use Rattle.hidreport.specs.Parser.Refusals.{IsFaultOf};
+ghost use Rattle.hidreport.specs.Parser.Usages.{HasUsages, usages_fault};
+ghost use Rattle.hidreport.specs.Views.{item_flags};
+
 use crate::field::data_item::DataItem;
-use crate::parser::budget::Budget;
+use crate::parser::budget::{Budget, weight_of_each};
 use crate::parser::fault::Fault;
 use crate::parser::item_state_table::ItemStateTable;
+use crate::parser::layout::Layout;
 use crate::parser::open_collections::OpenCollections;
 use crate::parser::push_keeps::PushKeeps;
 use crate::parser::report_lists::ReportLists;
-use crate::parser::usages::usages_of;
+use crate::parser::usages::{Usages, usages_of};
 use crate::report::reports::Reports;
 use hidreport_items::{CollectionItem, GlobalItem, ItemType, MainItem};
 use std::alloc::Global;
@@ -14,13 +20,16 @@ use std::marker::Model;
 /// How many collections have an id.
 const COLLECTION_IDS: u64 = 1 << 32;
 
+/// How many fields have an id.
+const FIELD_IDS: u64 = 1 << 32;
+
 /// What the items so far have set, opened and made.
 #[derive(Drop)]
 pub(crate) struct State {
-    pub(crate) item_states: ItemStateTable,
-    pub(crate) reports: ReportLists,
-    pub(crate) field_count: u64,
-    pub(crate) collections: OpenCollections,
+    item_states: ItemStateTable,
+    reports: ReportLists,
+    field_count: u64,
+    collections: OpenCollections,
 }
 
 impl Model for State {
@@ -42,9 +51,9 @@ impl Model for State {
 impl State {
     ghost use Rattle.std.specs.Prelude.{◌≡◌, ◌+◌, false, None, Ok, IfErr, OnOk};
     ghost use Rattle.hidreport.specs.Parser.Budget.{is_past, left_behind, stop_in, weight_in};
-    ghost use Rattle.hidreport.specs.Parser.Machine.{fault_in, next_opened, first_state, step};
+    ghost use Rattle.hidreport.specs.Parser.Machine.{fault_in, first_state, next_opened, next_state, step};
     ghost use Rattle.hidreport.specs.Parser.Refusals.{IsFaultOf};
-    ghost use Rattle.hidreport.specs.Parser.DataItem.{collection, end_collection};
+    ghost use Rattle.hidreport.specs.Parser.DataItem.{as_item, collection, end_collection};
 
     /// Before the first item.
     pub(crate) fn new(alloc: Global, keeping: PushKeeps) -> State
@@ -117,6 +126,52 @@ impl State {
         Ok(())
     }
 
+    /// Adds the fields of a data item to their report, which is made at need.
+    fn add_data(&mut self, alloc: Global, budget: &mut Budget, item: &DataItem) -> Result<(), Fault>
+        ensures faultless { OnOk result (fault_in self.old (as_item item.now) ≡ None) }
+        ensures within { OnOk result
+            (is_past budget.old (weight_in self.old (as_item item.now)) ≡ false) }
+        ensures left { OnOk result (budget.new
+            ≡ left_behind budget.old (weight_in self.old (as_item item.now))) }
+        ensures held { OnOk result (self.new ≡ record self.old {
+          descriptor = (next_state self.old (as_item item.now)).descriptor;
+          fields = (next_state self.old (as_item item.now)).fields;
+        }) }
+        ensures err { IfErr result (λ e.
+            IsFaultOf e (stop_in budget.old self.old (as_item item.now))) }
+    {
+        let globals = self.item_states.globals();
+        let Some(extent) = globals.extent() else {
+            return Ok(());
+        };
+        let mut usages = needed_usages(alloc, item, &self.item_states)?;
+        let reports = self.reports.of(item.direction);
+        let slot = reports.slot_of(globals.report_id);
+        let first_bit = reports.size_at(slot);
+        let bits = bits_within(first_bit, extent.size, extent.count)?;
+        let field_count = item.field_count(extent.count) as u64;
+        if field_count > FIELD_IDS || self.field_count > FIELD_IDS - field_count {
+            return Err(Fault::OutOfBounds);
+        }
+        let each = weight_of_each(item, &usages, self.collections.weight());
+        budget.spend(item.field_count(extent.count), each)?;
+        let layout = Layout {
+            report_id: globals.report_id,
+            report_count: globals.report_count,
+            measures: globals.measures(),
+            item: *item,
+            collections: self.collections.shared_by(alloc, item)?,
+            first_id: self.field_count,
+            first_bit,
+            size: extent.size,
+            count: extent.count,
+        };
+        self.reports.add(alloc, slot, bits, &layout, &mut usages)?;
+        self.collections.keep(layout.collections);
+        self.field_count += field_count;
+        Ok(())
+    }
+
     /// Opens a collection with the usages in force.
     fn open_collection(
         &mut self,
@@ -166,4 +221,39 @@ impl State {
     {
         self.reports.into_reports()
     }
+}
+
+/// The usages of a data item, of which it needs some unless it is constant.
+fn needed_usages(
+    alloc: Global,
+    item: &DataItem,
+    item_states: &ItemStateTable,
+) -> Result<Usages, Fault>
+    ensures faultless { OnOk result (usages_fault (item_flags item.now) item_states.now.now ≡ None) }
+    ensures usages { IfOk result (HasUsages (item_flags item.now) item_states.now.now) }
+    ensures err { IfErr result (λ e.
+        IsFaultOf e (usages_fault (item_flags item.now) item_states.now.now)) }
+{
+    if item.is_constant {
+        return Ok(Usages::Several(Vec::new(alloc)));
+    }
+    let usages = usages_of(alloc, item_states)?;
+    if usages.count() == 0 {
+        return Err(Fault::MissingUsages);
+    }
+    Ok(usages)
+}
+
+/// How many bits so many elements take, unless the report's end passes what can be counted.
+fn bits_within(start: usize, size: usize, count: usize) -> Result<usize, Fault>
+    ensures fits { IfOk result (λ bits. (bits ≡ size * count) × (start + size * count < 2 ^ 64)) }
+    ensures past { IfErr result (λ e. (e ≡ Fault.OutOfBounds) × (2 ^ 64 ≤ start + size * count)) }
+{
+    let Some(bits) = size.checked_mul(count) else {
+        return Err(Fault::OutOfBounds);
+    };
+    if start.checked_add(bits).is_none() {
+        return Err(Fault::OutOfBounds);
+    }
+    Ok(bits)
 }
