@@ -16,6 +16,15 @@ pub fn add_command(alloc: Global, text: &mut String, words: &str) -> Result<(), 
         let (limit, words) = first_of(words)?;
         return add_run(alloc, text, Command::ValuesWithin(number_of(limit)?), words);
     }
+    if name == "values-globals-within" {
+        let (limit, words) = first_of(words)?;
+        return add_run(
+            alloc,
+            text,
+            Command::ValuesGlobalsWithin(number_of(limit)?),
+            words,
+        );
+    }
     let command = match name {
         "items" => Command::Items,
         "values" => Command::Values,

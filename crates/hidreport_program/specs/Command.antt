@@ -6,6 +6,7 @@ use Rattle.hidreport_program.specs.declared.program.commands.Command.{Command}
 use Rattle.hidreport_program.specs.declared.program.commands.Command.TheVariants.{Items, Values}
 use Rattle.hidreport_program.specs.declared.program.commands.Command.TheVariants.{ValuesWithin}
 use Rattle.hidreport_program.specs.declared.program.commands.Command.TheVariants.{ValuesGlobals}
+use Rattle.hidreport_program.specs.declared.program.commands.Command.TheVariants.{ValuesGlobalsWithin}
 use Rattle.hidreport_program.specs.declared.program.commands.Command.TheVariants.{Rebuild}
 
 -- this many words, and the first is the name
@@ -18,13 +19,16 @@ IsLimit word limit = IsNumeral 10 word × (digits_value 10 word ≡ limit) × (l
 
 -- `items FILE` asks for the items, `values FILE REPORT` for the values,
 -- `values-within LIMIT FILE REPORT` for the values under a budget, `values-globals FILE REPORT` for
--- the values where a Push keeps globals alone, `rebuild FILE` for the canonical bytes
+-- the values where a Push keeps globals alone, `values-globals-within LIMIT FILE REPORT` for those
+-- under a budget, `rebuild FILE` for the canonical bytes
 abbrev pub AsksFor : List (List ℕ) → Command → Type 0
 AsksFor words Items = HasForm words (codes "items") 2
 AsksFor words Values = HasForm words (codes "values") 3
 AsksFor words (ValuesWithin limit) = HasForm words (codes "values-within") 4
     × IsSomeAnd (slice_get words 1) (λ word. IsLimit word limit)
 AsksFor words ValuesGlobals = HasForm words (codes "values-globals") 3
+AsksFor words (ValuesGlobalsWithin limit) = HasForm words (codes "values-globals-within") 4
+    × IsSomeAnd (slice_get words 1) (λ word. IsLimit word limit)
 AsksFor words Rebuild = HasForm words (codes "rebuild") 2
 
 -- the command reads a report beside the descriptor
@@ -33,6 +37,7 @@ reads_report Items = false
 reads_report Values = true
 reads_report (ValuesWithin limit) = true
 reads_report ValuesGlobals = true
+reads_report (ValuesGlobalsWithin limit) = true
 reads_report Rebuild = false
 
 -- the index of the word that names the descriptor's file; a report's is next
@@ -41,6 +46,7 @@ file_index Items = 1
 file_index Values = 1
 file_index (ValuesWithin limit) = 2
 file_index ValuesGlobals = 1
+file_index (ValuesGlobalsWithin limit) = 2
 file_index Rebuild = 1
 
 -- what a command takes for the report's bytes: nothing where it reads none
@@ -49,4 +55,5 @@ report_given Items left = Some []
 report_given Values left = left
 report_given (ValuesWithin limit) left = left
 report_given ValuesGlobals left = left
+report_given (ValuesGlobalsWithin limit) left = left
 report_given Rebuild left = Some []

@@ -15,7 +15,7 @@ status (Err fault) = 2
 -- what is printed of a fault, before the newline
 abbrev pub fault_line : Fault → List ℕ
 fault_line Arguments =
-    codes "usage: hidreport items FILE | values FILE REPORT | values-within LIMIT FILE REPORT | values-globals FILE REPORT | rebuild FILE"
+    codes "usage: hidreport items FILE | values FILE REPORT | values-within LIMIT FILE REPORT | values-globals FILE REPORT | values-globals-within LIMIT FILE REPORT | rebuild FILE"
 fault_line Open = codes "fault: open"
 fault_line (Run Read) = codes "fault: read"
 fault_line (Run Write) = codes "fault: write"

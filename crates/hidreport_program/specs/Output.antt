@@ -8,7 +8,8 @@ use Rattle.hidreport_lists.specs.Itemising.{as_refusal, itemise}
 use Rattle.hidreport_lists.specs.Rebuilt.{rebuild_answer}
 use Rattle.hidreport_lists.specs.declared.error.ParserError.{ParserError}
 use Rattle.hidreport_lists.specs.declared.error.ParserError.TheVariants as errors
-use Rattle.hidreport.specs.Budget.{parse_within}
+use Rattle.hidreport.specs.Budget.{parse_within, parse_within_by}
+use Rattle.hidreport.specs.ItemState.{item_state_globals_only}
 use Rattle.hidreport.specs.Lookup.{find_report}
 use Rattle.hidreport.specs.Meaning.{parse, parse_globals_only}
 use Rattle.hidreport.specs.Records.{ReportRecord, DescriptorRecord}
@@ -19,6 +20,7 @@ use Rattle.hidreport_program.specs.declared.program.commands.Command.{Command}
 use Rattle.hidreport_program.specs.declared.program.commands.Command.TheVariants.{Items, Values}
 use Rattle.hidreport_program.specs.declared.program.commands.Command.TheVariants.{ValuesWithin}
 use Rattle.hidreport_program.specs.declared.program.commands.Command.TheVariants.{ValuesGlobals}
+use Rattle.hidreport_program.specs.declared.program.commands.Command.TheVariants.{ValuesGlobalsWithin}
 use Rattle.hidreport_program.specs.declared.program.commands.Command.TheVariants.{Rebuild}
 use Rattle.hidreport_program.specs.declared.program.ending.Outcome.{Outcome}
 use Rattle.hidreport_program.specs.declared.program.ending.Outcome.TheVariants.{Done, Refused}
@@ -59,6 +61,8 @@ output Values descriptor bytes = values_output (parse descriptor) bytes
 output (ValuesWithin limit) descriptor bytes =
     values_output (parse_within limit descriptor) bytes
 output ValuesGlobals descriptor bytes = values_output (parse_globals_only descriptor) bytes
+output (ValuesGlobalsWithin limit) descriptor bytes =
+    values_output (parse_within_by item_state_globals_only limit descriptor) bytes
 output Rebuild descriptor bytes =
     rebuild_output (as_refusal (rebuild_answer (itemise item_of descriptor)))
 

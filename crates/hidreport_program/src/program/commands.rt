@@ -15,6 +15,8 @@ pub enum Command {
     ValuesWithin(usize),
     /// The same as `Values`, of a descriptor whose Pushes keep globals alone.
     ValuesGlobals,
+    /// The same, unless listing the descriptor's fields passes this limit.
+    ValuesGlobalsWithin(usize),
     /// The canonical bytes of a descriptor's items.
     Rebuild,
 }
@@ -25,7 +27,10 @@ impl Command {
         ensures { result ≡ reads_report self }
     {
         match self {
-            Command::Values | Command::ValuesWithin(_) | Command::ValuesGlobals => true,
+            Command::Values
+            | Command::ValuesWithin(_)
+            | Command::ValuesGlobals
+            | Command::ValuesGlobalsWithin(_) => true,
             Command::Items | Command::Rebuild => false,
         }
     }
@@ -34,8 +39,8 @@ impl Command {
 /// The command that `words` ask for, the words after the program's name.
 ///
 /// It is the one whose name is the first word, with one more word for `items` and `rebuild`, the
-/// name of a file, two for `values` and `values-globals`, and for `values-within` a limit before
-/// these two: one or more ASCII digits, of a number that a `usize` holds.
+/// name of a file, two for `values` and `values-globals`, and for `values-within` and
+/// `values-globals-within` a limit before these two: one or more ASCII digits, of a number that a `usize` holds.
 /// Answers `None` for all other words: none, an unknown first word, one missing or one too many,
 /// another limit.
 pub fn command_of(words: &[String]) -> Option<Command>
@@ -50,6 +55,9 @@ pub fn command_of(words: &[String]) -> Option<Command>
             Some(Command::ValuesWithin(limit_of(limit.as_str())?))
         }
         [name, _, _] if name.as_str() == "values-globals" => Some(Command::ValuesGlobals),
+        [name, limit, _, _] if name.as_str() == "values-globals-within" => {
+            Some(Command::ValuesGlobalsWithin(limit_of(limit.as_str())?))
+        }
         [name, _] if name.as_str() == "rebuild" => Some(Command::Rebuild),
         _ => None,
     }

@@ -33,7 +33,7 @@ pub fn line_of(fault: Fault) -> &'static str
 {
     match fault {
         Fault::Arguments => {
-            "usage: hidreport items FILE | values FILE REPORT | values-within LIMIT FILE REPORT | values-globals FILE REPORT | rebuild FILE"
+            "usage: hidreport items FILE | values FILE REPORT | values-within LIMIT FILE REPORT | values-globals FILE REPORT | values-globals-within LIMIT FILE REPORT | rebuild FILE"
         }
         Fault::Open => "fault: open",
         Fault::Run(RunFault::Read) => "fault: read",

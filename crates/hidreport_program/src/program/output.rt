@@ -4,7 +4,7 @@ ghost use Rattle.hidreport_items.specs.Spelling.{item_of};
 ghost use Rattle.hidreport_lists.specs.Itemising.{as_refusal, itemise};
 ghost use Rattle.hidreport_lists.specs.Rebuilt.{rebuild_answer};
 ghost use Rattle.hidreport.specs.Lookup.{find_report};
-ghost use Rattle.hidreport.specs.Options.{parse_as};
+ghost use Rattle.hidreport.specs.Options.{parse_limited, reading_of};
 ghost use Rattle.hidreport_program.specs.Lines.{refusal_line};
 ghost use Rattle.hidreport_program.specs.Output.{output, found_output, items_output};
 ghost use Rattle.hidreport_program.specs.Output.{rebuild_output, refusal_of, values_output};
@@ -45,26 +45,13 @@ pub fn text_of(
 {
     match command {
         Command::Items => items(alloc, descriptor),
-        Command::Values => values(alloc, ParseOptions::default(), descriptor, report),
+        Command::Values => values(alloc, PushKeeps::All, None, descriptor, report),
         Command::ValuesWithin(limit) => {
-            let limit = Some(limit);
-            let push_keeps = PushKeeps::All;
-            values(
-                alloc,
-                ParseOptions { push_keeps, limit },
-                descriptor,
-                report,
-            )
+            values(alloc, PushKeeps::All, Some(limit), descriptor, report)
         }
-        Command::ValuesGlobals => {
-            let limit = None;
-            let push_keeps = PushKeeps::Globals;
-            values(
-                alloc,
-                ParseOptions { push_keeps, limit },
-                descriptor,
-                report,
-            )
+        Command::ValuesGlobals => values(alloc, PushKeeps::Globals, None, descriptor, report),
+        Command::ValuesGlobalsWithin(limit) => {
+            values(alloc, PushKeeps::Globals, Some(limit), descriptor, report)
         }
         Command::Rebuild => rebuilt(alloc, descriptor),
     }
@@ -111,15 +98,17 @@ fn rebuilt(alloc: Global, descriptor: &[u8]) -> Result<Written, AllocError>
 /// What `values` and its siblings write of a descriptor's and a report's bytes.
 fn values(
     alloc: Global,
-    options: ParseOptions,
+    push_keeps: PushKeeps,
+    limit: Option<usize>,
     descriptor: &[u8],
     report: &[u8],
 ) -> Result<Written, AllocError>
-    ensures text { IfOk result (λ w. string_bytes w.text
-        ≡ (values_output (parse_as options descriptor.now) report.now).text) }
-    ensures outcome { IfOk result (λ w. w.outcome
-        ≡ (values_output (parse_as options descriptor.now) report.now).outcome) }
+    ensures text { IfOk result (λ w. string_bytes w.text ≡ (values_output
+        (parse_limited (reading_of push_keeps) limit descriptor.now) report.now).text) }
+    ensures outcome { IfOk result (λ w. w.outcome ≡ (values_output
+        (parse_limited (reading_of push_keeps) limit descriptor.now) report.now).outcome) }
 {
+    let options = ParseOptions { push_keeps, limit };
     match ReportDescriptor::try_from_with(alloc, descriptor, options) {
         Ok(announced) => found(alloc, &announced, report),
         Err(error) => refused(alloc, &error),
