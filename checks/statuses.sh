@@ -97,7 +97,7 @@ shows 'values where the readings differ' 0 'report -- 16
 0..8 variable 00010030 5
 8..16 variable 00010030 251' values used "$report"
 shows 'the same where a Push keeps globals' 1 'refused: invalid data at offset 16: Missing Usages for main item' values-globals used "$report"
-shows 'both, within a limit' 1 'refused: budget exceeded at offset 14' values-globals-within 0 used "$report"
+shows 'both, within a limit' 1 'refused: budget exceeded at offset 13' values-globals-within 0 used "$report"
 shows 'both, within enough' 1 'refused: invalid data at offset 16: Missing Usages for main item' values-globals-within 2 used "$report"
 shows 'both, without a limit' 2 "$usage" values-globals-within used "$report"
 shows 'the same within a limit' 0 'report -- 16
