@@ -43,6 +43,22 @@ IsInvalidAt errors.MismatchingReportId offset message = ⊥
 IsInvalidAt errors.OutOfMemory offset message = Unit {0}
 IsInvalidAt (errors.BudgetExceeded at) offset message = ⊥
 
+-- reading items: data is refused at an offset, or memory is
+abbrev pub IsOfItems : ParserError → Type 0
+IsOfItems (errors.InvalidData offset message) = Unit {0}
+IsOfItems errors.OutOfBounds = ⊥
+IsOfItems errors.MismatchingReportId = ⊥
+IsOfItems errors.OutOfMemory = Unit {0}
+IsOfItems (errors.BudgetExceeded offset) = ⊥
+
+-- reading a field: the bytes are too few or another report's, or memory is refused
+abbrev pub IsOfReading : ParserError → Type 0
+IsOfReading (errors.InvalidData offset message) = ⊥
+IsOfReading errors.OutOfBounds = Unit {0}
+IsOfReading errors.MismatchingReportId = Unit {0}
+IsOfReading errors.OutOfMemory = Unit {0}
+IsOfReading (errors.BudgetExceeded offset) = ⊥
+
 -- what a reader's error says of the bytes; want of memory says nothing
 abbrev pub fault_of : HidError → Option GrammarFault
 fault_of (faults.InvalidData message) = Some (Invalid (string_bytes message))

@@ -1,7 +1,7 @@
 ghost use Rattle.std.specs.Prelude.{◌≡◌, ◌≢◌, ℕ, List, [], IfErr, IfOk};
 ghost use Rattle.hidreport_items.specs.Answer.{GrammarFault};
 ghost use Rattle.hidreport_items.specs.Spelling.{item_of};
-ghost use Rattle.hidreport_lists.specs.Answer.{Answers, InvalidAt};
+ghost use Rattle.hidreport_lists.specs.Answer.{Answers, InvalidAt, IsOfItems};
 ghost use Rattle.hidreport_lists.specs.Entry.{Entry};
 ghost use Rattle.hidreport_lists.specs.Headers.{headers_from};
 ghost use Rattle.hidreport_lists.specs.Itemising.{as_refusal, itemise, Itemises, IsFaultAt};
@@ -84,6 +84,7 @@ impl ReportDescriptorItems {
     /// Where a list of short items alone has these bytes, it is the answer (`short`).
     pub fn try_from(alloc: Global, bytes: &[u8]) -> Result<ReportDescriptorItems, ParserError>
         ensures exact { Answers result (as_refusal (itemise item_of bytes.now)) }
+        ensures named { IfErr result IsOfItems }
         ensures items { IfOk result (λ items. Itemises item_of bytes.now items) }
         ensures only_items { (entries : List Entry)
             → Itemises item_of bytes.now entries → Answers result (Ok entries) }

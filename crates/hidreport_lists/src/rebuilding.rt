@@ -1,8 +1,8 @@
-ghost use Rattle.std.specs.Prelude.{◌≡◌, ◌≢◌, ◌↔◌, ◌++◌, ℕ, List, [], Ok, IfOk, flat_map};
+ghost use Rattle.std.specs.Prelude.{◌≡◌, ◌≢◌, ◌↔◌, ◌++◌, ℕ, List, [], Ok, IfErr, IfOk, flat_map};
 ghost use Rattle.hidreport_items.specs.Kept.{is_kept};
 ghost use Rattle.hidreport_items.specs.Spelling.{item_of};
 ghost use Rattle.hidreport_items.specs.Writing.{item_bytes};
-ghost use Rattle.hidreport_lists.specs.Answer.{AnswersBy};
+ghost use Rattle.hidreport_lists.specs.Answer.{AnswersBy, IsOfItems};
 ghost use Rattle.hidreport_lists.specs.Entry.{Entry};
 ghost use Rattle.hidreport_lists.specs.Itemising.{as_refusal, itemise, Itemises, all_bytes};
 ghost use Rattle.hidreport_lists.specs.Rebuilt.{AreCanonical, items_of, kept_entries};
@@ -27,6 +27,7 @@ use std::alloc::{AllocError, Global};
 pub fn rebuild(alloc: Global, bytes: &[u8]) -> Result<Vec<u8>, ParserError>
     ensures exact { AnswersBy (λ written. written.items) result
         (as_refusal (rebuild_answer (itemise item_of bytes.now))) }
+    ensures named { IfErr result IsOfItems }
     ensures canonical { (entries : List Entry) → Itemises item_of bytes.now entries
         → IfOk result (λ bytes. (all_bytes (canonical_entries 0 (items_of (kept_entries entries)))
         ≡ bytes.items)

@@ -1,6 +1,6 @@
 ghost use Rattle.std.specs.Prelude.{◌≡◌, ◌≢◌, ◌+◌, ◌*◌, ◌^◌, ◌<◌, pos, int_lt, IfErr, IfOk, IfSome};
 ghost use Rattle.std.specs.Prelude.{IsNone, IsOk, OnOk};
-ghost use Rattle.hidreport_lists.specs.Answer.{Answers, AnswersBy, Bounds, Refuses};
+ghost use Rattle.hidreport_lists.specs.Answer.{Answers, AnswersBy, Bounds, IsOfReading, Refuses};
 ghost use Rattle.hidreport.specs.Bits.{FixesBits};
 ghost use Rattle.hidreport.specs.Choosing.{usage_chosen, value_number};
 ghost use Rattle.hidreport.specs.Reading.{element_of, element_width, reads, reads_element};
@@ -141,6 +141,7 @@ impl ArrayField {
     pub fn extract(&self, bytes: &[u8]) -> Result<Vec<FieldValue>, ParserError>
         ensures answer { AnswersBy (λ values. values.items) result
             (reads (array_record self.now) bytes.now) }
+        ensures named { IfErr result IsOfReading }
         ensures fixed { FixesBits (array_record self.now) bytes.now }
         ensures memory { result ≡ Err ParserError.OutOfMemory
             → IsOk (reads (array_record self.now) bytes.now) }
@@ -156,6 +157,7 @@ impl ArrayField {
     /// no memory.
     pub fn extract_one(&self, bytes: &[u8], idx: usize) -> Result<FieldValue, ParserError>
         ensures answer { Answers result (reads_element (array_record self.now) bytes.now idx) }
+        ensures named { IfErr result IsOfReading }
         ensures memory { result ≢ Err ParserError.OutOfMemory }
     {
         if idx >= usize::from(self.report_count) {
@@ -194,6 +196,7 @@ impl ArrayField {
     fn elements(&self, bytes: &[u8]) -> Result<Vec<FieldValue>, ParserError>
         ensures answer { AnswersBy (λ values. values.items) result
             (values_of (array_record self.now) bytes.now) }
+        ensures named { IfErr result IsOfReading }
         ensures memory { result ≡ Err ParserError.OutOfMemory
             → IsOk (values_of (array_record self.now) bytes.now) }
     {
@@ -218,6 +221,7 @@ impl ArrayField {
         ensures readable { OnOk result (IsOk (values_of (array_record self.now) bytes.now)) }
         ensures refused { IfErr result (λ e.
             Refuses e (values_of (array_record self.now) bytes.now)) }
+        ensures named { IfErr result IsOfReading }
         ensures memory { result ≢ Err ParserError.OutOfMemory }
     {
         let count = usize::from(self.report_count);

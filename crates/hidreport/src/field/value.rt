@@ -1,8 +1,8 @@
 ghost use Rattle.std.specs.Prelude.{◌≡◌, ◌≢◌, true, Err, Ok, ◌+◌, ◌*◌, ◌<◌, ◌≤◌, ◌/◌, ◌%◌, ◌^◌};
-ghost use Rattle.std.specs.Prelude.{length, IfSome, IsNone};
+ghost use Rattle.std.specs.Prelude.{length, IfErr, IfSome, IsNone};
 ghost use Rattle.std.specs.Int.{w8, w16, w32, cast_signed};
 ghost use Rattle.hidreport_items.specs.Numbers.{word};
-ghost use Rattle.hidreport_lists.specs.Answer.{Answers, Bounds};
+ghost use Rattle.hidreport_lists.specs.Answer.{Answers, Bounds, IsOfReading};
 ghost use Rattle.hidreport.specs.BitValue.{sum_of_bits, value, as_word};
 ghost use Rattle.hidreport.specs.Choosing.{value_number};
 ghost use Rattle.hidreport.specs.Reading.{read_bits, with_id};
@@ -244,6 +244,7 @@ pub(crate) fn read_bits(bytes: &[u8], bits: &Range<usize>, is_signed: bool) -> O
 /// Bytes are read by a field with an id only where they begin with it.
 pub(crate) fn check_id(report_id: Option<ReportId>, bytes: &[u8]) -> Result<(), ParserError>
     ensures answer { Answers result (with_id report_id bytes.now (Ok tt)) }
+    ensures named { IfErr result IsOfReading }
     ensures memory { result ≢ Err ParserError.OutOfMemory }
 {
     match (report_id, bytes.first()) {

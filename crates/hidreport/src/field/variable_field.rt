@@ -1,5 +1,5 @@
-ghost use Rattle.std.specs.Prelude.{◌≡◌, ◌≢◌, [], ◌∷◌, pos, int_lt, IfOk};
-ghost use Rattle.hidreport_lists.specs.Answer.{AnswersBy};
+ghost use Rattle.std.specs.Prelude.{◌≡◌, ◌≢◌, [], ◌∷◌, pos, int_lt, IfErr, IfOk};
+ghost use Rattle.hidreport_lists.specs.Answer.{AnswersBy, IsOfReading};
 ghost use Rattle.hidreport.specs.Bits.{FixesBits};
 ghost use Rattle.hidreport.specs.Reading.{reads};
 ghost use Rattle.hidreport.specs.Views.{variable_attributes, variable_record};
@@ -75,6 +75,7 @@ impl VariableField {
     pub fn extract(&self, bytes: &[u8]) -> Result<FieldValue, ParserError>
         ensures answer { AnswersBy (λ value. value ∷ []) result
             (reads (variable_record self.now) bytes.now) }
+        ensures named { IfErr result IsOfReading }
         ensures fixed { FixesBits (variable_record self.now) bytes.now }
         ensures memory { result ≢ Err ParserError.OutOfMemory }
     {
