@@ -40,3 +40,18 @@ returns-in_ok-limit_of-in-len4-clause-asked c =
       second_word string_bytes c.args.words.now c.limit-item.result
           (λ w. IsLimit w c.in_ok-limit_of-in-len4.field-0) (omega arith) c.limit-item.is limit,
     )
+
+pub returns-in_ok-limit_of-in-len4-2-clause-asked :
+    goal.returns-in_ok-limit_of-in-len4-2-clause-asked
+returns-in_ok-limit_of-in-len4-2-clause-asked c =
+    let named : string_bytes c.name-item-then-words-lt5-2.result ≡ codes "values-globals-within" =
+    search rules in
+    let limit : IsLimit (string_bytes c.limit-item-then-words-lt5.result)
+    c.in_ok-limit_of-in-len4-2.field-0 =
+    search rules in (
+      form_of_first string_bytes c.args.words.now c.name-item-then-words-lt5-2.result _ 4
+          (omega arith) (omega arith) c.name-item-then-words-lt5-2.is named,
+      second_word string_bytes c.args.words.now c.limit-item-then-words-lt5.result
+          (λ w. IsLimit w c.in_ok-limit_of-in-len4-2.field-0)
+          (omega arith) c.limit-item-then-words-lt5.is limit,
+    )
