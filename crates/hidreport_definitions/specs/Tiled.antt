@@ -1,9 +1,10 @@
 -- Descriptors, reports and fields whose tiling rows tell.
-use Rattle.std.specs.Prelude.{ℕ, true, List, [], ◌∷◌, Option, Some}
+use Rattle.std.specs.Prelude.{ℕ, Bool, true, List, [], ◌∷◌, Option, None, Some}
 use Rattle.hidreport.specs.CollectionItem.TheVariants as kind
 use Rattle.hidreport.specs.Records.{Attributes, CollectionRecord, FieldRecord, VariableRecord}
 use Rattle.hidreport.specs.Records.{ArrayRecord, ConstantRecord, ReportRecord, DescriptorRecord}
 use Rattle.hidreport.specs.Usages.{make_usage, range_from}
+use Rattle.hidreport.specs.declared.field.usage.Usage.{Usage}
 use Rattle.hidreport_definitions.specs.Summary.{of_report, place_at, unset}
 
 -- what fields share that lie in the Application collection of a keyboard
@@ -32,6 +33,41 @@ two_reports = record {
   output = [];
   feature = [];
 }
+
+-- a report of this id, if any, this size and these fields
+abbrev pub report_with : Option ℕ → ℕ → List FieldRecord → ReportRecord
+report_with id size fields = record { id = id; size = size; fields = fields }
+
+-- the reports of each direction
+abbrev pub descriptor_of : List ReportRecord → List ReportRecord → List ReportRecord
+    → DescriptorRecord
+descriptor_of input output feature = record { input = input; output = output; feature = feature }
+
+-- a field of one value with this number, in the bits from 8 up to 16 of the report of this id
+abbrev pub byte_field : ℕ → ℕ → FieldRecord
+byte_field id number =
+    of_report id (VariableRecord (place_at number 8 16) (make_usage 1 0x30) unset)
+
+-- the report of this id whose one field has this number
+abbrev pub byte_report : ℕ → ℕ → ReportRecord
+byte_report id number = report_with (Some id) 16 (byte_field id number ∷ [])
+
+-- a report without an id whose one field has this number
+abbrev pub report_without_id : ℕ → ReportRecord
+report_without_id number =
+    report_with None 8 (VariableRecord (place_at number 0 8) (make_usage 1 0x30) unset ∷ [])
+
+-- the report of this id whose one field has this number and lies in these collections
+abbrev pub report_in : ℕ → ℕ → List CollectionRecord → ReportRecord
+report_in id number collections = report_with (Some id) 16
+    (of_report id (VariableRecord (place_at number 8 16) (make_usage 1 0x30)
+    (record unset { collections = collections })) ∷ [])
+
+-- an array of these usages, those of a range or not, in bits of the report of this id: its first
+-- bit, the bit behind its last, and how many elements it has
+abbrev pub array_in : ℕ → List Usage → Bool → ℕ → ℕ → ℕ → FieldRecord
+array_in id usages is_range first last count =
+    of_report id (ArrayRecord (place_at 0 first last) usages is_range count unset)
 
 -- a report with this id, if any, and no fields
 abbrev pub empty_report : Option ℕ → ReportRecord

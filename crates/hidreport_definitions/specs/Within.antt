@@ -1,10 +1,11 @@
--- What a descriptor announces under a limit, in short.
+-- What a descriptor announces under a limit, in short, and what its fields weigh.
 use Rattle.std.specs.Prelude.{ℕ, Bool, true, false, List, Result, Ok, Err}
 use Rattle.hidreport.specs.Answer.{Refusal}
 use Rattle.hidreport.specs.Budget.{parse_within}
 use Rattle.hidreport.specs.Records.{DescriptorRecord}
+use Rattle.hidreport.specs.Weight.{descriptor_weight}
 use Rattle.hidreport_definitions.specs.Hex.{hex}
-use Rattle.hidreport_definitions.specs.Summary.{DescriptorSummary, in_short}
+use Rattle.hidreport_definitions.specs.Summary.{DescriptorSummary, announced_by, in_short}
 
 -- what the bytes of a text announce under a limit
 abbrev pub within : ℕ → List ℕ → Result DescriptorSummary Refusal
@@ -17,3 +18,11 @@ is_announced (Err refusal) = false
 -- they announce something
 abbrev pub is_read_within : ℕ → List ℕ → Bool
 is_read_within limit text = is_announced (parse_within limit (hex text))
+
+abbrev pub announced_weight : Result DescriptorRecord Refusal → Result ℕ Refusal
+announced_weight (Ok d) = Ok (descriptor_weight d)
+announced_weight (Err refusal) = Err refusal
+
+-- what the fields weigh that the bytes of a text announce
+abbrev pub weight_of : List ℕ → Result ℕ Refusal
+weight_of text = announced_weight (announced_by text)

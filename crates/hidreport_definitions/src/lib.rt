@@ -3,9 +3,12 @@
 #![tactic(auto)]
 
 pub mod attributes;
+pub mod bits;
 pub mod budgets;
+pub mod choosing;
 pub mod collections;
 pub mod faults;
+pub mod filling;
 pub mod items;
 pub mod keeping;
 pub mod laws;
@@ -17,4 +20,6 @@ pub mod rebuilding;
 pub mod segments;
 pub mod tiling;
 pub mod units;
+pub mod untiled;
 pub mod usages;
+pub mod weights;

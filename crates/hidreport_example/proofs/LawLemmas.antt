@@ -1,0 +1,91 @@
+-- What the laws of parsing come to for a caller who reads two descriptors.
+use Rattle.std.proofs.Common.{◌≡◌, ◌≢◌, ℕ, zero, suc, ◌<◌, ◌≤◌, List, [], ◌∷◌, ◌++◌, Some}
+use Rattle.std.proofs.Common.{Result, Ok, Err, IfOk, sym, ap, ◌∙◌, subst, arith}
+use Rattle.std.specs.Prelude.{slice_get}
+use Rattle.hidreport.specs.Answer.{Refusal}
+use Rattle.hidreport.specs.Entry.{Entry}
+use Rattle.hidreport.specs.ItemAnswer.{GrammarFault}
+use Rattle.hidreport.specs.ItemType.{ItemType}
+use Rattle.hidreport.specs.Itemising.{as_refusal, itemise}
+use Rattle.hidreport.specs.Meaning.{PushReading, at_offset, meaning_by, parse_by, parse_items}
+use Rattle.hidreport.specs.MeaningFault.{MeaningFault}
+use Rattle.hidreport.specs.Rebuilt.{items_of, rebuild_answer, rebuilt_bytes}
+use Rattle.hidreport.specs.Records.{DescriptorRecord, FieldRecord, ReportRecord, place_of}
+use Rattle.hidreport.specs.Segments.{moved_fault}
+use Rattle.hidreport.specs.Spelling.{item_of}
+use Rattle.hidreport.specs.ParserError.{ParserError}
+use Rattle.hidreport.specs.Places.{id_bits}
+use Rattle.hidreport.specs.Tiling.{Covers, Each, IsFilled, IsTiled}
+use Rattle.hidreport_example.specs.Laws.{FieldsAreApart}
+
+-- the rebuilt bytes are those of the items
+pub rebuilt-of : (r : Result (List Entry) (ℕ × GrammarFault)) (entries : List Entry)
+    (bytes : List ℕ) → as_refusal r ≡ Ok entries → as_refusal (rebuild_answer r) ≡ Ok bytes
+    → rebuilt_bytes entries ≡ bytes
+rebuilt-of (Ok es) entries bytes p q =
+    let same : es ≡ entries = cc in
+    let written : rebuilt_bytes es ≡ bytes = cc in
+    sym (ap rebuilt_bytes same) ∙ written
+rebuilt-of (Err f) entries bytes p q = cc
+
+-- items that mean a descriptor mean it wherever they stand
+pub means : (m : Result DescriptorRecord (ℕ × MeaningFault)) (es fs : List Entry)
+    (d : DescriptorRecord) → at_offset es m ≡ Ok d → at_offset fs m ≡ Ok d
+means (Ok x) es fs d h = h
+means (Err f) es fs d h = cc
+
+pub means-moved : (m : Result DescriptorRecord (ℕ × MeaningFault)) (k n : ℕ) (es fs : List Entry)
+    (d : DescriptorRecord) → at_offset es (moved_fault k n m) ≡ Ok d → at_offset fs m ≡ Ok d
+means-moved (Ok x) k n es fs d h = h
+means-moved (Err f) k n es fs d h = cc
+
+-- one answer
+pub one : (r : Result DescriptorRecord Refusal) (d e : DescriptorRecord) → r ≡ Ok d → r ≡ Ok e
+    → d ≡ e
+one r d e p q = let same : Ok d ≡ r = sym p in cc
+
+-- bytes that are items mean what these do
+pub parse-items : (reading : PushReading) (bytes : List ℕ) (entries : List Entry)
+    (d : DescriptorRecord) → itemise item_of bytes ≡ Ok entries → parse_by reading bytes ≡ Ok d
+    → at_offset entries (meaning_by reading (items_of entries)) ≡ Ok d
+parse-items reading [] entries d i p = cc
+parse-items reading (b ∷ bs) entries d i p = sym (ap (parse_items reading) i) ∙ p
+
+-- each of a list
+pub each-at : {A : Type 0} (P : A → Type 0) (xs ys : List A) (n : ℕ) (x : A) → Each P (xs ++ ys)
+    → slice_get xs n ≡ Some x → P x
+each-at P [] ys n x each at = cc
+each-at P (a ∷ xs) ys zero x each at = let same : a ≡ x = cc in subst P same each.0
+each-at P (a ∷ xs) ys (suc n) x each at = each-at P xs ys n x each.1 at
+
+-- fields that cover a report lie one behind the other
+behind : (first : ℕ) (fields : List FieldRecord) (end j : ℕ) (g : FieldRecord)
+    → Covers first fields end → slice_get fields j ≡ Some g → first ≤ (place_of g).first
+behind first [] end j g covers at = cc
+behind first (f ∷ fields) end zero g covers at =
+    let same : f ≡ g = cc in
+    let here : (place_of f).first ≡ (place_of g).first = ap (λ h. (place_of h).first) same in
+    omega (arith, covers.0, here)
+behind first (f ∷ fields) end (suc j) g covers at =
+    let rest : (place_of f).end ≤ (place_of g).first = behind (place_of f).end fields end j g
+    covers.2 at in
+    omega (arith, covers.1, rest)
+
+pub apart : (first : ℕ) (fields : List FieldRecord) (end i j : ℕ) (f g : FieldRecord)
+    → Covers first fields end → slice_get fields i ≡ Some f → slice_get fields j ≡ Some g → i < j
+    → (place_of f).end ≤ (place_of g).first
+apart first [] end i j f g covers at other before = cc
+apart first (h ∷ fields) end i zero f g covers at other before = absurd (omega (arith, before))
+apart first (h ∷ fields) end zero (suc j) f g covers at other before =
+    let same : h ≡ f = cc in
+    subst (λ (k : FieldRecord). (place_of k).end ≤ (place_of g).first) same
+    (behind (place_of h).end fields end j g covers.2 other)
+apart first (h ∷ fields) end (suc i) (suc j) f g covers at other before =
+    apart (place_of h).end fields end i j f g covers.2 at other (omega (arith, before))
+
+pub all-apart : (r : Result DescriptorRecord ParserError) → IfOk r IsTiled → IfOk r FieldsAreApart
+all-apart (Ok d) tiled = λ n i j report f g at one other before.
+    let filled : IsFilled report = each-at IsFilled d.input (d.output ++ d.feature) n report
+    tiled.filled at in
+    apart (id_bits report.id) report.fields report.size i j f g filled.covers one other before
+all-apart (Err e) tiled = tt

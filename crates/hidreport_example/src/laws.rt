@@ -1,0 +1,55 @@
+//! What a caller proves by the library's laws, from its public clauses alone.
+ghost use Rattle.std.specs.Prelude.{◌≡◌, ◌++◌, List, Ok, IfOk, IfSome};
+ghost use Rattle.hidreport.specs.Entry.{Entry};
+ghost use Rattle.hidreport.specs.ItemType.{ItemType};
+ghost use Rattle.hidreport.specs.Itemising.{itemise};
+ghost use Rattle.hidreport.specs.Rebuilt.{items_of};
+ghost use Rattle.hidreport.specs.Segments.{IsMatched, with_segment};
+ghost use Rattle.hidreport.specs.Spelling.{item_of};
+ghost use Rattle.hidreport_example.specs.Laws.{FieldsAreApart};
+
+use hidreport::hid::{ReportDescriptorItems, rebuild};
+use hidreport::{ParserError, ReportDescriptor};
+use std::alloc::Global;
+
+/// A descriptor, and what its rebuilt bytes announce: the same; none where no item is kept.
+pub fn read_again(
+    alloc: Global,
+    bytes: &[u8],
+) -> Result<Option<(ReportDescriptor, ReportDescriptor)>, ParserError>
+    ensures { IfOk result (λ found. IfSome found (λ both. both.0 ≡ both.1)) }
+{
+    let first = ReportDescriptor::try_from(alloc, bytes)?;
+    let items = ReportDescriptorItems::try_from(alloc, bytes)?;
+    let rebuilt = rebuild(alloc, bytes)?;
+    if items.as_slice().is_empty() || rebuilt.is_empty() {
+        return Ok(None);
+    }
+    let again = ReportDescriptor::try_from(alloc, &rebuilt)?;
+    Ok(Some((first, again)))
+}
+
+/// A descriptor: of two fields of one of its input reports the bits of the first lie before those
+/// of the second, so none covers a bit of the other.
+pub fn read_apart(alloc: Global, bytes: &[u8]) -> Result<ReportDescriptor, ParserError>
+    ensures { IfOk result FieldsAreApart }
+{
+    ReportDescriptor::try_from(alloc, bytes)
+}
+
+/// Two descriptors, of which the second lacks a Push, some matched items and its Pop: what is read
+/// of them is the same, so each report has the same values.
+pub fn read_without_segment(
+    alloc: Global,
+    bytes: &[u8],
+    without: &[u8],
+) -> Result<(ReportDescriptor, ReportDescriptor), ParserError>
+    ensures { (entries others : List Entry) (front inside rest : List ItemType)
+        → itemise item_of bytes.now ≡ Ok entries → itemise item_of without.now ≡ Ok others
+        → IsMatched inside → items_of entries ≡ with_segment front inside rest
+        → items_of others ≡ front ++ rest → IfOk result (λ both. both.0 ≡ both.1) }
+{
+    let first = ReportDescriptor::try_from(alloc, bytes)?;
+    let second = ReportDescriptor::try_from(alloc, without)?;
+    Ok((first, second))
+}
