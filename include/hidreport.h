@@ -37,7 +37,7 @@ enum hidreport_kind { HIDREPORT_VARIABLE = 0, HIDREPORT_ARRAY = 1, HIDREPORT_CON
 
 struct hidreport_answer {
     size_t count;    /* how many there are, whether there was room or not; 0 where `status` isn't 0 */
-    size_t offset;   /* how many bytes stand before the refused item; 0 for a refusal without a place */
+    size_t offset;   /* how many bytes stand before the refused item; 0 for a refusal without an offset */
     uint32_t status; /* enum hidreport_status */
 };
 

@@ -12,7 +12,7 @@ pub enum Direction {
     Feature = 2,
 }
 
-/// Why a descriptor or a report is refused: the status of `include/hidreport.h`, the place of the item, and a text where there is one.
+/// Why a descriptor or a report is refused: the status of `include/hidreport.h`, the offset of the item, and a text where there is one.
 #[derive(Clone, Debug, PartialEq)]
 pub struct Refusal {
     pub status: u32,

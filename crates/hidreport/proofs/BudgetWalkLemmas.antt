@@ -15,7 +15,7 @@ use Rattle.hidreport.specs.Budget.{meaning_within_by, unless_past}
 use Rattle.hidreport.specs.Faults.{fault}
 use Rattle.hidreport.specs.Fields.{fields_of, list_or_none}
 use Rattle.hidreport.specs.ItemState.{ItemState, first_of, item_state, item_state_globals_only}
-use Rattle.hidreport.specs.Kinds.{Indexed, Direction, collection_of, data_of}
+use Rattle.hidreport.specs.Kinds.{Indexed, Direction, collection_kind_of, data_of}
 use Rattle.hidreport.specs.Making.{extent}
 use Rattle.hidreport.specs.Meaning.{PushReading, descriptor, fault_here, first_fault, unless_first}
 use Rattle.hidreport.specs.MeaningFault.{MeaningFault, PastBudget}
@@ -64,12 +64,12 @@ weight-held : (item_state : ℕ → ItemState) (stack : ℕ → List ItemState) 
     (x : ItemType) → ((n : ℕ) → length (stack n) ≡ level items n) → Holds item_state stack items k h
     → fault_in h x ≡ None → weight item_state items k x ≡ weight_in h x
 weight-held item_state stack items k h x leveled held faultless =
-    ap (λ f. unless_faulty f (weight_opened item_state (collection_of x) items
+    ap (λ f. unless_faulty f (weight_opened item_state (collection_kind_of x) items
     (k, x) + weight_made item_state
     (data_of x) items (k, x))) (fault-held item_state stack items k h x leveled held ∙ faultless)
     ∙ ap (λ n. n + weight_made item_state (data_of x) items (k, x))
-    (opened-held (collection_of x) item_state stack items k h x held)
-    ∙ ap (λ n. weight_opened_in h (collection_of x) + n)
+    (opened-held (collection_kind_of x) item_state stack items k h x held)
+    ∙ ap (λ n. weight_opened_in h (collection_kind_of x) + n)
     (made-held (data_of x) item_state stack items k h x refl held)
 
 -- the weight of one item more

@@ -30,7 +30,7 @@ use Rattle.hidreport.specs.Fields.{field_count, fields_made, fields_of, list_or_
 use Rattle.hidreport.specs.Fields.{attributes}
 use Rattle.hidreport.specs.ItemState.{ItemState, first_of}
 use Rattle.hidreport.specs.Kinds.{Direction, Input, Output, Feature, data_of, is_main, is_pop}
-use Rattle.hidreport.specs.Kinds.{is_push, is_end_collection, collection_of, local_of}
+use Rattle.hidreport.specs.Kinds.{is_push, is_end_collection, collection_kind_of, local_of}
 use Rattle.hidreport.specs.Making.{extent}
 use Rattle.hidreport.specs.Meaning.{PushReading, meaning_by, parse_by, parse_items, at_offset}
 use Rattle.hidreport.specs.Meaning.{offset_at, refusal_at}
@@ -281,25 +281,25 @@ next-thin h x e =
     let t = thin h in
     ap (λ f. made f (next_stack t x) (next_reports Input t x) (next_reports Output t x)
     (next_reports Feature t x) (next_opened t x)
-    (h.collections + length (new_collection t (collection_of x)))) (held-by (is_pop x) h x e)
+    (h.collections + length (new_collection t (collection_kind_of x)))) (held-by (is_pop x) h x e)
     ∙ ap (λ ts. made (thin_item_state (item_state_behind h x)) ts (next_reports Input t x)
     (next_reports Output t x) (next_reports Feature t x) (next_opened t x)
-    (h.collections + length (new_collection t (collection_of x))))
+    (h.collections + length (new_collection t (collection_kind_of x))))
     (kept-by (is_pop x) (is_push x) h.keeping h.item_state h.stack)
     ∙ ap (λ i. made (thin_item_state (item_state_behind h x))
     (map thin_item_state (next_stack h x)) i
     (next_reports Output t x) (next_reports Feature t x) (next_opened t x)
-    (h.collections + length (new_collection t (collection_of x)))) (reports-thin Input h x)
+    (h.collections + length (new_collection t (collection_kind_of x)))) (reports-thin Input h x)
     ∙ ap (λ o. made (thin_item_state (item_state_behind h x)) (map thin_item_state (next_stack h x))
     (next_reports Input h x) o (next_reports Feature t x) (next_opened t x)
-    (h.collections + length (new_collection t (collection_of x)))) (reports-thin Output h x)
+    (h.collections + length (new_collection t (collection_kind_of x)))) (reports-thin Output h x)
     ∙ ap (λ r. made (thin_item_state (item_state_behind h x)) (map thin_item_state (next_stack h x))
     (next_reports Input h x) (next_reports Output h x) r (next_opened t x)
-    (h.collections + length (new_collection t (collection_of x)))) (reports-thin Feature h x)
+    (h.collections + length (new_collection t (collection_kind_of x)))) (reports-thin Feature h x)
     ∙ ap (λ c. made (thin_item_state (item_state_behind h x)) (map thin_item_state (next_stack h x))
     (next_reports Input h x) (next_reports Output h x) (next_reports Feature h x)
     (cond (is_end_collection x) (take (length h.opened - 1) h.opened) (h.opened ++ c))
-    (h.collections + length c)) (new-thin h (collection_of x))
+    (h.collections + length c)) (new-thin h (collection_kind_of x))
 
 -- an item that isn't kept has no fault and changes nothing but reserved locals
 

@@ -15,7 +15,7 @@ use Rattle.hidreport_lists.specs.Rebuilt.{items_of}
 use Rattle.hidreport.specs.Fields.{attributes, fields_made, fields_of, list_or_none}
 use Rattle.hidreport.specs.ItemState.{ItemState, first_of}
 use Rattle.hidreport.specs.Kinds.{Direction, Input, Output, Feature, data_of, goes}
-use Rattle.hidreport.specs.Kinds.{is_end_collection, collection_of}
+use Rattle.hidreport.specs.Kinds.{is_end_collection, collection_kind_of}
 use Rattle.hidreport.specs.Making.{extent}
 use Rattle.hidreport.specs.Meaning.{at_offset, meaning_by, parse_by, parse_items}
 use Rattle.hidreport.specs.MeaningFault.{MeaningFault}
@@ -268,9 +268,9 @@ counted-more : (known new : List (List CollectionRecord))
 counted-more known new = grind (arith, common_steps)
 
 keeps-next : (known : List (List CollectionRecord)) (h : StateRecord) (x : ItemType) → Keeps known h
-    → Keeps (known ++ new_opening h (collection_of x)) (next_state h x)
+    → Keeps (known ++ new_opening h (collection_kind_of x)) (next_state h x)
 keeps-next known h x k =
-    let new = new_opening h (collection_of x) in
+    let new = new_opening h (collection_kind_of x) in
     record {
       filled = λ d. elim d as (λ d. Each (IsGood (known ++ new))
           (reports_in d (next_state h x).descriptor)) [
@@ -287,10 +287,10 @@ keeps-next known h x k =
       once = λ n. once-by n h x (less-or-not n h.fields) (k.once n) (k.unused n);
       unused = λ n le. unused-next n h x (k.unused n) le;
       counted = counted-more known new ∙ ap (λ n. n + length new) k.counted
-          ∙ ap (λ n. h.collections + n) (as-many h (collection_of x));
-      opened = opened-by (is_end_collection x) (known ++ new) h (new_collection h (collection_of x))
+          ∙ ap (λ n. h.collections + n) (as-many h (collection_kind_of x));
+      opened = opened-by (is_end_collection x) (known ++ new) h (new_collection h (collection_kind_of x))
           (opened-more known new [] h.opened k.opened)
-          (new-opened known h (collection_of x) k.counted);
+          (new-opened known h (collection_kind_of x) k.counted);
     }
 
 -- at the end
@@ -367,7 +367,7 @@ tiled-from known h k [] d keeps is =
     let same : h.descriptor ≡ d = cc in subst IsTiled same (tiled-end known h keeps)
 tiled-from known h k (x ∷ xs) d keeps is =
     tiled-by (fault_in h x) h k x xs d refl is
-    (λ rest. tiled-from (known ++ new_opening h (collection_of x)) (next_state h x) (k + 1) xs d
+    (λ rest. tiled-from (known ++ new_opening h (collection_kind_of x)) (next_state h x) (k + 1) xs d
     (keeps-next known h x keeps) rest)
 
 none-own : HaveOwnIds []

@@ -23,7 +23,7 @@ use Rattle.hidreport.specs.Fields.{fields_at, fields_of, fields_made, fields_bef
 use Rattle.hidreport.specs.Fields.{collection_record, list_or_none}
 use Rattle.hidreport.specs.ItemState.{ItemState, first_of}
 use Rattle.hidreport.specs.Kinds.{Indexed, Direction, Input, Output, Feature, data_of, goes}
-use Rattle.hidreport.specs.Kinds.{is_push, is_pop, is_collection, is_end_collection, collection_of}
+use Rattle.hidreport.specs.Kinds.{is_push, is_pop, is_collection, is_end_collection, collection_kind_of}
 use Rattle.hidreport.specs.Parser.Machine.{StateRecord, after_pop, pushed_copy, no_item_state}
 use Rattle.hidreport.specs.Parser.Machine.{reports_of, size_in, first_id, added_to, reports_in}
 use Rattle.hidreport.specs.Parser.Machine.{key_in, start_in, start_for, counts_in, fault_in, adds}
@@ -326,7 +326,7 @@ record OpenedNext (item_state : ℕ → ItemState) (items : List ItemType) (k : 
   pub stands : Stands items (suc k)
   pub inside : next_opened h x ≡ collections_at item_state items (suc k)
 
-not_both_kinds : (x : ItemType) (kind : CollectionItem) → collection_of x ≡ Some kind
+not_both_kinds : (x : ItemType) (kind : CollectionItem) → collection_kind_of x ≡ Some kind
     → is_end_collection x ≡ false
 not_both_kinds (item.Main (main.Collection kind)) k h = refl
 not_both_kinds (item.Main main.EndCollection) k h = cc
@@ -358,7 +358,7 @@ opened-by : (o : Option CollectionItem) (b : Bool) (item_state : ℕ → ItemSta
     → List ItemState)
     (items front rest : List ItemType) (h : StateRecord) (x : ItemType) → items ≡ front ++ x ∷ rest
     → Holds item_state stack items (length front) h
-    → fault_in h x ≡ None → collection_of x ≡ o → is_end_collection x ≡ b
+    → fault_in h x ≡ None → collection_kind_of x ≡ o → is_end_collection x ≡ b
     → OpenedNext item_state items (length front) h x
 opened-by (Some kind) b item_state stack items front rest h x e held faultless opens closes =
     let k = length front in
@@ -391,7 +391,7 @@ opened-by (Some kind) b item_state stack items front rest h x e held faultless o
     record {
       stands = next.1;
       inside = ap (λ c. cond c (take (length h.opened - 1) h.opened)
-          (h.opened ++ new_collection h (collection_of x))) plain
+          (h.opened ++ new_collection h (collection_kind_of x))) plain
           ∙ ap (λ o. h.opened ++ new_collection h o) opens
           ∙ ap (λ l. l ++ record {
             id = h.collections;
@@ -409,7 +409,7 @@ opened-by None false item_state stack items front rest h x e held faultless open
     record {
       stands = next.1;
       inside = ap (λ c. cond c (take (length h.opened - 1) h.opened)
-          (h.opened ++ new_collection h (collection_of x))) closes
+          (h.opened ++ new_collection h (collection_kind_of x))) closes
           ∙ ap (λ o. h.opened ++ new_collection h o) opens ∙ append-nil h.opened
           ∙ held.inside ∙ ap (map (collection_record item_state items)) (sym next.0);
     }
@@ -423,7 +423,7 @@ opened-by None true item_state stack items front rest h x e held faultless opens
     record {
       stands = next.1;
       inside = ap (λ c. cond c (take (length h.opened - 1) h.opened)
-          (h.opened ++ new_collection h (collection_of x))) closes
+          (h.opened ++ new_collection h (collection_kind_of x))) closes
           ∙ ap (λ n. take (n - 1) h.opened) size
           ∙ ap (take (length (open_at items k) - 1)) held.inside
           ∙ take-map (collection_record item_state items) (length (open_at items k) - 1)
@@ -461,7 +461,7 @@ pub holds-next : (keeping : PushKeeps) (item_state : ℕ → ItemState) (stack :
     → fault_in h x ≡ None → Holds item_state stack items (suc (length front)) (next_state h x)
 holds-next keeping item_state stack items front rest h x follows reads e held faultless =
     let k = length front in
-    let opened = opened-by (collection_of x)
+    let opened = opened-by (collection_kind_of x)
     (is_end_collection x) item_state stack items front rest h x e
     held faultless refl refl in
     let deep : is_pop x ≡ true
@@ -495,8 +495,8 @@ holds-next keeping item_state stack items front rest h x follows reads e held fa
       numbered = sym (numbered-next item_state stack items front rest h x e held);
       stands = opened.stands;
       inside = opened.inside;
-      counted = ap (λ n. n + length (new_collection h (collection_of x))) held.counted
-          ∙ ap (λ n. collections_before items (length front) + n) (one-opened h (collection_of x))
+      counted = ap (λ n. n + length (new_collection h (collection_kind_of x))) held.counted
+          ∙ ap (λ n. collections_before items (length front) + n) (one-opened h (collection_kind_of x))
           ∙ sym (count-next is_collection items front rest x e);
     }
 

@@ -7,7 +7,7 @@ use Rattle.hidreport_items.specs.declared.main_item.CollectionItem.TheVariants a
 use Rattle.hidreport_items.specs.declared.item.ItemType.{ItemType}
 use Rattle.hidreport.specs.ItemState.{ItemState}
 use Rattle.hidreport.specs.Kinds.{Indexed, Direction, Input, Output, Feature, data_of}
-use Rattle.hidreport.specs.Kinds.{collection_of}
+use Rattle.hidreport.specs.Kinds.{collection_kind_of}
 use Rattle.hidreport.specs.Making.{extent, makers}
 use Rattle.hidreport.specs.MeaningFault.{MeaningFault}
 use Rattle.hidreport.specs.OpenCollections.{open_at, collections_before}
@@ -48,7 +48,7 @@ list_or_none (Err fault) = record { usages = []; is_range = false }
 abbrev pub collection_record : (ℕ → ItemState) → List ItemType → Indexed → CollectionRecord
 collection_record item_state items p = record {
   id = collections_before items p.0;
-  kind = unwrap_or (collection_of p.1) kind.Physical;
+  kind = unwrap_or (collection_kind_of p.1) kind.Physical;
   usages = (list_or_none (usages_of (item_state p.0))).usages;
 }
 

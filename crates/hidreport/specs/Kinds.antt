@@ -48,12 +48,12 @@ is_main (item.Main x) = true
 is_main _ = false
 
 -- the kind of a Collection item
-abbrev pub collection_of : ItemType → Option CollectionItem
-collection_of (item.Main (main.Collection kind)) = Some kind
-collection_of _ = None
+abbrev pub collection_kind_of : ItemType → Option CollectionItem
+collection_kind_of (item.Main (main.Collection kind)) = Some kind
+collection_kind_of _ = None
 
 abbrev pub is_collection : ItemType → Bool
-is_collection x = is_some (collection_of x)
+is_collection x = is_some (collection_kind_of x)
 
 abbrev pub is_end_collection : ItemType → Bool
 is_end_collection (item.Main main.EndCollection) = true

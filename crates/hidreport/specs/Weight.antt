@@ -8,7 +8,7 @@ use Rattle.hidreport_items.specs.declared.item.ItemType.{ItemType}
 use Rattle.hidreport.specs.Faults.{fault}
 use Rattle.hidreport.specs.Fields.{collection_record, fields_at}
 use Rattle.hidreport.specs.ItemState.{ItemState}
-use Rattle.hidreport.specs.Kinds.{Indexed, Direction, collection_of, data_of}
+use Rattle.hidreport.specs.Kinds.{Indexed, Direction, collection_kind_of, data_of}
 use Rattle.hidreport.specs.MeaningFault.{MeaningFault}
 use Rattle.hidreport.specs.Records.{CollectionRecord, FieldRecord, VariableRecord, ArrayRecord}
 use Rattle.hidreport.specs.Records.{ConstantRecord, ReportRecord, DescriptorRecord}
@@ -45,7 +45,7 @@ unless_faulty (Some fault) weight = 0
 -- the weight of the item x at k
 abbrev pub weight : (ℕ → ItemState) → List ItemType → ℕ → ItemType → ℕ
 weight item_state items k x = unless_faulty (fault item_state items k x)
-    (weight_opened item_state (collection_of x) items (k, x) + weight_made item_state
+    (weight_opened item_state (collection_kind_of x) items (k, x) + weight_made item_state
     (data_of x) items
     (k, x))
 

@@ -4,6 +4,7 @@ use Rattle.std.specs.Prelude.{Some, None, Result, Ok, Err, length, replicate, co
 use Rattle.std.specs.Fmt.{radix_digits, signed_decimal}
 use Rattle.std.specs.Int.{w32, cast_signed}
 use Rattle.hidreport_lists.specs.Answer.{Refusal, InvalidAt, Bounds, Mismatch, OverBudget}
+use Rattle.hidreport.specs.Choosing.{value_number}
 use Rattle.hidreport.specs.Reading.{ValueRecord, reads}
 use Rattle.hidreport.specs.Records.{FieldPlace, FieldRecord, VariableRecord, ArrayRecord}
 use Rattle.hidreport.specs.Records.{ConstantRecord}
@@ -21,10 +22,6 @@ hex_digits count n = replicate (count - length (radix_digits 16 false n)) 48 ++ 
 abbrev pub bytes_text : List ℕ → List ℕ
 bytes_text [] = []
 bytes_text (b ∷ bs) = hex_digits 2 b ++ flat_map (λ c. 32 ∷ hex_digits 2 c) bs
-
--- the number that a value's 32 bits are: below 0 only where the value is signed
-abbrev pub value_number : ValueRecord → ℤ
-value_number v = if v.is_signed then cast_signed w32 v.word else pos v.word
 
 -- values, each after a space
 abbrev pub values_text : List ValueRecord → List ℕ

@@ -12,7 +12,7 @@ use Rattle.hidreport_lists.specs.Itemising.{itemise}
 use Rattle.hidreport_lists.specs.Messages.{grammar_message}
 use Rattle.hidreport.specs.Fields.{fields_of, list_or_none}
 use Rattle.hidreport.specs.ItemState.{first_of}
-use Rattle.hidreport.specs.Kinds.{Direction, collection_of, data_of}
+use Rattle.hidreport.specs.Kinds.{Direction, collection_kind_of, data_of}
 use Rattle.hidreport.specs.Making.{extent}
 use Rattle.hidreport.specs.Meaning.{at_offset, empty_descriptor}
 use Rattle.hidreport.specs.MeaningFault.{MeaningFault, PastBudget}
@@ -37,7 +37,7 @@ weight_made_in h (Some x) = sum_by field_weight
 
 -- the weight of an item without a fault, from what is held
 abbrev pub weight_in : StateRecord → ItemType → ℕ
-weight_in h x = weight_opened_in h (collection_of x) + weight_made_in h (data_of x)
+weight_in h x = weight_opened_in h (collection_kind_of x) + weight_made_in h (data_of x)
 
 -- the weight passes what is left; none is without a limit
 abbrev pub is_past : Option ℕ → ℕ → Bool

@@ -18,7 +18,7 @@ use Rattle.hidreport.specs.Usages.{usages_of}
 use Rattle.hidreport.specs.declared.parser.push_keeps.PushKeeps.{PushKeeps}
 use Rattle.hidreport.specs.declared.parser.push_keeps.PushKeeps.TheVariants as push_keeps
 use Rattle.hidreport.specs.Kinds.{Indexed, Direction, Input, Output, Feature, data_of, goes}
-use Rattle.hidreport.specs.Kinds.{is_main, is_push, is_pop, is_end_collection, collection_of}
+use Rattle.hidreport.specs.Kinds.{is_main, is_push, is_pop, is_end_collection, collection_kind_of}
 use Rattle.hidreport.specs.Kinds.{local_of, usage_page_of, logical_minimum_of, logical_maximum_of}
 use Rattle.hidreport.specs.Kinds.{physical_minimum_of, physical_maximum_of, unit_exponent_of}
 use Rattle.hidreport.specs.Kinds.{unit_of, report_size_of, report_id_of, report_count_of}
@@ -152,7 +152,7 @@ new_collection h (Some kind) = record {
 abbrev pub next_opened : StateRecord → ItemType → List CollectionRecord
 next_opened h x =
     if is_end_collection x then take (length h.opened - 1) h.opened
-    else h.opened ++ new_collection h (collection_of x)
+    else h.opened ++ new_collection h (collection_kind_of x)
 
 -- the last of a list, or else the first argument
 abbrev pub last_item_state : ItemState → List ItemState → ItemState
@@ -195,7 +195,7 @@ next_state h x = record {
   };
   fields = h.fields + fields_made (data_of x) (extent h.item_state);
   opened = next_opened h x;
-  collections = h.collections + length (new_collection h (collection_of x));
+  collections = h.collections + length (new_collection h (collection_kind_of x));
 }
 
 abbrev pub unless_fault : Option MeaningFault → StateRecord → Result StateRecord MeaningFault

@@ -1,4 +1,5 @@
-/// How many bits each element of a data item has, and how many elements there are (Section 6.2.2.7).
+/// How many bits an element of a data item has, and how many elements there are
+/// (Section 6.2.2.7).
 #[derive(Clone, Copy)]
 pub(crate) struct Extent {
     pub(crate) size: usize,

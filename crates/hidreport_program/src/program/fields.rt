@@ -7,7 +7,7 @@ ghost use Rattle.hidreport_program.specs.Lines.{line_of_field, reading_text, rep
 ghost use Rattle.hidreport_program.specs.Lines.{values_text};
 ghost use Rattle.hidreport_program.specs.Output.{report_text};
 
-use super::numbers::{EightDigits, TwoDigits, number_of};
+use super::numbers::{EightDigits, TwoDigits};
 use hidreport::{
     ArrayField, ConstantField, Field, FieldValue, ParserError, RDescReport, Report, VariableField,
 };
@@ -96,7 +96,7 @@ fn add_values(text: &mut String, values: &[FieldValue]) -> Result<(), AllocError
         ≡ string_bytes text.old ++ values_text values.now) }
 {
     for value in values {
-        let number = number_of(*value);
+        let number = i64::from(*value);
         write!(text, " {number}")?;
     }
     Ok(())

@@ -1,8 +1,7 @@
 //! Numbers as the lines show them.
 ghost use Rattle.std.specs.Prelude.{◌≡◌, ◌++◌, Some, OnOk, string_bytes};
-ghost use Rattle.hidreport_program.specs.Lines.{bytes_text, hex_digits, value_number};
+ghost use Rattle.hidreport_program.specs.Lines.{bytes_text, hex_digits};
 
-use hidreport::FieldValue;
 use std::alloc::AllocError;
 use std::fmt;
 use std::fmt::Write;
@@ -32,17 +31,6 @@ impl fmt::Display for EightDigits {
     fn fmt<W: fmt::Write>(&self, f: &mut fmt::Formatter<W>) -> fmt::Result {
         let number = self.0;
         write!(f, "{number:08x}")
-    }
-}
-
-/// The number that a value is: below 0 only where its field was signed.
-pub fn number_of(value: FieldValue) -> i64
-    ensures { result ≡ value_number value }
-{
-    if value.is_signed() {
-        i64::from(i32::from(value))
-    } else {
-        i64::from(u32::from(value))
     }
 }
 
