@@ -1,7 +1,7 @@
 -- Collections have numbers of their own: there is one list of openings, each a collection with those
 -- around it, outermost first, in which each opening stands at the number of its collection.
-use Rattle.std.proofs.Common.{◌≡◌, ℕ, zero, suc, ◌+◌, List, [], ◌∷◌, ◌++◌, length, take, Option}
-use Rattle.std.proofs.Common.{None, Some, slice_get, refl, sym, ap, ◌∙◌, subst, append-nil}
+use Rattle.std.proofs.Common.{◌≡◌, ℕ, zero, suc, List, [], ◌∷◌, ◌++◌, length, take}
+use Rattle.std.proofs.Common.{Some, slice_get, refl, sym, ap, ◌∙◌, subst, append-nil}
 use Rattle.std.proofs.Common.{append_assoc}
 use Rattle.hidreport.specs.Records.{CollectionRecord, FieldRecord}
 use Rattle.hidreport.specs.Tiling.{Each, HaveOwnCollections}

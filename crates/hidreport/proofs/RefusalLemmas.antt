@@ -11,7 +11,7 @@ use Rattle.hidreport_items.specs.declared.item.ItemType.TheVariants as item
 use Rattle.hidreport_items.specs.declared.local.LocalItem.{LocalItem}
 use Rattle.hidreport_items.specs.declared.local.LocalItem.TheVariants as local
 use Rattle.hidreport_items.specs.declared.main_item.MainItem.TheVariants as main
-use Rattle.hidreport_lists.specs.Answer.{Answers, Refusal, Bounds, InvalidAt, Mismatch, OverBudget}
+use Rattle.hidreport_lists.specs.Answer.{Answers, Refusal, Mismatch, OverBudget}
 use Rattle.hidreport_lists.specs.Entry.{Entry}
 use Rattle.hidreport_lists.specs.Itemising.{itemise}
 use Rattle.hidreport_lists.specs.Rebuilt.{items_of}

@@ -9,7 +9,7 @@ use Rattle.std.proofs.lemmas.List.{map-append}
 use Rattle.std.proofs.lemmas.List.Elements.{filter-append}
 use Rattle.std.proofs.lemmas.List.Sums.{sum_by-append}
 use Rattle.hidreport.specs.Kinds.{Indexed}
-use Rattle.hidreport.specs.Parser.Machine.{report_of, reports_of, size_in, first_id, added_to}
+use Rattle.hidreport.specs.Parser.Machine.{report_of, reports_of, size_in, added_to}
 use Rattle.hidreport.specs.Making.{same_key}
 use Rattle.hidreport.specs.Meaning.{firsts_after}
 use Rattle.hidreport.specs.Places.{id_bits}

@@ -1,7 +1,7 @@
 -- What a walk announces is tiled, whatever a Pop brings back.
-use Rattle.std.proofs.Common.{◌≡◌, ℕ, zero, suc, ◌+◌, ◌-◌, ◌<◌, ◌≤◌, ◌⊎◌, inl, inr, Bool, true}
+use Rattle.std.proofs.Common.{◌≡◌, ℕ, ◌+◌, ◌-◌, ◌<◌, ◌≤◌, ◌⊎◌, inl, inr, Bool, true}
 use Rattle.std.proofs.Common.{false, cond, ◌&&◌, List, [], ◌∷◌, ◌++◌, length, take, Option, None}
-use Rattle.std.proofs.Common.{Some, is_some, slice_get, Result, Ok, Err, refl, sym, ap, ◌∙◌, subst}
+use Rattle.std.proofs.Common.{Some, is_some, Result, Ok, Err, refl, sym, ap, ◌∙◌, subst}
 use Rattle.std.proofs.Common.{arith}
 use Rattle.std.proofs.lemmas.Grind.{common_steps, flat_map-append}
 use Rattle.hidreport_items.specs.Flags.{Flags}
@@ -35,7 +35,7 @@ use Rattle.hidreport.proofs.OwnCollectionsLemmas.{AreOpened, opened-append, open
 use Rattle.hidreport.proofs.OwnCollectionsLemmas.{opened-take, own-collections}
 use Rattle.hidreport.proofs.ReadingLemmas.{walk-meaning}
 use Rattle.hidreport.proofs.TilingLemmas.{IsGood, IsMade, IsWell, ranged, added-good, added-own}
-use Rattle.hidreport.proofs.TilingLemmas.{each-append, each-more, each-take, extent-some, fresh}
+use Rattle.hidreport.proofs.TilingLemmas.{each-append, each-more, extent-some, fresh}
 use Rattle.hidreport.proofs.TilingLemmas.{less-or-not, made, numbered, numbered-added, with_number}
 use Rattle.hidreport.proofs.TilingLemmas.{with_number-append}
 use Rattle.hidreport.specs.declared.parser.extent.Extent.{Extent}

@@ -1,5 +1,5 @@
 -- What rebuilding gives, for the rows.
-use Rattle.std.specs.Prelude.{ℕ, List, Result, Ok, Err}
+use Rattle.std.specs.Prelude.{ℕ, List, Result, Ok}
 use Rattle.hidreport.specs.ItemAnswer.{GrammarFault}
 use Rattle.hidreport.specs.Itemising.{itemise}
 use Rattle.hidreport.specs.Rebuilt.{rebuild_answer}

@@ -1,8 +1,7 @@
 -- The lines that the program writes. Each ends with a newline, which is the byte 10.
-use Rattle.std.specs.Prelude.{ℕ, ℤ, pos, ◌-◌, if◌then◌else◌, List, [], ◌∷◌, ◌++◌, flat_map, Option}
+use Rattle.std.specs.Prelude.{ℕ, ◌-◌, List, [], ◌∷◌, ◌++◌, flat_map, Option}
 use Rattle.std.specs.Prelude.{Some, None, Result, Ok, Err, length, replicate, codes, decimal, false}
 use Rattle.std.specs.Fmt.{radix_digits, signed_decimal}
-use Rattle.std.specs.Int.{w32, cast_signed}
 use Rattle.hidreport_lists.specs.Answer.{Refusal, InvalidAt, Bounds, Mismatch, OverBudget}
 use Rattle.hidreport.specs.Choosing.{value_number}
 use Rattle.hidreport.specs.Reading.{ValueRecord, reads}

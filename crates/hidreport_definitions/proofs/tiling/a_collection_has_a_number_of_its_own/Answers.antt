@@ -1,4 +1,4 @@
-use Rattle.std.proofs.Common.{◌≡◌, List, [], ◌∷◌, ap, arith, refl}
+use Rattle.std.proofs.Common.{◌≡◌, [], ◌∷◌, ap, arith, refl}
 use Rattle.hidreport.specs.CollectionItem.TheVariants as kind
 use Rattle.hidreport.specs.Records.{CollectionRecord, ConstantRecord}
 use Rattle.hidreport.proofs.OwnCollectionsLemmas.{own-collections}
