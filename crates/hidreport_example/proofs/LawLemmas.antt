@@ -1,16 +1,15 @@
 -- What the laws of parsing come to for a caller who reads two descriptors.
-use Rattle.std.proofs.Common.{◌≡◌, ◌≢◌, ℕ, zero, suc, ◌<◌, ◌≤◌, List, [], ◌∷◌, ◌++◌, Some}
+use Rattle.std.proofs.Common.{◌≡◌, ℕ, zero, suc, ◌<◌, ◌≤◌, List, [], ◌∷◌, ◌++◌, Some}
 use Rattle.std.proofs.Common.{Result, Ok, Err, IfOk, sym, ap, ◌∙◌, subst, arith}
 use Rattle.std.specs.Prelude.{slice_get}
 use Rattle.hidreport.specs.Answer.{Refusal}
 use Rattle.hidreport.specs.Entry.{Entry}
 use Rattle.hidreport.specs.ItemAnswer.{GrammarFault}
-use Rattle.hidreport.specs.ItemType.{ItemType}
 use Rattle.hidreport.specs.Itemising.{as_refusal, itemise}
 use Rattle.hidreport.specs.Meaning.{PushReading, at_offset, meaning_by, parse_by, parse_items}
 use Rattle.hidreport.specs.MeaningFault.{MeaningFault}
 use Rattle.hidreport.specs.Rebuilt.{items_of, rebuild_answer, rebuilt_bytes}
-use Rattle.hidreport.specs.Records.{DescriptorRecord, FieldRecord, ReportRecord, place_of}
+use Rattle.hidreport.specs.Records.{DescriptorRecord, FieldRecord, place_of}
 use Rattle.hidreport.specs.Segments.{moved_fault}
 use Rattle.hidreport.specs.Spelling.{item_of}
 use Rattle.hidreport.specs.ParserError.{ParserError}

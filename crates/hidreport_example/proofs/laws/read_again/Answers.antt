@@ -1,5 +1,4 @@
-use Rattle.std.proofs.Common.{◌≡◌, ◌≢◌, ◌∙◌, ℕ, [], length, Result, Ok, ap, arith, subst, sym}
-use Rattle.hidreport.specs.Entry.{Entry}
+use Rattle.std.proofs.Common.{◌≡◌, ◌≢◌, ◌∙◌, [], length, ap, arith, sym}
 use Rattle.hidreport.specs.Itemising.{itemise}
 use Rattle.hidreport.specs.ItemState.{item_state}
 use Rattle.hidreport.specs.Meaning.{meaning_by, parse}

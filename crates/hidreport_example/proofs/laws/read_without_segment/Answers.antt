@@ -1,6 +1,6 @@
-use Rattle.std.proofs.Common.{◌≡◌, ◌∙◌, ◌++◌, ap, length, sym, ◌+◌}
+use Rattle.std.proofs.Common.{◌∙◌, ◌++◌, ap, length, sym, ◌+◌}
 use Rattle.hidreport.specs.ItemState.{item_state}
-use Rattle.hidreport.specs.Meaning.{at_offset, meaning_by, parse}
+use Rattle.hidreport.specs.Meaning.{at_offset, meaning_by}
 use Rattle.hidreport_example.proofs.LawLemmas.{means-moved, one, parse-items}
 use Rattle.hidreport_example.proofs.laws.read_without_segment.Goals as goal
 
