@@ -3,7 +3,7 @@
 # (crates/hidreport_tests/src/runs.rt): each of their allocations is refused in turn, and each answers as with ample memory, or want of
 # memory. There is a test for each allocation, which first makes as many others as bring it to the number that is refused in every test,
 # so that all run at once.
-# Proves nothing, takes about a minute, and leaves nothing behind. Its argument, if any, is the repository to look at.
+# Proves nothing, takes about two minutes, and leaves nothing behind. Its argument, if any, is the repository to look at.
 set -eu
 
 . "$(dirname "$0")/needs.sh"
@@ -13,7 +13,7 @@ repository=${1:-$(dirname "$0")/..}
 make_probe refused_memory "$repository" hidreport_types hidreport_items hidreport_lists hidreport hidreport_transfer hidreport_program
 
 # More allocations than the calls make together.
-all=300
+all=500
 
 # The tests of a module that has a function `count_refused`.
 write_refusals() {

@@ -4,20 +4,28 @@
 //! `checks/refused_memory.sh` runs them with each of their allocations refused in turn.
 mod descriptors;
 mod items;
+mod lists;
+mod values;
+mod wanted;
 
 use descriptors::{
-    DESCRIPTORS, OF_GLOBALS, descriptor_is_answered, fields_are_copied,
-    globals_descriptor_is_answered, values_are_read,
+    DESCRIPTORS, OF_GLOBALS, WITHIN, descriptor_is_answered, fields_are_copied,
+    globals_descriptor_is_answered, limited_descriptor_is_answered,
 };
 use hidreport::ParserError;
 use hidreport::hid::HidError;
 use items::{
-    ITEMS, UNITS, building_is_answered, data_is_answered, each_kind_is_built, has_units,
-    item_is_answered, items_are_written, long_data_is_refused, long_items_are_read,
-    long_items_are_told, rebuilding_is_answered, three_bytes_are_refused,
+    ITEMS, UNITS, are_in_place, building_is_answered, data_is_answered, each_kind_is_built,
+    front_is_read, has_units, item_is_answered, items_are_written, kinds_are_read,
+    long_data_is_refused, long_items_are_read, long_items_are_told, three_bytes_are_refused,
 };
+use lists::{LISTS, REBUILT, list_is_answered, rebuilding_is_answered};
 use std::alloc::{AllocError, Global};
 use std::process::Abort;
+use values::{
+    READINGS, changed_arrays_are_read, changed_variables_are_read, reports_are_found,
+    usages_are_chosen, values_are_read,
+};
 
 /// Why a call gives nothing.
 pub(crate) enum Refusal {
@@ -67,16 +75,19 @@ fn count<R: Abort>(rt: &R, refused: usize, answer: Answer) -> usize {
 /// How many of the calls answer want of memory.
 pub(crate) fn count_refused<R: Abort>(rt: &R, alloc: Global) -> usize {
     let mut refused = 0usize;
-    for (bytes, written, message) in &ITEMS {
-        refused = count(
-            rt,
-            refused,
-            item_is_answered(alloc, bytes, written, message),
-        );
+    for (bytes, wanted) in &ITEMS {
+        refused = count(rt, refused, item_is_answered(alloc, bytes, *wanted));
     }
+    assert!(rt; are_in_place() && kinds_are_read() && front_is_read(alloc));
     refused = count(rt, refused, items_are_written(alloc));
     for (number, wanted) in &UNITS {
-        refused = count(rt, refused, has_units(alloc, *number, *wanted));
+        refused = count(rt, refused, has_units(alloc, *number, wanted));
+    }
+    for (bytes, wanted) in &LISTS {
+        refused = count(rt, refused, list_is_answered(alloc, bytes, *wanted));
+    }
+    for (bytes, wanted) in &REBUILT {
+        refused = count(rt, refused, rebuilding_is_answered(alloc, bytes, *wanted));
     }
     for (bytes, wanted) in &DESCRIPTORS {
         refused = count(rt, refused, descriptor_is_answered(alloc, bytes, *wanted));
@@ -88,14 +99,26 @@ pub(crate) fn count_refused<R: Abort>(rt: &R, alloc: Global) -> usize {
             globals_descriptor_is_answered(alloc, bytes, *wanted),
         );
     }
+    for (bytes, limit, wanted) in &WITHIN {
+        refused = count(
+            rt,
+            refused,
+            limited_descriptor_is_answered(alloc, bytes, *limit, *wanted),
+        );
+    }
     refused = count(rt, refused, fields_are_copied(alloc));
-    refused = count(rt, refused, values_are_read(alloc));
+    for reading in &READINGS {
+        refused = count(rt, refused, values_are_read(alloc, reading));
+    }
+    refused = count(rt, refused, reports_are_found(alloc));
+    refused = count(rt, refused, changed_arrays_are_read(alloc));
+    refused = count(rt, refused, changed_variables_are_read(alloc));
+    refused = count(rt, refused, usages_are_chosen(alloc));
     refused = count(rt, refused, data_is_answered(alloc));
     refused = count(rt, refused, long_data_is_refused(alloc));
     refused = count(rt, refused, long_items_are_read(alloc));
     refused = count(rt, refused, long_items_are_told(alloc));
     refused = count(rt, refused, three_bytes_are_refused(alloc));
-    refused = count(rt, refused, rebuilding_is_answered(alloc));
     refused = count(rt, refused, each_kind_is_built(alloc));
     count(rt, refused, building_is_answered(alloc))
 }

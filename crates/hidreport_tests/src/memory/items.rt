@@ -3,37 +3,76 @@ use crate::memory::{Answer, Refusal};
 use hidreport::hid::{
     AnyItem, CollectionItem, FeatureItem, GlobalItem, HidError, InputItem, Item, ItemBuilder,
     ItemData, ItemType, LocalItem, LongItem, MainItem, OutputItem, ReportDescriptorBuilder,
-    ReportDescriptorBuilderC2, ReportDescriptorItems, ShortItem, rebuild,
+    ReportDescriptorBuilderC2, ShortItem,
 };
 use hidreport::types::{
-    LogicalMaximum, LogicalMinimum, ReportCount, ReportSize, Unit, UsageId, UsagePage,
+    LogicalMaximum, LogicalMinimum, ReportCount, ReportSize, Unit, Units, UsageId, UsagePage,
 };
+use hidreport_items::write_item;
 use std::alloc::Global;
 
-/// An item that is read and written, the bytes that are written, and the message of a refusal.
-pub(crate) static ITEMS: [(&[u8], &[u8], &str); 10] = [
-    (b"\x16\x80\x00", b"\x16\x80\x00", ""),
-    (b"\x0b\x30\x00\x00\x00", b"\x0b\x30\x00\x00\x00", ""),
-    (b"\x93\xaa\x01\x00\x00", b"\x92\xaa\x01", ""),
-    (b"\xc0", b"\xc0", ""),
-    (b"\xa1\x01", b"\xa1\x01", ""),
-    (b"\x81\x01\x02\x03", b"", "Size 3 cannot happen"),
-    (b"\xa4\x00\x00\x00", b"", "Size 3 cannot happen"),
-    (b"\x00", b"", "Invalid item tag 0b000000"),
-    (b"\x40", b"", "Invalid item tag 0b1000000"),
-    (b"\xfe\x01\x02\x03", b"", ""),
+/// What reading an item is answered with: the bytes that are written for it, the message of a
+/// refusal, or too few bytes.
+#[derive(Clone, Copy)]
+pub(crate) enum ItemRead {
+    Written(&'static [u8]),
+    Refused(&'static str),
+    TooFew,
+}
+
+pub(crate) static ITEMS: [(&[u8], ItemRead); 16] = [
+    (b"\x16\x80\x00", ItemRead::Written(b"\x16\x80\x00")),
+    (
+        b"\x0b\x30\x00\x00\x00",
+        ItemRead::Written(b"\x0b\x30\x00\x00\x00"),
+    ),
+    (b"\x93\xaa\x01\x00\x00", ItemRead::Written(b"\x92\xaa\x01")),
+    (b"\xc0", ItemRead::Written(b"\xc0")),
+    (b"\xa1\x01", ItemRead::Written(b"\xa1\x01")),
+    (
+        b"\x81\x01\x02\x03",
+        ItemRead::Refused("Size 3 cannot happen"),
+    ),
+    (
+        b"\xa4\x00\x00\x00",
+        ItemRead::Refused("Size 3 cannot happen"),
+    ),
+    (b"\x00", ItemRead::Refused("Invalid item tag 0b000000")),
+    (b"\x40", ItemRead::Refused("Invalid item tag 0b1000000")),
+    (b"", ItemRead::TooFew),
+    (b"\x75", ItemRead::TooFew),
+    (b"\x03", ItemRead::Refused("Invalid item tag 0b000000")),
+    (b"\x05", ItemRead::Written(b"\x05\x00")),
+    (b"\xc0\x01\x02\x03", ItemRead::Written(b"\xc0")),
+    (b"\xfe\x01\x02\x03", ItemRead::Written(b"")),
+    (b"\xfe\x02\x01\xc0", ItemRead::Written(b"")),
 ];
 
-pub(crate) fn item_is_answered(
-    alloc: Global,
-    bytes: &[u8],
-    written: &[u8],
-    message: &str,
-) -> Answer {
+/// Whether reading is refused so; memory is taken for a message alone.
+fn is_refusal(error: HidError, wanted: ItemRead) -> Answer {
+    match error {
+        HidError::InvalidData { message } => {
+            Ok(matches!(wanted, ItemRead::Refused(text) if message.as_str() == text))
+        }
+        HidError::InsufficientData => Ok(matches!(wanted, ItemRead::TooFew)),
+        error => match wanted {
+            ItemRead::Refused(_) => Err(Refusal::from(error)),
+            _ => Ok(false),
+        },
+    }
+}
+
+fn is_written(alloc: Global, item: &ItemType, wanted: ItemRead) -> Answer {
+    match wanted {
+        ItemRead::Written(bytes) => Ok(item.as_bytes(alloc)?.as_slice() == bytes),
+        _ => Ok(false),
+    }
+}
+
+pub(crate) fn item_is_answered(alloc: Global, bytes: &[u8], wanted: ItemRead) -> Answer {
     match ItemType::try_from(alloc, bytes) {
-        Ok(item) => Ok(item.as_bytes(alloc)?.as_slice() == written),
-        Err(HidError::InvalidData { message: said }) => Ok(said.as_str() == message),
-        Err(error) => Err(Refusal::from(error)),
+        Ok(item) => is_written(alloc, &item, wanted),
+        Err(error) => is_refusal(error, wanted),
     }
 }
 
@@ -88,27 +127,48 @@ pub(crate) fn items_are_written(alloc: Global) -> Answer {
     Ok(true)
 }
 
-/// A number of a unit, and how many units it has.
-pub(crate) static UNITS: [(u32, usize); 5] = [
-    (0xE121, 3),
-    (0x00F0_D121, 4),
-    (0xE012, 2),
-    (0x1005, 1),
-    (0, 0),
+/// A number of a unit, and its units.
+pub(crate) static UNITS: [(u32, &[Units]); 5] = [
+    (
+        0xE121,
+        &[
+            Units::Centimeter { exponent: 2 },
+            Units::Gram { exponent: 1 },
+            Units::Seconds { exponent: -2 },
+        ],
+    ),
+    (
+        0x00F0_D121,
+        &[
+            Units::Centimeter { exponent: 2 },
+            Units::Gram { exponent: 1 },
+            Units::Seconds { exponent: -3 },
+            Units::Ampere { exponent: -1 },
+        ],
+    ),
+    (
+        0xE012,
+        &[
+            Units::Radians { exponent: 1 },
+            Units::Seconds { exponent: -2 },
+        ],
+    ),
+    (0x1005, &[Units::Seconds { exponent: 1 }]),
+    (0, &[]),
 ];
 
-pub(crate) fn has_units(alloc: Global, number: u32, wanted: usize) -> Answer {
+pub(crate) fn has_units(alloc: Global, number: u32, wanted: &[Units]) -> Answer {
     match Unit::from(number).units(alloc)? {
-        Some(units) => Ok(units.len() == wanted),
-        None => Ok(wanted == 0),
+        Some(units) => Ok(!wanted.is_empty() && units.as_slice() == wanted),
+        None => Ok(wanted.is_empty()),
     }
 }
 
-/// What is said of the data of `75 08`: its number, its byte, and its bytes.
+/// What is said of the data of `75 08`: its number and its byte, with no memory, and its bytes.
 fn is_eight(alloc: Global, data: &ItemData) -> Answer {
     Ok(
-        data.to_u32(alloc)? == 8
-            && data.to_u8(alloc)? == 8
+        matches!(data.to_u32(alloc), Ok(8))
+            && matches!(data.to_u8(alloc), Ok(8))
             && data.to_vec(alloc)?.as_slice() == b"\x08".as_slice(),
     )
 }
@@ -151,8 +211,7 @@ pub(crate) fn long_items_are_read(alloc: Global) -> Answer {
     let bytes = b"\xfe\x03\xf0\x01\x02\x03\x05\x01";
     Ok(
         LongItem::try_from(alloc, bytes)?.size() == 6
-            && AnyItem::try_from(alloc, bytes)?.tag() == 0xf0
-            && AnyItem::try_from(alloc, b"\x05\x01")?.size() == 2,
+            && AnyItem::try_from(alloc, bytes)?.tag() == 0xf0,
     )
 }
 
@@ -185,17 +244,52 @@ pub(crate) fn each_kind_is_built(alloc: Global) -> Answer {
     are_bytes(output_and_feature(alloc), b"\x91\x00\xb1\x00")
 }
 
-pub(crate) fn rebuilding_is_answered(alloc: Global) -> Answer {
-    let bytes = b"\x06\x01\x00\xc4\x0a\x30\x00\xfc\x17\x00\x00\x00\x00\xa0\xc1\x55";
-    let wanted = b"\x05\x01\x09\x30\x15\x00\xa1\x00\xc0";
-    Ok(
-        ReportDescriptorItems::try_from(alloc, bytes)?
-            .as_slice()
-            .len()
-            == 7
-            && ShortItem::try_from(alloc, b"\x05\x01\x09")?.size() == 2
-            && rebuild(alloc, bytes)?.as_slice() == wanted.as_slice(),
-    )
+/// Whether the item at the front of the bytes has two of them; no memory is taken for it.
+fn is_short(answer: Result<AnyItem, HidError>) -> bool {
+    match answer {
+        Ok(item) => item.size() == 2 && !item.is_long_item(),
+        Err(_) => false,
+    }
+}
+
+/// A short item is read with no memory; what is behind its bytes isn't looked at.
+pub(crate) fn front_is_read(alloc: Global) -> bool {
+    let bytes = b"\x05\x01\x09";
+    is_short(AnyItem::try_from(alloc, bytes))
+        && is_short(ShortItem::try_from(alloc, bytes).map(AnyItem::Short))
+}
+
+/// Whether the bytes that are written for an item, with no memory, and those of its short item are
+/// these; a short item is refused just where there are none.
+fn is_in_place(item: &ItemType, wanted: &[u8]) -> bool {
+    let is_same = write_item(item).as_slice() == wanted;
+    match ShortItem::from_item_type(item) {
+        Ok(short) => is_same && short.bytes() == wanted && short.item_type() == *item,
+        Err(HidError::InsufficientData) => is_same && wanted.is_empty(),
+        Err(_) => false,
+    }
+}
+
+/// Items that are written in place: neither memory nor the want of it comes in.
+pub(crate) fn are_in_place() -> bool {
+    is_in_place(&ItemType::Global(GlobalItem::Push), b"\xa4")
+        && is_in_place(&ItemType::from(LogicalMinimum::from(128)), b"\x16\x80\x00")
+        && is_in_place(
+            &ItemType::from((UsagePage::from(0), UsageId::from(0x30))),
+            b"\x0b\x30\x00\x00\x00",
+        )
+        && is_in_place(&ItemType::Long, b"")
+        && is_in_place(&ItemType::Reserved, b"")
+}
+
+/// A collection's kind is read with no memory; no bytes are too few.
+pub(crate) fn kinds_are_read() -> bool {
+    let answer = CollectionItem::try_from(b"".as_slice());
+    matches!(answer, Err(HidError::InsufficientData))
+        && matches!(
+            CollectionItem::try_from(b"\xa1\x01".as_slice()),
+            Ok(CollectionItem::Application)
+        )
 }
 
 /// A builder in two open collections.
