@@ -1,3 +1,4 @@
+pub mod LocalsLemmas
 pub mod LookupLemmas
 pub mod FixedBitsLemmas
 pub mod BitLemmas

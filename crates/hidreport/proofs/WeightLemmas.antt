@@ -1,11 +1,12 @@
 -- What the fields of a data item weigh, from the numbers in force.
-use Rattle.std.proofs.Common.{◌≡◌, ℕ, zero, suc, ◌+◌, ◌*◌, ◌-◌, Bool, true, false, length, Option}
-use Rattle.std.proofs.Common.{None, Some, refl, sym, ap, ◌∙◌, subst, zero-add, arith}
+use Rattle.std.proofs.Common.{◌≡◌, ◌≤◌, ◌<◌, ◌^◌, ◌||◌, ℕ, zero, suc, ◌+◌, ◌*◌, ◌-◌, Bool, true}
+use Rattle.std.proofs.Common.{false, length, Option, None, Some, refl, sym, ap, ◌∙◌, subst, zero-add, arith}
 use Rattle.std.specs.Prelude.{nat_lt, sum_by}
 use Rattle.std.proofs.Math.Nat.{suc-mul}
 use Rattle.std.proofs.lemmas.Bool.Decides.{nat_tests}
 use Rattle.std.proofs.lemmas.List.Sums.{sum_by-cons}
 use Rattle.hidreport_items.specs.Flags.{Flags}
+use Rattle.hidreport.specs.Faults.{data_fault, id_count, last_end, limit_fault}
 use Rattle.hidreport.specs.Fields.{attributes, each_from, field_count, fields_of, list_or_none}
 use Rattle.hidreport.specs.Fields.{Beginning, beginning_at, make_fields, make_place, usage_at}
 use Rattle.hidreport.specs.ItemState.{ItemState, first_of}
@@ -15,8 +16,9 @@ use Rattle.hidreport.specs.MeaningFault.{PastBudget}
 use Rattle.hidreport.specs.Parser.Budget.{is_past, left_behind, past_fault, stop_in, weight_in}
 use Rattle.hidreport.specs.Parser.Budget.{weight_of_each}
 use Rattle.hidreport.specs.Parser.DataItem.{item_with}
-use Rattle.hidreport.specs.Parser.Machine.{StateRecord, fault_in, start_in}
-use Rattle.hidreport.specs.Parser.Usages.{HasUsages, usage_list}
+use Rattle.hidreport.specs.Parser.Machine.{StateRecord, counts_in, fault_in, first_id, key_in}
+use Rattle.hidreport.specs.Parser.Machine.{reports_in, size_in, start_in}
+use Rattle.hidreport.specs.Parser.Usages.{HasUsages, usage_list, usages_fault}
 use Rattle.hidreport.specs.Records.{Attributes, FieldRecord, VariableRecord}
 use Rattle.hidreport.specs.Usages.{UsageList, usages_of}
 use Rattle.hidreport.specs.Weight.{collection_weight, field_weight}
@@ -103,6 +105,55 @@ data-weighs h now g d flags e us n w around view same made has n_is w_is around_
     ∙ ap (λ m. field_count flags e.count * m)
     (sym (w_is ∙ ap (weight_of_each flags (length (usage_list us).usages)) around_is))
     ∙ ap (λ m. m * w) (sym n_is))
+
+-- a data item has no fault where it has the usages that it needs, and its bits and its fields'
+-- numbers can be counted
+within-limits : (start bits fields n : ℕ) → start + bits < 2 ^ 64 → fields + n ≤ 2 ^ 32
+    → limit_fault (nat_lt last_end (start + bits) || nat_lt id_count (fields + n)) ≡ None
+within-limits start bits fields n fits ids =
+    let near : nat_lt last_end (start + bits) ≡ false = grind (arith, nat_tests) in
+    let few : nat_lt id_count (fields + n) ≡ false = grind (arith, nat_tests) in
+    ap (λ b. limit_fault (b || nat_lt id_count (fields + n))) near ∙ ap limit_fault few
+
+faultless : (h : StateRecord) (d : Direction) (flags : Flags) (e : Extent)
+    → extent h.item_state ≡ Some e → usages_fault flags h.item_state ≡ None
+    → start_in d h + e.size * e.count < 2 ^ 64 → h.fields + field_count flags e.count ≤ 2 ^ 32
+    → fault_in h (item_with d flags) ≡ None
+faultless h Input flags e made usable fits ids =
+    ap (data_fault (counts_in h (item_with Input flags)) h.item_state flags) made
+    ∙ ap (λ o. first_of o (limit_fault (nat_lt last_end (start_in Input h + e.size * e.count)
+    || nat_lt id_count (h.fields + field_count flags e.count)))) usable
+    ∙ within-limits (start_in Input h) (e.size * e.count) h.fields (field_count flags e.count)
+    fits ids
+faultless h Output flags e made usable fits ids =
+    ap (data_fault (counts_in h (item_with Output flags)) h.item_state flags) made
+    ∙ ap (λ o. first_of o (limit_fault (nat_lt last_end (start_in Output h + e.size * e.count)
+    || nat_lt id_count (h.fields + field_count flags e.count)))) usable
+    ∙ within-limits (start_in Output h) (e.size * e.count) h.fields (field_count flags e.count)
+    fits ids
+faultless h Feature flags e made usable fits ids =
+    ap (data_fault (counts_in h (item_with Feature flags)) h.item_state flags) made
+    ∙ ap (λ o. first_of o (limit_fault (nat_lt last_end (start_in Feature h + e.size * e.count)
+    || nat_lt id_count (h.fields + field_count flags e.count)))) usable
+    ∙ within-limits (start_in Feature h) (e.size * e.count) h.fields (field_count flags e.count)
+    fits ids
+
+pub data-faultless : (h now : StateRecord) (g : ItemState) (d : Direction) (flags : Flags)
+    (e : Extent) (key : Option ℕ) (first n : ℕ) → h ≡ now → g ≡ h.item_state
+    → extent g ≡ Some e → usages_fault flags h.item_state ≡ None
+    → key ≡ first_of g.report_id (first_id (reports_in d h.descriptor))
+    → first ≡ size_in key (reports_in d h.descriptor) → first + e.size * e.count < 2 ^ 64
+    → n ≡ field_count flags e.count → h.fields + n ≤ 2 ^ 32
+    → fault_in now (item_with d flags) ≡ None
+data-faultless h now g d flags e key first n view same made usable key_is first_is fits n_is ids =
+    let key_now : key ≡ key_in d h = key_is
+    ∙ ap (λ (f : ItemState). first_of f.report_id (first_id (reports_in d h.descriptor))) same in
+    let first_now : first ≡ start_in d h =
+    first_is ∙ ap (λ k. size_in k (reports_in d h.descriptor)) key_now in
+    subst (λ (z : StateRecord). fault_in z (item_with d flags) ≡ None) view
+    (faultless h d flags e (ap extent (sym same) ∙ made) usable
+    (subst (λ k. k + e.size * e.count < 2 ^ 64) first_now fits)
+    (subst (λ k. h.fields + k ≤ 2 ^ 32) n_is ids))
 
 -- nothing weighs nothing
 pub nothing-past : (left : Option ℕ) → is_past left 0 ≡ false

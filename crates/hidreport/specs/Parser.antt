@@ -6,6 +6,7 @@ pub mod ItemStates
 pub mod Journal
 pub mod Layout
 pub mod Ids
+pub mod Locals
 pub mod Machine
 pub mod Opened
 pub mod Refusals

@@ -14,6 +14,8 @@ mod globals;
 mod item_state_table;
 mod journal;
 mod layout;
+mod local_usages;
+mod locals;
 mod measures;
 mod open_collection;
 mod open_collections;

@@ -20,7 +20,7 @@ pub data ChangeRecord : Type 0 where
 abbrev pub change_of : Change → ChangeRecord
 change_of (changes.Push count) = Opened count
 change_of (changes.Globals old) = WasGlobals old
-change_of (changes.Locals old) = WasLocals old.items
+change_of (changes.Locals old) = WasLocals old
 
 -- one change more, which is nothing to remember where no Push is open
 abbrev pub with_change : ChangeRecord → List ChangeRecord → List ChangeRecord

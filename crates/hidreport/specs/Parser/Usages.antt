@@ -1,27 +1,16 @@
 -- The parser's usages of an item.
-use Rattle.std.specs.Prelude.{◌≡◌, ◌<◌, ℕ, ◌+◌, ◌-◌, true, false, if◌then◌else◌, length, List, []}
-use Rattle.std.specs.Prelude.{◌∷◌, Option, None, Some, Result, Ok, Err}
+use Rattle.std.specs.Prelude.{◌≡◌, ◌<◌, ◌+◌, ◌-◌, true, false, if◌then◌else◌, length, map, List}
+use Rattle.std.specs.Prelude.{Option, None, Ok}
 use Rattle.hidreport_items.specs.Flags.{Flags}
-use Rattle.hidreport_items.specs.declared.local.LocalItem.{LocalItem}
-use Rattle.hidreport_items.specs.declared.local.LocalItem.TheVariants as local
 use Rattle.hidreport.specs.Faults.{needed_usages_fault}
 use Rattle.hidreport.specs.ItemState.{ItemState}
-use Rattle.hidreport.specs.MeaningFault.{MeaningFault, MissingUsagePage}
-use Rattle.hidreport.specs.Usages.{UsageList, make_usage, range_from, usages_of}
+use Rattle.hidreport.specs.MeaningFault.{MeaningFault}
+use Rattle.hidreport.specs.Parser.Locals.{usage_under}
+use Rattle.hidreport.specs.Usages.{UsageList, range_from, usages_of}
 use Rattle.hidreport.specs.declared.field.usage.Usage.{Usage}
 use Rattle.hidreport.specs.declared.parser.usage_bounds.UsageBounds.{UsageBounds}
 use Rattle.hidreport.specs.declared.parser.usages.Usages.{Usages}
 use Rattle.hidreport.specs.declared.parser.usages.Usages.TheVariants as usages
-
-abbrev pub usage_on : Option ℕ → ℕ → Result (Option Usage) MeaningFault
-usage_on None id = Err MissingUsagePage
-usage_on (Some page) id = Ok (Some (make_usage page id))
-
--- the usage that a local item gives, if it gives one
-abbrev pub one_usage : Option ℕ → LocalItem → Result (Option Usage) MeaningFault
-one_usage page (local.Usage own id) = Ok (Some (make_usage own id))
-one_usage page (local.UsageId id) = usage_on page id
-one_usage page _ = Ok None
 
 -- those from a minimum to a maximum
 abbrev pub between : UsageBounds → List Usage
@@ -30,8 +19,10 @@ between b = range_from b.page b.minimum (b.maximum + 1 - b.minimum)
 -- the usages as the definition has them
 abbrev pub usage_list : Usages → UsageList
 usage_list (usages.Range bounds) = record { usages = between bounds; is_range = true }
-usage_list (usages.One u) = record { usages = u ∷ []; is_range = false }
-usage_list (usages.Several us) = record { usages = us.items; is_range = false }
+usage_list (usages.Single page us) = record {
+  usages = map (usage_under page) us.now;
+  is_range = false;
+}
 
 -- the fault of a data item's usages; a constant item has none
 abbrev pub usages_fault : Flags → ItemState → Option MeaningFault

@@ -1,5 +1,6 @@
 use crate::parser::globals::Globals;
 use crate::parser::journal::{Change, Journal};
+use crate::parser::locals::Locals;
 use crate::parser::push_keeps::PushKeeps;
 use hidreport_items::{GlobalItem, LocalItem};
 use std::alloc::{AllocError, Global};
@@ -12,7 +13,7 @@ use std::marker::Model;
 pub(crate) struct ItemStateTable {
     keeping: PushKeeps,
     globals: Globals,
-    locals: Vec<LocalItem>,
+    locals: Locals,
     journal: Journal,
 }
 
@@ -25,11 +26,11 @@ impl Model for ItemStateTable {
 
     ghost view = { λ f. record {
       keeping = f.keeping;
-      now = item_state_of f.globals f.locals.items;
-      stack = reverse (undone_stack f.keeping f.journal f.globals f.locals.items);
+      now = item_state_of f.globals f.locals;
+      stack = reverse (undone_stack f.keeping f.journal f.globals f.locals);
     } };
 
-    ghost invariant = { λ f. Fits f.keeping f.journal f.locals.items };
+    ghost invariant = { λ f. Fits f.keeping f.journal f.locals };
 }
 
 impl ItemStateTable {
@@ -47,7 +48,7 @@ impl ItemStateTable {
         ItemStateTable {
             keeping,
             globals: Globals::new(),
-            locals: Vec::new(alloc),
+            locals: Locals::new(alloc),
             journal: Journal::new(alloc),
         }
     }
@@ -60,7 +61,7 @@ impl ItemStateTable {
     }
 
     /// The local items.
-    pub(crate) fn locals(&self) -> &[LocalItem]
+    pub(crate) fn locals(&self) -> &Locals
         ensures { result.now ≡ self.now.now.locals }
     {
         &self.locals
@@ -83,7 +84,7 @@ impl ItemStateTable {
           now = next_item_state self.old.now (items.Local item);
         }) }
     {
-        self.locals.push(item)?;
+        self.locals.add(item)?;
         Ok(())
     }
 

@@ -1,8 +1,7 @@
 use crate::parser::globals::Globals;
-use hidreport_items::LocalItem;
+use crate::parser::locals::Locals;
 use std::alloc::{AllocError, Global};
 use std::marker::Model;
-use std::mem;
 
 /// What the changes inside open Pushes replaced, so that each Pop can take them back
 /// (Section 6.2.2.7). Outside every Push it is empty: nothing has to be taken back.
@@ -21,7 +20,7 @@ pub(crate) enum Change {
     Globals(Globals),
     /// The local items that a main item ended, moved here. The Pop moves them back where a Push
     /// keeps locals, and drops them else.
-    Locals(Vec<LocalItem>),
+    Locals(Locals),
 }
 
 impl Model for Journal {
@@ -77,19 +76,17 @@ impl Journal {
     }
 
     /// Ends the local items. Where a Push is open they are moved into the journal.
-    pub(crate) fn end_locals(&mut self, locals: &mut Vec<LocalItem>) -> Result<(), AllocError>
-        ensures ok { OnOk result (self.new ≡ with_change (WasLocals locals.old.items) self.old) }
-        ensures ended { OnOk result (locals.new.items ≡ []) }
-        ensures err { OnErr result ((self.new ≡ self.old) × (locals.new.items ≡ locals.old.items)) }
+    pub(crate) fn end_locals(&mut self, locals: &mut Locals) -> Result<(), AllocError>
+        ensures ok { OnOk result (self.new ≡ with_change (WasLocals locals.old) self.old) }
+        ensures ended { OnOk result (locals.new ≡ []) }
+        ensures err { OnErr result ((self.new ≡ self.old) × (locals.new ≡ locals.old)) }
     {
         if !self.is_open() {
             locals.clear();
             return Ok(());
         }
         self.entries.reserve(1)?;
-        let alloc = *locals.allocator();
-        let ended = mem::replace(locals, Vec::new(alloc));
-        self.entries.push(Change::Locals(ended))?;
+        self.entries.push(Change::Locals(locals.take()))?;
         Ok(())
     }
 

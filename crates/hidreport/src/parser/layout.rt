@@ -58,12 +58,12 @@ impl Layout {
     pub(crate) fn add_fields(
         &self,
         alloc: Global,
-        usages: &mut Usages,
+        usages: &Usages,
         fields: &mut Vec<Field>,
     ) -> Result<(), AllocError>
-        requires { IsPossible self.now (usage_list usages.old) }
+        requires { IsPossible self.now (usage_list usages.now) }
         ensures { OnOk result (map field_record fields.new.items
-            ≡ map field_record fields.old.items ++ laid_out self.now (usage_list usages.old)) }
+            ≡ map field_record fields.old.items ++ laid_out self.now (usage_list usages.now)) }
     {
         if self.item.is_constant {
             fields.push(self.constant_field())?;
@@ -136,13 +136,13 @@ impl Layout {
     }
 
     /// The field of an array item, which has all the usages.
-    fn array_field(&self, alloc: Global, usages: &mut Usages) -> Result<Field, AllocError>
+    fn array_field(&self, alloc: Global, usages: &Usages) -> Result<Field, AllocError>
         requires ids { self.now.first_id < 2 ^ 32 }
         requires bits { self.now.first_bit + self.now.size * self.now.count < 2 ^ 64 }
         requires count { self.now.report_count ≡ Some self.now.count }
         ensures { IfOk result (λ field. field_record field ≡ ArrayRecord
             (make_place (beginning_of self.now) (self.now.size * self.now.count))
-            (usage_list usages.old).usages (usage_list usages.old).is_range self.now.count
+            (usage_list usages.now).usages (usage_list usages.now).is_range self.now.count
             (shared_of self.now)) }
     {
         let measures = &self.measures;
@@ -151,7 +151,7 @@ impl Layout {
             report_id: self.report_id,
             bits: self.all_bits(),
             is_usage_range: usages.is_range(),
-            usages: usages.take_list(alloc)?,
+            usages: usages.list(alloc)?,
             report_count: self.report_count.unwrap_or(ReportCount::from(0)),
             logical_minimum: measures.logical_minimum,
             logical_maximum: measures.logical_maximum,

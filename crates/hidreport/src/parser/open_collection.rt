@@ -46,21 +46,24 @@ impl OpenCollection {
 
     /// The collection with these parts.
     pub(crate) fn new(
+        alloc: Global,
         number: u32,
         collection_type: CollectionItem,
-        usages: Usages,
+        usages: &Usages,
     ) -> Result<OpenCollection, AllocError>
         ensures { IfOk result (λ collection. collection ≡ record {
           id = number;
           kind = collection_type;
-          usages = (usage_list usages).usages;
+          usages = (usage_list usages.now).usages;
         }) }
     {
         let usages = match usages {
-            Usages::Range(bounds) => OpenUsages::Waiting(bounds),
-            Usages::One(usage) => OpenUsages::Listed(CollectionUsages::One(usage)),
-            Usages::Several(usages) => {
-                OpenUsages::Listed(CollectionUsages::List(ArcSlice::from_vec(usages)?))
+            Usages::Range(bounds) => OpenUsages::Waiting(*bounds),
+            Usages::Single(page, [usage]) => {
+                OpenUsages::Listed(CollectionUsages::One(usage.under(*page)))
+            }
+            Usages::Single(_, _) => {
+                OpenUsages::Listed(CollectionUsages::List(ArcSlice::from_vec(usages.list(alloc)?)?))
             }
         };
         Ok(OpenCollection {

@@ -74,20 +74,21 @@ impl OpenCollections {
     /// Opens one with these parts and the next number.
     pub(crate) fn open(
         &mut self,
+        alloc: Global,
         collection_type: CollectionItem,
-        usages: Usages,
+        usages: &Usages,
     ) -> Result<(), AllocError>
         requires { self.old.count < 2 ^ 32 }
         ensures { OnOk result (self.new ≡ record {
           list = self.old.list ++ record {
             id = self.old.count;
             kind = collection_type;
-            usages = (usage_list usages).usages;
+            usages = (usage_list usages.now).usages;
           } ∷ [];
           count = self.old.count + 1;
         }) }
     {
-        let collection = OpenCollection::new(self.count as u32, collection_type, usages)?;
+        let collection = OpenCollection::new(alloc, self.count as u32, collection_type, usages)?;
         let weight = self.weight + collection.weight();
         self.shared = None;
         self.open.push(collection)?;

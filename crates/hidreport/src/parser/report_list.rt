@@ -76,13 +76,13 @@ impl ReportList {
         slot: Slot,
         bits: usize,
         layout: &Layout,
-        usages: &mut Usages,
+        usages: &Usages,
     ) -> Result<(), AllocError>
         requires slot { slot.index ≡ index_in slot.key self.old }
         requires bits { size_in slot.key self.old + bits < 2 ^ 64 }
-        requires possible { IsPossible layout.now (usage_list usages.old) }
+        requires possible { IsPossible layout.now (usage_list usages.now) }
         ensures { OnOk result (self.new
-            ≡ added_to slot.key bits (laid_out layout.now (usage_list usages.old)) self.old) }
+            ≡ added_to slot.key bits (laid_out layout.now (usage_list usages.now)) self.old) }
     {
         let Slot { key, index } = slot;
         let ids_below = widened(self.ids_below, &key);

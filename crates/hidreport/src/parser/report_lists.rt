@@ -61,16 +61,16 @@ impl ReportLists {
         slot: Slot,
         bits: usize,
         layout: &Layout,
-        usages: &mut Usages,
+        usages: &Usages,
     ) -> Result<(), AllocError>
         requires slot { let old = reports_in (direction_of layout.now.item.direction) self.old in
             slot.index ≡ index_in slot.key old }
         requires bits { let old = reports_in (direction_of layout.now.item.direction) self.old in
             size_in slot.key old + bits < 2 ^ 64 }
-        requires possible { IsPossible layout.now (usage_list usages.old) }
+        requires possible { IsPossible layout.now (usage_list usages.now) }
         ensures { let old = reports_in (direction_of layout.now.item.direction) self.old in
             OnOk result (self.new ≡ with_reports (direction_of layout.now.item.direction)
-            (added_to slot.key bits (laid_out layout.now (usage_list usages.old)) old) self.old) }
+            (added_to slot.key bits (laid_out layout.now (usage_list usages.now)) old) self.old) }
     {
         match layout.item.direction {
             Direction::Input => self.input.add(alloc, slot, bits, layout, usages),

@@ -140,13 +140,13 @@ pub(crate) fn add_fields(
     slot: Slot,
     bits: usize,
     layout: &Layout,
-    usages: &mut Usages,
+    usages: &Usages,
 ) -> Result<(), AllocError>
     requires slot { slot.index ≡ index_in slot.key reports.old.items }
     requires bits { size_in slot.key reports.old.items + bits < 2 ^ 64 }
-    requires possible { IsPossible layout.now (usage_list usages.old) }
+    requires possible { IsPossible layout.now (usage_list usages.now) }
     ensures { OnOk result (reports.new.items
-        ≡ added_to slot.key bits (laid_out layout.now (usage_list usages.old)) reports.old.items) }
+        ≡ added_to slot.key bits (laid_out layout.now (usage_list usages.now)) reports.old.items) }
 {
     if slot.index < reports.len() {
         let report = &mut reports[slot.index];

@@ -144,7 +144,10 @@ impl State {
         let Some(extent) = globals.extent() else {
             return Ok(());
         };
-        let mut usages = needed_usages(alloc, item, &self.item_states)?;
+        let usages = match needed_usages(item, &self.item_states) {
+            Ok(usages) => usages,
+            Err(fault) => return Err(fault),
+        };
         let reports = self.reports.of(item.direction);
         let slot = reports.slot_of(globals.report_id);
         let first_bit = reports.size_at(slot);
@@ -166,7 +169,7 @@ impl State {
             size: extent.size,
             count: extent.count,
         };
-        self.reports.add(alloc, slot, bits, &layout, &mut usages)?;
+        self.reports.add(alloc, slot, bits, &layout, &usages)?;
         self.collections.keep(layout.collections);
         self.field_count += field_count;
         Ok(())
@@ -191,12 +194,15 @@ impl State {
         ensures err { IfErr result (λ e.
             IsFaultOf e (stop_in budget.old self.old (collection item))) }
     {
-        let usages = usages_of(alloc, &self.item_states)?;
+        let usages = match usages_of(&self.item_states) {
+            Ok(usages) => usages,
+            Err(fault) => return Err(fault),
+        };
         if self.collections.count() >= COLLECTION_IDS {
             return Err(Fault::OutOfBounds);
         }
         budget.spend(1, 1 + usages.count() as u128)?;
-        self.collections.open(item, usages)?;
+        self.collections.open(alloc, item, &usages)?;
         Ok(())
     }
 
@@ -224,20 +230,19 @@ impl State {
 }
 
 /// The usages of a data item, of which it needs some unless it is constant.
-fn needed_usages(
-    alloc: Global,
-    item: &DataItem,
-    item_states: &ItemStateTable,
-) -> Result<Usages, Fault>
+fn needed_usages<'a>(item: &DataItem, item_states: &'a ItemStateTable) -> Result<Usages<'a>, Fault>
     ensures faultless { OnOk result (usages_fault (item_flags item.now) item_states.now.now ≡ None) }
     ensures usages { IfOk result (HasUsages (item_flags item.now) item_states.now.now) }
     ensures err { IfErr result (λ e.
         IsFaultOf e (usages_fault (item_flags item.now) item_states.now.now)) }
 {
     if item.is_constant {
-        return Ok(Usages::Several(Vec::new(alloc)));
+        return Ok(Usages::none());
     }
-    let usages = usages_of(alloc, item_states)?;
+    let usages = match usages_of(item_states) {
+        Ok(usages) => usages,
+        Err(fault) => return Err(fault),
+    };
     if usages.count() == 0 {
         return Err(Fault::MissingUsages);
     }

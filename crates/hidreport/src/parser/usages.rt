@@ -1,36 +1,43 @@
 //! The usages of an item (Section 6.2.2.8).
-ghost use Rattle.std.specs.Prelude.{◌≡◌};
+ghost use Rattle.std.specs.Prelude.{◌≡◌, ◌<◌, length, map, IfOk};
+ghost use Rattle.hidreport.specs.Fields.{usage_at};
+ghost use Rattle.hidreport.specs.Parser.Locals.{usage_under};
 ghost use Rattle.hidreport.specs.Parser.Refusals.{Finds};
-ghost use Rattle.hidreport.specs.Parser.Usages.{one_usage, usage_list};
-ghost use Rattle.hidreport.specs.Usages.{as_single, last_local, maximum_of, minimum_of};
-ghost use Rattle.hidreport.specs.Usages.{single_usages, usages_of};
+ghost use Rattle.hidreport.specs.Parser.Usages.{usage_list};
+ghost use Rattle.hidreport.specs.Usages.{as_single, single_usages, usages_of};
 
 use crate::field::usage::Usage;
 use crate::parser::fault::Fault;
 use crate::parser::item_state_table::ItemStateTable;
+use crate::parser::local_usages::LocalUsage;
+use crate::parser::locals::Locals;
 use crate::parser::usage_bounds::UsageBounds;
-use hidreport_items::LocalItem;
-use hidreport_types::{UsageMaximum, UsageMinimum, UsagePage};
+use hidreport_types::UsagePage;
 use std::alloc::{AllocError, Global};
-use std::mem;
 
-/// The usages of an item: those from a minimum to a maximum, which aren't listed, or single ones.
-#[derive(Drop)]
-pub(crate) enum Usages {
+/// The usages of an item, which aren't listed: those from a minimum to a maximum, or single ones.
+#[derive(Clone, Copy)]
+pub(crate) enum Usages<'a> {
     /// From a minimum to a maximum.
     Range(UsageBounds),
 
-    /// One by itself.
-    One(Usage),
-
-    /// None, or several, one by one.
-    Several(Vec<Usage>),
+    /// Single ones; one without its own page lies on this one.
+    Single(UsagePage, &'a [LocalUsage]),
 }
 
-impl Usages {
-    ghost use Rattle.std.specs.Prelude.{◌≡◌, ◌<◌, ◌==◌, ◌++◌, ◌∷◌, [], false, length, IfOk};
+impl<'a> Usages<'a> {
+    ghost use Rattle.std.specs.Prelude.{◌≡◌, ◌<◌, length, IfOk};
     ghost use Rattle.hidreport.specs.Fields.{usage_at};
     ghost use Rattle.hidreport.specs.Parser.Usages.{usage_list};
+
+    /// None at all.
+    pub(crate) fn none() -> Usages<'a> {
+        Usages::Range(UsageBounds {
+            page: UsagePage::from(0),
+            minimum: 1,
+            maximum: 0,
+        })
+    }
 
     /// How many there are.
     pub(crate) fn count(&self) -> u64
@@ -38,8 +45,7 @@ impl Usages {
     {
         match self {
             Usages::Range(bounds) => bounds.count(),
-            Usages::One(_) => 1,
-            Usages::Several(usages) => usages.len() as u64,
+            Usages::Single(_, usages) => usages.len() as u64,
         }
     }
 
@@ -57,46 +63,42 @@ impl Usages {
     {
         match self {
             Usages::Range(bounds) => bounds.at(c),
-            Usages::One(usage) => *usage,
-            Usages::Several(usages) => usages[c.min(usages.len() - 1)],
+            Usages::Single(page, usages) => single_at(*page, usages, c),
         }
     }
 
-    /// All of them in a list.
-    fn into_list(self, alloc: Global) -> Result<Vec<Usage>, AllocError>
-        ensures { IfOk result (λ list. list.items ≡ (usage_list self).usages) }
+    /// All of them in a list, for which the room is asked at once.
+    pub(crate) fn list(&self, alloc: Global) -> Result<Vec<Usage>, AllocError>
+        ensures { IfOk result (λ list. list.items ≡ (usage_list self.now).usages) }
     {
         match self {
             Usages::Range(bounds) => bounds.list(alloc),
-            Usages::One(usage) => Vec::from_slice(alloc, &[usage]),
-            Usages::Several(usages) => Ok(usages),
+            Usages::Single(page, usages) => single_list(alloc, *page, usages),
         }
     }
+}
 
-    /// The same; none are left.
-    pub(crate) fn take_list(&mut self, alloc: Global) -> Result<Vec<Usage>, AllocError>
-        ensures { IfOk result (λ list. list.items ≡ (usage_list self.old).usages) }
-    {
-        mem::replace(self, Usages::Several(Vec::new(alloc))).into_list(alloc)
-    }
+/// Single usage number `c`, or the last one where there are fewer.
+fn single_at(page: UsagePage, usages: &[LocalUsage], c: usize) -> Usage
+    requires { 0 < length usages.now }
+    ensures { result ≡ usage_at (map (usage_under page) usages.now) c }
+{
+    usages[c.min(usages.len() - 1)].under(page)
+}
 
-    /// Single usages with one more.
-    fn with(self, alloc: Global, usage: Usage) -> Result<Usages, AllocError>
-        requires { (usage_list self).is_range ≡ false }
-        ensures { IfOk result (λ usages. usage_list usages ≡ record (usage_list self) {
-          usages = (usage_list self).usages ++ usage ∷ [];
-        }) }
-    {
-        match self {
-            Usages::Range(_) => unreachable!(),
-            Usages::One(first) => Ok(Usages::Several(Vec::from_slice(alloc, &[first, usage])?)),
-            Usages::Several(usages) if usages.is_empty() => Ok(Usages::One(usage)),
-            Usages::Several(mut usages) => {
-                usages.push(usage)?;
-                Ok(Usages::Several(usages))
-            }
-        }
+/// Single usages in a list.
+fn single_list(
+    alloc: Global,
+    page: UsagePage,
+    usages: &[LocalUsage],
+) -> Result<Vec<Usage>, AllocError>
+    ensures { IfOk result (λ list. list.items ≡ map (usage_under page) usages.now) }
+{
+    let mut list = Vec::with_capacity(alloc, usages.len())?;
+    for usage in usages {
+        list.push_reserved(usage.under(page));
     }
+    Ok(list)
 }
 
 /// The usages that what is in force gives an item.
@@ -104,20 +106,15 @@ impl Usages {
 /// With a minimum they are a range, which needs a maximum, then a page; else they are the single
 /// usages. Of several minima or maxima the last counts.
 #[inline(always)]
-pub(crate) fn usages_of(alloc: Global, item_states: &ItemStateTable) -> Result<Usages, Fault>
+pub(crate) fn usages_of(item_states: &ItemStateTable) -> Result<Usages<'_>, Fault>
     ensures { Finds usage_list result (usages_of item_states.now.now) }
 {
     let locals = item_states.locals();
     let page = item_states.globals().usage_page;
-    if let [local] = locals
-        && let Some(usage) = single_usage(&page, *local)?
-    {
-        return Ok(Usages::One(usage));
-    }
-    let Some(minimum) = last_minimum(locals) else {
-        return single_usages(alloc, page, locals);
+    let Some(minimum) = locals.minimum() else {
+        return single_usages(page, locals);
     };
-    let Some(maximum) = last_maximum(locals) else {
+    let Some(maximum) = locals.maximum() else {
         return Err(Fault::MissingUsageMaximum);
     };
     let Some(page) = page else {
@@ -130,59 +127,14 @@ pub(crate) fn usages_of(alloc: Global, item_states: &ItemStateTable) -> Result<U
     }))
 }
 
-/// The last minimum.
-fn last_minimum(locals: &[LocalItem]) -> Option<UsageMinimum>
-    ensures { result ≡ last_local minimum_of locals.now }
-{
-    let mut last = None;
-    for local in locals {
-        if let LocalItem::UsageMinimum(minimum) = local {
-            last = Some(*minimum);
-        }
-    }
-    last
-}
-
-/// The last maximum.
-fn last_maximum(locals: &[LocalItem]) -> Option<UsageMaximum>
-    ensures { result ≡ last_local maximum_of locals.now }
-{
-    let mut last = None;
-    for local in locals {
-        if let LocalItem::UsageMaximum(maximum) = local {
-            last = Some(*maximum);
-        }
-    }
-    last
-}
-
-/// The single usages, in order.
-fn single_usages(
-    alloc: Global,
-    page: Option<UsagePage>,
-    locals: &[LocalItem],
-) -> Result<Usages, Fault>
+/// The single usages, in order; one without a page of its own needs the page in force.
+fn single_usages(page: Option<UsagePage>, locals: &Locals) -> Result<Usages<'_>, Fault>
     ensures { Finds usage_list result (as_single (single_usages page locals.now)) }
 {
-    let mut usages = Usages::Several(Vec::new(alloc));
-    for local in locals {
-        if let Some(usage) = single_usage(&page, *local)? {
-            usages = usages.with(alloc, usage)?;
-        }
-    }
-    Ok(usages)
-}
-
-/// The usage of a local item that is one; without a page of its own it takes the page in force.
-fn single_usage(page: &Option<UsagePage>, local: LocalItem) -> Result<Option<Usage>, Fault>
-    ensures { Finds (λ u. u) result (one_usage page.now local) }
-{
-    match local {
-        LocalItem::Usage(own, id) => Ok(Some(Usage::from_page_and_id(own, id))),
-        LocalItem::UsageId(id) => match *page {
-            Some(page) => Ok(Some(Usage::from_page_and_id(page, id))),
-            None => Err(Fault::MissingUsagePage),
-        },
-        _ => Ok(None),
+    let usages = locals.usages();
+    match page {
+        Some(page) => Ok(Usages::Single(page, usages.as_slice())),
+        None if usages.have_pages() => Ok(Usages::Single(UsagePage::from(0), usages.as_slice())),
+        None => Err(Fault::MissingUsagePage),
     }
 }

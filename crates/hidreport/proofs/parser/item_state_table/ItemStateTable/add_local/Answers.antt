@@ -11,8 +11,8 @@ use Rattle.hidreport.proofs.parser.item_state_table.ItemStateTable.add_local.Goa
 pub invariant_of-self-2 : goal.invariant_of-self-2
 invariant_of-self-2 c =
     let s = c.self.inside in
-    subst (λ (ls : List LocalItem). Fits s.keeping s.journal ls) (sym c.in_ok-push.ensures.items)
-    (fits-added s.keeping s.journal s.locals.items (c.args.item ∷ []) c.self.invariant)
+    subst (λ (ls : List LocalItem). Fits s.keeping s.journal ls) (sym c.in_ok-add.ensures.ok)
+    (fits-added s.keeping s.journal s.locals (c.args.item ∷ []) c.self.invariant)
 
 pub returns : goal.returns
 returns c =
@@ -22,13 +22,13 @@ returns c =
       now = item_state_of s.globals ls;
       stack =
           reverse (undone_stack s.keeping s.journal s.globals ls);
-    }) c.in_ok-push.ensures.items
+    }) c.in_ok-add.ensures.ok
     ∙ ap (λ (l : List ItemState). record {
       keeping = s.keeping;
-      now = item_state_of s.globals (s.locals.items ++ c.args.item ∷ []);
+      now = item_state_of s.globals (s.locals ++ c.args.item ∷ []);
       stack =
           reverse l;
-    }) (undone-added s.keeping s.journal s.globals s.locals.items (c.args.item ∷ [])
+    }) (undone-added s.keeping s.journal s.globals s.locals (c.args.item ∷ [])
     c.self.invariant)
     ∙ ap (λ (f : ItemStates). record f { now = next_item_state f.now (items.Local c.args.item) })
     c.self.view_is

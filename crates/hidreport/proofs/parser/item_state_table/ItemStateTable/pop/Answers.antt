@@ -13,11 +13,11 @@ pub loop-entry-preserved : goal.loop-entry-preserved
 loop-entry-preserved c =
     let l = c.loop-entry.self-inside in
     let rest = c.undo.new.self in
-    let newest : l.journal ≡ WasLocals c.in-Locals.old.items ∷ rest = c.in-Some.ensures.some
+    let newest : l.journal ≡ WasLocals c.in-Locals.old ∷ rest = c.in-Some.ensures.some
     ∙ ap (λ (e : Change). change_of e ∷ rest) c.in-Locals.is in
     let bare : l.keeping ≡ push_keeps.Globals = c.loop-entry.invariant.2
     ∙ c.has_locals-has_locals.ensures.globals c.if-has_locals.false in
-    let passed = passed-over l.keeping l.journal rest l.globals l.locals.items c.in-Locals.old.items
+    let passed = passed-over l.keeping l.journal rest l.globals l.locals c.in-Locals.old
     _ bare newest c.loop-entry.invariant.0 in
     (passed.0, passed.1, c.loop-entry.invariant.2, c.loop-entry.invariant.3)
 
@@ -26,21 +26,21 @@ returns-then-has_locals-2-clause-back c = λ _.
     let l = c.loop-entry.self-inside in
     let s = c.self.inside in
     let rest = c.undo.new.self in
-    let now = item_state_of s.globals s.locals.items in
+    let now = item_state_of s.globals s.locals in
     let newest : l.journal ≡ Opened c.in-Push.locals ∷ rest = c.in-Some.ensures.some
     ∙ ap (λ (e : Change). change_of e ∷ rest) c.in-Push.is in
     let same = c.loop-entry.invariant.2 in
     let all : l.keeping ≡ push_keeps.All = same
     ∙ c.has_locals-has_locals.ensures.all c.if-has_locals-2.true in
-    let stack = undone_stack s.keeping s.journal s.globals s.locals.items in
+    let stack = undone_stack s.keeping s.journal s.globals s.locals in
     let old = ap (λ (r : PushKeeps). item_states r now (reverse stack)) same ∙ c.self.view_is in
-    let cut = c.truncate.ensures.items in
+    let cut = c.truncate.ensures in
     popped c.args.self.now l.keeping now
-    (item_state_of l.globals c.truncate.new.self.items) l.journal
-    rest l.globals l.locals.items c.truncate.new.self.items c.in-Push.locals stack
+    (item_state_of l.globals c.truncate.new.self) l.journal
+    rest l.globals l.locals c.truncate.new.self c.in-Push.locals stack
     old newest c.loop-entry.invariant.0
     (ap (λ (ls : List LocalItem). item_state_of l.globals ls) cut
-    ∙ back-all l.keeping now (item_state_of l.globals (take c.in-Push.locals l.locals.items)) all)
+    ∙ back-all l.keeping now (item_state_of l.globals (take c.in-Push.locals l.locals)) all)
     (ap (undone_stack l.keeping rest l.globals) cut)
 
 pub returns-else-has_locals-2-clause-back : goal.returns-else-has_locals-2-clause-back
@@ -48,17 +48,17 @@ returns-else-has_locals-2-clause-back c = λ _.
     let l = c.loop-entry.self-inside in
     let s = c.self.inside in
     let rest = c.undo.new.self in
-    let now = item_state_of s.globals s.locals.items in
+    let now = item_state_of s.globals s.locals in
     let newest : l.journal ≡ Opened c.in-Push.locals ∷ rest = c.in-Some.ensures.some
     ∙ ap (λ (e : Change). change_of e ∷ rest) c.in-Push.is in
     let same = c.loop-entry.invariant.2 in
     let bare : l.keeping ≡ push_keeps.Globals = same
     ∙ c.has_locals-has_locals.ensures.globals c.if-has_locals-2.false in
-    let stack = undone_stack s.keeping s.journal s.globals s.locals.items in
+    let stack = undone_stack s.keeping s.journal s.globals s.locals in
     let old = ap (λ (r : PushKeeps). item_states r now (reverse stack)) same ∙ c.self.view_is in
-    let left = take c.in-Push.locals l.locals.items in
-    popped c.args.self.now l.keeping now (item_state_of l.globals l.locals.items) l.journal rest
-    l.globals l.locals.items l.locals.items c.in-Push.locals stack
+    let left = take c.in-Push.locals l.locals in
+    popped c.args.self.now l.keeping now (item_state_of l.globals l.locals) l.journal rest
+    l.globals l.locals l.locals c.in-Push.locals stack
     old newest c.loop-entry.invariant.0
-    (back-globals l.keeping now l.globals l.locals.items left bare (c.loop-entry.invariant.3 bare))
-    (same-bare l.keeping rest l.globals l.locals.items left bare)
+    (back-globals l.keeping now l.globals l.locals left bare (c.loop-entry.invariant.3 bare))
+    (same-bare l.keeping rest l.globals l.locals left bare)

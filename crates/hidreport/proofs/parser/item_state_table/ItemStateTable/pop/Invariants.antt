@@ -7,13 +7,13 @@ use Rattle.hidreport.proofs.parser.item_state_table.ItemStateTable.pop.Given as 
 abbrev pub invariant-loop-entry : goal.invariant-loop-entry
 invariant-loop-entry l =
     (undone_stack l.self-inside.keeping l.self-inside.journal l.self-inside.globals
-    l.self-inside.locals.items
+    l.self-inside.locals
     ≡ undone_stack l.initial.self-inside.keeping l.initial.self-inside.journal
-    l.initial.self-inside.globals l.initial.self-inside.locals.items)
-    × Fits l.self-inside.keeping l.self-inside.journal l.self-inside.locals.items
+    l.initial.self-inside.globals l.initial.self-inside.locals)
+    × Fits l.self-inside.keeping l.self-inside.journal l.self-inside.locals
     × (l.self-inside.keeping ≡ l.initial.self-inside.keeping)
     × (l.self-inside.keeping ≡ push_keeps.Globals
-    → l.self-inside.locals.items ≡ l.initial.self-inside.locals.items)
+    → l.self-inside.locals ≡ l.initial.self-inside.locals)
 
 abbrev pub decreases-loop-entry : goal.decreases-loop-entry
 decreases-loop-entry l = length l.self-inside.journal

@@ -11,7 +11,7 @@ use Rattle.hidreport.proofs.parser.item_state_table.ItemStateTable.set.Goals as 
 pub returns : goal.returns
 returns c =
     let s = c.self.inside in
-    let locals = s.locals.items in
+    let locals = s.locals in
     let old : ItemState = item_state_of s.globals locals in
     let stack : List ItemState = reverse (undone_stack s.keeping s.journal s.globals locals) in
     ap (λ (cs : List ChangeRecord). record {

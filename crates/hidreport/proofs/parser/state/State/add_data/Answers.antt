@@ -1,4 +1,4 @@
-use Rattle.std.proofs.Common.{rules, ◌≡◌, ◌+◌, ◌*◌, ◌∙◌, List, None, ap, sym, subst}
+use Rattle.std.proofs.Common.{◌≡◌, ◌≤◌, ◌^◌, ◌+◌, ◌*◌, ◌∙◌, List, ap, sym, subst, arith}
 use Rattle.std.proofs.lemmas.Result.{err_from_is_err_and}
 use Rattle.hidreport.specs.Parser.Budget.{is_past, left_behind}
 use Rattle.hidreport.specs.Parser.DataItem.{as_item}
@@ -6,13 +6,13 @@ use Rattle.hidreport.specs.Parser.ItemStates.{item_state_of}
 use Rattle.hidreport.specs.Fields.{Measures, attributes_with, make_fields}
 use Rattle.hidreport.specs.Parser.Layout.{shared_list}
 use Rattle.hidreport.specs.Parser.Usages.{usage_list}
-use Rattle.hidreport.specs.Parser.Machine.{StateRecord, fault_in, first_id, next_state, size_in}
+use Rattle.hidreport.specs.Parser.Machine.{StateRecord, first_id, next_state, size_in}
 use Rattle.hidreport.specs.Parser.Opened.{Opened}
 use Rattle.hidreport.specs.ItemState.{first_of}
 use Rattle.hidreport.specs.Records.{ReportRecord}
 use Rattle.hidreport.specs.Views.{direction_of, item_flags}
 use Rattle.hidreport.proofs.DataLemmas.{data-held}
-use Rattle.hidreport.proofs.WeightLemmas.{data-weighs, stop-past}
+use Rattle.hidreport.proofs.WeightLemmas.{data-faultless, data-weighs, stop-past}
 use Rattle.hidreport.proofs.parser.state.State.add_data.Goals as goal
 
 pub returns-clause-held : goal.returns-clause-held
@@ -48,7 +48,7 @@ returns-clause-held c =
       number = s.field_count;
       first = c.size_at-first_bit.result;
     }) c.in-Some.extent (item_flags x)
-    (usage_list c.in_ok-usages.usages)
+    (usage_list c.in-Ok.usages)
     (attributes_with (direction_of x.direction) (item_flags x) m cs) in
     let fields = with c.measures.result in
     let first = c.size_at-first_bit.ensures
@@ -65,11 +65,11 @@ returns-clause-held c =
       collections = o.count;
     }) (c.keep.ensures ∙ c.in_ok-shared_by.ensures.same)
     ∙ data-held h g (direction_of x.direction) (item_flags x) cs
-    c.in-Some.extent c.in_ok-usages.usages
+    c.in-Some.extent c.in-Ok.usages
     c.slot_of-slot.result.key c.size_at-first_bit.result c.in_ok-bits.bits fields c.add.new.self
     count
     c.globals-globals.ensures c.in_ok-shared_by.ensures.all (sym c.in-Some.ensures)
-    c.in_ok-usages.ensures.usages key first c.in_ok-bits.ensures.fits.0
+    c.in-Ok.ensures.usages key first c.in_ok-bits.ensures.fits.0
     (ap with c.measures.ensures) c.in_ok-add.ensures c.field_count-field_count.ensures)
 
 pub returns-clause-within : goal.returns-clause-within
@@ -78,9 +78,9 @@ returns-clause-within c =
     let x = c.args.item.now in
     let g = item_state_of c.globals-globals.result.now s.item_states.now.locals in
     let weighs = data-weighs _ c.args.self.now g (direction_of x.direction) (item_flags x)
-    c.in-Some.extent c.in_ok-usages.usages
+    c.in-Some.extent c.in-Ok.usages
     c.field_count.result c.weight_of_each-each.result c.weight.result c.self.view_is
-    c.globals-globals.ensures (sym c.in-Some.ensures) c.in_ok-usages.ensures.usages
+    c.globals-globals.ensures (sym c.in-Some.ensures) c.in-Ok.ensures.usages
     c.field_count.ensures c.weight_of_each-each.ensures c.weight.ensures.weight in
     ap (is_past c.args.budget.now) weighs ∙ c.in_ok-spend.ensures.within
 
@@ -90,22 +90,33 @@ returns-clause-left c =
     let x = c.args.item.now in
     let g = item_state_of c.globals-globals.result.now s.item_states.now.locals in
     let weighs = data-weighs _ c.args.self.now g (direction_of x.direction) (item_flags x)
-    c.in-Some.extent c.in_ok-usages.usages
+    c.in-Some.extent c.in-Ok.usages
     c.field_count.result c.weight_of_each-each.result c.weight.result c.self.view_is
-    c.globals-globals.ensures (sym c.in-Some.ensures) c.in_ok-usages.ensures.usages
+    c.globals-globals.ensures (sym c.in-Some.ensures) c.in-Ok.ensures.usages
     c.field_count.ensures c.weight_of_each-each.ensures c.weight.ensures.weight in
     c.in_ok-spend.ensures.left ∙ ap (left_behind c.args.budget.now) (sym weighs)
 
 pub returns-in_err-spend-clause-err : goal.returns-in_err-spend-clause-err
 returns-in_err-spend-clause-err c =
-    let faultless : fault_in c.args.self.now (as_item c.args.item.now) ≡ None = search rules in
     let s = c.self.inside in
     let x = c.args.item.now in
     let g = item_state_of c.globals-globals.result.now s.item_states.now.locals in
+    let key = c.slot_of-slot.ensures.key
+    ∙ ap (λ (rs : List ReportRecord). first_of c.globals-globals.result.now.report_id
+    (first_id rs)) c.of-reports.ensures in
+    let first = c.size_at-first_bit.ensures
+    ∙ ap (size_in c.slot_of-slot.result.key) c.of-reports.ensures in
+    let ids : s.field_count + c.field_count-field_count.result ≤ 2 ^ 32 =
+    omega (arith, c.if-field_count-gt-FIELD_IDS.false, c.if-self-field_count.false) in
+    let faultless = data-faultless _ c.args.self.now g (direction_of x.direction) (item_flags x)
+    c.in-Some.extent c.slot_of-slot.result.key c.size_at-first_bit.result
+    c.field_count-field_count.result c.self.view_is
+    c.globals-globals.ensures (sym c.in-Some.ensures) c.in-Ok.ensures.faultless key first
+    c.in_ok-bits.ensures.fits.1 c.field_count-field_count.ensures ids in
     let weighs = data-weighs _ c.args.self.now g (direction_of x.direction) (item_flags x)
-    c.in-Some.extent c.in_ok-usages.usages
+    c.in-Some.extent c.in-Ok.usages
     c.field_count.result c.weight_of_each-each.result c.weight.result c.self.view_is
-    c.globals-globals.ensures (sym c.in-Some.ensures) c.in_ok-usages.ensures.usages
+    c.globals-globals.ensures (sym c.in-Some.ensures) c.in-Ok.ensures.usages
     c.field_count.ensures c.weight_of_each-each.ensures c.weight.ensures.weight in
     let p = err_from_is_err_and c.from_residual-in_err-spend.result
     c.from_residual-in_err-spend.ensures.1 in
