@@ -1,6 +1,6 @@
 //! Which bits a field's values are read from, and which bytes have the same ones.
 ghost use Rattle.std.specs.Prelude.{◌≡◌, pos, codes, []};
-ghost use Rattle.hidreport.specs.Bits.{AgreeOn, covered_bits};
+ghost use Rattle.hidreport.specs.Bits.{AgreeOn, FixesBits, covered_bits};
 ghost use Rattle.hidreport.specs.Records.{ConstantRecord};
 ghost use Rattle.hidreport_definitions.specs.Hex.{hex};
 ghost use Rattle.hidreport_definitions.specs.Summary.{array_at, place_at, variable_at};
@@ -36,4 +36,15 @@ pub fn bits_left_over_are_not_covered()
         (hex (codes "f1")) (hex (codes "b1")) }
     ensures covered_differs { AgreeOn 0 (covered_bits (array_at 0 7 2 (pos 0)))
         (hex (codes "f1")) (hex (codes "d1")) → ⊥ }
+{}
+
+/// The law of fixed bits speaks of bytes that are read: of two that are both read as 5 the bits of
+/// the field are the same, and of two that are read as 5 and 4 they aren't.
+pub fn values_fix_their_bits()
+    ensures equal { FixesBits (variable_at 0 8 (pos 0)) (hex (codes "05"))
+        → AgreeOn 0 8 (hex (codes "05")) (hex (codes "05 ff")) }
+    ensures different { FixesBits (variable_at 0 8 (pos 0)) (hex (codes "05"))
+        → AgreeOn 0 8 (hex (codes "05")) (hex (codes "04")) → ⊥ }
+    ensures elements { FixesBits (array_at 0 8 2 (pos 0)) (hex (codes "21"))
+        → AgreeOn 0 8 (hex (codes "21")) (hex (codes "12")) → ⊥ }
 {}
