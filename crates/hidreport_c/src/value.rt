@@ -112,7 +112,7 @@ impl HidreportField {
         }
     }
 
-    /// Whether all values can be read: where the last one can, so can those before it.
+    /// Whether all values can be read.
     fn check_values(&self, report: &[u8]) -> Result<(), u32>
         ensures { result ≡ by_status (acceptance (values_at self.now report.now)) }
     {
@@ -120,17 +120,19 @@ impl HidreportField {
         self.check_elements(report)
     }
 
-    /// The same whatever the report's id.
+    /// The same whatever the report's id: all have the same width, and the last ends in the bytes.
     fn check_elements(&self, report: &[u8]) -> Result<(), u32>
         ensures { result ≡ by_status (acceptance (elements_at self.now report.now)) }
     {
         if self.value_count == 0 {
             return Ok(());
         }
-        match self.element(report, self.element_width(), self.value_count - 1) {
-            Some(_) => Ok(()),
-            None => Err(OUT_OF_BOUNDS),
+        let width = self.element_width();
+        let end = self.first_bit + width * self.value_count;
+        if width == 0 || width > 32 || end.div_ceil(8) > report.len() {
+            return Err(OUT_OF_BOUNDS);
         }
+        Ok(())
     }
 
     /// Writes as many values as there is room for.
