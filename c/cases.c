@@ -8,15 +8,17 @@
 #include <stdlib.h>
 #include <string.h>
 
+enum { ROOM = 256 };
+
 /* The descriptor and the report of a question. */
 static uint8_t bytes[4096], report[4096];
 static size_t length, report_length;
 
 /* What the last questions gave stays for the questions about it. */
 static struct hidreport_options options;
-static struct hidreport_field fields[256];
+static struct hidreport_field fields[ROOM];
 static size_t field_count;
-static uint32_t usages[256];
+static uint32_t usages[ROOM];
 static size_t usage_count;
 
 static void refuse(const char *why, const char *line)
@@ -40,11 +42,52 @@ static size_t bytes_of(const char *text, uint8_t *into)
     return length;
 }
 
+static const char *words_of(uint32_t status)
+{
+    switch (status) {
+    case HIDREPORT_ACCEPTED: return "accepted";
+    case HIDREPORT_INVALID_DATA: return "invalid-data";
+    case HIDREPORT_OUT_OF_BOUNDS: return "out-of-bounds";
+    case HIDREPORT_MISMATCHING_REPORT_ID: return "mismatching-report-id";
+    case HIDREPORT_OUT_OF_MEMORY: return "out-of-memory";
+    case HIDREPORT_BUDGET_EXCEEDED: return "budget-exceeded";
+    case HIDREPORT_UNKNOWN_OPTION: return "unknown-option";
+    default: return "?";
+    }
+}
+
+static const char *kind_of(uint32_t kind)
+{
+    switch (kind) {
+    case HIDREPORT_VARIABLE: return "variable";
+    case HIDREPORT_ARRAY: return "array";
+    case HIDREPORT_CONSTANT: return "constant";
+    default: return "?";
+    }
+}
+
+/* The kind of a collection; a number where the standard of today has none. */
+static const char *collection_of(uint32_t kind)
+{
+    static char number[16];
+    switch (kind) {
+    case HIDREPORT_PHYSICAL: return "physical";
+    case HIDREPORT_APPLICATION: return "application";
+    case HIDREPORT_LOGICAL: return "logical";
+    case HIDREPORT_REPORT: return "report";
+    case HIDREPORT_NAMED_ARRAY: return "named-array";
+    case HIDREPORT_USAGE_SWITCH: return "usage-switch";
+    case HIDREPORT_USAGE_MODIFIER: return "usage-modifier";
+    default: snprintf(number, sizeof number, "%" PRIu32, kind); return number;
+    }
+}
+
+/* As many as the arrays here have room for. */
 static size_t print_answer(struct hidreport_answer answer)
 {
     printf("  count %zu offset %zu", answer.count, answer.offset);
-    printf(" status %" PRIu32 "\n", answer.status);
-    return answer.count;
+    printf(" %s\n", words_of(answer.status));
+    return answer.count < ROOM ? answer.count : ROOM;
 }
 
 static void print_measures(const struct hidreport_measures *m)
@@ -60,7 +103,7 @@ static void print_field(const struct hidreport_field *f)
 {
     const struct hidreport_usages *u = &f->usages;
     const struct hidreport_flags *g = &f->flags;
-    printf("  #%" PRIu32 " kind %" PRIu32, f->number, f->kind);
+    printf("  #%" PRIu32 " %s", f->number, kind_of(f->kind));
     printf(" bits %zu..%zu values %zu", f->first_bit, f->end_bit, f->value_count);
     printf(" usages %zu %08" PRIx32 "..%08" PRIx32 " %d", u->count, u->first, u->last, u->is_range);
     print_measures(&f->measures);
@@ -134,9 +177,9 @@ static void choose(const char *limit, const char *push)
 
 static void reports(const char *direction, const char *none)
 {
-    static struct hidreport_report r[256];
+    static struct hidreport_report r[ROOM];
     size_t count = print_answer(
-        hidreport_reports(bytes, length, options, direction_of(direction), r, 256));
+        hidreport_reports(bytes, length, options, direction_of(direction), r, ROOM));
     (void)none;
     for (size_t i = 0; i < count; i++)
         printf("  id %d %u bits %zu bytes %zu fields %zu\n", r[i].has_id, r[i].id,
@@ -146,50 +189,50 @@ static void reports(const char *direction, const char *none)
 static void describe(const char *direction, const char *none)
 {
     (void)none;
-    keep_fields(hidreport_describe(bytes, length, options, direction_of(direction), fields, 256));
+    keep_fields(hidreport_describe(bytes, length, options, direction_of(direction), fields, ROOM));
 }
 
 static void find(const char *direction, const char *none)
 {
     (void)none;
     keep_fields(hidreport_find(bytes, length, options, direction_of(direction), report,
-                               report_length, fields, 256));
+                               report_length, fields, ROOM));
 }
 
 static void list_usages(const char *field, const char *none)
 {
     (void)none;
-    keep_usages(hidreport_usages(bytes, length, options, number_of(field), usages, 256));
+    keep_usages(hidreport_usages(bytes, length, options, number_of(field), usages, ROOM));
 }
 
 static void collections(const char *field, const char *none)
 {
-    static struct hidreport_collection c[256];
+    static struct hidreport_collection c[ROOM];
     size_t count = print_answer(
-        hidreport_collections(bytes, length, options, number_of(field), c, 256));
+        hidreport_collections(bytes, length, options, number_of(field), c, ROOM));
     (void)none;
     for (size_t i = 0; i < count; i++)
-        printf("  #%" PRIu32 " kind %" PRIu32 " usages %zu %08" PRIx32 "\n", c[i].number,
-               c[i].kind, c[i].usage_count, c[i].usage);
+        printf("  #%" PRIu32 " %s usages %zu %08" PRIx32 "\n", c[i].number,
+               collection_of(c[i].kind), c[i].usage_count, c[i].usage);
 }
 
 static void collection_usages(const char *field, const char *index)
 {
     keep_usages(hidreport_collection_usages(bytes, length, options, number_of(field),
-                                            number_of(index), usages, 256));
+                                            number_of(index), usages, ROOM));
 }
 
 static void message(const char *first, const char *second)
 {
-    static uint8_t text[4096];
+    static uint8_t text[ROOM];
     (void)first, (void)second;
     print_written(hidreport_message(bytes, length, options, text, sizeof text), text, "%c");
 }
 
 static void items(const char *first, const char *second)
 {
-    static struct hidreport_item listed[1024];
-    size_t count = print_answer(hidreport_items(bytes, length, listed, 1024));
+    static struct hidreport_item listed[ROOM];
+    size_t count = print_answer(hidreport_items(bytes, length, listed, ROOM));
     (void)first, (void)second;
     for (size_t i = 0; i < count; i++)
         printf("  offset %zu size %zu\n", listed[i].offset, listed[i].size);
@@ -197,14 +240,14 @@ static void items(const char *first, const char *second)
 
 static void items_message(const char *first, const char *second)
 {
-    static uint8_t text[4096];
+    static uint8_t text[ROOM];
     (void)first, (void)second;
     print_written(hidreport_items_message(bytes, length, text, sizeof text), text, "%c");
 }
 
 static void rebuild(const char *first, const char *second)
 {
-    static uint8_t rebuilt[4096];
+    static uint8_t rebuilt[ROOM];
     (void)first, (void)second;
     print_written(hidreport_rebuild(bytes, length, rebuilt, sizeof rebuilt), rebuilt, "%02x");
 }
@@ -213,14 +256,14 @@ static void value(const char *field, const char *index)
 {
     struct hidreport_value read =
         hidreport_value(field_of(field), report, report_length, number_of(index));
-    printf("  number %" PRId64 " status %" PRIu32 "\n", read.number, read.status);
+    printf("  number %" PRId64 " %s\n", read.number, words_of(read.status));
 }
 
 static void values(const char *field, const char *none)
 {
-    int64_t numbers[256];
+    int64_t numbers[ROOM];
     size_t count = print_answer(
-        hidreport_values(field_of(field), report, report_length, numbers, 256));
+        hidreport_values(field_of(field), report, report_length, numbers, ROOM));
     (void)none;
     for (size_t i = 0; i < count; i++)
         printf("  %" PRId64 "\n", numbers[i]);

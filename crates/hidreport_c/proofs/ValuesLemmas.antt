@@ -1,5 +1,5 @@
 -- All values of a field, written one after the other.
-use Rattle.std.proofs.Common.{◌≡◌, ℕ, zero, suc, ◌+◌, ◌<◌, List, [], ◌∷◌, ◌++◌, length, take}
+use Rattle.std.proofs.Common.{◌≡◌, ℕ, zero, suc, ◌+◌, ◌<◌, List, [], ◌∷◌, length, take}
 use Rattle.std.proofs.Common.{slice_set, Option, None, Some, IsOk, Result, Ok, Err, Bool, true}
 use Rattle.std.proofs.Common.{false, cond, nat_le, nat_lt, ◌||◌, ◌*◌, ◌-◌, ◌≤◌, ◌⊎◌, inl, inr, refl, ap, sym, ◌∙◌, arith}
 use Rattle.std.proofs.Math.Dec.{leb}
@@ -87,6 +87,10 @@ inside a w n some narrow within = grind (arith, nat_tests)
 outside : (a w n : ℕ) → (0 < w → w ≤ 32 → n < a + w)
     → (nat_le (a + w) a || (nat_lt 32 (a + w - a) || nat_lt n (a + w))) ≡ true
 outside a w n past = grind (arith, nat_tests)
+
+-- one more of the same width
+pub one-more : (w count last : ℕ) → count ≡ last + 1 → w * count ≡ w * last + w
+one-more w count last is = ap (λ n. w * n) is ∙ omega arith
 
 -- all values are there where the last one has 1 to 32 bits and ends in the bytes
 pub elements-accepted : (first end count last : ℕ) (s : Bool) (bytes : List ℕ) (w : ℕ)

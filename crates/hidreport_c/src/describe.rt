@@ -116,7 +116,8 @@ fn write_fields(reports: &[RDescReport], fields: &mut [HidreportField]) -> Hidre
 
 /// How many fields there are; none where there are more than memory could hold.
 fn count_fields(reports: &[RDescReport]) -> Option<usize>
-    ensures { IfSome result (λ count. count ≡ length (fields_as_c reports.now)) }
+    ensures counted { IfSome result (λ count. count ≡ length (fields_as_c reports.now)) }
+    ensures fits { IfSome result (λ count. count < 2 ^ 64) }
 {
     let mut count: usize = 0;
     for report in reports {
