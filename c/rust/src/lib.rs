@@ -12,6 +12,34 @@ pub enum Direction {
     Feature = 2,
 }
 
+/// Why there is no answer: `status` of a refusal.
+pub mod status {
+    pub const INVALID_DATA: u32 = 1;
+    pub const OUT_OF_BOUNDS: u32 = 2;
+    pub const MISMATCHING_REPORT_ID: u32 = 3;
+    pub const OUT_OF_MEMORY: u32 = 4;
+    pub const BUDGET_EXCEEDED: u32 = 5;
+    pub const UNKNOWN_OPTION: u32 = 6;
+}
+
+/// `kind` of a field.
+pub mod field_kind {
+    pub const VARIABLE: u32 = 0;
+    pub const ARRAY: u32 = 1;
+    pub const CONSTANT: u32 = 2;
+}
+
+/// `kind` of a collection; 0x07 to 0x7f are kept for later, 0x80 to 0xff are the vendor's.
+pub mod collection_kind {
+    pub const PHYSICAL: u32 = 0;
+    pub const APPLICATION: u32 = 1;
+    pub const LOGICAL: u32 = 2;
+    pub const REPORT: u32 = 3;
+    pub const NAMED_ARRAY: u32 = 4;
+    pub const USAGE_SWITCH: u32 = 5;
+    pub const USAGE_MODIFIER: u32 = 6;
+}
+
 /// A limit for bytes that nobody vouches for.
 pub const DEFAULT_LIMIT: usize = 65_536;
 
@@ -26,15 +54,12 @@ pub const PUSH_GLOBALS: u32 = 1;
 
 impl Default for Options {
     fn default() -> Options {
-        Options {
-            limit: DEFAULT_LIMIT,
-            push: PUSH_ALL,
-        }
+        Options { limit: DEFAULT_LIMIT, push: PUSH_ALL }
     }
 }
 
-/// Why a descriptor or a report is refused: the status of `include/hidreport.h`, the offset of the
-/// item, and a text where there is one.
+/// Why a descriptor is refused: a number of `status`, the offset of the item, and a text where there
+/// is one.
 #[derive(Clone, Debug, PartialEq)]
 pub struct Refusal {
     pub status: u32,
@@ -58,21 +83,25 @@ fn listed<T: Clone>(
 }
 
 // SAFETY of all calls below: pointers and lengths are those of slices and lists that live until the
-// call is over, and none that is written overlaps one that is read; a list with no room has length 0.
+// call is over, and none that is written overlaps one that is read; a list without room has length 0.
 
-fn text_of(call: impl Fn(*mut u8, usize) -> sys::Answer) -> String {
-    String::from_utf8_lossy(&listed(0, call).unwrap_or_default()).into_owned()
+fn text_of(call: impl Fn(*mut u8, usize) -> sys::Answer) -> Result<String, u32> {
+    match listed(0, call) {
+        Ok(text) => Ok(String::from_utf8_lossy(&text).into_owned()),
+        Err(answer) => Err(answer.status),
+    }
 }
 
-/// What is wrong with a descriptor; no text where it is accepted.
-pub fn message(descriptor: &[u8], options: Options) -> String {
+/// What a descriptor is refused for, no text where it is accepted; the status where that can't be
+/// said.
+pub fn message(descriptor: &[u8], options: Options) -> Result<String, u32> {
     text_of(|text, room| unsafe {
         sys::hidreport_message(descriptor.as_ptr(), descriptor.len(), options, text, room)
     })
 }
 
-/// What `items` and `rebuild` refuse bytes for; no text where they are accepted.
-pub fn items_message(descriptor: &[u8]) -> String {
+/// What `items` and `rebuild` refuse bytes for, as `message` says of the others.
+pub fn items_message(descriptor: &[u8]) -> Result<String, u32> {
     text_of(|text, room| unsafe {
         sys::hidreport_items_message(descriptor.as_ptr(), descriptor.len(), text, room)
     })
@@ -89,7 +118,7 @@ fn listed_in<T: Clone>(
     listed(empty, |list, room| call(bytes, length, list, room)).map_err(|answer| Refusal {
         status: answer.status,
         offset: answer.offset,
-        message: message(descriptor, options),
+        message: message(descriptor, options).unwrap_or_default(),
     })
 }
 
@@ -166,7 +195,7 @@ fn items_refusal(descriptor: &[u8], answer: sys::Answer) -> Refusal {
     Refusal {
         status: answer.status,
         offset: answer.offset,
-        message: items_message(descriptor),
+        message: items_message(descriptor).unwrap_or_default(),
     }
 }
 
@@ -206,8 +235,7 @@ pub fn values(field: &Field, report: &[u8]) -> Result<Vec<i64>, u32> {
 
 /// The usage that a value of an array stands for, of the usages that `usages` lists for the field.
 pub fn usage_of(field: &Field, value: i64, usages: &[u32]) -> Option<u32> {
-    let usage =
-        unsafe { sys::hidreport_usage_of(field, value, usages.as_ptr(), usages.len()) };
+    let usage = unsafe { sys::hidreport_usage_of(field, value, usages.as_ptr(), usages.len()) };
     usage.is_meant.then_some(usage.usage)
 }
 
@@ -250,10 +278,7 @@ mod tests {
 
     #[test]
     fn a_limit_is_kept() {
-        let one = Options {
-            limit: 1,
-            push: PUSH_ALL,
-        };
+        let one = Options { limit: 1, push: PUSH_ALL };
         let refusal = describe(MOUSE, one, Direction::Input).unwrap_err();
         assert_eq!((refusal.status, refusal.offset), (5, 14));
         assert_eq!(refusal.message, "budget exceeded");
