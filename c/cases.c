@@ -92,7 +92,7 @@ static size_t print_answer(struct hidreport_answer answer)
 
 static void print_measures(const struct hidreport_measures *m)
 {
-    printf(" logical %" PRId32 "..%" PRId32, m->logical_minimum, m->logical_maximum);
+    printf("    logical %" PRId32 "..%" PRId32, m->logical_minimum, m->logical_maximum);
     printf(" physical %d %" PRId32, m->has_physical_minimum, m->physical_minimum);
     printf("..%d %" PRId32, m->has_physical_maximum, m->physical_maximum);
     printf(" unit %d %08" PRIx32, m->has_unit, m->unit);
@@ -106,12 +106,12 @@ static void print_field(const struct hidreport_field *f)
     printf("  #%" PRIu32 " %s", f->number, kind_of(f->kind));
     printf(" bits %zu..%zu values %zu", f->first_bit, f->end_bit, f->value_count);
     printf(" usages %zu %08" PRIx32 "..%08" PRIx32 " %d", u->count, u->first, u->last, u->is_range);
-    print_measures(&f->measures);
     printf(" collections %zu %" PRIu32, f->collections.count, f->collections.innermost);
+    printf(" report %d %u\n", f->has_report_id, f->report_id);
+    print_measures(&f->measures);
     printf(" flags %d%d%d", g->is_relative, g->wraps, g->is_nonlinear);
     printf("%d%d", g->has_no_preferred_state, g->has_null_state);
-    printf("%d%d", g->is_buffered_bytes, g->is_volatile);
-    printf(" report %d %u\n", f->has_report_id, f->report_id);
+    printf("%d%d\n", g->is_buffered_bytes, g->is_volatile);
 }
 
 static void keep_fields(struct hidreport_answer answer)

@@ -13,7 +13,10 @@ fn main() {
     let archive = folder.join("libhidreport.a");
     println!("cargo:rerun-if-changed={}", archive.display());
     if !archive.is_file() {
-        eprintln!("{} isn't there: run ./install PREFIX, or set HIDREPORT_LIB_DIR", archive.display());
+        eprintln!(
+            "{} isn't there: run ./install PREFIX, or set HIDREPORT_LIB_DIR",
+            archive.display()
+        );
         std::process::exit(1);
     }
     println!("cargo:rustc-link-search=native={}", folder.display());

@@ -1,4 +1,5 @@
-//! Prints the questions of its input with their answers, as c/cases.c does, by this module's functions.
+//! Prints the questions of its input with their answers, as c/cases.c does, by this module's
+//! functions.
 use hidreport_c::{collection_kind, field_kind, status};
 use hidreport_c::{Direction, Field, Options, Refusal, DEFAULT_LIMIT, NO_LIMIT};
 use hidreport_c::{PUSH_ALL, PUSH_GLOBALS};
@@ -104,12 +105,13 @@ fn print_field(f: &Field) {
     print!("  #{} {} bits {}..{}", f.number, kind_of(f.kind), f.first_bit, f.end_bit);
     print!(" values {} usages {}", f.value_count, u.count);
     print!(" {:08x}..{:08x} {}", u.first, u.last, bit(u.is_range));
-    print!(" logical {}..{}", m.logical_minimum, m.logical_maximum);
+    print!(" collections {} {}", c.count, c.innermost);
+    println!(" report {} {}", bit(f.has_report_id), f.report_id);
+    print!("    logical {}..{}", m.logical_minimum, m.logical_maximum);
     print!(" physical {} {}", bit(m.has_physical_minimum), m.physical_minimum);
     print!("..{} {}", bit(m.has_physical_maximum), m.physical_maximum);
     print!(" unit {} {:08x}", bit(m.has_unit), m.unit);
-    print!(" exponent {} {}", bit(m.has_unit_exponent), m.unit_exponent);
-    print!(" collections {} {} flags ", c.count, c.innermost);
+    print!(" exponent {} {} flags ", bit(m.has_unit_exponent), m.unit_exponent);
     for flag in [
         g.is_relative,
         g.wraps,
@@ -121,7 +123,7 @@ fn print_field(f: &Field) {
     ] {
         print!("{}", bit(flag));
     }
-    println!(" report {} {}", bit(f.has_report_id), f.report_id);
+    println!();
 }
 
 /// The version that this crate says of itself is that of the library.
