@@ -1,9 +1,9 @@
 #!/bin/bash
 # What C gets, by the header and by the Rust module: the questions of c/cases.txt are asked of the
 # static library by a C program and by a Rust one, whose answers have to be those that stand there.
-# Its argument is a folder that ./install filled; without one it fills one, which takes half a minute
-# behind a check of `hidreport_c`, two behind the gate. Where no C compiler is there, or no cargo, it
-# says so and leaves that part out.
+# Its argument is a folder that ./install filled; without one it fills one, which takes half a
+# minute behind a check of `hidreport_c`, two behind the gate. Where no C compiler is there, or no
+# cargo, it says so and leaves that part out.
 set -eu
 
 top=$(cd "$(dirname "$0")/.." && pwd)

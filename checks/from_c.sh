@@ -1,10 +1,10 @@
 #!/bin/sh
 # The library from C, C++ and Rust (docs/C.md): ./install fills a folder, and from that folder alone
 # the example c/values.c, the test c/test.c, a program in C++ and two cargo packages are built. What
-# the test prints is compared with what the program `hidreport` prints, over the descriptors of bench/
-# and reports with several ids, whole and cut short, under valgrind. It is no part of the gate, since
-# it needs a C compiler; where cargo, a C++ compiler or valgrind is missing it says so and goes on.
-# From a clean clone it takes as long as the first call of ./hidreport; else a minute.
+# the test prints is compared with what the program `hidreport` prints, over the descriptors of
+# bench/ and reports with several ids, whole and cut short, under valgrind. It is no part of the
+# gate, since it needs a C compiler; where cargo, a C++ compiler or valgrind is missing it says so
+# and goes on. From a clean clone it takes as long as the first call of ./hidreport; else a minute.
 set -eu
 
 top=$(cd "$(dirname "$0")/.." && pwd)

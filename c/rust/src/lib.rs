@@ -58,8 +58,8 @@ impl Default for Options {
     }
 }
 
-/// Why a descriptor is refused: a number of `status`, the offset of the item, and a text where there
-/// is one.
+/// Why a descriptor is refused: a number of `status`, the offset of the item, and a text where
+/// there is one.
 #[derive(Clone, Debug, PartialEq)]
 pub struct Refusal {
     pub status: u32,
@@ -82,8 +82,8 @@ fn listed<T: Clone>(
     }
 }
 
-// SAFETY of all calls below: pointers and lengths are those of slices and lists that live until the
-// call is over, and none that is written overlaps one that is read; a list without room has length 0.
+// SAFETY of all calls below: pointers and lengths are those of slices and lists that live until
+// the call is over, and none that is written overlaps one that is read; no room is a length of 0.
 
 fn text_of(call: impl Fn(*mut u8, usize) -> sys::Answer) -> Result<String, u32> {
     match listed(0, call) {
