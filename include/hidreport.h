@@ -199,7 +199,8 @@ struct hidreport_answer hidreport_find(const uint8_t *descriptor, size_t length,
                                        const uint8_t *report, size_t report_length,
                                        struct hidreport_field *fields, size_t room);
 
-/* The usages of the field with this number, in order; none where no field has it. */
+/* The usages of the field with this number, in order; none where no field has it. Here and below
+ * the options are those by which the field was described. */
 struct hidreport_answer hidreport_usages(const uint8_t *descriptor, size_t length,
                                          struct hidreport_options options, uint32_t field,
                                          uint32_t *usages, size_t room);
