@@ -1,6 +1,7 @@
 -- The fields of reports, listed report by report, and fields by their numbers.
 use Rattle.std.proofs.Common.{◌≡◌, ℕ, ◌+◌, ◌<◌, ◌≤◌, Bool, true, false, cond, List, [], ◌∷◌, ◌++◌}
-use Rattle.std.proofs.Common.{length, take, drop, map, get_or, Option, None, Some, Ok, ◌⊎◌, inl, inr}
+use Rattle.std.proofs.Common.{length, take, drop, map, get_or, Option}
+use Rattle.std.proofs.Common.{None, Some, Ok, ◌⊎◌, inl, inr}
 use Rattle.std.proofs.Common.{refl, ap, sym, ◌∙◌, ◌≢◌, arith, append-nil}
 use Rattle.std.proofs.lemmas.Bool.{eq-eqb}
 use Rattle.std.proofs.lemmas.Bool.Decides.{eqb_tells}

@@ -1,7 +1,8 @@
 -- All values of a field, written one after the other.
 use Rattle.std.proofs.Common.{◌≡◌, ℕ, zero, suc, ◌+◌, ◌<◌, List, [], ◌∷◌, length, take}
 use Rattle.std.proofs.Common.{slice_set, Option, None, Some, IsOk, Result, Ok, Err, Bool, true}
-use Rattle.std.proofs.Common.{false, cond, nat_le, nat_lt, ◌||◌, ◌*◌, ◌-◌, ◌≤◌, ◌⊎◌, inl, inr, refl, ap, sym, ◌∙◌, arith}
+use Rattle.std.proofs.Common.{false, cond, nat_le, nat_lt, ◌||◌, ◌*◌, ◌-◌, ◌≤◌}
+use Rattle.std.proofs.Common.{◌⊎◌, inl, inr, refl, ap, sym, ◌∙◌, arith}
 use Rattle.std.proofs.Math.Dec.{leb}
 use Rattle.std.proofs.Math.Nat.{min-eq_left, min-eq_right}
 use Rattle.std.proofs.Math.Seq.{drop-nil, take-nil}

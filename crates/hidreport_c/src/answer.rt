@@ -1,6 +1,6 @@
 //! What C is told of a list, and how a descriptor is read for it.
-ghost use Rattle.std.specs.Prelude.{◌≡◌, Ok, length};
-ghost use Rattle.hidreport_c.specs.Answer.{Lists, counted, error_as_c, IsRead, refused, array_after};
+ghost use Rattle.std.specs.Prelude.{◌≡◌, length};
+ghost use Rattle.hidreport_c.specs.Answer.{IsRead, array_after, counted, error_as_c, refused};
 ghost use Rattle.hidreport_c.specs.Options.{options_of};
 
 use crate::options::HidreportOptions;

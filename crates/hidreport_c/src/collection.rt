@@ -58,10 +58,10 @@ pub extern "C" fn hidreport_collections(
         collections.new result }
 {
     match read(alloc, descriptor, options) {
-        Ok(descriptor) => write(
-            collections_of(field_numbered(&descriptor, field)),
-            collections,
-        ),
+        Ok(descriptor) => {
+            let found = field_numbered(&descriptor, field);
+            write(collections_of(found), collections)
+        }
         Err(refused) => refused,
     }
 }
@@ -93,7 +93,8 @@ pub extern "C" fn hidreport_collection_usages(
 
 /// The collections of a field, if there is one.
 fn collections_of(field: Option<&Field>) -> &[Collection]
-    ensures { result.now ≡ collections_or_none (option_map field_record (option_copied field.entry)) }
+    ensures { result.now
+        ≡ collections_or_none (option_map field_record (option_copied field.entry)) }
 {
     match field {
         Some(field) => field.collections(),

@@ -91,7 +91,8 @@ fn report_of<'a>(
 
 /// Writes the fields of a report, if there is one.
 fn write_found(report: Option<&RDescReport>, fields: &mut [HidreportField]) -> HidreportAnswer
-    ensures { Lists (Ok (fields_or_none (option_copied report.entry))) fields.old fields.new result }
+    ensures { Lists (Ok (fields_or_none (option_copied report.entry))) fields.old fields.new
+        result }
 {
     match report {
         Some(report) => write(report.fields(), fields),

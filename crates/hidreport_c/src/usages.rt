@@ -106,8 +106,8 @@ impl HidreportField {
 
 /// Writes the usages of a field, if there is one.
 fn write_usages(field: Option<&Field>, usages: &mut [u32]) -> HidreportAnswer
-    ensures { Lists (Ok (usage_numbers (option_map field_record (option_copied field.entry)))) usages.old
-        usages.new result }
+    ensures { Lists (Ok (usage_numbers (option_map field_record (option_copied field.entry))))
+        usages.old usages.new result }
 {
     match field {
         Some(Field::Variable(field)) => write(slice::from_ref(&field.usage), usages),

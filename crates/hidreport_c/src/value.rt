@@ -1,4 +1,5 @@
-ghost use Rattle.std.specs.Prelude.{◌≡◌, ◌+◌, ◌*◌, ◌<◌, ◌^◌, Err, Ok, IfSome, IsNone, IsOk};
+ghost use Rattle.std.specs.Prelude.{◌≡◌, ◌+◌, ◌*◌, ◌<◌, ◌≤◌, ◌^◌, false, Err, Ok, IfSome};
+ghost use Rattle.std.specs.Prelude.{IsNone, IsOk, IsTrue};
 ghost use Rattle.hidreport.specs.Answer.{Bounds};
 ghost use Rattle.hidreport.specs.Reading.{element_width, reads, with_id};
 ghost use Rattle.hidreport.specs.Records.{FieldRecord};
@@ -58,7 +59,8 @@ pub extern "C" fn hidreport_values(
 ) -> HidreportAnswer
     ensures answer { result ≡ as_answer (value_numbers (values_at field.now report.now)) }
     ensures written { values.new
-        ≡ array_after (list_or_nothing (value_numbers (values_at field.now report.now))) values.old }
+        ≡ array_after (list_or_nothing (value_numbers (values_at field.now report.now)))
+        values.old }
     ensures extract { (read : FieldRecord) → field.now ≡ as_c read
         → values_at field.now report.now ≡ reads read report.now }
 {
@@ -129,10 +131,11 @@ impl HidreportField {
         }
         let width = self.element_width();
         let end = self.first_bit + width * self.value_count;
-        if width == 0 || width > 32 || end.div_ceil(8) > report.len() {
-            return Err(OUT_OF_BOUNDS);
+        if are_readable(width, end, report.len()) {
+            Ok(())
+        } else {
+            Err(OUT_OF_BOUNDS)
         }
-        Ok(())
     }
 
     /// Writes as many values as there is room for.
@@ -179,4 +182,12 @@ impl HidreportField {
         let bits = first..first + width;
         FieldValue::from_bits(report, &bits, self.measures.logical_minimum < 0)
     }
+}
+
+/// Whether values of so many bits, of which the last ends at a bit, can be read from so many bytes.
+fn are_readable(width: usize, end: usize, bytes: usize) -> bool
+    ensures readable { IsTrue result → (0 < width) × (width ≤ 32) × (end ≤ 8 * bytes) }
+    ensures outside { result ≡ false → 0 < width → width ≤ 32 → 8 * bytes < end }
+{
+    width > 0 && width <= 32 && end.div_ceil(8) <= bytes
 }
