@@ -72,8 +72,10 @@ enum hidreport_push {
 
 /* How a descriptor is read. Most programs pass HIDREPORT_DEFAULTS. */
 struct hidreport_options {
-    size_t limit;  /* the most that may be listed: a field counts 1, and 1 more for each usage of an
-                    * array, each collection around the field and each usage of that */
+    /* The most that may be listed: a field counts 1, with 1 for each usage of an array, for each
+     * collection around the field and for each usage of that; so does a collection, with 1 for each
+     * of its usages. */
+    size_t limit;
     uint32_t push; /* enum hidreport_push */
 };
 

@@ -66,11 +66,7 @@ pub extern "C" fn hidreport_values(
 {
     match field.check_values(report) {
         Ok(()) => field.write_values(report, values),
-        Err(status) => HidreportAnswer {
-            count: 0,
-            offset: 0,
-            status,
-        },
+        Err(status) => HidreportAnswer::refused(status),
     }
 }
 
@@ -152,11 +148,7 @@ impl HidreportField {
                 values[index] = i64::from(value);
             }
         }
-        HidreportAnswer {
-            count: self.value_count,
-            offset: 0,
-            status: ACCEPTED,
-        }
+        HidreportAnswer::counted(self.value_count)
     }
 
     /// How many bits a value has: the field's bits divided by the number of values, if it isn't 0.
