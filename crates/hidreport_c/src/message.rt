@@ -14,8 +14,8 @@ use hidreport::{ParserError, ReportDescriptor};
 use std::alloc::Global;
 
 /// What a descriptor is refused for by these options, in the words of `ParserError` without the
-/// offset, as text in ASCII without a zero at its end; empty where it is accepted. What refuses
-/// memory or an option here is 4 and 6, without a text.
+/// offset, as text in ASCII without a zero at its end; empty where it is accepted. Where memory is
+/// refused the answer is 4, where an option says nothing 6, without a text.
 #[unsafe(no_mangle)]
 pub extern "C" fn hidreport_message(
     alloc: Global,
