@@ -1,5 +1,6 @@
-/* Asks the library what the lines of its input ask, and prints each question with its answer below it, two spaces in: every member of
- * every struct. c/cases.txt has such lines; checks/c_cases.sh compares. Bytes are hexadecimal, `-` is none. */
+/* Asks the library what the lines of its input ask, and prints each question with its answer below
+ * it, two spaces in: every member of every struct. c/cases.txt has such lines, and says how they
+ * are written; checks/c_cases.sh compares. */
 #include <hidreport.h>
 
 #include <inttypes.h>
@@ -7,10 +8,27 @@
 #include <stdlib.h>
 #include <string.h>
 
-static struct hidreport_field fields[256];
-static size_t field_count;
+enum { ROOM = 256 };
 
-static size_t bytes_of(const char *text, uint8_t *bytes)
+/* The descriptor and the report of a question. */
+static uint8_t bytes[4096], report[4096];
+static size_t length, report_length;
+
+/* What the last questions gave stays for the questions about it. */
+static struct hidreport_options options;
+static struct hidreport_field fields[ROOM];
+static size_t field_count;
+static uint32_t usages[ROOM];
+static size_t usage_count;
+
+static void refuse(const char *why, const char *line)
+{
+    fprintf(stderr, "cases: %s: %s\n", why, line);
+    exit(2);
+}
+
+/* Bytes are hexadecimal, `-` is none; they end at a `/`. */
+static size_t bytes_of(const char *text, uint8_t *into)
 {
     size_t length = 0;
     unsigned byte;
@@ -18,111 +36,285 @@ static size_t bytes_of(const char *text, uint8_t *bytes)
         if (*text == ' ' || *text == '-')
             text++;
         else if (sscanf(text, "%2x", &byte) == 1)
-            bytes[length++] = (uint8_t)byte, text += 2;
+            into[length++] = (uint8_t)byte, text += 2;
         else
-            fprintf(stderr, "cases: no bytes: %s\n", text), exit(2);
+            refuse("no bytes", text);
     return length;
 }
 
-static void print_answer(struct hidreport_answer answer)
+static const char *words_of(uint32_t status)
 {
-    printf("  count %zu offset %zu status %" PRIu32 "\n", answer.count, answer.offset, answer.status);
+    switch (status) {
+    case HIDREPORT_ACCEPTED: return "accepted";
+    case HIDREPORT_INVALID_DATA: return "invalid-data";
+    case HIDREPORT_OUT_OF_BOUNDS: return "out-of-bounds";
+    case HIDREPORT_MISMATCHING_REPORT_ID: return "mismatching-report-id";
+    case HIDREPORT_OUT_OF_MEMORY: return "out-of-memory";
+    case HIDREPORT_BUDGET_EXCEEDED: return "budget-exceeded";
+    case HIDREPORT_UNKNOWN_OPTION: return "unknown-option";
+    default: return "?";
+    }
+}
+
+static const char *kind_of(uint32_t kind)
+{
+    switch (kind) {
+    case HIDREPORT_VARIABLE: return "variable";
+    case HIDREPORT_ARRAY: return "array";
+    case HIDREPORT_CONSTANT: return "constant";
+    default: return "?";
+    }
+}
+
+/* The kind of a collection; a number where the standard of today has none. */
+static const char *collection_of(uint32_t kind)
+{
+    static char number[16];
+    switch (kind) {
+    case HIDREPORT_PHYSICAL: return "physical";
+    case HIDREPORT_APPLICATION: return "application";
+    case HIDREPORT_LOGICAL: return "logical";
+    case HIDREPORT_REPORT: return "report";
+    case HIDREPORT_NAMED_ARRAY: return "named-array";
+    case HIDREPORT_USAGE_SWITCH: return "usage-switch";
+    case HIDREPORT_USAGE_MODIFIER: return "usage-modifier";
+    default: snprintf(number, sizeof number, "%" PRIu32, kind); return number;
+    }
+}
+
+/* As many as the arrays here have room for. */
+static size_t print_answer(struct hidreport_answer answer)
+{
+    printf("  count %zu offset %zu", answer.count, answer.offset);
+    printf(" %s\n", words_of(answer.status));
+    return answer.count < ROOM ? answer.count : ROOM;
+}
+
+static void print_measures(const struct hidreport_measures *m)
+{
+    printf("    logical %" PRId32 "..%" PRId32, m->logical_minimum, m->logical_maximum);
+    printf(" physical %d %" PRId32, m->has_physical_minimum, m->physical_minimum);
+    printf("..%d %" PRId32, m->has_physical_maximum, m->physical_maximum);
+    printf(" unit %d %08" PRIx32, m->has_unit, m->unit);
+    printf(" exponent %d %" PRId32, m->has_unit_exponent, m->unit_exponent);
 }
 
 static void print_field(const struct hidreport_field *f)
 {
-    printf("  #%" PRIu32 " kind %" PRIu32 " bits %zu..%zu values %zu", f->number, f->kind, f->first_bit, f->end_bit, f->value_count);
-    printf(" usages %zu %08" PRIx32 "..%08" PRIx32 " %d", f->usages.count, f->usages.first, f->usages.last, f->usages.is_range);
-    const struct hidreport_measures *m = &f->measures;
-    printf(" logical %" PRId32 "..%" PRId32, m->logical_minimum, m->logical_maximum);
-    printf(" physical %d %" PRId32 "..%d %" PRId32, m->has_physical_minimum, m->physical_minimum, m->has_physical_maximum,
-           m->physical_maximum);
-    printf(" unit %d %08" PRIx32 " exponent %d %" PRId32, m->has_unit, m->unit, m->has_unit_exponent, m->unit_exponent);
-    printf(" collections %zu %" PRIu32, f->collections.count, f->collections.innermost);
+    const struct hidreport_usages *u = &f->usages;
     const struct hidreport_flags *g = &f->flags;
-    printf(" flags %d%d%d%d%d%d%d", g->is_relative, g->wraps, g->is_nonlinear, g->has_no_preferred_state, g->has_null_state,
-           g->is_buffered_bytes, g->is_volatile);
+    printf("  #%" PRIu32 " %s", f->number, kind_of(f->kind));
+    printf(" bits %zu..%zu values %zu", f->first_bit, f->end_bit, f->value_count);
+    printf(" usages %zu %08" PRIx32 "..%08" PRIx32 " %d", u->count, u->first, u->last, u->is_range);
+    printf(" collections %zu %" PRIu32, f->collections.count, f->collections.innermost);
     printf(" report %d %u\n", f->has_report_id, f->report_id);
+    print_measures(&f->measures);
+    printf(" flags %d%d%d", g->is_relative, g->wraps, g->is_nonlinear);
+    printf("%d%d", g->has_no_preferred_state, g->has_null_state);
+    printf("%d%d\n", g->is_buffered_bytes, g->is_volatile);
 }
 
-static uint32_t direction_of(const char *word)
-{
-    return strncmp(word, "input", 5) == 0    ? HIDREPORT_INPUT
-           : strncmp(word, "output", 6) == 0 ? HIDREPORT_OUTPUT
-                                             : HIDREPORT_FEATURE;
-}
-
-/* The fields stay for the questions about them. */
 static void keep_fields(struct hidreport_answer answer)
 {
-    print_answer(answer);
-    field_count = answer.status == HIDREPORT_ACCEPTED ? answer.count : 0;
+    field_count = print_answer(answer);
     for (size_t i = 0; i < field_count; i++)
         print_field(&fields[i]);
 }
 
-static void print_value(const struct hidreport_field *field, size_t index, const uint8_t *report, size_t length)
+static void keep_usages(struct hidreport_answer answer)
 {
-    struct hidreport_value value = hidreport_value(field, report, length, index);
-    printf("  number %" PRId64 " status %" PRIu32 "\n", value.number, value.status);
+    usage_count = print_answer(answer);
+    for (size_t i = 0; i < usage_count; i++)
+        printf("  %08" PRIx32 "\n", usages[i]);
 }
 
-static void print_values(const struct hidreport_field *field, const uint8_t *report, size_t length)
+/* Text, or bytes as hexadecimal numbers. */
+static void print_written(struct hidreport_answer answer, const uint8_t *written, const char *form)
 {
-    int64_t values[256];
-    struct hidreport_answer answer = hidreport_values(field, report, length, values, 256);
-    print_answer(answer);
-    for (size_t i = 0; i < answer.count; i++)
-        printf("  %" PRId64 "\n", values[i]);
-}
-
-static void print_items(const uint8_t *bytes, size_t length)
-{
-    static struct hidreport_item items[1024];
-    struct hidreport_answer answer = hidreport_items(bytes, length, items, 1024);
-    print_answer(answer);
-    for (size_t i = 0; i < answer.count; i++)
-        printf("  offset %zu size %zu\n", items[i].offset, items[i].size);
-}
-
-static void print_bytes(struct hidreport_answer answer, const uint8_t *bytes, const char *form)
-{
-    print_answer(answer);
+    size_t count = print_answer(answer);
     printf("  ");
-    for (size_t i = 0; i < answer.count; i++)
-        printf(form, bytes[i]);
+    for (size_t i = 0; i < count; i++)
+        printf(form, written[i]);
     printf("\n");
 }
 
+static uint32_t number_of(const char *word)
+{
+    return (uint32_t)strtoul(word, NULL, 10);
+}
+
+static uint32_t direction_of(const char *word)
+{
+    return strcmp(word, "input") == 0     ? HIDREPORT_INPUT
+           : strcmp(word, "output") == 0  ? HIDREPORT_OUTPUT
+           : strcmp(word, "feature") == 0 ? HIDREPORT_FEATURE
+                                          : number_of(word);
+}
+
+static const struct hidreport_field *field_of(const char *word)
+{
+    if (number_of(word) >= field_count)
+        refuse("no such field", word);
+    return &fields[number_of(word)];
+}
+
+static void version(const char *first, const char *second)
+{
+    uint32_t number = hidreport_version();
+    (void)first, (void)second;
+    printf("  %s\n", number == HIDREPORT_VERSION ? "as here" : "not as here");
+}
+
+static void choose(const char *limit, const char *push)
+{
+    options = HIDREPORT_DEFAULTS;
+    if (strcmp(limit, "default") != 0)
+        options.limit = strcmp(limit, "none") == 0 ? HIDREPORT_NO_LIMIT : number_of(limit);
+    options.push = strcmp(push, "all") == 0       ? HIDREPORT_PUSH_ALL
+                   : strcmp(push, "globals") == 0 ? HIDREPORT_PUSH_GLOBALS
+                                                  : number_of(push);
+}
+
+static void reports(const char *direction, const char *none)
+{
+    static struct hidreport_report r[ROOM];
+    size_t count = print_answer(
+        hidreport_reports(bytes, length, options, direction_of(direction), r, ROOM));
+    (void)none;
+    for (size_t i = 0; i < count; i++)
+        printf("  id %d %u bits %zu bytes %zu fields %zu\n", r[i].has_id, r[i].id,
+               r[i].size_in_bits, r[i].size_in_bytes, r[i].field_count);
+}
+
+static void describe(const char *direction, const char *none)
+{
+    (void)none;
+    keep_fields(hidreport_describe(bytes, length, options, direction_of(direction), fields, ROOM));
+}
+
+static void find(const char *direction, const char *none)
+{
+    (void)none;
+    keep_fields(hidreport_find(bytes, length, options, direction_of(direction), report,
+                               report_length, fields, ROOM));
+}
+
+static void list_usages(const char *field, const char *none)
+{
+    (void)none;
+    keep_usages(hidreport_usages(bytes, length, options, number_of(field), usages, ROOM));
+}
+
+static void collections(const char *field, const char *none)
+{
+    static struct hidreport_collection c[ROOM];
+    size_t count = print_answer(
+        hidreport_collections(bytes, length, options, number_of(field), c, ROOM));
+    (void)none;
+    for (size_t i = 0; i < count; i++)
+        printf("  #%" PRIu32 " %s usages %zu %08" PRIx32 "\n", c[i].number,
+               collection_of(c[i].kind), c[i].usage_count, c[i].usage);
+}
+
+static void collection_usages(const char *field, const char *index)
+{
+    keep_usages(hidreport_collection_usages(bytes, length, options, number_of(field),
+                                            number_of(index), usages, ROOM));
+}
+
+static void message(const char *first, const char *second)
+{
+    static uint8_t text[ROOM];
+    (void)first, (void)second;
+    print_written(hidreport_message(bytes, length, options, text, sizeof text), text, "%c");
+}
+
+static void items(const char *first, const char *second)
+{
+    static struct hidreport_item listed[ROOM];
+    size_t count = print_answer(hidreport_items(bytes, length, listed, ROOM));
+    (void)first, (void)second;
+    for (size_t i = 0; i < count; i++)
+        printf("  offset %zu size %zu\n", listed[i].offset, listed[i].size);
+}
+
+static void items_message(const char *first, const char *second)
+{
+    static uint8_t text[ROOM];
+    (void)first, (void)second;
+    print_written(hidreport_items_message(bytes, length, text, sizeof text), text, "%c");
+}
+
+static void rebuild(const char *first, const char *second)
+{
+    static uint8_t rebuilt[ROOM];
+    (void)first, (void)second;
+    print_written(hidreport_rebuild(bytes, length, rebuilt, sizeof rebuilt), rebuilt, "%02x");
+}
+
+static void value(const char *field, const char *index)
+{
+    struct hidreport_value read =
+        hidreport_value(field_of(field), report, report_length, number_of(index));
+    printf("  number %" PRId64 " %s\n", read.number, words_of(read.status));
+}
+
+static void values(const char *field, const char *none)
+{
+    int64_t numbers[ROOM];
+    size_t count = print_answer(
+        hidreport_values(field_of(field), report, report_length, numbers, ROOM));
+    (void)none;
+    for (size_t i = 0; i < count; i++)
+        printf("  %" PRId64 "\n", numbers[i]);
+}
+
+static void usage(const char *field, const char *number)
+{
+    struct hidreport_usage meant =
+        hidreport_usage_of(field_of(field), strtoll(number, NULL, 10), usages, usage_count);
+    printf("  usage %08" PRIx32 " %d\n", meant.usage, meant.is_meant);
+}
+
+/* Each kind of question, and how many words it has before its bytes. */
+static const struct {
+    const char *kind;
+    int words;
+    void (*answer)(const char *first, const char *second);
+} kinds[] = {
+    {"version", 0, version},         {"options", 2, choose},
+    {"reports", 1, reports},         {"describe", 1, describe},
+    {"find", 1, find},               {"usages", 1, list_usages},
+    {"collections", 1, collections}, {"collection-usages", 2, collection_usages},
+    {"message", 0, message},         {"items", 0, items},
+    {"rebuild", 0, rebuild},         {"items-message", 0, items_message},
+    {"value", 2, value},             {"values", 1, values},
+    {"usage", 2, usage},
+};
+
 static void answer_line(const char *line)
 {
-    static uint8_t bytes[4096], report[4096], room[4096];
-    char kind[32], word[32];
-    int behind = 0;
-    size_t field, index;
+    char kind[32] = "", words[2][32] = {"", ""};
     const char *slash = strchr(line, '/');
-    size_t report_length = slash ? bytes_of(slash + 1, report) : 0;
-    if (sscanf(line, "describe %31s %n", word, &behind) == 1)
-        keep_fields(hidreport_describe(bytes, bytes_of(line + behind, bytes), direction_of(word), fields, 256));
-    else if (sscanf(line, "find %31s %n", word, &behind) == 1)
-        keep_fields(hidreport_find(bytes, bytes_of(line + behind, bytes), direction_of(word), report, report_length, fields, 256));
-    else if (sscanf(line, "value %zu %zu %n", &field, &index, &behind) == 2 && field < field_count)
-        print_value(&fields[field], index, report, report_length);
-    else if (sscanf(line, "values %zu %n", &field, &behind) == 1 && field < field_count)
-        print_values(&fields[field], report, report_length);
-    else if (sscanf(line, "%31s %n", kind, &behind) == 1 && strcmp(kind, "items") == 0)
-        print_items(bytes, bytes_of(line + behind, bytes));
-    else if (strcmp(kind, "message") == 0)
-        print_bytes(hidreport_message(bytes, bytes_of(line + behind, bytes), room, sizeof room), room, "%c");
-    else if (strcmp(kind, "rebuild") == 0)
-        print_bytes(hidreport_rebuild(bytes, bytes_of(line + behind, bytes), room, sizeof room), room, "%02x");
-    else
-        fprintf(stderr, "cases: no question: %s\n", line), exit(2);
+    int from = 0, behind = 0;
+    report_length = slash ? bytes_of(slash + 1, report) : 0;
+    sscanf(line, "%31s%n", kind, &from);
+    for (size_t k = 0; k < sizeof kinds / sizeof *kinds; k++)
+        if (strcmp(kind, kinds[k].kind) == 0) {
+            for (int w = 0; w < kinds[k].words; w++, from += behind)
+                if (sscanf(line + from, " %31s%n", words[w], &behind) != 1)
+                    refuse("a word is missing", line);
+            length = bytes_of(line + from, bytes);
+            kinds[k].answer(words[0], words[1]);
+            return;
+        }
+    refuse("no question", line);
 }
 
 int main(void)
 {
     char line[8192];
+    choose("default", "all");
     while (fgets(line, sizeof line, stdin)) {
         line[strcspn(line, "\n")] = 0;
         puts(line);

@@ -1,6 +1,7 @@
-/* Looks at the library as C has it. test values DESCRIPTOR REPORT, test items DESCRIPTOR and test rebuild DESCRIPTOR print what the
- * program `hidreport` prints for the same words, each field, item or byte being asked for again in arrays of every length up to what
- * there is; test bytes FILE writes a text of hexadecimal numbers as bytes. */
+/* Looks at the library as C has it. test values DESCRIPTOR REPORT, test items DESCRIPTOR and test
+ * rebuild DESCRIPTOR print what the program `hidreport` prints for the same words, each list being
+ * asked for again in arrays of every length up to what there is; test bytes FILE writes a text of
+ * hexadecimal numbers as bytes. */
 #include <hidreport.h>
 
 #include <inttypes.h>
@@ -50,47 +51,65 @@ static void expect_kept(const uint8_t *array, size_t from, size_t to)
             fail("written behind what there is, or behind the room");
 }
 
-/* One call with so much room, of which `what` says the function. */
-static struct hidreport_answer ask(int what, const uint8_t *report, size_t report_length,
-                                   const struct hidreport_field *field, void *array, size_t room)
+/* What is asked: a function by a letter, and what it is asked of. */
+struct question {
+    int what;
+    const uint8_t *report;
+    size_t report_length;
+    const struct hidreport_field *field;
+};
+
+/* One call with so much room. */
+static struct hidreport_answer ask(struct question q, void *array, size_t room)
 {
-    switch (what) {
-    case 'd': return hidreport_describe(descriptor, descriptor_length, HIDREPORT_INPUT, array, room);
-    case 'f': return hidreport_find(descriptor, descriptor_length, HIDREPORT_INPUT, report, report_length, array, room);
-    case 'm': return hidreport_message(descriptor, descriptor_length, array, room);
-    case 'i': return hidreport_items(descriptor, descriptor_length, array, room);
-    case 'r': return hidreport_rebuild(descriptor, descriptor_length, array, room);
-    default: return hidreport_values(field, report, report_length, array, room);
+    const struct hidreport_options o = HIDREPORT_DEFAULTS;
+    const uint8_t *bytes = descriptor;
+    size_t length = descriptor_length;
+    uint32_t number = q.field ? q.field->number : 0;
+    switch (q.what) {
+    case 'p': return hidreport_reports(bytes, length, o, HIDREPORT_INPUT, array, room);
+    case 'd': return hidreport_describe(bytes, length, o, HIDREPORT_INPUT, array, room);
+    case 'f': return hidreport_find(bytes, length, o, HIDREPORT_INPUT, q.report, q.report_length,
+                                    array, room);
+    case 'u': return hidreport_usages(bytes, length, o, number, array, room);
+    case 'c': return hidreport_collections(bytes, length, o, number, array, room);
+    case 'm': return hidreport_message(bytes, length, o, array, room);
+    case 'i': return hidreport_items(bytes, length, array, room);
+    case 'n': return hidreport_items_message(bytes, length, array, room);
+    case 'r': return hidreport_rebuild(bytes, length, array, room);
+    default: return hidreport_values(q.field, q.report, q.report_length, array, room);
     }
 }
 
-/* All that there is, after calls with no room and with too little; more room than that is left as it is. */
-static struct hidreport_answer ask_all(int what, const uint8_t *report, size_t report_length,
-                                       const struct hidreport_field *field, uint8_t **whole, size_t size)
+/* All that there is, after calls with no room and with too little; more room than that is left as
+ * it is. */
+static struct hidreport_answer ask_all(struct question q, void *whole, size_t size)
 {
-    struct hidreport_answer answer = ask(what, report, report_length, field, NULL, 0);
-    *whole = guarded(answer.count + 1, size);
-    expect_same(answer, ask(what, report, report_length, field, *whole, answer.count + 1));
-    expect_kept(*whole, answer.count * size, (answer.count + 2) * size);
+    struct hidreport_answer answer = ask(q, NULL, 0);
+    uint8_t *all = guarded(answer.count + 1, size);
+    expect_same(answer, ask(q, all, answer.count + 1));
+    expect_kept(all, answer.count * size, (answer.count + 2) * size);
     for (size_t room = 1; room < answer.count; room += answer.count / 16 + 1) {
         uint8_t *part = guarded(room, size);
-        expect_same(answer, ask(what, report, report_length, field, part, room));
-        if (memcmp(part, *whole, room * size) != 0)
+        expect_same(answer, ask(q, part, room));
+        if (memcmp(part, all, room * size) != 0)
             fail("too little room has other elements");
         expect_kept(part, room * size, (room + 1) * size);
         free(part);
     }
+    memcpy(whole, &all, sizeof all);
     return answer;
 }
 
-static int refused(struct hidreport_answer answer)
+static int refused(struct hidreport_answer answer, int message)
 {
-    uint8_t *text;
-    struct hidreport_answer message = ask_all('m', NULL, 0, NULL, &text, 1);
+    char *text;
+    struct question q = {message, NULL, 0, NULL};
+    struct hidreport_answer said = ask_all(q, &text, 1);
     if (answer.status == HIDREPORT_INVALID_DATA)
-        printf("refused: invalid data at offset %zu: %.*s\n", answer.offset, (int)message.count, (char *)text);
+        printf("refused: invalid data at offset %zu: %.*s\n", answer.offset, (int)said.count, text);
     else
-        printf("refused: %s\n", answer.status == HIDREPORT_OUT_OF_BOUNDS ? "out of bounds" : "?");
+        printf("refused: %.*s\n", (int)said.count, text);
     free(text);
     return 1;
 }
@@ -100,11 +119,8 @@ static const char *words_of(uint32_t status)
     return status == HIDREPORT_OUT_OF_BOUNDS ? "out of bounds" : "mismatching report id";
 }
 
-static void print_field(const struct hidreport_field *field, const uint8_t *report, size_t length)
+static void print_kind(const struct hidreport_field *field)
 {
-    uint8_t *array;
-    struct hidreport_answer answer = ask_all('v', report, length, field, &array, sizeof(int64_t));
-    const int64_t *values = (const int64_t *)array;
     printf("%zu..%zu", field->first_bit, field->end_bit);
     if (field->kind == HIDREPORT_CONSTANT)
         printf(" constant");
@@ -112,6 +128,35 @@ static void print_field(const struct hidreport_field *field, const uint8_t *repo
         printf(" variable %08" PRIx32, field->usages.first);
     else
         printf(" array");
+}
+
+/* What the field says of its usages and collections is what the lists of them say. */
+static void expect_lists(const struct hidreport_field *field)
+{
+    uint32_t *usages;
+    struct hidreport_collection *collections;
+    struct question q = {'u', NULL, 0, field};
+    size_t count = ask_all(q, &usages, sizeof *usages).count;
+    if (count != field->usages.count)
+        fail("a field has another number of usages");
+    if (count > 0 && (usages[0] != field->usages.first || usages[count - 1] != field->usages.last))
+        fail("the usages of a field are others");
+    q.what = 'c';
+    count = ask_all(q, &collections, sizeof *collections).count;
+    if (count != field->collections.count)
+        fail("a field has another number of collections");
+    if (count > 0 && collections[count - 1].number != field->collections.innermost)
+        fail("the innermost collection is another");
+    free(usages);
+    free(collections);
+}
+
+static void print_field(const struct hidreport_field *field, const uint8_t *report, size_t length)
+{
+    int64_t *values;
+    struct question q = {'v', report, length, field};
+    struct hidreport_answer answer = ask_all(q, &values, sizeof *values);
+    print_kind(field);
     if (answer.status != HIDREPORT_ACCEPTED)
         printf(" %s", words_of(answer.status));
     for (size_t i = 0; i < answer.count; i++) {
@@ -120,52 +165,73 @@ static void print_field(const struct hidreport_field *field, const uint8_t *repo
             fail("a value alone isn't the same");
         printf(" %" PRId64, values[i]);
     }
-    if (hidreport_value(field, report, length, field->value_count).status != HIDREPORT_OUT_OF_BOUNDS)
+    struct hidreport_value behind = hidreport_value(field, report, length, field->value_count);
+    if (behind.status != HIDREPORT_OUT_OF_BOUNDS)
         fail("a value behind the last is there");
     printf("\n");
-    free(array);
+    expect_lists(field);
+    free(values);
+}
+
+/* As many fields as all reports have. */
+static void expect_reports(size_t fields)
+{
+    struct hidreport_report *reports;
+    struct question q = {'p', NULL, 0, NULL};
+    size_t count = ask_all(q, &reports, sizeof *reports).count;
+    for (size_t i = 0; i < count; i++) {
+        fields -= reports[i].field_count;
+        if (reports[i].size_in_bytes != (reports[i].size_in_bits + 7) / 8)
+            fail("a report has another number of bytes");
+    }
+    if (fields != 0)
+        fail("the reports have another number of fields");
+    free(reports);
 }
 
 static int print_values(const char *name)
 {
     static uint8_t report[8192];
+    struct hidreport_field *fields, *all;
     size_t length = read_file(name, report, sizeof report);
-    uint8_t *array, *all;
-    struct hidreport_answer answer = ask_all('f', report, length, NULL, &array, sizeof(struct hidreport_field));
-    struct hidreport_answer described = ask_all('d', NULL, 0, NULL, &all, sizeof(struct hidreport_field));
+    struct question q = {'f', report, length, NULL}, d = {'d', NULL, 0, NULL};
+    struct hidreport_answer answer = ask_all(q, &fields, sizeof *fields);
+    struct hidreport_answer described = ask_all(d, &all, sizeof *all);
     if (described.status != answer.status || described.count < answer.count)
         fail("a report has more fields than all");
+    expect_reports(described.count);
     for (size_t i = 0; i < answer.count; i++)
-        print_field((const struct hidreport_field *)array + i, report, length);
-    free(array);
+        print_field(&fields[i], report, length);
+    free(fields);
     free(all);
-    return answer.status == HIDREPORT_ACCEPTED ? 0 : refused(answer);
+    return answer.status == HIDREPORT_ACCEPTED ? 0 : refused(answer, 'm');
 }
 
 static int print_items(void)
 {
-    uint8_t *array;
-    struct hidreport_answer answer = ask_all('i', NULL, 0, NULL, &array, sizeof(struct hidreport_item));
-    const struct hidreport_item *items = (const struct hidreport_item *)array;
+    struct hidreport_item *items;
+    struct question q = {'i', NULL, 0, NULL};
+    struct hidreport_answer answer = ask_all(q, &items, sizeof *items);
     for (size_t i = 0; i < answer.count; i++) {
         printf("%zu", items[i].offset);
         for (size_t j = 0; j < items[i].size; j++)
             printf(" %02x", descriptor[items[i].offset + j]);
         printf("\n");
     }
-    free(array);
-    return answer.status == HIDREPORT_ACCEPTED ? 0 : refused(answer);
+    free(items);
+    return answer.status == HIDREPORT_ACCEPTED ? 0 : refused(answer, 'n');
 }
 
 static int print_rebuilt(void)
 {
     uint8_t *bytes;
-    struct hidreport_answer answer = ask_all('r', NULL, 0, NULL, &bytes, 1);
+    struct question q = {'r', NULL, 0, NULL};
+    struct hidreport_answer answer = ask_all(q, &bytes, 1);
     for (size_t i = 0; i < answer.count; i++)
         printf(i == 0 ? "%02x" : " %02x", bytes[i]);
     printf(answer.status == HIDREPORT_ACCEPTED ? "\n" : "");
     free(bytes);
-    return answer.status == HIDREPORT_ACCEPTED ? 0 : refused(answer);
+    return answer.status == HIDREPORT_ACCEPTED ? 0 : refused(answer, 'n');
 }
 
 /* Hexadecimal numbers, and comments from # on. */

@@ -1,22 +1,29 @@
 #!/bin/bash
-# What C gets, by the header and by the Rust module: the questions of c/cases.txt are asked of the static library by a C
-# program and by a Rust one, whose answers have to be those that stand there. The library is the one that `rt lib` or the
-# gate made in crates/hidreport_c/out. Where no C compiler is there, or no cargo, it says so and leaves that part out.
+# What C gets, by the header and by the Rust module: the questions of c/cases.txt are asked of the
+# static library by a C program and by a Rust one, whose answers have to be those that stand there.
+# Its argument is a folder that ./install filled; without one it fills one, which takes half a
+# minute behind a check of `hidreport_c`, two behind the gate. Where no C compiler is there, or no
+# cargo, it says so and leaves that part out.
 set -eu
 
 top=$(cd "$(dirname "$0")/.." && pwd)
-. "$top/checks/needs.sh"
-need_rt c_cases
-archive="$top/crates/hidreport_c/out/libhidreport_c.a"
-[ -f "$archive" ] || (cd "$top/crates/hidreport_c" && rt lib > /dev/null)
-kit=$(dirname "$(rt doc)")
 scratch=$(mktemp -d)
 trap 'rm -rf "$scratch"' EXIT
+if ! command -v cc > /dev/null || ! command -v ar > /dev/null; then
+    echo 'c_cases: no `cc` or no `ar` on the path, so nothing is asked from C'
+    exit 0
+fi
+prefix=${1:-$scratch/prefix}
+[ $# -gt 0 ] || "$top/install" "$prefix" > /dev/null
 grep -v '^  ' "$top/c/cases.txt" > "$scratch/questions"
 asked=$(grep -c '^[a-z]' "$scratch/questions")
 
-# compare WHO: what stands in $scratch/answers against the cases.
-compare() {
+# ask WHO PROGRAM: its answers against the cases, in so little memory that a case of want is one.
+ask() {
+    (ulimit -v 4000000 && "$2" < "$scratch/questions") > "$scratch/answers" || {
+        echo "c_cases: $1 ends with status $?"
+        exit 1
+    }
     diff "$top/c/cases.txt" "$scratch/answers" > "$scratch/differ" || {
         echo "c_cases: $1 gets other answers:"
         head -n 40 "$scratch/differ"
@@ -25,21 +32,15 @@ compare() {
     echo "c_cases: $1 gets the wanted answers to $asked questions"
 }
 
-if command -v cc > /dev/null; then
-    cc -std=c11 -Wall -Wextra -Werror -O2 -I"$top/include" -o "$scratch/cases" "$top/c/cases.c" \
-        "$archive" -L"$kit/c" -llibc_c
-    "$scratch/cases" < "$scratch/questions" > "$scratch/answers"
-    compare 'a C program'
-else
-    echo 'c_cases: no `cc` on the path, so the header is not tried'
-fi
+cc -std=c11 -Wall -Wextra -Werror -O2 -I"$prefix/include" -o "$scratch/cases" "$top/c/cases.c" \
+    -L"$prefix/lib" -lhidreport
+ask 'a C program' "$scratch/cases"
 if command -v cargo > /dev/null; then
-    cp -r "$top/c/rust" "$scratch/rust"
-    (cd "$scratch/rust" &&
-        RUSTFLAGS="-L native=${archive%/*} -L native=$kit/c" cargo build --offline --quiet --example cases) ||
+    cp -r "$prefix/share/hidreport/rust" "$scratch/rust"
+    (cd "$scratch/rust" && HIDREPORT_LIB_DIR="$prefix/lib" \
+        cargo build --offline --quiet --example cases) ||
         { echo 'c_cases: the Rust module is not built'; exit 1; }
-    "$scratch/rust/target/debug/examples/cases" < "$scratch/questions" > "$scratch/answers"
-    compare 'a Rust program'
+    ask 'a Rust program' "$scratch/rust/target/debug/examples/cases"
 else
-    echo 'c_cases: no `cargo` on the path, so the Rust module is not tried'
+    echo 'c_cases: no `cargo` on the path, so the Rust module is not asked'
 fi

@@ -1,8 +1,10 @@
 #!/bin/sh
-# The library from C and from Rust (docs/C.md): builds the static library, the example c/values.c, the test c/test.c and the Rust module
-# c/rust, and compares what the test prints with what the program `hidreport` prints, over the descriptors of bench/ and reports with
-# several ids, whole and cut short, under valgrind. It is no part of the gate, since it needs a C compiler; where cargo or valgrind is
-# missing it says so and goes on. From a clean clone it takes as long as the first call of ./hidreport; else half a minute.
+# The library from C, C++ and Rust (docs/C.md): ./install fills a folder, and from that folder alone
+# the example c/values.c, the test c/test.c, a program in C++ and two cargo packages are built. What
+# the test prints is compared with what the program `hidreport` prints, over the descriptors of
+# bench/ and reports with several ids, whole and cut short, under valgrind. It is no part of the
+# gate, since it needs a C compiler; where cargo, a C++ compiler or valgrind is missing it says so
+# and goes on. From a clean clone it takes as long as the first call of ./hidreport; else a minute.
 set -eu
 
 top=$(cd "$(dirname "$0")/.." && pwd)
@@ -14,29 +16,55 @@ command -v cc > /dev/null || {
 }
 scratch=$(mktemp -d)
 trap 'rm -rf "$scratch"' EXIT
-kit=$(dirname "$(rt doc)")
+prefix="$scratch/prefix"
 data="$top/crates/hidreport_main/data"
+
+wrong() {
+    echo "from_c: $1" >&2
+    exit 1
+}
 
 # The launcher builds the program where it isn't built.
 "$top/hidreport" values "$data/mouse.rdesc" "$data/mouse.report" > "$scratch/mouse"
 program="$top/crates/hidreport_main/out/hidreport_main"
-(cd "$top/crates/hidreport_c" && rt lib) > "$scratch/said" 2>&1 || {
-    tail -n 20 "$scratch/said" >&2
-    echo 'from_c: the static library was not built' >&2
-    exit 1
-}
+"$top/install" "$prefix" > "$scratch/said" || wrong 'nothing was installed'
+
+# What pkg-config says, or what the file says without it.
+if command -v pkg-config > /dev/null; then
+    flags=$(PKG_CONFIG_PATH="$prefix/lib/pkgconfig" pkg-config --cflags --libs hidreport)
+    version=$(PKG_CONFIG_PATH="$prefix/lib/pkgconfig" pkg-config --modversion hidreport)
+    grep -qF "## $version " "$top/CHANGELOG.md" ||
+        wrong "CHANGELOG.md has no version $version"
+else
+    echo 'from_c: no `pkg-config` on the path, so its file is not tried'
+    flags="-I$prefix/include -L$prefix/lib -lhidreport"
+fi
+
+# Sources stand alone: neither the header nor the library of this tree is on their paths.
+mkdir "$scratch/c"
+cp "$top/c/values.c" "$top/c/test.c" "$top/c/mouse.cc" "$scratch/c/"
 for source in values test; do
-    cc -std=c11 -Wall -Wextra -Werror -O2 -I"$top/include" -o "$scratch/$source" "$top/c/$source.c" \
-        "$top/crates/hidreport_c/out/libhidreport_c.a" -L"$kit/c" -llibc_c
+    # shellcheck disable=SC2086
+    cc -std=c11 -Wall -Wextra -Wpedantic -Werror -O2 -o "$scratch/$source" \
+        "$scratch/c/$source.c" $flags
 done
 
 # The example of docs/C.md.
 "$scratch/values" "$data/mouse.rdesc" "$data/mouse.report" > "$scratch/shown"
 printf '0..8 00010030 5\n8..16 00010031 -5\n' | cmp -s - "$scratch/shown" || {
-    echo 'from_c: in place of 5 and -5 the example shows:' >&2
     cat "$scratch/shown" >&2
-    exit 1
+    wrong 'that is what the example shows in place of 5 and -5'
 }
+
+# A program in C++.
+if command -v c++ > /dev/null; then
+    # shellcheck disable=SC2086
+    c++ -std=c++17 -Wall -Wextra -Wpedantic -Werror -O2 -o "$scratch/plus" \
+        "$scratch/c/mouse.cc" $flags
+    [ "$("$scratch/plus" | tr '\n' ' ')" = '00010030 00010031 ' ] || wrong 'C++ gets other usages'
+else
+    echo 'from_c: no `c++` on the path, so the header is not tried from C++'
+fi
 
 watched="$scratch/test"
 if command -v valgrind > /dev/null; then
@@ -46,8 +74,8 @@ else
 fi
 
 runs=0
-# Both print the same for these words: compare COMMAND DESCRIPTOR [REPORT]. The test says nothing of a report's id and size, nor of the
-# kinds of items, nor that no report is there.
+# Both print the same for these words: compare COMMAND DESCRIPTOR [REPORT]. The test says nothing of
+# a report's id and size, nor of the kinds of items, nor that no report is there.
 compare() {
     wanted=0
     "$program" "$@" > "$scratch/program" 2> /dev/null || wanted=$?
@@ -58,9 +86,8 @@ compare() {
         items) sed -i '/^[0-9]/s/ [A-Za-z]*$//' "$scratch/program" ;;
     esac
     [ "$got" -le 1 ] && cmp -s "$scratch/program" "$scratch/ours" || {
-        echo "from_c: $* differs ($wanted, $got):" >&2
         diff "$scratch/program" "$scratch/ours" | head -n 20 >&2
-        exit 1
+        wrong "$* differs ($wanted, $got)"
     }
     runs=$((runs + 1))
 }
@@ -73,7 +100,10 @@ for text in "$top"/bench/descriptors/*.txt; do
     # Many reports, without valgrind.
     runner="$scratch/test"
     for id in 001 002 003 005 032; do
-        { printf "\\$id"; printf '\177\200\001\376\125\252\000\377%.0s' 1 2 3 4 5 6 7 8; } > "$scratch/report"
+        {
+            printf "\\$id"
+            printf '\177\200\001\376\125\252\000\377%.0s' 1 2 3 4 5 6 7 8
+        } > "$scratch/report"
         compare values "$scratch/descriptor" "$scratch/report"
         head -c 2 "$scratch/report" > "$scratch/short"
         compare values "$scratch/descriptor" "$scratch/short"
@@ -86,16 +116,37 @@ for text in "$top"/bench/descriptors/*.txt; do
     done
 done
 
+# A cargo package that names the installed one by its path, and the tests of that.
 if command -v cargo > /dev/null; then
-    cp -r "$top/c/rust" "$scratch/rust"
-    (cd "$scratch/rust" && RUSTFLAGS="-L native=$top/crates/hidreport_c/out -L native=$kit/c" cargo test --offline --quiet) \
+    mkdir -p "$scratch/user/src"
+    cat > "$scratch/user/Cargo.toml" << END
+[package]
+name = "user"
+version = "0.1.0"
+edition = "2021"
+
+[dependencies]
+hidreport-c = { path = "$prefix/share/hidreport/rust" }
+END
+    cat > "$scratch/user/src/main.rs" << 'END'
+use hidreport_c::{describe, Direction, Options};
+
+fn main() {
+    let mouse = b"\x05\x01\x15\x81\x25\x7f\x75\x08\x95\x02\x09\x30\x09\x31\x81\x02";
+    let fields = describe(mouse, Options::default(), Direction::Input).expect("a mouse");
+    let usages: Vec<u32> = fields.iter().map(|field| field.usages.first).collect();
+    assert_eq!(usages, [0x0001_0030, 0x0001_0031]);
+}
+END
+    (cd "$scratch/user" && cargo run --offline --quiet) || wrong 'a cargo program fails'
+    cp -r "$prefix/share/hidreport/rust" "$scratch/rust"
+    (cd "$scratch/rust" && HIDREPORT_LIB_DIR="$prefix/lib" cargo test --offline --quiet) \
         > "$scratch/said" 2>&1 || {
         tail -n 20 "$scratch/said" >&2
-        echo 'from_c: the Rust module fails' >&2
-        exit 1
+        wrong 'the Rust module fails'
     }
 else
     echo 'from_c: no `cargo` on the path, so the Rust module is left out'
 fi
 echo "from_c: a C program shows the values of a mouse, and $runs answers are those of the program"
-bash "$top/checks/c_cases.sh"
+bash "$top/checks/c_cases.sh" "$prefix"

@@ -1,16 +1,28 @@
 /* HID report descriptors read, and values taken from reports (USB HID 1.11).
- * Licence: MIT (LICENSE). Version 0.6.0-9.
+ * Licence: MIT (LICENSE).
  *
- * The functions keep nothing between two calls, and may be called from any thread at once. A pointer to bytes or
- * to an array goes with its length; it may be NULL where that is 0. A caller's array that is too short gets as
- * much as it has room for, and nothing behind it: the answer's count says how much there is, so that a call with
- * no room tells how much to ask for. What is written and what is read must not overlap. */
+ * The functions keep nothing between two calls, and may be called from any thread at once. A
+ * pointer to bytes or to an array goes with its length; it may be NULL where that is 0. A caller's
+ * array that is too short gets as much as it has room for, and nothing behind it: the answer's
+ * count says how much there is, so that a call with no room tells how much to ask for. What is
+ * written and what is read must not overlap. */
 #ifndef HIDREPORT_H
 #define HIDREPORT_H
 
 #include <stdbool.h>
 #include <stddef.h>
 #include <stdint.h>
+
+/* The version of this header: the Rust crate's whose port this is, and the stage of the port. */
+#define HIDREPORT_VERSION_MAJOR 0
+#define HIDREPORT_VERSION_MINOR 6
+#define HIDREPORT_VERSION_PATCH 0
+#define HIDREPORT_VERSION_STAGE 9
+
+/* The same as one number, a byte each, the first as the highest. */
+#define HIDREPORT_VERSION \
+    (HIDREPORT_VERSION_MAJOR * 0x1000000 + HIDREPORT_VERSION_MINOR * 0x10000 \
+     + HIDREPORT_VERSION_PATCH * 0x100 + HIDREPORT_VERSION_STAGE)
 
 #ifdef __cplusplus
 extern "C" {
@@ -21,29 +33,74 @@ enum hidreport_status {
     HIDREPORT_ACCEPTED = 0,
     /* an item of the descriptor can't be read, or has no meaning where it stands */
     HIDREPORT_INVALID_DATA = 1,
-    /* a report's end or a count passes what can be counted, or a field lies outside the report's bytes */
+    /* a report's end or a count passes what can be counted, or a field lies outside the report's
+     * bytes */
     HIDREPORT_OUT_OF_BOUNDS = 2,
     /* the report's first byte isn't the id that the field is read by */
     HIDREPORT_MISMATCHING_REPORT_ID = 3,
     /* memory was refused */
-    HIDREPORT_OUT_OF_MEMORY = 4
+    HIDREPORT_OUT_OF_MEMORY = 4,
+    /* with the item at `offset` the descriptor lists more than the limit of the options */
+    HIDREPORT_BUDGET_EXCEEDED = 5,
+    /* `push` of the options is no enum hidreport_push */
+    HIDREPORT_UNKNOWN_OPTION = 6
 };
 
-/* `direction` */
+/* `direction`; nothing is announced in any other */
 enum hidreport_direction { HIDREPORT_INPUT = 0, HIDREPORT_OUTPUT = 1, HIDREPORT_FEATURE = 2 };
 
-/* `kind` */
+/* `kind` of a field */
 enum hidreport_kind { HIDREPORT_VARIABLE = 0, HIDREPORT_ARRAY = 1, HIDREPORT_CONSTANT = 2 };
 
+/* `kind` of a collection (Section 6.2.2.6); 0x07 to 0x7f are kept for later, 0x80 to 0xff are the
+ * vendor's */
+enum hidreport_collection_kind {
+    HIDREPORT_PHYSICAL = 0,
+    HIDREPORT_APPLICATION = 1,
+    HIDREPORT_LOGICAL = 2,
+    HIDREPORT_REPORT = 3,
+    HIDREPORT_NAMED_ARRAY = 4,
+    HIDREPORT_USAGE_SWITCH = 5,
+    HIDREPORT_USAGE_MODIFIER = 6
+};
+
+/* `push`: what a Push keeps for its Pop (Section 6.2.2.7) */
+enum hidreport_push {
+    HIDREPORT_PUSH_ALL = 0,    /* global and local items, as the Rust crate has it */
+    HIDREPORT_PUSH_GLOBALS = 1 /* global items alone, as Linux has it */
+};
+
+/* How a descriptor is read. Most programs pass HIDREPORT_DEFAULTS. */
+struct hidreport_options {
+    /* The most that may be listed: a field counts 1, with 1 for each usage of an array, for each
+     * collection around the field and for each usage of that; so does a collection, with 1 for each
+     * of its usages. */
+    size_t limit;
+    uint32_t push; /* enum hidreport_push */
+};
+
+/* A limit of 65536: a few bytes can announce 2^32 fields. */
+#define HIDREPORT_DEFAULT_LIMIT 65536
+
+/* No limit: a descriptor takes what memory it asks for, up to all that there is. */
+#define HIDREPORT_NO_LIMIT SIZE_MAX
+
+#ifdef __cplusplus
+#define HIDREPORT_DEFAULTS (hidreport_options{HIDREPORT_DEFAULT_LIMIT, HIDREPORT_PUSH_ALL})
+#else
+#define HIDREPORT_DEFAULTS \
+    ((struct hidreport_options){HIDREPORT_DEFAULT_LIMIT, HIDREPORT_PUSH_ALL})
+#endif
+
 struct hidreport_answer {
-    size_t count;    /* how many there are, whether there was room or not; 0 where `status` isn't 0 */
-    size_t offset;   /* how many bytes stand before the refused item; 0 for a refusal without an offset */
+    size_t count;    /* how many there are, whether there was room or not; 0 where refused */
+    size_t offset;   /* how many bytes stand before the refused item; 0 for a refusal without one */
     uint32_t status; /* enum hidreport_status */
 };
 
 /* A usage has its page in the upper 16 bits. */
 struct hidreport_usages {
-    size_t count;   /* one of a variable field, those that an array's values choose among, none of padding */
+    size_t count;   /* 1, those that an array's values choose among, 0 of padding */
     uint32_t first; /* 0 where there is none */
     uint32_t last;
     bool is_range; /* a minimum and a maximum gave them */
@@ -93,9 +150,29 @@ struct hidreport_field {
     uint8_t report_id;
 };
 
+struct hidreport_report {
+    size_t size_in_bits;  /* the byte of the id counted */
+    size_t size_in_bytes; /* rounded up */
+    size_t field_count;   /* padding counted */
+    bool has_id;          /* the report begins with `id` */
+    uint8_t id;
+};
+
+struct hidreport_collection {
+    uint32_t number; /* counted over the descriptor */
+    uint32_t kind;   /* enum hidreport_collection_kind, or another number */
+    size_t usage_count;
+    uint32_t usage; /* the first of them; 0 where there is none */
+};
+
 struct hidreport_value {
     int64_t number;
     uint32_t status; /* enum hidreport_status: 0, 2 or 3 */
+};
+
+struct hidreport_usage {
+    uint32_t usage; /* 0 where there is none */
+    bool is_meant;  /* the value stands for one */
 };
 
 struct hidreport_item {
@@ -103,33 +180,78 @@ struct hidreport_item {
     size_t size;   /* how many it has, its header among them */
 };
 
-/* The fields that a descriptor announces in a direction, in the order of its reports and of their bits. */
-struct hidreport_answer hidreport_describe(const uint8_t *descriptor, size_t length, uint32_t direction,
+/* The version of the library: HIDREPORT_VERSION of its own header. */
+uint32_t hidreport_version(void);
+
+/* The reports that a descriptor announces in a direction, in the order of their first fields. */
+struct hidreport_answer hidreport_reports(const uint8_t *descriptor, size_t length,
+                                          struct hidreport_options options, uint32_t direction,
+                                          struct hidreport_report *reports, size_t room);
+
+/* The fields that a descriptor announces in a direction, in the order of its reports and of their
+ * bits. */
+struct hidreport_answer hidreport_describe(const uint8_t *descriptor, size_t length,
+                                           struct hidreport_options options, uint32_t direction,
                                            struct hidreport_field *fields, size_t room);
 
-/* The fields of the report that these bytes are of. It depends on nothing of the report but its first byte. */
-struct hidreport_answer hidreport_find(const uint8_t *descriptor, size_t length, uint32_t direction,
+/* The fields of the report that these bytes are of. It depends on nothing of the report but its
+ * first byte. */
+struct hidreport_answer hidreport_find(const uint8_t *descriptor, size_t length,
+                                       struct hidreport_options options, uint32_t direction,
                                        const uint8_t *report, size_t report_length,
                                        struct hidreport_field *fields, size_t room);
 
-/* What is wrong with a descriptor, without a zero at the end; no text where it isn't HIDREPORT_INVALID_DATA. */
-struct hidreport_answer hidreport_message(const uint8_t *descriptor, size_t length, uint8_t *text, size_t room);
+/* The usages of the field with this number, in order; none where no field has it. Here and below
+ * the options are those by which the field was described. */
+struct hidreport_answer hidreport_usages(const uint8_t *descriptor, size_t length,
+                                         struct hidreport_options options, uint32_t field,
+                                         uint32_t *usages, size_t room);
+
+/* The collections that the field with this number lies in, outermost first. */
+struct hidreport_answer hidreport_collections(const uint8_t *descriptor, size_t length,
+                                              struct hidreport_options options, uint32_t field,
+                                              struct hidreport_collection *collections,
+                                              size_t room);
+
+/* All usages of collection `index` of these, counted from 0. */
+struct hidreport_answer hidreport_collection_usages(const uint8_t *descriptor, size_t length,
+                                                    struct hidreport_options options,
+                                                    uint32_t field, size_t index, uint32_t *usages,
+                                                    size_t room);
+
+/* What a descriptor is refused for, without a zero at the end; no text where it is accepted, and
+ * with HIDREPORT_OUT_OF_MEMORY and HIDREPORT_UNKNOWN_OPTION. */
+struct hidreport_answer hidreport_message(const uint8_t *descriptor, size_t length,
+                                          struct hidreport_options options, uint8_t *text,
+                                          size_t room);
 
 /* The items of a descriptor, short and long. */
-struct hidreport_answer hidreport_items(const uint8_t *descriptor, size_t length, struct hidreport_item *items,
-                                        size_t room);
+struct hidreport_answer hidreport_items(const uint8_t *descriptor, size_t length,
+                                        struct hidreport_item *items, size_t room);
 
-/* A descriptor written anew: its items in order, each in its shortest spelling, without long and reserved ones. */
-struct hidreport_answer hidreport_rebuild(const uint8_t *descriptor, size_t length, uint8_t *bytes, size_t room);
+/* A descriptor written anew: its items in order, each in its shortest spelling, without long and
+ * reserved ones. */
+struct hidreport_answer hidreport_rebuild(const uint8_t *descriptor, size_t length, uint8_t *bytes,
+                                          size_t room);
 
-/* Value `index` of a field, counted from 0, in a report with these bytes. It takes no memory, and reads nothing
- * but the report's bytes, whatever numbers the field has. */
+/* What hidreport_items and hidreport_rebuild refuse bytes for, as hidreport_message says of the
+ * others. */
+struct hidreport_answer hidreport_items_message(const uint8_t *descriptor, size_t length,
+                                                uint8_t *text, size_t room);
+
+/* Value `index` of a field, counted from 0, in a report with these bytes. It takes no memory, and
+ * reads nothing but the report's bytes, whatever numbers the field has. */
 struct hidreport_value hidreport_value(const struct hidreport_field *field, const uint8_t *report,
                                        size_t report_length, size_t index);
 
 /* All values of a field in such a report, in order: none written where one of them is refused. */
 struct hidreport_answer hidreport_values(const struct hidreport_field *field, const uint8_t *report,
                                          size_t report_length, int64_t *values, size_t room);
+
+/* The usage that a value of an array stands for, of the usages that hidreport_usages lists for the
+ * field: none outside the logical bounds, as where no key is held. It takes no memory. */
+struct hidreport_usage hidreport_usage_of(const struct hidreport_field *field, int64_t value,
+                                          const uint32_t *usages, size_t usage_count);
 
 #ifdef __cplusplus
 }

@@ -1,6 +1,17 @@
-//! Prints the questions of its input with their answers, as c/cases.c does, by this module's functions.
-use hidreport_c::{Direction, Field, Refusal};
+//! Prints the questions of its input with their answers, as c/cases.c does, by this module's
+//! functions.
+use hidreport_c::{collection_kind, field_kind, status};
+use hidreport_c::{Direction, Field, Options, Refusal, DEFAULT_LIMIT, NO_LIMIT};
+use hidreport_c::{PUSH_ALL, PUSH_GLOBALS};
 use std::io::BufRead;
+
+/// What the last questions gave, for the questions about it.
+#[derive(Default)]
+struct Asked {
+    options: Options,
+    fields: Vec<Field>,
+    usages: Vec<u32>,
+}
 
 fn bytes_of(text: &str) -> Vec<u8> {
     let digits: Vec<char> = text.chars().filter(|c| c.is_ascii_hexdigit()).collect();
@@ -8,38 +19,99 @@ fn bytes_of(text: &str) -> Vec<u8> {
     digits.chunks(2).map(|pair| byte(pair).expect("two digits")).collect()
 }
 
-fn direction_of(word: &str) -> Direction {
+/// Another direction than these can't be named in Rust.
+fn direction_of(word: &str) -> Option<Direction> {
     match word {
-        "input" => Direction::Input,
-        "output" => Direction::Output,
-        _ => Direction::Feature,
+        "input" => Some(Direction::Input),
+        "output" => Some(Direction::Output),
+        "feature" => Some(Direction::Feature),
+        _ => None,
     }
+}
+
+fn options_of(limit: &str, push: &str) -> Options {
+    Options {
+        limit: match limit {
+            "default" => DEFAULT_LIMIT,
+            "none" => NO_LIMIT,
+            _ => limit.parse().expect("a limit"),
+        },
+        push: match push {
+            "all" => PUSH_ALL,
+            "globals" => PUSH_GLOBALS,
+            _ => push.parse().expect("a number"),
+        },
+    }
+}
+
+fn words_of(status: u32) -> &'static str {
+    match status {
+        status::INVALID_DATA => "invalid-data",
+        status::OUT_OF_BOUNDS => "out-of-bounds",
+        status::MISMATCHING_REPORT_ID => "mismatching-report-id",
+        status::OUT_OF_MEMORY => "out-of-memory",
+        status::BUDGET_EXCEEDED => "budget-exceeded",
+        status::UNKNOWN_OPTION => "unknown-option",
+        _ => "?",
+    }
+}
+
+fn kind_of(kind: u32) -> &'static str {
+    match kind {
+        field_kind::VARIABLE => "variable",
+        field_kind::ARRAY => "array",
+        field_kind::CONSTANT => "constant",
+        _ => "?",
+    }
+}
+
+fn collection_of(kind: u32) -> String {
+    String::from(match kind {
+        collection_kind::PHYSICAL => "physical",
+        collection_kind::APPLICATION => "application",
+        collection_kind::LOGICAL => "logical",
+        collection_kind::REPORT => "report",
+        collection_kind::NAMED_ARRAY => "named-array",
+        collection_kind::USAGE_SWITCH => "usage-switch",
+        collection_kind::USAGE_MODIFIER => "usage-modifier",
+        _ => return kind.to_string(),
+    })
 }
 
 /// The list's length, or the refusal; then the list.
 fn counted<T>(answer: Result<Vec<T>, Refusal>) -> Vec<T> {
     match answer {
         Ok(list) => {
-            println!("  count {} offset 0 status 0", list.len());
+            println!("  count {} offset 0 accepted", list.len());
             list
         }
         Err(refusal) => {
-            println!("  count 0 offset {} status {}", refusal.offset, refusal.status);
+            println!("  count 0 offset {} {}", refusal.offset, words_of(refusal.status));
             Vec::new()
         }
+    }
+}
+
+fn say(message: Result<String, u32>) {
+    match message {
+        Ok(text) => println!("  count {} offset 0 accepted\n  {text}", text.len()),
+        Err(status) => println!("  count 0 offset 0 {}\n  ", words_of(status)),
     }
 }
 
 fn print_field(f: &Field) {
     let (u, m, c, g) = (&f.usages, &f.measures, &f.collections, &f.flags);
     let bit = |b: bool| u8::from(b);
-    print!("  #{} kind {} bits {}..{} values {}", f.number, f.kind, f.first_bit, f.end_bit, f.value_count);
-    print!(" usages {} {:08x}..{:08x} {}", u.count, u.first, u.last, bit(u.is_range));
-    print!(" logical {}..{}", m.logical_minimum, m.logical_maximum);
+    print!("  #{} {} bits {}..{}", f.number, kind_of(f.kind), f.first_bit, f.end_bit);
+    print!(" values {} usages {}", f.value_count, u.count);
+    print!(" {:08x}..{:08x} {}", u.first, u.last, bit(u.is_range));
+    print!(" collections {} {}", c.count, c.innermost);
+    println!(" report {} {}", bit(f.has_report_id), f.report_id);
+    print!("    logical {}..{}", m.logical_minimum, m.logical_maximum);
     print!(" physical {} {}", bit(m.has_physical_minimum), m.physical_minimum);
     print!("..{} {}", bit(m.has_physical_maximum), m.physical_maximum);
-    print!(" unit {} {:08x} exponent {} {}", bit(m.has_unit), m.unit, bit(m.has_unit_exponent), m.unit_exponent);
-    print!(" collections {} {} flags ", c.count, c.innermost);
+    print!(" unit {} {:08x}", bit(m.has_unit), m.unit);
+    print!(" exponent {} {} flags ", bit(m.has_unit_exponent), m.unit_exponent);
     for flag in [
         g.is_relative,
         g.wraps,
@@ -51,63 +123,132 @@ fn print_field(f: &Field) {
     ] {
         print!("{}", bit(flag));
     }
-    println!(" report {} {}", bit(f.has_report_id), f.report_id);
+    println!();
 }
 
-fn answer(line: &str, fields: &mut Vec<Field>) {
-    let (question, report) = line.split_once('/').unwrap_or((line, ""));
-    let report = bytes_of(report);
-    let (kind, rest) = question.split_once(' ').unwrap_or((question, ""));
-    let (word, behind) = rest.split_once(' ').unwrap_or((rest, ""));
-    match kind {
-        "describe" | "find" => {
-            let descriptor = bytes_of(behind);
-            *fields = counted(match kind {
-                "find" => hidreport_c::find(&descriptor, direction_of(word), &report),
-                _ => hidreport_c::describe(&descriptor, direction_of(word)),
-            });
-            fields.iter().for_each(print_field);
-        }
-        "value" => {
-            let index = behind.trim().parse().expect("an index");
-            match hidreport_c::value(&fields[word.parse::<usize>().expect("a field")], &report, index) {
-                Ok(number) => println!("  number {number} status 0"),
-                Err(status) => println!("  number 0 status {status}"),
+/// The version that this crate says of itself is that of the library.
+fn version() {
+    let [major, minor, patch, stage] = hidreport_c::version();
+    let same = format!("{major}.{minor}.{patch}-{stage}") == env!("CARGO_PKG_VERSION");
+    println!("  {}", if same { "as here" } else { "not as here" });
+}
+
+impl Asked {
+    fn keep_fields(&mut self, answer: Result<Vec<Field>, Refusal>) {
+        self.fields = counted(answer);
+        self.fields.iter().for_each(print_field);
+    }
+
+    fn keep_usages(&mut self, answer: Result<Vec<u32>, Refusal>) {
+        self.usages = counted(answer);
+        self.usages.iter().for_each(|usage| println!("  {usage:08x}"));
+    }
+
+    /// Questions of a direction.
+    fn ask_direction(&mut self, kind: &str, word: &str, descriptor: &[u8], report: &[u8]) {
+        let Some(direction) = direction_of(word) else {
+            return println!("  count 0 offset 0 accepted");
+        };
+        match kind {
+            "describe" => {
+                self.keep_fields(hidreport_c::describe(descriptor, self.options, direction))
+            }
+            "find" => {
+                self.keep_fields(hidreport_c::find(descriptor, self.options, direction, report))
+            }
+            _ => {
+                for r in counted(hidreport_c::reports(descriptor, self.options, direction)) {
+                    print!("  id {} {} bits {}", u8::from(r.has_id), r.id, r.size_in_bits);
+                    println!(" bytes {} fields {}", r.size_in_bytes, r.field_count);
+                }
             }
         }
-        "values" => {
-            let field = &fields[word.trim().parse::<usize>().expect("a field")];
-            match hidreport_c::values(field, &report) {
+    }
+
+    /// Questions of a field's number.
+    fn ask_number(&mut self, kind: &str, words: &[&str], descriptor: &[u8]) {
+        let number = words[0].parse().expect("a number");
+        match kind {
+            "usages" => self.keep_usages(hidreport_c::usages(descriptor, self.options, number)),
+            "collection-usages" => {
+                let index = words[1].parse().expect("an index");
+                let answer =
+                    hidreport_c::collection_usages(descriptor, self.options, number, index);
+                self.keep_usages(answer);
+            }
+            _ => {
+                for c in counted(hidreport_c::collections(descriptor, self.options, number)) {
+                    print!("  #{} {}", c.number, collection_of(c.kind));
+                    println!(" usages {} {:08x}", c.usage_count, c.usage);
+                }
+            }
+        }
+    }
+
+    /// Questions of a field that was listed.
+    fn ask_field(&self, kind: &str, words: &[&str], report: &[u8]) {
+        let field = &self.fields[words[0].parse::<usize>().expect("a field")];
+        match kind {
+            "value" => {
+                let index = words[1].parse().expect("an index");
+                match hidreport_c::value(field, report, index) {
+                    Ok(number) => println!("  number {number} accepted"),
+                    Err(status) => println!("  number 0 {}", words_of(status)),
+                }
+            }
+            "values" => match hidreport_c::values(field, report) {
                 Ok(values) => {
-                    println!("  count {} offset 0 status 0", values.len());
+                    println!("  count {} offset 0 accepted", values.len());
                     values.iter().for_each(|value| println!("  {value}"));
                 }
-                Err(status) => println!("  count 0 offset 0 status {status}"),
+                Err(status) => println!("  count 0 offset 0 {}", words_of(status)),
+            },
+            _ => {
+                let value = words[1].parse().expect("a value");
+                let usage = hidreport_c::usage_of(field, value, &self.usages);
+                println!("  usage {:08x} {}", usage.unwrap_or(0), u8::from(usage.is_some()));
             }
         }
-        "items" => {
-            for item in counted(hidreport_c::items(&bytes_of(rest))) {
-                println!("  offset {} size {}", item.offset, item.size);
+    }
+
+    fn answer(&mut self, line: &str) {
+        let (question, report) = line.split_once('/').unwrap_or((line, ""));
+        let report = bytes_of(report);
+        let words: Vec<&str> = question.split_whitespace().collect();
+        let descriptor = |from: usize| bytes_of(&words[from..].concat());
+        match words[0] {
+            "version" => version(),
+            "options" => self.options = options_of(words[1], words[2]),
+            kind @ ("reports" | "describe" | "find") => {
+                self.ask_direction(kind, words[1], &descriptor(2), &report)
             }
-        }
-        "rebuild" => {
-            let bytes = counted(hidreport_c::rebuild(&bytes_of(rest)));
-            println!("  {}", bytes.iter().map(|byte| format!("{byte:02x}")).collect::<String>());
-        }
-        _ => {
-            let text = hidreport_c::message(&bytes_of(rest));
-            println!("  count {} offset 0 status 0\n  {text}", text.len());
+            kind @ ("usages" | "collections") => self.ask_number(kind, &words[1..], &descriptor(2)),
+            kind @ "collection-usages" => self.ask_number(kind, &words[1..], &descriptor(3)),
+            kind @ ("value" | "values" | "usage") => self.ask_field(kind, &words[1..], &report),
+            "items" => {
+                for item in counted(hidreport_c::items(&descriptor(1))) {
+                    println!("  offset {} size {}", item.offset, item.size);
+                }
+            }
+            "rebuild" => {
+                let bytes = counted(hidreport_c::rebuild(&descriptor(1)));
+                let digits: String = bytes.iter().map(|byte| format!("{byte:02x}")).collect();
+                println!("  {digits}");
+            }
+            "message" => say(hidreport_c::message(&descriptor(1), self.options)),
+            "items-message" => say(hidreport_c::items_message(&descriptor(1))),
+            other => panic!("no question: {other}"),
         }
     }
 }
 
 fn main() {
-    let mut fields = Vec::new();
+    let mut asked = Asked::default();
     for line in std::io::stdin().lock().lines() {
         let line = line.expect("a line");
         println!("{line}");
         if !line.is_empty() && !line.starts_with('#') {
-            answer(&line, &mut fields);
+            asked.answer(&line);
         }
     }
 }

@@ -2,7 +2,7 @@
 //! Not the Rust crate `hidreport`, which is written in Rust; this one calls what was proved.
 mod sys;
 
-pub use sys::{Field, Item};
+pub use sys::{Collection, Field, Item, Options, Report};
 
 /// The direction of a report.
 #[derive(Clone, Copy, Debug, PartialEq)]
@@ -12,7 +12,54 @@ pub enum Direction {
     Feature = 2,
 }
 
-/// Why a descriptor or a report is refused: the status of `include/hidreport.h`, the offset of the item, and a text where there is one.
+/// Why there is no answer: `status` of a refusal.
+pub mod status {
+    pub const INVALID_DATA: u32 = 1;
+    pub const OUT_OF_BOUNDS: u32 = 2;
+    pub const MISMATCHING_REPORT_ID: u32 = 3;
+    pub const OUT_OF_MEMORY: u32 = 4;
+    pub const BUDGET_EXCEEDED: u32 = 5;
+    pub const UNKNOWN_OPTION: u32 = 6;
+}
+
+/// `kind` of a field.
+pub mod field_kind {
+    pub const VARIABLE: u32 = 0;
+    pub const ARRAY: u32 = 1;
+    pub const CONSTANT: u32 = 2;
+}
+
+/// `kind` of a collection; 0x07 to 0x7f are kept for later, 0x80 to 0xff are the vendor's.
+pub mod collection_kind {
+    pub const PHYSICAL: u32 = 0;
+    pub const APPLICATION: u32 = 1;
+    pub const LOGICAL: u32 = 2;
+    pub const REPORT: u32 = 3;
+    pub const NAMED_ARRAY: u32 = 4;
+    pub const USAGE_SWITCH: u32 = 5;
+    pub const USAGE_MODIFIER: u32 = 6;
+}
+
+/// A limit for bytes that nobody vouches for.
+pub const DEFAULT_LIMIT: usize = 65_536;
+
+/// No limit: a descriptor takes what memory it asks for.
+pub const NO_LIMIT: usize = usize::MAX;
+
+/// A Push keeps global and local items, as the Rust crate has it.
+pub const PUSH_ALL: u32 = 0;
+
+/// A Push keeps global items alone, as Linux has it.
+pub const PUSH_GLOBALS: u32 = 1;
+
+impl Default for Options {
+    fn default() -> Options {
+        Options { limit: DEFAULT_LIMIT, push: PUSH_ALL }
+    }
+}
+
+/// Why a descriptor is refused: a number of `status`, the offset of the item, and a text where
+/// there is one.
 #[derive(Clone, Debug, PartialEq)]
 pub struct Refusal {
     pub status: u32,
@@ -21,7 +68,10 @@ pub struct Refusal {
 }
 
 /// All that a call has, which is asked twice: how much there is, and then for all of it.
-fn listed<T: Clone>(empty: T, call: impl Fn(*mut T, usize) -> sys::Answer) -> Result<Vec<T>, sys::Answer> {
+fn listed<T: Clone>(
+    empty: T,
+    call: impl Fn(*mut T, usize) -> sys::Answer,
+) -> Result<Vec<T>, sys::Answer> {
     let answer = call(std::ptr::null_mut(), 0);
     let mut list = vec![empty; answer.count];
     let answer = call(list.as_mut_ptr(), list.len());
@@ -32,56 +82,121 @@ fn listed<T: Clone>(empty: T, call: impl Fn(*mut T, usize) -> sys::Answer) -> Re
     }
 }
 
-/// What is wrong with a descriptor; no text where its refusal has none.
-pub fn message(descriptor: &[u8]) -> String {
-    // SAFETY: pointers and lengths are those of slices and lists, here and below; a list with no room has length 0.
-    let text = listed(0, |text, room| unsafe {
-        sys::hidreport_message(descriptor.as_ptr(), descriptor.len(), text, room)
-    });
-    String::from_utf8_lossy(&text.unwrap_or_default()).into_owned()
-}
+// SAFETY of all calls below: pointers and lengths are those of slices and lists that live until
+// the call is over, and none that is written overlaps one that is read; no room is a length of 0.
 
-fn refusal(descriptor: &[u8], answer: sys::Answer) -> Refusal {
-    Refusal {
-        status: answer.status,
-        offset: answer.offset,
-        message: message(descriptor),
+fn text_of(call: impl Fn(*mut u8, usize) -> sys::Answer) -> Result<String, u32> {
+    match listed(0, call) {
+        Ok(text) => Ok(String::from_utf8_lossy(&text).into_owned()),
+        Err(answer) => Err(answer.status),
     }
 }
 
-/// The fields that a descriptor announces in a direction.
-pub fn describe(descriptor: &[u8], direction: Direction) -> Result<Vec<Field>, Refusal> {
-    listed(Field::default(), |fields, room| unsafe {
-        sys::hidreport_describe(
-            descriptor.as_ptr(),
-            descriptor.len(),
-            direction as u32,
-            fields,
-            room,
-        )
+/// What a descriptor is refused for, no text where it is accepted; the status where that can't be
+/// said.
+pub fn message(descriptor: &[u8], options: Options) -> Result<String, u32> {
+    text_of(|text, room| unsafe {
+        sys::hidreport_message(descriptor.as_ptr(), descriptor.len(), options, text, room)
     })
-    .map_err(|answer| refusal(descriptor, answer))
+}
+
+/// What `items` and `rebuild` refuse bytes for, as `message` says of the others.
+pub fn items_message(descriptor: &[u8]) -> Result<String, u32> {
+    text_of(|text, room| unsafe {
+        sys::hidreport_items_message(descriptor.as_ptr(), descriptor.len(), text, room)
+    })
+}
+
+/// A list in a descriptor: `call` has its pointer, its length and the options, then the array.
+fn listed_in<T: Clone>(
+    descriptor: &[u8],
+    options: Options,
+    empty: T,
+    call: impl Fn(*const u8, usize, *mut T, usize) -> sys::Answer,
+) -> Result<Vec<T>, Refusal> {
+    let (bytes, length) = (descriptor.as_ptr(), descriptor.len());
+    listed(empty, |list, room| call(bytes, length, list, room)).map_err(|answer| Refusal {
+        status: answer.status,
+        offset: answer.offset,
+        message: message(descriptor, options).unwrap_or_default(),
+    })
+}
+
+/// The reports that a descriptor announces in a direction.
+pub fn reports(
+    descriptor: &[u8],
+    options: Options,
+    direction: Direction,
+) -> Result<Vec<Report>, Refusal> {
+    let empty = Report::default();
+    listed_in(descriptor, options, empty, |bytes, length, list, room| unsafe {
+        sys::hidreport_reports(bytes, length, options, direction as u32, list, room)
+    })
+}
+
+/// The fields that a descriptor announces in a direction.
+pub fn describe(
+    descriptor: &[u8],
+    options: Options,
+    direction: Direction,
+) -> Result<Vec<Field>, Refusal> {
+    let empty = Field::default();
+    listed_in(descriptor, options, empty, |bytes, length, list, room| unsafe {
+        sys::hidreport_describe(bytes, length, options, direction as u32, list, room)
+    })
 }
 
 /// The fields of the report that these bytes are of.
-pub fn find(descriptor: &[u8], direction: Direction, report: &[u8]) -> Result<Vec<Field>, Refusal> {
-    listed(Field::default(), |fields, room| unsafe {
-        sys::hidreport_find(
-            descriptor.as_ptr(),
-            descriptor.len(),
-            direction as u32,
-            report.as_ptr(),
-            report.len(),
-            fields,
-            room,
-        )
+pub fn find(
+    descriptor: &[u8],
+    options: Options,
+    direction: Direction,
+    report: &[u8],
+) -> Result<Vec<Field>, Refusal> {
+    let (first, size) = (report.as_ptr(), report.len());
+    let empty = Field::default();
+    listed_in(descriptor, options, empty, |bytes, length, list, room| unsafe {
+        sys::hidreport_find(bytes, length, options, direction as u32, first, size, list, room)
     })
-    .map_err(|answer| refusal(descriptor, answer))
 }
 
-/// The fields of the input report that these bytes are of.
-pub fn input_fields(descriptor: &[u8], report: &[u8]) -> Result<Vec<Field>, Refusal> {
-    find(descriptor, Direction::Input, report)
+/// The usages of the field with this number, each with its page in the upper 16 bits.
+pub fn usages(descriptor: &[u8], options: Options, field: u32) -> Result<Vec<u32>, Refusal> {
+    listed_in(descriptor, options, 0, |bytes, length, list, room| unsafe {
+        sys::hidreport_usages(bytes, length, options, field, list, room)
+    })
+}
+
+/// The collections that the field with this number lies in, outermost first.
+pub fn collections(
+    descriptor: &[u8],
+    options: Options,
+    field: u32,
+) -> Result<Vec<Collection>, Refusal> {
+    let empty = Collection::default();
+    listed_in(descriptor, options, empty, |bytes, length, list, room| unsafe {
+        sys::hidreport_collections(bytes, length, options, field, list, room)
+    })
+}
+
+/// All usages of collection `index` of these, counted from 0.
+pub fn collection_usages(
+    descriptor: &[u8],
+    options: Options,
+    field: u32,
+    index: usize,
+) -> Result<Vec<u32>, Refusal> {
+    listed_in(descriptor, options, 0, |bytes, length, list, room| unsafe {
+        sys::hidreport_collection_usages(bytes, length, options, field, index, list, room)
+    })
+}
+
+fn items_refusal(descriptor: &[u8], answer: sys::Answer) -> Refusal {
+    Refusal {
+        status: answer.status,
+        offset: answer.offset,
+        message: items_message(descriptor).unwrap_or_default(),
+    }
 }
 
 /// Where the items of a descriptor stand.
@@ -89,7 +204,7 @@ pub fn items(descriptor: &[u8]) -> Result<Vec<Item>, Refusal> {
     listed(Item::default(), |items, room| unsafe {
         sys::hidreport_items(descriptor.as_ptr(), descriptor.len(), items, room)
     })
-    .map_err(|answer| refusal(descriptor, answer))
+    .map_err(|answer| items_refusal(descriptor, answer))
 }
 
 /// A descriptor written anew, each item in its shortest spelling.
@@ -97,12 +212,11 @@ pub fn rebuild(descriptor: &[u8]) -> Result<Vec<u8>, Refusal> {
     listed(0, |bytes, room| unsafe {
         sys::hidreport_rebuild(descriptor.as_ptr(), descriptor.len(), bytes, room)
     })
-    .map_err(|answer| refusal(descriptor, answer))
+    .map_err(|answer| items_refusal(descriptor, answer))
 }
 
 /// One value of a field in a report, counted from 0; else the status of the refusal.
 pub fn value(field: &Field, report: &[u8], index: usize) -> Result<i64, u32> {
-    // SAFETY: as above.
     let value = unsafe { sys::hidreport_value(field, report.as_ptr(), report.len(), index) };
     if value.status == 0 {
         Ok(value.number)
@@ -119,11 +233,27 @@ pub fn values(field: &Field, report: &[u8]) -> Result<Vec<i64>, u32> {
     .map_err(|answer| answer.status)
 }
 
+/// The usage that a value of an array stands for, of the usages that `usages` lists for the field.
+pub fn usage_of(field: &Field, value: i64, usages: &[u32]) -> Option<u32> {
+    let usage = unsafe { sys::hidreport_usage_of(field, value, usages.as_ptr(), usages.len()) };
+    usage.is_meant.then_some(usage.usage)
+}
+
+/// The version of the library, a byte each: that of the Rust crate, and the stage of the port.
+pub fn version() -> [u8; 4] {
+    // SAFETY: it has no arguments.
+    unsafe { sys::hidreport_version() }.to_be_bytes()
+}
+
 #[cfg(test)]
 mod tests {
     use super::*;
 
     const MOUSE: &[u8] = b"\x05\x01\x15\x81\x25\x7f\x75\x08\x95\x02\x09\x30\x09\x31\x81\x02";
+
+    fn input_fields(descriptor: &[u8], report: &[u8]) -> Result<Vec<Field>, Refusal> {
+        find(descriptor, Options::default(), Direction::Input, report)
+    }
 
     #[test]
     fn a_mouse_moves() {
@@ -143,5 +273,14 @@ mod tests {
         assert_eq!((refusal.status, refusal.offset), (1, 2));
         assert_eq!(refusal.message, "Too many Pops, not enough Pushes");
         assert_eq!(input_fields(&[], &[0]).unwrap_err().message, "Empty report descriptor");
+        assert_eq!(items(&[]).unwrap_err().message, "Insufficient data");
+    }
+
+    #[test]
+    fn a_limit_is_kept() {
+        let one = Options { limit: 1, push: PUSH_ALL };
+        let refusal = describe(MOUSE, one, Direction::Input).unwrap_err();
+        assert_eq!((refusal.status, refusal.offset), (5, 14));
+        assert_eq!(refusal.message, "budget exceeded");
     }
 }

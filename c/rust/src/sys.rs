@@ -67,6 +67,25 @@ pub struct Field {
 }
 
 #[repr(C)]
+#[derive(Clone, Copy, Debug, Default, PartialEq)]
+pub struct Report {
+    pub size_in_bits: usize,
+    pub size_in_bytes: usize,
+    pub field_count: usize,
+    pub has_id: bool,
+    pub id: u8,
+}
+
+#[repr(C)]
+#[derive(Clone, Copy, Debug, Default, PartialEq)]
+pub struct Collection {
+    pub number: u32,
+    pub kind: u32,
+    pub usage_count: usize,
+    pub usage: u32,
+}
+
+#[repr(C)]
 #[derive(Clone, Copy, Debug, PartialEq)]
 pub struct Value {
     pub number: i64,
@@ -80,12 +99,39 @@ pub struct Item {
     pub size: usize,
 }
 
-#[link(name = "hidreport_c", kind = "static")]
-#[link(name = "libc_c", kind = "static")]
+#[repr(C)]
+#[derive(Clone, Copy, Debug, PartialEq)]
+pub struct Usage {
+    pub usage: u32,
+    pub is_meant: bool,
+}
+
+/// How a descriptor is read.
+#[repr(C)]
+#[derive(Clone, Copy, Debug, PartialEq)]
+pub struct Options {
+    /// The most that may be listed; `NO_LIMIT` is none.
+    pub limit: usize,
+    /// What a Push keeps: `PUSH_ALL` or `PUSH_GLOBALS`.
+    pub push: u32,
+}
+
 extern "C" {
+    pub fn hidreport_version() -> u32;
+
+    pub fn hidreport_reports(
+        descriptor: *const u8,
+        length: usize,
+        options: Options,
+        direction: u32,
+        reports: *mut Report,
+        room: usize,
+    ) -> Answer;
+
     pub fn hidreport_describe(
         descriptor: *const u8,
         length: usize,
+        options: Options,
         direction: u32,
         fields: *mut Field,
         room: usize,
@@ -94,6 +140,7 @@ extern "C" {
     pub fn hidreport_find(
         descriptor: *const u8,
         length: usize,
+        options: Options,
         direction: u32,
         report: *const u8,
         report_length: usize,
@@ -101,9 +148,38 @@ extern "C" {
         room: usize,
     ) -> Answer;
 
+    pub fn hidreport_usages(
+        descriptor: *const u8,
+        length: usize,
+        options: Options,
+        field: u32,
+        usages: *mut u32,
+        room: usize,
+    ) -> Answer;
+
+    pub fn hidreport_collections(
+        descriptor: *const u8,
+        length: usize,
+        options: Options,
+        field: u32,
+        collections: *mut Collection,
+        room: usize,
+    ) -> Answer;
+
+    pub fn hidreport_collection_usages(
+        descriptor: *const u8,
+        length: usize,
+        options: Options,
+        field: u32,
+        index: usize,
+        usages: *mut u32,
+        room: usize,
+    ) -> Answer;
+
     pub fn hidreport_message(
         descriptor: *const u8,
         length: usize,
+        options: Options,
         text: *mut u8,
         room: usize,
     ) -> Answer;
@@ -122,6 +198,13 @@ extern "C" {
         room: usize,
     ) -> Answer;
 
+    pub fn hidreport_items_message(
+        descriptor: *const u8,
+        length: usize,
+        text: *mut u8,
+        room: usize,
+    ) -> Answer;
+
     pub fn hidreport_value(
         field: *const Field,
         report: *const u8,
@@ -136,4 +219,11 @@ extern "C" {
         values: *mut i64,
         room: usize,
     ) -> Answer;
+
+    pub fn hidreport_usage_of(
+        field: *const Field,
+        value: i64,
+        usages: *const u32,
+        usage_count: usize,
+    ) -> Usage;
 }

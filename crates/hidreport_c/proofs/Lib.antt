@@ -1,2 +1,5 @@
+pub mod FieldsLemmas
+pub mod ListsLemmas
+pub mod UsagesLemmas
 pub mod ValueLemmas
 pub mod ValuesLemmas

@@ -1,14 +1,18 @@
 -- All values of a field, written one after the other.
-use Rattle.std.proofs.Common.{◌≡◌, ℕ, zero, suc, ◌+◌, ◌<◌, List, [], ◌∷◌, ◌++◌, length, take}
+use Rattle.std.proofs.Common.{◌≡◌, ℕ, zero, suc, ◌+◌, ◌<◌, List, [], ◌∷◌, length, take}
 use Rattle.std.proofs.Common.{slice_set, Option, None, Some, IsOk, Result, Ok, Err, Bool, true}
-use Rattle.std.proofs.Common.{false, cond, ◌≤◌, ◌⊎◌, inl, inr, refl, ap, sym, ◌∙◌, arith}
+use Rattle.std.proofs.Common.{false, cond, nat_le, nat_lt, ◌||◌, ◌*◌, ◌-◌, ◌≤◌}
+use Rattle.std.proofs.Common.{◌⊎◌, inl, inr, refl, ap, sym, ◌∙◌, arith}
 use Rattle.std.proofs.Math.Dec.{leb}
 use Rattle.std.proofs.Math.Nat.{min-eq_left, min-eq_right}
 use Rattle.std.proofs.Math.Seq.{drop-nil, take-nil}
-use Rattle.std.proofs.lemmas.Bool.Decides.{leb_tells}
+use Rattle.std.proofs.lemmas.Bool.Decides.{leb_tells, nat_tests}
 use Rattle.std.specs.Prelude.{◌==◌, min, slice_get}
 use Rattle.hidreport.specs.Answer.{Refusal, Bounds, Mismatch}
+use Rattle.hidreport.proofs.ElementLemmas.{elements-last, elements-outside}
 use Rattle.hidreport.specs.Reading.{ValueRecord, before_values, element, each_value, with_id}
+use Rattle.hidreport.specs.Reading.{element_width}
+use Rattle.hidreport_c.proofs.ListsLemmas.{written-none}
 use Rattle.hidreport_c.specs.Answer.{as_answer, offset_of, array_after}
 use Rattle.hidreport_c.specs.Status.{by_status, status_of}
 use Rattle.hidreport_c.specs.Value.{acceptance, elements_at, id_of, value_numbers, values_at}
@@ -21,10 +25,6 @@ accepted-ok (Err refusal) ok = cc
 pub ok-is : (r : Result (List ValueRecord) Refusal) → IsOk r → (xs : List ValueRecord) × (r ≡ Ok xs)
 ok-is (Ok xs) ok = (xs, refl)
 ok-is (Err refusal) ok = cc
-
--- nothing written changes nothing
-pub written-none : {A : Type 0} (old : List A) → array_after [] old ≡ old
-written-none old = ap (λ xs. xs ++ old) (take-nil (length old))
 
 -- one more is written behind those before it
 pub set-written : {A : Type 0} (xs old : List A) (j : ℕ) (x : A) → slice_get xs j ≡ Some x
@@ -69,6 +69,51 @@ elements-length first end count s bytes index (suc more) all h =
     (each_value (element first end count s bytes) (index + 1) more) all h in
     ap length (sym parts.4)
     ∙ ap suc (elements-length first end count s bytes (index + 1) more parts.1 parts.3)
+
+given-unless : (b : Bool) (x : ValueRecord) → b ≡ false
+    → (v : ValueRecord) × (cond b (Err Bounds) (Ok x) ≡ Ok v)
+given-unless true x h = cc
+given-unless false x h = (x, refl)
+
+refused-where : (b : Bool) (x : ValueRecord) → b ≡ true
+    → cond b (Err Bounds) (Ok x) ≡ Err Bounds
+refused-where true x h = refl
+refused-where false x h = cc
+
+-- bits are read where they are 1 to 32, and end within
+inside : (a w n : ℕ) → 0 < w → w ≤ 32 → a + w ≤ n
+    → (nat_le (a + w) a || (nat_lt 32 (a + w - a) || nat_lt n (a + w))) ≡ false
+inside a w n some narrow within = grind (arith, nat_tests)
+
+outside : (a w n : ℕ) → (0 < w → w ≤ 32 → n < a + w)
+    → (nat_le (a + w) a || (nat_lt 32 (a + w - a) || nat_lt n (a + w))) ≡ true
+outside a w n past = grind (arith, nat_tests)
+
+-- one more of the same width
+pub one-more : (w count last : ℕ) → count ≡ last + 1 → w * count ≡ w * last + w
+one-more w count last is = ap (λ n. w * n) is ∙ omega arith
+
+-- all values are there where the last one has 1 to 32 bits and ends in the bytes
+pub elements-accepted : (first end count last : ℕ) (s : Bool) (bytes : List ℕ) (w : ℕ)
+    → count ≡ last + 1 → w ≡ element_width first end count → 0 < w → w ≤ 32
+    → first + w * last + w ≤ 8 * length bytes
+    → IsOk (each_value (element first end count s bytes) 0 count)
+elements-accepted first end count last s bytes w counts is some narrow within =
+    let width = element_width first end count in
+    let found = given-unless _ _ (inside (first + width * last) width (8 * length bytes)
+    (rw (sym is) some) (rw (sym is) narrow) (rw (sym is) within)) in
+    elements-last first end count s bytes count last found.0 counts found.1
+
+-- and none is where it hasn't, or doesn't
+pub elements-past : (first end count last : ℕ) (s : Bool) (bytes : List ℕ) (w : ℕ)
+    → count ≡ last + 1 → w ≡ element_width first end count
+    → (0 < w → w ≤ 32 → 8 * length bytes < first + w * last + w)
+    → each_value (element first end count s bytes) 0 count ≡ Err Bounds
+elements-past first end count last s bytes w counts is past =
+    let width = element_width first end count in
+    elements-outside first end count s bytes count last (omega (arith, counts))
+    (refused-where _ _ (outside (first + width * last) width (8 * length bytes)
+    (rw (sym is) past)))
 
 abbrev given : ValueRecord → Result ValueRecord Refusal
 given x = Ok x

@@ -1,10 +1,16 @@
 -- Lists as C gets them: into an array of the caller's, which may be too short.
 use Rattle.std.specs.Prelude.{◌≡◌, ◌⊎◌, ℕ, List, [], ◌++◌, length, take, drop, Result, Ok, Err}
+use Rattle.std.specs.Prelude.{Option, None, Some}
 use Rattle.hidreport.specs.Answer.{Refusal, InvalidAt, Bounds, Mismatch, OverBudget}
+use Rattle.hidreport.specs.Options.{parse_as}
+use Rattle.hidreport.specs.Records.{DescriptorRecord}
 use Rattle.hidreport.specs.ParserError.{ParserError}
 use Rattle.hidreport.specs.ParserError.TheVariants as errors
+use Rattle.hidreport.specs.declared.parse_options.ParseOptions.{ParseOptions}
+use Rattle.hidreport_c.specs.Options.{options_of}
 use Rattle.hidreport_c.specs.Status.{status_of}
 use Rattle.hidreport_c.specs.declared.answer.HidreportAnswer.{HidreportAnswer}
+use Rattle.hidreport_c.specs.declared.options.HidreportOptions.{HidreportOptions}
 
 -- where the refused item stands in the descriptor, 0 for a refusal without a place
 abbrev pub offset_of : Refusal → ℕ
@@ -13,14 +19,29 @@ offset_of Bounds = 0
 offset_of Mismatch = 0
 offset_of (OverBudget offset) = offset
 
--- how many there are, or why there are none
-abbrev pub as_answer : {A : Type 0} → Result (List A) Refusal → HidreportAnswer
-as_answer (Ok xs) = record { count = length xs; offset = 0; status = 0 }
-as_answer (Err refusal) =
+-- so many, and no refusal
+abbrev pub counted : ℕ → HidreportAnswer
+counted count = record { count = count; offset = 0; status = 0 }
+
+-- none, for a reason without a place
+abbrev pub refused : ℕ → HidreportAnswer
+refused status = record { count = 0; offset = 0; status = status }
+
+-- why there are none
+abbrev pub refusal_as_c : Refusal → HidreportAnswer
+refusal_as_c refusal =
     record { count = 0; offset = offset_of refusal; status = status_of refusal }
 
+-- how many there are, or why there are none
+abbrev pub as_answer : {A : Type 0} → Result (List A) Refusal → HidreportAnswer
+as_answer (Ok xs) = counted (length xs)
+as_answer (Err refusal) = refusal_as_c refusal
+
 abbrev pub no_memory : HidreportAnswer
-no_memory = record { count = 0; offset = 0; status = 4 }
+no_memory = refused 4
+
+abbrev pub unknown_option : HidreportAnswer
+unknown_option = refused 6
 
 -- what an array holds once these are written to it: as many as it has room for, and what stood
 -- behind them
@@ -40,10 +61,40 @@ Lists answer old new told =
     ((told ≡ as_answer answer) × (new ≡ array_after (list_or_nothing answer) old))
     ⊎ ((told ≡ no_memory) × (new ≡ old))
 
+-- a list of what is there, unless it is refused
+abbrev pub listed : {A B : Type 0} → (A → List B) → Result A Refusal → Result (List B) Refusal
+listed parts (Ok x) = Ok (parts x)
+listed parts (Err refusal) = Err refusal
+
+-- the same of what options choose; where they choose nothing, the caller is told so, and the array
+-- is as it was
+abbrev pub ListsBy : {A : Type 0} → (ParseOptions → Result (List A) Refusal)
+    → Option ParseOptions → List A → List A → HidreportAnswer → Type 0
+ListsBy answer None old new told = (told ≡ unknown_option) × (new ≡ old)
+ListsBy answer (Some options) old new told = Lists (answer options) old new told
+
+-- the caller is told of a list in the descriptor that these bytes are, read by these options
+abbrev pub ListsOf : {A : Type 0} → (DescriptorRecord → List A) → HidreportOptions → List ℕ
+    → List A → List A → HidreportAnswer → Type 0
+ListsOf parts options bytes =
+    ListsBy (λ chosen. listed parts (parse_as chosen bytes)) (options_of options)
+
 -- an error as C has it
 abbrev pub error_as_c : ParserError → HidreportAnswer
 error_as_c (errors.InvalidData offset message) = record { count = 0; offset = offset; status = 1 }
-error_as_c errors.OutOfBounds = record { count = 0; offset = 0; status = 2 }
-error_as_c errors.MismatchingReportId = record { count = 0; offset = 0; status = 3 }
+error_as_c errors.OutOfBounds = refused 2
+error_as_c errors.MismatchingReportId = refused 3
 error_as_c errors.OutOfMemory = no_memory
 error_as_c (errors.BudgetExceeded offset) = record { count = 0; offset = offset; status = 5 }
+
+-- an answer that C is told is of this parse, want of memory apart
+abbrev pub Tells : HidreportAnswer → Result DescriptorRecord Refusal → Type 0
+Tells told (Ok descriptor) = told ≡ no_memory
+Tells told (Err refusal) = (told ≡ no_memory) ⊎ (told ≡ refusal_as_c refusal)
+
+-- the descriptor that bytes are, or what C is told
+abbrev pub IsRead : Result DescriptorRecord HidreportAnswer → Option ParseOptions → List ℕ → Type 0
+IsRead (Ok descriptor) None bytes = ⊥
+IsRead (Err told) None bytes = told ≡ unknown_option
+IsRead (Ok descriptor) (Some options) bytes = parse_as options bytes ≡ Ok descriptor
+IsRead (Err told) (Some options) bytes = Tells told (parse_as options bytes)

@@ -1,6 +1,12 @@
 pub mod Answer
+pub mod Collection
 pub mod Describe
 pub mod Field
 pub mod Items
+pub mod Message
+pub mod Numbered
+pub mod Options
+pub mod Report
 pub mod Status
+pub mod Usages
 pub mod Value

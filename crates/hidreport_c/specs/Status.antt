@@ -2,7 +2,7 @@
 use Rattle.std.specs.Prelude.{ℕ, Result, Ok, Err}
 use Rattle.hidreport.specs.Answer.{Refusal, InvalidAt, Bounds, Mismatch, OverBudget}
 
--- 0 is no refusal, 4 is want of memory
+-- 0 is no refusal, 4 is want of memory, 6 an option that says nothing
 abbrev pub status_of : Refusal → ℕ
 status_of (InvalidAt offset message) = 1
 status_of Bounds = 2

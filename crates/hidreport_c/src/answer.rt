@@ -1,12 +1,15 @@
-//! Lists as C gets them: into an array of the caller's, which may be too short.
-ghost use Rattle.std.specs.Prelude.{◌≡◌, List, Result, length};
-ghost use Rattle.hidreport.specs.Answer.{AnswersBy, Refusal};
-ghost use Rattle.hidreport_c.specs.Answer.{Lists, error_as_c, array_after};
+//! What C is told of a list, and how a descriptor is read for it.
+ghost use Rattle.std.specs.Prelude.{◌≡◌, length};
+ghost use Rattle.hidreport_c.specs.Answer.{IsRead, array_after, counted, error_as_c, refused};
+ghost use Rattle.hidreport_c.specs.Options.{options_of};
 
+use crate::options::HidreportOptions;
 use crate::status::{
     ACCEPTED, BUDGET_EXCEEDED, INVALID_DATA, MISMATCHING_REPORT_ID, OUT_OF_BOUNDS, OUT_OF_MEMORY,
+    UNKNOWN_OPTION,
 };
-use hidreport::ParserError;
+use hidreport::{ParserError, ReportDescriptor};
+use std::alloc::Global;
 
 /// How many there are, or why there are none (`struct hidreport_answer`).
 #[repr(C)]
@@ -20,36 +23,49 @@ pub struct HidreportAnswer {
     pub status: u32,
 }
 
-/// Writes what is listed to the array, as much as there is room for, or says why nothing is.
-pub(crate) fn answer<T: Copy + Drop>(
-    listed: Result<Vec<T>, ParserError>,
-    array: &mut [T],
-) -> HidreportAnswer
-    ensures { (answer : Result (List T) Refusal) → AnswersBy (λ list. list.items) listed answer
-        → Lists answer array.old array.new result }
-{
-    match listed {
-        Ok(list) => write_to(&list, array),
-        Err(error) => refusal(&error),
+impl HidreportAnswer {
+    /// So many, and no refusal.
+    pub(crate) fn counted(count: usize) -> HidreportAnswer
+        ensures { result ≡ counted count }
+    {
+        HidreportAnswer {
+            count,
+            offset: 0,
+            status: ACCEPTED,
+        }
+    }
+
+    /// None, for a reason without a place.
+    pub(crate) fn refused(status: u32) -> HidreportAnswer
+        ensures { result ≡ refused status }
+    {
+        HidreportAnswer {
+            count: 0,
+            offset: 0,
+            status,
+        }
     }
 }
 
-/// Writes as many as there is room for.
-fn write_to<T: Copy>(listed: &[T], array: &mut [T]) -> HidreportAnswer
-    ensures count { result ≡ record { count = length listed.now; offset = 0; status = 0 } }
-    ensures written { array.new ≡ array_after listed.now array.old }
+/// The descriptor that bytes are, read by these options, or what C is told in its place.
+pub(crate) fn read(
+    alloc: Global,
+    bytes: &[u8],
+    options: HidreportOptions,
+) -> Result<ReportDescriptor, HidreportAnswer>
+    ensures { IsRead result (options_of options) bytes.now }
 {
-    let count = listed.len().min(array.len());
-    array[..count].copy_from_slice(&listed[..count]);
-    HidreportAnswer {
-        count: listed.len(),
-        offset: 0,
-        status: ACCEPTED,
+    let Some(options) = options.chosen() else {
+        return Err(HidreportAnswer::refused(UNKNOWN_OPTION));
+    };
+    match ReportDescriptor::try_from_with(alloc, bytes, options) {
+        Ok(descriptor) => Ok(descriptor),
+        Err(error) => Err(refusal(&error)),
     }
 }
 
 /// A refusal as its number and its offset.
-fn refusal(error: &ParserError) -> HidreportAnswer
+pub(crate) fn refusal(error: &ParserError) -> HidreportAnswer
     ensures { result ≡ error_as_c error.now }
 {
     let (status, offset) = match error {
@@ -64,4 +80,14 @@ fn refusal(error: &ParserError) -> HidreportAnswer
         offset,
         status,
     }
+}
+
+/// Writes bytes to an array, as many as there is room for.
+pub(crate) fn write_bytes(bytes: &[u8], array: &mut [u8]) -> HidreportAnswer
+    ensures count { result ≡ counted (length bytes.now) }
+    ensures written { array.new ≡ array_after bytes.now array.old }
+{
+    let count = bytes.len().min(array.len());
+    array[..count].copy_from_slice(&bytes[..count]);
+    HidreportAnswer::counted(bytes.len())
 }

@@ -1,35 +1,40 @@
-ghost use Rattle.std.specs.Prelude.{◌≡◌, ◌++◌, IfOk, OnOk, map, option_copied};
+ghost use Rattle.std.specs.Prelude.{◌≡◌, ◌<◌, ◌^◌, Ok, IfSome, length, option_copied};
 ghost use Rattle.hidreport.specs.Lookup.{find_report};
-ghost use Rattle.hidreport.specs.Meaning.{parse};
-ghost use Rattle.hidreport.specs.Answer.{AnswersBy};
-ghost use Rattle.hidreport.specs.Views.{field_record};
-ghost use Rattle.hidreport_c.specs.Answer.{Lists};
-ghost use Rattle.hidreport_c.specs.Describe.{described_fields, fields_as_c, report_fields};
-ghost use Rattle.hidreport_c.specs.Describe.{message_in, reports_in_direction};
-ghost use Rattle.hidreport_c.specs.Field.{as_c};
+ghost use Rattle.hidreport_c.specs.Answer.{Lists, ListsOf};
+ghost use Rattle.hidreport_c.specs.Describe.{described_fields, fields_as_c, found_fields};
+ghost use Rattle.hidreport_c.specs.Describe.{fields_or_none, reports_in_direction};
 
-use crate::answer::{HidreportAnswer, answer};
+use crate::answer::{HidreportAnswer, read};
 use crate::field::HidreportField;
-use hidreport::{Field, ParserError, RDescReport, Report, ReportDescriptor};
-use std::alloc::{AllocError, Global};
+use crate::options::HidreportOptions;
+use crate::part::{write, write_behind};
+use crate::status::OUT_OF_MEMORY;
+use hidreport::{RDescReport, Report, ReportDescriptor};
+use std::alloc::Global;
 
 /// The fields that a descriptor announces in a direction, in the order of its reports and of their
 /// bits (Section 6.2.2): 0 from the device, 1 from the host, 2 features, and none for any other
 /// number.
 ///
 /// As many as there is room for are written; the answer is how many there are. A descriptor is
-/// refused as `ReportDescriptor::try_from` refuses it, and then nothing is written; nor is it
-/// where memory is refused, which is 4.
+/// refused as `ReportDescriptor::try_from_with` refuses it by these options, and then nothing is
+/// written; nor is it where memory is refused, which is 4, or where an option says nothing, which
+/// is 6.
 #[unsafe(no_mangle)]
 pub extern "C" fn hidreport_describe(
     alloc: Global,
     descriptor: &[u8],
+    options: HidreportOptions,
     direction: u32,
     fields: &mut [HidreportField],
 ) -> HidreportAnswer
-    ensures { Lists (described_fields direction descriptor.now) fields.old fields.new result }
+    ensures { ListsOf (described_fields direction) options descriptor.now fields.old fields.new
+        result }
 {
-    answer(fields_described(alloc, descriptor, direction), fields)
+    match read(alloc, descriptor, options) {
+        Ok(descriptor) => write_fields(reports_of(&descriptor, direction), fields),
+        Err(refused) => refused,
+    }
 }
 
 /// The fields of the report that a report's bytes are of (Section 5.6): of a direction's first
@@ -41,70 +46,22 @@ pub extern "C" fn hidreport_describe(
 pub extern "C" fn hidreport_find(
     alloc: Global,
     descriptor: &[u8],
+    options: HidreportOptions,
     direction: u32,
     report: &[u8],
     fields: &mut [HidreportField],
 ) -> HidreportAnswer
-    ensures { Lists (report_fields direction descriptor.now report.now) fields.old fields.new
-        result }
+    ensures { ListsOf (found_fields direction report.now) options descriptor.now fields.old
+        fields.new result }
 {
-    answer(fields_found(alloc, descriptor, direction, report), fields)
-}
-
-/// What is wrong with a descriptor, as text in ASCII without a zero at its end; empty where it is
-/// accepted, or refused with another number than 1.
-#[unsafe(no_mangle)]
-pub extern "C" fn hidreport_message(
-    alloc: Global,
-    descriptor: &[u8],
-    text: &mut [u8],
-) -> HidreportAnswer
-    ensures { Lists (message_in (parse descriptor.now)) text.old text.new result }
-{
-    answer(message(alloc, descriptor), text)
-}
-
-pub(crate) fn fields_described(
-    alloc: Global,
-    descriptor: &[u8],
-    direction: u32,
-) -> Result<Vec<HidreportField>, ParserError>
-    ensures { AnswersBy (λ fields. fields.items) result
-        (described_fields direction descriptor.now) }
-{
-    let descriptor = ReportDescriptor::try_from(alloc, descriptor)?;
-    Ok(fields_of(alloc, reports_of(&descriptor, direction))?)
-}
-
-fn fields_found(
-    alloc: Global,
-    descriptor: &[u8],
-    direction: u32,
-    report: &[u8],
-) -> Result<Vec<HidreportField>, ParserError>
-    ensures { AnswersBy (λ fields. fields.items) result
-        (report_fields direction descriptor.now report.now) }
-{
-    let descriptor = ReportDescriptor::try_from(alloc, descriptor)?;
-    let mut fields = Vec::new(alloc);
-    if let Some(report) = report_of(&descriptor, direction, report) {
-        add_fields(&mut fields, report.fields())?;
-    }
-    Ok(fields)
-}
-
-fn message(alloc: Global, descriptor: &[u8]) -> Result<Vec<u8>, ParserError>
-    ensures { AnswersBy (λ text. text.items) result (message_in (parse descriptor.now)) }
-{
-    match ReportDescriptor::try_from(alloc, descriptor) {
-        Err(ParserError::InvalidData { message, .. }) => Ok(message.into_bytes()),
-        Err(ParserError::OutOfMemory) => Err(ParserError::OutOfMemory),
-        Ok(_) | Err(_) => Ok(Vec::new(alloc)),
+    match read(alloc, descriptor, options) {
+        Ok(descriptor) => write_found(report_of(&descriptor, direction, report), fields),
+        Err(refused) => refused,
     }
 }
 
 /// The reports of a direction.
-fn reports_of(descriptor: &ReportDescriptor, direction: u32) -> &[RDescReport]
+pub(crate) fn reports_of(descriptor: &ReportDescriptor, direction: u32) -> &[RDescReport]
     ensures { result.now ≡ reports_in_direction direction descriptor.now }
 {
     match direction {
@@ -132,23 +89,40 @@ fn report_of<'a>(
     }
 }
 
-/// All fields of these reports.
-fn fields_of(alloc: Global, reports: &[RDescReport]) -> Result<Vec<HidreportField>, AllocError>
-    ensures { IfOk result (λ fields. fields.items ≡ fields_as_c reports.now) }
+/// Writes the fields of a report, if there is one.
+fn write_found(report: Option<&RDescReport>, fields: &mut [HidreportField]) -> HidreportAnswer
+    ensures { Lists (Ok (fields_or_none (option_copied report.entry))) fields.old fields.new
+        result }
 {
-    let mut fields = Vec::new(alloc);
-    for report in reports {
-        add_fields(&mut fields, report.fields())?;
+    match report {
+        Some(report) => write(report.fields(), fields),
+        None => HidreportAnswer::counted(0),
     }
-    Ok(fields)
 }
 
-fn add_fields(fields: &mut Vec<HidreportField>, added: &[Field]) -> Result<(), AllocError>
-    ensures { OnOk result (fields.new.items
-        ≡ fields.old.items ++ map as_c (map field_record added.now)) }
+/// Writes the fields of these reports, those of each behind those of the one before.
+fn write_fields(reports: &[RDescReport], fields: &mut [HidreportField]) -> HidreportAnswer
+    ensures { Lists (Ok (fields_as_c reports.now)) fields.old fields.new result }
 {
-    for field in added {
-        fields.push(HidreportField::new(field))?;
+    let Some(count) = count_fields(reports) else {
+        return HidreportAnswer::refused(OUT_OF_MEMORY);
+    };
+    let mut written = 0;
+    for report in reports {
+        write_behind(report.fields(), written, fields);
+        written += report.fields().len();
     }
-    Ok(())
+    HidreportAnswer::counted(count)
+}
+
+/// How many fields there are; none where there are more than memory could hold.
+fn count_fields(reports: &[RDescReport]) -> Option<usize>
+    ensures counted { IfSome result (λ count. count ≡ length (fields_as_c reports.now)) }
+    ensures fits { IfSome result (λ count. count < 2 ^ 64) }
+{
+    let mut count: usize = 0;
+    for report in reports {
+        count = count.checked_add(report.fields().len())?;
+    }
+    Some(count)
 }

@@ -2,6 +2,7 @@ ghost use Rattle.std.specs.Prelude.{◌≡◌, is_some, pos, unwrap_or};
 ghost use Rattle.hidreport.specs.Views.{field_record};
 ghost use Rattle.hidreport_c.specs.Field.{as_c, collections_as_c, flags_as_c, usages_as_c};
 
+use crate::part::Part;
 use hidreport::{
     Collection, Field, FieldAttributes, LogicalMaximum, LogicalMinimum, PhysicalMaximum,
     PhysicalMinimum, Unit, UnitExponent, Usage,
@@ -11,7 +12,7 @@ use hidreport::{
 const VARIABLE: u32 = 0;
 
 /// `kind` of a field with several values, each of which chooses among usages.
-const ARRAY: u32 = 1;
+pub(crate) const ARRAY: u32 = 1;
 
 /// `kind` of padding.
 const CONSTANT: u32 = 2;
@@ -116,23 +117,24 @@ pub struct HidreportField {
     pub report_id: u8,
 }
 
-impl HidreportField {
-    /// The field with all its parts.
-    pub(crate) fn new(field: &Field) -> HidreportField
-        ensures { result ≡ as_c (field_record field.now) }
-    {
-        let bits = field.bits();
-        let report_id = field.report_id();
+impl Part for Field {
+    type InC = HidreportField;
+
+    ghost in_c = { λ field. as_c (field_record field) };
+
+    fn in_c(&self) -> HidreportField {
+        let bits = self.bits();
+        let report_id = self.report_id();
         HidreportField {
-            number: u32::from(field.id()),
-            kind: kind_of(field),
+            number: u32::from(self.id()),
+            kind: kind_of(self),
             first_bit: bits.start,
             end_bit: bits.end,
-            value_count: value_count_of(field),
-            usages: usages_of(field),
-            measures: measures_of(field),
-            collections: collections_of(field.collections()),
-            flags: flags_of(field),
+            value_count: value_count_of(self),
+            usages: usages_of(self),
+            measures: measures_of(self),
+            collections: collections_of(self.collections()),
+            flags: flags_of(self),
             has_report_id: report_id.is_some(),
             report_id: match report_id {
                 Some(id) => u8::from(id),

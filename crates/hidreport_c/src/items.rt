@@ -1,15 +1,13 @@
-ghost use Rattle.std.specs.Prelude.{◌≡◌, IfOk, map};
 ghost use Rattle.hidreport.specs.Itemising.{as_refusal, itemise};
-ghost use Rattle.hidreport.specs.Answer.{AnswersBy};
 ghost use Rattle.hidreport.specs.Rebuilt.{rebuild_answer};
 ghost use Rattle.hidreport.specs.Spelling.{item_of};
-ghost use Rattle.hidreport_c.specs.Answer.{Lists};
+ghost use Rattle.hidreport_c.specs.Answer.{Lists, listed};
 ghost use Rattle.hidreport_c.specs.Items.{item_as_c, items_as_c};
 
-use crate::answer::{HidreportAnswer, answer};
-use hidreport::ParserError;
+use crate::answer::{HidreportAnswer, refusal, write_bytes};
+use crate::part::{Part, write};
 use hidreport::hid::{Item, ReportDescriptorItem, ReportDescriptorItems, rebuild};
-use std::alloc::{AllocError, Global};
+use std::alloc::Global;
 
 /// Where an item of a descriptor stands, and how many bytes it has (`struct hidreport_item`).
 #[repr(C)]
@@ -21,6 +19,19 @@ pub struct HidreportItem {
     pub size: usize,
 }
 
+impl Part for ReportDescriptorItem {
+    type InC = HidreportItem;
+
+    ghost in_c = { item_as_c };
+
+    fn in_c(&self) -> HidreportItem {
+        HidreportItem {
+            offset: self.offset(),
+            size: self.item().size(),
+        }
+    }
+}
+
 /// The items of a descriptor, in order (Section 6.2.2.1). They are written and counted as
 /// `hidreport_describe` says; bytes that are no items are refused with 1, whatever they would mean.
 #[unsafe(no_mangle)]
@@ -29,10 +40,13 @@ pub extern "C" fn hidreport_items(
     descriptor: &[u8],
     items: &mut [HidreportItem],
 ) -> HidreportAnswer
-    ensures { Lists (items_as_c (as_refusal (itemise item_of descriptor.now)))
+    ensures { Lists (listed items_as_c (as_refusal (itemise item_of descriptor.now)))
         items.old items.new result }
 {
-    answer(items_listed(alloc, descriptor), items)
+    match ReportDescriptorItems::try_from(alloc, descriptor) {
+        Ok(listed) => write(listed.as_slice(), items),
+        Err(error) => refusal(&error),
+    }
 }
 
 /// A descriptor written anew (Section 6.2.2.2), as `hid::rebuild` does: its items without long ones
@@ -47,29 +61,8 @@ pub extern "C" fn hidreport_rebuild(
     ensures { Lists (as_refusal (rebuild_answer (itemise item_of descriptor.now)))
         bytes.old bytes.new result }
 {
-    answer(rebuild(alloc, descriptor), bytes)
-}
-
-fn items_listed(alloc: Global, descriptor: &[u8]) -> Result<Vec<HidreportItem>, ParserError>
-    ensures { AnswersBy (λ items. items.items) result
-        (items_as_c (as_refusal (itemise item_of descriptor.now))) }
-{
-    let items = ReportDescriptorItems::try_from(alloc, descriptor)?;
-    Ok(c_items(alloc, items.as_slice())?)
-}
-
-fn c_items(
-    alloc: Global,
-    entries: &[ReportDescriptorItem],
-) -> Result<Vec<HidreportItem>, AllocError>
-    ensures { IfOk result (λ items. items.items ≡ map item_as_c entries.now) }
-{
-    let mut items = Vec::new(alloc);
-    for entry in entries {
-        items.push(HidreportItem {
-            offset: entry.offset(),
-            size: entry.item().size(),
-        })?;
+    match rebuild(alloc, descriptor) {
+        Ok(rebuilt) => write_bytes(&rebuilt, bytes),
+        Err(error) => refusal(&error),
     }
-    Ok(items)
 }

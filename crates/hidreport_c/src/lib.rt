@@ -3,10 +3,18 @@
 #![tactic(auto)]
 
 mod answer;
+mod collection;
 mod describe;
 mod field;
 mod items;
+mod message;
+mod numbered;
+mod options;
+mod part;
+mod report;
 mod status;
 #[cfg(test)]
 mod tests;
+mod usages;
 mod value;
+mod version;

@@ -15,5 +15,8 @@ pub(crate) const MISMATCHING_REPORT_ID: u32 = 3;
 /// Memory was refused.
 pub(crate) const OUT_OF_MEMORY: u32 = 4;
 
-/// More would be listed than a budget's limit.
+/// More would be listed than the limit.
 pub(crate) const BUDGET_EXCEEDED: u32 = 5;
+
+/// An option has a number that says nothing.
+pub(crate) const UNKNOWN_OPTION: u32 = 6;

@@ -1,10 +1,15 @@
 use crate::answer::HidreportAnswer;
-use crate::describe::{fields_described, hidreport_describe, hidreport_find, hidreport_message};
-use crate::field::HidreportField;
+use crate::collection::{HidreportCollection, hidreport_collection_usages, hidreport_collections};
+use crate::describe::{hidreport_describe, hidreport_find};
+use crate::field::{
+    HidreportCollections, HidreportField, HidreportFlags, HidreportMeasures, HidreportUsages,
+};
 use crate::items::{HidreportItem, hidreport_items, hidreport_rebuild};
+use crate::message::{hidreport_items_message, hidreport_message};
+use crate::options::HidreportOptions;
+use crate::report::{HidreportReport, hidreport_reports};
+use crate::usages::{hidreport_usage_of, hidreport_usages};
 use crate::value::{hidreport_value, hidreport_values};
-use std::alloc::Global;
-use std::test::Fail;
 
 /// The axes of a mouse, a byte each.
 const TWO_AXES: &[u8] = b"\x05\x01\x15\x81\x25\x7f\x75\x08\x95\x02\x09\x30\x09\x31\x81\x02";
@@ -12,6 +17,58 @@ const TWO_AXES: &[u8] = b"\x05\x01\x15\x81\x25\x7f\x75\x08\x95\x02\x09\x30\x09\x
 /// A report with the id 5: three keys that are held, relative to nothing, and padding.
 const KEYS: &[u8] =
     b"\x85\x05\x05\x07\x19\x00\x29\x65\x25\x65\x75\x08\x95\x03\x81\x00\x95\x01\x81\x01";
+
+/// An axis in a physical collection in an application, a mouse.
+const IN_MOUSE: &[u8] =
+    b"\x05\x01\x09\x02\xa1\x01\x09\x01\xa1\x00\x75\x08\x95\x01\x09\x30\x81\x02\xc0\xc0";
+
+/// What `HIDREPORT_DEFAULTS` says.
+const DEFAULTS: HidreportOptions = HidreportOptions {
+    limit: 65_536,
+    push: 0,
+};
+
+/// An element of a caller's array before a call.
+const BLANK: HidreportField = HidreportField {
+    number: 77,
+    kind: 77,
+    first_bit: 0,
+    end_bit: 0,
+    value_count: 0,
+    usages: HidreportUsages {
+        count: 0,
+        first: 0,
+        last: 0,
+        is_range: false,
+    },
+    measures: HidreportMeasures {
+        logical_minimum: 0,
+        logical_maximum: 0,
+        physical_minimum: 0,
+        physical_maximum: 0,
+        unit: 0,
+        unit_exponent: 0,
+        has_physical_minimum: false,
+        has_physical_maximum: false,
+        has_unit: false,
+        has_unit_exponent: false,
+    },
+    collections: HidreportCollections {
+        count: 0,
+        innermost: 0,
+    },
+    flags: HidreportFlags {
+        is_relative: false,
+        wraps: false,
+        is_nonlinear: false,
+        has_no_preferred_state: false,
+        has_null_state: false,
+        is_buffered_bytes: false,
+        is_volatile: false,
+    },
+    has_report_id: false,
+    report_id: 0,
+};
 
 fn is_answer(answer: HidreportAnswer, count: usize, offset: usize, status: u32) -> bool {
     answer.count == count && answer.offset == offset && answer.status == status
@@ -39,94 +96,151 @@ fn has_number(field: &HidreportField, report: &[u8], index: usize, wanted: i64) 
 }
 
 #[test]
-fn a_mouse_is_described_and_read(rt: HostRuntime) -> Result<(), Fail> {
-    assert!(rt;
-        is_answer(
-            hidreport_describe(rt.alloc(), TWO_AXES, 0, &mut []),
-            2,
-            0,
-            0
-        )
-    );
-    assert!(rt;
-        is_answer(
-            hidreport_describe(rt.alloc(), TWO_AXES, 1, &mut []),
-            0,
-            0,
-            0
-        )
-    );
-    assert!(rt;
-        is_answer(
-            hidreport_find(rt.alloc(), TWO_AXES, 0, b"\x05", &mut []),
-            2,
-            0,
-            0
-        )
-    );
-    assert!(rt;
-        is_answer(
-            hidreport_find(rt.alloc(), TWO_AXES, 0, b"", &mut []),
-            0,
-            0,
-            0
-        )
-    );
-    let fields = fields_described(rt.alloc(), TWO_AXES, 0)?;
-    let [x, y] = fields.as_slice() else {
-        panic!(rt; "not two fields");
-    };
-    assert!(rt; is_axis(x, 0, 0x0001_0030) && is_axis(y, 8, 0x0001_0031));
-    assert!(rt; has_number(x, b"\x05\xfb", 0, 5) && has_number(y, b"\x05\xfb", 0, -5));
-    assert_eq!(rt; hidreport_value(y, b"\x05\xfb", 1).status, 2);
-    assert_eq!(rt; hidreport_value(y, b"\x05", 0).status, 2);
-    Ok(())
+fn a_mouse_is_described_and_read(rt: HostRuntime) {
+    let mut fields = [BLANK, BLANK, BLANK];
+    let described = hidreport_describe(rt.alloc(), TWO_AXES, DEFAULTS, 0, &mut fields);
+    assert!(rt; is_answer(described, 2, 0, 0));
+    let [x, y, behind] = fields;
+    assert!(rt; is_axis(&x, 0, 0x0001_0030) && is_axis(&y, 8, 0x0001_0031));
+    assert!(rt; behind.number == 77);
+    assert!(rt; has_number(&x, b"\x05\xfb", 0, 5) && has_number(&y, b"\x05\xfb", 0, -5));
+    assert_eq!(rt; hidreport_value(&y, b"\x05\xfb", 1).status, 2);
+    assert_eq!(rt; hidreport_value(&y, b"\x05", 0).status, 2);
 }
 
 #[test]
-fn an_array_writes_what_there_is_room_for(rt: HostRuntime) -> Result<(), Fail> {
-    let fields = fields_described(rt.alloc(), KEYS, 0)?;
-    let [keys, padding] = fields.as_slice() else {
-        panic!(rt; "not two fields");
-    };
+fn a_report_is_found_by_its_first_byte(rt: HostRuntime) {
+    let none = hidreport_describe(rt.alloc(), TWO_AXES, DEFAULTS, 1, &mut []);
+    assert!(rt; is_answer(none, 0, 0, 0));
+    let found = hidreport_find(rt.alloc(), TWO_AXES, DEFAULTS, 0, b"\x05", &mut []);
+    assert!(rt; is_answer(found, 2, 0, 0));
+    let nothing = hidreport_find(rt.alloc(), TWO_AXES, DEFAULTS, 0, b"", &mut []);
+    assert!(rt; is_answer(nothing, 0, 0, 0));
+}
+
+#[test]
+fn an_array_writes_what_there_is_room_for(rt: HostRuntime) {
+    let mut fields = [BLANK, BLANK];
+    let described = hidreport_describe(rt.alloc(), KEYS, DEFAULTS, 0, &mut fields);
+    assert!(rt; is_answer(described, 2, 0, 0));
+    let [keys, padding] = fields;
     assert!(rt; keys.kind == 1 && keys.usages.is_range && keys.usages.count == 102);
     assert!(rt; keys.has_report_id && keys.report_id == 5);
     assert!(rt; padding.kind == 2 && padding.value_count == 0 && !padding.has_report_id);
     let report = b"\x05\x04\x65\xff\x00";
     let mut two = [7, 7];
-    assert!(rt; is_answer(hidreport_values(keys, report, &mut two), 3, 0, 0) && two == [4, 101]);
+    assert!(rt; is_answer(hidreport_values(&keys, report, &mut two), 3, 0, 0) && two == [4, 101]);
     let mut four = [7, 7, 7, 7];
-    assert!(rt; is_answer(hidreport_values(keys, report, &mut four), 3, 0, 0));
+    assert!(rt; is_answer(hidreport_values(&keys, report, &mut four), 3, 0, 0));
     assert!(rt; four == [4, 101, 255, 7]);
-    assert!(rt;
-        is_answer(
-            hidreport_values(keys, b"\x06\x04\x65\xff", &mut four),
-            0,
-            0,
-            3
-        )
-    );
-    assert!(rt; is_answer(hidreport_values(keys, b"\x05\x04\x65", &mut four), 0, 0, 2));
+    let other = hidreport_values(&keys, b"\x06\x04\x65\xff", &mut four);
+    assert!(rt; is_answer(other, 0, 0, 3));
+    assert!(rt; is_answer(hidreport_values(&keys, b"\x05\x04\x65", &mut four), 0, 0, 2));
     assert!(rt; four == [4, 101, 255, 7]);
-    assert!(rt; is_answer(hidreport_values(padding, b"", &mut four), 0, 0, 0));
-    Ok(())
+    assert!(rt; is_answer(hidreport_values(&padding, b"", &mut four), 0, 0, 0));
 }
 
-fn has_text(alloc: Global, descriptor: &[u8], wanted: &[u8]) -> bool {
-    let mut text = [0; 8];
-    hidreport_message(alloc, descriptor, &mut text).count == wanted.len()
+#[test]
+fn values_stand_for_usages(rt: HostRuntime) {
+    let mut fields = [BLANK];
+    let mut usages = [0; 102];
+    let _ = hidreport_describe(rt.alloc(), KEYS, DEFAULTS, 0, &mut fields);
+    let [keys] = fields;
+    let listed = hidreport_usages(rt.alloc(), KEYS, DEFAULTS, keys.number, &mut usages);
+    assert!(rt; is_answer(listed, 102, 0, 0));
+    assert!(rt; usages[4] == 0x0007_0004 && usages[101] == 0x0007_0065);
+    assert_eq!(rt; hidreport_usage_of(&keys, 4, &usages).usage, 0x0007_0004);
+    assert!(rt; hidreport_usage_of(&keys, 101, &usages).is_meant);
+    assert!(rt; !hidreport_usage_of(&keys, 102, &usages).is_meant);
+    assert!(rt; !hidreport_usage_of(&keys, -1, &usages).is_meant);
+    let unknown = hidreport_usages(rt.alloc(), KEYS, DEFAULTS, 9, &mut usages);
+    assert!(rt; is_answer(unknown, 0, 0, 0));
+}
+
+#[test]
+fn a_field_of_a_mouse_says_so(rt: HostRuntime) {
+    let blank = HidreportCollection {
+        number: 77,
+        kind: 77,
+        usage_count: 77,
+        usage: 77,
+    };
+    let mut collections = [blank, blank, blank];
+    let listed = hidreport_collections(rt.alloc(), IN_MOUSE, DEFAULTS, 0, &mut collections);
+    assert!(rt; is_answer(listed, 2, 0, 0));
+    let [outer, inner, behind] = collections;
+    assert!(rt; (outer.number, outer.kind) == (0, 1) && (inner.number, inner.kind) == (1, 0));
+    assert!(rt; (outer.usage_count, outer.usage) == (1, 0x0001_0002));
+    assert!(rt; inner.usage == 0x0001_0001 && behind.number == 77);
+    let mut usages = [0];
+    let inside = hidreport_collection_usages(rt.alloc(), IN_MOUSE, DEFAULTS, 0, 1, &mut usages);
+    assert!(rt; is_answer(inside, 1, 0, 0) && usages == [0x0001_0001]);
+}
+
+#[test]
+fn a_report_has_its_id_and_its_sizes(rt: HostRuntime) {
+    let blank = HidreportReport {
+        size_in_bits: 77,
+        size_in_bytes: 77,
+        field_count: 77,
+        has_id: false,
+        id: 77,
+    };
+    let mut reports = [blank, blank];
+    let listed = hidreport_reports(rt.alloc(), KEYS, DEFAULTS, 0, &mut reports);
+    assert!(rt; is_answer(listed, 1, 0, 0));
+    let [keys, behind] = reports;
+    assert!(rt; (keys.size_in_bits, keys.size_in_bytes, keys.field_count) == (40, 5, 2));
+    assert!(rt; keys.has_id && keys.id == 5 && behind.id == 77);
+}
+
+fn has_text(answer: HidreportAnswer, text: &[u8], wanted: &[u8]) -> bool {
+    answer.status == 0
+        && answer.count == wanted.len()
         && text.iter().zip(wanted).all(|(a, b)| a == b)
 }
 
 #[test]
 fn a_refusal_has_its_offset_and_its_text(rt: HostRuntime) {
     let pop = b"\x75\x08\xb4";
-    assert!(rt; is_answer(hidreport_describe(rt.alloc(), pop, 0, &mut []), 0, 2, 1));
-    assert!(rt; has_text(rt.alloc(), pop, b"Too many Pops, not enough Pushes"));
-    assert!(rt; has_text(rt.alloc(), TWO_AXES, b""));
+    let refused = hidreport_describe(rt.alloc(), pop, DEFAULTS, 0, &mut []);
+    assert!(rt; is_answer(refused, 0, 2, 1));
+    let mut text = [0; 32];
+    let said = hidreport_message(rt.alloc(), pop, DEFAULTS, &mut text);
+    assert!(rt; has_text(said, &text, b"Too many Pops, not enough Pushes"));
+    let said = hidreport_message(rt.alloc(), TWO_AXES, DEFAULTS, &mut text);
+    assert!(rt; has_text(said, &text, b""));
+    let said = hidreport_message(rt.alloc(), b"", DEFAULTS, &mut text);
+    assert!(rt; has_text(said, &text, b"Empty report descriptor"));
+    let said = hidreport_items_message(rt.alloc(), b"", &mut text);
+    assert!(rt; has_text(said, &text, b"Insufficient data"));
+}
+
+#[test]
+fn a_limit_is_kept(rt: HostRuntime) {
+    let two = HidreportOptions { limit: 2, push: 0 };
+    let one = HidreportOptions { limit: 1, push: 1 };
+    let any = HidreportOptions {
+        limit: usize::MAX,
+        push: 1,
+    };
+    let other = HidreportOptions { limit: 2, push: 2 };
+    let within = hidreport_describe(rt.alloc(), TWO_AXES, two, 0, &mut []);
+    assert!(rt; is_answer(within, 2, 0, 0));
+    let past = hidreport_describe(rt.alloc(), TWO_AXES, one, 0, &mut []);
+    assert!(rt; is_answer(past, 0, 14, 5));
+    let free = hidreport_describe(rt.alloc(), TWO_AXES, any, 0, &mut []);
+    assert!(rt; is_answer(free, 2, 0, 0));
+    let unknown = hidreport_describe(rt.alloc(), TWO_AXES, other, 0, &mut []);
+    assert!(rt; is_answer(unknown, 0, 0, 6));
+    let mut text = [0; 16];
+    let said = hidreport_message(rt.alloc(), TWO_AXES, one, &mut text);
+    assert!(rt; has_text(said, &text, b"budget exceeded"));
     let past = b"\x77\xff\xff\xff\xff\x97\xff\xff\xff\xff\x81\x01\x81\x01";
-    assert!(rt; is_answer(hidreport_describe(rt.alloc(), past, 0, &mut []), 0, 0, 2));
-    assert!(rt; has_text(rt.alloc(), past, b""));
+    let refused = hidreport_describe(rt.alloc(), past, any, 0, &mut []);
+    assert!(rt; is_answer(refused, 0, 0, 2));
+    let said = hidreport_message(rt.alloc(), past, any, &mut text);
+    assert!(rt; has_text(said, &text, b"out of bounds"));
 }
 
 #[test]

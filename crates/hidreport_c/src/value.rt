@@ -1,4 +1,5 @@
-ghost use Rattle.std.specs.Prelude.{◌≡◌, ◌+◌, ◌*◌, ◌<◌, ◌^◌, Err, Ok, IfSome, IsNone, IsOk};
+ghost use Rattle.std.specs.Prelude.{◌≡◌, ◌+◌, ◌*◌, ◌<◌, ◌≤◌, ◌^◌, false, Err, Ok, IfSome};
+ghost use Rattle.std.specs.Prelude.{IsNone, IsOk, IsTrue};
 ghost use Rattle.hidreport.specs.Answer.{Bounds};
 ghost use Rattle.hidreport.specs.Reading.{element_width, reads, with_id};
 ghost use Rattle.hidreport.specs.Records.{FieldRecord};
@@ -58,17 +59,14 @@ pub extern "C" fn hidreport_values(
 ) -> HidreportAnswer
     ensures answer { result ≡ as_answer (value_numbers (values_at field.now report.now)) }
     ensures written { values.new
-        ≡ array_after (list_or_nothing (value_numbers (values_at field.now report.now))) values.old }
+        ≡ array_after (list_or_nothing (value_numbers (values_at field.now report.now)))
+        values.old }
     ensures extract { (read : FieldRecord) → field.now ≡ as_c read
         → values_at field.now report.now ≡ reads read report.now }
 {
     match field.check_values(report) {
         Ok(()) => field.write_values(report, values),
-        Err(status) => HidreportAnswer {
-            count: 0,
-            offset: 0,
-            status,
-        },
+        Err(status) => HidreportAnswer::refused(status),
     }
 }
 
@@ -112,7 +110,7 @@ impl HidreportField {
         }
     }
 
-    /// Whether all values can be read: where the last one can, so can those before it.
+    /// Whether all values can be read.
     fn check_values(&self, report: &[u8]) -> Result<(), u32>
         ensures { result ≡ by_status (acceptance (values_at self.now report.now)) }
     {
@@ -120,16 +118,19 @@ impl HidreportField {
         self.check_elements(report)
     }
 
-    /// The same whatever the report's id.
+    /// The same whatever the report's id: all have the same width, and the last ends in the bytes.
     fn check_elements(&self, report: &[u8]) -> Result<(), u32>
         ensures { result ≡ by_status (acceptance (elements_at self.now report.now)) }
     {
         if self.value_count == 0 {
             return Ok(());
         }
-        match self.element(report, self.element_width(), self.value_count - 1) {
-            Some(_) => Ok(()),
-            None => Err(OUT_OF_BOUNDS),
+        let width = self.element_width();
+        let end = self.first_bit + width * self.value_count;
+        if are_readable(width, end, report.len()) {
+            Ok(())
+        } else {
+            Err(OUT_OF_BOUNDS)
         }
     }
 
@@ -147,11 +148,7 @@ impl HidreportField {
                 values[index] = i64::from(value);
             }
         }
-        HidreportAnswer {
-            count: self.value_count,
-            offset: 0,
-            status: ACCEPTED,
-        }
+        HidreportAnswer::counted(self.value_count)
     }
 
     /// How many bits a value has: the field's bits divided by the number of values, if it isn't 0.
@@ -177,4 +174,12 @@ impl HidreportField {
         let bits = first..first + width;
         FieldValue::from_bits(report, &bits, self.measures.logical_minimum < 0)
     }
+}
+
+/// Whether values of so many bits, of which the last ends at a bit, can be read from so many bytes.
+fn are_readable(width: usize, end: usize, bytes: usize) -> bool
+    ensures readable { IsTrue result → (0 < width) × (width ≤ 32) × (end ≤ 8 * bytes) }
+    ensures outside { result ≡ false → 0 < width → width ≤ 32 → 8 * bytes < end }
+{
+    width > 0 && width <= 32 && end.div_ceil(8) <= bytes
 }

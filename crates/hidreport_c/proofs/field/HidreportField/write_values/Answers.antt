@@ -10,7 +10,7 @@ use Rattle.hidreport.specs.Reading.{element}
 use Rattle.hidreport.specs.Choosing.{value_number}
 use Rattle.hidreport_c.proofs.ValuesLemmas.{element-listed, elements-length, past-least}
 use Rattle.hidreport_c.proofs.ValuesLemmas.{refused-not-ok, set-written, written-whole}
-use Rattle.hidreport_c.specs.Answer.{as_answer, list_or_nothing, array_after}
+use Rattle.hidreport_c.specs.Answer.{as_answer, counted, list_or_nothing, array_after}
 use Rattle.hidreport_c.specs.Value.{elements_at, value_numbers}
 use Rattle.hidreport_c.proofs.field.HidreportField.write_values.Goals as goal
 use Rattle.hidreport_c.proofs.field.HidreportField.write_values.Goals.{in-Some, in_default}
@@ -62,7 +62,7 @@ returns-clause-answer c =
     let count = length-map all value_number
     ∙ elements-length f.first_bit f.end_bit f.value_count is_signed c.args.report.now 0
     f.value_count all c.loop-index.invariant.1 in
-    ap (λ n. record { count = n; offset = 0; status = 0 }) (sym count)
+    c.counted.ensures ∙ ap counted (sym count)
     ∙ ap (λ r. as_answer (value_numbers r)) (sym c.loop-index.invariant.1)
 
 pub returns-clause-written : goal.returns-clause-written

@@ -1,0 +1,24 @@
+-- How C asks for a descriptor to be read (Section 6.2.2.7).
+use Rattle.std.specs.Prelude.{ℕ, ◌==◌, ◌^◌, ◌-◌, if◌then◌else◌, Option, None, Some}
+use Rattle.hidreport.specs.declared.parse_options.ParseOptions.{ParseOptions}
+use Rattle.hidreport.specs.declared.parser.push_keeps.PushKeeps.{PushKeeps}
+use Rattle.hidreport.specs.declared.parser.push_keeps.PushKeeps.TheVariants as push_keeps
+use Rattle.hidreport_c.specs.declared.options.HidreportOptions.{HidreportOptions}
+
+-- what a Push keeps: 0 globals and locals, 1 globals alone
+abbrev pub push_keeps_of : ℕ → Option PushKeeps
+push_keeps_of push =
+    if push == 0 then Some push_keeps.All
+    else (if push == 1 then Some push_keeps.Globals else None)
+
+-- the greatest size is no limit
+abbrev pub limit_of : ℕ → Option ℕ
+limit_of limit = if limit == 2 ^ 64 - 1 then None else Some limit
+
+abbrev pub with_limit : Option ℕ → Option PushKeeps → Option ParseOptions
+with_limit limit None = None
+with_limit limit (Some keeps) = Some (record { push_keeps = keeps; limit = limit })
+
+-- the options as the library has them; none where `push` is no number of them
+abbrev pub options_of : HidreportOptions → Option ParseOptions
+options_of options = with_limit (limit_of options.limit) (push_keeps_of options.push)

@@ -1,0 +1,67 @@
+//! What is wrong with a descriptor, as text.
+ghost use Rattle.hidreport.specs.Itemising.{as_refusal, itemise};
+ghost use Rattle.hidreport.specs.Options.{parse_as};
+ghost use Rattle.hidreport.specs.Spelling.{item_of};
+ghost use Rattle.hidreport_c.specs.Answer.{Lists, ListsBy};
+ghost use Rattle.hidreport_c.specs.Message.{Says, message_in, words_of};
+ghost use Rattle.hidreport_c.specs.Options.{options_of};
+
+use crate::answer::{HidreportAnswer, write_bytes};
+use crate::options::HidreportOptions;
+use crate::status::{OUT_OF_MEMORY, UNKNOWN_OPTION};
+use hidreport::hid::ReportDescriptorItems;
+use hidreport::{ParserError, ReportDescriptor};
+use std::alloc::Global;
+
+/// What a descriptor is refused for by these options, in the words of `ParserError` without the
+/// offset, as text in ASCII without a zero at its end; empty where it is accepted. Where memory is
+/// refused the answer is 4, where an option says nothing 6, without a text.
+#[unsafe(no_mangle)]
+pub extern "C" fn hidreport_message(
+    alloc: Global,
+    descriptor: &[u8],
+    options: HidreportOptions,
+    text: &mut [u8],
+) -> HidreportAnswer
+    ensures { ListsBy (λ chosen. message_in (parse_as chosen descriptor.now)) (options_of options)
+        text.old text.new result }
+{
+    let Some(options) = options.chosen() else {
+        return HidreportAnswer::refused(UNKNOWN_OPTION);
+    };
+    match ReportDescriptor::try_from_with(alloc, descriptor, options) {
+        Ok(_) => HidreportAnswer::counted(0),
+        Err(error) => write_message(&error, text),
+    }
+}
+
+/// What `hidreport_items` and `hidreport_rebuild` refuse bytes for, as text in ASCII without a zero
+/// at its end; empty where these are items. It differs from `hidreport_message` where there are no
+/// bytes, and where items have no meaning.
+#[unsafe(no_mangle)]
+pub extern "C" fn hidreport_items_message(
+    alloc: Global,
+    descriptor: &[u8],
+    text: &mut [u8],
+) -> HidreportAnswer
+    ensures { Lists (message_in (as_refusal (itemise item_of descriptor.now))) text.old text.new
+        result }
+{
+    match ReportDescriptorItems::try_from(alloc, descriptor) {
+        Ok(_) => HidreportAnswer::counted(0),
+        Err(error) => write_message(&error, text),
+    }
+}
+
+/// Writes the message of an error, or says that memory was refused.
+fn write_message(error: &ParserError, text: &mut [u8]) -> HidreportAnswer
+    ensures { Says (words_of error.now) text.old text.new result }
+{
+    match error {
+        ParserError::InvalidData { message, .. } => write_bytes(message.as_bytes(), text),
+        ParserError::OutOfBounds => write_bytes(b"out of bounds", text),
+        ParserError::MismatchingReportId => write_bytes(b"the bytes are of another report", text),
+        ParserError::OutOfMemory => HidreportAnswer::refused(OUT_OF_MEMORY),
+        ParserError::BudgetExceeded { .. } => write_bytes(b"budget exceeded", text),
+    }
+}
