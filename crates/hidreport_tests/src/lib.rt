@@ -8,6 +8,8 @@ mod ample;
 #[cfg(test)]
 mod builder;
 #[cfg(test)]
+mod builder_states;
+#[cfg(test)]
 mod descriptor_builder;
 #[cfg(test)]
 mod failing;
