@@ -1,6 +1,7 @@
 #!/bin/sh
-# Two short descriptors that ask for much are answered within seconds and 100 MB: one of 2^32 - 1 fields is refused for want
-# of memory, and one of collections over 2^24 usages, in which no field lies, has no reports.
+# Two short descriptors that ask for much are answered within seconds and 100 MB: one of 2^32 - 1
+# fields is refused for want of memory, and one of collections over 2^24 usages, in which no field
+# lies, has no reports. Within a limit of 65,536 files are answered in 64 MB, also ones without end.
 # The argument, if any, is the program to look at; else the one that ./hidreport built.
 set -eu
 
@@ -14,13 +15,16 @@ scratch=$(mktemp -d)
 trap 'rm -rf "$scratch"' EXIT
 printf '\001' > "$scratch/report"
 
-# The name, the status and the line that are wanted, of the descriptor in $scratch/NAME.
+# The kilobytes, the status and the line that are wanted, and the words.
 answers() {
-    status=0
-    (ulimit -v 100000 && timeout 5 "$program" values "$scratch/$1" "$scratch/report") > "$scratch/out" 2>&1 || status=$?
+    kilobytes=$1
+    wanted=$2
     printf '%s\n' "$3" > "$scratch/wanted"
-    if [ "$status" -ne "$2" ] || ! cmp -s "$scratch/wanted" "$scratch/out"; then
-        echo "little_memory: $1 ended with $status and:" >&2
+    shift 3
+    status=0
+    (ulimit -v "$kilobytes" && timeout 5 "$program" "$@") > "$scratch/out" 2>&1 || status=$?
+    if [ "$status" -ne "$wanted" ] || ! cmp -s "$scratch/wanted" "$scratch/out"; then
+        echo "little_memory: $* ended with $status and:" >&2
         cat "$scratch/out" >&2
         exit 1
     fi
@@ -34,6 +38,20 @@ while [ "$n" -lt 1020 ]; do
     n=$((n + 1))
 done >> "$scratch/collections"
 
-answers fields 2 'fault: memory'
-answers collections 1 'refused: no report'
-echo 'little memory: 2 answers'
+head -c 65536 /dev/zero | tr '\0' '\244' > "$scratch/pushes"
+mkfifo "$scratch/fifo"
+
+case $program in
+    /*) ;;
+    *) program=$PWD/$program ;;
+esac
+cd "$scratch"
+answers 100000 2 'fault: memory' values fields report
+answers 100000 1 'refused: no report' values collections report
+answers 64000 1 'refused: no report' values-within 65536 pushes report
+answers 64000 2 'fault: too long' values-within 65536 /dev/zero report
+answers 64000 2 'fault: too long' values-within 65536 pushes /dev/zero
+timeout 10 cat /dev/zero > fifo 2> /dev/null &
+answers 64000 2 'fault: too long' values-globals-within 65536 fifo report
+wait
+echo 'little memory: 6 answers'

@@ -2,7 +2,7 @@
 //! words that ask for them.
 use crate::malformed::Malformed;
 use crate::words::{bytes_of, first_of, number_of};
-use hidreport_program::program::{Command, Fault, command_of, request_of, run, status_of};
+use hidreport_program::program::{Command, Fault, command_of, line_of, request_of, run, status_of};
 use hidreport_transfer::{FromRead, RunFault, ToWrite};
 use std::alloc::{AllocError, Global};
 use std::fmt::Write;
@@ -53,7 +53,7 @@ fn add_run(
     Ok(())
 }
 
-/// Appends the status that a run ends with. Gives what it writes.
+/// Appends the status that a run ends with. Gives what it writes, or the line of its fault.
 fn written_by(
     alloc: Global,
     text: &mut String,
@@ -65,13 +65,17 @@ fn written_by(
     let mut report = FromRead::new(report);
     let mut written = Vec::new(alloc);
     let mut out = ToWrite::new(&mut written);
-    let status = match run(alloc, command, &mut descriptor, &mut report, &mut out) {
+    let answer = match run(alloc, command, &mut descriptor, &mut report, &mut out) {
         Err(RunFault::OutOfMemory) => return Err(Malformed::Memory),
-        Err(fault) => status_of(Err(Fault::Run(fault))),
-        Ok(outcome) => status_of(Ok(outcome)),
+        Err(fault) => Err(Fault::Run(fault)),
+        Ok(outcome) => Ok(outcome),
     };
+    let status = status_of(answer);
     writeln!(text, "status {status}")?;
-    String::from_utf8(written).map_err(|_other| Malformed::Bytes)
+    match answer {
+        Err(fault) => Ok(String::from_str(alloc, line_of(fault))?),
+        Ok(_) => String::from_utf8(written).map_err(|_other| Malformed::Bytes),
+    }
 }
 
 /// Answers `words WORD..`: the command and the files that the words ask for; `''` is the empty

@@ -14,13 +14,16 @@ const GENERIC_DESKTOP: u16 = 0x01;
 
 const BUTTONS: u16 = 0x09;
 
+/// The greatest weight of a descriptor that is read, as by those who get it from a device.
+const LIMIT: usize = 65_536;
+
 /// The first and the third button are down, X is 10 and Y is -5.
 static REPORT: [u8; 3] = [0x05, 0x0a, 0xfb];
 
 fn main(rt: HostRuntime) -> Result<()> {
     let bytes = mouse(rt.alloc())?;
     println!(rt; "descriptor {}", hex::encode(rt.alloc(), &bytes)?)?;
-    let descriptor = ReportDescriptor::try_from(rt.alloc(), &bytes)?;
+    let descriptor = ReportDescriptor::try_from_within(rt.alloc(), &bytes, LIMIT)?;
     println!(rt; "report {}", hex::encode(rt.alloc(), &REPORT)?)?;
     let report = descriptor.find_input_report(&REPORT).context("no report")?;
     for field in report.fields() {

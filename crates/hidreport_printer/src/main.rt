@@ -7,6 +7,9 @@ use hidreport::{Collection, Field, RDescReport, Report, ReportDescriptor, Usage}
 use std::rt::{Env, Files};
 use std::{env, fs};
 
+/// The greatest weight of a descriptor that is read: nobody vouches for a file's bytes.
+const LIMIT: usize = 65_536;
+
 /// Prints the usages of a field, its kind with the logical bounds, and what its values stand for.
 macro_rules! print_data {
     ($rt:ident, $kind:literal, $field:ident, $usages:expr) => {{
@@ -27,7 +30,7 @@ fn main(rt: HostRuntime) -> Result<()> {
     for name in names {
         let bytes = fs::read(&rt, &name).context(format_args!("{name}"))?;
         println!(rt; "{name}")?;
-        let descriptor = ReportDescriptor::try_from_within(rt.alloc(), &bytes, 65_536)?;
+        let descriptor = ReportDescriptor::try_from_within(rt.alloc(), &bytes, LIMIT)?;
         print_reports(&rt, "input", descriptor.input_reports())?;
         print_reports(&rt, "output", descriptor.output_reports())?;
         print_reports(&rt, "feature", descriptor.feature_reports())?;

@@ -1,6 +1,6 @@
 -- The words after the program's name, as the bytes of each, and the command that they ask for.
 use Rattle.std.specs.Prelude.{◌≡◌, ◌<◌, ◌^◌, ℕ, Bool, true, false, List, [], length, slice_get}
-use Rattle.std.specs.Prelude.{IsSomeAnd, Option, Some, codes}
+use Rattle.std.specs.Prelude.{IsSomeAnd, Option, Some, None, codes}
 use Rattle.std.specs.Str.Parse.{IsNumeral, digits_value}
 use Rattle.hidreport_program.specs.declared.program.commands.Command.{Command}
 use Rattle.hidreport_program.specs.declared.program.commands.Command.TheVariants.{Items, Values}
@@ -39,6 +39,17 @@ reads_report (ValuesWithin limit) = true
 reads_report ValuesGlobals = true
 reads_report (ValuesGlobalsWithin limit) = true
 reads_report Rebuild = false
+
+-- The greatest number of bytes that a command reads of each of its files, where it has a limit.
+-- A device announces the length of its report descriptor in 16 bits (6.2.1), and that of a report
+-- is asked for in 16 bits (7.2.1).
+abbrev pub input_limit : Command → Option ℕ
+input_limit Items = None
+input_limit Values = None
+input_limit (ValuesWithin limit) = Some 65536
+input_limit ValuesGlobals = None
+input_limit (ValuesGlobalsWithin limit) = Some 65536
+input_limit Rebuild = None
 
 -- the index of the word that names the descriptor's file; a report's is next
 abbrev pub file_index : Command → ℕ

@@ -7,10 +7,13 @@ use hidreport::{Field, Report, ReportDescriptor, Usage};
 use std::rt::{Env, Files};
 use std::{env, fmt, fs};
 
+/// The greatest weight of a descriptor that is read: nobody vouches for a file's bytes.
+const LIMIT: usize = 65_536;
+
 fn main(rt: HostRuntime) -> Result<()> {
     let name = env::args(&rt)?.nth(1);
     let name = name.context("usage: hidreport_remapper DESCRIPTOR < REPORTS")?;
-    let descriptor = ReportDescriptor::try_from(rt.alloc(), &fs::read(&rt, &name)?)?;
+    let descriptor = ReportDescriptor::try_from_within(rt.alloc(), &fs::read(&rt, &name)?, LIMIT)?;
     for line in rt.lines(rt.alloc()) {
         print_report(&rt, &descriptor, &hex::decode(rt.alloc(), line?)?)?;
     }

@@ -2,7 +2,7 @@
 use crate::written::are_bytes;
 use hidreport::hid::{
     CollectionItem, HidError, ItemBuilder, ItemType, LocalItem, ReportDescriptorBuilder,
-    ReportDescriptorBuilderC8, ReportDescriptorBuilderState,
+    ReportDescriptorBuilderState,
 };
 use hidreport::types::{
     LogicalMaximum, LogicalMinimum, ReportCount, ReportSize, UsageId, UsageMaximum, UsageMinimum,
@@ -79,46 +79,6 @@ fn items_without_bytes_are_refused(rt: HostRuntime) {
         assert!(rt; matches!(only(rt.alloc(), item), Err(HidError::InsufficientData)));
         assert!(rt; matches!(between(rt.alloc(), item), Err(HidError::InsufficientData)));
     }
-}
-
-/// A builder in eight open collections.
-fn inmost(alloc: Global) -> Result<ReportDescriptorBuilder<ReportDescriptorBuilderC8>, HidError> {
-    let physical = CollectionItem::Physical;
-    ReportDescriptorBuilder::new(alloc)
-        .open_collection(physical)?
-        .open_collection(physical)?
-        .open_collection(physical)?
-        .open_collection(physical)?
-        .open_collection(physical)?
-        .open_collection(physical)?
-        .open_collection(physical)?
-        .open_collection(physical)
-}
-
-/// The builder's bytes with a Push and its Pop, once all collections are closed.
-fn outmost(
-    builder: ReportDescriptorBuilder<ReportDescriptorBuilderC8>,
-) -> Result<Vec<u8>, HidError> {
-    builder
-        .push()?
-        .pop()?
-        .close_collection()?
-        .close_collection()?
-        .close_collection()?
-        .close_collection()?
-        .close_collection()?
-        .close_collection()?
-        .close_collection()?
-        .close_collection()?
-        .build()
-}
-
-#[test]
-fn eight_collections_and_a_push(rt: HostRuntime) -> Result<(), Fail> {
-    let bytes = b"\xa1\x00\xa1\x00\xa1\x00\xa1\x00\xa1\x00\xa1\x00\xa1\x00\xa1\x00\xa4\xb4\
-          \xc0\xc0\xc0\xc0\xc0\xc0\xc0\xc0";
-    assert!(rt; are_bytes(outmost(inmost(rt.alloc())?), bytes));
-    Ok(())
 }
 
 /// The mouse of Appendix E.10.

@@ -4,7 +4,11 @@
 #![tactic(auto)]
 
 #[cfg(test)]
+mod ample;
+#[cfg(test)]
 mod builder;
+#[cfg(test)]
+mod builder_states;
 #[cfg(test)]
 mod descriptor_builder;
 #[cfg(test)]

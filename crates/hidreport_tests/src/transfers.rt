@@ -133,6 +133,7 @@ fn statuses_and_lines(rt: HostRuntime) {
     let rows = [
         (Fault::Open, "fault: open"),
         (Fault::Run(RunFault::Read), "fault: read"),
+        (Fault::Run(RunFault::TooLong), "fault: too long"),
         (Fault::Run(RunFault::Write), "fault: write"),
         (Fault::Run(RunFault::OutOfMemory), "fault: memory"),
     ];

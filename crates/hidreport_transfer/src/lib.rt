@@ -6,10 +6,12 @@ mod ends;
 #[cfg(test)]
 mod failing;
 mod fault;
+mod limited;
 #[cfg(test)]
 mod tests;
 mod transfer;
 
 pub use ends::{Failed, FromRead, Sink, Source, ToWrite};
 pub use fault::RunFault;
+pub use limited::read_to_end_within;
 pub use transfer::{read_to_end, write_all};

@@ -2,6 +2,7 @@
 use crate::ends::{Failed, FromRead, Sink, Source, ToWrite};
 use crate::failing::{FailingSink, FailingSource, FlakyReader, FullWriter};
 use crate::fault::RunFault;
+use crate::limited::read_to_end_within;
 use crate::transfer::{read_to_end, write_all};
 use std::test::Fail;
 
@@ -86,5 +87,63 @@ fn write_of_nothing_fails(rt: HostRuntime) -> Result<(), Fail> {
     assert_eq!(rt; sink.write(b""), Ok(0));
     assert_eq!(rt; sink.write(b"x"), Err(Failed));
     assert_eq!(rt; sink.write(b""), Err(Failed));
+    Ok(())
+}
+
+#[test]
+fn reads_all_within_a_limit(rt: HostRuntime) -> Result<(), Fail> {
+    for limit in [19, 20, 700, usize::MAX] {
+        let mut source = FromRead::new(WORDS);
+        let bytes = read_to_end_within(rt.alloc(), &mut source, limit)?;
+        assert_eq!(rt; bytes.as_slice(), WORDS);
+        assert_eq!(rt; read_to_end_within(rt.alloc(), &mut source, 0)?.len(), 0);
+    }
+    let many = vec![in rt.alloc(); 7u8; 1500]?;
+    let mut source = FromRead::new(many.as_slice());
+    let bytes = read_to_end_within(rt.alloc(), &mut source, 1500)?;
+    assert_eq!(rt; bytes.as_slice(), many.as_slice());
+    Ok(())
+}
+
+// Of nineteen bytes eighteen are read: "g" is left.
+#[test]
+fn past_a_limit_nothing_is_read(rt: HostRuntime) -> Result<(), Fail> {
+    let mut source = FromRead::new(WORDS);
+    let answer = read_to_end_within(rt.alloc(), &mut source, 17);
+    assert_eq!(rt; answer.err(), Some(RunFault::TooLong));
+    assert_eq!(rt;
+        read_to_end(rt.alloc(), &mut source)?.as_slice(),
+        b"g".as_slice()
+    );
+    let mut source = FromRead::new(WORDS);
+    let answer = read_to_end_within(rt.alloc(), &mut source, 18);
+    assert_eq!(rt; answer.err(), Some(RunFault::TooLong));
+    Ok(())
+}
+
+#[test]
+fn an_endless_reader_is_left(rt: HostRuntime) {
+    for limit in [0, 1, 512, 700] {
+        let mut reader = FlakyReader {
+            reads: 0,
+            bad_read: 0,
+        };
+        let mut source = FromRead::new(&mut reader);
+        let answer = read_to_end_within(rt.alloc(), &mut source, limit);
+        assert_eq!(rt; answer.err(), Some(RunFault::TooLong));
+        assert_eq!(rt; reader.reads, limit + 1);
+    }
+}
+
+#[test]
+fn failed_read_within_a_limit(rt: HostRuntime) -> Result<(), Fail> {
+    for good_reads in 0..8 {
+        let mut source = FailingSource::new(FromRead::new(WORDS), good_reads);
+        let answer = read_to_end_within(rt.alloc(), &mut source, 19);
+        assert_eq!(rt; answer.err(), Some(RunFault::Read));
+    }
+    let mut source = FailingSource::new(FromRead::new(WORDS), 8);
+    let bytes = read_to_end_within(rt.alloc(), &mut source, 19)?;
+    assert_eq!(rt; bytes.as_slice(), WORDS);
     Ok(())
 }

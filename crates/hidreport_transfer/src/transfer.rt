@@ -7,7 +7,8 @@ use crate::ends::{Sink, Source};
 use crate::fault::RunFault;
 use std::alloc::Global;
 
-const CHUNK: usize = 512;
+/// How many bytes a read asks for at most.
+pub(crate) const CHUNK: usize = 512;
 
 /// The bytes that `source` has left, read to its end.
 ///
@@ -17,6 +18,7 @@ pub fn read_to_end<S: Source>(alloc: Global, source: &mut S) -> Result<Vec<u8>, 
     ensures end { OnOk result (IsAtEnd (S.left source.new)) }
     ensures failed { IsErrOf result RunFault.Read ↔ IsTrue (S.has_failed source.new) }
     ensures no_write { ¬ IsErrOf result RunFault.Write }
+    ensures no_limit { ¬ IsErrOf result RunFault.TooLong }
 {
     let mut bytes = Vec::new(alloc);
     let mut buffer = [0u8; CHUNK];

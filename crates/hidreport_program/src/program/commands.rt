@@ -1,8 +1,13 @@
 //! The commands, and the words that ask for them.
 ghost use Rattle.std.specs.Prelude.{◌≡◌, IfSome, IsNone, map, string_bytes};
-ghost use Rattle.hidreport_program.specs.Command.{AsksFor, reads_report};
+ghost use Rattle.hidreport_program.specs.Command.{AsksFor, input_limit, reads_report};
 
 use super::limits::limit_of;
+
+/// The most bytes that a command with a limit reads of a file. A device announces the length of its
+/// report descriptor in 16 bits (USB HID 1.11, 6.2.1), and that of a report is asked for in 16 bits
+/// (7.2.1).
+const INPUT_LIMIT: usize = 65_536;
 
 /// What the program is asked to do.
 #[derive(Debug, Clone, Copy, PartialEq)]
@@ -11,11 +16,12 @@ pub enum Command {
     Items,
     /// The fields of a report, with their values.
     Values,
-    /// The same, unless listing the descriptor's fields passes this limit.
+    /// The same, unless listing the descriptor's fields passes this limit, or a file is longer than
+    /// 65,536 bytes.
     ValuesWithin(usize),
     /// The same as `Values`, of a descriptor whose Pushes keep globals alone.
     ValuesGlobals,
-    /// The same, unless listing the descriptor's fields passes this limit.
+    /// The same under a limit, as `ValuesWithin`.
     ValuesGlobalsWithin(usize),
     /// The canonical bytes of a descriptor's items.
     Rebuild,
@@ -34,13 +40,25 @@ impl Command {
             Command::Items | Command::Rebuild => false,
         }
     }
+
+    /// The most bytes that it reads of each of its files: 65,536 where it has a limit, and else any
+    /// number.
+    pub fn input_limit(self) -> Option<usize>
+        ensures { result ≡ input_limit self }
+    {
+        match self {
+            Command::ValuesWithin(_) | Command::ValuesGlobalsWithin(_) => Some(INPUT_LIMIT),
+            Command::Items | Command::Values | Command::ValuesGlobals | Command::Rebuild => None,
+        }
+    }
 }
 
 /// The command that `words` ask for, the words after the program's name.
 ///
 /// It is the one whose name is the first word, with one more word for `items` and `rebuild`, the
 /// name of a file, two for `values` and `values-globals`, and for `values-within` and
-/// `values-globals-within` a limit before these two: one or more ASCII digits, of a number that a `usize` holds.
+/// `values-globals-within` a limit before these two: one or more ASCII digits, of a number that a
+/// `usize` holds.
 /// Answers `None` for all other words: none, an unknown first word, one missing or one too many,
 /// another limit.
 pub fn command_of(words: &[String]) -> Option<Command>
