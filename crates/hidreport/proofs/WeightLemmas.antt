@@ -6,7 +6,7 @@ use Rattle.std.proofs.Math.Nat.{suc-mul}
 use Rattle.std.proofs.lemmas.Bool.Decides.{nat_tests}
 use Rattle.std.proofs.lemmas.List.Sums.{sum_by-cons}
 use Rattle.hidreport_items.specs.Flags.{Flags}
-use Rattle.hidreport.specs.Faults.{data_fault, id_count, last_end, limit_fault}
+use Rattle.hidreport.specs.Faults.{Counts, data_fault, id_count, last_end, limit_fault}
 use Rattle.hidreport.specs.Fields.{attributes, each_from, field_count, fields_of, list_or_none}
 use Rattle.hidreport.specs.Fields.{Beginning, beginning_at, make_fields, make_place, usage_at}
 use Rattle.hidreport.specs.ItemState.{ItemState, first_of}
@@ -115,28 +115,25 @@ within-limits start bits fields n fits ids =
     let few : nat_lt id_count (fields + n) ≡ false = grind (arith, nat_tests) in
     ap (λ b. limit_fault (b || nat_lt id_count (fields + n))) near ∙ ap limit_fault few
 
+counted-faultless : (n : Counts) (f : ItemState) (flags : Flags) (e : Extent)
+    → extent f ≡ Some e → usages_fault flags f ≡ None → n.start + e.size * e.count < 2 ^ 64
+    → n.fields + field_count flags e.count ≤ 2 ^ 32 → data_fault n f flags (extent f) ≡ None
+counted-faultless n f flags e made usable fits ids =
+    ap (data_fault n f flags) made
+    ∙ ap (λ o. first_of o (limit_fault (nat_lt last_end (n.start + e.size * e.count)
+    || nat_lt id_count (n.fields + field_count flags e.count)))) usable
+    ∙ within-limits n.start (e.size * e.count) n.fields (field_count flags e.count) fits ids
+
 faultless : (h : StateRecord) (d : Direction) (flags : Flags) (e : Extent)
     → extent h.item_state ≡ Some e → usages_fault flags h.item_state ≡ None
     → start_in d h + e.size * e.count < 2 ^ 64 → h.fields + field_count flags e.count ≤ 2 ^ 32
     → fault_in h (item_with d flags) ≡ None
-faultless h Input flags e made usable fits ids =
-    ap (data_fault (counts_in h (item_with Input flags)) h.item_state flags) made
-    ∙ ap (λ o. first_of o (limit_fault (nat_lt last_end (start_in Input h + e.size * e.count)
-    || nat_lt id_count (h.fields + field_count flags e.count)))) usable
-    ∙ within-limits (start_in Input h) (e.size * e.count) h.fields (field_count flags e.count)
-    fits ids
-faultless h Output flags e made usable fits ids =
-    ap (data_fault (counts_in h (item_with Output flags)) h.item_state flags) made
-    ∙ ap (λ o. first_of o (limit_fault (nat_lt last_end (start_in Output h + e.size * e.count)
-    || nat_lt id_count (h.fields + field_count flags e.count)))) usable
-    ∙ within-limits (start_in Output h) (e.size * e.count) h.fields (field_count flags e.count)
-    fits ids
-faultless h Feature flags e made usable fits ids =
-    ap (data_fault (counts_in h (item_with Feature flags)) h.item_state flags) made
-    ∙ ap (λ o. first_of o (limit_fault (nat_lt last_end (start_in Feature h + e.size * e.count)
-    || nat_lt id_count (h.fields + field_count flags e.count)))) usable
-    ∙ within-limits (start_in Feature h) (e.size * e.count) h.fields (field_count flags e.count)
-    fits ids
+faultless h Input flags e =
+    counted-faultless (counts_in h (item_with Input flags)) h.item_state flags e
+faultless h Output flags e =
+    counted-faultless (counts_in h (item_with Output flags)) h.item_state flags e
+faultless h Feature flags e =
+    counted-faultless (counts_in h (item_with Feature flags)) h.item_state flags e
 
 pub data-faultless : (h now : StateRecord) (g : ItemState) (d : Direction) (flags : Flags)
     (e : Extent) (key : Option ℕ) (first n : ℕ) → h ≡ now → g ≡ h.item_state
