@@ -35,12 +35,12 @@ ask() {
 cc -std=c11 -Wall -Wextra -Werror -O2 -I"$prefix/include" -o "$scratch/cases" "$top/c/cases.c" \
     -L"$prefix/lib" -lhidreport
 ask 'a C program' "$scratch/cases"
-if command -v cargo > /dev/null; then
+if cargo --version > /dev/null 2>&1; then
     cp -r "$prefix/share/hidreport/rust" "$scratch/rust"
     (cd "$scratch/rust" && HIDREPORT_LIB_DIR="$prefix/lib" \
         cargo build --offline --quiet --example cases) ||
         { echo 'c_cases: the Rust module is not built'; exit 1; }
     ask 'a Rust program' "$scratch/rust/target/debug/examples/cases"
 else
-    echo 'c_cases: no `cargo` on the path, so the Rust module is not asked'
+    echo 'c_cases: no `cargo` that runs, so the Rust module is not asked'
 fi

@@ -13,7 +13,7 @@ repository=${1:-$(dirname "$0")/..}
 make_probe refused_memory "$repository" hidreport_types hidreport_items hidreport_lists hidreport hidreport_transfer hidreport_program
 
 # More allocations than the calls make together.
-all=500
+all=600
 
 # The tests of a module that has a function `count_refused`.
 write_refusals() {
