@@ -5,10 +5,12 @@
 pub mod attributes;
 pub mod bits;
 pub mod budgets;
+pub mod canonical;
 pub mod choosing;
 pub mod collections;
 pub mod faults;
 pub mod filling;
+pub mod itemising;
 pub mod items;
 pub mod keeping;
 pub mod laws;

@@ -4,6 +4,7 @@ ghost use Rattle.hidreport.specs.Answer.{InvalidAt};
 ghost use Rattle.hidreport.specs.GlobalItem.TheVariants as global;
 ghost use Rattle.hidreport.specs.ItemType.TheVariants as item;
 ghost use Rattle.hidreport.specs.LocalItem.TheVariants as local;
+ghost use Rattle.hidreport.specs.MainItem.TheVariants as main;
 ghost use Rattle.hidreport.specs.MeaningFault.{TooManyEnds};
 ghost use Rattle.hidreport.specs.Segments.{IsMatched, moved_fault, with_segment};
 ghost use Rattle.hidreport_definitions.specs.Summary.{Variable, Report, summary, inputs};
@@ -15,6 +16,13 @@ pub fn segments_can_be_matched()
     ensures none { IsMatched [] }
     ensures nested { IsMatched (item.Global global.Push ∷ item.Global (global.ReportSize 16)
         ∷ item.Global global.Pop ∷ []) }
+{}
+
+/// A main item among the items, a Pop before its Push, or a Push left open.
+pub fn segments_can_be_unmatched()
+    ensures main_item { IsMatched (item.Main main.EndCollection ∷ []) → ⊥ }
+    ensures pop_first { IsMatched (item.Global global.Pop ∷ item.Global global.Push ∷ []) → ⊥ }
+    ensures left_open { IsMatched (item.Global global.Push ∷ []) → ⊥ }
 {}
 
 /// A segment is a Push, its items and a Pop, between other items; what stands behind it comes so
