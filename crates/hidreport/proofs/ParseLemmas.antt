@@ -1,13 +1,14 @@
 -- From the walk over the entries to the answer.
-use Rattle.std.proofs.Common.{◌≡◌, ◌≢◌, ℕ, zero, suc, ◌+◌, ◌<◌, ◌≤◌, false, List, [], ◌∷◌, length}
-use Rattle.std.proofs.Common.{get_or, drop, map, Option, None, Some, IfSome, Result, Ok, Err, refl}
-use Rattle.std.proofs.Common.{sym, ap, ◌∙◌, subst, arith, add-one}
+use Rattle.std.proofs.Common.{◌≡◌, ◌≢◌, ℕ, suc, ◌+◌, false, List, [], ◌∷◌}
+use Rattle.std.proofs.Common.{map, Option, None, Some, IfSome, IsOk, Result, Ok, Err, refl}
+use Rattle.std.proofs.Common.{sym, ap, ◌∙◌, subst, arith}
 use Rattle.hidreport_items.specs.Answer.{GrammarFault}
 use Rattle.hidreport_items.specs.Spelling.{item_of}
 use Rattle.hidreport_items.specs.declared.item.ItemType.{ItemType}
 use Rattle.hidreport_lists.specs.Answer.{Refusal, InvalidAt, Bounds, OverBudget, Refuses}
 use Rattle.hidreport_lists.specs.Entry.{Entry}
-use Rattle.hidreport_lists.specs.Itemising.{itemise, as_refusal}
+use Rattle.hidreport_lists.specs.Itemising.{itemise, items_from}
+use Rattle.hidreport_lists.proofs.ItemLemmas.{with_front}
 use Rattle.hidreport_lists.specs.Messages.{grammar_message}
 use Rattle.hidreport_lists.specs.declared.error.ParserError.{ParserError}
 use Rattle.hidreport_lists.specs.declared.error.ParserError.TheVariants as errors
@@ -20,7 +21,6 @@ use Rattle.hidreport.specs.Parser.Machine.{StateRecord, fault_in, next_state, un
 use Rattle.hidreport.specs.Parser.Machine.{go_on}
 use Rattle.hidreport.specs.Parser.Machine.{first_state}
 use Rattle.hidreport.specs.Meaning.{parse_by, parse_items, at_offset, offset_at, refusal_at}
-use Rattle.hidreport.specs.Records.{DescriptorRecord}
 use Rattle.hidreport.specs.Parser.Refusals.{IsFaultOf, IsRefusal, fault_named}
 use Rattle.hidreport.specs.declared.parser.fault.Fault.{Fault}
 use Rattle.hidreport.specs.declared.parser.push_keeps.PushKeeps.{PushKeeps}
@@ -31,26 +31,6 @@ use Rattle.hidreport.proofs.BudgetWalkLemmas.{walk-unlimited, walk-within}
 -- the items of the entries
 abbrev pub items_of : List Entry → List ItemType
 items_of entries = map (λ (e : Entry). e.item) entries
-
-pub drop-item : (entries : List Entry) (i : ℕ) (e : Entry) → i < length entries
-    → e ≡ get_or entries i e → drop i (items_of entries) ≡ e.item ∷ drop (suc i) (items_of entries)
-drop-item [] i e lt here = absurd (omega arith)
-drop-item (x ∷ xs) zero e lt here = ap (λ (y : Entry). y.item ∷ items_of xs) (sym here)
-drop-item (x ∷ xs) (suc i) e lt here =
-    let less : i < length xs = omega arith in drop-item xs i e less here
-
-pub offset-at : (entries : List Entry) (i : ℕ) (e : Entry) → i < length entries
-    → e ≡ get_or entries i e → offset_at entries i ≡ e.offset
-offset-at [] i e lt here = absurd (omega arith)
-offset-at (x ∷ xs) zero e lt here = ap (λ (y : Entry). y.offset) (sym here)
-offset-at (x ∷ xs) (suc i) e lt here =
-    let less : i < length xs = omega arith in offset-at xs i e less here
-
-pub drop-end : (entries : List Entry) (i : ℕ) → length entries ≤ i → drop i (items_of entries) ≡ []
-drop-end [] zero le = refl
-drop-end [] (suc i) le = refl
-drop-end (x ∷ xs) zero le = absurd (omega arith)
-drop-end (x ∷ xs) (suc i) le = let less : length xs ≤ i = omega arith in drop-end xs i less
 
 abbrev step_of : Result StateRecord MeaningFault → Result StateRecord MeaningFault
 step_of r = r
@@ -68,48 +48,50 @@ goes-on left h next x (Some f) fault stepped within =
     let bad : step_of (Err f) ≡ step_of (Ok next) =
     sym (ap (λ o. unless_fault o (next_state h x)) fault) ∙ stepped in cc
 
+-- behind another entry each index is one higher, and each offset the same
+later : (e : Entry) (entries : List Entry) (left : Option ℕ) (h : StateRecord) (j k : ℕ)
+    (xs : List ItemType) → j ≡ suc k
+    → at_offset (e ∷ entries) (walk_within left h j xs)
+    ≡ at_offset entries (walk_within left h k xs)
+later e entries left h j k [] one = refl
+later e entries left h j k (x ∷ xs) one =
+    going (unless_fault (stop_in left h x) (next_state h x))
+    (λ next. later e entries (left_behind left (weight_in h x)) next (j + 1) (k + 1) xs
+    (omega (arith, one)))
+  where
+    going : (r : Result StateRecord MeaningFault)
+        → ((next : StateRecord) → at_offset (e ∷ entries)
+        (walk_within (left_behind left (weight_in h x)) next (j + 1) xs)
+        ≡ at_offset entries (walk_within (left_behind left (weight_in h x)) next (k + 1) xs))
+        → at_offset (e ∷ entries) (go_on r j
+        (λ n. walk_within (left_behind left (weight_in h x)) n (j + 1) xs))
+        ≡ at_offset entries (go_on r k
+        (λ n. walk_within (left_behind left (weight_in h x)) n (k + 1) xs))
+    going (Err f) rest = ap (λ i. Err (refusal_at (offset_at (e ∷ entries) i) f)) one
+    going (Ok next) rest = rest next
+
 -- one item further
-pub walked-on : (entries : List Entry) (i : ℕ) (e : Entry) (left behind : Option ℕ)
-    (h next : StateRecord)
-    → i < length entries → e ≡ get_or entries i e
+pub walked-on : (e : Entry) (left behind : Option ℕ) (h next : StateRecord)
+    (r : Result (List Entry) (ℕ × GrammarFault))
     → step h e.item ≡ Ok next → is_past left (weight_in h e.item) ≡ false
     → behind ≡ left_behind left (weight_in h e.item)
-    → walk_within left h i (drop i (items_of entries)) ≡ walk_within behind next (i + 1)
-    (drop (i + 1) (items_of entries))
-walked-on entries i e left behind h next lt here stepped within is =
-    ap (walk_within left h i) (drop-item entries i e lt here)
-    ∙ ap (λ r. go_on r i (λ n. walk_within (left_behind left (weight_in h e.item)) n (i + 1)
-    (drop (suc i) (items_of entries))))
+    → walk_items left h (with_front (e ∷ []) r) ≡ walk_items behind next r
+walked-on e left behind h next (Err fault) stepped within is = refl
+walked-on e left behind h next (Ok entries) stepped within is =
+    ap (λ r. at_offset (e ∷ entries) (go_on r 0
+    (λ n. walk_within (left_behind left (weight_in h e.item)) n 1 (items_of entries))))
     (goes-on left h next e.item (fault_in h e.item) refl stepped within)
-    ∙ ap (λ l. walk_within l next (i + 1) (drop (suc i) (items_of entries))) (sym is)
-    ∙ ap (λ k. walk_within behind next (i + 1) (drop k (items_of entries))) (sym (add-one i))
+    ∙ ap (λ l. at_offset (e ∷ entries) (walk_within l next 1 (items_of entries))) (sym is)
+    ∙ later e entries behind next 1 0 (items_of entries) refl
 
--- what stops the walk at an item is the answer
-pub meaning-fault : (first : StateRecord) (entries : List Entry) (limit : Option ℕ) (i : ℕ)
-    (e : Entry)
-    (left : Option ℕ) (h : StateRecord) (f : MeaningFault) → i < length entries
-    → e ≡ get_or entries i e
-    → walk_within left h i (drop i (items_of entries)) ≡ walk_within limit first 0
-    (items_of entries)
-    → stop_in left h e.item ≡ Some f
-    → at_offset entries (walk_within limit first 0 (items_of entries)) ≡ Err
-    (refusal_at e.offset f)
-meaning-fault first entries limit i e left h f lt here walked stops =
-    ap (at_offset entries) (sym walked ∙ ap (walk_within left h i) (drop-item entries i e lt here)
-    ∙ ap (λ o. go_on (unless_fault o (next_state h e.item)) i
-    (λ n. walk_within (left_behind left (weight_in h e.item)) n (i + 1)
-    (drop (suc i) (items_of entries)))) stops)
-    ∙ ap (λ o. Err (refusal_at o f)) (offset-at entries i e lt here)
-
--- at the end the answer is what is held
-pub meaning-end : (first : StateRecord) (entries : List Entry) (limit : Option ℕ) (i : ℕ)
-    (left : Option ℕ)
-    (h : StateRecord) → length entries ≤ i
-    → walk_within left h i (drop i (items_of entries)) ≡ walk_within limit first 0
-    (items_of entries)
-    → at_offset entries (walk_within limit first 0 (items_of entries)) ≡ Ok h.descriptor
-meaning-end first entries limit i left h end walked =
-    ap (at_offset entries) (sym walked ∙ ap (walk_within left h i) (drop-end entries i end))
+-- what stops the walk at an item is the answer, unless one behind it can't be read
+pub meaning-fault : (e : Entry) (left : Option ℕ) (h : StateRecord) (f : MeaningFault)
+    (r : Result (List Entry) (ℕ × GrammarFault)) → IsOk r → stop_in left h e.item ≡ Some f
+    → walk_items left h (with_front (e ∷ []) r) ≡ Err (refusal_at e.offset f)
+meaning-fault e left h f (Err fault) read stops = cc
+meaning-fault e left h f (Ok entries) read stops =
+    ap (λ o. at_offset (e ∷ entries) (go_on (unless_fault o (next_state h e.item)) 0
+    (λ n. walk_within (left_behind left (weight_in h e.item)) n 1 (items_of entries)))) stops
 
 -- an error that says a refusal is every answer that is this refusal
 pub refuses-as : {A : Type 0} (e : ParserError) (r : Refusal) (answer : Result A Refusal)
@@ -141,63 +123,33 @@ pub refuses-fault : {A : Type 0} (fault : Fault) (offset : ℕ) (e : ParserError
 refuses-fault fault offset e found answer is named memory given =
     refuses-named (fault_named fault) offset e found answer is named memory given
 
-walk-some : (keeping : PushKeeps) (limit : Option ℕ) (bytes : List ℕ) → bytes ≢ []
-    → walk_bytes keeping limit bytes ≡ walk_items keeping limit (itemise item_of bytes)
+-- the refusal of an item where these stand behind it: their grammar fault, or else its own
+pub stopped : (e : Entry) (left : Option ℕ) (h : StateRecord) (fault : Fault) (error : ParserError)
+    (r : Result (List Entry) (ℕ × GrammarFault)) → IsFaultOf fault (stop_in left h e.item)
+    → ((g : ℕ × GrammarFault) → r ≡ Err g
+    → IsRefusal error (InvalidAt g.0 (grammar_message g.1)))
+    → (IsOk r → IfSome (fault_named fault) (λ f. IsRefusal error (refusal_at e.offset f)))
+    → (IsOk r → fault_named fault ≡ None → error ≡ errors.OutOfMemory)
+    → Refuses error (walk_items left h (with_front (e ∷ []) r))
+stopped e left h fault error (Err g) is grammar meaning memory =
+    refuses-as error (InvalidAt g.0 (grammar_message g.1))
+    (walk_items left h (with_front (e ∷ []) (Err g))) (grammar g refl) refl
+stopped e left h fault error (Ok entries) is grammar meaning memory =
+    refuses-fault fault e.offset error (stop_in left h e.item)
+    (walk_items left h (with_front (e ∷ []) (Ok entries))) is (meaning refl) (memory refl)
+    (λ f stops. meaning-fault e left h f (Ok entries) refl stops)
+
+-- the walk over bytes goes over their items, the first of which stands at 0
+pub walk-some : (keeping : PushKeeps) (limit : Option ℕ) (bytes : List ℕ) → bytes ≢ []
+    → walk_items limit (first_state keeping) (items_from item_of 0 0 bytes)
+    ≡ walk_bytes keeping limit bytes
 walk-some keeping limit [] some = absurd (some refl)
 walk-some keeping limit (b ∷ bs) some = refl
-
-ok_refuses : {A B : Type 0} (e : ParserError) (x : A) (answer : Result B Refusal)
-    → Refuses {A = A} e (Ok x) → Refuses e answer
-ok_refuses (errors.InvalidData offset message) x answer h = cc
-ok_refuses errors.OutOfBounds x answer h = cc
-ok_refuses errors.MismatchingReportId x answer h = cc
-ok_refuses errors.OutOfMemory x answer h = tt
-ok_refuses (errors.BudgetExceeded offset) x answer h = cc
-
-err_refuses : (e : ParserError) (r : Refusal) → Refuses {A = List Entry} e (Err r)
-    → Refuses {A = DescriptorRecord} e (Err r)
-err_refuses (errors.InvalidData offset message) r h =
-    let same : r ≡ InvalidAt offset _ = cc in ap Err same
-err_refuses errors.OutOfBounds r h = let same : r ≡ Bounds = cc in ap Err same
-err_refuses errors.MismatchingReportId r h = let same : r ≡ _ = cc in ap Err same
-err_refuses errors.OutOfMemory r h = tt
-err_refuses (errors.BudgetExceeded offset) r h =
-    let same : r ≡ OverBudget offset = cc in ap Err same
-
-grammar-refuses : (keeping : PushKeeps) (limit : Option ℕ) (e : ParserError)
-    (r : Result (List Entry) (ℕ × GrammarFault)) → Refuses e (as_refusal r)
-    → Refuses e (walk_items keeping limit r)
-grammar-refuses keeping limit e (Ok entries) h =
-    ok_refuses e entries (walk_items keeping limit (Ok entries)) h
-grammar-refuses keeping limit e (Err fault) h =
-    err_refuses e (InvalidAt fault.0 (grammar_message fault.1)) h
-
--- a grammar fault is the answer
-pub bytes-grammar : (keeping : PushKeeps) (limit : Option ℕ) (bytes : List ℕ) (e : ParserError)
-    → bytes ≢ [] → Refuses e (as_refusal (itemise item_of bytes))
-    → Refuses e (walk_bytes keeping limit bytes)
-bytes-grammar keeping limit bytes e some h =
-    subst (λ (r : Result DescriptorRecord Refusal). Refuses e r)
-    (sym (walk-some keeping limit bytes some))
-    (grammar-refuses keeping limit e (itemise item_of bytes) h)
-
-items_ok : (r : Result (List Entry) (ℕ × GrammarFault)) (entries : List Entry)
-    → as_refusal r ≡ Ok entries → r ≡ Ok entries
-items_ok (Ok xs) entries h = let same : xs ≡ entries = cc in ap Ok same
-items_ok (Err fault) entries h = cc
-
--- else the walk over the items is
-pub bytes-walked : (keeping : PushKeeps) (limit : Option ℕ) (bytes : List ℕ) (entries : List Entry)
-    → bytes ≢ [] → as_refusal (itemise item_of bytes) ≡ Ok entries
-    → walk_bytes keeping limit bytes ≡ at_offset entries
-    (walk_within limit (first_state keeping) 0 (items_of entries))
-bytes-walked keeping limit bytes entries some h = walk-some keeping limit bytes some
-    ∙ ap (walk_items keeping limit) (items_ok (itemise item_of bytes) entries h)
 
 -- without a limit this is the parse by the reading
 
 plain-items : (keeping : PushKeeps) (r : Result (List Entry) (ℕ × GrammarFault))
-    → walk_items keeping None r ≡ parse_items (reading_of keeping) r
+    → walk_items None (first_state keeping) r ≡ parse_items (reading_of keeping) r
 plain-items keeping (Ok entries) =
     ap (at_offset entries) (walk-unlimited (first_state keeping) 0 (items_of entries)
     ∙ walk-meaning keeping (items_of entries))
@@ -211,7 +163,7 @@ plain-bytes keeping (b ∷ bs) = plain-items keeping (itemise item_of (b ∷ bs)
 -- under a limit it is the parse under it
 
 limited-items : (keeping : PushKeeps) (limit : ℕ) (r : Result (List Entry) (ℕ × GrammarFault))
-    → walk_items keeping (Some limit) r ≡ parse_items_within (reading_of keeping) limit r
+    → walk_items (Some limit) (first_state keeping) r ≡ parse_items_within (reading_of keeping) limit r
 limited-items keeping limit (Ok entries) =
     ap (at_offset entries) (walk-within keeping limit (items_of entries))
 limited-items keeping limit (Err fault) = refl

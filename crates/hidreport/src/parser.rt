@@ -1,11 +1,13 @@
 //! The parser: one walk over the items of a descriptor, forward.
-ghost use Rattle.std.specs.Prelude.{◌≡◌, map};
+ghost use Rattle.std.specs.Prelude.{◌≡◌, ◌+◌, ◌<◌, ◌^◌, ℕ, length, Err, IfSome, IsOk, None};
+ghost use Rattle.hidreport_items.specs.Answer.{GrammarFault};
+ghost use Rattle.hidreport_items.specs.Spelling.{item_of};
 ghost use Rattle.hidreport_lists.specs.Answer.{Answers, InvalidAt};
-ghost use Rattle.hidreport_lists.specs.Entry.{Entry};
-ghost use Rattle.hidreport.specs.Meaning.{at_offset, empty_descriptor};
-ghost use Rattle.hidreport.specs.Parser.Budget.{walk_bytes, walk_within};
-ghost use Rattle.hidreport.specs.Parser.Machine.{first_state};
-ghost use Rattle.hidreport.specs.Parser.Refusals.{IsRefusal};
+ghost use Rattle.hidreport_lists.specs.Itemising.{items_from};
+ghost use Rattle.hidreport_lists.specs.Messages.{grammar_message};
+ghost use Rattle.hidreport.specs.Meaning.{empty_descriptor, refusal_at};
+ghost use Rattle.hidreport.specs.Parser.Budget.{walk_bytes};
+ghost use Rattle.hidreport.specs.Parser.Refusals.{IsRefusal, fault_named};
 
 mod budget;
 mod extent;
@@ -29,8 +31,8 @@ mod usages;
 
 use crate::report::reports::Reports;
 use budget::Budget;
-use fault::invalid_data;
-use hidreport_lists::{Item, ParserError, ReportDescriptorItem, ReportDescriptorItems};
+use fault::{Fault, invalid_data};
+use hidreport_lists::{ParserError, PlacedFault, check_items, front_item};
 use push_keeps::PushKeeps;
 use state::State;
 use std::alloc::Global;
@@ -48,8 +50,23 @@ pub(crate) fn parse(
     if bytes.is_empty() {
         return Err(empty_descriptor(alloc));
     }
-    let items = ReportDescriptorItems::try_from(alloc, bytes)?;
-    reports_of(alloc, items.as_slice(), keeping, limit)
+    let mut state = State::new(alloc, keeping);
+    let mut budget = Budget::new(limit);
+    let mut offset = 0;
+    let mut rest = bytes;
+    while !rest.is_empty() {
+        let front = match front_item(rest) {
+            Ok(front) => front,
+            Err(fault) => return Err(PlacedFault { offset, fault }.refusal(alloc)),
+        };
+        let behind = offset + front.size;
+        rest = rest.split_at(front.size).1;
+        if let Err(fault) = state.take(alloc, &mut budget, front.item) {
+            return Err(refusal(alloc, offset, fault, behind, rest));
+        }
+        offset = behind;
+    }
+    Ok(state.into_reports())
 }
 
 /// The refusal of no bytes at all.
@@ -59,25 +76,19 @@ fn empty_descriptor(alloc: Global) -> ParserError
     invalid_data(alloc, 0, "Empty report descriptor")
 }
 
-/// The reports that the items announce where a Push keeps this, and where listing them weighs no
-/// more than the limit, if any.
-fn reports_of(
-    alloc: Global,
-    items: &[ReportDescriptorItem],
-    keeping: PushKeeps,
-    limit: Option<usize>,
-) -> Result<Reports, ParserError>
-    ensures { Answers result
-        (at_offset items.now
-        (walk_within limit (first_state keeping) 0 (map (λ (e : Entry). e.item) items.now))) }
+/// The refusal of an item at an offset that has no meaning there, or of the first item behind it
+/// that can't be read: grammar comes before meaning.
+fn refusal(alloc: Global, offset: usize, fault: Fault, behind: usize, rest: &[u8]) -> ParserError
+    requires { behind + length rest.now < 2 ^ 64 }
+    ensures grammar { (first : ℕ × GrammarFault) → items_from item_of behind 0 rest.now ≡ Err first
+        → IsRefusal result (InvalidAt first.0 (grammar_message first.1)) }
+    ensures meaning { IsOk (items_from item_of behind 0 rest.now)
+        → IfSome (fault_named fault) (λ f. IsRefusal result (refusal_at offset f)) }
+    ensures memory { IsOk (items_from item_of behind 0 rest.now)
+        → fault_named fault ≡ None → result ≡ ParserError.OutOfMemory }
 {
-    let mut state = State::new(alloc, keeping);
-    let mut budget = Budget::new(limit);
-    for entry in items {
-        match state.take(alloc, &mut budget, entry.item().item_type()) {
-            Ok(()) => {}
-            Err(fault) => return Err(fault.at(alloc, entry.offset())),
-        }
+    match check_items(behind, rest) {
+        Ok(()) => fault.at(alloc, offset),
+        Err(first) => first.refusal(alloc),
     }
-    Ok(state.into_reports())
 }

@@ -2,6 +2,7 @@ pub mod Answer
 pub mod Data
 pub mod DescriptorBuilder
 pub mod Entry
+pub mod FrontItem
 pub mod Headers
 pub mod Itemising
 pub mod Messages

@@ -9,6 +9,7 @@ mod descriptor_builder_rules;
 mod descriptor_builder_state;
 mod error;
 mod fault;
+mod front;
 mod laws;
 mod list;
 mod long_item;
@@ -29,6 +30,7 @@ pub use descriptor_builder_state::{
     ReportDescriptorBuilderToplevelPush,
 };
 pub use error::ParserError;
+pub use front::{FrontItem, PlacedFault, check_items, front_item};
 pub use laws::bytes_are_items_or_have_a_fault;
 pub use list::{ReportDescriptorItem, ReportDescriptorItems};
 pub use long_item::LongItem;

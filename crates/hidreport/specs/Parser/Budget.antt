@@ -64,17 +64,18 @@ walk_within left h k [] = Ok h.descriptor
 walk_within left h k (x ∷ xs) = go_on (unless_fault (stop_in left h x) (next_state h x)) k
     (λ next. walk_within (left_behind left (weight_in h x)) next (k + 1) xs)
 
--- a grammar fault, or else what the walk over the items gives
-abbrev pub walk_items : PushKeeps → Option ℕ → Result (List Entry) (ℕ × GrammarFault)
+-- a grammar fault, or else what the walk over the items gives, from what is held and left
+abbrev pub walk_items : Option ℕ → StateRecord → Result (List Entry) (ℕ × GrammarFault)
     → Result DescriptorRecord Refusal
-walk_items keeping limit (Err fault) = Err (InvalidAt fault.0 (grammar_message fault.1))
-walk_items keeping limit (Ok entries) =
-    at_offset entries (walk_within limit (first_state keeping) 0 (map (λ e. e.item) entries))
+walk_items left h (Err fault) = Err (InvalidAt fault.0 (grammar_message fault.1))
+walk_items left h (Ok entries) =
+    at_offset entries (walk_within left h 0 (map (λ e. e.item) entries))
 
 -- the same of a descriptor's bytes
 abbrev pub walk_bytes : PushKeeps → Option ℕ → List ℕ → Result DescriptorRecord Refusal
 walk_bytes keeping limit [] = Err (InvalidAt 0 empty_descriptor)
-walk_bytes keeping limit (b ∷ bs) = walk_items keeping limit (itemise item_of (b ∷ bs))
+walk_bytes keeping limit (b ∷ bs) =
+    walk_items limit (first_state keeping) (itemise item_of (b ∷ bs))
 
 -- how much each of an item's fields weighs, with so many usages and the collections around it
 abbrev pub weight_of_each : Flags → ℕ → ℕ → ℕ

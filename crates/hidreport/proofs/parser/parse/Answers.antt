@@ -1,25 +1,82 @@
-use Rattle.std.proofs.Common.{◌≡◌, ◌≢◌, ◌∙◌, [], ap, sym, subst, length, arith, Result, Ok}
-use Rattle.std.proofs.lemmas.Result.{err_from_is_err_and}
-use Rattle.hidreport_lists.specs.Answer.{Answers, Refusal}
+use Rattle.std.proofs.Common.{◌≡◌, ◌≢◌, ◌+◌, ◌∙◌, [], ap, arith, drop, length, length-drop, subst, sym}
+use Rattle.std.proofs.Common.{◌∷◌, take, Result}
+use Rattle.hidreport_items.specs.ItemFaults.{told_fault}
+use Rattle.hidreport_items.specs.Spelling.{item_of}
+use Rattle.hidreport_lists.specs.Answer.{Refusal, Refuses}
+use Rattle.hidreport_lists.specs.Entry.{Entry}
+use Rattle.hidreport_lists.specs.Itemising.{items_from}
+use Rattle.hidreport_lists.specs.Messages.{grammar_message}
+use Rattle.hidreport_lists.proofs.FrontLemmas.{front-first}
+use Rattle.hidreport_lists.proofs.ItemLemmas.{items_from-fault, refuses-invalid, with_front}
+use Rattle.hidreport.specs.Parser.Budget.{walk_items}
 use Rattle.hidreport.specs.Records.{DescriptorRecord}
-use Rattle.hidreport.proofs.ParseLemmas.{bytes-grammar, bytes-walked}
+use Rattle.hidreport.proofs.ParseLemmas.{stopped, walk-some, walked-on}
 use Rattle.hidreport.proofs.parser.parse.Goals as goal
 
-pub returns-in_err-items : goal.returns-in_err-items
-returns-in_err-items c =
+pub returns-in-Err : goal.returns-in-Err
+returns-in-Err c =
     let some : c.args.bytes.now ≢ [] =
     λ e. let l : length c.args.bytes.now ≡ 0 = ap length e in grind
     (arith, c.is_empty.ensures) in
-    let p = err_from_is_err_and c.from_residual.result c.from_residual.ensures.1 in
-    rw (p.1, p.2) (bytes-grammar c.args.keeping c.args.limit c.args.bytes.now
-    c.in_err-items.field-0.0 some c.in_err-items.ensures.exact)
+    let more : c.loop-rest.rest.now ≢ [] =
+    λ e. let l : length c.loop-rest.rest.now ≡ 0 = ap length e in grind
+    (arith, c.is_empty-in-loop-rest.ensures, c.loop-rest-test.true) in
+    let fault = told_fault c.in-Err.fault in
+    refuses-invalid c.refusal.result c.loop-rest.offset (grammar_message fault) _ c.refusal.ensures
+    (sym (c.loop-rest.invariant.walk ∙ walk-some c.args.keeping c.args.limit c.args.bytes.now some)
+    ∙ ap (walk_items c.loop-rest.budget c.loop-rest.state)
+    (items_from-fault c.loop-rest.offset c.loop-rest.rest.now fault more c.in-Err.ensures.fault))
 
-pub returns : goal.returns
-returns c =
+pub returns-in-Err-take : goal.returns-in-Err-take
+returns-in-Err-take c =
     let some : c.args.bytes.now ≢ [] =
     λ e. let l : length c.args.bytes.now ≡ 0 = ap length e in grind
     (arith, c.is_empty.ensures) in
-    let is = bytes-walked c.args.keeping c.args.limit c.args.bytes.now c.as_slice.result.now some
-    (c.in_ok-items.ensures.exact ∙ ap Ok (sym c.as_slice.ensures)) in
-    subst (λ (r : Result DescriptorRecord Refusal). Answers c.reports_of.result r) (sym is)
-    c.reports_of.ensures
+    let rest = c.loop-rest.rest.now in
+    let front = c.in-Ok.front in
+    let entry : Entry = record {
+      offset = c.loop-rest.offset;
+      bytes = take front.size rest;
+      item = front.item;
+    } in
+    let behind = items_from item_of (c.loop-rest.offset + front.size) 0 c.split_at.result.1.now in
+    let first = (front-first c.loop-rest.offset rest front c.in-Ok.ensures.item).1 in
+    subst (λ (r : Result DescriptorRecord Refusal). Refuses c.refusal-in-Err-take.result r)
+    (ap (λ l. walk_items c.loop-rest.budget c.loop-rest.state (with_front (entry ∷ [])
+    (items_from item_of (c.loop-rest.offset + front.size) 0 l))) c.split_at.ensures.back
+    ∙ ap (walk_items c.loop-rest.budget c.loop-rest.state) (sym first)
+    ∙ c.loop-rest.invariant.walk
+    ∙ walk-some c.args.keeping c.args.limit c.args.bytes.now some)
+    (stopped entry c.loop-rest.budget c.loop-rest.state c.in-Err-take.fault
+    c.refusal-in-Err-take.result behind c.in-Err-take.ensures.err
+    c.refusal-in-Err-take.ensures.grammar c.refusal-in-Err-take.ensures.meaning
+    c.refusal-in-Err-take.ensures.memory)
+
+pub loop-rest-smaller : goal.loop-rest-smaller
+loop-rest-smaller c =
+    let some = (front-first c.loop-rest.offset c.loop-rest.rest.now c.in-Ok.front
+    c.in-Ok.ensures.item).0 in
+    rw c.split_at.ensures.back (simp length-drop (omega (arith, some, c.in-Ok.ensures.item.0)))
+
+pub loop-rest-preserved : goal.loop-rest-preserved
+loop-rest-preserved c =
+    let rest = c.loop-rest.rest.now in
+    let front = c.in-Ok.front in
+    let entry : Entry = record {
+      offset = c.loop-rest.offset;
+      bytes = take front.size rest;
+      item = front.item;
+    } in
+    let first = (front-first c.loop-rest.offset rest front c.in-Ok.ensures.item).1 in
+    record {
+      place = rw c.split_at.ensures.back (simp length-drop
+          (omega (arith, c.in-Ok.ensures.item.0, c.loop-rest.invariant.place)));
+      walk = ap (λ l. walk_items c.take.new.budget c.take.new.self
+          (items_from item_of (c.loop-rest.offset + front.size) 0 l)) c.split_at.ensures.back
+          ∙ sym (walked-on entry c.loop-rest.budget c.take.new.budget c.loop-rest.state
+          c.take.new.self (items_from item_of (c.loop-rest.offset + front.size) 0
+          (drop front.size rest)) c.in_default.ensures.ok c.in_default.ensures.within
+          c.in_default.ensures.left)
+          ∙ ap (walk_items c.loop-rest.budget c.loop-rest.state) (sym first)
+          ∙ c.loop-rest.invariant.walk;
+    }

@@ -1,0 +1,17 @@
+use Rattle.std.proofs.Common.{◌≡◌, ◌+◌, length}
+use Rattle.hidreport_items.specs.Spelling.{item_of}
+use Rattle.hidreport_lists.specs.Itemising.{items_from}
+use Rattle.hidreport.specs.Parser.Budget.{walk_items}
+use Rattle.hidreport.specs.Parser.Machine.{first_state}
+use Rattle.hidreport.proofs.parser.parse.Given as goal
+
+-- the walk over the rest from what is held, with what is left, is the walk over all bytes
+abbrev pub invariant-loop-rest : goal.invariant-loop-rest
+invariant-loop-rest l = record {
+  place : l.offset + length l.rest ≡ length l.bytes;
+  walk : walk_items l.budget l.state (items_from item_of l.offset 0 l.rest)
+      ≡ walk_items l.fn.limit (first_state l.fn.keeping) (items_from item_of 0 0 l.bytes);
+}
+
+abbrev pub decreases-loop-rest : goal.decreases-loop-rest
+decreases-loop-rest l = length l.rest
