@@ -1,0 +1,127 @@
+/* Descriptors that ask for much, and long ones: each function answers them by the default limit.
+ * checks/c_cases.sh runs this in 64 MB. It prints what is answered otherwise, and how many answers
+ * it looked at. */
+#include <stdio.h>
+#include <stdlib.h>
+#include <string.h>
+#include <time.h>
+
+#include "hidreport.h"
+
+/* Bytes: what stands in front, then what is repeated; and the answer that is wanted. */
+struct row {
+    const char *name;
+    const char *front;
+    size_t front_length;
+    const char *again;
+    size_t again_length;
+    size_t times;
+    uint32_t status;
+    size_t offset;
+};
+
+#define ROW(name, front, again, times, status, offset) \
+    { name, front, sizeof front - 1, again, sizeof again - 1, times, status, offset }
+
+static const struct row rows[] = {
+    ROW("2^32 - 1 fields", "\x05\x01\x09\x30\x75\x01\x97\xff\xff\xff\xff\x81\x02", "", 0,
+        HIDREPORT_BUDGET_EXCEEDED, 11),
+    ROW("65,536 fields and one",
+        "\x05\x01\x09\x30\x75\x01\x97\x00\x00\x01\x00\x81\x02\x09\x30\x95\x01", "\x81\x02", 1,
+        HIDREPORT_BUDGET_EXCEEDED, 17),
+    ROW("an array of 2^32 usages",
+        "\x05\x01\x1b\x00\x00\x00\x00\x2b\xff\xff\xff\xff\x75\x08\x95\x01", "\x81\x00", 1,
+        HIDREPORT_BUDGET_EXCEEDED, 16),
+    ROW("collections of 2^32 usages", "\x05\x01\x1b\x00\x00\x00\x00\x2b\xff\xff\xff\xff",
+        "\xa4\xa1\x00\xb4", 16381, HIDREPORT_BUDGET_EXCEEDED, 13),
+    ROW("fields in many collections", "\x05\x01", "\xa1\x00\x09\x30\x75\x08\x95\x01\x81\x02", 6553,
+        HIDREPORT_BUDGET_EXCEEDED, 3600),
+    ROW("65,536 Pushes", "", "\xa4", 65536, HIDREPORT_ACCEPTED, 0),
+    ROW("Pushes that set a global", "", "\xa4\x14", 32768, HIDREPORT_ACCEPTED, 0),
+    ROW("usages", "\x05\x01", "\x09\x30", 32767, HIDREPORT_ACCEPTED, 0),
+    ROW("collections in each other", "", "\xa1\x00", 32768, HIDREPORT_ACCEPTED, 0),
+    ROW("ended usages in Pushes", "\x05\x01", "\xa4\x09\x30\xb1\x02", 13106, HIDREPORT_ACCEPTED, 0),
+    ROW("long items", "", "\xfe\x01\x00\x00", 16384, HIDREPORT_ACCEPTED, 0),
+    ROW("zeros", "", "\0", 65536, HIDREPORT_INVALID_DATA, 0),
+    ROW("reserved items", "", "\xc4", 65536, HIDREPORT_ACCEPTED, 0),
+};
+
+static int wrong;
+static unsigned looked_at;
+
+static void look(const struct row *row, const char *call, struct hidreport_answer answer)
+{
+    looked_at++;
+    if (answer.status == row->status && answer.offset == row->offset)
+        return;
+    printf("hostile: %s: %s has status %u at %zu\n", row->name, call, answer.status, answer.offset);
+    wrong = 1;
+}
+
+/* The same of a function that reads items alone, which weigh nothing. */
+static void look_at_items(const struct row *row, const char *call, struct hidreport_answer answer)
+{
+    struct row items = *row;
+    if (row->status == HIDREPORT_BUDGET_EXCEEDED)
+        items.status = HIDREPORT_ACCEPTED, items.offset = 0;
+    look(&items, call, answer);
+}
+
+/* The same of a text, of which there is some just where the descriptor is refused. */
+static void look_at_text(const struct row *row, const char *call, int is_refused,
+                         struct hidreport_answer answer)
+{
+    looked_at++;
+    if (answer.status == HIDREPORT_ACCEPTED && (answer.count > 0) == is_refused)
+        return;
+    printf("hostile: %s: %s has %zu bytes\n", row->name, call, answer.count);
+    wrong = 1;
+}
+
+/* Each function that reads a descriptor; what it lists isn't asked for. */
+static void ask(const struct row *row, const uint8_t *bytes, size_t length)
+{
+    struct hidreport_options options = HIDREPORT_DEFAULTS;
+    const uint8_t report[1] = {0};
+
+    look(row, "reports",
+         hidreport_reports(bytes, length, options, HIDREPORT_INPUT, NULL, 0));
+    look(row, "describe",
+         hidreport_describe(bytes, length, options, HIDREPORT_INPUT, NULL, 0));
+    look(row, "find",
+         hidreport_find(bytes, length, options, HIDREPORT_INPUT, report, 1, NULL, 0));
+    look(row, "usages", hidreport_usages(bytes, length, options, 0, NULL, 0));
+    look(row, "collections", hidreport_collections(bytes, length, options, 0, NULL, 0));
+    look(row, "collection_usages",
+         hidreport_collection_usages(bytes, length, options, 0, 0, NULL, 0));
+    look_at_items(row, "items", hidreport_items(bytes, length, NULL, 0));
+    look_at_items(row, "rebuild", hidreport_rebuild(bytes, length, NULL, 0));
+    look_at_text(row, "message", row->status != HIDREPORT_ACCEPTED,
+                 hidreport_message(bytes, length, options, NULL, 0));
+    look_at_text(row, "items_message", row->status == HIDREPORT_INVALID_DATA,
+                 hidreport_items_message(bytes, length, NULL, 0));
+}
+
+int main(void)
+{
+    for (size_t i = 0; i < sizeof rows / sizeof rows[0]; i++) {
+        const struct row *row = &rows[i];
+        size_t length = row->front_length + row->times * row->again_length;
+        uint8_t *bytes = malloc(length);
+        clock_t begun = clock();
+        if (!bytes)
+            return 2;
+        memcpy(bytes, row->front, row->front_length);
+        for (size_t n = 0; n < row->times; n++)
+            memcpy(bytes + row->front_length + n * row->again_length, row->again,
+                   row->again_length);
+        ask(row, bytes, length);
+        free(bytes);
+        if (clock() - begun > CLOCKS_PER_SEC) {
+            printf("hostile: %s takes more than a second\n", row->name);
+            wrong = 1;
+        }
+    }
+    printf("hostile: %u answers\n", looked_at);
+    return wrong;
+}
