@@ -44,6 +44,8 @@ static const struct row rows[] = {
     ROW("long items", "", "\xfe\x01\x00\x00", 16384, HIDREPORT_ACCEPTED, 0),
     ROW("zeros", "", "\0", 65536, HIDREPORT_INVALID_DATA, 0),
     ROW("reserved items", "", "\xc4", 65536, HIDREPORT_ACCEPTED, 0),
+    ROW("65,537 reserved items", "", "\xc4", 65537, HIDREPORT_BUDGET_EXCEEDED, 65536),
+    ROW("1 MB of Pushes", "", "\xa4", 1048576, HIDREPORT_BUDGET_EXCEEDED, 65536),
 };
 
 static int wrong;
@@ -78,7 +80,8 @@ static void look_at_text(const struct row *row, const char *call, int is_refused
     wrong = 1;
 }
 
-/* Each function that reads a descriptor; what it lists isn't asked for. */
+/* Each function that reads a descriptor; what it lists isn't asked for. A list of items has no
+ * limit, and takes 56 bytes for each. */
 static void ask(const struct row *row, const uint8_t *bytes, size_t length)
 {
     struct hidreport_options options = HIDREPORT_DEFAULTS;
@@ -94,10 +97,12 @@ static void ask(const struct row *row, const uint8_t *bytes, size_t length)
     look(row, "collections", hidreport_collections(bytes, length, options, 0, NULL, 0));
     look(row, "collection_usages",
          hidreport_collection_usages(bytes, length, options, 0, 0, NULL, 0));
-    look_at_items(row, "items", hidreport_items(bytes, length, NULL, 0));
-    look_at_items(row, "rebuild", hidreport_rebuild(bytes, length, NULL, 0));
     look_at_text(row, "message", row->status != HIDREPORT_ACCEPTED,
                  hidreport_message(bytes, length, options, NULL, 0));
+    if (length > 65536)
+        return;
+    look_at_items(row, "items", hidreport_items(bytes, length, NULL, 0));
+    look_at_items(row, "rebuild", hidreport_rebuild(bytes, length, NULL, 0));
     look_at_text(row, "items_message", row->status == HIDREPORT_INVALID_DATA,
                  hidreport_items_message(bytes, length, NULL, 0));
 }

@@ -40,7 +40,8 @@ enum hidreport_status {
     HIDREPORT_MISMATCHING_REPORT_ID = 3,
     /* memory was refused */
     HIDREPORT_OUT_OF_MEMORY = 4,
-    /* with the item at `offset` the descriptor lists more than the limit of the options */
+    /* with the item at `offset` the descriptor lists more than the limit of the options, or with a
+     * limit it has more than 65536 bytes: then this is `offset` */
     HIDREPORT_BUDGET_EXCEEDED = 5,
     /* `push` of the options is no enum hidreport_push */
     HIDREPORT_UNKNOWN_OPTION = 6

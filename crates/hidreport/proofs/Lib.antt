@@ -9,6 +9,7 @@ pub mod IndexedLemmas
 pub mod JournalLemmas
 pub mod KeptItemsLemmas
 pub mod LevelLemmas
+pub mod LongestLemmas
 pub mod OpenLemmas
 pub mod OwnCollectionsLemmas
 pub mod WalkLemmas

@@ -1,6 +1,6 @@
 -- Parsing as it is asked for: by a reading of Push and Pop, and under a limit, if any.
-use Rattle.std.specs.Prelude.{ℕ, List, Option, None, Some, Result}
-use Rattle.hidreport_lists.specs.Answer.{Refusal}
+use Rattle.std.specs.Prelude.{ℕ, nat_lt, if◌then◌else◌, List, length, Option, None, Some, Result, Err}
+use Rattle.hidreport_lists.specs.Answer.{OverBudget, Refusal}
 use Rattle.hidreport.specs.Budget.{parse_within_by}
 use Rattle.hidreport.specs.ItemState.{item_state, item_state_globals_only}
 use Rattle.hidreport.specs.Meaning.{PushReading, parse_by}
@@ -19,7 +19,18 @@ abbrev pub parse_limited : PushReading → Option ℕ → List ℕ → Result De
 parse_limited reading None = parse_by reading
 parse_limited reading (Some limit) = parse_within_by reading limit
 
+-- the most bytes that a descriptor may have, where it has more
+abbrev pub past_longest : Option ℕ → ℕ → Option ℕ
+past_longest None size = None
+past_longest (Some longest) size = if nat_lt longest size then Some longest else None
+
+-- the answer, unless the budget is exceeded here
+abbrev pub unless_past : {A : Type 0} → Option ℕ → Result A Refusal → Result A Refusal
+unless_past None answer = answer
+unless_past (Some offset) answer = Err (OverBudget offset)
+
 -- the reports that the bytes of a descriptor announce, or their first fault, or the item that is
--- past the limit
+-- past the limit; of bytes that aren't too many
 abbrev pub parse_as : ParseOptions → List ℕ → Result DescriptorRecord Refusal
-parse_as options = parse_limited (reading_of options.push_keeps) options.limit
+parse_as options bytes = unless_past (past_longest options.longest (length bytes))
+    (parse_limited (reading_of options.push_keeps) options.limit bytes)

@@ -9,7 +9,7 @@ ghost use Rattle.hidreport.specs.Budget.{parse_within};
 ghost use Rattle.hidreport.specs.Laws.{KeptItemsMean, RebuiltBytesMean, SegmentsAreIdle};
 ghost use Rattle.hidreport.specs.Lookup.{find_report};
 ghost use Rattle.hidreport.specs.Meaning.{parse, parse_by, parse_globals_only};
-ghost use Rattle.hidreport.specs.Options.{parse_as, reading_of};
+ghost use Rattle.hidreport.specs.Options.{parse_as, parse_limited, reading_of};
 ghost use Rattle.hidreport.specs.Reading.{reads};
 ghost use Rattle.hidreport.specs.Records.{FieldRecord};
 ghost use Rattle.hidreport.specs.Segments.{HasNoPush};
@@ -89,9 +89,10 @@ impl ReportDescriptor {
         ReportDescriptor::try_from_with(alloc, bytes, ParseOptions::default())
     }
 
-    /// The reports, read as the options say: by what a Push keeps, and under a limit, if any.
+    /// The reports, read as the options say: by what a Push keeps, and under limits, if any.
     ///
-    /// Refused is what `try_from` refuses, with its messages and in its order, over what is in
+    /// More bytes than `longest` are `BudgetExceeded` with this number as the offset, before they
+    /// are looked at. Else refused is what `try_from` refuses, with its messages and in its order, over what is in
     /// force where a Push keeps this. Where there is a limit, a field counts 1, with the usages of
     /// an array and, for each collection that the field carries, 1 and the usages of that; padding
     /// counts 1 alone. So does what an item opens: 1 for a collection, and its usages. Before
@@ -99,7 +100,7 @@ impl ReportDescriptor {
     /// first item that makes the sum pass the limit the answer is `BudgetExceeded` with that item's
     /// offset, unless the first fault stands at that item or before it, or an item can't be read.
     /// What is read counts at most the limit together (`bounded`), and is what is read without one
-    /// (`plain`). Without a limit `BudgetExceeded` never comes (`unlimited`), and
+    /// (`plain`). Without both `BudgetExceeded` never comes (`unlimited`), and
     /// `MismatchingReportId` never does.
     ///
     /// A segment changes nothing, where a Push keeps globals alone one without local items
@@ -120,10 +121,25 @@ impl ReportDescriptor {
         ensures kept { KeptItemsMean options.push_keeps bytes.now }
         ensures rebuilt { RebuiltBytesMean options.push_keeps bytes.now }
         ensures own_bytes { result ≢ Err ParserError.MismatchingReportId }
-        ensures unlimited { options.limit ≡ None
+        ensures unlimited { options.limit ≡ None → options.longest ≡ None
             → (offset : ℕ) → result ≢ Err (ParserError.BudgetExceeded offset) }
     {
-        let reports = parser::parse(alloc, bytes, options.push_keeps, options.limit)?;
+        if let Some(offset) = options.past_longest(bytes.len()) {
+            return Err(ParserError::BudgetExceeded { offset });
+        }
+        ReportDescriptor::read(alloc, bytes, options.push_keeps, options.limit)
+    }
+
+    /// The same of bytes that aren't too many.
+    fn read(
+        alloc: Global,
+        bytes: &[u8],
+        push_keeps: PushKeeps,
+        limit: Option<usize>,
+    ) -> Result<ReportDescriptor, ParserError>
+        ensures { Answers result (parse_limited (reading_of push_keeps) limit bytes.now) }
+    {
+        let reports = parser::parse(alloc, bytes, push_keeps, limit)?;
         Ok(ReportDescriptor { reports })
     }
 
@@ -148,6 +164,7 @@ impl ReportDescriptor {
         let options = ParseOptions {
             limit: Some(limit),
             push_keeps: PushKeeps::All,
+            longest: None,
         };
         ReportDescriptor::try_from_with(alloc, bytes, options)
     }
@@ -176,6 +193,7 @@ impl ReportDescriptor {
         let options = ParseOptions {
             limit: None,
             push_keeps: PushKeeps::Globals,
+            longest: None,
         };
         ReportDescriptor::try_from_with(alloc, bytes, options)
     }

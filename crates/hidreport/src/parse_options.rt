@@ -1,5 +1,6 @@
 //! How a report descriptor is read.
-ghost use Rattle.std.specs.Prelude.{◌≡◌, None};
+ghost use Rattle.std.specs.Prelude.{◌≡◌, None, Some};
+ghost use Rattle.hidreport.specs.Options.{past_longest};
 ghost use Rattle.hidreport.specs.declared.parser.push_keeps.PushKeeps.TheVariants as push_keeps;
 
 use crate::parser::push_keeps::PushKeeps;
@@ -14,16 +15,46 @@ pub struct ParseOptions {
     /// The most that may be listed: fields, usages of arrays, collections around fields and their
     /// usages together, as `ReportDescriptor::try_from_within` counts. `None` is no limit.
     pub limit: Option<usize>,
+
+    /// The most bytes that a descriptor may have. A longer one is refused before it is looked at:
+    /// `BudgetExceeded`, with this number as its offset. `None` is no limit.
+    pub longest: Option<usize>,
 }
 
 impl Default for ParseOptions {
     ghost is_default = { λ options. options
-        ≡ record { push_keeps = push_keeps.All; limit = None } };
+        ≡ record { push_keeps = push_keeps.All; limit = None; longest = None } };
 
     fn default() -> ParseOptions {
         ParseOptions {
             push_keeps: PushKeeps::All,
             limit: None,
+            longest: None,
         }
+    }
+}
+
+impl ParseOptions {
+    /// For bytes that nobody vouches for: at most 65,536 may be listed, of at most 65,536 bytes. A
+    /// device tells its descriptor's length in 16 bits (Section 6.2.1). Both can be set to others.
+    pub fn bounded() -> ParseOptions
+        ensures { result ≡ record {
+          push_keeps = push_keeps.All;
+          limit = Some 65536;
+          longest = Some 65536;
+        } }
+    {
+        ParseOptions {
+            push_keeps: PushKeeps::All,
+            limit: Some(65_536),
+            longest: Some(65_536),
+        }
+    }
+    /// The most bytes that a descriptor may have, where it has more.
+    pub(crate) fn past_longest(&self, size: usize) -> Option<usize>
+        ensures { result ≡ past_longest self.now.longest size }
+    {
+        let longest = self.longest?;
+        if longest < size { Some(longest) } else { None }
     }
 }

@@ -15,9 +15,15 @@ push_keeps_of push =
 abbrev pub limit_of : ℕ → Option ℕ
 limit_of limit = if limit == 2 ^ 64 - 1 then None else Some limit
 
+-- with a limit a descriptor has at most so many bytes
+abbrev pub longest_of : Option ℕ → Option ℕ
+longest_of None = None
+longest_of (Some limit) = Some 65536
+
 abbrev pub with_limit : Option ℕ → Option PushKeeps → Option ParseOptions
 with_limit limit None = None
-with_limit limit (Some keeps) = Some (record { push_keeps = keeps; limit = limit })
+with_limit limit (Some keeps) =
+    Some (record { push_keeps = keeps; limit = limit; longest = longest_of limit })
 
 -- the options as the library has them; none where `push` is no number of them
 abbrev pub options_of : HidreportOptions → Option ParseOptions

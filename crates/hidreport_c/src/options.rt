@@ -1,6 +1,6 @@
 //! How C asks for a descriptor to be read.
 ghost use Rattle.std.specs.Prelude.{◌≡◌};
-ghost use Rattle.hidreport_c.specs.Options.{limit_of, options_of, push_keeps_of};
+ghost use Rattle.hidreport_c.specs.Options.{limit_of, longest_of, options_of, push_keeps_of};
 
 use hidreport::{ParseOptions, PushKeeps};
 
@@ -8,8 +8,8 @@ use hidreport::{ParseOptions, PushKeeps};
 #[repr(C)]
 #[derive(Clone, Copy)]
 pub struct HidreportOptions {
-    /// The most that may be listed, as `ReportDescriptor::try_from_with` counts; the greatest size
-    /// is no limit.
+    /// The most that may be listed, as `ReportDescriptor::try_from_with` counts; with a limit a
+    /// descriptor has at most 65,536 bytes. The greatest size is no limit, of bytes neither.
     pub limit: usize,
     /// What a Push keeps for its Pop (Section 6.2.2.7): 0 global and local items, 1 global items
     /// alone. Another number is refused with 6.
@@ -21,9 +21,11 @@ impl HidreportOptions {
     pub(crate) fn chosen(self) -> Option<ParseOptions>
         ensures { result ≡ options_of self }
     {
+        let limit = limit_of(self.limit);
         Some(ParseOptions {
             push_keeps: push_keeps_of(self.push)?,
-            limit: limit_of(self.limit),
+            limit,
+            longest: longest_of(limit),
         })
     }
 }
@@ -45,5 +47,15 @@ fn limit_of(limit: usize) -> Option<usize>
         None
     } else {
         Some(limit)
+    }
+}
+
+/// A device tells its descriptor's length in 16 bits (Section 6.2.1).
+fn longest_of(limit: Option<usize>) -> Option<usize>
+    ensures { result ≡ longest_of limit }
+{
+    match limit {
+        Some(_) => Some(65_536),
+        None => None,
     }
 }

@@ -1,7 +1,7 @@
 //! Descriptors under a budget: what an item weighs, and where a limit is passed.
-ghost use Rattle.std.specs.Prelude.{◌≡◌, codes, IsTrue};
+ghost use Rattle.std.specs.Prelude.{◌≡◌, [], codes, IsTrue};
 ghost use Rattle.hidreport.specs.Answer.{InvalidAt, OverBudget};
-ghost use Rattle.hidreport_definitions.specs.Within.{is_read_within, within};
+ghost use Rattle.hidreport_definitions.specs.Within.{is_read_within, of_at_most, within};
 
 /// Three fields are within a limit of 3 and not of 2; no item is within a limit of 0.
 pub fn fields_weigh_one_each()
@@ -47,4 +47,14 @@ pub fn faults_up_to_the_item_come_first()
     ensures behind { within 0 (codes "75 01 95 01 81 01 c0") ≡ Err (OverBudget 4) }
     ensures before { within 0 (codes "c0 75 01 95 01 81 01")
         ≡ Err (InvalidAt 0 (codes "Too many EndCollection")) }
+{}
+
+/// More bytes than may be looked at are refused with their greatest number, whatever they are.
+pub fn too_many_bytes_are_refused()
+    ensures as_many { of_at_most 4 (codes "05 01 75 08") ≡ of_at_most 5 (codes "05 01 75 08") }
+    ensures as_few { of_at_most 4 (codes "05 01 b4")
+        ≡ Err (InvalidAt 2 (codes "Too many Pops, not enough Pushes")) }
+    ensures more { of_at_most 3 (codes "05 01 75 08") ≡ Err (OverBudget 3) }
+    ensures no_items { of_at_most 1 (codes "03 03") ≡ Err (OverBudget 1) }
+    ensures none { of_at_most 0 [] ≡ Err (InvalidAt 0 (codes "Empty report descriptor")) }
 {}

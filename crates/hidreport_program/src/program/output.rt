@@ -108,7 +108,11 @@ fn values(
     ensures outcome { IfOk result (λ w. w.outcome ≡ (values_output
         (parse_limited (reading_of push_keeps) limit descriptor.now) report.now).outcome) }
 {
-    let options = ParseOptions { push_keeps, limit };
+    let options = ParseOptions {
+        push_keeps,
+        limit,
+        longest: None,
+    };
     match ReportDescriptor::try_from_with(alloc, descriptor, options) {
         Ok(announced) => found(alloc, &announced, report),
         Err(error) => refused(alloc, &error),

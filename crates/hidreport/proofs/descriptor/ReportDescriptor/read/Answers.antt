@@ -1,0 +1,18 @@
+use Rattle.std.proofs.Common.{◌∙◌, Result, subst, sym}
+use Rattle.std.proofs.lemmas.Result.{err_from_is_err_and}
+use Rattle.hidreport_lists.specs.Answer.{Refusal, Refuses}
+use Rattle.hidreport.specs.Records.{DescriptorRecord}
+use Rattle.hidreport.proofs.ParseLemmas.{bytes-as}
+use Rattle.hidreport.proofs.descriptor.ReportDescriptor.read.Goals as goal
+
+pub returns-in_err-reports : goal.returns-in_err-reports
+returns-in_err-reports c =
+    let p = err_from_is_err_and c.from_residual.result c.from_residual.ensures.1 in
+    rw (p.1, p.2) (subst (λ (r : Result DescriptorRecord Refusal). Refuses
+    c.in_err-reports.field-0.0 r)
+    (bytes-as c.args.push_keeps c.args.limit c.args.bytes.now)
+    c.in_err-reports.ensures)
+
+pub returns : goal.returns
+returns c = sym (bytes-as c.args.push_keeps c.args.limit c.args.bytes.now)
+    ∙ c.in_ok-reports.ensures
