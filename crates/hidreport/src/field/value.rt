@@ -175,7 +175,7 @@ impl From<FieldValue> for i64 {
 }
 
 /// At most five bytes as one number, the first as the lowest.
-fn word(bytes: &[u8]) -> u64
+pub(crate) fn word(bytes: &[u8]) -> u64
     requires { length bytes.now ≤ 5 }
     ensures { result ≡ word bytes.now }
 {

@@ -1,0 +1,47 @@
+//! Bits of a report's bytes, written as they are read.
+ghost use Rattle.std.specs.Prelude.{◌≡◌, true, [], ◌∷◌, ◌+◌, ◌*◌, ◌<◌, ◌≤◌, ◌/◌, ◌%◌, ◌^◌, ℕ};
+ghost use Rattle.std.specs.Prelude.{length, slice_index};
+ghost use Rattle.hidreport.specs.Writing.{fits, put};
+
+use crate::field::value::word;
+
+/// Whether so many bits hold the number, signed or not.
+pub(crate) fn fits(width: usize, is_signed: bool, number: i64) -> bool
+    requires some { 0 < width }
+    requires narrow { width ≤ 32 }
+    ensures { result ≡ fits width is_signed number }
+{
+    if is_signed {
+        let half = 1 << (width - 1);
+        -half <= number && number < half
+    } else {
+        0 <= number && number < 1 << width
+    }
+}
+
+/// Puts a number in place of the bits from `first` on; all others stay.
+pub(crate) fn put_bits(bytes: &mut [u8], first: usize, width: usize, number: i64)
+    requires some { 0 < width }
+    requires narrow { width ≤ 32 }
+    requires within { first + width ≤ 8 * length bytes.now }
+    requires counted { first + width < 2 ^ 64 }
+    ensures { bytes.new ≡ put first width (number ∷ []) bytes.old }
+{
+    let touched = &mut bytes[first / 8..(first + width).div_ceil(8)];
+    let mask: u64 = (1 << width) - 1;
+    let shift = first % 8;
+    let kept = word(touched) & !(mask << shift);
+    put_word(touched, kept | (number.cast_unsigned() & mask) << shift);
+}
+
+/// Puts the low bits of a number in place of at most five bytes, the lowest in the first.
+fn put_word(bytes: &mut [u8], number: u64)
+    requires { length bytes.now ≤ 5 }
+    ensures length { length bytes.new ≡ length bytes.old }
+    ensures bytes { (k : ℕ) → k < length bytes.new
+        → slice_index bytes.new k ≡ number / 2 ^ (8 * k) % 256 }
+{
+    for k in 0..bytes.len() {
+        bytes[k] = (number >> (8 * k) & 0xff) as u8;
+    }
+}
