@@ -3,6 +3,8 @@ pub mod LookupLemmas
 pub mod FixedBitsLemmas
 pub mod BitLemmas
 pub mod WordLemmas
+pub mod PutBitsLemmas
+pub mod WrittenBitsLemmas
 pub mod ItemStateLemmas
 pub mod ReportLemmas
 pub mod IndexedLemmas

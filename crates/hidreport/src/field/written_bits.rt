@@ -1,7 +1,8 @@
 //! Bits of a report's bytes, written as they are read.
 ghost use Rattle.std.specs.Prelude.{◌≡◌, true, [], ◌∷◌, ◌+◌, ◌*◌, ◌<◌, ◌≤◌, ◌/◌, ◌%◌, ◌^◌, ℕ};
 ghost use Rattle.std.specs.Prelude.{length, slice_index};
-ghost use Rattle.hidreport.specs.Writing.{fits, put};
+ghost use Rattle.std.specs.Int.{bit_at};
+ghost use Rattle.hidreport.specs.Writing.{bit_after, fits, put};
 
 use crate::field::value::word;
 
@@ -28,10 +29,20 @@ pub(crate) fn put_bits(bytes: &mut [u8], first: usize, width: usize, number: i64
     ensures { bytes.new ≡ put first width (number ∷ []) bytes.old }
 {
     let touched = &mut bytes[first / 8..(first + width).div_ceil(8)];
-    let mask: u64 = (1 << width) - 1;
-    let shift = first % 8;
-    let kept = word(touched) & !(mask << shift);
-    put_word(touched, kept | (number.cast_unsigned() & mask) << shift);
+    let word = word_with(touched, first % 8, width, number);
+    put_word(touched, word);
+}
+
+/// At most five bytes as one number, with a number in place of the bits from `first` on.
+fn word_with(bytes: &[u8], first: usize, width: usize, number: i64) -> u64
+    requires short { length bytes.now ≤ 5 }
+    requires low { first < 8 }
+    requires narrow { width ≤ 32 }
+    ensures { (i : ℕ) → i < 8 * length bytes.now
+        → bit_at result i ≡ bit_after first width (number ∷ []) bytes.now i }
+{
+    let mask = (1 << width) - 1;
+    word(bytes) & !(mask << first) | (number.cast_unsigned() & mask) << first
 }
 
 /// Puts the low bits of a number in place of at most five bytes, the lowest in the first.
