@@ -1,13 +1,13 @@
 -- Writing a field (Sections 5.6 and 5.8), the inverse of reading: the bytes that have its values, or
 -- why they are refused.
-use Rattle.std.specs.Prelude.{ℕ, ◌+◌, ◌-◌, ◌*◌, ◌/◌, ◌%◌, ◌^◌, ◌==◌, nat_lt, nat_le, ◌&&◌, zero, suc}
+use Rattle.std.specs.Prelude.{ℕ, ◌+◌, ◌-◌, ◌*◌, ◌/◌, ◌%◌, ◌^◌, ◌==◌, nat_lt, nat_le, ◌&&◌, ◌||◌, not, zero, suc}
 use Rattle.std.specs.Prelude.{Bool, true, false, if◌then◌else◌, ℤ, pos, negsuc, List, [], ◌∷◌}
 use Rattle.std.specs.Prelude.{length, get_or, Option, None, Some, Result, Ok, Err, ◌≡◌}
 use Rattle.std.specs.List.{list_all}
 use Rattle.std.specs.Int.{bit_at}
 use Rattle.hidreport_lists.specs.Answer.{Refusal, InvalidAt, Bounds, Mismatch, OverBudget}
 use Rattle.hidreport.specs.BitValue.{bit}
-use Rattle.hidreport.specs.Reading.{element_width, is_signed, reads, reads_element}
+use Rattle.hidreport.specs.Reading.{element_width, is_signed, reads, reads_element, with_id}
 use Rattle.hidreport.specs.Records.{FieldRecord, VariableRecord, ArrayRecord, ConstantRecord}
 use Rattle.hidreport.specs.Records.{own_id, place_of}
 use Rattle.hidreport.specs.declared.field.insert_error.InsertError.{InsertError}
@@ -74,9 +74,14 @@ insert_refusal Bounds = refused.OutOfBounds
 insert_refusal Mismatch = refused.MismatchingReportId
 insert_refusal (OverBudget offset) = refused.OutOfBounds
 
+-- the bits from `first` up to `end` can be read: at least one, at most 32, and all in the bytes
+abbrev pub are_readable : ℕ → ℕ → List ℕ → Bool
+are_readable first end bytes = not (nat_le end first
+    || (nat_lt 32 (end - first) || nat_lt (8 * length bytes) end))
+
 -- what can't be read can't be written either
-abbrev pub where_read : {A : Type 0} → Result A Refusal → Result (List ℕ) InsertError
-    → Result (List ℕ) InsertError
+abbrev pub where_read : {A B : Type 0} → Result A Refusal → Result B InsertError
+    → Result B InsertError
 where_read (Ok values) answer = answer
 where_read (Err refusal) answer = Err (insert_refusal refusal)
 
@@ -106,3 +111,9 @@ abbrev pub Inserts : Result (Unit {0}) InsertError → List ℕ → List ℕ
     → Result (List ℕ) InsertError → Type 0
 Inserts (Ok done) old new answer = answer ≡ Ok new
 Inserts (Err e) old new answer = (answer ≡ Err e) × (new ≡ old)
+
+-- the bits from `first` up to `end` can be written by a field with this id, whatever the value
+abbrev pub place_check : Option ℕ → ℕ → ℕ → List ℕ → Result (Unit {0}) InsertError
+place_check id first end bytes = where_read
+    (with_id id bytes (if are_readable first end bytes then Ok (tt {0}) else Err Bounds))
+    (if begins_in_id id first then Err refused.OutOfBounds else Ok (tt {0}))

@@ -1,10 +1,53 @@
 //! Bits of a report's bytes, written as they are read.
-ghost use Rattle.std.specs.Prelude.{◌≡◌, true, [], ◌∷◌, ◌+◌, ◌*◌, ◌<◌, ◌≤◌, ◌/◌, ◌%◌, ◌^◌, ℕ};
+ghost use Rattle.std.specs.Prelude.{◌≡◌, Ok, [], ◌∷◌, ◌+◌, ◌*◌, ◌<◌, ◌≤◌, ◌/◌, ◌%◌, ◌^◌, ℕ};
 ghost use Rattle.std.specs.Prelude.{length, slice_index};
 ghost use Rattle.std.specs.Int.{bit_at};
-ghost use Rattle.hidreport.specs.Writing.{bit_after, fits, put};
+ghost use Rattle.hidreport.specs.Reading.{with_id};
+ghost use Rattle.hidreport.specs.Writing.{begins_in_id, bit_after, fits, place_check, put};
+ghost use Rattle.hidreport.specs.Writing.{where_read};
 
-use crate::field::value::word;
+use crate::field::insert_error::InsertError;
+use crate::field::value::{are_readable, check_id, word};
+use hidreport_lists::ParserError;
+use hidreport_types::ReportId;
+use std::ops::Range;
+
+/// Refuses bits that a field with this id doesn't read, and those that begin in the id's byte.
+#[inline(always)]
+pub(crate) fn check_place(
+    report_id: &Option<ReportId>,
+    bits: &Range<usize>,
+    bytes: &[u8],
+) -> Result<(), InsertError>
+    ensures { result ≡ place_check report_id.now bits.now.start bits.now.end bytes.now }
+{
+    check_written_id(report_id, bytes)?;
+    if !are_readable(bytes, bits) || begins_in_id(report_id, bits.start) {
+        return Err(InsertError::OutOfBounds);
+    }
+    Ok(())
+}
+
+/// Refuses bytes that a field with this id doesn't read.
+pub(crate) fn check_written_id(
+    report_id: &Option<ReportId>,
+    bytes: &[u8],
+) -> Result<(), InsertError>
+    ensures { result ≡ where_read (with_id report_id.now bytes.now (Ok (tt {0}))) (Ok (tt {0})) }
+{
+    match check_id(*report_id, bytes) {
+        Ok(()) => Ok(()),
+        Err(ParserError::MismatchingReportId) => Err(InsertError::MismatchingReportId),
+        Err(_) => Err(InsertError::OutOfBounds),
+    }
+}
+
+/// Whether bits from this one on begin in the byte of an id.
+pub(crate) fn begins_in_id(report_id: &Option<ReportId>, first: usize) -> bool
+    ensures { result ≡ begins_in_id report_id.now first }
+{
+    report_id.is_some() && first < 8
+}
 
 /// Whether so many bits hold the number, signed or not.
 pub(crate) fn fits(width: usize, is_signed: bool, number: i64) -> bool
