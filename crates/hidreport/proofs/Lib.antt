@@ -4,6 +4,7 @@ pub mod FixedBitsLemmas
 pub mod BitLemmas
 pub mod WordLemmas
 pub mod PutBitsLemmas
+pub mod PutValuesLemmas
 pub mod WrittenBitsLemmas
 pub mod ItemStateLemmas
 pub mod ReportLemmas

@@ -208,10 +208,10 @@ after-none first width number bytes n (inr above) =
     after-outside first width (number ∷ []) bytes n (inr (omega arith))
 
 -- below, from there on, or from the end on
-abbrev Placed : ℕ → ℕ → ℕ → Type 0
+abbrev pub Placed : ℕ → ℕ → ℕ → Type 0
 Placed n low high = (n < low) ⊎ ((low ≤ n) × (n < high)) ⊎ (high ≤ n)
 
-place-of : (n low high : ℕ) → Placed n low high
+pub place-of : (n low high : ℕ) → Placed n low high
 place-of n low high = by (nat_lt n low) (nat_lt n high) refl refl where
   by : (a b : Bool) → nat_lt n low ≡ a → nat_lt n high ≡ b → Placed n low high
   by true b p q = inl (grind (arith, nat_tests))

@@ -1,5 +1,5 @@
 ghost use Rattle.std.specs.Prelude.{◌≡◌, ◌≢◌, ◌+◌, ◌*◌, ◌^◌, ◌<◌, pos, int_lt, IfErr, IfOk, IfSome};
-ghost use Rattle.std.specs.Prelude.{IsNone, IsOk, OnOk};
+ghost use Rattle.std.specs.Prelude.{IsNone, IsOk, true, false};
 ghost use Rattle.hidreport_lists.specs.Answer.{Answers, AnswersBy, Bounds, IsOfReading, Refuses};
 ghost use Rattle.hidreport.specs.Bits.{FixesBits};
 ghost use Rattle.hidreport.specs.Choosing.{usage_chosen, value_number};
@@ -8,15 +8,19 @@ ghost use Rattle.hidreport.specs.Reading.{values_of};
 ghost use Rattle.hidreport.specs.Records.{is_of_range, usages_in};
 ghost use Rattle.hidreport.specs.Tiling.{HasRange};
 ghost use Rattle.hidreport.specs.UsageRange.{range_of, HasExactly};
+ghost use Rattle.hidreport.specs.Writing.{Inserts, written, written_element};
 ghost use Rattle.hidreport.specs.Views.{array_attributes, array_record};
 
 use crate::field::FieldId;
 use crate::field::collection::Collection;
 use crate::field::data_item::DataItem;
 use crate::field::field_attributes::FieldAttributes;
+use crate::field::insert_error::InsertError;
 use crate::field::usage::Usage;
 use crate::field::usage_range::UsageRange;
-use crate::field::value::{FieldValue, check_id, read_bits};
+use crate::field::value::{FieldValue, are_readable, check_id, read_bits};
+use crate::field::written_bits::{all_fit, begins_in_id, check_place, check_written_id, fits};
+use crate::field::written_bits::{put_bits, put_values};
 use hidreport_lists::ParserError;
 use hidreport_types::{
     LogicalMaximum, LogicalMinimum, PhysicalMaximum, PhysicalMinimum, ReportCount, ReportId, Unit,
@@ -168,6 +172,62 @@ impl ArrayField {
             .ok_or(ParserError::OutOfBounds)
     }
 
+    /// Writes the value of element `index`, counted from 0, into a report that has these bytes: the
+    /// element's bits become those of the value in two's complement, the lowest first, and no
+    /// other bit changes (Section 5.8).
+    ///
+    /// What can't be read can't be written: an index that isn't below the count is `OutOfBounds`,
+    /// then `OutOfBounds` and `MismatchingReportId` come as for `extract_one`. An element that
+    /// begins in the byte of the report's id is `OutOfBounds`, too. Then a value that so many bits
+    /// don't hold, signed or not as the field is, is `DoesNotFit`; one outside the logical bounds
+    /// is written, since it stands for no usage. A refusal leaves the bytes as they were. It takes
+    /// no memory.
+    pub fn insert_one(&self, bytes: &mut [u8], index: usize, value: i64) -> Result<(), InsertError>
+        ensures answer { Inserts result bytes.old bytes.new
+            (written_element (array_record self.now) index value bytes.old) }
+    {
+        if index >= usize::from(self.report_count) {
+            return Err(InsertError::OutOfBounds);
+        }
+        let width = self.element_width();
+        let first = self.element_first(width, index);
+        check_place(&self.report_id, &(first..first + width), bytes)?;
+        if !fits(width, self.is_signed(), value) {
+            return Err(InsertError::DoesNotFit);
+        }
+        put_bits(bytes, first, width, value);
+        Ok(())
+    }
+
+    /// Writes the values of all elements, in order, into a report that has these bytes: the bits of
+    /// the elements become those of the values in two's complement, the lowest first, and no other
+    /// bit changes (Section 5.8).
+    ///
+    /// More or fewer values than the field's count are `WrongCount`, before anything else. What
+    /// can't be read can't be written: `OutOfBounds` and `MismatchingReportId` come as for
+    /// `extract`. A range that begins in the byte of the report's id is `OutOfBounds`, too. Then,
+    /// where so many bits don't hold one of the values, signed or not as the field is, it is
+    /// `DoesNotFit`; one outside the logical bounds is written, since it stands for no usage. A
+    /// refusal leaves the bytes as they were. It takes no memory.
+    pub fn insert(&self, bytes: &mut [u8], values: &[i64]) -> Result<(), InsertError>
+        ensures answer { Inserts result bytes.old bytes.new
+            (written (array_record self.now) values.now bytes.old) }
+    {
+        if values.len() != usize::from(self.report_count) {
+            return Err(InsertError::WrongCount);
+        }
+        check_written_id(&self.report_id, bytes)?;
+        let width = self.element_width();
+        if !self.are_readable(bytes, width) || begins_in_id(&self.report_id, self.bits.start) {
+            return Err(InsertError::OutOfBounds);
+        }
+        if !all_fit(width, self.is_signed(), values) {
+            return Err(InsertError::DoesNotFit);
+        }
+        put_values(bytes, self.bits.start, width, values);
+        Ok(())
+    }
+
     /// The same field once more, with a list of usages of its own; both share the list of
     /// collections. An `AllocError` comes where memory for the usages is refused, or where that
     /// list would have 2^63 owners.
@@ -202,7 +262,9 @@ impl ArrayField {
     {
         let count = usize::from(self.report_count);
         let width = self.element_width();
-        self.check_elements(bytes, width)?;
+        if !self.are_readable(bytes, width) {
+            return Err(ParserError::OutOfBounds);
+        }
         let mut values = Vec::with_capacity(*self.usages.allocator(), count)?;
         for idx in 0..count {
             let Some(value) = self.element(bytes, width, idx) else {
@@ -211,27 +273,6 @@ impl ArrayField {
             values.push_reserved(value);
         }
         Ok(values)
-    }
-
-    /// Refuses where some element can't be read: where the last one can, so can those before it.
-    fn check_elements(&self, bytes: &[u8], width: usize) -> Result<(), ParserError>
-        requires width { 0 < self.now.report_count → width
-            ≡ element_width self.now.bits.start self.now.bits.end self.now.report_count }
-        requires counted { self.now.bits.start + width * self.now.report_count < 2 ^ 64 }
-        ensures readable { OnOk result (IsOk (values_of (array_record self.now) bytes.now)) }
-        ensures refused { IfErr result (λ e.
-            Refuses e (values_of (array_record self.now) bytes.now)) }
-        ensures named { IfErr result IsOfReading }
-        ensures memory { result ≢ Err ParserError.OutOfMemory }
-    {
-        let count = usize::from(self.report_count);
-        if count == 0 {
-            return Ok(());
-        }
-        match self.element(bytes, width, count - 1) {
-            Some(_) => Ok(()),
-            None => Err(ParserError::OutOfBounds),
-        }
     }
 
     /// How many bits an element has: the field's bits divided by the count, if it isn't 0.
@@ -246,6 +287,34 @@ impl ArrayField {
             .unwrap_or(0)
     }
 
+    /// The first bit of an element that is there, of so many bits.
+    fn element_first(&self, width: usize, idx: usize) -> usize
+        requires there { idx < self.now.report_count }
+        requires counted { self.now.bits.start + width * self.now.report_count < 2 ^ 64 }
+        ensures first { result ≡ self.now.bits.start + width * idx }
+        ensures room { result + width < 2 ^ 64 }
+    {
+        self.bits.start + width * idx
+    }
+
+    /// Whether all elements, of so many bits, can be read, whatever the report's id: where the last
+    /// one can, so can those before it.
+    fn are_readable(&self, bytes: &[u8], width: usize) -> bool
+        requires width { 0 < self.now.report_count → width
+            ≡ element_width self.now.bits.start self.now.bits.end self.now.report_count }
+        requires counted { self.now.bits.start + width * self.now.report_count < 2 ^ 64 }
+        ensures readable { result ≡ true → IsOk (values_of (array_record self.now) bytes.now) }
+        ensures outside { result ≡ false
+            → values_of (array_record self.now) bytes.now ≡ Err Bounds }
+    {
+        let count = usize::from(self.report_count);
+        if count == 0 {
+            return true;
+        }
+        let last = self.element_first(width, count - 1);
+        are_readable(bytes, &(last..last + width))
+    }
+
     /// The value of an element that is there, of so many bits, whatever the report's id.
     fn element(&self, bytes: &[u8], width: usize, idx: usize) -> Option<FieldValue>
         requires there { idx < self.now.report_count }
@@ -257,7 +326,7 @@ impl ArrayField {
         ensures outside { IsNone result
             → element_of (array_record self.now) bytes.now idx ≡ Err Bounds }
     {
-        let first = self.bits.start + width * idx;
+        let first = self.element_first(width, idx);
         read_bits(bytes, &(first..first + width), self.is_signed())
     }
 }

@@ -1,7 +1,8 @@
 //! Bits of a report's bytes, written as they are read.
-ghost use Rattle.std.specs.Prelude.{◌≡◌, Ok, [], ◌∷◌, ◌+◌, ◌*◌, ◌<◌, ◌≤◌, ◌/◌, ◌%◌, ◌^◌, ℕ};
+ghost use Rattle.std.specs.Prelude.{◌≡◌, ◌≢◌, Ok, [], ◌∷◌, ◌+◌, ◌*◌, ◌<◌, ◌≤◌, ◌/◌, ◌%◌, ◌^◌, ℕ};
 ghost use Rattle.std.specs.Prelude.{length, slice_index};
 ghost use Rattle.std.specs.Int.{bit_at};
+ghost use Rattle.std.specs.List.{list_all};
 ghost use Rattle.hidreport.specs.Reading.{with_id};
 ghost use Rattle.hidreport.specs.Writing.{begins_in_id, bit_after, fits, place_check, put};
 ghost use Rattle.hidreport.specs.Writing.{where_read};
@@ -60,6 +61,36 @@ pub(crate) fn fits(width: usize, is_signed: bool, number: i64) -> bool
         -half <= number && number < half
     } else {
         0 <= number && number < 1 << width
+    }
+}
+
+/// Whether so many bits hold each of these numbers, signed or not.
+pub(crate) fn all_fit(width: usize, is_signed: bool, numbers: &[i64]) -> bool
+    requires some { length numbers.now ≢ 0 → 0 < width }
+    requires narrow { length numbers.now ≢ 0 → width ≤ 32 }
+    ensures { result ≡ list_all (fits width is_signed) numbers.now }
+{
+    for number in numbers {
+        if !fits(width, is_signed, *number) {
+            return false;
+        }
+    }
+    true
+}
+
+/// Puts numbers, each of so many bits, in place of the bits from `first` on; all others stay.
+pub(crate) fn put_values(bytes: &mut [u8], first: usize, width: usize, numbers: &[i64])
+    requires some { length numbers.now ≢ 0 → 0 < width }
+    requires narrow { length numbers.now ≢ 0 → width ≤ 32 }
+    requires within { length numbers.now ≢ 0
+        → first + width * length numbers.now ≤ 8 * length bytes.now }
+    requires counted { first + width * length numbers.now < 2 ^ 64 }
+    ensures { bytes.new ≡ put first width numbers.now bytes.old }
+{
+    let mut place = first;
+    for number in numbers {
+        put_bits(bytes, place, width, *number);
+        place += width;
     }
 }
 
