@@ -196,3 +196,15 @@ elements-refused-by first end count s bytes n last w p e ew ep t =
     ∙ ap (λ k. are_readable (first + element_width first end count * last)
     (first + element_width first end count * last + k) bytes) ew) ∙ t in
     elements-outside first end count s bytes n last (omega (arith, e)) (refused-by _ _ same)
+
+-- what can be read has some bits, at most 32, and all of them in the bytes
+pub readable-bits : (p w : ℕ) (bytes : List ℕ) → are_readable p (p + w) bytes ≡ true
+    → (0 < w) × (w ≤ 32) × (p + w ≤ 8 * length bytes)
+readable-bits p w bytes t =
+    let width : p + w - p ≡ w = omega arith in
+    let e = sym (ap (λ k. not (nat_le (p + w) p || (nat_lt 32 k || nat_lt (8 * length bytes) (p + w))))
+    width) ∙ t in (
+      grind (arith, nat_tests, e),
+      grind (arith, nat_tests, e),
+      grind (arith, nat_tests, e),
+    )

@@ -3,6 +3,7 @@ pub mod LookupLemmas
 pub mod FixedBitsLemmas
 pub mod BitLemmas
 pub mod WordLemmas
+pub mod WrittenLemmas
 pub mod PutBitsLemmas
 pub mod PutValuesLemmas
 pub mod WrittenBitsLemmas

@@ -1,4 +1,4 @@
-ghost use Rattle.std.specs.Prelude.{◌≡◌, ◌≢◌, ◌+◌, ◌*◌, ◌^◌, ◌<◌, pos, int_lt, IfErr, IfOk, IfSome};
+ghost use Rattle.std.specs.Prelude.{◌≡◌, ◌≢◌, ◌+◌, ◌*◌, ◌^◌, ◌<◌, ◌≤◌, length, pos, int_lt, IfErr, IfOk, IfSome};
 ghost use Rattle.std.specs.Prelude.{IsNone, IsOk, true, false};
 ghost use Rattle.hidreport_lists.specs.Answer.{Answers, AnswersBy, Bounds, IsOfReading, Refuses};
 ghost use Rattle.hidreport.specs.Bits.{FixesBits};
@@ -277,7 +277,7 @@ impl ArrayField {
 
     /// How many bits an element has: the field's bits divided by the count, if it isn't 0.
     fn element_width(&self) -> usize
-        ensures width { 0 < self.now.report_count → result
+        ensures width { result
             ≡ element_width self.now.bits.start self.now.bits.end self.now.report_count }
         ensures counted { self.now.bits.start + result * self.now.report_count < 2 ^ 64 }
     {
@@ -300,12 +300,14 @@ impl ArrayField {
     /// Whether all elements, of so many bits, can be read, whatever the report's id: where the last
     /// one can, so can those before it.
     fn are_readable(&self, bytes: &[u8], width: usize) -> bool
-        requires width { 0 < self.now.report_count → width
+        requires width { width
             ≡ element_width self.now.bits.start self.now.bits.end self.now.report_count }
         requires counted { self.now.bits.start + width * self.now.report_count < 2 ^ 64 }
         ensures readable { result ≡ true → IsOk (values_of (array_record self.now) bytes.now) }
         ensures outside { result ≡ false
             → values_of (array_record self.now) bytes.now ≡ Err Bounds }
+        ensures inside { result ≡ true → 0 < self.now.report_count → (0 < width) × (width ≤ 32)
+            × (self.now.bits.start + width * self.now.report_count ≤ 8 * length bytes.now) }
     {
         let count = usize::from(self.report_count);
         if count == 0 {
