@@ -157,11 +157,11 @@ pub after-bits : (first width : ℕ) (numbers : List ℤ) (bytes : List ℕ)
     → AreBits (bit_after first width numbers bytes)
 after-bits first width numbers bytes n =
     by (nat_le first n && nat_lt n (first + width * length numbers)) where
-  by : (t : Bool)
-      → cond t (number_bit (get_or numbers ((n - first) / width) (pos 0)) ((n - first) % width))
-      (bit bytes n) < 2
-  by true = number-bit-small (get_or numbers ((n - first) / width) (pos 0)) ((n - first) % width)
-  by false = bit-small bytes n
+      by : (t : Bool)
+          → cond t (number_bit (get_or numbers ((n - first) / width) (pos 0)) ((n - first) % width))
+          (bit bytes n) < 2
+      by true = number-bit-small (get_or numbers ((n - first) / width) (pos 0)) ((n - first) % width)
+      by false = bit-small bytes n
 
 pub after-inside : (first width : ℕ) (numbers : List ℤ) (bytes : List ℕ) (n : ℕ) → first ≤ n
     → n < first + width * length numbers → bit_after first width numbers bytes n
@@ -259,19 +259,19 @@ after-touched bytes first w end n number from below place =
     let same : bit touched i ≡ bit bytes n = sym (bit-from bytes q (end - q) i room)
     ∙ ap (bit bytes) at in
     by q i touched here at same place where
-  by : (q i : ℕ) (touched : List ℕ) → first ≡ 8 * q + first % 8 → 8 * q + i ≡ n
-      → bit touched i ≡ bit bytes n → Placed n first (first + w)
-      → bit_after (first % 8) w (number ∷ []) touched i ≡ bit_after first w (number ∷ []) bytes n
-  by q i touched here at same (inl lt) =
-      after-none (first % 8) w number touched i (inl (omega arith)) ∙ same
-      ∙ sym (after-none first w number bytes n (inl lt))
-  by q i touched here at same (inr (inl both)) =
-      let back : i - first % 8 ≡ n - first = omega (arith, both.0) in
-      after-one (first % 8) w number touched i (omega (arith, both.0)) (omega (arith, both.1))
-      ∙ ap (number_bit number) back ∙ sym (after-one first w number bytes n both.0 both.1)
-  by q i touched here at same (inr (inr ge)) =
-      after-none (first % 8) w number touched i (inr (omega arith)) ∙ same
-      ∙ sym (after-none first w number bytes n (inr ge))
+      by : (q i : ℕ) (touched : List ℕ) → first ≡ 8 * q + first % 8 → 8 * q + i ≡ n
+          → bit touched i ≡ bit bytes n → Placed n first (first + w)
+          → bit_after (first % 8) w (number ∷ []) touched i ≡ bit_after first w (number ∷ []) bytes n
+      by q i touched here at same (inl lt) =
+          after-none (first % 8) w number touched i (inl (omega arith)) ∙ same
+          ∙ sym (after-none first w number bytes n (inl lt))
+      by q i touched here at same (inr (inl both)) =
+          let back : i - first % 8 ≡ n - first = omega (arith, both.0) in
+          after-one (first % 8) w number touched i (omega (arith, both.0)) (omega (arith, both.1))
+          ∙ ap (number_bit number) back ∙ sym (after-one first w number bytes n both.0 both.1)
+      by q i touched here at same (inr (inr ge)) =
+          after-none (first % 8) w number touched i (inr (omega arith)) ∙ same
+          ∙ sym (after-none first w number bytes n (inr ge))
 
 -- a bit of bytes with others in place of those from q up to end
 mid-bit : (bytes ys : List ℕ) (q end n g : ℕ) → length ys ≡ end - q → q ≤ end

@@ -103,9 +103,9 @@ more-bit first w numbers bytes i n number more is from lt =
     after-inside first w (take (i + 1) numbers) bytes n start room
     ∙ ap (λ k. number_bit (get_or (take (i + 1) numbers) k (pos 0)) ((n - first) % w)) index
     ∙ ap (λ z. number_bit z ((n - first) % w)) here ∙ ap (number_bit number) within where
-  split : (n first w i : ℕ) → w * i ≡ i * w → first + w * i ≤ n
-      → n - first ≡ i * w + (n - (first + w * i))
-  split n first w i e le = omega arith
+      split : (n first w i : ℕ) → w * i ≡ i * w → first + w * i ≤ n
+          → n - first ≡ i * w + (n - (first + w * i))
+      split n first w i e le = omega arith
 
 -- one number more, behind those that were put
 more-after : (first w : ℕ) (numbers : List ℤ) (bytes : List ℕ) (i n : ℕ) (number : ℤ)
@@ -156,7 +156,7 @@ put-none first w bytes are =
     bytes-same (bit_after first w [] bytes) (after-bits first w [] bytes) bytes are 0
     (λ n lt. let e : 0 + n ≡ n = omega arith in ap (bit_after first w [] bytes) e
     ∙ after-outside first w [] bytes n (none n (place-of n first first))) where
-  none : (n : ℕ) → Placed n first first → (n < first) ⊎ (first + w * 0 ≤ n)
-  none n (inl below) = inl below
-  none n (inr (inl both)) = inl both.1
-  none n (inr (inr ge)) = inr (omega arith)
+      none : (n : ℕ) → Placed n first first → (n < first) ⊎ (first + w * 0 ≤ n)
+      none n (inl below) = inl below
+      none n (inr (inl both)) = inl both.1
+      none n (inr (inr ge)) = inr (omega arith)

@@ -34,6 +34,7 @@ bit-more : (x b w i g : ℕ) → x < 2 ^ w → b < 2 → i < suc w → (i < w �
 bit-more x b w i g small bit lt low top = by (nat_lt i w) refl where
   turned : x + b * 2 ^ w ≡ b * 2 ^ w + x
   turned = omega arith
+
   by : (t : Bool) → nat_lt i w ≡ t → bit_at (x + b * 2 ^ w) i ≡ g
   by true e =
       let h : i < w = grind (arith, nat_tests) in

@@ -19,8 +19,9 @@ use crate::field::insert_error::InsertError;
 use crate::field::usage::Usage;
 use crate::field::usage_range::UsageRange;
 use crate::field::value::{FieldValue, are_readable, check_id, read_bits};
-use crate::field::written_bits::{all_fit, begins_in_id, check_place, check_written_id, fits};
-use crate::field::written_bits::{put_bits, put_values};
+use crate::field::written_bits::{
+    all_fit, begins_in_id, check_place, check_written_id, fits, put_bits, put_values,
+};
 use hidreport_lists::ParserError;
 use hidreport_types::{
     LogicalMaximum, LogicalMinimum, PhysicalMaximum, PhysicalMinimum, ReportCount, ReportId, Unit,

@@ -35,8 +35,8 @@ returns-clause-inside c = λ t some.
           c.element_first-last.result (8 * length c.args.bytes.now) last
           c.element_first-last.ensures.first bits.2,
     ) where
-  whole : (first w count last p room : ℕ) → count ≡ last + 1 → p ≡ first + w * last
-      → p + w ≤ room → first + w * count ≤ room
-  whole first w count last p room e ep le =
-      let parts : w * (last + 1) ≡ w * last + w = omega arith in
-      subst (λ n. first + w * n ≤ room) (sym e) (omega arith)
+      whole : (first w count last p room : ℕ) → count ≡ last + 1 → p ≡ first + w * last
+          → p + w ≤ room → first + w * count ≤ room
+      whole first w count last p room e ep le =
+          let parts : w * (last + 1) ≡ w * last + w = omega arith in
+          subst (λ n. first + w * n ≤ room) (sym e) (omega arith)

@@ -20,8 +20,13 @@ returns-then-not-all_fit c =
     let read = written-array (array_place f) f.usages.items f.is_usage_range f.report_count
     (array_attributes f) values bytes size
     (sym c.check_written_id.ensures ∙ search rules) (c.are_readable.ensures.readable (search rules)) in
-    record { answer = (read ∙ placed-unfit (array_record f) f.bits.start values bytes
-    (sym c.begins_in_id.ensures ∙ c.if-begins_in_id.false) unfit, refl) }
+    record {
+      answer = (
+        read ∙ placed-unfit (array_record f) f.bits.start values bytes
+            (sym c.begins_in_id.ensures ∙ c.if-begins_in_id.false) unfit,
+        refl,
+      );
+    }
 
 pub returns : goal.returns
 returns c =
@@ -36,7 +41,9 @@ returns c =
     let read = written-array (array_place f) f.usages.items f.is_usage_range f.report_count
     (array_attributes f) values bytes size
     (sym c.check_written_id.ensures ∙ search rules) (c.are_readable.ensures.readable (search rules)) in
-    record { answer = read ∙ placed-ok (array_record f) f.bits.start values bytes
-    (sym c.begins_in_id.ensures ∙ c.if-begins_in_id.false) all
-    ∙ ap (λ (l : List ℕ). Ok l) (sym (c.put_values.ensures
-    ∙ ap (λ w. put f.bits.start w values bytes) c.element_width-width.ensures.width)) }
+    record {
+      answer = read ∙ placed-ok (array_record f) f.bits.start values bytes
+          (sym c.begins_in_id.ensures ∙ c.if-begins_in_id.false) all
+          ∙ ap (λ (l : List ℕ). Ok l) (sym (c.put_values.ensures
+          ∙ ap (λ w. put f.bits.start w values bytes) c.element_width-width.ensures.width));
+    }
