@@ -13,6 +13,7 @@ pub mod IndexedLemmas
 pub mod JournalLemmas
 pub mod KeptItemsLemmas
 pub mod LevelLemmas
+pub mod NullLemmas
 pub mod OpenLemmas
 pub mod OwnCollectionsLemmas
 pub mod WalkLemmas

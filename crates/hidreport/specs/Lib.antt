@@ -19,6 +19,7 @@ pub mod Places
 pub mod Reading
 pub mod Records
 pub mod Segments
+pub mod Standing
 pub mod Usages
 pub mod Tiling
 pub mod UsageNumber

@@ -1,11 +1,12 @@
 ghost use Rattle.std.specs.Prelude.{◌≡◌, ◌≢◌, ◌+◌, ◌*◌, ◌^◌, ◌<◌, ◌≤◌, length, pos, int_lt, IfErr, IfOk, IfSome};
-ghost use Rattle.std.specs.Prelude.{IsNone, IsOk, true, false};
+ghost use Rattle.std.specs.Prelude.{IsNone, IsOk, Some, true, false, slice_get, ℕ, ℤ, ◌||◌};
 ghost use Rattle.hidreport_lists.specs.Answer.{Answers, AnswersBy, Bounds, IsOfReading, Refuses};
 ghost use Rattle.hidreport.specs.Bits.{FixesBits};
 ghost use Rattle.hidreport.specs.Choosing.{usage_chosen, value_number};
 ghost use Rattle.hidreport.specs.Reading.{element_of, element_width, reads, reads_element};
 ghost use Rattle.hidreport.specs.Reading.{values_of};
 ghost use Rattle.hidreport.specs.Records.{is_of_range, usages_in};
+ghost use Rattle.hidreport.specs.Standing.{IsLeastFor, is_null, null_number};
 ghost use Rattle.hidreport.specs.Tiling.{HasRange};
 ghost use Rattle.hidreport.specs.UsageRange.{range_of, HasExactly};
 ghost use Rattle.hidreport.specs.Writing.{Inserts, written, written_element};
@@ -124,6 +125,49 @@ impl ArrayField {
         }
         let index = (number - minimum).unsigned_abs() as usize;
         self.usages.get(index).copied()
+    }
+
+    /// The value that stands for a usage, the inverse of `usage_of` (Section 6.2.2.5): the logical
+    /// minimum plus the usage's index, counted from 0. Where the usage is listed more than once,
+    /// it is the least such value. `None` where the usage isn't listed, or only behind the logical
+    /// maximum. It takes no memory.
+    pub fn value_of(&self, usage: Usage) -> Option<i64>
+        ensures { IsLeastFor (usages_in (array_record self.now))
+            self.now.logical_minimum self.now.logical_maximum usage result }
+    {
+        let index = self.index_of(usage)?;
+        let value = i64::from(i32::from(self.logical_minimum)) + index as i64;
+        if i64::from(i32::from(self.logical_maximum)) < value {
+            return None;
+        }
+        Some(value)
+    }
+
+    /// A value that stands for no usage: one outside the logical bounds that an element's bits
+    /// hold (Section 6.2.2.5). It is 0 where that is one, else the number below the logical
+    /// minimum, else the one above the logical maximum. `None` where the bits hold no such value
+    /// (`none`), and where an element has no bits or more than 32. It takes no memory.
+    pub fn null_value(&self) -> Option<i64>
+        ensures first { result ≡ null_number
+            (element_width self.now.bits.start self.now.bits.end self.now.report_count)
+            (int_lt self.now.logical_minimum (pos 0))
+            self.now.logical_minimum self.now.logical_maximum }
+        ensures none { IsNone result → (number : ℤ) → is_null
+            (element_width self.now.bits.start self.now.bits.end self.now.report_count)
+            (int_lt self.now.logical_minimum (pos 0))
+            self.now.logical_minimum self.now.logical_maximum number ≡ false }
+    {
+        let below = i64::from(i32::from(self.logical_minimum)) - 1;
+        let above = i64::from(i32::from(self.logical_maximum)) + 1;
+        if self.is_null(0) {
+            Some(0)
+        } else if self.is_null(below) {
+            Some(below)
+        } else if self.is_null(above) {
+            Some(above)
+        } else {
+            None
+        }
     }
 
     /// Whether the values can be below 0: the logical minimum is.
@@ -251,6 +295,46 @@ impl ArrayField {
             collections: self.collections.clone()?,
             item: self.item,
         })
+    }
+
+    /// The index of the first usage that is this one.
+    fn index_of(&self, usage: Usage) -> Option<usize>
+        ensures found { IfSome result (λ index.
+            slice_get (usages_in (array_record self.now)) index ≡ Some usage) }
+        ensures first { IfSome result (λ index. (k : ℕ) → k < index
+            → slice_get (usages_in (array_record self.now)) k ≢ Some usage) }
+        ensures absent { IsNone result → (k : ℕ)
+            → slice_get (usages_in (array_record self.now)) k ≢ Some usage }
+    {
+        for index in 0..self.usages.len() {
+            if self.usages[index] == usage {
+                return Some(index);
+            }
+        }
+        None
+    }
+
+    /// Whether a number lies outside the logical bounds.
+    fn is_outside(&self, number: i64) -> bool
+        ensures { result ≡ (int_lt number self.now.logical_minimum
+            || int_lt self.now.logical_maximum number) }
+    {
+        number < i64::from(i32::from(self.logical_minimum))
+            || i64::from(i32::from(self.logical_maximum)) < number
+    }
+
+    /// Whether a number lies outside the logical bounds and an element's bits hold it.
+    fn is_null(&self, number: i64) -> bool
+        ensures { result ≡ is_null
+            (element_width self.now.bits.start self.now.bits.end self.now.report_count)
+            (int_lt self.now.logical_minimum (pos 0))
+            self.now.logical_minimum self.now.logical_maximum number }
+    {
+        let width = self.element_width();
+        if width == 0 || 32 < width {
+            return false;
+        }
+        self.is_outside(number) && fits(width, self.is_signed(), number)
     }
 
     /// The values of all elements, whatever the report's id.
