@@ -36,3 +36,4 @@ pub mod RefusalLemmas
 pub mod RangeLemmas
 pub mod ElementLemmas
 pub mod SegmentLemmas
+pub mod StandingLemmas

@@ -136,11 +136,12 @@ impl ArrayField {
             self.now.logical_minimum self.now.logical_maximum usage result }
     {
         let index = self.index_of(usage)?;
-        let value = i64::from(i32::from(self.logical_minimum)) + index as i64;
-        if i64::from(i32::from(self.logical_maximum)) < value {
+        let minimum = i64::from(i32::from(self.logical_minimum));
+        let maximum = i64::from(i32::from(self.logical_maximum));
+        if maximum < minimum || (maximum - minimum).unsigned_abs() < index as u64 {
             return None;
         }
-        Some(value)
+        Some(minimum + index as i64)
     }
 
     /// A value that stands for no usage: one outside the logical bounds that an element's bits
