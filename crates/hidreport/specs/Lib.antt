@@ -1,6 +1,7 @@
 pub mod BitValue
 pub mod CollectionUsages
 pub mod Bits
+pub mod Blank
 pub mod Budget
 pub mod Choosing
 pub mod Faults
