@@ -16,6 +16,7 @@ pub mod LevelLemmas
 pub mod NullLemmas
 pub mod OpenLemmas
 pub mod OwnCollectionsLemmas
+pub mod ValueBitsLemmas
 pub mod WalkLemmas
 pub mod AllKeptLemmas
 pub mod GlobalsAloneLemmas

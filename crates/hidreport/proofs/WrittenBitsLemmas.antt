@@ -22,7 +22,7 @@ use Rattle.hidreport.proofs.BitLemmas.{bit-small, bit_added, power-fits}
 abbrev pub AreBits : (ℕ → ℕ) → Type 0
 AreBits f = (n : ℕ) → f n < 2
 
-number-small : (f : ℕ → ℕ) → AreBits f → (s w : ℕ) → number_of f s w < 2 ^ w
+pub number-small : (f : ℕ → ℕ) → AreBits f → (s w : ℕ) → number_of f s w < 2 ^ w
 number-small f small s zero = omega arith
 number-small f small s (suc w) =
     subst (λ n. number_of f s w + f (s + w) * 2 ^ w < 2 ^ n) (add-one w)
