@@ -11,6 +11,7 @@ pub mod ItemStateLemmas
 pub mod ReportLemmas
 pub mod IndexedLemmas
 pub mod JournalLemmas
+pub mod KeptBitsLemmas
 pub mod KeptItemsLemmas
 pub mod LevelLemmas
 pub mod NullLemmas

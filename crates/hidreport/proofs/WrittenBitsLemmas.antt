@@ -55,13 +55,13 @@ number-bit f small s (suc w) i lt =
     (small (s + w)) lt (λ h. number-bit f small s w i h)
     (λ e. ap (λ n. f (s + n)) (sym e))
 
-byte-same : (f : ℕ → ℕ) → AreBits f → (s b : ℕ) → b < 256
+pub byte-same : (f : ℕ → ℕ) → AreBits f → (s b : ℕ) → b < 256
     → ((i : ℕ) → i < 8 → f (s + i) ≡ bit_at b i) → number_of f s 8 ≡ b
 byte-same f small s b lt each = same_from_bits_below 8 (number_of f s 8) b (number-small f small s 8)
     lt (λ i h. number-bit f small s 8 i h ∙ each i h)
 
 -- the bits of the first byte, and those behind it
-bit-head : (b : ℕ) (bs : List ℕ) (i : ℕ) → i < 8 → bit (b ∷ bs) i ≡ bit_at b i
+pub bit-head : (b : ℕ) (bs : List ℕ) (i : ℕ) → i < 8 → bit (b ∷ bs) i ≡ bit_at b i
 bit-head b bs i lt =
     let place : i / 8 ≡ 0 = omega (arith, lt) in
     let within : i % 8 ≡ i = omega (arith, lt) in

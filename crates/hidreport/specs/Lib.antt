@@ -29,6 +29,7 @@ pub mod Visibility
 pub mod Views
 pub mod Weight
 pub mod Writing
+pub mod WritingLaws
 -- what public clauses cite of the crates below, so that a user names this one alone
 pub use Rattle.hidreport_types.specs.UnitTable
 pub use Rattle.hidreport_types.specs.UnitText

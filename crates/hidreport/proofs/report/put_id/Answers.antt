@@ -1,2 +1,2 @@
-use Rattle.hidreport.proofs.ValueBitsLemmas.{number-read}
+use Rattle.hidreport.proofs.KeptBitsLemmas.{values-kept}
 use Rattle.hidreport.proofs.report.put_id.Goals as goal
