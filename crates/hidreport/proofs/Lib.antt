@@ -20,6 +20,7 @@ pub mod OwnCollectionsLemmas
 pub mod ValueBitsLemmas
 pub mod WalkLemmas
 pub mod AllKeptLemmas
+pub mod ApartLemmas
 pub mod GlobalsAloneLemmas
 pub mod ReadingLemmas
 pub mod NoPushLemmas
@@ -34,6 +35,7 @@ pub mod DataLemmas
 pub mod OwnReportsLemmas
 pub mod WeightLemmas
 pub mod ParseLemmas
+pub mod ReadBackLemmas
 pub mod RefusalLemmas
 pub mod RangeLemmas
 pub mod ElementLemmas
