@@ -7,6 +7,7 @@ pub mod WrittenLemmas
 pub mod PutBitsLemmas
 pub mod PutValuesLemmas
 pub mod WrittenBitsLemmas
+pub mod IsWrittenLemmas
 pub mod ItemStateLemmas
 pub mod ReportLemmas
 pub mod IndexedLemmas

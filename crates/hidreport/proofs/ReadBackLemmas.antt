@@ -22,9 +22,9 @@ use Rattle.hidreport.proofs.ValueBitsLemmas.{number-read, value-of-bits}
 
 -- bits are read as a number
 pub record ReadsAs (answer : Result ValueRecord Refusal) (number : ℤ) : Type 0 where
-  value : ValueRecord
-  is : answer ≡ Ok value
-  says : value_number value ≡ number
+  pub value : ValueRecord
+  pub is : answer ≡ Ok value
+  pub says : value_number value ≡ number
 
 -- the test of a range that is read
 pub readable : (b : Bool) (x : ValueRecord) → IsOk (cond b (Err Bounds) (Ok x)) → b ≡ false
@@ -37,7 +37,8 @@ pub bits-read : (first end : ℕ) (s : Bool) (old new : List ℕ) (z : ℤ) → 
     → ((i : ℕ) → i < end - first → bit new (first + i) ≡ number_bit z i)
     → ReadsAs (read_bits first end s new) z
 bits-read first end s old new z size ok fit each =
-    let t = readable _ _ ok in
+    let t : (nat_le end first || (nat_lt 32 (end - first) || nat_lt (8 * length old) end)) ≡ false =
+    readable _ _ ok in
     let some : first < end = grind (arith, nat_tests, t) in
     let narrow : end - first ≤ 32 = grind (arith, nat_tests, t) in
     let same : (nat_le end first || (nat_lt 32 (end - first) || nat_lt (8 * length new) end))
