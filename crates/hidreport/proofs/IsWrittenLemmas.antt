@@ -158,7 +158,7 @@ reads-back field numbers old are parts =
     ∙ values-back field numbers old parts.count ok parts.fit
 
 -- as many other numbers put over them
-put-over : (first w : ℕ) (numbers others : List ℤ) (old : List ℕ) → length others ≡ length numbers
+pub put-over : (first w : ℕ) (numbers others : List ℤ) (old : List ℕ) → length others ≡ length numbers
     → put first w others (put first w numbers old) ≡ put first w others old
 put-over first w numbers others old same =
     let new = put first w numbers old in

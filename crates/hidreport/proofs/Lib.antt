@@ -7,6 +7,7 @@ pub mod WrittenLemmas
 pub mod PutBitsLemmas
 pub mod PutValuesLemmas
 pub mod WrittenBitsLemmas
+pub mod IsElementLemmas
 pub mod IsWrittenLemmas
 pub mod ItemStateLemmas
 pub mod ReportLemmas
