@@ -21,6 +21,7 @@ pub mod OpenLemmas
 pub mod OwnCollectionsLemmas
 pub mod ValueBitsLemmas
 pub mod WalkLemmas
+pub mod AgainLemmas
 pub mod AllKeptLemmas
 pub mod ApartLemmas
 pub mod GlobalsAloneLemmas

@@ -69,10 +69,10 @@ complement-bit x w i lt below =
     ∙ ap (λ n. 1 - bit_at x n) e
 
 -- x and a top bit, signed
-top-clear : (x P : ℕ) → pos x -ℤ pos (0 * P) ≡ pos x
+pub top-clear : (x P : ℕ) → pos x -ℤ pos (0 * P) ≡ pos x
 top-clear x P = omega (arith, ints)
 
-top-set : (x P : ℕ) → x < P → pos x -ℤ pos (1 * P) ≡ negsuc (P - 1 - x)
+pub top-set : (x P : ℕ) → x < P → pos x -ℤ pos (1 * P) ≡ negsuc (P - 1 - x)
 top-set x P lt = omega (arith, ints)
 
 -- a number that so many bits hold is the value of bits that are its own
