@@ -25,6 +25,7 @@ use Rattle.hidreport.specs.declared.field.insert_error.InsertError.{InsertError}
 use Rattle.hidreport.specs.declared.field.insert_error.InsertError.TheVariants as refused
 use Rattle.hidreport.specs.declared.field.usage.Usage.{Usage}
 use Rattle.hidreport.proofs.BitLemmas.{bit-small, sum-small, zero-or-one}
+use Rattle.hidreport.proofs.IsElementLemmas.{parts-by}
 use Rattle.hidreport.proofs.IsWrittenLemmas.{room-of, written-parts}
 use Rattle.hidreport.proofs.PutBitsLemmas.{Placed, after-bits, after-inside, after-outside, place-of}
 use Rattle.hidreport.proofs.ReadBackLemmas.{id-passes, readable}
@@ -277,3 +278,80 @@ again field numbers old new (Err e) are h read =
           (put (place_of field).first (value_width field) numbers old) own.fit own.read
           (h.0 ∙ (let same : e ≡ refused.DoesNotFit = cc in ap (λ x. Err x) same)),
     )
+
+element-in : (t : Bool) (id : Option ℕ) (old : List ℕ) (r : Result ValueRecord Refusal) (z : ℤ)
+    → number_in (cond t (with_id id old r) (Err Bounds)) ≡ Ok z
+    → (IsOk (cond t (with_id id old r) (Err Bounds))) × (number_in r ≡ Ok z)
+element-in false id old r z h = cc
+element-in true id old r z h =
+    let ok = number-ok (with_id id old r) z h in
+    (ok, sym (ap number_in (id-passes id old r r ok)) ∙ h)
+
+element-not-unfit : (b a : Bool) (r : Result ValueRecord Refusal) (p : List ℕ) → a ≡ true
+    → IsOk r → where_read r (cond b (Err refused.OutOfBounds)
+    (cond a (Ok p) (Err refused.DoesNotFit))) ≢ Err refused.DoesNotFit
+element-not-unfit true a (Ok xs) p e ok h = cc
+element-not-unfit false true (Ok xs) p e ok h = cc
+element-not-unfit false false (Ok xs) p e ok h = cc
+element-not-unfit b a (Err f) p e ok h = cc
+
+-- the same of one element
+pub again-element : (place : FieldPlace) (usages : List Usage) (is_range : Bool) (count : ℕ)
+    (shared : Attributes) (index : ℕ) (number : ℤ) (old new : List ℕ)
+    (result : Result (Unit {0}) InsertError) → AreBytes old
+    → Inserts result old new
+    (written_element (ArrayRecord place usages is_range count shared) index number old)
+    → number_in (reads_element (ArrayRecord place usages is_range count shared) old index) ≡ Ok number
+    → (new ≡ old) × (result ≢ Err refused.DoesNotFit)
+again-element place usages is_range count shared index number old new result are h read =
+    let s = is_signed shared in
+    let w = element_width place.first place.«end» count in
+    let p = place.first + w * index in
+    let e = element-in (nat_lt index count) place.report_id old (read_bits p (p + w) s old) number
+    read in
+    let width : p + w - p ≡ w = omega arith in
+    let own : IsValue p w s old number =
+    subst (λ v. IsValue p v s old number) width (own-value p (p + w) s old number e.1) in
+    let fit : list_all (fits w s) (number ∷ []) ≡ true =
+    all-fit w s (number ∷ []) (λ k lt. only w s number k lt (value-own-fits p w s old number own)) in
+    let same : put p w (number ∷ []) old ≡ old =
+    put-own p w (number ∷ []) old are (λ k i lt below.
+    bit-at p w number old k i lt (value-own-bits p w s old number i own below)) in
+    by result h fit same e.0 where
+  only : (w : ℕ) (s : Bool) (z : ℤ) (k : ℕ) → k < 1 → fits w s z ≡ true
+      → fits w s (get_or (z ∷ []) k (pos 0)) ≡ true
+  only w s z zero lt h = h
+  only w s z (suc k) lt h = absurd (omega arith)
+  bit-at : (first w : ℕ) (z : ℤ) (old : List ℕ) (k i : ℕ) → k < 1
+      → number_bit z i ≡ bit old (first + i)
+      → number_bit (get_or (z ∷ []) k (pos 0)) i ≡ bit old (first + w * k + i)
+  bit-at first w z old zero i lt h =
+      let here : first + i ≡ first + w * 0 + i = omega arith in h ∙ ap (bit old) here
+  bit-at first w z old (suc k) i lt h = absurd (omega arith)
+  by : (result : Result (Unit {0}) InsertError)
+      → Inserts result old new
+      (written_element (ArrayRecord place usages is_range count shared) index number old)
+      → list_all (fits (element_width place.first place.end count) (is_signed shared)) (number ∷ [])
+      ≡ true
+      → put (place.first + element_width place.first place.end count * index)
+      (element_width place.first place.end count) (number ∷ []) old ≡ old
+      → IsOk (reads_element (ArrayRecord place usages is_range count shared) old index)
+      → (new ≡ old) × (result ≢ Err refused.DoesNotFit)
+  by (Ok done) h fit same ok =
+      let w = element_width place.first place.«end» count in
+      let p = place.first + w * index in
+      let t = parts-by (nat_lt index count) (begins_in_id place.report_id p)
+      (list_all (fits w (is_signed shared)) (number ∷ []))
+      (with_id place.report_id old (read_bits p (p + w) (is_signed shared) old))
+      (put p w (number ∷ []) old) new h in
+      (sym t.4 ∙ same, λ e. cc)
+  by (Err e) h fit same ok =
+      let w = element_width place.first place.«end» count in
+      let p = place.first + w * index in (
+        h.1,
+        λ unfit. element-not-unfit (begins_in_id place.report_id p)
+            (list_all (fits w (is_signed shared)) (number ∷ []))
+            (reads_element (ArrayRecord place usages is_range count shared) old index)
+            (put p w (number ∷ []) old) fit ok
+            (h.0 ∙ (let eq : e ≡ refused.DoesNotFit = cc in ap (λ x. Err x) eq)),
+      )

@@ -35,7 +35,7 @@ record ElementParts (count index : ℕ) (id : Option ℕ) (p w : ℕ) (s : Bool)
   fit : list_all (fits w s) (number ∷ []) ≡ true
   is : put p w (number ∷ []) old ≡ new
 
-parts-by : (t b a : Bool) (r : Result ValueRecord Refusal) (p new : List ℕ)
+pub parts-by : (t b a : Bool) (r : Result ValueRecord Refusal) (p new : List ℕ)
     → where_read (cond t r (Err Bounds)) (cond b (Err refused.OutOfBounds)
     (cond a (Ok p) (Err refused.DoesNotFit))) ≡ Ok new
     → (t ≡ true) × (IsOk r) × (b ≡ false) × (a ≡ true) × (p ≡ new)

@@ -1,6 +1,7 @@
 -- What holds of bytes that values were written into (Sections 5.6 and 5.8).
-use Rattle.std.specs.Prelude.{◌≡◌, ◌≢◌, ◌⊎◌, ℕ, ◌+◌, ◌*◌, ◌<◌, ◌≤◌, ℤ, List, [], ◌∷◌, length, map}
+use Rattle.std.specs.Prelude.{◌≡◌, ◌≢◌, ◌⊎◌, ℕ, ◌+◌, ◌*◌, ◌<◌, ◌≤◌, ℤ, List, [], ◌∷◌, length, map, All}
 use Rattle.std.specs.Prelude.{slice_get, Some, Result, Ok, Err}
+use Rattle.hidreport_items.specs.Spelling.{AreBytes}
 use Rattle.hidreport_lists.specs.Answer.{Refusal}
 use Rattle.hidreport.specs.BitValue.{bit}
 use Rattle.hidreport.specs.Bits.{covered_bits}
@@ -9,6 +10,8 @@ use Rattle.hidreport.specs.Reading.{ValueRecord, reads, reads_element}
 use Rattle.hidreport.specs.Records.{FieldRecord, ReportRecord, place_of}
 use Rattle.hidreport.specs.Tiling.{IsFilled}
 use Rattle.hidreport.specs.Writing.{value_width, written, written_element}
+use Rattle.hidreport.specs.declared.field.insert_error.InsertError.{InsertError}
+use Rattle.hidreport.specs.declared.field.insert_error.InsertError.TheVariants as refused
 
 -- the numbers of values that were read
 abbrev pub numbers_of : Result (List ValueRecord) Refusal → Result (List ℤ) Refusal
@@ -52,3 +55,41 @@ pub record IsElementWritten (field : FieldRecord) (index : ℕ) (number : ℤ) (
   pub apart : LeavesOthers field old new
   pub last : (other : ℤ) → written_element field index other new
       ≡ written_element field index other old
+
+-- the next is written where this one is
+abbrev pub then_written : Result (List ℕ) InsertError → (List ℕ → Result (List ℕ) InsertError)
+    → Result (List ℕ) InsertError
+then_written (Ok bytes) next = next bytes
+then_written (Err refusal) next = Err refusal
+
+-- the fields of a report written in order, each with its values; padding has none
+abbrev pub written_all : List FieldRecord → List (List ℤ) → List ℕ → Result (List ℕ) InsertError
+written_all [] [] bytes = Ok bytes
+written_all [] (numbers ∷ more) bytes = Err refused.WrongCount
+written_all (field ∷ fields) [] bytes = Err refused.WrongCount
+written_all (field ∷ fields) (numbers ∷ more) bytes =
+    then_written (written field numbers bytes) (written_all fields more)
+
+-- each field reads its numbers
+abbrev pub AllRead : List FieldRecord → List (List ℤ) → List ℕ → Type 0
+AllRead [] [] bytes = Unit {0}
+AllRead [] (numbers ∷ more) bytes = ⊥
+AllRead (field ∷ fields) [] bytes = ⊥
+AllRead (field ∷ fields) (numbers ∷ more) bytes =
+    (reads_numbers field bytes ≡ Ok numbers) × AllRead fields more bytes
+
+-- each bit that is in no element of these fields is the same in both
+abbrev pub SamePadding : List FieldRecord → List ℕ → List ℕ → Type 0
+SamePadding fields bytes other = (n : ℕ)
+    → All (λ f. (n < (place_of f).first) ⊎ ((place_of f).first + covered_bits f ≤ n)) fields
+    → bit bytes n ≡ bit other n
+
+-- a report whose fields have all been written has just these values; written over bytes with the
+-- same padding, the new bytes are the same
+pub record IsWhole (report : ReportRecord) (bytes : List ℕ) : Type 0 where
+  pub values : (numbers : List (List ℤ)) (new : List ℕ) → IsFilled report
+      → written_all report.fields numbers bytes ≡ Ok new → AllRead report.fields numbers new
+  pub same : (other : List ℕ) (numbers : List (List ℤ)) (new newer : List ℕ) → AreBytes other
+      → length other ≡ length bytes → SamePadding report.fields bytes other
+      → written_all report.fields numbers bytes ≡ Ok new
+      → written_all report.fields numbers other ≡ Ok newer → new ≡ newer
