@@ -230,7 +230,7 @@ last-counts field numbers others old are parts =
       (placed field (place_of field).first others old)) (Err refused.WrongCount)) e)
 
 -- the bits that are written are those of the elements
-covered : (field : FieldRecord) (numbers : List ℤ) → length numbers ≡ value_count field
+pub covered : (field : FieldRecord) (numbers : List ℤ) → length numbers ≡ value_count field
     → value_width field * length numbers ≡ covered_bits field
 covered (VariableRecord place usage shared) numbers count =
     let one : (place.«end» - place.first) * 1 ≡ place.«end» - place.first = omega arith in

@@ -24,7 +24,7 @@ use Rattle.hidreport.proofs.PutValuesLemmas.{length-put, put-bit}
 use Rattle.hidreport.proofs.WrittenBitsLemmas.{bit-head, byte-same}
 
 -- behind the bytes all bits are 0
-bit-past : (bytes : List ℕ) (n : ℕ) → 8 * length bytes ≤ n → bit bytes n ≡ 0
+pub bit-past : (bytes : List ℕ) (n : ℕ) → 8 * length bytes ≤ n → bit bytes n ≡ 0
 bit-past bytes n past =
     let none : 0 / 2 ^ (n % 8) % 2 ≡ 0 = ap (λ k. k % 2) (zero-div (2 ^ (n % 8))) in
     ap (λ b. b / 2 ^ (n % 8) % 2) (get_or_past bytes (n / 8) 0 (omega arith)) ∙ none

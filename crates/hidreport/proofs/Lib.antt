@@ -2,6 +2,7 @@ pub mod LocalsLemmas
 pub mod LookupLemmas
 pub mod FixedBitsLemmas
 pub mod BitLemmas
+pub mod WholeLemmas
 pub mod WordLemmas
 pub mod WrittenLemmas
 pub mod PutBitsLemmas

@@ -1,2 +1,2 @@
-use Rattle.hidreport.proofs.AgainLemmas.{again, again-element}
+use Rattle.hidreport.proofs.WholeLemmas.{is-whole}
 use Rattle.hidreport.proofs.report.put_id.Goals as goal
