@@ -8,6 +8,7 @@ pub mod WrittenLemmas
 pub mod PutBitsLemmas
 pub mod PutValuesLemmas
 pub mod WrittenBitsLemmas
+pub mod InsertLemmas
 pub mod IsElementLemmas
 pub mod IsWrittenLemmas
 pub mod ItemStateLemmas

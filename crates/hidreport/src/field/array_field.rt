@@ -1,5 +1,5 @@
 ghost use Rattle.std.specs.Prelude.{◌≡◌, ◌≢◌, ◌+◌, ◌*◌, ◌^◌, ◌<◌, ◌≤◌, length, pos, int_lt, IfErr, IfOk, IfSome};
-ghost use Rattle.std.specs.Prelude.{IsNone, IsOk, Some, true, false, slice_get, ℕ, ℤ, ◌||◌};
+ghost use Rattle.std.specs.Prelude.{IsNone, IsOk, OnOk, Some, true, false, slice_get, ℕ, ℤ, ◌||◌};
 ghost use Rattle.hidreport_lists.specs.Answer.{Answers, AnswersBy, Bounds, IsOfReading, Refuses};
 ghost use Rattle.hidreport.specs.Bits.{FixesBits};
 ghost use Rattle.hidreport.specs.Choosing.{usage_chosen, value_number};
@@ -9,7 +9,10 @@ ghost use Rattle.hidreport.specs.Records.{is_of_range, usages_in};
 ghost use Rattle.hidreport.specs.Standing.{IsLeastFor, is_null, null_number};
 ghost use Rattle.hidreport.specs.Tiling.{HasRange};
 ghost use Rattle.hidreport.specs.UsageRange.{range_of, HasExactly};
+ghost use Rattle.hidreport_items.specs.Spelling.{AreBytes};
 ghost use Rattle.hidreport.specs.Writing.{Inserts, written, written_element};
+ghost use Rattle.hidreport.specs.WritingLaws.{IsElementWritten, IsWritten, number_in};
+ghost use Rattle.hidreport.specs.WritingLaws.{reads_numbers};
 ghost use Rattle.hidreport.specs.Views.{array_attributes, array_record};
 
 use crate::field::FieldId;
@@ -228,21 +231,20 @@ impl ArrayField {
     /// don't hold, signed or not as the field is, is `DoesNotFit`; one outside the logical bounds
     /// is written, since it stands for no usage. A refusal leaves the bytes as they were. It takes
     /// no memory.
+    ///
+    /// What was written is read again, all other bits, the other elements and the report's other
+    /// fields stay, and of two writes the second counts (`laws`); to write what was read changes
+    /// nothing (`again`).
     pub fn insert_one(&self, bytes: &mut [u8], index: usize, value: i64) -> Result<(), InsertError>
         ensures answer { Inserts result bytes.old bytes.new
             (written_element (array_record self.now) index value bytes.old) }
+        ensures laws { OnOk result
+            (IsElementWritten (array_record self.now) index value bytes.old bytes.new) }
+        ensures again {
+            number_in (reads_element (array_record self.now) bytes.old index) ≡ Ok value
+            → (bytes.new ≡ bytes.old) × (result ≢ Err InsertError.DoesNotFit) }
     {
-        if index >= usize::from(self.report_count) {
-            return Err(InsertError::OutOfBounds);
-        }
-        let width = self.element_width();
-        let first = self.element_first(width, index);
-        check_place(&self.report_id, &(first..first + width), bytes)?;
-        if !fits(width, self.is_signed(), value) {
-            return Err(InsertError::DoesNotFit);
-        }
-        put_bits(bytes, first, width, value);
-        Ok(())
+        self.put_element(bytes, index, value)
     }
 
     /// Writes the values of all elements, in order, into a report that has these bytes: the bits of
@@ -255,23 +257,18 @@ impl ArrayField {
     /// where so many bits don't hold one of the values, signed or not as the field is, it is
     /// `DoesNotFit`; one outside the logical bounds is written, since it stands for no usage. A
     /// refusal leaves the bytes as they were. It takes no memory.
+    ///
+    /// What was written is read again, all other bits and the report's other fields stay, and of
+    /// two writes the second counts (`laws`); to write what was read changes nothing (`again`).
     pub fn insert(&self, bytes: &mut [u8], values: &[i64]) -> Result<(), InsertError>
         ensures answer { Inserts result bytes.old bytes.new
             (written (array_record self.now) values.now bytes.old) }
+        ensures laws { OnOk result
+            (IsWritten (array_record self.now) values.now bytes.old bytes.new) }
+        ensures again { reads_numbers (array_record self.now) bytes.old ≡ Ok values.now
+            → (bytes.new ≡ bytes.old) × (result ≢ Err InsertError.DoesNotFit) }
     {
-        if values.len() != usize::from(self.report_count) {
-            return Err(InsertError::WrongCount);
-        }
-        check_written_id(&self.report_id, bytes)?;
-        let width = self.element_width();
-        if !self.are_readable(bytes, width) || begins_in_id(&self.report_id, self.bits.start) {
-            return Err(InsertError::OutOfBounds);
-        }
-        if !all_fit(width, self.is_signed(), values) {
-            return Err(InsertError::DoesNotFit);
-        }
-        put_values(bytes, self.bits.start, width, values);
-        Ok(())
+        self.put_elements(bytes, values)
     }
 
     /// The same field once more, with a list of usages of its own; both share the list of
@@ -296,6 +293,47 @@ impl ArrayField {
             collections: self.collections.clone()?,
             item: self.item,
         })
+    }
+
+    /// What `insert_one` does, by the definition alone.
+    #[inline(always)]
+    fn put_element(&self, bytes: &mut [u8], index: usize, value: i64) -> Result<(), InsertError>
+        ensures answer { Inserts result bytes.old bytes.new
+            (written_element (array_record self.now) index value bytes.old) }
+        ensures bytes { result ≢ Err InsertError.OutOfBounds → AreBytes bytes.old }
+    {
+        if index >= usize::from(self.report_count) {
+            return Err(InsertError::OutOfBounds);
+        }
+        let width = self.element_width();
+        let first = self.element_first(width, index);
+        check_place(&self.report_id, &(first..first + width), bytes)?;
+        if !fits(width, self.is_signed(), value) {
+            return Err(InsertError::DoesNotFit);
+        }
+        put_bits(bytes, first, width, value);
+        Ok(())
+    }
+
+    /// What `insert` does, by the definition alone.
+    fn put_elements(&self, bytes: &mut [u8], values: &[i64]) -> Result<(), InsertError>
+        ensures answer { Inserts result bytes.old bytes.new
+            (written (array_record self.now) values.now bytes.old) }
+        ensures bytes { result ≢ Err InsertError.WrongCount → AreBytes bytes.old }
+    {
+        if values.len() != usize::from(self.report_count) {
+            return Err(InsertError::WrongCount);
+        }
+        check_written_id(&self.report_id, bytes)?;
+        let width = self.element_width();
+        if !self.are_readable(bytes, width) || begins_in_id(&self.report_id, self.bits.start) {
+            return Err(InsertError::OutOfBounds);
+        }
+        if !all_fit(width, self.is_signed(), values) {
+            return Err(InsertError::DoesNotFit);
+        }
+        put_values(bytes, self.bits.start, width, values);
+        Ok(())
     }
 
     /// The index of the first usage that is this one.

@@ -1,8 +1,10 @@
-ghost use Rattle.std.specs.Prelude.{◌≡◌, ◌≢◌, [], ◌∷◌, pos, int_lt, IfErr, IfOk};
+ghost use Rattle.std.specs.Prelude.{◌≡◌, ◌≢◌, [], ◌∷◌, pos, int_lt, IfErr, IfOk, OnOk};
 ghost use Rattle.hidreport_lists.specs.Answer.{AnswersBy, IsOfReading};
 ghost use Rattle.hidreport.specs.Bits.{FixesBits};
 ghost use Rattle.hidreport.specs.Reading.{reads};
+ghost use Rattle.hidreport_items.specs.Spelling.{AreBytes};
 ghost use Rattle.hidreport.specs.Writing.{Inserts, written};
+ghost use Rattle.hidreport.specs.WritingLaws.{IsWritten, reads_numbers};
 ghost use Rattle.hidreport.specs.Views.{variable_attributes, variable_record};
 
 use crate::field::FieldId;
@@ -94,9 +96,26 @@ impl VariableField {
     /// value that so many bits don't hold, signed or not as the field is, is `DoesNotFit`; one
     /// outside the logical bounds is written, since it stands for no value. A refusal leaves the
     /// bytes as they were. It takes no memory.
+    ///
+    /// What was written is read again, all other bits and the report's other fields stay, and of
+    /// two writes the second counts (`laws`); to write what was read changes nothing (`again`).
     pub fn insert(&self, bytes: &mut [u8], value: i64) -> Result<(), InsertError>
         ensures answer { Inserts result bytes.old bytes.new
             (written (variable_record self.now) (value ∷ []) bytes.old) }
+        ensures laws { OnOk result
+            (IsWritten (variable_record self.now) (value ∷ []) bytes.old bytes.new) }
+        ensures again { reads_numbers (variable_record self.now) bytes.old ≡ Ok (value ∷ [])
+            → (bytes.new ≡ bytes.old) × (result ≢ Err InsertError.DoesNotFit) }
+    {
+        self.put_value(bytes, value)
+    }
+
+    /// What `insert` does, by the definition alone.
+    #[inline(always)]
+    fn put_value(&self, bytes: &mut [u8], value: i64) -> Result<(), InsertError>
+        ensures answer { Inserts result bytes.old bytes.new
+            (written (variable_record self.now) (value ∷ []) bytes.old) }
+        ensures bytes { AreBytes bytes.old }
     {
         check_place(&self.report_id, &self.bits, bytes)?;
         let width = self.bits.end - self.bits.start;

@@ -3,6 +3,7 @@ ghost use Rattle.std.specs.Prelude.{◌≡◌, ◌≢◌, Ok, [], ◌∷◌, ◌
 ghost use Rattle.std.specs.Prelude.{length, slice_index};
 ghost use Rattle.std.specs.Int.{bit_at};
 ghost use Rattle.std.specs.List.{list_all};
+ghost use Rattle.hidreport_items.specs.Spelling.{AreBytes};
 ghost use Rattle.hidreport.specs.Reading.{with_id};
 ghost use Rattle.hidreport.specs.Writing.{begins_in_id, bit_after, fits, place_check, put};
 ghost use Rattle.hidreport.specs.Writing.{where_read};
@@ -20,7 +21,8 @@ pub(crate) fn check_place(
     bits: &Range<usize>,
     bytes: &[u8],
 ) -> Result<(), InsertError>
-    ensures { result ≡ place_check report_id.now bits.now.start bits.now.end bytes.now }
+    ensures answer { result ≡ place_check report_id.now bits.now.start bits.now.end bytes.now }
+    ensures bytes { AreBytes bytes.now }
 {
     check_written_id(report_id, bytes)?;
     if !are_readable(bytes, bits) || begins_in_id(report_id, bits.start) {
@@ -34,7 +36,9 @@ pub(crate) fn check_written_id(
     report_id: &Option<ReportId>,
     bytes: &[u8],
 ) -> Result<(), InsertError>
-    ensures { result ≡ where_read (with_id report_id.now bytes.now (Ok (tt {0}))) (Ok (tt {0})) }
+    ensures answer {
+        result ≡ where_read (with_id report_id.now bytes.now (Ok (tt {0}))) (Ok (tt {0})) }
+    ensures bytes { AreBytes bytes.now }
 {
     match check_id(*report_id, bytes) {
         Ok(()) => Ok(()),

@@ -1,49 +1,15 @@
-use Rattle.std.proofs.Common.{◌≡◌, ◌∙◌, ℕ, List, Ok, ap, sym, refl, rules, int_lt, pos, true, false, length, arith}
-use Rattle.std.specs.List.{list_all}
-use Rattle.hidreport.specs.Reading.{element_width}
-use Rattle.hidreport.specs.Views.{array_attributes, array_place, array_record}
-use Rattle.hidreport.specs.Writing.{fits, put, where_read}
-use Rattle.hidreport.specs.Reading.{with_id}
-use Rattle.hidreport.proofs.WrittenLemmas.{placed-ok, placed-unfit, ready, written-array}
+use Rattle.hidreport.specs.Views.{array_record}
+use Rattle.hidreport.proofs.InsertLemmas.{again-of, laws-of}
 use Rattle.hidreport.proofs.field.array_field.ArrayField.insert.Goals as goal
 
-pub returns-then-not-all_fit : goal.returns-then-not-all_fit
-returns-then-not-all_fit c =
-    let f = c.args.self.now in
-    let values = c.args.values.now in
-    let bytes = c.args.bytes.now in
-    let size : length values ≡ f.report_count = search rules in
-    let unfit = sym (c.all_fit.ensures
-    ∙ ap (λ w. list_all (fits w c.is_signed.result) values) c.element_width-width.ensures.width
-    ∙ ap (λ b. list_all (fits (element_width f.bits.start f.bits.end f.report_count) b) values)
-    c.is_signed.ensures) ∙ c.if-not-all_fit.true in
-    let read = written-array (array_place f) f.usages.items f.is_usage_range f.report_count
-    (array_attributes f) values bytes size
-    (sym c.check_written_id.ensures ∙ search rules) (c.are_readable.ensures.readable (search rules)) in
-    record {
-      answer = (
-        read ∙ placed-unfit (array_record f) f.bits.start values bytes
-            (sym c.begins_in_id.ensures ∙ c.if-begins_in_id.false) unfit,
-        refl,
-      );
-    }
+pub returns-clause-laws : goal.returns-clause-laws
+returns-clause-laws c =
+    laws-of (array_record c.args.self.now) c.args.values.now c.args.bytes.now
+    c.put_elements.new.bytes c.put_elements.result c.put_elements.ensures.bytes
+    c.put_elements.ensures.answer
 
-pub returns : goal.returns
-returns c =
-    let f = c.args.self.now in
-    let values = c.args.values.now in
-    let bytes = c.args.bytes.now in
-    let size : length values ≡ f.report_count = search rules in
-    let all = sym (c.all_fit.ensures
-    ∙ ap (λ w. list_all (fits w c.is_signed.result) values) c.element_width-width.ensures.width
-    ∙ ap (λ b. list_all (fits (element_width f.bits.start f.bits.end f.report_count) b) values)
-    c.is_signed.ensures) ∙ c.if-not-all_fit.false in
-    let read = written-array (array_place f) f.usages.items f.is_usage_range f.report_count
-    (array_attributes f) values bytes size
-    (sym c.check_written_id.ensures ∙ search rules) (c.are_readable.ensures.readable (search rules)) in
-    record {
-      answer = read ∙ placed-ok (array_record f) f.bits.start values bytes
-          (sym c.begins_in_id.ensures ∙ c.if-begins_in_id.false) all
-          ∙ ap (λ (l : List ℕ). Ok l) (sym (c.put_values.ensures
-          ∙ ap (λ w. put f.bits.start w values bytes) c.element_width-width.ensures.width));
-    }
+pub returns-clause-again : goal.returns-clause-again
+returns-clause-again c =
+    again-of (array_record c.args.self.now) c.args.values.now c.args.bytes.now
+    c.put_elements.new.bytes c.put_elements.result c.put_elements.ensures.bytes
+    c.put_elements.ensures.answer

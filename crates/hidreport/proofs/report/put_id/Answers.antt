@@ -1,2 +1,0 @@
-use Rattle.hidreport.proofs.WholeLemmas.{is-whole}
-use Rattle.hidreport.proofs.report.put_id.Goals as goal
