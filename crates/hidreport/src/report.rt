@@ -1,7 +1,9 @@
 ghost use Rattle.std.specs.Prelude.{◌≡◌, ◌+◌, ◌/◌, ℕ, List, Option, map, IfOk};
+ghost use Rattle.hidreport_items.specs.Spelling.{AreBytes};
 ghost use Rattle.hidreport.specs.Blank.{blank_bytes, with_first};
 ghost use Rattle.hidreport.specs.Records.{FieldRecord};
 ghost use Rattle.hidreport.specs.Views.{field_record};
+ghost use Rattle.hidreport.specs.WritingLaws.{IsWhole};
 
 pub(crate) mod reports;
 
@@ -45,9 +47,14 @@ pub trait Report {
     /// The bytes of a report without values: as many as the report has, the first its id, where it
     /// has one, and all other bits 0 (Section 5.6). An `AllocError` comes where memory for them is
     /// refused.
+    ///
+    /// Once all its fields are written, it has just their values, and nothing but these and the
+    /// padding counts (`whole`).
     fn blank(&self, alloc: Global) -> Result<Vec<u8>, AllocError>
-        ensures { IfOk result (λ bytes.
+        ensures blank { IfOk result (λ bytes.
             bytes.items ≡ blank_bytes (id self.now) (size self.now)) }
+        ensures whole { IfOk result (λ bytes. IsWhole (record { id = id self.now;
+            size = size self.now; fields = parts self.now }) bytes.items) }
     {
         let mut bytes = vec![in alloc; 0; self.size_in_bytes()]?;
         put_id(self.report_id(), &mut bytes);
@@ -57,7 +64,8 @@ pub trait Report {
 
 /// Puts an id in place of the first byte, if there is one.
 fn put_id(report_id: &Option<ReportId>, bytes: &mut [u8])
-    ensures { bytes.new ≡ with_first report_id.now bytes.old }
+    ensures first { bytes.new ≡ with_first report_id.now bytes.old }
+    ensures bytes { AreBytes bytes.new }
 {
     if let Some(id) = report_id
         && !bytes.is_empty()
