@@ -42,25 +42,26 @@ put-own first w numbers old are each =
     (λ n lt. let e : 0 + n ≡ n = omega arith in
     ap (bit_after first w numbers old) e
     ∙ own n (place-of n first (first + w * length numbers))) where
-  some : (w n count first : ℕ) → first ≤ n → n < first + w * count → 0 < w
-  some zero n count first le lt =
-      absurd (let none : zero * count ≡ 0 = omega arith in omega arith)
-  some (suc w) n count first le lt = omega arith
-  own : (n : ℕ) → Placed n first (first + w * length numbers)
-      → bit_after first w numbers old n ≡ bit old n
-  own n (inl lt) = after-outside first w numbers old n (inl lt)
-  own n (inr (inr ge)) = after-outside first w numbers old n (inr ge)
-  own n (inr (inl both)) =
-      let wide : 0 < w = some w n (length numbers) first both.0 both.1 in
-      let k = (n - first) / w in
-      let i = (n - first) % w in
-      let inside : i < w = mod-lt (n - first) wide in
-      let offset : n - first < length numbers * w =
-      subst (λ m. n - first < m) (mul_comm w (length numbers)) (omega (arith, both.0, both.1)) in
-      let index : k < length numbers = (div-lt_iff_lt-mul wide).1 offset in
-      let parts : w * k + i ≡ n - first = div-add-mod (n - first) w in
-      let at : first + w * k + i ≡ n = omega (arith, both.0, parts) in
-      after-inside first w numbers old n both.0 both.1 ∙ each k i index inside ∙ ap (bit old) at
+      some : (w n count first : ℕ) → first ≤ n → n < first + w * count → 0 < w
+      some zero n count first le lt =
+          absurd (let none : zero * count ≡ 0 = omega arith in omega arith)
+      some (suc w) n count first le lt = omega arith
+
+      own : (n : ℕ) → Placed n first (first + w * length numbers)
+          → bit_after first w numbers old n ≡ bit old n
+      own n (inl lt) = after-outside first w numbers old n (inl lt)
+      own n (inr (inr ge)) = after-outside first w numbers old n (inr ge)
+      own n (inr (inl both)) =
+          let wide : 0 < w = some w n (length numbers) first both.0 both.1 in
+          let k = (n - first) / w in
+          let i = (n - first) % w in
+          let inside : i < w = mod-lt (n - first) wide in
+          let offset : n - first < length numbers * w =
+          subst (λ m. n - first < m) (mul_comm w (length numbers)) (omega (arith, both.0, both.1)) in
+          let index : k < length numbers = (div-lt_iff_lt-mul wide).1 offset in
+          let parts : w * k + i ≡ n - first = div-add-mod (n - first) w in
+          let at : first + w * k + i ≡ n = omega (arith, both.0, parts) in
+          after-inside first w numbers old n both.0 both.1 ∙ each k i index inside ∙ ap (bit old) at
 
 -- a value of so many bits is one that they hold
 value-fits : (bytes : List ℕ) (s w : ℕ) (signed : Bool) → 0 < w
@@ -71,19 +72,19 @@ value-fits bytes s zero true some = absurd (omega arith)
 value-fits bytes s (suc w) true some =
     fits-by (sum_of_bits bytes s w) (bit bytes (s + w)) (sum-small bytes s w)
     (zero-or-one (bit bytes (s + w)) (bit-small bytes (s + w))) where
-  fits-by : (x b : ℕ) → x < 2 ^ w → (b ≡ 0) ⊎ (b ≡ 1)
-      → fits (suc w) true (pos x -ℤ pos (b * 2 ^ w)) ≡ true
-  fits-by x b lt (inl clear) =
-      let less : suc w - 1 ≡ w = omega arith in
-      ap (fits (suc w) true) (ap (λ n. pos x -ℤ pos (n * 2 ^ w)) clear ∙ top-clear x (2 ^ w))
-      ∙ ap (λ n. nat_lt x (2 ^ n)) less ∙ (let t : nat_lt x (2 ^ w) ≡ true = grind (arith, nat_tests) in t)
-  fits-by x b lt (inr set) =
-      let less : suc w - 1 ≡ w = omega arith in
-      let positive : 0 < 2 ^ w = pow_pos w in
-      let below : 2 ^ w - 1 - x < 2 ^ w = omega arith in
-      ap (fits (suc w) true) (ap (λ n. pos x -ℤ pos (n * 2 ^ w)) set ∙ top-set x (2 ^ w) lt)
-      ∙ ap (λ n. nat_lt (2 ^ w - 1 - x) (2 ^ n)) less
-      ∙ (let t : nat_lt (2 ^ w - 1 - x) (2 ^ w) ≡ true = grind (arith, nat_tests) in t)
+      fits-by : (x b : ℕ) → x < 2 ^ w → (b ≡ 0) ⊎ (b ≡ 1)
+          → fits (suc w) true (pos x -ℤ pos (b * 2 ^ w)) ≡ true
+      fits-by x b lt (inl clear) =
+          let less : suc w - 1 ≡ w = omega arith in
+          ap (fits (suc w) true) (ap (λ n. pos x -ℤ pos (n * 2 ^ w)) clear ∙ top-clear x (2 ^ w))
+          ∙ ap (λ n. nat_lt x (2 ^ n)) less ∙ (let t : nat_lt x (2 ^ w) ≡ true = grind (arith, nat_tests) in t)
+      fits-by x b lt (inr set) =
+          let less : suc w - 1 ≡ w = omega arith in
+          let positive : 0 < 2 ^ w = pow_pos w in
+          let below : 2 ^ w - 1 - x < 2 ^ w = omega arith in
+          ap (fits (suc w) true) (ap (λ n. pos x -ℤ pos (n * 2 ^ w)) set ∙ top-set x (2 ^ w) lt)
+          ∙ ap (λ n. nat_lt (2 ^ w - 1 - x) (2 ^ n)) less
+          ∙ (let t : nat_lt (2 ^ w - 1 - x) (2 ^ w) ≡ true = grind (arith, nat_tests) in t)
 
 -- bits that are read as a number: it is their value
 record IsValue (first w : ℕ) (s : Bool) (old : List ℕ) (z : ℤ) : Type 0 where
@@ -137,28 +138,28 @@ each-number f index zero (z ∷ numbers) h = cc
 each-number f index (suc more) numbers h =
     each-join f index more (f index) (each_value f (index + 1) more) numbers refl h
     (λ rest e. each-number f (index + 1) more rest e) where
-  each-join : (f : ℕ → Result ValueRecord Refusal) (index more : ℕ)
-      (a : Result ValueRecord Refusal) (rest : Result (List ValueRecord) Refusal)
-      (numbers : List ℤ) → f index ≡ a → numbers_of (before_values a rest) ≡ Ok numbers
-      → ((tail : List ℤ) → numbers_of rest ≡ Ok tail → EachNumber f (index + 1) more tail)
-      → EachNumber f index (suc more) numbers
-  each-join f index more (Err e) rest numbers p h more_of = cc
-  each-join f index more (Ok x) (Err e) numbers p h more_of = cc
-  each-join f index more (Ok x) (Ok xs) numbers p h more_of =
-      let tail = more_of (map value_number xs) refl in
-      let whole : value_number x ∷ map value_number xs ≡ numbers = cc in
-      subst (λ l. EachNumber f index (suc more) l) whole (record {
-        size = ap suc tail.size;
-        each = λ k lt. at k lt tail;
-      }) where
-    at : (k : ℕ) → k < suc more → EachNumber f (index + 1) more (map value_number xs)
-        → number_in (f (index + k)) ≡ Ok (get_or (value_number x ∷ map value_number xs) k (pos 0))
-    at zero lt tail =
-        let none : index + 0 ≡ index = omega arith in
-        ap (λ i. number_in (f i)) none ∙ ap number_in p
-    at (suc k) lt tail =
-        let next : index + suc k ≡ index + 1 + k = omega arith in
-        ap (λ i. number_in (f i)) next ∙ tail.each k (omega arith)
+      each-join : (f : ℕ → Result ValueRecord Refusal) (index more : ℕ)
+          (a : Result ValueRecord Refusal) (rest : Result (List ValueRecord) Refusal)
+          (numbers : List ℤ) → f index ≡ a → numbers_of (before_values a rest) ≡ Ok numbers
+          → ((tail : List ℤ) → numbers_of rest ≡ Ok tail → EachNumber f (index + 1) more tail)
+          → EachNumber f index (suc more) numbers
+      each-join f index more (Err e) rest numbers p h more_of = cc
+      each-join f index more (Ok x) (Err e) numbers p h more_of = cc
+      each-join f index more (Ok x) (Ok xs) numbers p h more_of =
+          let tail = more_of (map value_number xs) refl in
+          let whole : value_number x ∷ map value_number xs ≡ numbers = cc in
+          subst (λ l. EachNumber f index (suc more) l) whole (record {
+            size = ap suc tail.size;
+            each = λ k lt. at k lt tail;
+          }) where
+            at : (k : ℕ) → k < suc more → EachNumber f (index + 1) more (map value_number xs)
+                → number_in (f (index + k)) ≡ Ok (get_or (value_number x ∷ map value_number xs) k (pos 0))
+            at zero lt tail =
+                let none : index + 0 ≡ index = omega arith in
+                ap (λ i. number_in (f i)) none ∙ ap number_in p
+            at (suc k) lt tail =
+                let next : index + suc k ≡ index + 1 + k = omega arith in
+                ap (λ i. number_in (f i)) next ∙ tail.each k (omega arith)
 
 -- numbers that each fit
 all-fit : (w : ℕ) (s : Bool) (numbers : List ℤ)
@@ -168,10 +169,10 @@ all-fit w s [] each = refl
 all-fit w s (z ∷ numbers) each =
     both (fits w s z) (list_all (fits w s) numbers) (each 0 (omega arith))
     (all-fit w s numbers (λ k lt. each (suc k) (omega arith))) where
-  both : (a b : Bool) → a ≡ true → b ≡ true → (a && b) ≡ true
-  both true true p q = refl
-  both true false p q = q
-  both false b p q = p
+      both : (a b : Bool) → a ≡ true → b ≡ true → (a && b) ≡ true
+      both true true p q = refl
+      both true false p q = q
+      both false b p q = p
 
 -- numbers that were read: they fit, and writing them changes nothing
 pub record OwnNumbers (field : FieldRecord) (numbers : List ℤ) (old : List ℕ) : Type 0 where
@@ -203,16 +204,17 @@ values-own (VariableRecord place usage shared) numbers old are h =
           (λ k i lt below. only-bit place.first w z old k i lt
           (value-own-bits place.first w s old z i own below)),
     ) where
-  only-fit : (w : ℕ) (s : Bool) (z : ℤ) (k : ℕ) → k < 1 → fits w s z ≡ true
-      → fits w s (get_or (z ∷ []) k (pos 0)) ≡ true
-  only-fit w s z zero lt h = h
-  only-fit w s z (suc k) lt h = absurd (omega arith)
-  only-bit : (first w : ℕ) (z : ℤ) (old : List ℕ) (k i : ℕ) → k < 1
-      → number_bit z i ≡ bit old (first + i)
-      → number_bit (get_or (z ∷ []) k (pos 0)) i ≡ bit old (first + w * k + i)
-  only-bit first w z old zero i lt h =
-      let here : first + i ≡ first + w * 0 + i = omega arith in h ∙ ap (bit old) here
-  only-bit first w z old (suc k) i lt h = absurd (omega arith)
+      only-fit : (w : ℕ) (s : Bool) (z : ℤ) (k : ℕ) → k < 1 → fits w s z ≡ true
+          → fits w s (get_or (z ∷ []) k (pos 0)) ≡ true
+      only-fit w s z zero lt h = h
+      only-fit w s z (suc k) lt h = absurd (omega arith)
+
+      only-bit : (first w : ℕ) (z : ℤ) (old : List ℕ) (k i : ℕ) → k < 1
+          → number_bit z i ≡ bit old (first + i)
+          → number_bit (get_or (z ∷ []) k (pos 0)) i ≡ bit old (first + w * k + i)
+      only-bit first w z old zero i lt h =
+          let here : first + i ≡ first + w * 0 + i = omega arith in h ∙ ap (bit old) here
+      only-bit first w z old (suc k) i lt h = absurd (omega arith)
 values-own (ArrayRecord place usages is_range n shared) numbers old are h =
     let s = is_signed shared in
     let first = place.first in
@@ -318,40 +320,42 @@ again-element place usages is_range count shared index number old new result are
     put-own p w (number ∷ []) old are (λ k i lt below.
     bit-at p w number old k i lt (value-own-bits p w s old number i own below)) in
     by result h fit same e.0 where
-  only : (w : ℕ) (s : Bool) (z : ℤ) (k : ℕ) → k < 1 → fits w s z ≡ true
-      → fits w s (get_or (z ∷ []) k (pos 0)) ≡ true
-  only w s z zero lt h = h
-  only w s z (suc k) lt h = absurd (omega arith)
-  bit-at : (first w : ℕ) (z : ℤ) (old : List ℕ) (k i : ℕ) → k < 1
-      → number_bit z i ≡ bit old (first + i)
-      → number_bit (get_or (z ∷ []) k (pos 0)) i ≡ bit old (first + w * k + i)
-  bit-at first w z old zero i lt h =
-      let here : first + i ≡ first + w * 0 + i = omega arith in h ∙ ap (bit old) here
-  bit-at first w z old (suc k) i lt h = absurd (omega arith)
-  by : (result : Result (Unit {0}) InsertError)
-      → Inserts result old new
-      (written_element (ArrayRecord place usages is_range count shared) index number old)
-      → list_all (fits (element_width place.first place.end count) (is_signed shared)) (number ∷ [])
-      ≡ true
-      → put (place.first + element_width place.first place.end count * index)
-      (element_width place.first place.end count) (number ∷ []) old ≡ old
-      → IsOk (reads_element (ArrayRecord place usages is_range count shared) old index)
-      → (new ≡ old) × (result ≢ Err refused.DoesNotFit)
-  by (Ok done) h fit same ok =
-      let w = element_width place.first place.«end» count in
-      let p = place.first + w * index in
-      let t = parts-by (nat_lt index count) (begins_in_id place.report_id p)
-      (list_all (fits w (is_signed shared)) (number ∷ []))
-      (with_id place.report_id old (read_bits p (p + w) (is_signed shared) old))
-      (put p w (number ∷ []) old) new h in
-      (sym t.4 ∙ same, λ e. cc)
-  by (Err e) h fit same ok =
-      let w = element_width place.first place.«end» count in
-      let p = place.first + w * index in (
-        h.1,
-        λ unfit. element-not-unfit (begins_in_id place.report_id p)
-            (list_all (fits w (is_signed shared)) (number ∷ []))
-            (reads_element (ArrayRecord place usages is_range count shared) old index)
-            (put p w (number ∷ []) old) fit ok
-            (h.0 ∙ (let eq : e ≡ refused.DoesNotFit = cc in ap (λ x. Err x) eq)),
-      )
+      only : (w : ℕ) (s : Bool) (z : ℤ) (k : ℕ) → k < 1 → fits w s z ≡ true
+          → fits w s (get_or (z ∷ []) k (pos 0)) ≡ true
+      only w s z zero lt h = h
+      only w s z (suc k) lt h = absurd (omega arith)
+
+      bit-at : (first w : ℕ) (z : ℤ) (old : List ℕ) (k i : ℕ) → k < 1
+          → number_bit z i ≡ bit old (first + i)
+          → number_bit (get_or (z ∷ []) k (pos 0)) i ≡ bit old (first + w * k + i)
+      bit-at first w z old zero i lt h =
+          let here : first + i ≡ first + w * 0 + i = omega arith in h ∙ ap (bit old) here
+      bit-at first w z old (suc k) i lt h = absurd (omega arith)
+
+      by : (result : Result (Unit {0}) InsertError)
+          → Inserts result old new
+          (written_element (ArrayRecord place usages is_range count shared) index number old)
+          → list_all (fits (element_width place.first place.end count) (is_signed shared)) (number ∷ [])
+          ≡ true
+          → put (place.first + element_width place.first place.end count * index)
+          (element_width place.first place.end count) (number ∷ []) old ≡ old
+          → IsOk (reads_element (ArrayRecord place usages is_range count shared) old index)
+          → (new ≡ old) × (result ≢ Err refused.DoesNotFit)
+      by (Ok done) h fit same ok =
+          let w = element_width place.first place.«end» count in
+          let p = place.first + w * index in
+          let t = parts-by (nat_lt index count) (begins_in_id place.report_id p)
+          (list_all (fits w (is_signed shared)) (number ∷ []))
+          (with_id place.report_id old (read_bits p (p + w) (is_signed shared) old))
+          (put p w (number ∷ []) old) new h in
+          (sym t.4 ∙ same, λ e. cc)
+      by (Err e) h fit same ok =
+          let w = element_width place.first place.«end» count in
+          let p = place.first + w * index in (
+            h.1,
+            λ unfit. element-not-unfit (begins_in_id place.report_id p)
+                (list_all (fits w (is_signed shared)) (number ∷ []))
+                (reads_element (ArrayRecord place usages is_range count shared) old index)
+                (put p w (number ∷ []) old) fit ok
+                (h.0 ∙ (let eq : e ≡ refused.DoesNotFit = cc in ap (λ x. Err x) eq)),
+          )

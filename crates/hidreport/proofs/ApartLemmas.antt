@@ -94,7 +94,7 @@ leaves-others field p w numbers old are from upto report i j other filled at_i a
     (put p w numbers old) (put-keeps p w numbers old) (omega (arith, theirs.1))
     (outside (place_of other).end (place_of field).first (place_of field).end
     (place_of other).first p (w * length numbers) from ends out)) where
-  outside : (other_end first end other_first p c : ℕ) → first ≤ p → p + c ≤ end
-      → (other_end ≤ first) ⊎ (end ≤ other_first) → (other_end ≤ p) ⊎ (p + c ≤ other_first)
-  outside other_end first end other_first p c from upto (inl le) = inl (omega arith)
-  outside other_end first end other_first p c from upto (inr le) = inr (omega arith)
+      outside : (other_end first end other_first p c : ℕ) → first ≤ p → p + c ≤ end
+          → (other_end ≤ first) ⊎ (end ≤ other_first) → (other_end ≤ p) ⊎ (p + c ≤ other_first)
+      outside other_end first end other_first p c from upto (inl le) = inl (omega arith)
+      outside other_end first end other_first p c from upto (inr le) = inr (omega arith)

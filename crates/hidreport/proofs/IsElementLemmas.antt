@@ -54,6 +54,7 @@ elements-apart first w i j differ = by (nat_lt i j) refl where
       let le : w * (a + 1) ≤ w * b = mul-le-mul_left w (omega arith) in
       let parts : w * (a + 1) ≡ w * a + w = omega arith in
       omega arith
+
   by : (t : Bool) → nat_lt i j ≡ t
       → (first + w * j + w ≤ first + w * i) ⊎ (first + w * i + w ≤ first + w * j)
   by true e = inr (next i j (grind (arith, nat_tests)))

@@ -167,20 +167,20 @@ put-over first w numbers others old same =
     ∙ bytes-agree (bit_after first w others new) (bit_after first w others old) 0 (length old)
     (λ n lt. over first w numbers others old keeps (0 + n) same
     (place-of (0 + n) first (first + w * length others))) where
-  over : (first w : ℕ) (numbers others : List ℤ) (old : List ℕ)
-      → Keeps first (w * length numbers) old (put first w numbers old) → (n : ℕ)
-      → length others ≡ length numbers → Placed n first (first + w * length others)
-      → bit_after first w others (put first w numbers old) n ≡ bit_after first w others old n
-  over first w numbers others old keeps n same (inl lt) =
-      after-outside first w others (put first w numbers old) n (inl lt)
-      ∙ keeps.bits n (inl lt) ∙ sym (after-outside first w others old n (inl lt))
-  over first w numbers others old keeps n same (inr (inl both)) =
-      after-inside first w others (put first w numbers old) n both.0 both.1
-      ∙ sym (after-inside first w others old n both.0 both.1)
-  over first w numbers others old keeps n same (inr (inr ge)) =
-      after-outside first w others (put first w numbers old) n (inr ge)
-      ∙ keeps.bits n (inr (subst (λ k. first + w * k ≤ n) same ge))
-      ∙ sym (after-outside first w others old n (inr ge))
+      over : (first w : ℕ) (numbers others : List ℤ) (old : List ℕ)
+          → Keeps first (w * length numbers) old (put first w numbers old) → (n : ℕ)
+          → length others ≡ length numbers → Placed n first (first + w * length others)
+          → bit_after first w others (put first w numbers old) n ≡ bit_after first w others old n
+      over first w numbers others old keeps n same (inl lt) =
+          after-outside first w others (put first w numbers old) n (inl lt)
+          ∙ keeps.bits n (inl lt) ∙ sym (after-outside first w others old n (inl lt))
+      over first w numbers others old keeps n same (inr (inl both)) =
+          after-inside first w others (put first w numbers old) n both.0 both.1
+          ∙ sym (after-inside first w others old n both.0 both.1)
+      over first w numbers others old keeps n same (inr (inr ge)) =
+          after-outside first w others (put first w numbers old) n (inr ge)
+          ∙ keeps.bits n (inr (subst (λ k. first + w * k ≤ n) same ge))
+          ∙ sym (after-outside first w others old n (inr ge))
 
 -- where both are read, a test of them is no matter
 read-same : (r q : Result (List ValueRecord) Refusal) (x y : Result (List ℕ) InsertError) → IsOk r
@@ -201,33 +201,35 @@ last-counts : (field : FieldRecord) (numbers others : List ℤ) (old : List ℕ)
     ≡ written field others old
 last-counts field numbers others old are parts =
     by (length others == value_count field) refl where
-  first : ℕ
-  first = (place_of field).first
-  w : ℕ
-  w = value_width field
-  by : (t : Bool) → (length others == value_count field) ≡ t
-      → written field others (put (place_of field).first (value_width field) numbers old)
-      ≡ written field others old
-  by true e =
-      let p = (place_of field).first in
-      let v = value_width field in
-      let count = parts.count in
-      let same : length others ≡ length numbers = grind (arith, nat_tests, e, count) in
-      let over = put-over p v numbers others old same in
-      let new = put p v numbers old in
-      let now = is_ok-numbers (reads field new) numbers (reads-back field numbers old are parts) in
-      let inner : placed field p others new ≡ placed field p others old =
-      ap (λ l. cond (begins_in_id (own_id field) p) (Err refused.OutOfBounds)
-      (cond (list_all (fits v (has_sign field)) others) (Ok l) (Err refused.DoesNotFit))) over in
-      ap (λ r. cond (length others == value_count field) r (Err refused.WrongCount))
-      (read-same (reads field new) (reads field old) (placed field p others new)
-      (placed field p others old) now parts.read inner)
-  by false e =
-      ap (λ t. cond t (where_read (reads field (put (place_of field).first (value_width field)
-      numbers old)) (placed field (place_of field).first others
-      (put (place_of field).first (value_width field) numbers old))) (Err refused.WrongCount)) e
-      ∙ sym (ap (λ t. cond t (where_read (reads field old)
-      (placed field (place_of field).first others old)) (Err refused.WrongCount)) e)
+      first : ℕ
+      first = (place_of field).first
+
+      w : ℕ
+      w = value_width field
+
+      by : (t : Bool) → (length others == value_count field) ≡ t
+          → written field others (put (place_of field).first (value_width field) numbers old)
+          ≡ written field others old
+      by true e =
+          let p = (place_of field).first in
+          let v = value_width field in
+          let count = parts.count in
+          let same : length others ≡ length numbers = grind (arith, nat_tests, e, count) in
+          let over = put-over p v numbers others old same in
+          let new = put p v numbers old in
+          let now = is_ok-numbers (reads field new) numbers (reads-back field numbers old are parts) in
+          let inner : placed field p others new ≡ placed field p others old =
+          ap (λ l. cond (begins_in_id (own_id field) p) (Err refused.OutOfBounds)
+          (cond (list_all (fits v (has_sign field)) others) (Ok l) (Err refused.DoesNotFit))) over in
+          ap (λ r. cond (length others == value_count field) r (Err refused.WrongCount))
+          (read-same (reads field new) (reads field old) (placed field p others new)
+          (placed field p others old) now parts.read inner)
+      by false e =
+          ap (λ t. cond t (where_read (reads field (put (place_of field).first (value_width field)
+          numbers old)) (placed field (place_of field).first others
+          (put (place_of field).first (value_width field) numbers old))) (Err refused.WrongCount)) e
+          ∙ sym (ap (λ t. cond t (where_read (reads field old)
+          (placed field (place_of field).first others old)) (Err refused.WrongCount)) e)
 
 -- the bits that are written are those of the elements
 pub covered : (field : FieldRecord) (numbers : List ℤ) → length numbers ≡ value_count field

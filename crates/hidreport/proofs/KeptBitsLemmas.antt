@@ -82,10 +82,10 @@ read-kept p c first end s old new keeps out =
     (Ok (record { word = as_word (value new first (end - first) s); is_signed = s }))) size
     ∙ ap (λ z. cond (nat_le end first || (nat_lt 32 (end - first) || nat_lt (8 * length old) end))
     (Err Bounds) (Ok (record { word = as_word z; is_signed = s }))) same where
-  elsewhere : (p c first end i : ℕ) → i < end - first → (end ≤ p) ⊎ (p + c ≤ first)
-      → (first + i < p) ⊎ (p + c ≤ first + i)
-  elsewhere p c first end i lt (inl le) = inl (omega arith)
-  elsewhere p c first end i lt (inr le) = inr (omega arith)
+      elsewhere : (p c first end i : ℕ) → i < end - first → (end ≤ p) ⊎ (p + c ≤ first)
+          → (first + i < p) ⊎ (p + c ≤ first + i)
+      elsewhere p c first end i lt (inl le) = inl (omega arith)
+      elsewhere p c first end i lt (inr le) = inr (omega arith)
 
 -- elements of a range lie in it
 pub element-within : (first end count i : ℕ) → first ≤ end → i < count
@@ -118,8 +118,8 @@ values-kept p c (ArrayRecord place usages is_range count shared) old new keeps o
     let w = element_width place.first place.«end» count in
     read-kept p c (place.first + w * k) (place.first + w * k + w) (is_signed shared) old new keeps
     (elsewhere p c place.first place.«end» w k within out)) where
-  elsewhere : (p c first end w k : ℕ) → first + w * k + w ≤ end → (end ≤ p) ⊎ (p + c ≤ first)
-      → (first + w * k + w ≤ p) ⊎ (p + c ≤ first + w * k)
-  elsewhere p c first end w k within (inl le) = inl (omega arith)
-  elsewhere p c first end w k within (inr le) = inr (omega arith)
+      elsewhere : (p c first end w k : ℕ) → first + w * k + w ≤ end → (end ≤ p) ⊎ (p + c ≤ first)
+          → (first + w * k + w ≤ p) ⊎ (p + c ≤ first + w * k)
+      elsewhere p c first end w k within (inl le) = inl (omega arith)
+      elsewhere p c first end w k within (inr le) = inr (omega arith)
 values-kept p c (ConstantRecord place) old new keeps order out = refl

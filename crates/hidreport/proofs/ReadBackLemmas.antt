@@ -67,8 +67,8 @@ put-element first w numbers old k i within lt room =
     ∙ after-inside first w numbers old n (omega arith) below
     ∙ ap (λ m. number_bit (get_or numbers m (pos 0)) ((n - first) % w)) index
     ∙ ap (number_bit (get_or numbers k (pos 0))) inside where
-  turned : (first w k i : ℕ) → w * k ≡ k * w → first + w * k + i - first ≡ k * w + i
-  turned first w k i e = omega arith
+      turned : (first w k i : ℕ) → w * k ≡ k * w → first + w * k + i - first ≡ k * w + i
+      turned first w k i e = omega arith
 
 -- values that are read one by one are these numbers
 pub each-read : (f : ℕ → Result ValueRecord Refusal) (numbers : List ℤ) (index : ℕ)
@@ -84,16 +84,16 @@ each-read f (z ∷ numbers) index each =
     subst (λ k. ReadsAs (f k) (get_or numbers i (pos 0))) next (each (suc i) (omega arith))) in
     join (f index) (each_value f (index + 1) (length numbers)) head.value z numbers first head.says
     rest where
-  join : (a : Result ValueRecord Refusal) (rest : Result (List ValueRecord) Refusal)
-      (x : ValueRecord) (z : ℤ) (numbers : List ℤ) → a ≡ Ok x → value_number x ≡ z
-      → numbers_of rest ≡ Ok numbers → numbers_of (before_values a rest) ≡ Ok (z ∷ numbers)
-  join (Err e) rest x z numbers p q r = cc
-  join (Ok y) (Err e) x z numbers p q r = cc
-  join (Ok y) (Ok ys) x z numbers p q r =
-      let same : y ≡ x = cc in
-      let more : map value_number ys ≡ numbers = cc in
-      ap (λ n. Ok (n ∷ map value_number ys)) (ap value_number same ∙ q)
-      ∙ ap (λ l. Ok (z ∷ l)) more
+      join : (a : Result ValueRecord Refusal) (rest : Result (List ValueRecord) Refusal)
+          (x : ValueRecord) (z : ℤ) (numbers : List ℤ) → a ≡ Ok x → value_number x ≡ z
+          → numbers_of rest ≡ Ok numbers → numbers_of (before_values a rest) ≡ Ok (z ∷ numbers)
+      join (Err e) rest x z numbers p q r = cc
+      join (Ok y) (Err e) x z numbers p q r = cc
+      join (Ok y) (Ok ys) x z numbers p q r =
+          let same : y ≡ x = cc in
+          let more : map value_number ys ≡ numbers = cc in
+          ap (λ n. Ok (n ∷ map value_number ys)) (ap value_number same ∙ q)
+          ∙ ap (λ l. Ok (z ∷ l)) more
 
 -- where all elements are read, so is each
 pub each-readable : (f : ℕ → Result ValueRecord Refusal) (index more k : ℕ)
@@ -102,20 +102,20 @@ each-readable f index zero k ok lt = absurd (omega arith)
 each-readable f index (suc more) zero ok lt =
     let none : index + 0 ≡ index = omega arith in
     subst (λ i. IsOk (f i)) (sym none) (head-ok (f index) (each_value f (index + 1) more) ok) where
-  head-ok : (a : Result ValueRecord Refusal) (rest : Result (List ValueRecord) Refusal)
-      → IsOk (before_values a rest) → IsOk a
-  head-ok (Ok x) rest ok = refl
-  head-ok (Err e) rest ok = ok
+      head-ok : (a : Result ValueRecord Refusal) (rest : Result (List ValueRecord) Refusal)
+          → IsOk (before_values a rest) → IsOk a
+      head-ok (Ok x) rest ok = refl
+      head-ok (Err e) rest ok = ok
 each-readable f index (suc more) (suc k) ok lt =
     let next : index + 1 + k ≡ index + suc k = omega arith in
     subst (λ i. IsOk (f i)) next
     (each-readable f (index + 1) more k (rest-ok (f index) (each_value f (index + 1) more) ok)
     (omega arith)) where
-  rest-ok : (a : Result ValueRecord Refusal) (rest : Result (List ValueRecord) Refusal)
-      → IsOk (before_values a rest) → IsOk rest
-  rest-ok (Ok x) (Ok xs) ok = refl
-  rest-ok (Ok x) (Err e) ok = ok
-  rest-ok (Err e) rest ok = cc
+      rest-ok : (a : Result ValueRecord Refusal) (rest : Result (List ValueRecord) Refusal)
+          → IsOk (before_values a rest) → IsOk rest
+      rest-ok (Ok x) (Ok xs) ok = refl
+      rest-ok (Ok x) (Err e) ok = ok
+      rest-ok (Err e) rest ok = cc
 
 -- each of the numbers fits where all do
 pub fit-at : (w : ℕ) (s : Bool) (numbers : List ℤ) (k : ℕ) → list_all (fits w s) numbers ≡ true
@@ -127,10 +127,10 @@ fit-at w s (z ∷ numbers) zero all lt = both-first (fits w s z) (list_all (fits
   both-first false b h = h
 fit-at w s (z ∷ numbers) (suc k) all lt =
     fit-at w s numbers k (both-second (fits w s z) (list_all (fits w s) numbers) all) (omega arith)
-    where
-  both-second : (a b : Bool) → (a && b) ≡ true → b ≡ true
-  both-second true b h = h
-  both-second false b h = cc
+  where
+    both-second : (a b : Bool) → (a && b) ≡ true → b ≡ true
+    both-second true b h = h
+    both-second false b h = cc
 
 -- an id that lets an answer through lets each through
 pub id-passes : {A B : Type 0} (id : Option ℕ) (bytes : List ℕ) (a : Result A Refusal)

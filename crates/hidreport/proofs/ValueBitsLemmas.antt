@@ -114,37 +114,37 @@ value-bits bytes s w false i lt = sum-bit bytes s w i lt
 value-bits bytes s zero true i lt = absurd (omega arith)
 value-bits bytes s (suc w) true i lt =
     value-top bytes s w i lt (zero-or-one (bit bytes (s + w)) (bit-small bytes (s + w))) where
-  value-top : (bytes : List ℕ) (s w i : ℕ) → i < suc w
-      → (bit bytes (s + w) ≡ 0) ⊎ (bit bytes (s + w) ≡ 1)
-      → number_bit (value bytes s (suc w) true) i ≡ bit bytes (s + i)
-  value-top bytes s w i lt (inl clear) =
-      let x = sum_of_bits bytes s w in
-      ap (λ z. number_bit z i) (ap (λ b. pos x -ℤ pos (b * 2 ^ w)) clear ∙ top-clear x (2 ^ w))
-      ∙ below-top (nat_lt i w) refl where
-    below-top : (t : Bool) → nat_lt i w ≡ t → bit_at (sum_of_bits bytes s w) i ≡ bit bytes (s + i)
-    below-top true e = sum-bit bytes s w i (grind (arith, nat_tests))
-    below-top false e =
-        let same : i ≡ w = grind (arith, nat_tests) in
-        bit_at_above (sum_of_bits bytes s w) w i (sum-small bytes s w) (omega arith)
-        ∙ sym clear ∙ sym (ap (λ k. bit bytes (s + k)) same)
-  value-top bytes s w i lt (inr set) =
-      let x = sum_of_bits bytes s w in
-      ap (λ z. number_bit z i) (ap (λ b. pos x -ℤ pos (b * 2 ^ w)) set
-      ∙ top-set x (2 ^ w) (sum-small bytes s w)) ∙ below-top (nat_lt i w) refl where
-    below-top : (t : Bool) → nat_lt i w ≡ t
-        → 1 - bit_at (2 ^ w - 1 - sum_of_bits bytes s w) i ≡ bit bytes (s + i)
-    below-top true e =
-        let x = sum_of_bits bytes s w in
-        let h : i < w = grind (arith, nat_tests) in
-        let lt : bit_at x i < 2 = bit_at-lt x i in
-        let twice : 1 - (1 - bit_at x i) ≡ bit_at x i = omega arith in
-        ap (λ b. 1 - b) (complement-bit x w i (sum-small bytes s w) h) ∙ twice
-        ∙ sum-bit bytes s w i h
-    below-top false e =
-        let same : i ≡ w = grind (arith, nat_tests) in
-        let positive : 0 < 2 ^ w = pow_pos w in
-        ap (λ b. 1 - b) (bit_at_above (2 ^ w - 1 - sum_of_bits bytes s w) w i (omega arith)
-        (omega arith)) ∙ sym set ∙ sym (ap (λ k. bit bytes (s + k)) same)
+      value-top : (bytes : List ℕ) (s w i : ℕ) → i < suc w
+          → (bit bytes (s + w) ≡ 0) ⊎ (bit bytes (s + w) ≡ 1)
+          → number_bit (value bytes s (suc w) true) i ≡ bit bytes (s + i)
+      value-top bytes s w i lt (inl clear) =
+          let x = sum_of_bits bytes s w in
+          ap (λ z. number_bit z i) (ap (λ b. pos x -ℤ pos (b * 2 ^ w)) clear ∙ top-clear x (2 ^ w))
+          ∙ below-top (nat_lt i w) refl where
+            below-top : (t : Bool) → nat_lt i w ≡ t → bit_at (sum_of_bits bytes s w) i ≡ bit bytes (s + i)
+            below-top true e = sum-bit bytes s w i (grind (arith, nat_tests))
+            below-top false e =
+                let same : i ≡ w = grind (arith, nat_tests) in
+                bit_at_above (sum_of_bits bytes s w) w i (sum-small bytes s w) (omega arith)
+                ∙ sym clear ∙ sym (ap (λ k. bit bytes (s + k)) same)
+      value-top bytes s w i lt (inr set) =
+          let x = sum_of_bits bytes s w in
+          ap (λ z. number_bit z i) (ap (λ b. pos x -ℤ pos (b * 2 ^ w)) set
+          ∙ top-set x (2 ^ w) (sum-small bytes s w)) ∙ below-top (nat_lt i w) refl where
+            below-top : (t : Bool) → nat_lt i w ≡ t
+                → 1 - bit_at (2 ^ w - 1 - sum_of_bits bytes s w) i ≡ bit bytes (s + i)
+            below-top true e =
+                let x = sum_of_bits bytes s w in
+                let h : i < w = grind (arith, nat_tests) in
+                let lt : bit_at x i < 2 = bit_at-lt x i in
+                let twice : 1 - (1 - bit_at x i) ≡ bit_at x i = omega arith in
+                ap (λ b. 1 - b) (complement-bit x w i (sum-small bytes s w) h) ∙ twice
+                ∙ sum-bit bytes s w i h
+            below-top false e =
+                let same : i ≡ w = grind (arith, nat_tests) in
+                let positive : 0 < 2 ^ w = pow_pos w in
+                ap (λ b. 1 - b) (bit_at_above (2 ^ w - 1 - sum_of_bits bytes s w) w i (omega arith)
+                (omega arith)) ∙ sym set ∙ sym (ap (λ k. bit bytes (s + k)) same)
 
 -- the number of a value that was read is that value
 pub number-read : (bytes : List ℕ) (s w : ℕ) (signed : Bool) → w ≤ 32
@@ -154,25 +154,26 @@ number-read bytes s w false le = refl
 number-read bytes s zero true le = refl
 number-read bytes s (suc w) true le =
     word-back (value bytes s (suc w) true) (value-fits bytes s w le) where
-  word-back : (z : ℤ) → FitsSigned w32 z → cast_signed w32 (as_word z) ≡ z
-  word-back (pos n) f = to_z-of_z w32 (pos n) f
-  word-back (negsuc n) f =
-      let e : 2 ^ 32 - (n + 1) ≡ 2 ^ 32 - suc n = omega arith in
-      ap (cast_signed w32) e ∙ to_z-of_z w32 (negsuc n) f
-  value-fits : (bytes : List ℕ) (s w : ℕ) → suc w ≤ 32 → FitsSigned w32 (value bytes s (suc w) true)
-  value-fits bytes s w le = fits-by (bit bytes (s + w)) (sum_of_bits bytes s w) w le
-      (sum-small bytes s w) (zero-or-one (bit bytes (s + w)) (bit-small bytes (s + w))) where
-    fits-by : (b x w : ℕ) → suc w ≤ 32 → x < 2 ^ w → (b ≡ 0) ⊎ (b ≡ 1)
-        → FitsSigned w32 (pos x -ℤ pos (b * 2 ^ w))
-    fits-by b x w le small (inl clear) =
-        let narrow : w ≤ 31 = omega arith in
-        let bound : 2 ^ w ≤ 2 ^ 31 = pow_mono narrow in
-        subst (FitsSigned w32)
-        (sym (ap (λ n. pos x -ℤ pos (n * 2 ^ w)) clear ∙ top-clear x (2 ^ w)))
-        (record { sfits = omega arith })
-    fits-by b x w le small (inr set) =
-        let narrow : w ≤ 31 = omega arith in
-        let bound : 2 ^ w ≤ 2 ^ 31 = pow_mono narrow in
-        subst (FitsSigned w32)
-        (sym (ap (λ n. pos x -ℤ pos (n * 2 ^ w)) set ∙ top-set x (2 ^ w) small))
-        (record { sfits = omega arith })
+      word-back : (z : ℤ) → FitsSigned w32 z → cast_signed w32 (as_word z) ≡ z
+      word-back (pos n) f = to_z-of_z w32 (pos n) f
+      word-back (negsuc n) f =
+          let e : 2 ^ 32 - (n + 1) ≡ 2 ^ 32 - suc n = omega arith in
+          ap (cast_signed w32) e ∙ to_z-of_z w32 (negsuc n) f
+
+      value-fits : (bytes : List ℕ) (s w : ℕ) → suc w ≤ 32 → FitsSigned w32 (value bytes s (suc w) true)
+      value-fits bytes s w le = fits-by (bit bytes (s + w)) (sum_of_bits bytes s w) w le
+          (sum-small bytes s w) (zero-or-one (bit bytes (s + w)) (bit-small bytes (s + w))) where
+            fits-by : (b x w : ℕ) → suc w ≤ 32 → x < 2 ^ w → (b ≡ 0) ⊎ (b ≡ 1)
+                → FitsSigned w32 (pos x -ℤ pos (b * 2 ^ w))
+            fits-by b x w le small (inl clear) =
+                let narrow : w ≤ 31 = omega arith in
+                let bound : 2 ^ w ≤ 2 ^ 31 = pow_mono narrow in
+                subst (FitsSigned w32)
+                (sym (ap (λ n. pos x -ℤ pos (n * 2 ^ w)) clear ∙ top-clear x (2 ^ w)))
+                (record { sfits = omega arith })
+            fits-by b x w le small (inr set) =
+                let narrow : w ≤ 31 = omega arith in
+                let bound : 2 ^ w ≤ 2 ^ 31 = pow_mono narrow in
+                subst (FitsSigned w32)
+                (sym (ap (λ n. pos x -ℤ pos (n * 2 ^ w)) set ∙ top-set x (2 ^ w) small))
+                (record { sfits = omega arith })

@@ -86,7 +86,6 @@ whole report filled k (f ∷ fields) (v ∷ numbers) bytes new are at h =
           ∙ one.apart report k j g filled here e (λ same. absurd (omega arith));
     }
 
-
 -- bits within numbers that were written to both
 written-bit : (field : FieldRecord) (numbers : List ℤ) (old new : List ℕ) (n : ℕ)
     → written field numbers old ≡ Ok new → (place_of field).first ≤ n
@@ -110,14 +109,14 @@ over-both [] [] a b x y are also size same h g =
     let p : a ≡ x = cc in
     let q : b ≡ y = cc in
     sym p ∙ equal a b are also size (λ n. same n (λ k d lt. absurd (omega (arith, lt)))) ∙ q where
-  equal : (a b : List ℕ) → AreBytes a → AreBytes b → length b ≡ length a
-      → ((n : ℕ) → bit a n ≡ bit b n) → a ≡ b
-  equal a b are also size each =
-      sym (bytes-same (bit b) (bit-small b) a are 0 (λ i lt.
-      let e : 0 + i ≡ i = omega arith in ap (bit b) e ∙ sym (each i)))
-      ∙ ap (bytes_of (bit b) 0) (sym size)
-      ∙ bytes-same (bit b) (bit-small b) b also 0 (λ i lt.
-      let e : 0 + i ≡ i = omega arith in ap (bit b) e)
+      equal : (a b : List ℕ) → AreBytes a → AreBytes b → length b ≡ length a
+          → ((n : ℕ) → bit a n ≡ bit b n) → a ≡ b
+      equal a b are also size each =
+          sym (bytes-same (bit b) (bit-small b) a are 0 (λ i lt.
+          let e : 0 + i ≡ i = omega arith in ap (bit b) e ∙ sym (each i)))
+          ∙ ap (bytes_of (bit b) 0) (sym size)
+          ∙ bytes-same (bit b) (bit-small b) b also 0 (λ i lt.
+          let e : 0 + i ≡ i = omega arith in ap (bit b) e)
 over-both [] (v ∷ numbers) a b x y are also size same h g = cc
 over-both (f ∷ fields) [] a b x y are also size same h g = cc
 over-both (f ∷ fields) (v ∷ numbers) a b x y are also size same h g =
@@ -131,29 +130,29 @@ over-both (f ∷ fields) (v ∷ numbers) a b x y are also size same h g =
     (written-are f v b t.mid t.first) (omega (arith, one_size, two_size, size))
     (λ n outside. by n outside (place-of n (place_of f).first ((place_of f).first + covered_bits f))
     s.mid t.mid s.first t.first one.kept two.kept) s.rest t.rest where
-  by : (n : ℕ)
-      → All (λ e. (n < (place_of e).first) ⊎ ((place_of e).first + covered_bits e ≤ n)) fields
-      → Placed n (place_of f).first ((place_of f).first + covered_bits f) → (c d : List ℕ)
-      → written f v a ≡ Ok c → written f v b ≡ Ok d
-      → Keeps (place_of f).first (covered_bits f) a c
-      → Keeps (place_of f).first (covered_bits f) b d → bit c n ≡ bit d n
-  by n outside (inl lt) c d p q kc kd = kc.bits n (inl lt)
-      ∙ same n (All-cons (λ e. (n < (place_of e).first) ⊎ ((place_of e).first + covered_bits e ≤ n))
-      f fields (inl lt) outside) ∙ sym (kd.bits n (inl lt))
-  by n outside (inr (inr ge)) c d p q kc kd = kc.bits n (inr ge)
-      ∙ same n (All-cons (λ e. (n < (place_of e).first) ⊎ ((place_of e).first + covered_bits e ≤ n))
-      f fields (inr ge) outside) ∙ sym (kd.bits n (inr ge))
-  by n outside (inr (inl both)) c d p q kc kd = inside (nat_lt n (8 * length a)) refl where
-    inside : (t : Bool) → nat_lt n (8 * length a) ≡ t → bit c n ≡ bit d n
-    inside true e =
-        let lt : n < 8 * length a = grind (arith, nat_tests) in
-        written-bit f v a c n p both.0 both.1 lt
-        ∙ sym (written-bit f v b d n q both.0 both.1 (omega (arith, lt, size)))
-    inside false e =
-        let past : 8 * length a ≤ n = grind (arith, nat_tests) in
-        let c_size = kc.size in
-        let d_size = kd.size in
-        bit-past c n (omega (arith, past, c_size)) ∙ sym (bit-past d n (omega (arith, past, d_size, size)))
+      by : (n : ℕ)
+          → All (λ e. (n < (place_of e).first) ⊎ ((place_of e).first + covered_bits e ≤ n)) fields
+          → Placed n (place_of f).first ((place_of f).first + covered_bits f) → (c d : List ℕ)
+          → written f v a ≡ Ok c → written f v b ≡ Ok d
+          → Keeps (place_of f).first (covered_bits f) a c
+          → Keeps (place_of f).first (covered_bits f) b d → bit c n ≡ bit d n
+      by n outside (inl lt) c d p q kc kd = kc.bits n (inl lt)
+          ∙ same n (All-cons (λ e. (n < (place_of e).first) ⊎ ((place_of e).first + covered_bits e ≤ n))
+          f fields (inl lt) outside) ∙ sym (kd.bits n (inl lt))
+      by n outside (inr (inr ge)) c d p q kc kd = kc.bits n (inr ge)
+          ∙ same n (All-cons (λ e. (n < (place_of e).first) ⊎ ((place_of e).first + covered_bits e ≤ n))
+          f fields (inr ge) outside) ∙ sym (kd.bits n (inr ge))
+      by n outside (inr (inl both)) c d p q kc kd = inside (nat_lt n (8 * length a)) refl where
+        inside : (t : Bool) → nat_lt n (8 * length a) ≡ t → bit c n ≡ bit d n
+        inside true e =
+            let lt : n < 8 * length a = grind (arith, nat_tests) in
+            written-bit f v a c n p both.0 both.1 lt
+            ∙ sym (written-bit f v b d n q both.0 both.1 (omega (arith, lt, size)))
+        inside false e =
+            let past : 8 * length a ≤ n = grind (arith, nat_tests) in
+            let c_size = kc.size in
+            let d_size = kd.size in
+            bit-past c n (omega (arith, past, c_size)) ∙ sym (bit-past d n (omega (arith, past, d_size, size)))
 
 pub is-whole : (report : ReportRecord) (bytes : List ℕ) → AreBytes bytes → IsWhole report bytes
 is-whole report bytes are = record {

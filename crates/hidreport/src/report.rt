@@ -53,8 +53,11 @@ pub trait Report {
     fn blank(&self, alloc: Global) -> Result<Vec<u8>, AllocError>
         ensures blank { IfOk result (λ bytes.
             bytes.items ≡ blank_bytes (id self.now) (size self.now)) }
-        ensures whole { IfOk result (λ bytes. IsWhole (record { id = id self.now;
-            size = size self.now; fields = parts self.now }) bytes.items) }
+        ensures whole { IfOk result (λ bytes. IsWhole (record {
+          id = id self.now;
+          size = size self.now;
+          fields = parts self.now;
+        }) bytes.items) }
     {
         let mut bytes = vec![in alloc; 0; self.size_in_bytes()]?;
         put_id(self.report_id(), &mut bytes);

@@ -240,8 +240,7 @@ impl ArrayField {
             (written_element (array_record self.now) index value bytes.old) }
         ensures laws { OnOk result
             (IsElementWritten (array_record self.now) index value bytes.old bytes.new) }
-        ensures again {
-            number_in (reads_element (array_record self.now) bytes.old index) ≡ Ok value
+        ensures again { number_in (reads_element (array_record self.now) bytes.old index) ≡ Ok value
             → (bytes.new ≡ bytes.old) × (result ≢ Err InsertError.DoesNotFit) }
     {
         self.put_element(bytes, index, value)

@@ -36,8 +36,7 @@ pub(crate) fn check_written_id(
     report_id: &Option<ReportId>,
     bytes: &[u8],
 ) -> Result<(), InsertError>
-    ensures answer {
-        result ≡ where_read (with_id report_id.now bytes.now (Ok (tt {0}))) (Ok (tt {0})) }
+    ensures answer { result ≡ where_read (with_id report_id.now bytes.now (Ok (tt {0}))) (Ok (tt {0})) }
     ensures bytes { AreBytes bytes.now }
 {
     match check_id(*report_id, bytes) {

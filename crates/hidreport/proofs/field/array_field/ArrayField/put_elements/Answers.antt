@@ -19,8 +19,7 @@ returns-then-not-all_fit-clause-answer c =
     c.is_signed.ensures) ∙ c.if-not-all_fit.true in
     let read = written-array (array_place f) f.usages.items f.is_usage_range f.report_count
     (array_attributes f) values bytes size
-    (sym c.check_written_id.ensures.answer ∙ search rules) (c.are_readable.ensures.readable (search rules)) in
-    (
+    (sym c.check_written_id.ensures.answer ∙ search rules) (c.are_readable.ensures.readable (search rules)) in (
       read ∙ placed-unfit (array_record f) f.bits.start values bytes
           (sym c.begins_in_id.ensures ∙ c.if-begins_in_id.false) unfit,
       refl,

@@ -11,9 +11,9 @@ returns-then-maximum-minimum c =
     let i = c.in_ok-index.index in
     let past : f.logical_maximum <ℤ (f.logical_minimum +ℤ pos i) =
     elim c.then-maximum-minimum.branch [
-      then-maximum-minimum-via-then-maximum-minimum w ↦ omega (arith, ints, w.if-maximum-minimum.true)
-    | then-maximum-minimum-via-else-maximum-minimum+then-unsigned_abs-index w ↦
-        omega (arith, ints, w.if-maximum-minimum.false, w.unsigned_abs.ensures.value, w.if-unsigned_abs-index.true)
+      | then-maximum-minimum-via-then-maximum-minimum w ↦ omega (arith, ints, w.if-maximum-minimum.true)
+      | then-maximum-minimum-via-else-maximum-minimum+then-unsigned_abs-index w ↦
+          omega (arith, ints, w.if-maximum-minimum.false, w.unsigned_abs.ensures.value, w.if-unsigned_abs-index.true)
     ] in
     none-past f.usages.items f.logical_minimum f.logical_maximum c.args.usage i
     c.in_ok-index.ensures.first past
