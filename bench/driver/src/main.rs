@@ -4,13 +4,13 @@ mod growth_cases;
 mod times;
 mod timing;
 
-use sides::{OURS, Side, THEIRS, descriptors, theirs};
+use sides::{OURS, Side, THEIRS, descriptors, ours, theirs};
 use std::hint::black_box;
 use std::path::Path;
 use std::process::ExitCode;
 
 const USAGE: &str =
-    "usage: driver times FOLDER | growth | repeat ours|theirs itemise|parse|read FILE ROUNDS";
+    "usage: driver times FOLDER | growth | repeat ours|theirs itemise|parse|read|write FILE ROUNDS";
 
 fn main() -> ExitCode {
     let words: Vec<String> = std::env::args().skip(1).collect();
@@ -53,6 +53,9 @@ fn repeat(side: &str, what: &str, file: &str, rounds: &str) -> Result<(), String
         }),
         "read" => {
             black_box((side.read)(bytes, &theirs::frames(bytes, 1)?, rounds));
+        }
+        "write" => {
+            black_box(ours::write(bytes, &theirs::frames(bytes, 1)?, rounds));
         }
         _ => return Err(USAGE.to_string()),
     }

@@ -17,6 +17,13 @@ unsafe extern "C" {
         frame_size: usize,
         rounds: usize,
     ) -> u64;
+    fn bench_write(
+        bytes: *const u8,
+        length: usize,
+        frame: *mut u8,
+        frame_length: usize,
+        rounds: usize,
+    ) -> u64;
 }
 
 pub fn itemise(bytes: &[u8]) -> usize {
@@ -44,6 +51,20 @@ pub fn read(bytes: &[u8], frames: &Frames, rounds: usize) -> u64 {
             frames.bytes.as_ptr(),
             frames.bytes.len(),
             frames.size,
+            rounds,
+        )
+    }
+}
+
+/// Parses, writes all fields of the first frame so many times, and answers how many were written.
+pub fn write(bytes: &[u8], frames: &Frames, rounds: usize) -> u64 {
+    let mut frame = frames.bytes[..frames.size].to_vec();
+    unsafe {
+        bench_write(
+            bytes.as_ptr(),
+            bytes.len(),
+            frame.as_mut_ptr(),
+            frame.len(),
             rounds,
         )
     }

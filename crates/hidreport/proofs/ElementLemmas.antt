@@ -1,12 +1,13 @@
 -- The elements of an array, one after the other.
 use Rattle.std.proofs.Common.{◌≡◌, ℕ, zero, suc, ◌+◌, ◌-◌, ◌*◌, ◌<◌, ◌≤◌, Bool, true, false, cond}
 use Rattle.std.proofs.Common.{◌||◌, nat_le, nat_lt, IsOk, is_ok, List, [], ◌∷◌, ◌++◌, length}
-use Rattle.std.proofs.Common.{Result, Ok, Err, refl, ap, sym, ◌∙◌, arith}
+use Rattle.std.proofs.Common.{not, Result, Ok, Err, refl, ap, sym, ◌∙◌, arith}
 use Rattle.std.proofs.Math.Nat.{mul-le-mul_left}
 use Rattle.std.proofs.lemmas.Bool.Decides.{nat_tests}
 use Rattle.hidreport_lists.specs.Answer.{Refusal, Bounds}
 use Rattle.hidreport.specs.Reading.{ValueRecord, before_values, element, each_value}
 use Rattle.hidreport.specs.Reading.{element_width}
+use Rattle.hidreport.specs.Writing.{are_readable}
 
 -- an element is refused as out of bounds alone
 test_refusal : {A : Type 0} (b : Bool) (x : A) (r : Refusal) → cond b (Err Bounds) (Ok x) ≡ Err r
@@ -153,10 +154,57 @@ elements-readable first end count s bytes index (suc more) each =
     (λ k below. each k (omega arith)))
 
 -- where the last element is readable, so are all
-pub elements-last : (first end count : ℕ) (s : Bool) (bytes : List ℕ) (n last : ℕ)
-    (x : ValueRecord) → n ≡ last + 1 → element first end count s bytes last ≡ Ok x
+elements-from-last : (first end count : ℕ) (s : Bool) (bytes : List ℕ) (n last : ℕ)
+    → n ≡ last + 1 → IsOk (element first end count s bytes last)
     → IsOk (each_value (element first end count s bytes) 0 n)
-elements-last first end count s bytes n last x e found =
-    let readable : IsOk (element first end count s bytes last) = ap is_ok found in
+elements-from-last first end count s bytes n last e readable =
     elements-readable first end count s bytes 0 n
     (λ k below. element-before first end count s bytes k last (omega arith) readable)
+
+-- an element by the test of its bits
+readable-by : {A : Type 0} (t : Bool) (x : A) → not t ≡ true → IsOk (cond t (Err Bounds) (Ok x))
+readable-by true x h = cc
+readable-by false x h = refl
+
+refused-by : {A : Type 0} (t : Bool) (x : A) → not t ≡ false → cond t (Err Bounds) (Ok x) ≡ Err Bounds
+refused-by true x h = refl
+refused-by false x h = cc
+
+-- where the last element's bits can be read, so can all elements
+pub elements-readable-by : (first end count : ℕ) (s : Bool) (bytes : List ℕ) (n last w p : ℕ)
+    → n ≡ last + 1 → w ≡ element_width first end count → p ≡ first + w * last
+    → are_readable p (p + w) bytes ≡ true
+    → IsOk (each_value (element first end count s bytes) 0 n)
+elements-readable-by first end count s bytes n last w p e ew ep t =
+    let at = ap (λ k. first + k * last) ew in
+    let same : are_readable (first + element_width first end count * last)
+    (first + element_width first end count * last + element_width first end count) bytes ≡ true =
+    sym (ap (λ k. are_readable k (k + w) bytes) (ep ∙ at)
+    ∙ ap (λ k. are_readable (first + element_width first end count * last)
+    (first + element_width first end count * last + k) bytes) ew) ∙ t in
+    elements-from-last first end count s bytes n last e (readable-by _ _ same)
+
+pub elements-refused-by : (first end count : ℕ) (s : Bool) (bytes : List ℕ) (n last w p : ℕ)
+    → n ≡ last + 1 → w ≡ element_width first end count → p ≡ first + w * last
+    → are_readable p (p + w) bytes ≡ false
+    → each_value (element first end count s bytes) 0 n ≡ Err Bounds
+elements-refused-by first end count s bytes n last w p e ew ep t =
+    let at = ap (λ k. first + k * last) ew in
+    let same : are_readable (first + element_width first end count * last)
+    (first + element_width first end count * last + element_width first end count) bytes ≡ false =
+    sym (ap (λ k. are_readable k (k + w) bytes) (ep ∙ at)
+    ∙ ap (λ k. are_readable (first + element_width first end count * last)
+    (first + element_width first end count * last + k) bytes) ew) ∙ t in
+    elements-outside first end count s bytes n last (omega (arith, e)) (refused-by _ _ same)
+
+-- what can be read has some bits, at most 32, and all of them in the bytes
+pub readable-bits : (p w : ℕ) (bytes : List ℕ) → are_readable p (p + w) bytes ≡ true
+    → (0 < w) × (w ≤ 32) × (p + w ≤ 8 * length bytes)
+readable-bits p w bytes t =
+    let width : p + w - p ≡ w = omega arith in
+    let e = sym (ap (λ k. not (nat_le (p + w) p || (nat_lt 32 k || nat_lt (8 * length bytes) (p + w))))
+    width) ∙ t in (
+      grind (arith, nat_tests, e),
+      grind (arith, nat_tests, e),
+      grind (arith, nat_tests, e),
+    )

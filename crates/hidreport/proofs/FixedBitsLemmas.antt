@@ -111,7 +111,7 @@ word-told bytes other s (suc w) true le e =
     (sum-small other s w) small e in
     agree-more bytes other s w (sum-told bytes other s w t.1) t.0
 
-word-same : (bytes other : List ℕ) (s w : ℕ) (signed : Bool) → AgreeOn s w bytes other
+pub word-same : (bytes other : List ℕ) (s w : ℕ) (signed : Bool) → AgreeOn s w bytes other
     → value bytes s w signed ≡ value other s w signed
 word-same bytes other s w false agree = ap pos (sum-same bytes other s w agree)
 word-same bytes other s zero true agree = refl

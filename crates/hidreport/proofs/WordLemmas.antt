@@ -13,7 +13,7 @@ use Rattle.hidreport.specs.BitValue.{bit, sum_of_bits}
 use Rattle.hidreport.proofs.BitLemmas.{power-fits}
 
 -- bit i of a word is bit i of its bytes
-word-bit : (xs : List ℕ) → AreBytes xs → (i : ℕ) → i < 8 * length xs
+pub word-bit : (xs : List ℕ) → AreBytes xs → (i : ℕ) → i < 8 * length xs
     → word xs / 2 ^ i % 2 ≡ bit xs i
 word-bit [] are i lt = absurd (omega (arith, lt))
 word-bit (b ∷ xs) are zero lt = omega arith
@@ -60,7 +60,7 @@ sum-word xs are s (suc w) within =
     sym (ap (λ n. word xs / 2 ^ s % 2 ^ n) (sym next) ∙ cut ∙ sum ∙ omega arith)
 
 -- a bit of the bytes from q on
-bit-from : (bytes : List ℕ) (q m i : ℕ) → i < 8 * m
+pub bit-from : (bytes : List ℕ) (q m i : ℕ) → i < 8 * m
     → bit bytes (8 * q + i) ≡ bit (take m (drop q bytes)) i
 bit-from bytes q m i lt =
     let place : (8 * q + i) / 8 ≡ q + i / 8 = omega arith in

@@ -1,6 +1,7 @@
 pub mod BitValue
 pub mod CollectionUsages
 pub mod Bits
+pub mod Blank
 pub mod Budget
 pub mod Choosing
 pub mod Faults
@@ -19,6 +20,7 @@ pub mod Places
 pub mod Reading
 pub mod Records
 pub mod Segments
+pub mod Standing
 pub mod Usages
 pub mod Tiling
 pub mod UsageNumber
@@ -26,6 +28,8 @@ pub mod UsageRange
 pub mod Visibility
 pub mod Views
 pub mod Weight
+pub mod Writing
+pub mod WritingLaws
 -- what public clauses cite of the crates below, so that a user names this one alone
 pub use Rattle.hidreport_types.specs.UnitTable
 pub use Rattle.hidreport_types.specs.UnitText

@@ -8,10 +8,12 @@ pub(crate) mod collection;
 pub(crate) mod constant_field;
 pub(crate) mod data_item;
 pub(crate) mod field_attributes;
+pub(crate) mod insert_error;
 pub(crate) mod usage;
 pub(crate) mod usage_range;
 pub(crate) mod value;
 pub(crate) mod variable_field;
+pub(crate) mod written_bits;
 
 use array_field::ArrayField;
 use collection::Collection;

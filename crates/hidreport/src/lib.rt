@@ -45,6 +45,7 @@ pub use field::array_field::ArrayField;
 pub use field::collection::{Collection, CollectionId};
 pub use field::constant_field::ConstantField;
 pub use field::field_attributes::FieldAttributes;
+pub use field::insert_error::InsertError;
 pub use field::usage::Usage;
 pub use field::usage_range::UsageRange;
 pub use field::value::FieldValue;

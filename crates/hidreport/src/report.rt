@@ -1,11 +1,15 @@
-ghost use Rattle.std.specs.Prelude.{◌≡◌, ◌+◌, ◌/◌, ℕ, List, Option, map};
+ghost use Rattle.std.specs.Prelude.{◌≡◌, ◌+◌, ◌/◌, ℕ, List, Option, map, IfOk};
+ghost use Rattle.hidreport_items.specs.Spelling.{AreBytes};
+ghost use Rattle.hidreport.specs.Blank.{blank_bytes, with_first};
 ghost use Rattle.hidreport.specs.Records.{FieldRecord};
 ghost use Rattle.hidreport.specs.Views.{field_record};
+ghost use Rattle.hidreport.specs.WritingLaws.{IsWhole};
 
 pub(crate) mod reports;
 
 use crate::field::Field;
 use hidreport_types::ReportId;
+use std::alloc::{AllocError, Global};
 use std::marker::Model;
 
 /// The report of one id in one direction (Section 5.6).
@@ -38,6 +42,38 @@ pub trait Report {
         ensures { result ≡ (size self.now + 7) / 8 }
     {
         self.size_in_bits().div_ceil(8)
+    }
+
+    /// The bytes of a report without values: as many as the report has, the first its id, where it
+    /// has one, and all other bits 0 (Section 5.6). An `AllocError` comes where memory for them is
+    /// refused.
+    ///
+    /// Once all its fields are written, it has just their values, and nothing but these and the
+    /// padding counts (`whole`).
+    fn blank(&self, alloc: Global) -> Result<Vec<u8>, AllocError>
+        ensures blank { IfOk result (λ bytes.
+            bytes.items ≡ blank_bytes (id self.now) (size self.now)) }
+        ensures whole { IfOk result (λ bytes. IsWhole (record {
+          id = id self.now;
+          size = size self.now;
+          fields = parts self.now;
+        }) bytes.items) }
+    {
+        let mut bytes = vec![in alloc; 0; self.size_in_bytes()]?;
+        put_id(self.report_id(), &mut bytes);
+        Ok(bytes)
+    }
+}
+
+/// Puts an id in place of the first byte, if there is one.
+fn put_id(report_id: &Option<ReportId>, bytes: &mut [u8])
+    ensures first { bytes.new ≡ with_first report_id.now bytes.old }
+    ensures bytes { AreBytes bytes.new }
+{
+    if let Some(id) = report_id
+        && !bytes.is_empty()
+    {
+        bytes[0] = u8::from(*id);
     }
 }
 

@@ -10,7 +10,7 @@ use std::fmt::Write;
 
 /// The range of bits, the count and the logical minimum that a field is given.
 #[derive(Clone, Copy)]
-struct Parts {
+pub struct Parts {
     first: usize,
     end: usize,
     count: usize,
@@ -47,7 +47,8 @@ pub fn number_and_words(words: &str) -> Result<(u32, &str), Malformed> {
     }
 }
 
-fn parts_in(words: &str) -> Result<Parts, Malformed> {
+/// The parts that words write.
+pub fn parts_in(words: &str) -> Result<Parts, Malformed> {
     let (range, words) = first_of(words)?;
     let (count, minimum) = first_of(words)?;
     let (first, end) = range.split_once("..").ok_or(Malformed::Words)?;
@@ -59,14 +60,16 @@ fn parts_in(words: &str) -> Result<Parts, Malformed> {
     })
 }
 
-fn with_bits(field: &VariableField, parts: Parts) -> Result<VariableField, AllocError> {
+/// The field with these parts.
+pub fn with_bits(field: &VariableField, parts: Parts) -> Result<VariableField, AllocError> {
     let mut changed = field.clone()?;
     changed.bits = parts.first..parts.end;
     changed.logical_minimum = LogicalMinimum::from(parts.minimum);
     Ok(changed)
 }
 
-fn with_elements(field: &ArrayField, parts: Parts) -> Result<ArrayField, AllocError> {
+/// The array with these parts.
+pub fn with_elements(field: &ArrayField, parts: Parts) -> Result<ArrayField, AllocError> {
     let mut changed = field.clone()?;
     changed.bits = parts.first..parts.end;
     changed.report_count = ReportCount::from(parts.count);

@@ -11,6 +11,7 @@ mod commands;
 mod cuts;
 mod descriptors;
 mod fields;
+mod insertions;
 mod items;
 mod kinds;
 mod made;

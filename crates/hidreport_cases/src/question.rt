@@ -5,6 +5,7 @@ use crate::changed::{add_changed, add_low_bits};
 use crate::commands::{add_command, add_words};
 use crate::cuts::add_cuts;
 use crate::descriptors::{Ids, Way, add_descriptor, add_many, read};
+use crate::insertions::{add_blanks, add_inserted, add_inserted_one, add_standing};
 use crate::items::{add_item, add_list, add_short_of};
 use crate::made::{add_kind_of, add_made};
 use crate::malformed::Malformed;
@@ -45,6 +46,23 @@ pub fn add_answer(
         "low-bits" => add_low_bits(alloc, text, asked, words),
         "usages" => add_usages_of(text, asked, words),
         "usage-of" => add_chosen(alloc, text, asked, words),
+        _ => add_answer_of_writing(alloc, text, asked, kind, words),
+    }
+}
+
+/// The same of a question about what is written by a field or a report.
+fn add_answer_of_writing(
+    alloc: Global,
+    text: &mut String,
+    asked: &Asked,
+    kind: &str,
+    words: &str,
+) -> Result<(), Malformed> {
+    match kind {
+        "insert" => add_inserted(alloc, text, asked, words),
+        "insert-one" => add_inserted_one(alloc, text, asked, words),
+        "value-of" => add_standing(text, asked, words),
+        "blank" => add_blanks(alloc, text, asked),
         _ => add_answer_without_field(alloc, text, kind, words),
     }
 }

@@ -2,7 +2,7 @@
 use std::fmt;
 
 /// The kinds, by the first words of their questions.
-static KINDS: [&str; 34] = [
+static KINDS: [&str; 38] = [
     "parse",
     "parse-globals",
     "parse-within",
@@ -12,6 +12,10 @@ static KINDS: [&str; 34] = [
     "low-bits",
     "usages",
     "usage-of",
+    "insert",
+    "insert-one",
+    "value-of",
+    "blank",
     "many",
     "many-within",
     "list",
@@ -43,7 +47,7 @@ static KINDS: [&str; 34] = [
 #[derive(Drop)]
 pub struct Tally {
     /// How many questions of each kind, in the order of `KINDS`.
-    asked: [usize; 34],
+    asked: [usize; 38],
     /// How many had another answer, or couldn't be asked.
     differing: usize,
     /// How many cut descriptors were asked besides.
@@ -55,7 +59,7 @@ pub struct Tally {
 impl Tally {
     pub fn new() -> Tally {
         Tally {
-            asked: [0; 34],
+            asked: [0; 38],
             differing: 0,
             cuts: 0,
             flips: 0,

@@ -1,11 +1,11 @@
-//! Reads a mouse's reports with X and Y swapped, and with its first two buttons swapped.
+//! Writes a mouse's reports anew, with X and Y exchanged, and its first two buttons.
 //! Licence: MIT (LICENSE); a port of the Rust crate `hidreport` 0.6.0.
 #![tactic(auto)]
 
 use anyhow::{Context, Result};
-use hidreport::{Field, Report, ReportDescriptor, Usage};
+use hidreport::{Field, RDescReport, Report, ReportDescriptor, VariableField};
 use std::rt::{Env, Files};
-use std::{env, fmt, fs};
+use std::{env, fs};
 
 /// The greatest weight of a descriptor that is read: nobody vouches for a file's bytes.
 const LIMIT: usize = 65_536;
@@ -20,63 +20,48 @@ fn main(rt: HostRuntime) -> Result<()> {
     Ok(())
 }
 
-/// Prints the values of a report, each for the control that it is given to.
-fn print_report<R: Print>(rt: &R, descriptor: &ReportDescriptor, bytes: &[u8]) -> Result<()> {
+/// Prints a report anew, with X and Y exchanged, and its first two buttons; all else stays.
+fn print_report<R: AllocGlobal + Print>(
+    rt: &R,
+    descriptor: &ReportDescriptor,
+    bytes: &[u8],
+) -> Result<()> {
     let report = descriptor
         .find_input_report(bytes)
         .context("no such report")?;
-    print!(rt; "report")?;
-    if let Some(id) = report.report_id() {
-        print!(rt; " {id}")?;
-    }
+    let mut exchanged = Vec::from_slice(rt.alloc(), bytes)?;
     for field in report.fields() {
         if let Field::Variable(field) = field
-            && let Some(control) = Control::of(field.usage)
+            && let Some(usage) = exchanged_usage(u32::from(field.usage))
+            && let Some(source) = variable_of(report, usage)
         {
-            let number = i64::from(field.extract(bytes)?);
-            print!(rt; " {}={number}", control.swapped())?;
+            field.insert(&mut exchanged, i64::from(source.extract(bytes)?))?;
         }
     }
-    println!(rt; "")?;
+    println!(rt; "{}", hex::encode(rt.alloc(), &exchanged)?)?;
     Ok(())
 }
 
-/// What is swapped, and the other buttons.
-#[derive(Clone, Copy)]
-enum Control {
-    X,
-    Y,
-    Button(u32),
-}
-
-impl Control {
-    /// The control with this usage: X and Y are of page 1, buttons of page 9.
-    fn of(usage: Usage) -> Option<Control> {
-        match u32::from(usage) {
-            0x0001_0030 => Some(Control::X),
-            0x0001_0031 => Some(Control::Y),
-            button @ 0x0009_0001..=0x0009_ffff => Some(Control::Button(button & 0xffff)),
-            _ => None,
-        }
-    }
-
-    fn swapped(self) -> Control {
-        match self {
-            Control::X => Control::Y,
-            Control::Y => Control::X,
-            Control::Button(1) => Control::Button(2),
-            Control::Button(2) => Control::Button(1),
-            Control::Button(number) => Control::Button(number),
-        }
+/// The usage whose value this one gets: X and Y are of page 1, buttons of page 9. `None` for one
+/// that keeps its own.
+fn exchanged_usage(usage: u32) -> Option<u32> {
+    match usage {
+        0x0001_0030 => Some(0x0001_0031),
+        0x0001_0031 => Some(0x0001_0030),
+        0x0009_0001 => Some(0x0009_0002),
+        0x0009_0002 => Some(0x0009_0001),
+        _ => None,
     }
 }
 
-impl fmt::Display for Control {
-    fn fmt<W: fmt::Write>(&self, f: &mut fmt::Formatter<W>) -> fmt::Result {
-        match self {
-            Control::X => write!(f, "x"),
-            Control::Y => write!(f, "y"),
-            Control::Button(number) => write!(f, "button{number}"),
+/// The report's first field with one value of this usage.
+fn variable_of(report: &RDescReport, usage: u32) -> Option<&VariableField> {
+    for field in report.fields() {
+        if let Field::Variable(field) = field
+            && u32::from(field.usage) == usage
+        {
+            return Some(field);
         }
     }
+    None
 }

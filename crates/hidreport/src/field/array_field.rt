@@ -1,22 +1,31 @@
-ghost use Rattle.std.specs.Prelude.{◌≡◌, ◌≢◌, ◌+◌, ◌*◌, ◌^◌, ◌<◌, pos, int_lt, IfErr, IfOk, IfSome};
-ghost use Rattle.std.specs.Prelude.{IsNone, IsOk, OnOk};
+ghost use Rattle.std.specs.Prelude.{◌≡◌, ◌≢◌, ◌+◌, ◌*◌, ◌^◌, ◌<◌, ◌≤◌, length, pos, int_lt, IfErr, IfOk, IfSome};
+ghost use Rattle.std.specs.Prelude.{IsNone, IsOk, OnOk, Some, true, false, slice_get, ℕ, ℤ, ◌||◌};
 ghost use Rattle.hidreport_lists.specs.Answer.{Answers, AnswersBy, Bounds, IsOfReading, Refuses};
 ghost use Rattle.hidreport.specs.Bits.{FixesBits};
 ghost use Rattle.hidreport.specs.Choosing.{usage_chosen, value_number};
 ghost use Rattle.hidreport.specs.Reading.{element_of, element_width, reads, reads_element};
 ghost use Rattle.hidreport.specs.Reading.{values_of};
 ghost use Rattle.hidreport.specs.Records.{is_of_range, usages_in};
+ghost use Rattle.hidreport.specs.Standing.{IsLeastFor, is_null, null_number};
 ghost use Rattle.hidreport.specs.Tiling.{HasRange};
 ghost use Rattle.hidreport.specs.UsageRange.{range_of, HasExactly};
+ghost use Rattle.hidreport_items.specs.Spelling.{AreBytes};
+ghost use Rattle.hidreport.specs.Writing.{Inserts, written, written_element};
+ghost use Rattle.hidreport.specs.WritingLaws.{IsElementWritten, IsWritten, number_in};
+ghost use Rattle.hidreport.specs.WritingLaws.{reads_numbers};
 ghost use Rattle.hidreport.specs.Views.{array_attributes, array_record};
 
 use crate::field::FieldId;
 use crate::field::collection::Collection;
 use crate::field::data_item::DataItem;
 use crate::field::field_attributes::FieldAttributes;
+use crate::field::insert_error::InsertError;
 use crate::field::usage::Usage;
 use crate::field::usage_range::UsageRange;
-use crate::field::value::{FieldValue, check_id, read_bits};
+use crate::field::value::{FieldValue, are_readable, check_id, read_bits};
+use crate::field::written_bits::{
+    all_fit, begins_in_id, check_place, check_written_id, fits, put_bits, put_values,
+};
 use hidreport_lists::ParserError;
 use hidreport_types::{
     LogicalMaximum, LogicalMinimum, PhysicalMaximum, PhysicalMinimum, ReportCount, ReportId, Unit,
@@ -121,6 +130,50 @@ impl ArrayField {
         self.usages.get(index).copied()
     }
 
+    /// The value that stands for a usage, the inverse of `usage_of` (Section 6.2.2.5): the logical
+    /// minimum plus the usage's index, counted from 0. Where the usage is listed more than once,
+    /// it is the least such value. `None` where the usage isn't listed, or only behind the logical
+    /// maximum. It takes no memory.
+    pub fn value_of(&self, usage: Usage) -> Option<i64>
+        ensures { IsLeastFor (usages_in (array_record self.now))
+            self.now.logical_minimum self.now.logical_maximum usage result }
+    {
+        let index = self.index_of(usage)?;
+        let minimum = i64::from(i32::from(self.logical_minimum));
+        let maximum = i64::from(i32::from(self.logical_maximum));
+        if maximum < minimum || (maximum - minimum).unsigned_abs() < index as u64 {
+            return None;
+        }
+        Some(minimum + index as i64)
+    }
+
+    /// A value that stands for no usage: one outside the logical bounds that an element's bits
+    /// hold (Section 6.2.2.5). It is 0 where that is one, else the number below the logical
+    /// minimum, else the one above the logical maximum. `None` where the bits hold no such value
+    /// (`none`), and where an element has no bits or more than 32. It takes no memory.
+    pub fn null_value(&self) -> Option<i64>
+        ensures first { result ≡ null_number
+            (element_width self.now.bits.start self.now.bits.end self.now.report_count)
+            (int_lt self.now.logical_minimum (pos 0))
+            self.now.logical_minimum self.now.logical_maximum }
+        ensures none { IsNone result → (number : ℤ) → is_null
+            (element_width self.now.bits.start self.now.bits.end self.now.report_count)
+            (int_lt self.now.logical_minimum (pos 0))
+            self.now.logical_minimum self.now.logical_maximum number ≡ false }
+    {
+        let below = i64::from(i32::from(self.logical_minimum)) - 1;
+        let above = i64::from(i32::from(self.logical_maximum)) + 1;
+        if self.is_null(0) {
+            Some(0)
+        } else if self.is_null(below) {
+            Some(below)
+        } else if self.is_null(above) {
+            Some(above)
+        } else {
+            None
+        }
+    }
+
     /// Whether the values can be below 0: the logical minimum is.
     pub fn is_signed(&self) -> bool
         ensures { result ≡ int_lt self.now.logical_minimum (pos 0) }
@@ -168,6 +221,55 @@ impl ArrayField {
             .ok_or(ParserError::OutOfBounds)
     }
 
+    /// Writes the value of element `index`, counted from 0, into a report that has these bytes: the
+    /// element's bits become those of the value in two's complement, the lowest first, and no
+    /// other bit changes (Section 5.8).
+    ///
+    /// What can't be read can't be written: an index that isn't below the count is `OutOfBounds`,
+    /// then `OutOfBounds` and `MismatchingReportId` come as for `extract_one`. An element that
+    /// begins in the byte of the report's id is `OutOfBounds`, too. Then a value that so many bits
+    /// don't hold, signed or not as the field is, is `DoesNotFit`; one outside the logical bounds
+    /// is written, since it stands for no usage. A refusal leaves the bytes as they were. It takes
+    /// no memory.
+    ///
+    /// What was written is read again, all other bits, the other elements and the report's other
+    /// fields stay, and of two writes the second counts (`laws`); to write what was read changes
+    /// nothing (`again`).
+    pub fn insert_one(&self, bytes: &mut [u8], index: usize, value: i64) -> Result<(), InsertError>
+        ensures answer { Inserts result bytes.old bytes.new
+            (written_element (array_record self.now) index value bytes.old) }
+        ensures laws { OnOk result
+            (IsElementWritten (array_record self.now) index value bytes.old bytes.new) }
+        ensures again { number_in (reads_element (array_record self.now) bytes.old index) ≡ Ok value
+            → (bytes.new ≡ bytes.old) × (result ≢ Err InsertError.DoesNotFit) }
+    {
+        self.put_element(bytes, index, value)
+    }
+
+    /// Writes the values of all elements, in order, into a report that has these bytes: the bits of
+    /// the elements become those of the values in two's complement, the lowest first, and no other
+    /// bit changes (Section 5.8).
+    ///
+    /// More or fewer values than the field's count are `WrongCount`, before anything else. What
+    /// can't be read can't be written: `OutOfBounds` and `MismatchingReportId` come as for
+    /// `extract`. A range that begins in the byte of the report's id is `OutOfBounds`, too. Then,
+    /// where so many bits don't hold one of the values, signed or not as the field is, it is
+    /// `DoesNotFit`; one outside the logical bounds is written, since it stands for no usage. A
+    /// refusal leaves the bytes as they were. It takes no memory.
+    ///
+    /// What was written is read again, all other bits and the report's other fields stay, and of
+    /// two writes the second counts (`laws`); to write what was read changes nothing (`again`).
+    pub fn insert(&self, bytes: &mut [u8], values: &[i64]) -> Result<(), InsertError>
+        ensures answer { Inserts result bytes.old bytes.new
+            (written (array_record self.now) values.now bytes.old) }
+        ensures laws { OnOk result
+            (IsWritten (array_record self.now) values.now bytes.old bytes.new) }
+        ensures again { reads_numbers (array_record self.now) bytes.old ≡ Ok values.now
+            → (bytes.new ≡ bytes.old) × (result ≢ Err InsertError.DoesNotFit) }
+    {
+        self.put_elements(bytes, values)
+    }
+
     /// The same field once more, with a list of usages of its own; both share the list of
     /// collections. An `AllocError` comes where memory for the usages is refused, or where that
     /// list would have 2^63 owners.
@@ -192,6 +294,87 @@ impl ArrayField {
         })
     }
 
+    /// What `insert_one` does, by the definition alone.
+    #[inline(always)]
+    fn put_element(&self, bytes: &mut [u8], index: usize, value: i64) -> Result<(), InsertError>
+        ensures answer { Inserts result bytes.old bytes.new
+            (written_element (array_record self.now) index value bytes.old) }
+        ensures bytes { result ≢ Err InsertError.OutOfBounds → AreBytes bytes.old }
+    {
+        if index >= usize::from(self.report_count) {
+            return Err(InsertError::OutOfBounds);
+        }
+        let width = self.element_width();
+        let first = self.element_first(width, index);
+        check_place(&self.report_id, &(first..first + width), bytes)?;
+        if !fits(width, self.is_signed(), value) {
+            return Err(InsertError::DoesNotFit);
+        }
+        put_bits(bytes, first, width, value);
+        Ok(())
+    }
+
+    /// What `insert` does, by the definition alone.
+    fn put_elements(&self, bytes: &mut [u8], values: &[i64]) -> Result<(), InsertError>
+        ensures answer { Inserts result bytes.old bytes.new
+            (written (array_record self.now) values.now bytes.old) }
+        ensures bytes { result ≢ Err InsertError.WrongCount → AreBytes bytes.old }
+    {
+        if values.len() != usize::from(self.report_count) {
+            return Err(InsertError::WrongCount);
+        }
+        check_written_id(&self.report_id, bytes)?;
+        let width = self.element_width();
+        if !self.are_readable(bytes, width) || begins_in_id(&self.report_id, self.bits.start) {
+            return Err(InsertError::OutOfBounds);
+        }
+        if !all_fit(width, self.is_signed(), values) {
+            return Err(InsertError::DoesNotFit);
+        }
+        put_values(bytes, self.bits.start, width, values);
+        Ok(())
+    }
+
+    /// The index of the first usage that is this one.
+    fn index_of(&self, usage: Usage) -> Option<usize>
+        ensures found { IfSome result (λ index.
+            slice_get (usages_in (array_record self.now)) index ≡ Some usage) }
+        ensures first { IfSome result (λ index. (k : ℕ) → k < index
+            → slice_get (usages_in (array_record self.now)) k ≢ Some usage) }
+        ensures absent { IsNone result → (k : ℕ)
+            → slice_get (usages_in (array_record self.now)) k ≢ Some usage }
+    {
+        for index in 0..self.usages.len() {
+            if self.usages[index] == usage {
+                return Some(index);
+            }
+        }
+        None
+    }
+
+    /// Whether a number lies outside the logical bounds.
+    fn is_outside(&self, number: i64) -> bool
+        ensures { result ≡ (int_lt number self.now.logical_minimum
+            || int_lt self.now.logical_maximum number) }
+    {
+        number < i64::from(i32::from(self.logical_minimum))
+            || i64::from(i32::from(self.logical_maximum)) < number
+    }
+
+    /// Whether a number lies outside the logical bounds and an element's bits hold it.
+    fn is_null(&self, number: i64) -> bool
+        ensures { result ≡ is_null
+            (element_width self.now.bits.start self.now.bits.end self.now.report_count)
+            (int_lt self.now.logical_minimum (pos 0))
+            self.now.logical_minimum self.now.logical_maximum number }
+    {
+        let width = self.element_width();
+        if width == 0 || 32 < width {
+            return false;
+        }
+        self.is_outside(number) && fits(width, self.is_signed(), number)
+    }
+
     /// The values of all elements, whatever the report's id.
     fn elements(&self, bytes: &[u8]) -> Result<Vec<FieldValue>, ParserError>
         ensures answer { AnswersBy (λ values. values.items) result
@@ -202,7 +385,9 @@ impl ArrayField {
     {
         let count = usize::from(self.report_count);
         let width = self.element_width();
-        self.check_elements(bytes, width)?;
+        if !self.are_readable(bytes, width) {
+            return Err(ParserError::OutOfBounds);
+        }
         let mut values = Vec::with_capacity(*self.usages.allocator(), count)?;
         for idx in 0..count {
             let Some(value) = self.element(bytes, width, idx) else {
@@ -213,30 +398,9 @@ impl ArrayField {
         Ok(values)
     }
 
-    /// Refuses where some element can't be read: where the last one can, so can those before it.
-    fn check_elements(&self, bytes: &[u8], width: usize) -> Result<(), ParserError>
-        requires width { 0 < self.now.report_count → width
-            ≡ element_width self.now.bits.start self.now.bits.end self.now.report_count }
-        requires counted { self.now.bits.start + width * self.now.report_count < 2 ^ 64 }
-        ensures readable { OnOk result (IsOk (values_of (array_record self.now) bytes.now)) }
-        ensures refused { IfErr result (λ e.
-            Refuses e (values_of (array_record self.now) bytes.now)) }
-        ensures named { IfErr result IsOfReading }
-        ensures memory { result ≢ Err ParserError.OutOfMemory }
-    {
-        let count = usize::from(self.report_count);
-        if count == 0 {
-            return Ok(());
-        }
-        match self.element(bytes, width, count - 1) {
-            Some(_) => Ok(()),
-            None => Err(ParserError::OutOfBounds),
-        }
-    }
-
     /// How many bits an element has: the field's bits divided by the count, if it isn't 0.
     fn element_width(&self) -> usize
-        ensures width { 0 < self.now.report_count → result
+        ensures width { result
             ≡ element_width self.now.bits.start self.now.bits.end self.now.report_count }
         ensures counted { self.now.bits.start + result * self.now.report_count < 2 ^ 64 }
     {
@@ -244,6 +408,36 @@ impl ArrayField {
         width
             .checked_div(usize::from(self.report_count))
             .unwrap_or(0)
+    }
+
+    /// The first bit of an element that is there, of so many bits.
+    fn element_first(&self, width: usize, idx: usize) -> usize
+        requires there { idx < self.now.report_count }
+        requires counted { self.now.bits.start + width * self.now.report_count < 2 ^ 64 }
+        ensures first { result ≡ self.now.bits.start + width * idx }
+        ensures room { result + width < 2 ^ 64 }
+    {
+        self.bits.start + width * idx
+    }
+
+    /// Whether all elements, of so many bits, can be read, whatever the report's id: where the last
+    /// one can, so can those before it.
+    fn are_readable(&self, bytes: &[u8], width: usize) -> bool
+        requires width { width
+            ≡ element_width self.now.bits.start self.now.bits.end self.now.report_count }
+        requires counted { self.now.bits.start + width * self.now.report_count < 2 ^ 64 }
+        ensures readable { result ≡ true → IsOk (values_of (array_record self.now) bytes.now) }
+        ensures outside { result ≡ false
+            → values_of (array_record self.now) bytes.now ≡ Err Bounds }
+        ensures inside { result ≡ true → 0 < self.now.report_count → (0 < width) × (width ≤ 32)
+            × (self.now.bits.start + width * self.now.report_count ≤ 8 * length bytes.now) }
+    {
+        let count = usize::from(self.report_count);
+        if count == 0 {
+            return true;
+        }
+        let last = self.element_first(width, count - 1);
+        are_readable(bytes, &(last..last + width))
     }
 
     /// The value of an element that is there, of so many bits, whatever the report's id.
@@ -257,7 +451,7 @@ impl ArrayField {
         ensures outside { IsNone result
             → element_of (array_record self.now) bytes.now idx ≡ Err Bounds }
     {
-        let first = self.bits.start + width * idx;
+        let first = self.element_first(width, idx);
         read_bits(bytes, &(first..first + width), self.is_signed())
     }
 }

@@ -6,6 +6,7 @@ ghost use Rattle.hidreport_lists.specs.Answer.{Answers, Bounds, IsOfReading};
 ghost use Rattle.hidreport.specs.BitValue.{sum_of_bits, value, as_word};
 ghost use Rattle.hidreport.specs.Choosing.{value_number};
 ghost use Rattle.hidreport.specs.Reading.{read_bits, with_id};
+ghost use Rattle.hidreport.specs.Writing.{are_readable};
 
 use hidreport_lists::ParserError;
 use hidreport_types::ReportId;
@@ -175,7 +176,7 @@ impl From<FieldValue> for i64 {
 }
 
 /// At most five bytes as one number, the first as the lowest.
-fn word(bytes: &[u8]) -> u64
+pub(crate) fn word(bytes: &[u8]) -> u64
     requires { length bytes.now ≤ 5 }
     ensures { result ≡ word bytes.now }
 {
@@ -227,18 +228,27 @@ pub(crate) fn read_bits(bytes: &[u8], bits: &Range<usize>, is_signed: bool) -> O
     ensures outside { IsNone result
         → read_bits bits.now.start bits.now.end is_signed bytes.now ≡ Err Bounds }
 {
-    let first = bits.start;
-    let end = bits.end;
-    if end <= first || end - first > 32 || end.div_ceil(8) > bytes.len() {
+    if !are_readable(bytes, bits) {
         return None;
     }
-    let width = end - first;
+    let first = bits.start;
+    let width = bits.end - first;
     let value = if is_signed {
         signed_bits(bytes, first, width)
     } else {
         sum_of_bits(bytes, first, width) as u32
     };
     Some(FieldValue { is_signed, value })
+}
+
+/// Whether a range of bits can be read: at least one, at most 32, all of them in the bytes.
+#[inline(always)]
+pub(crate) fn are_readable(bytes: &[u8], bits: &Range<usize>) -> bool
+    ensures { result ≡ are_readable bits.now.start bits.now.end bytes.now }
+{
+    let first = bits.start;
+    let end = bits.end;
+    first < end && end - first <= 32 && end.div_ceil(8) <= bytes.len()
 }
 
 /// Bytes are read by a field with an id only where they begin with it.

@@ -1,15 +1,20 @@
-ghost use Rattle.std.specs.Prelude.{◌≡◌, ◌≢◌, [], ◌∷◌, pos, int_lt, IfErr, IfOk};
+ghost use Rattle.std.specs.Prelude.{◌≡◌, ◌≢◌, [], ◌∷◌, pos, int_lt, IfErr, IfOk, OnOk};
 ghost use Rattle.hidreport_lists.specs.Answer.{AnswersBy, IsOfReading};
 ghost use Rattle.hidreport.specs.Bits.{FixesBits};
 ghost use Rattle.hidreport.specs.Reading.{reads};
+ghost use Rattle.hidreport_items.specs.Spelling.{AreBytes};
+ghost use Rattle.hidreport.specs.Writing.{Inserts, written};
+ghost use Rattle.hidreport.specs.WritingLaws.{IsWritten, reads_numbers};
 ghost use Rattle.hidreport.specs.Views.{variable_attributes, variable_record};
 
 use crate::field::FieldId;
 use crate::field::collection::Collection;
 use crate::field::data_item::DataItem;
 use crate::field::field_attributes::FieldAttributes;
+use crate::field::insert_error::InsertError;
 use crate::field::usage::Usage;
 use crate::field::value::{FieldValue, check_id, read_bits};
+use crate::field::written_bits::{check_place, fits, put_bits};
 use hidreport_lists::ParserError;
 use hidreport_types::{
     LogicalMaximum, LogicalMinimum, PhysicalMaximum, PhysicalMinimum, ReportId, Unit, UnitExponent,
@@ -81,6 +86,44 @@ impl VariableField {
     {
         check_id(self.report_id, bytes)?;
         read_bits(bytes, &self.bits, self.is_signed()).ok_or(ParserError::OutOfBounds)
+    }
+
+    /// Writes the field's value into a report that has these bytes: its bits become those of the
+    /// value in two's complement, the lowest first, and no other bit changes (Section 5.8).
+    ///
+    /// What can't be read can't be written: `OutOfBounds` and `MismatchingReportId` come as for
+    /// `extract`. A range that begins in the byte of the report's id is `OutOfBounds`, too. Then a
+    /// value that so many bits don't hold, signed or not as the field is, is `DoesNotFit`; one
+    /// outside the logical bounds is written, since it stands for no value. A refusal leaves the
+    /// bytes as they were. It takes no memory.
+    ///
+    /// What was written is read again, all other bits and the report's other fields stay, and of
+    /// two writes the second counts (`laws`); to write what was read changes nothing (`again`).
+    pub fn insert(&self, bytes: &mut [u8], value: i64) -> Result<(), InsertError>
+        ensures answer { Inserts result bytes.old bytes.new
+            (written (variable_record self.now) (value ∷ []) bytes.old) }
+        ensures laws { OnOk result
+            (IsWritten (variable_record self.now) (value ∷ []) bytes.old bytes.new) }
+        ensures again { reads_numbers (variable_record self.now) bytes.old ≡ Ok (value ∷ [])
+            → (bytes.new ≡ bytes.old) × (result ≢ Err InsertError.DoesNotFit) }
+    {
+        self.put_value(bytes, value)
+    }
+
+    /// What `insert` does, by the definition alone.
+    #[inline(always)]
+    fn put_value(&self, bytes: &mut [u8], value: i64) -> Result<(), InsertError>
+        ensures answer { Inserts result bytes.old bytes.new
+            (written (variable_record self.now) (value ∷ []) bytes.old) }
+        ensures bytes { AreBytes bytes.old }
+    {
+        check_place(&self.report_id, &self.bits, bytes)?;
+        let width = self.bits.end - self.bits.start;
+        if !fits(width, self.is_signed(), value) {
+            return Err(InsertError::DoesNotFit);
+        }
+        put_bits(bytes, self.bits.start, width, value);
+        Ok(())
     }
 
     /// The same field once more; both share the list of collections. It takes no memory; an

@@ -1,0 +1,23 @@
+use Rattle.std.proofs.Common.{[], ◌∷◌, subst}
+use Rattle.std.specs.Int.{w64}
+use Rattle.std.proofs.lemmas.Int.{to_z-of_z}
+use Rattle.hidreport.specs.Views.{variable_record}
+use Rattle.hidreport.specs.Writing.{Inserts, written}
+use Rattle.hidreport.proofs.InsertLemmas.{again-of, laws-of}
+use Rattle.hidreport.proofs.field.variable_field.VariableField.insert.Goals as goal
+
+pub returns-clause-laws : goal.returns-clause-laws
+returns-clause-laws c =
+    laws-of (variable_record c.args.self.now) (c.args.value ∷ []) c.args.bytes.now
+    c.put_value.new.bytes c.put_value.result (λ other. c.put_value.ensures.bytes)
+    (subst (λ z. Inserts c.put_value.result c.args.bytes.now c.put_value.new.bytes
+    (written (variable_record c.args.self.now) (z ∷ []) c.args.bytes.now))
+    (to_z-of_z w64 c.args.value c.ranges.value) c.put_value.ensures.answer)
+
+pub returns-clause-again : goal.returns-clause-again
+returns-clause-again c =
+    again-of (variable_record c.args.self.now) (c.args.value ∷ []) c.args.bytes.now
+    c.put_value.new.bytes c.put_value.result (λ other. c.put_value.ensures.bytes)
+    (subst (λ z. Inserts c.put_value.result c.args.bytes.now c.put_value.new.bytes
+    (written (variable_record c.args.self.now) (z ∷ []) c.args.bytes.now))
+    (to_z-of_z w64 c.args.value c.ranges.value) c.put_value.ensures.answer)

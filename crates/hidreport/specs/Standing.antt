@@ -1,0 +1,29 @@
+-- The number that stands for a usage of an array, and one that stands for none (Section 6.2.2.5).
+use Rattle.std.specs.Prelude.{◌≡◌, ◌≢◌, ◌≤ℤ◌, ◌+ℤ◌, ◌-ℤ◌, ℕ, ℤ, pos, int_lt, nat_lt, nat_le, ◌&&◌}
+use Rattle.std.specs.Prelude.{◌||◌, if◌then◌else◌, Bool, List, Option, None, Some}
+use Rattle.hidreport.specs.Choosing.{usage_chosen}
+use Rattle.hidreport.specs.Writing.{fits}
+use Rattle.hidreport.specs.declared.field.usage.Usage.{Usage}
+
+-- the least number that stands for the usage; none where no number does
+abbrev pub IsLeastFor : List Usage → ℤ → ℤ → Usage → Option ℤ → Type 0
+IsLeastFor usages minimum maximum usage (Some number) =
+    (usage_chosen usages minimum maximum number ≡ Some usage)
+    × ((other : ℤ) → usage_chosen usages minimum maximum other ≡ Some usage → number ≤ℤ other)
+IsLeastFor usages minimum maximum usage None =
+    (other : ℤ) → usage_chosen usages minimum maximum other ≢ Some usage
+
+-- the number lies outside the logical bounds, and so many bits hold it
+abbrev pub is_null : ℕ → Bool → ℤ → ℤ → ℤ → Bool
+is_null width is_signed minimum maximum number =
+    (nat_lt 0 width && nat_le width 32)
+    && ((int_lt number minimum || int_lt maximum number) && fits width is_signed number)
+
+-- the first of 0, the number below the minimum and the one above the maximum that is such a number
+abbrev pub null_number : ℕ → Bool → ℤ → ℤ → Option ℤ
+null_number width is_signed minimum maximum =
+    let null = is_null width is_signed minimum maximum in
+    if null (pos 0) then Some (pos 0)
+    else (if null (minimum -ℤ pos 1) then Some (minimum -ℤ pos 1)
+    else (if null (maximum +ℤ pos 1) then Some (maximum +ℤ pos 1)
+    else None))

@@ -1,0 +1,193 @@
+//! Values that are written into reports' bytes.
+use crate::asked::Asked;
+use crate::changed::{number_and_words, parts_in, with_bits, with_elements};
+use crate::kinds::add_bytes;
+use crate::malformed::Malformed;
+use crate::words::{bytes_of, first_of, number_of, parts_of, word_of};
+use hidreport::{ArrayField, Field, InsertError, RDescReport, Report, Usage, VariableField};
+use std::alloc::{AllocError, Global};
+use std::fmt::Write;
+
+/// Answers `insert FIELD FIRST..END COUNT MINIMUM / NUMBER .. / BYTES`: the bytes once the field,
+/// with these parts, has the numbers. The count of a variable field counts for nothing.
+pub fn add_inserted(
+    alloc: Global,
+    text: &mut String,
+    asked: &Asked,
+    words: &str,
+) -> Result<(), Malformed> {
+    let (words, behind) = parts_of(words)?;
+    let (numbers, bytes) = parts_of(behind)?;
+    let (number, words) = number_and_words(words)?;
+    let parts = parts_in(words)?;
+    let numbers = numbers_of(alloc, numbers)?;
+    let before = bytes_of(alloc, bytes)?;
+    let mut bytes = Vec::from_slice(alloc, &before)?;
+    match asked.field(number)? {
+        Field::Variable(field) => {
+            let field = with_bits(field, parts)?;
+            let value = numbers.first().copied().ok_or(Malformed::Number)?;
+            let answer = field.insert(&mut bytes, value);
+            add_outcome(text, answer, &before, &bytes)?;
+            add_reading(text, answer, &field, &bytes, value)?;
+        }
+        Field::Array(field) => {
+            let field = with_elements(field, parts)?;
+            let answer = field.insert(&mut bytes, &numbers);
+            add_outcome(text, answer, &before, &bytes)?;
+            for (index, value) in numbers.iter().enumerate() {
+                add_element_reading(text, answer, &field, &bytes, (index, *value))?;
+            }
+        }
+        Field::Constant(_) => return Err(Malformed::Field),
+    }
+    text.push_str("\n")?;
+    Ok(())
+}
+
+/// Answers `insert-one FIELD FIRST..END COUNT MINIMUM / INDEX NUMBER / BYTES`: the bytes once this
+/// element of the array, with these parts, has the number.
+pub fn add_inserted_one(
+    alloc: Global,
+    text: &mut String,
+    asked: &Asked,
+    words: &str,
+) -> Result<(), Malformed> {
+    let (words, behind) = parts_of(words)?;
+    let (element, bytes) = parts_of(behind)?;
+    let (number, words) = number_and_words(words)?;
+    let parts = parts_in(words)?;
+    let (index, value) = first_of(element)?;
+    let (index, value) = (number_of(index)?, wide_of(value)?);
+    let before = bytes_of(alloc, bytes)?;
+    let mut bytes = Vec::from_slice(alloc, &before)?;
+    let Field::Array(field) = asked.field(number)? else {
+        return Err(Malformed::Field);
+    };
+    let field = with_elements(field, parts)?;
+    let answer = field.insert_one(&mut bytes, index, value);
+    add_outcome(text, answer, &before, &bytes)?;
+    add_element_reading(text, answer, &field, &bytes, (index, value))?;
+    text.push_str("\n")?;
+    Ok(())
+}
+
+/// Appends the new bytes, or the refusal, and the bytes where they have changed nevertheless.
+fn add_outcome(
+    text: &mut String,
+    answer: Result<(), InsertError>,
+    before: &[u8],
+    bytes: &[u8],
+) -> Result<(), AllocError> {
+    match answer {
+        Ok(()) => return add_hex(text, bytes),
+        Err(InsertError::OutOfBounds) => text.push_str("outside")?,
+        Err(InsertError::MismatchingReportId) => text.push_str("another")?,
+        Err(InsertError::DoesNotFit) => text.push_str("doesn't fit")?,
+        Err(InsertError::WrongCount) => text.push_str("wrong count")?,
+    }
+    if before != bytes {
+        text.push_str(" but changed: ")?;
+        add_hex(text, bytes)?;
+    }
+    Ok(())
+}
+
+fn add_hex(text: &mut String, bytes: &[u8]) -> Result<(), AllocError> {
+    if bytes.is_empty() {
+        text.push_str("-")
+    } else {
+        add_bytes(text, bytes)
+    }
+}
+
+/// Appends what the field reads, where that isn't what was written.
+fn add_reading(
+    text: &mut String,
+    answer: Result<(), InsertError>,
+    field: &VariableField,
+    bytes: &[u8],
+    value: i64,
+) -> Result<(), AllocError> {
+    if answer.is_ok() && field.extract(bytes).ok().map(i64::from) != Some(value) {
+        text.push_str(" and reads otherwise")?;
+    }
+    Ok(())
+}
+
+/// The same of an element.
+fn add_element_reading(
+    text: &mut String,
+    answer: Result<(), InsertError>,
+    field: &ArrayField,
+    bytes: &[u8],
+    (index, value): (usize, i64),
+) -> Result<(), AllocError> {
+    if answer.is_ok() && field.extract_one(bytes, index).ok().map(i64::from) != Some(value) {
+        text.push_str(" and reads otherwise")?;
+    }
+    Ok(())
+}
+
+/// Numbers with a space between; `-` is none.
+fn numbers_of(alloc: Global, words: &str) -> Result<Vec<i64>, Malformed> {
+    let mut numbers = Vec::new(alloc);
+    if words != "-" {
+        for word in words.split(" ") {
+            numbers.push(wide_of(word)?)?;
+        }
+    }
+    Ok(numbers)
+}
+
+fn wide_of(word: &str) -> Result<i64, Malformed> {
+    word.parse::<i64>().map_err(|_wrong| Malformed::Number)
+}
+
+/// Answers `value-of FIELD USAGE ..`: the value of the array that stands for each usage, then one
+/// that stands for none.
+pub fn add_standing(text: &mut String, asked: &Asked, words: &str) -> Result<(), Malformed> {
+    let (number, words) = number_and_words(words)?;
+    let Field::Array(field) = asked.field(number)? else {
+        return Err(Malformed::Field);
+    };
+    for word in words.split(" ") {
+        add_value(text, field.value_of(Usage::from(word_of(word)?)))?;
+        text.push_str(" ")?;
+    }
+    text.push_str("null ")?;
+    add_value(text, field.null_value())?;
+    text.push_str("\n")?;
+    Ok(())
+}
+
+fn add_value(text: &mut String, value: Option<i64>) -> Result<(), AllocError> {
+    match value {
+        Some(value) => write!(text, "{value}"),
+        None => text.push_str("none"),
+    }
+}
+
+/// Answers `blank`: the bytes without values of each report of the last descriptor.
+pub fn add_blanks(alloc: Global, text: &mut String, asked: &Asked) -> Result<(), Malformed> {
+    let descriptor = asked.descriptor()?;
+    add_blanks_of(alloc, text, "input", descriptor.input_reports())?;
+    add_blanks_of(alloc, text, "output", descriptor.output_reports())?;
+    add_blanks_of(alloc, text, "feature", descriptor.feature_reports())?;
+    Ok(())
+}
+
+fn add_blanks_of(
+    alloc: Global,
+    text: &mut String,
+    direction: &str,
+    reports: &[RDescReport],
+) -> Result<(), AllocError> {
+    for report in reports {
+        let bytes = report.blank(alloc)?;
+        write!(text, "{direction} ")?;
+        add_hex(text, &bytes)?;
+        text.push_str("\n")?;
+    }
+    Ok(())
+}
