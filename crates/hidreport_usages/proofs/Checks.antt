@@ -1,0 +1,40 @@
+-- Tests of a table, each in one walk over it.
+use Rattle.std.specs.Prelude.{ℕ, suc, ◌-◌, Bool, true, ◌&&◌, nat_lt, nat_le, ◌==◌, List, [], ◌∷◌}
+use Rattle.std.specs.Prelude.{take, drop, length, slice_index_or}
+use Rattle.std.specs.Ordering.{is_lt}
+use Rattle.hidreport_usages.specs.Rows.{Row, row_at, order}
+
+-- each number is above the one before, the first above n
+abbrev pub rises_from : ℕ → List ℕ → Bool
+rises_from n [] = true
+rises_from n (x ∷ xs) = nat_lt n x && rises_from x xs
+
+-- the pieces of a text up to each end
+abbrev pub cut : ℕ → List ℕ → List ℕ → List (List ℕ)
+cut from [] text = []
+cut from (end ∷ ends) text = take (end - from) text ∷ cut end ends (drop (end - from) text)
+
+-- each end is at least the one before, and at most the last
+abbrev pub ends_rise : ℕ → List ℕ → ℕ → Bool
+ends_rise from [] last = nat_le from last
+ends_rise from (end ∷ ends) last = nat_le from end && ends_rise end ends last
+
+-- each letter is plain
+abbrev pub are_plain : List ℕ → Bool
+are_plain [] = true
+are_plain (letter ∷ letters) = nat_lt letter 128 && are_plain letters
+
+-- each place has a row
+abbrev pub are_places : List Row → List ℕ → Bool
+are_places rows [] = true
+are_places rows (p ∷ places) = nat_lt p (length rows) && are_places rows places
+
+-- the rows at these places stand in order, behind the row x
+abbrev pub stand_from : Row → List Row → List ℕ → Bool
+stand_from x rows [] = true
+stand_from x rows (p ∷ places) = let y = row_at rows p in is_lt (order x y) && stand_from y rows places
+
+-- the places at these ranks are n and those behind it
+abbrev pub rank_from : List ℕ → ℕ → List ℕ → Bool
+rank_from places n [] = true
+rank_from places n (rank ∷ ranks) = (slice_index_or places rank (suc n) == n) && rank_from places (suc n) ranks

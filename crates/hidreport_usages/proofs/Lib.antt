@@ -1,0 +1,6 @@
+pub mod Checks
+pub mod OrderLemmas
+pub mod PackedLemmas
+pub mod PageTable
+pub mod Ranks
+pub mod UsageTable

@@ -1,0 +1,4 @@
+pub mod PageRows
+pub mod Packed
+pub mod Rows
+pub mod UsageRows

@@ -1,0 +1,23 @@
+//! The names of usage pages and usages.
+//! Licence: MIT (LICENSE); the table's names are under the licence in data/LICENSE.
+#![tactic(auto)]
+
+mod names;
+mod page_table;
+mod tables;
+mod usage_table;
+
+/// Try.
+pub fn try_name(usage: u32) -> Option<&'static str> {
+    names::name_of::<tables::UsageNames>(usage)
+}
+
+/// Try.
+pub fn try_page(page: u32) -> Option<&'static str> {
+    names::name_of::<tables::PageNames>(page)
+}
+
+/// Try.
+pub fn try_named(name: &str) -> Option<u32> {
+    names::first_named::<tables::UsageNames>(name, 0)
+}
