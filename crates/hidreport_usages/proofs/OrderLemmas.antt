@@ -1,5 +1,5 @@
 -- How the rows of a table stand by name.
-use Rattle.std.proofs.Common.{◌≡◌, ◌≢◌, ℕ, zero, suc, ◌+◌, ◌<◌, ◌≤◌, Bool, true, nat_lt, nat_eq, ◌&&◌, List, [], ◌∷◌, length, slice_index, slice_index_or, get_or, refl, sym, ap, subst, ◌∙◌, arith, inl, inr}
+use Rattle.std.proofs.Common.{◌≡◌, ◌≢◌, ℕ, zero, suc, ◌+◌, ◌<◌, ◌≤◌, Bool, true, false, nat_lt, nat_eq, ◌&&◌, List, [], ◌∷◌, length, slice_index, slice_index_or, get_or, refl, sym, ap, subst, ◌∙◌, arith, inl, inr}
 use Rattle.std.specs.Cmp.{IsTotalOrder}
 use Rattle.std.specs.Ordering.{is_lt}
 use Rattle.std.specs.declared.cmp.Ordering.TheVariants.{Less, Equal, Greater}
@@ -17,7 +17,7 @@ use Rattle.std.specs.Ordering.{nat_cmp}
 pub order_total : IsTotalOrder order
 order_total = then_total (on_total (λ (row : Row). row.1) nat_list_cmp_total) (on_total (λ (row : Row). row.0) nat_cmp_total)
 
-less : (o : Ordering) → is_lt o ≡ true → o ≡ Less
+pub less : (o : Ordering) → is_lt o ≡ true → o ≡ Less
 less Less h = refl
 less Equal h = absurd (false≢true h)
 less Greater h = absurd (false≢true h)
@@ -74,3 +74,26 @@ IsNameOrder-from_tests rows places ranks within stand ranks_fit long = record {
   rising = stand_rising rows (0, []) places stand;
   complete = λ p inside. let found = ranked places 0 ranks ranks_fit p (omega (arith, long)) in (found.0, found.1, omega (arith, found.2));
 }
+
+-- a row above one that isn't less than a key isn't either
+not_less : (x y key : Row) → order x y ≡ Less → is_lt (order x key) ≡ false → is_lt (order y key) ≡ false
+not_less x y key below h = cases (is_lt (order y key)) refl
+  where
+    cases : (b : Bool) → is_lt (order y key) ≡ b → b ≡ false
+    cases false e = refl
+    cases true e = absurd (false≢true (sym h ∙ ap is_lt (order_total.trans x y key below (less (order y key) e))))
+
+-- a step of a bisection: all rows up to one that stands before a row do so, and all from one that
+-- doesn't do not
+module _ (rows : List Row) (places : List ℕ) (stands : IsNameOrder rows places) (key : Row) (m : ℕ) (inside : m < length places) where
+  pub before_more : is_lt (order (row_at rows (slice_index places m)) key) ≡ true → (k : ℕ) → k < m + 1 → order (row_at rows (slice_index places k)) key ≡ Less
+  before_more h k up_to = elim (cases_lt k m) [
+    | inl earlier ↦ order_total.trans (row_at rows (slice_index places k)) (row_at rows (slice_index places m)) key (stands.rising k m earlier inside) (less _ h)
+    | inr here ↦ let e : m ≡ k = omega (arith, here, up_to) in subst (λ n. order (row_at rows (slice_index places n)) key ≡ Less) e (less _ h)
+  ]
+
+  pub behind_more : is_lt (order (row_at rows (slice_index places m)) key) ≡ false → (k : ℕ) → m ≤ k → k < length places → is_lt (order (row_at rows (slice_index places k)) key) ≡ false
+  behind_more h k from within = elim (cases_lt m k) [
+    | inl later ↦ not_less (row_at rows (slice_index places m)) (row_at rows (slice_index places k)) key (stands.rising m k later within) h
+    | inr here ↦ let e : m ≡ k = omega (arith, here, from) in subst (λ n. is_lt (order (row_at rows (slice_index places n)) key) ≡ false) e h
+  ]

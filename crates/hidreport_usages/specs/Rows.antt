@@ -19,10 +19,10 @@ name_in (row ∷ rows) number = if row.0 == number then Some row.1 else name_in 
 abbrev pub row_at : List Row → ℕ → Row
 row_at rows place = slice_index_or rows place (0, [])
 
--- the place has a row with the number
+-- the row at the place gives the number its name
 pub record IsPlaceOf (rows : List Row) (number place : ℕ) : Type 0 where
   pub within : place < length rows
-  pub numbered : (row_at rows place).0 ≡ number
+  pub names : name_in rows number ≡ Some (row_at rows place).1
 
 -- the first number from a number on that has the name, or none where no such number has it
 abbrev pub IsFirstNamed : (ℕ → Option (List ℕ)) → List ℕ → ℕ → Option ℕ → Type 0

@@ -44,7 +44,7 @@ pub(crate) fn first_named<T: NameTable>(name: &str, from: u32) -> Option<u32>
     ensures { IsFirstNamed (name_in T.rows) name.now from result }
 {
     let places = T::places_by_name();
-    let rank = rank_of::<T>(name, from);
+    let rank = rank_of::<T>(places, name, from);
     if rank == places.len() {
         return None;
     }
@@ -64,11 +64,10 @@ fn place_of<T: NameTable>(number: u32) -> Option<usize>
 }
 
 /// How many rows stand before a row, by their names; it need not be in the table.
-fn rank_of<T: NameTable>(name: &str, number: u32) -> usize
-    ensures { (places : List ℕ) → IsNameOrder T.rows places
-        → IsRank T.rows places (number, name.now) result }
+fn rank_of<T: NameTable>(places: &[u16], name: &str, number: u32) -> usize
+    requires { IsNameOrder T.rows places.now }
+    ensures { IsRank T.rows places.now (number, name.now) result }
 {
-    let places = T::places_by_name();
     let mut low = 0;
     let mut high = places.len();
     while low < high {
