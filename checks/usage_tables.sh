@@ -28,7 +28,8 @@ function name(from) {
     if (page <= last_page) fault("a page that does not rise")
     if (said in page_names) fault("a name of two pages")
     page_names[said]; last_page = page
-    printf "%d\t%s\n", page, said > pages
+    digits = tolower($1)
+    print "0x" digits "\t" said > pages
     next
 }
 /^  [0-9A-F][0-9A-F][0-9A-F][0-9A-F] / {
@@ -36,7 +37,7 @@ function name(from) {
     if (id <= last) fault("a usage that does not rise")
     if ((page, said) in names) fault("a name of two usages of a page")
     names[page, said]; last = id
-    printf "%d\t%s\n", page * 65536 + id, said > usages
+    print "0x" digits tolower($1) "\t" said > usages
     next
 }
 { fault("a line that is neither a page nor a usage") }
@@ -60,7 +61,7 @@ table() {
         echo
         echo '#[rattlefmt::skip]'
         echo "pub(crate) static $1_NUMBERS: [u32; $count] = ["
-        awk -F '\t' '{ printf "0x%x\n", $1 }' "$3" | elements
+        cut -f 1 "$3" | elements
         echo '];'
         echo
         echo '#[rattlefmt::skip]'
@@ -92,7 +93,7 @@ rows() {
         echo
         echo "unfoldable pub $1_rows : List Row"
         echo "$1_rows ="
-        awk -F '\t' '{ printf "    (0x%x, codes \"%s\")\n    ∷ ", $1, $2 } END { print "[]" }' "$3" |
+        awk -F '\t' '{ printf "    (%s, codes \"%s\")\n    ∷ ", $1, $2 } END { print "[]" }' "$3" |
             sed 's/^    ∷     /    ∷ /'
     } > "$4"
 }

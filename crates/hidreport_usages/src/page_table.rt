@@ -1,33 +1,37 @@
 //! The table of usage pages. Written by checks/usage_tables.sh from data/usages.txt: edit that.
 
 #[rattlefmt::skip]
-pub(crate) static PAGE_NUMBERS: [u32; 29] = [
-    0x0, 0x1, 0x2, 0x3, 0x4, 0x5, 0x7, 0x8,
-    0x9, 0xa, 0xb, 0xc, 0xd, 0xf, 0x10, 0x14,
-    0x80, 0x81, 0x82, 0x84, 0x85, 0x86, 0x87, 0x8c,
-    0x8d, 0x90, 0x91, 0xf0, 0xff,
+pub(crate) static PAGE_NUMBERS: [u32; 36] = [
+    0x00, 0x01, 0x02, 0x03, 0x04, 0x05, 0x06, 0x07,
+    0x08, 0x09, 0x0a, 0x0b, 0x0c, 0x0d, 0x0e, 0x0f,
+    0x10, 0x11, 0x12, 0x14, 0x20, 0x40, 0x41, 0x59,
+    0x80, 0x81, 0x82, 0x84, 0x85, 0x8c, 0x8d, 0x8e,
+    0x90, 0x91, 0x92, 0xf1d0,
 ];
 
 #[rattlefmt::skip]
-pub(crate) static PAGE_ENDS: [u16; 30] = [
-    0, 9, 33, 52, 63, 77, 90, 98,
-    102, 109, 116, 125, 133, 142, 150, 157,
-    177, 188, 217, 246, 263, 282, 293, 306,
-    333, 349, 368, 387, 398, 413,
+pub(crate) static PAGE_ENDS: [u16; 37] = [
+    0, 9, 24, 43, 54, 68, 81, 104,
+    119, 122, 128, 135, 151, 159, 169, 176,
+    197, 204, 207, 228, 245, 252, 270, 285,
+    310, 317, 335, 356, 361, 375, 390, 396,
+    418, 432, 438, 451, 464,
 ];
 
 #[rattlefmt::skip]
-pub(crate) static PAGE_PLACES: [u16; 29] = [
-    15, 26, 23, 20, 8, 25, 27, 11,
-    12, 5, 1, 6, 7, 18, 9, 13,
-    19, 21, 22, 24, 2, 4, 10, 16,
-    17, 0, 14, 3, 28,
+pub(crate) static PAGE_PLACES: [u16; 36] = [
+    33, 19, 29, 28, 22, 9, 32, 12,
+    13, 18, 35, 5, 34, 1, 6, 14,
+    7, 8, 23, 31, 21, 24, 25, 10,
+    15, 27, 30, 20, 2, 17, 4, 11,
+    0, 16, 26, 3,
 ];
 
 #[rattlefmt::skip]
 pub(crate) static PAGE_TEXT: &str = "\
-UndefinedGeneric Desktop ControlsSimulation ControlsVR ControlsSport ControlsGame Controls\
-KeyboardLEDsButtonsOrdinalTelephonyConsumerDigitizerPID PageUnicodeAlphanumeric DisplayUSB\
-\x20MonitorUSB Monitor Enumerated ValuesMonitor VESA Virtual ControlsPower Device PageBattery\
-\x20System PagePower PagesPower Pages 2Bar Code Scanner Page (POS)Scale Page (POS)Camera Cont\
-rol PageArcade Control PageCash DeviceVendor Specific";
+UndefinedGeneric DesktopSimulation ControlsVR ControlsSport ControlsGame ControlsGeneric D\
+evice ControlsKeyboard/KeypadLEDButtonOrdinalTelephony DeviceConsumerDigitizersHapticsPhys\
+ical Input DeviceUnicodeSoCEye and Head TrackersAuxiliary DisplaySensorsMedical Instrument\
+Braille DisplayLighting And IlluminationMonitorMonitor EnumeratedVESA Virtual ControlsPowe\
+rBattery SystemBarcode ScannerScalesMagnetic Stripe ReaderCamera ControlArcadeGaming Devic\
+eFIDO Alliance";
