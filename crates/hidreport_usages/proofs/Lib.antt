@@ -1,4 +1,5 @@
 pub mod Checks
+pub mod DigitLemmas
 pub mod LookupLemmas
 pub mod OrderLemmas
 pub mod PackedLemmas

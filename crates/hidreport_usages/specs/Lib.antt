@@ -1,3 +1,5 @@
+pub mod Digits
+pub mod Names
 pub mod PageRows
 pub mod Packed
 pub mod Rows

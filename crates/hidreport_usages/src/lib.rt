@@ -2,10 +2,12 @@
 //! Licence: MIT (LICENSE); the table's names are under the licence in data/LICENSE.
 #![tactic(auto)]
 
+mod four_digits;
 mod names;
 mod page_table;
 mod tables;
 mod usage_table;
+
 
 /// Try.
 pub fn try_name(usage: u32) -> Option<&'static str> {
@@ -20,4 +22,9 @@ pub fn try_page(page: u32) -> Option<&'static str> {
 /// Try.
 pub fn try_named(name: &str) -> Option<u32> {
     names::first_named::<tables::UsageNames>(name, 0)
+}
+
+/// Try.
+pub fn try_digits(text: &str) -> Option<u16> {
+    four_digits::number_of_digits(text)
 }

@@ -1,0 +1,5 @@
+-- Placeholder
+use Rattle.std.specs.Prelude.{ℕ}
+
+abbrev pub nothing : ℕ
+nothing = 0
