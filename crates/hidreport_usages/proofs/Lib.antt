@@ -1,5 +1,6 @@
 pub mod Checks
 pub mod DigitLemmas
+pub mod FamilyLemmas
 pub mod LookupLemmas
 pub mod OrderLemmas
 pub mod PackedLemmas

@@ -1,5 +1,6 @@
 pub mod Digits
-pub mod Names
+pub mod Families
+pub mod Naming
 pub mod PageRows
 pub mod Packed
 pub mod Rows

@@ -2,6 +2,7 @@
 //! Licence: MIT (LICENSE); the table's names are under the licence in data/LICENSE.
 #![tactic(auto)]
 
+mod family;
 mod four_digits;
 mod names;
 mod page_table;
@@ -27,4 +28,9 @@ pub fn try_named(name: &str) -> Option<u32> {
 /// Try.
 pub fn try_digits(text: &str) -> Option<u16> {
     four_digits::number_of_digits(text)
+}
+
+/// Try.
+pub fn try_family(page: u16, text: &str) -> Option<u16> {
+    family::numbered_id(family::family_of(page)?, text)
 }

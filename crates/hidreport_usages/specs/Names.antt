@@ -1,5 +1,0 @@
--- Placeholder
-use Rattle.std.specs.Prelude.{ℕ}
-
-abbrev pub nothing : ℕ
-nothing = 0
