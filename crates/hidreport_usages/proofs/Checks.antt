@@ -2,7 +2,7 @@
 use Rattle.std.specs.Prelude.{ℕ, suc, ◌-◌, Bool, true, ◌&&◌, nat_lt, nat_le, ◌==◌, List, [], ◌∷◌}
 use Rattle.std.specs.Prelude.{take, drop, length, slice_index_or}
 use Rattle.std.specs.Ordering.{is_lt}
-use Rattle.hidreport_usages.specs.Rows.{Row, row_at, order}
+use Rattle.hidreport_usages.specs.Rows.{Row, row_at, page_order}
 
 -- each number is above the one before, the first above n
 abbrev pub rises_from : ℕ → List ℕ → Bool
@@ -29,10 +29,10 @@ abbrev pub are_places : List Row → List ℕ → Bool
 are_places rows [] = true
 are_places rows (p ∷ places) = nat_lt p (length rows) && are_places rows places
 
--- the rows at these places stand in order, behind the row x
+-- the rows at these places stand by name, those of one name by page, behind the row x
 abbrev pub stand_from : Row → List Row → List ℕ → Bool
 stand_from x rows [] = true
-stand_from x rows (p ∷ places) = let y = row_at rows p in is_lt (order x y) && stand_from y rows places
+stand_from x rows (p ∷ places) = let y = row_at rows p in is_lt (page_order x y) && stand_from y rows places
 
 -- the places at these ranks are n and those behind it
 abbrev pub rank_from : List ℕ → ℕ → List ℕ → Bool

@@ -1,5 +1,6 @@
 pub mod Digits
 pub mod Families
+pub mod Names
 pub mod Naming
 pub mod PageRows
 pub mod Packed

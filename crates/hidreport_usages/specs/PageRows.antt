@@ -4,8 +4,7 @@ use Rattle.hidreport_usages.specs.Rows.{Row}
 
 unfoldable pub page_rows : List Row
 page_rows =
-    (0x00, codes "Undefined")
-    ∷ (0x01, codes "Generic Desktop")
+    (0x01, codes "Generic Desktop")
     ∷ (0x02, codes "Simulation Controls")
     ∷ (0x03, codes "VR Controls")
     ∷ (0x04, codes "Sport Controls")

@@ -1,5 +1,5 @@
 -- A table of names: numbers that rise, each with its name.
-use Rattle.std.specs.Prelude.{◌≡◌, ℕ, ◌<◌, ◌≤◌, ◌==◌, false, if◌then◌else◌, List, [], ◌∷◌}
+use Rattle.std.specs.Prelude.{◌≡◌, ℕ, ◌/◌, ◌<◌, ◌≤◌, ◌==◌, false, if◌then◌else◌, List, [], ◌∷◌}
 use Rattle.std.specs.Prelude.{length, slice_index, slice_index_or, Option, Some, None, MatchOption}
 use Rattle.std.specs.Cmp.Lexicographic.{slice_cmp}
 use Rattle.std.specs.Ordering.{nat_cmp, ordering_then, is_lt}
@@ -35,11 +35,17 @@ IsFirstNamed name_of name from first = MatchOption first
 abbrev pub order : Row → Row → Ordering
 order x y = ordering_then (slice_cmp nat_cmp x.1 y.1) (nat_cmp x.0 y.0)
 
--- the places of all rows, as they stand by name
+-- the same, where rows of one name stand by their pages alone
+abbrev pub page_order : Row → Row → Ordering
+page_order x y = ordering_then (slice_cmp nat_cmp x.1 y.1) (nat_cmp (x.0 / 65536) (y.0 / 65536))
+
+-- the places of all rows, as they stand by name; a name stands once on a page
 pub record IsNameOrder (rows : List Row) (places : List ℕ) : Type 0 where
   pub within : (k : ℕ) → k < length places → slice_index places k < length rows
   pub rising : (i j : ℕ) → i < j → j < length places
       → order (row_at rows (slice_index places i)) (row_at rows (slice_index places j)) ≡ Less
+  pub apart : (i j : ℕ) → i < j → j < length places
+      → page_order (row_at rows (slice_index places i)) (row_at rows (slice_index places j)) ≡ Less
   pub complete : (p : ℕ) → p < length rows
       → (k : ℕ) × (k < length places) × (slice_index places k ≡ p)
 

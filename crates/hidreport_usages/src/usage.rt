@@ -1,0 +1,117 @@
+//! The names of usages.
+ghost use Rattle.std.specs.Prelude.{◌≡◌, ◌+◌, ◌*◌, ℕ, option_map, Some, decimal, ◌++◌};
+ghost use Rattle.std.specs.Fmt.{WritesOnOk};
+ghost use Rattle.hidreport.specs.UsageNumber.{usage_number};
+ghost use Rattle.hidreport_usages.specs.Digits.{four_digits};
+ghost use Rattle.hidreport_usages.specs.Families.{numbered_name};
+ghost use Rattle.hidreport_usages.specs.Names.{name_of_number, name_on, name_text};
+ghost use Rattle.hidreport_usages.specs.Naming.{IsOnlyNamed};
+ghost use Rattle.hidreport_usages.specs.Rows.{name_in, IsFirstNamed};
+ghost use Rattle.hidreport_usages.specs.UsageRows.{usage_rows};
+
+use crate::family::{Family, family_of, numbered_id};
+use crate::four_digits::write_four_digits;
+use crate::names::{first_named, name_of};
+use crate::tables::UsageNames;
+use hidreport::Usage;
+use hidreport_types::{UsageId, UsagePage};
+use itoa::Buffer;
+use std::fmt;
+
+/// The name of a usage; `Display` writes it.
+#[derive(Clone, Copy)]
+pub enum UsageName {
+    /// A name of the HID Usage Tables, such as `X`.
+    Listed(&'static str),
+
+    /// A button by its number, such as `Button 5`.
+    Button(u16),
+
+    /// An instance by its number, such as `Instance 2`.
+    Instance(u16),
+
+    /// A half of UTF-16, such as `U+0041`.
+    CodeUnit(u16),
+
+    /// An enumerated value of a monitor by its number, such as `Enum 3`.
+    Enumerated(u16),
+
+    /// A usage of a page of vendors, such as `Vendor Usage 0001`.
+    Vendor(u16),
+}
+
+/// The name of a usage (Section 5.5), or none where the HID Usage Tables name no such usage.
+///
+/// The usages of pages 09, 0A, 10, 81 and FF00 to FFFF are numbered, so all have names, but for 0
+/// of pages 0A and 81.
+pub fn usage_name(usage: Usage) -> Option<UsageName>
+    ensures { option_map name_text result ≡ name_on usage.usage_page usage.usage_id }
+{
+    let id = u16::from(usage.usage_id);
+    match family_of(u16::from(usage.usage_page)) {
+        Some(family) => numbered(family, id),
+        None => match name_of::<UsageNames>(u32::from(usage)) {
+            Some(name) => Some(UsageName::Listed(name)),
+            None => None,
+        },
+    }
+}
+
+/// The name of a usage of a family.
+fn numbered(family: Family, id: u16) -> Option<UsageName>
+    ensures { option_map name_text result ≡ numbered_name family id }
+{
+    match family {
+        Family::Button if id == 0 => Some(UsageName::Listed("No Button Pressed")),
+        Family::Button => Some(UsageName::Button(id)),
+        Family::Instance if id == 0 => None,
+        Family::Instance => Some(UsageName::Instance(id)),
+        Family::CodeUnit => Some(UsageName::CodeUnit(id)),
+        Family::Enumerated if id == 0 => None,
+        Family::Enumerated => Some(UsageName::Enumerated(id)),
+        Family::Vendor => Some(UsageName::Vendor(id)),
+    }
+}
+
+/// Writes the name; a width or a fill that the format asks for is ignored.
+impl fmt::Display for UsageName {
+    ghost output = { λ name. Some (name_text name) };
+
+    ghost styled_output = { λ name _. Some (name_text name) };
+
+    fn fmt<W: fmt::Write>(&self, f: &mut fmt::Formatter<W>) -> fmt::Result {
+        match self {
+            UsageName::Listed(name) => f.write_str(name),
+            UsageName::Button(number) => write_counted(f, "Button ", *number),
+            UsageName::Instance(number) => write_counted(f, "Instance ", *number),
+            UsageName::CodeUnit(number) => write_digits(f, "U+", *number),
+            UsageName::Enumerated(number) => write_counted(f, "Enum ", *number),
+            UsageName::Vendor(number) => write_digits(f, "Vendor Usage ", *number),
+        }
+    }
+}
+
+/// Writes a number in decimal behind a prefix.
+fn write_counted<W: fmt::Write>(
+    f: &mut fmt::Formatter<W>,
+    prefix: &str,
+    number: u16,
+) -> fmt::Result
+    ensures { WritesOnOk W.write_str_gives f.old result (prefix.now ++ decimal number) f.new }
+{
+    f.write_str(prefix)?;
+    let mut buffer = Buffer::new();
+    f.write_str(buffer.format(number))
+}
+
+/// Writes a number in four hexadecimal digits behind a prefix.
+fn write_digits<W: fmt::Write>(
+    f: &mut fmt::Formatter<W>,
+    prefix: &str,
+    number: u16,
+) -> fmt::Result
+    ensures { WritesOnOk W.write_str_gives f.old result (prefix.now ++ four_digits number) f.new }
+{
+    f.write_str(prefix)?;
+    write_four_digits(f, number)
+}
