@@ -1,5 +1,5 @@
 -- What is found in a table, by a number and by a name.
-use Rattle.std.proofs.Common.{◌≡◌, ◌≢◌, ℕ, zero, suc, ◌+◌, ◌<◌, ◌≤◌, Bool, true, false, nat_lt, nat_eq, ◌==◌, List, [], ◌∷◌, map, length, slice_index, slice_index_or, get_or, Option, Some, None, Result, Ok, Err, MatchOption, MatchResult, refl, sym, ap, subst, ◌∙◌, arith, inl, inr}
+use Rattle.std.proofs.Common.{◌≡◌, ◌≢◌, ℕ, zero, suc, ◌+◌, ◌/◌, ◌<◌, ◌≤◌, Bool, true, false, nat_lt, nat_eq, ◌==◌, List, [], ◌∷◌, map, length, slice_index, slice_index_or, get_or, Option, Some, None, Result, Ok, Err, MatchOption, MatchResult, refl, sym, ap, subst, ◌∙◌, arith, inl, inr}
 use Rattle.std.specs.Ordering.{nat_cmp, is_lt, ordering_then}
 use Rattle.std.specs.declared.cmp.Ordering.TheVariants.{Less, Equal, Greater}
 use Rattle.std.specs.declared.cmp.Ordering.{Ordering}
@@ -14,7 +14,7 @@ use Rattle.std.specs.List.Sorted.{IsBinarySearchResult}
 use Rattle.std.specs.Result.{result_ok}
 use mathlib.Core.Bool.{false≢true}
 use Rattle.hidreport_usages.specs.Packed.{Rises}
-use Rattle.hidreport_usages.specs.Rows.{Row, row_at, name_in, order, IsPlaceOf, IsNameOrder, IsRank, IsFirstNamed}
+use Rattle.hidreport_usages.specs.Rows.{Row, row_at, name_in, order, page_order, IsPlaceOf, IsNameOrder, IsRank, IsFirstNamed}
 
 abbrev pub numbers_of : List Row → List ℕ
 numbers_of rows = map (λ row. row.0) rows
@@ -96,6 +96,39 @@ between x y z less same not_less = cases (slice_cmp nat_cmp x.1 z.1) refl
         let greater : order x y ≡ Greater = ap (λ o. ordering_then o (nat_cmp x.0 y.0)) (ap (slice_cmp nat_cmp x.1) same ∙ sym e) in
         absurd (false≢true (ap is_lt (sym greater ∙ less)))
 
+-- where each row with a name and a number stands
+stand_of : (rows : List Row) (places : List ℕ) → IsNameOrder rows places → (name : List ℕ) (n : ℕ) → name_in rows n ≡ Some name → (k : ℕ) × (k < length places) × ((row_at rows (slice_index places k)).0 ≡ n) × ((row_at rows (slice_index places k)).1 ≡ name)
+stand_of rows places stands name n h =
+    let row = name_in-row rows n name h in
+    let at = stands.complete row.0 row.1 in
+    (at.0, at.1, ap (λ p. (row_at rows p).0) at.2 ∙ row.2, ap (λ p. (row_at rows p).1) at.2 ∙ row.3)
+
+-- rows of one name that stand by page have pages that rise
+pages_rise : (x y : Row) → x.1 ≡ y.1 → page_order x y ≡ Less → x.0 / 65536 < y.0 / 65536
+pages_rise x y same h =
+    let tied = ap (λ o. ordering_then o (nat_cmp (x.0 / 65536) (y.0 / 65536))) (ap (slice_cmp nat_cmp x.1) (sym same) ∙ tied_itself nat_list_cmp_total x.1) in
+    ranked (x.0 / 65536) (y.0 / 65536) Less (sym h ∙ tied)
+
+-- so a name stands once on a page
+pub one_on_page : (rows : List Row) (places : List ℕ) → IsNameOrder rows places → (name : List ℕ) (m n : ℕ) → name_in rows m ≡ Some name → name_in rows n ≡ Some name → m / 65536 ≡ n / 65536 → m ≡ n
+one_on_page rows places stands name m n hm hn pages =
+    let at_m = stand_of rows places stands name m hm in
+    let at_n = stand_of rows places stands name n hn in
+    let x = row_at rows (slice_index places at_m.0) in
+    let y = row_at rows (slice_index places at_n.0) in
+    let same : x.1 ≡ y.1 = at_m.3 ∙ sym at_n.3 in
+    let page_m = ap (λ k. k / 65536) at_m.2 in
+    let page_n = ap (λ k. k / 65536) at_n.2 in
+    elim (cases_lt at_m.0 at_n.0) [
+      | inl first ↦ absurd (omega (arith, pages_rise x y same (stands.apart at_m.0 at_n.0 first at_n.1), page_m, page_n, pages))
+      | inr rest ↦ elim (cases_lt at_n.0 at_m.0) [
+          | inl second ↦ absurd (omega (arith, pages_rise y x (sym same) (stands.apart at_n.0 at_m.0 second at_m.1), page_m, page_n, pages))
+          | inr none ↦
+              let e : at_m.0 ≡ at_n.0 = omega (arith, rest, none) in
+              omega (arith, at_m.2, at_n.2, ap (λ k. (row_at rows (slice_index places k)).0) e)
+        ]
+    ]
+
 module _ (rows : List Row) (places : List ℕ) (stands : IsNameOrder rows places) (name : List ℕ) (from rank : ℕ) (is_rank : IsRank rows places (from, name) rank) where
   -- a row with the name, from the number on, doesn't stand before the rank
   not_before : (n k : ℕ) → from ≤ n → k < length places → (row_at rows (slice_index places k)).0 ≡ n → (row_at rows (slice_index places k)).1 ≡ name → rank ≤ k
@@ -106,22 +139,15 @@ module _ (rows : List Row) (places : List ℕ) (stands : IsNameOrder rows places
     | inr behind ↦ behind
   ]
 
-  -- where each row with a name and a number stands
-  stand_of : (n : ℕ) → name_in rows n ≡ Some name → (k : ℕ) × (k < length places) × ((row_at rows (slice_index places k)).0 ≡ n) × ((row_at rows (slice_index places k)).1 ≡ name)
-  stand_of n h =
-      let row = name_in-row rows n name h in
-      let at = stands.complete row.0 row.1 in
-      (at.0, at.1, ap (λ p. (row_at rows p).0) at.2 ∙ row.2, ap (λ p. (row_at rows p).1) at.2 ∙ row.3)
-
   pub none_left : rank ≡ length places → (n : ℕ) → from ≤ n → name_in rows n ≡ Some name → ⊥
   none_left last n le h =
-      let at = stand_of n h in
+      let at = stand_of rows places stands name n h in
       omega (arith, last, at.1, not_before n at.0 le at.1 at.2 at.3)
 
   -- the row at the rank is the first of those with the name, if there is one
   pub least : rank < length places → (n : ℕ) → from ≤ n → name_in rows n ≡ Some name → ((row_at rows (slice_index places rank)).1 ≡ name) × ((row_at rows (slice_index places rank)).0 ≤ n)
   least inside n le h =
-      let at = stand_of n h in
+      let at = stand_of rows places stands name n h in
       let x = row_at rows (slice_index places rank) in
       let y = row_at rows (slice_index places at.0) in
       let from_rank = not_before n at.0 le at.1 at.2 at.3 in

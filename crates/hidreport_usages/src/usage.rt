@@ -73,6 +73,39 @@ fn numbered(family: Family, id: u16) -> Option<UsageName>
     }
 }
 
+/// The usage of a page that has this name, letter for letter, or none where none has it.
+///
+/// A name stands once on a page. `usage_name` gives the usage that is found this name again.
+pub fn usage_on_page(usage_page: UsagePage, name: &str) -> Option<UsageId>
+    ensures { IsOnlyNamed (name_on usage_page) name.now result }
+{
+    let page = u16::from(usage_page);
+    let id = match family_of(page) {
+        Some(family) => numbered_id(family, name),
+        None => listed_id(page, name),
+    };
+    match id {
+        Some(id) => Some(UsageId::from(id)),
+        None => None,
+    }
+}
+
+/// The usage of a page that has this name in the table, or none where none has it.
+fn listed_id(page: u16, name: &str) -> Option<u16>
+    ensures { IsOnlyNamed (λ id. name_in usage_rows (page * 65536 + id)) name.now result }
+{
+    let first = u32::from(page) * 0x1_0000;
+    let Some(number) = first_named::<UsageNames>(name, first) else {
+        return None;
+    };
+    let id = number - first;
+    if id < 0x1_0000 {
+        Some(id as u16)
+    } else {
+        None
+    }
+}
+
 /// Writes the name; a width or a fill that the format asks for is ignored.
 impl fmt::Display for UsageName {
     ghost output = { λ name. Some (name_text name) };
