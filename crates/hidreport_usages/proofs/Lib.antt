@@ -1,6 +1,7 @@
 pub mod Checks
 pub mod DigitLemmas
 pub mod FamilyLemmas
+pub mod FirstLemmas
 pub mod LookupLemmas
 pub mod OrderLemmas
 pub mod PackedLemmas

@@ -12,4 +12,4 @@ mod usage;
 mod usage_table;
 
 pub use page::{PageName, page_name};
-pub use usage::{UsageName, usage_name, usage_on_page};
+pub use usage::{UsageName, usage_by_name, usage_name, usage_on_page};

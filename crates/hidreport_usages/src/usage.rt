@@ -4,7 +4,8 @@ ghost use Rattle.std.specs.Fmt.{WritesOnOk};
 ghost use Rattle.hidreport.specs.UsageNumber.{usage_number};
 ghost use Rattle.hidreport_usages.specs.Digits.{four_digits};
 ghost use Rattle.hidreport_usages.specs.Families.{numbered_name};
-ghost use Rattle.hidreport_usages.specs.Names.{name_of_number, name_on, name_text};
+ghost use Rattle.hidreport_usages.specs.Names.{lower, name_of_number, name_on, name_text};
+ghost use Rattle.hidreport_usages.specs.Names.{numbered_text};
 ghost use Rattle.hidreport_usages.specs.Naming.{IsOnlyNamed};
 ghost use Rattle.hidreport_usages.specs.Rows.{name_in, IsFirstNamed};
 ghost use Rattle.hidreport_usages.specs.UsageRows.{usage_rows};
@@ -87,6 +88,56 @@ pub fn usage_on_page(usage_page: UsagePage, name: &str) -> Option<UsageId>
     match id {
         Some(id) => Some(UsageId::from(id)),
         None => None,
+    }
+}
+
+/// The usage that has this name, letter for letter, or none where none has it.
+///
+/// Several pages can have usages of one name: it is that of the lowest page. Every page of vendors
+/// has the same names, so it is page FF00 that is answered for them.
+pub fn usage_by_name(name: &str) -> Option<Usage>
+    ensures { IsFirstNamed name_of_number name.now 0 (option_map usage_number result) }
+{
+    match lower(first_named::<UsageNames>(name, 0), first_numbered(name)) {
+        Some(number) => Some(Usage::from(number)),
+        None => None,
+    }
+}
+
+/// The lowest number of a usage of a family that has this name, or none where none has it.
+fn first_numbered(name: &str) -> Option<u32>
+    ensures { IsFirstNamed numbered_text name.now 0 result }
+{
+    let button = on_page(0x09, numbered_id(Family::Button, name));
+    let instance = on_page(0x0a, numbered_id(Family::Instance, name));
+    let code_unit = on_page(0x10, numbered_id(Family::CodeUnit, name));
+    let enumerated = on_page(0x81, numbered_id(Family::Enumerated, name));
+    let vendor = on_page(0xff00, numbered_id(Family::Vendor, name));
+    button
+        .or(instance)
+        .or(code_unit)
+        .or(enumerated)
+        .or(vendor)
+}
+
+/// The number of a usage of a page, if there is one.
+fn on_page(page: u16, id: Option<u16>) -> Option<u32>
+    ensures { result ≡ option_map (λ id. page * 65536 + id) id }
+{
+    match id {
+        Some(id) => Some(u32::from(page) * 0x1_0000 + u32::from(id)),
+        None => None,
+    }
+}
+
+/// The lower of two numbers, or the one that there is.
+fn lower(number: Option<u32>, other: Option<u32>) -> Option<u32>
+    ensures { result ≡ lower number other }
+{
+    match (number, other) {
+        (Some(number), Some(other)) if other < number => Some(other),
+        (Some(number), _) => Some(number),
+        (None, other) => other,
     }
 }
 
