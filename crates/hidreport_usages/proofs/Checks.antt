@@ -1,7 +1,8 @@
 -- Tests of a table, each in one walk over it.
-use Rattle.std.specs.Prelude.{ℕ, suc, ◌-◌, Bool, true, ◌&&◌, nat_lt, nat_le, ◌==◌, List, [], ◌∷◌}
-use Rattle.std.specs.Prelude.{take, drop, length, slice_index_or}
+use Rattle.std.specs.Prelude.{ℕ, suc, ◌-◌, ◌/◌, Bool, true, ◌&&◌, nat_lt, nat_le, not, ◌==◌, List, [], ◌∷◌}
+use Rattle.std.specs.Prelude.{take, drop, length, slice_index, slice_index_or, is_none}
 use Rattle.std.specs.Ordering.{is_lt}
+use Rattle.hidreport_usages.specs.Families.{family_of}
 use Rattle.hidreport_usages.specs.Rows.{Row, row_at, page_order}
 
 -- each number is above the one before, the first above n
@@ -38,3 +39,13 @@ stand_from x rows (p ∷ places) = let y = row_at rows p in is_lt (page_order x 
 abbrev pub rank_from : List ℕ → ℕ → List ℕ → Bool
 rank_from places n [] = true
 rank_from places n (rank ∷ ranks) = (slice_index_or places rank (suc n) == n) && rank_from places (suc n) ranks
+
+-- no row is on a page of a family
+abbrev pub are_apart : List Row → Bool
+are_apart [] = true
+are_apart (row ∷ rows) = is_none (family_of (row.0 / 65536)) && are_apart rows
+
+-- each row is of a page below those of vendors, with another name than they have
+abbrev pub are_no_vendors : List Row → Bool
+are_no_vendors [] = true
+are_no_vendors (row ∷ rows) = (nat_lt row.0 0xff00 && not (slice_index row.1 6 == 45)) && are_no_vendors rows

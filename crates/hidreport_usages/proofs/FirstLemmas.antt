@@ -128,3 +128,32 @@ module _ (name : List ℕ) where
       let page129 = or_within f name 0 (17 * 65536) (130 * 65536) (option_or (option_or (at 9 a) (at 10 b)) (at 16 c)) (at 129 d) (omega arith) (omega arith) page16 gap129 in
       let rest = or_last f name (130 * 65536) (65280 * 65536) None (at 65280 e) (omega arith) (none_within 130 65280 below_vendors) (vendor_last e he) in
       or_last f name 0 (130 * 65536) (option_or (option_or (option_or (at 9 a) (at 10 b)) (at 16 c)) (at 129 d)) (at 65280 e) (omega arith) page129 rest
+
+-- the first of two names' numbers, where one of two rules gives each name
+pub lower_first : (f g h : ℕ → Option (List ℕ)) (name : List ℕ) (a b : Option ℕ) → ((n : ℕ) → h n ≡ Some name → (f n ≡ Some name) ⊎ (g n ≡ Some name)) → ((n : ℕ) → f n ≡ Some name → h n ≡ Some name) → ((n : ℕ) → g n ≡ Some name → h n ≡ Some name) → IsFirstNamed f name 0 a → IsFirstNamed g name 0 b → IsFirstNamed h name 0 (lower a b)
+lower_first f g h name None None from left right x y = λ n ln e. elim (from n e) [
+  | inl l ↦ x n ln l
+  | inr r ↦ y n ln r
+]
+lower_first f g h name None (Some m) from left right x y = (omega arith, right m y.1, λ n ln e. elim (from n e) [
+  | inl l ↦ absurd (x n ln l)
+  | inr r ↦ y.2 n ln r
+])
+lower_first f g h name (Some m) None from left right x y = (omega arith, left m x.1, λ n ln e. elim (from n e) [
+  | inl l ↦ x.2 n ln l
+  | inr r ↦ absurd (y n ln r)
+])
+lower_first f g h name (Some m) (Some k) from left right x y = elim (cases_lt k m) [
+  | inl second ↦
+      let e : lower (Some m) (Some k) ≡ Some k = grind (arith, nat_tests, second) in
+      subst (IsFirstNamed h name 0) (sym e) (omega arith, right k y.1, λ n ln e. elim (from n e) [
+        | inl l ↦ omega (arith, second, x.2 n ln l)
+        | inr r ↦ y.2 n ln r
+      ])
+  | inr first ↦
+      let e : lower (Some m) (Some k) ≡ Some m = grind (arith, nat_tests, first) in
+      subst (IsFirstNamed h name 0) (sym e) (omega arith, left m x.1, λ n ln e. elim (from n e) [
+        | inl l ↦ x.2 n ln l
+        | inr r ↦ omega (arith, first, y.2 n ln r)
+      ])
+]

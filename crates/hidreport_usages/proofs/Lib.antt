@@ -3,6 +3,7 @@ pub mod DigitLemmas
 pub mod FamilyLemmas
 pub mod FirstLemmas
 pub mod LookupLemmas
+pub mod NameLemmas
 pub mod OrderLemmas
 pub mod PackedLemmas
 pub mod PageTable

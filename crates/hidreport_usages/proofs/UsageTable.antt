@@ -4,7 +4,7 @@ use Rattle.hidreport_usages.specs.Rows.{Row, row_at, IsNameOrder}
 use Rattle.hidreport_usages.specs.Packed.{HasPieces, Rises, piece}
 use Rattle.hidreport_usages.specs.UsageRows.{usage_rows}
 use Rattle.hidreport_usages.specs.declared.usage_table.TheConstants.{USAGE_NUMBERS, USAGE_ENDS, USAGE_TEXT, USAGE_PLACES}
-use Rattle.hidreport_usages.proofs.Checks.{rises_from, cut, ends_rise, are_plain, are_places, stand_from, rank_from}
+use Rattle.hidreport_usages.proofs.Checks.{rises_from, cut, ends_rise, are_plain, are_places, stand_from, rank_from, are_apart}
 use Rattle.hidreport_usages.proofs.PackedLemmas.{Rises-from_test, HasPieces-from_tests, named_at}
 use Rattle.hidreport_usages.proofs.OrderLemmas.{IsNameOrder-from_tests}
 use Rattle.hidreport_usages.proofs.Ranks.{usage_ranks}
@@ -30,3 +30,7 @@ named = named_at usage_rows USAGE_TEXT.now (drop 1 USAGE_ENDS) refl refl refl
 pub by_name : IsNameOrder usage_rows USAGE_PLACES
 unfolding usage_rows usage_ranks
 by_name = IsNameOrder-from_tests usage_rows USAGE_PLACES usage_ranks refl refl refl refl
+
+pub apart : are_apart usage_rows ≡ true
+unfolding usage_rows
+apart = refl

@@ -75,7 +75,7 @@ fn counted_id(prefix: &str, name: &str) -> Option<u16>
 }
 
 /// The number whose four digits stand behind the prefix.
-fn digits_id(prefix: &str, name: &str) -> Option<u16>
+pub(crate) fn digits_id(prefix: &str, name: &str) -> Option<u16>
     ensures { IsOnlyNamed (λ id. Some (prefix.now ++ four_digits id)) name.now result }
 {
     number_of_digits(rest_behind(prefix, name)?)

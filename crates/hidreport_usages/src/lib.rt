@@ -11,5 +11,5 @@ mod tables;
 mod usage;
 mod usage_table;
 
-pub use page::{PageName, page_name};
+pub use page::{PageName, page_by_name, page_name};
 pub use usage::{UsageName, usage_by_name, usage_name, usage_on_page};

@@ -1,10 +1,13 @@
 //! The names of usage pages.
 ghost use Rattle.std.specs.Prelude.{◌≡◌, option_map, Some};
-ghost use Rattle.hidreport_usages.specs.Names.{page_name, page_text};
+ghost use Rattle.hidreport_usages.specs.Names.{page_name, page_text, vendor_name};
 ghost use Rattle.hidreport_usages.specs.Naming.{IsOnlyNamed};
+ghost use Rattle.hidreport_usages.specs.PageRows.{page_rows};
+ghost use Rattle.hidreport_usages.specs.Rows.{name_in};
 
+use crate::family::digits_id;
 use crate::four_digits::write_four_digits;
-use crate::names::name_of;
+use crate::names::{first_named, name_of};
 use crate::tables::PageNames;
 use hidreport_types::UsagePage;
 use std::fmt;
@@ -32,6 +35,43 @@ pub fn page_name(usage_page: UsagePage) -> Option<PageName>
         Some(name) => Some(PageName::Listed(name)),
         None => None,
     }
+}
+
+/// The usage page that has this name, letter for letter, or none where none has it.
+///
+/// `page_name` gives the page that is found this name again.
+pub fn page_by_name(name: &str) -> Option<UsagePage>
+    ensures { IsOnlyNamed page_name name.now result }
+{
+    let page = match listed_page(name) {
+        Some(page) => Some(page),
+        None => vendor_page(name),
+    };
+    match page {
+        Some(page) => Some(UsagePage::from(page)),
+        None => None,
+    }
+}
+
+/// The page that has this name in the table, or none where none has it.
+fn listed_page(name: &str) -> Option<u16>
+    ensures { IsOnlyNamed (name_in page_rows) name.now result }
+{
+    match first_named::<PageNames>(name, 0) {
+        Some(page) if page < 0x1_0000 => Some(page as u16),
+        _ => None,
+    }
+}
+
+/// The page of vendors that has this name, or none where none has it.
+fn vendor_page(name: &str) -> Option<u16>
+    ensures { IsOnlyNamed vendor_name name.now result }
+{
+    let page = digits_id("Vendor-defined ", name)?;
+    if page < 0xff00 {
+        return None;
+    }
+    Some(page)
 }
 
 /// Writes the name; a width or a fill that the format asks for is ignored.
