@@ -6,6 +6,7 @@ pub mod LookupLemmas
 pub mod NameLemmas
 pub mod OrderLemmas
 pub mod PackedLemmas
+pub mod PageLemmas
 pub mod PageTable
 pub mod Ranks
 pub mod UsageTable

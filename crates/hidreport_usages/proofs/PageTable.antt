@@ -4,7 +4,7 @@ use Rattle.hidreport_usages.specs.Rows.{Row, row_at, IsNameOrder}
 use Rattle.hidreport_usages.specs.Packed.{HasPieces, Rises, piece}
 use Rattle.hidreport_usages.specs.PageRows.{page_rows}
 use Rattle.hidreport_usages.specs.declared.page_table.TheConstants.{PAGE_NUMBERS, PAGE_ENDS, PAGE_TEXT, PAGE_PLACES}
-use Rattle.hidreport_usages.proofs.Checks.{rises_from, cut, ends_rise, are_plain, are_places, stand_from, rank_from}
+use Rattle.hidreport_usages.proofs.Checks.{rises_from, cut, ends_rise, are_plain, are_places, stand_from, rank_from, are_no_vendors}
 use Rattle.hidreport_usages.proofs.PackedLemmas.{Rises-from_test, HasPieces-from_tests, named_at}
 use Rattle.hidreport_usages.proofs.OrderLemmas.{IsNameOrder-from_tests}
 use Rattle.hidreport_usages.proofs.Ranks.{page_ranks}
@@ -30,3 +30,7 @@ named = named_at page_rows PAGE_TEXT.now (drop 1 PAGE_ENDS) refl refl refl
 pub by_name : IsNameOrder page_rows PAGE_PLACES
 unfolding page_rows page_ranks
 by_name = IsNameOrder-from_tests page_rows PAGE_PLACES page_ranks refl refl refl refl
+
+pub apart : are_no_vendors page_rows ≡ true
+unfolding page_rows
+apart = refl

@@ -43,13 +43,19 @@ pub fn page_name(usage_page: UsagePage) -> Option<PageName>
 pub fn page_by_name(name: &str) -> Option<UsagePage>
     ensures { IsOnlyNamed page_name name.now result }
 {
-    let page = match listed_page(name) {
-        Some(page) => Some(page),
-        None => vendor_page(name),
-    };
-    match page {
+    match number_of_page(name) {
         Some(page) => Some(UsagePage::from(page)),
         None => None,
+    }
+}
+
+/// The number of the page that has this name, or none where none has it.
+fn number_of_page(name: &str) -> Option<u16>
+    ensures { IsOnlyNamed page_name name.now result }
+{
+    match listed_page(name) {
+        Some(page) => Some(page),
+        None => vendor_page(name),
     }
 }
 
@@ -67,11 +73,10 @@ fn listed_page(name: &str) -> Option<u16>
 fn vendor_page(name: &str) -> Option<u16>
     ensures { IsOnlyNamed vendor_name name.now result }
 {
-    let page = digits_id("Vendor-defined ", name)?;
-    if page < 0xff00 {
-        return None;
+    match digits_id("Vendor-defined ", name) {
+        Some(page) if page >= 0xff00 => Some(page),
+        _ => None,
     }
-    Some(page)
 }
 
 /// Writes the name; a width or a fill that the format asks for is ignored.
