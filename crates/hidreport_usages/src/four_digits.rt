@@ -1,6 +1,6 @@
 //! Numbers of 16 bits as four hexadecimal digits.
 ghost use Rattle.std.specs.Prelude.{◌≡◌, ◌<◌, [], ◌∷◌};
-ghost use Rattle.std.specs.Fmt.{WritesOnOk};
+ghost use Rattle.std.specs.Fmt.{WritesOnOk, WritesStyledOnOk};
 ghost use Rattle.hidreport_usages.specs.Digits.{digit, four_digits, IsNumberOf, IsDigitOf};
 
 use std::fmt;
@@ -10,12 +10,14 @@ pub(crate) fn write_four_digits<W: fmt::Write>(
     f: &mut fmt::Formatter<W>,
     number: u16,
 ) -> fmt::Result
-    ensures { WritesOnOk W.write_str_gives f.old result (four_digits number) f.new }
+    ensures plain { WritesOnOk W.write_str_gives f.old result (four_digits number) f.new }
+    ensures styled { WritesStyledOnOk W.write_str_gives f.old result
+        (four_digits number) f.new }
 {
-    f.write_str(digit_text(number >> 12))?;
-    f.write_str(digit_text(number >> 8 & 0xf))?;
-    f.write_str(digit_text(number >> 4 & 0xf))?;
-    f.write_str(digit_text(number & 0xf))
+    f.write_str(digit_text(number / 0x1000))?;
+    f.write_str(digit_text(number / 0x100 % 0x10))?;
+    f.write_str(digit_text(number / 0x10 % 0x10))?;
+    f.write_str(digit_text(number % 0x10))
 }
 
 /// The number that four digits write, or none for any other text; letters are large.

@@ -73,10 +73,13 @@ fn listed_page(name: &str) -> Option<u16>
 fn vendor_page(name: &str) -> Option<u16>
     ensures { IsOnlyNamed vendor_name name.now result }
 {
-    match digits_id("Vendor-defined ", name) {
-        Some(page) if page >= 0xff00 => Some(page),
-        _ => None,
+    let Some(page) = digits_id("Vendor-defined ", name) else {
+        return None;
+    };
+    if page < 0xff00 {
+        return None;
     }
+    Some(page)
 }
 
 /// Writes the name; a width or a fill that the format asks for is ignored.

@@ -1,6 +1,6 @@
 //! The names of usages.
 ghost use Rattle.std.specs.Prelude.{◌≡◌, ◌+◌, ◌*◌, ℕ, option_map, Some, decimal, ◌++◌};
-ghost use Rattle.std.specs.Fmt.{WritesOnOk};
+ghost use Rattle.std.specs.Fmt.{WritesOnOk, WritesStyledOnOk};
 ghost use Rattle.hidreport.specs.UsageNumber.{usage_number};
 ghost use Rattle.hidreport_usages.specs.Digits.{four_digits};
 ghost use Rattle.hidreport_usages.specs.Families.{numbered_name};
@@ -181,7 +181,9 @@ fn write_counted<W: fmt::Write>(
     prefix: &str,
     number: u16,
 ) -> fmt::Result
-    ensures { WritesOnOk W.write_str_gives f.old result (prefix.now ++ decimal number) f.new }
+    ensures plain { WritesOnOk W.write_str_gives f.old result (prefix.now ++ decimal number) f.new }
+    ensures styled { WritesStyledOnOk W.write_str_gives f.old result
+        (prefix.now ++ decimal number) f.new }
 {
     f.write_str(prefix)?;
     let mut buffer = Buffer::new();
@@ -194,7 +196,9 @@ fn write_digits<W: fmt::Write>(
     prefix: &str,
     number: u16,
 ) -> fmt::Result
-    ensures { WritesOnOk W.write_str_gives f.old result (prefix.now ++ four_digits number) f.new }
+    ensures plain { WritesOnOk W.write_str_gives f.old result (prefix.now ++ four_digits number) f.new }
+    ensures styled { WritesStyledOnOk W.write_str_gives f.old result
+        (prefix.now ++ four_digits number) f.new }
 {
     f.write_str(prefix)?;
     write_four_digits(f, number)
