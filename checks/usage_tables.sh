@@ -15,7 +15,8 @@ BEGIN { last_page = -1 }
 function fault(text) { print "usages.txt:" NR ": " text > "/dev/stderr"; bad = 1 }
 function number(digits,   i, n) {
     n = 0
-    for (i = 1; i <= length(digits); i++) n = n * 16 + index("0123456789ABCDEF", substr(digits, i, 1)) - 1
+    for (i = 1; i <= length(digits); i++)
+        n = n * 16 + index("0123456789ABCDEF", substr(digits, i, 1)) - 1
     return n
 }
 function name(from) {
@@ -49,15 +50,22 @@ places_by_name() {
 }
 
 # Numbers as the elements of an array, or of a list: eight a line.
-elements() { awk '{ printf "%s%s,", (NR % 8 == 1 ? (NR > 1 ? "\n    " : "    ") : " "), $1 } END { print "" }'; }
-listed() { awk '{ printf "%s%s ∷ ", (NR % 8 == 1 ? (NR > 1 ? "\n    " : "    ") : ""), $1 } END { print "[]" }'; }
+elements() {
+    awk '{ printf "%s%s,", (NR % 8 == 1 ? (NR > 1 ? "\n    " : "    ") : " "), $1 }
+        END { print "" }'
+}
+listed() {
+    awk '{ printf "%s%s ∷", (NR % 8 == 1 ? (NR > 1 ? "\n    " : "    ") : " "), $1 }
+        END { print " []" }'
+}
 
 # table WORD WHAT ROWS FILE: the code of one table.
 table() {
     local count letters
     count=$(wc -l < "$3")
     {
-        echo "//! The table of $2. Written by checks/usage_tables.sh from data/usages.txt: edit that."
+        echo "//! The table of $2."
+        echo '// Written by checks/usage_tables.sh from data/usages.txt: edit that.'
         echo
         echo '#[rattlefmt::skip]'
         echo "pub(crate) static $1_NUMBERS: [u32; $count] = ["
@@ -87,7 +95,8 @@ table() {
 # rows WORD WHAT ROWS FILE: the table as definitions see it.
 rows() {
     {
-        echo "-- The table of $2. Written by checks/usage_tables.sh from data/usages.txt: edit that."
+        echo "-- The table of $2."
+        echo '-- Written by checks/usage_tables.sh from data/usages.txt: edit that.'
         echo 'use Rattle.std.specs.Prelude.{List, [], ◌∷◌, codes}'
         echo 'use Rattle.hidreport_usages.specs.Rows.{Row}'
         echo

@@ -26,5 +26,6 @@ pub is_number : (text : List ℕ) (a b c d : ℕ) → length text ≡ 4 → (a <
 is_number text a b c d long first second third fourth = (
   omega (arith, first.0, second.0, third.0, fourth.0),
   weighed a b c d first.0 second.0 third.0 fourth.0
-    ∙ ap₂ (λ x y. x ∷ y) first.1 (ap₂ (λ x y. x ∷ y) second.1 (ap₂ (λ x y. x ∷ y) third.1 (ap (λ x. x ∷ []) fourth.1)))
-    ∙ sym (letters_of text long))
+      ∙ ap₂ (λ x y. x ∷ y) first.1 (ap₂ (λ x y. x ∷ y) second.1 (ap₂ (λ x y. x ∷ y) third.1 (ap (λ x. x ∷ []) fourth.1)))
+      ∙ sym (letters_of text long),
+)

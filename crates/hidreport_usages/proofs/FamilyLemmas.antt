@@ -45,7 +45,8 @@ module _ (prefix rest name : List ℕ) (split : prefix ++ rest ≡ name) where
   digits_only (Some m) h = (
     h.0,
     ap (λ digits. Some (prefix ++ digits)) h.1 ∙ ap Some split,
-    λ n inside e. four_digits_injective n m inside h.0 (behind (four_digits n) e ∙ sym h.1))
+    λ n inside e. four_digits_injective n m inside h.0 (behind (four_digits n) e ∙ sym h.1),
+  )
 
   -- a counted name is that of a number from 1 on
   counted_behind : (n : ℕ) → counted None prefix n ≡ Some name → (n ≢ 0) × (decimal n ≡ rest)
@@ -66,7 +67,8 @@ module _ (prefix rest name : List ℕ) (split : prefix ++ rest ≡ name) where
   counted_some m inside other h = (
     inside,
     counted_more None prefix m other ∙ ap (λ digits. Some (prefix ++ digits)) h ∙ ap Some split,
-    λ n small e. decimal_injective n m (omega arith) (omega arith) ((counted_behind n e).1 ∙ sym h))
+    λ n small e. decimal_injective n m (omega arith) (omega arith) ((counted_behind n e).1 ∙ sym h),
+  )
 
 pub not_both : {E : Type 0} (r : Result ℕ E) (n : ℕ) (e : E) → r ≡ Ok n → r ≡ Err e → ⊥
 not_both r n e ok err = grind (arith, ok, err)

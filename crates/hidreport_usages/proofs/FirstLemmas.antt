@@ -25,14 +25,24 @@ module _ (f : ℕ → Option (List ℕ)) (name : List ℕ) where
     | inl before ↦ x n ln before h
     | inr behind ↦ y n behind nh h
   ]
-  or_within low middle high None (Some m) lm mh x y = (omega (arith, lm, y.0), y.1, y.2, λ n ln nh h. elim (cases_lt n middle) [
-    | inl before ↦ absurd (x n ln before h)
-    | inr behind ↦ y.3 n behind nh h
-  ])
-  or_within low middle high (Some m) b lm mh x y = (x.0, omega (arith, mh, x.1), x.2, λ n ln nh h. elim (cases_lt n middle) [
-    | inl before ↦ x.3 n ln before h
-    | inr behind ↦ omega (arith, x.1, behind)
-  ])
+  or_within low middle high None (Some m) lm mh x y = (
+    omega (arith, lm, y.0),
+    y.1,
+    y.2,
+    λ n ln nh h. elim (cases_lt n middle) [
+      | inl before ↦ absurd (x n ln before h)
+      | inr behind ↦ y.3 n behind nh h
+    ],
+  )
+  or_within low middle high (Some m) b lm mh x y = (
+    x.0,
+    omega (arith, mh, x.1),
+    x.2,
+    λ n ln nh h. elim (cases_lt n middle) [
+      | inl before ↦ x.3 n ln before h
+      | inr behind ↦ omega (arith, x.1, behind)
+    ],
+  )
 
   -- the same, where the last goes on without end
   pub or_last : (low middle : ℕ) (a b : Option ℕ) → low ≤ middle → IsFirstWithin f name low middle a → IsFirstNamed f name middle b → IsFirstNamed f name low (option_or a b)
@@ -40,14 +50,22 @@ module _ (f : ℕ → Option (List ℕ)) (name : List ℕ) where
     | inl before ↦ x n ln before h
     | inr behind ↦ y n behind h
   ]
-  or_last low middle None (Some m) lm x y = (omega (arith, lm, y.0), y.1, λ n ln h. elim (cases_lt n middle) [
-    | inl before ↦ absurd (x n ln before h)
-    | inr behind ↦ y.2 n behind h
-  ])
-  or_last low middle (Some m) b lm x y = (x.0, x.2, λ n ln h. elim (cases_lt n middle) [
-    | inl before ↦ x.3 n ln before h
-    | inr behind ↦ omega (arith, x.1, behind)
-  ])
+  or_last low middle None (Some m) lm x y = (
+    omega (arith, lm, y.0),
+    y.1,
+    λ n ln h. elim (cases_lt n middle) [
+      | inl before ↦ absurd (x n ln before h)
+      | inr behind ↦ y.2 n behind h
+    ],
+  )
+  or_last low middle (Some m) b lm x y = (
+    x.0,
+    x.2,
+    λ n ln h. elim (cases_lt n middle) [
+      | inl before ↦ x.3 n ln before h
+      | inr behind ↦ omega (arith, x.1, behind)
+    ],
+  )
 
 -- which pages have no family, and which are vendors'
 below_9 : (p : ℕ) → 0 ≤ p → p < 9 → family_of p ≡ None
@@ -91,9 +109,10 @@ module _ (name : List ℕ) where
     omega (arith, h.0),
     named page m family is h.0 ∙ h.1,
     λ n ln nh e.
-      let part = parts page n ln nh in
-      let same = h.2 (n % 65536) part.1 (sym (named page (n % 65536) family is part.1) ∙ ap numbered_text (sym part.0) ∙ e) in
-      omega (arith, same, part.0))
+        let part = parts page n ln nh in
+        let same = h.2 (n % 65536) part.1 (sym (named page (n % 65536) family is part.1) ∙ ap numbered_text (sym part.0) ∙ e) in
+        omega (arith, same, part.0),
+  )
 
   pub none_within : (first end : ℕ) → ((p : ℕ) → first ≤ p → p < end → family_of p ≡ None) → IsFirstWithin numbered_text name (first * 65536) (end * 65536) None
   none_within first end none = λ n ln nh e.
@@ -114,7 +133,8 @@ module _ (name : List ℕ) where
           let same = h.2 (n % 65536) (omega arith) (sym (ap (λ o. numbered_by o (n % 65536)) (vendor_family (n / 65536) (omega (arith, ln)) inside)) ∙ e) in
           omega (arith, same, ln)
       | inr past ↦ absurd (none_some name (sym (ap (λ o. numbered_by o (n % 65536)) (past_family (n / 65536) past)) ∙ e))
-    ])
+    ],
+  )
 
   -- the five pages in their order
   pub first_of_pages : (a b c d e : Option ℕ) → IsOnlyNamed (numbered_name Button) name a → IsOnlyNamed (numbered_name Instance) name b → IsOnlyNamed (numbered_name CodeUnit) name c → IsOnlyNamed (numbered_name Enumerated) name d → IsOnlyNamed (numbered_name Vendor) name e → IsFirstNamed numbered_text name 0 (option_or (option_or (option_or (option_or (at 9 a) (at 10 b)) (at 16 c)) (at 129 d)) (at 65280 e))
@@ -135,25 +155,41 @@ lower_first f g h name None None from left right x y = λ n ln e. elim (from n e
   | inl l ↦ x n ln l
   | inr r ↦ y n ln r
 ]
-lower_first f g h name None (Some m) from left right x y = (omega arith, right m y.1, λ n ln e. elim (from n e) [
-  | inl l ↦ absurd (x n ln l)
-  | inr r ↦ y.2 n ln r
-])
-lower_first f g h name (Some m) None from left right x y = (omega arith, left m x.1, λ n ln e. elim (from n e) [
-  | inl l ↦ x.2 n ln l
-  | inr r ↦ absurd (y n ln r)
-])
+lower_first f g h name None (Some m) from left right x y = (
+  omega arith,
+  right m y.1,
+  λ n ln e. elim (from n e) [
+    | inl l ↦ absurd (x n ln l)
+    | inr r ↦ y.2 n ln r
+  ],
+)
+lower_first f g h name (Some m) None from left right x y = (
+  omega arith,
+  left m x.1,
+  λ n ln e. elim (from n e) [
+    | inl l ↦ x.2 n ln l
+    | inr r ↦ absurd (y n ln r)
+  ],
+)
 lower_first f g h name (Some m) (Some k) from left right x y = elim (cases_lt k m) [
   | inl second ↦
       let e : lower (Some m) (Some k) ≡ Some k = grind (arith, nat_tests, second) in
-      subst (IsFirstNamed h name 0) (sym e) (omega arith, right k y.1, λ n ln e. elim (from n e) [
-        | inl l ↦ omega (arith, second, x.2 n ln l)
-        | inr r ↦ y.2 n ln r
-      ])
+      subst (IsFirstNamed h name 0) (sym e) (
+        omega arith,
+        right k y.1,
+        λ n ln e. elim (from n e) [
+          | inl l ↦ omega (arith, second, x.2 n ln l)
+          | inr r ↦ y.2 n ln r
+        ],
+      )
   | inr first ↦
       let e : lower (Some m) (Some k) ≡ Some m = grind (arith, nat_tests, first) in
-      subst (IsFirstNamed h name 0) (sym e) (omega arith, left m x.1, λ n ln e. elim (from n e) [
-        | inl l ↦ x.2 n ln l
-        | inr r ↦ omega (arith, first, y.2 n ln r)
-      ])
+      subst (IsFirstNamed h name 0) (sym e) (
+        omega arith,
+        left m x.1,
+        λ n ln e. elim (from n e) [
+          | inl l ↦ x.2 n ln l
+          | inr r ↦ omega (arith, first, y.2 n ln r)
+        ],
+      )
 ]

@@ -83,7 +83,7 @@ below x y same h = ranked x.0 y.0 Less (sym h ∙ same_name x y same)
 pub not_below : (x y : Row) → x.1 ≡ y.1 → is_lt (order x y) ≡ false → y.0 ≤ x.0
 not_below x y same h =
     by_ranked (x.0 < y.0) (x.0 ≡ y.0) (y.0 < x.0) (order x y) (ranked x.0 y.0 (order x y) (same_name x y same))
-      (λ less _. absurd (false≢true (sym h ∙ ap is_lt less))) (λ _ equal. omega arith) (λ _ greater. omega arith)
+    (λ less _. absurd (false≢true (sym h ∙ ap is_lt less))) (λ _ equal. omega arith) (λ _ greater. omega arith)
 
 -- a row that stands before one of a name, and not before another of that name, has the name
 between : (x y z : Row) → order x y ≡ Less → y.1 ≡ z.1 → is_lt (order x z) ≡ false → x.1 ≡ z.1
@@ -122,11 +122,11 @@ one_on_page rows places stands name m n hm hn pages =
     elim (cases_lt at_m.0 at_n.0) [
       | inl first ↦ absurd (omega (arith, pages_rise x y same (stands.apart at_m.0 at_n.0 first at_n.1), page_m, page_n, pages))
       | inr rest ↦ elim (cases_lt at_n.0 at_m.0) [
-          | inl second ↦ absurd (omega (arith, pages_rise y x (sym same) (stands.apart at_n.0 at_m.0 second at_m.1), page_m, page_n, pages))
-          | inr none ↦
-              let e : at_m.0 ≡ at_n.0 = omega (arith, rest, none) in
-              omega (arith, at_m.2, at_n.2, ap (λ k. (row_at rows (slice_index places k)).0) e)
-        ]
+        | inl second ↦ absurd (omega (arith, pages_rise y x (sym same) (stands.apart at_n.0 at_m.0 second at_m.1), page_m, page_n, pages))
+        | inr none ↦
+            let e : at_m.0 ≡ at_n.0 = omega (arith, rest, none) in
+            omega (arith, at_m.2, at_n.2, ap (λ k. (row_at rows (slice_index places k)).0) e)
+      ]
     ]
 
 module _ (rows : List Row) (places : List ℕ) (stands : IsNameOrder rows places) (name : List ℕ) (from rank : ℕ) (is_rank : IsRank rows places (from, name) rank) where
@@ -165,7 +165,8 @@ module _ (rows : List Row) (places : List ℕ) (stands : IsNameOrder rows places
   first_found rising inside same = (
     not_below (row_at rows (slice_index places rank)) (from, name) same (is_rank.behind rank (omega arith) inside),
     name_in-at rows rising (slice_index places rank) (stands.within rank inside) ∙ ap Some same,
-    λ n le h. (least inside n le h).1)
+    λ n le h. (least inside n le h).1,
+  )
 
   pub none_found : rank < length places → (row_at rows (slice_index places rank)).1 ≢ name → IsFirstNamed (name_in rows) name from None
   none_found inside other = λ n le h. other (least inside n le h).0

@@ -47,23 +47,30 @@ listed_only name p inside h = (inside, h.1, λ n small e. one_on_page page_rows 
 
 pub lift_listed : (name : List ℕ) (p : ℕ) → IsOnlyNamed (name_in page_rows) name (Some p) → IsOnlyNamed page_name name (Some p)
 lift_listed name p h =
-    let at = listed_below p name h.1 in
-    (h.0, below p at.0 ∙ h.1, λ n inside e. elim (cases_lt n 65280) [
-      | inl low ↦ h.2 n inside (sym (below n low) ∙ e)
-      | inr high ↦
-          let text = same_some (codes "Vendor-defined " ++ four_digits n) name (sym (vendor n high inside) ∙ sym (above n high inside) ∙ e) in
-          absurd (at.1 (ap (λ letters. slice_index letters 6) (sym text)))
-    ])
+    let at = listed_below p name h.1 in (
+      h.0,
+      below p at.0 ∙ h.1,
+      λ n inside e. elim (cases_lt n 65280) [
+        | inl low ↦ h.2 n inside (sym (below n low) ∙ e)
+        | inr high ↦
+            let text = same_some (codes "Vendor-defined " ++ four_digits n) name (sym (vendor n high inside) ∙ sym (above n high inside) ∙ e) in
+            absurd (at.1 (ap (λ letters. slice_index letters 6) (sym text)))
+      ],
+    )
 
 pub lift_vendor : (name : List ℕ) (r : Option ℕ) → IsOnlyNamed (name_in page_rows) name None → IsOnlyNamed vendor_name name r → IsOnlyNamed page_name name r
 lift_vendor name None none h = λ n inside e. elim (cases_lt n 65280) [
   | inl low ↦ none n inside (sym (below n low) ∙ e)
   | inr high ↦ h n inside (sym (above n high inside) ∙ e)
 ]
-lift_vendor name (Some p) none h = (h.0, is_name, λ n inside e. elim (cases_lt n 65280) [
-  | inl low ↦ absurd (none n inside (sym (below n low) ∙ e))
-  | inr high ↦ h.2 n inside (sym (above n high inside) ∙ e)
-])
+lift_vendor name (Some p) none h = (
+  h.0,
+  is_name,
+  λ n inside e. elim (cases_lt n 65280) [
+    | inl low ↦ absurd (none n inside (sym (below n low) ∙ e))
+    | inr high ↦ h.2 n inside (sym (above n high inside) ∙ e)
+  ],
+)
   where
     is_name : page_name p ≡ Some name
     is_name = elim (cases_lt p 65280) [

@@ -6,4 +6,4 @@ abbrev pub IsOnlyNamed : (ℕ → Option (List ℕ)) → List ℕ → Option ℕ
 IsOnlyNamed name_of name only = MatchOption only
     ((n : ℕ) → n < 65536 → name_of n ≡ Some name → ⊥)
     (λ o. (o < 65536) × (name_of o ≡ Some name)
-        × ((n : ℕ) → n < 65536 → name_of n ≡ Some name → n ≡ o))
+    × ((n : ℕ) → n < 65536 → name_of n ≡ Some name → n ≡ o))

@@ -1,4 +1,5 @@
--- The table of usage pages. Written by checks/usage_tables.sh from data/usages.txt: edit that.
+-- The table of usage pages.
+-- Written by checks/usage_tables.sh from data/usages.txt: edit that.
 use Rattle.std.specs.Prelude.{List, [], ◌∷◌, codes}
 use Rattle.hidreport_usages.specs.Rows.{Row}
 

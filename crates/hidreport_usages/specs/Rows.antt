@@ -29,7 +29,7 @@ abbrev pub IsFirstNamed : (ℕ → Option (List ℕ)) → List ℕ → ℕ → O
 IsFirstNamed name_of name from first = MatchOption first
     ((n : ℕ) → from ≤ n → name_of n ≡ Some name → ⊥)
     (λ f. (from ≤ f) × (name_of f ≡ Some name)
-        × ((n : ℕ) → from ≤ n → name_of n ≡ Some name → f ≤ n))
+    × ((n : ℕ) → from ≤ n → name_of n ≡ Some name → f ≤ n))
 
 -- how two rows stand: by name, letter by letter, and rows of one name by number
 abbrev pub order : Row → Row → Ordering

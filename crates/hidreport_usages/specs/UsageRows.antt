@@ -1,4 +1,5 @@
--- The table of usages: the page in the upper 16 bits. Written by checks/usage_tables.sh from data/usages.txt: edit that.
+-- The table of usages: the page in the upper 16 bits.
+-- Written by checks/usage_tables.sh from data/usages.txt: edit that.
 use Rattle.std.specs.Prelude.{List, [], ◌∷◌, codes}
 use Rattle.hidreport_usages.specs.Rows.{Row}
 

@@ -198,9 +198,19 @@ static FLAGS: [(u8, u8, &str, &str); 8] = [
     (0x03, 0, "Const,Var,Abs,NoNull", "Const,Var,Abs,NoNull"),
     (0x06, 0, "Data,Var,Rel,NoNull", "Data,Var,Rel,NoNull"),
     (0x42, 0, "Data,Var,Abs,Null", "Data,Var,Abs,Null"),
-    (0x3a, 0, "Data,Var,Abs,Wrap,NonLin,NoPref,NoNull", "Data,Var,Abs,Wrap,NonLin,NoPref,NoNull"),
+    (
+        0x3a,
+        0,
+        "Data,Var,Abs,Wrap,NonLin,NoPref,NoNull",
+        "Data,Var,Abs,Wrap,NonLin,NoPref,NoNull",
+    ),
     (0x82, 0, "Data,Var,Abs,NoNull", "Data,Var,Abs,NoNull,Vol"),
-    (0x82, 1, "Data,Var,Abs,NoNull,Buf", "Data,Var,Abs,NoNull,Vol,Buf"),
+    (
+        0x82,
+        1,
+        "Data,Var,Abs,NoNull,Buf",
+        "Data,Var,Abs,NoNull,Vol,Buf",
+    ),
 ];
 
 /// Whether a text was made, and is this one.
@@ -296,7 +306,10 @@ fn items_have_the_names_of_the_standard(rt: HostRuntime) {
         assert!(rt; item_name(&item) == *text, "{text}");
     }
     for (number, text) in &KINDS {
-        assert!(rt; collection_name(&CollectionItem::from(*number)) == *text, "{text}");
+        assert!(rt;
+            collection_name(&CollectionItem::from(*number)) == *text,
+            "{text}"
+        );
     }
     assert!(rt; system_name(&UnitSystem::SILinear) == "SI Linear");
 }
@@ -308,10 +321,16 @@ fn flags_are_words_in_the_order_of_their_bits(rt: HostRuntime) {
         let Ok(item) = InputItem::try_from(alloc, &[0x82, *low, *high]) else {
             return;
         };
-        assert!(rt; is_written(alloc, &FlagWords::from(&item), input), "{input}");
+        assert!(rt;
+            is_written(alloc, &FlagWords::from(&item), input),
+            "{input}"
+        );
         let Ok(item) = FeatureItem::try_from(alloc, &[0xb2, *low, *high]) else {
             return;
         };
-        assert!(rt; is_written(alloc, &FlagWords::from(&item), feature), "{feature}");
+        assert!(rt;
+            is_written(alloc, &FlagWords::from(&item), feature),
+            "{feature}"
+        );
     }
 }

@@ -113,11 +113,7 @@ fn first_numbered(name: &str) -> Option<u32>
     let code_unit = on_page(0x10, numbered_id(Family::CodeUnit, name));
     let enumerated = on_page(0x81, numbered_id(Family::Enumerated, name));
     let vendor = on_page(0xff00, numbered_id(Family::Vendor, name));
-    button
-        .or(instance)
-        .or(code_unit)
-        .or(enumerated)
-        .or(vendor)
+    button.or(instance).or(code_unit).or(enumerated).or(vendor)
 }
 
 /// The number of a usage of a page, if there is one.
@@ -150,11 +146,7 @@ fn listed_id(page: u16, name: &str) -> Option<u16>
         return None;
     };
     let id = number - first;
-    if id < 0x1_0000 {
-        Some(id as u16)
-    } else {
-        None
-    }
+    if id < 0x1_0000 { Some(id as u16) } else { None }
 }
 
 /// Writes the name; a width or a fill that the format asks for is ignored.
@@ -176,11 +168,7 @@ impl fmt::Display for UsageName {
 }
 
 /// Writes a number in decimal behind a prefix.
-fn write_counted<W: fmt::Write>(
-    f: &mut fmt::Formatter<W>,
-    prefix: &str,
-    number: u16,
-) -> fmt::Result
+fn write_counted<W: fmt::Write>(f: &mut fmt::Formatter<W>, prefix: &str, number: u16) -> fmt::Result
     ensures plain { WritesOnOk W.write_str_gives f.old result (prefix.now ++ decimal number) f.new }
     ensures styled { WritesStyledOnOk W.write_str_gives f.old result
         (prefix.now ++ decimal number) f.new }
@@ -191,11 +179,7 @@ fn write_counted<W: fmt::Write>(
 }
 
 /// Writes a number in four hexadecimal digits behind a prefix.
-fn write_digits<W: fmt::Write>(
-    f: &mut fmt::Formatter<W>,
-    prefix: &str,
-    number: u16,
-) -> fmt::Result
+fn write_digits<W: fmt::Write>(f: &mut fmt::Formatter<W>, prefix: &str, number: u16) -> fmt::Result
     ensures plain { WritesOnOk W.write_str_gives f.old result (prefix.now ++ four_digits number) f.new }
     ensures styled { WritesStyledOnOk W.write_str_gives f.old result
         (prefix.now ++ four_digits number) f.new }

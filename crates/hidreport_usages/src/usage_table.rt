@@ -1,4 +1,5 @@
-//! The table of usages. Written by checks/usage_tables.sh from data/usages.txt: edit that.
+//! The table of usages.
+// Written by checks/usage_tables.sh from data/usages.txt: edit that.
 
 #[rattlefmt::skip]
 pub(crate) static USAGE_NUMBERS: [u32; 2734] = [

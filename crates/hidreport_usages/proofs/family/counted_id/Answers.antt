@@ -7,7 +7,7 @@ use Rattle.hidreport_usages.proofs.family.counted_id.Goals as goal
 pub returns-in_err-number : goal.returns-in_err-number
 returns-in_err-number c =
     rw (c.from_residual-in_err-number.ensures)
-      (counted_none c.args.prefix.now c.in_ok-rest_behind.field-0.now c.args.name.now c.in_ok-rest_behind.ensures c.in_err-number.ensures)
+    (counted_none c.args.prefix.now c.in_ok-rest_behind.field-0.now c.args.name.now c.in_ok-rest_behind.ensures c.in_err-number.ensures)
 
 -- 0 is
 pub returns-then-number-eq0 : goal.returns-then-number-eq0

@@ -13,7 +13,7 @@ loop-low-preserved-then-stands_before g c =
     let inside : middle < length places = omega (arith, c.loop-low-test.true, c.loop-low.invariant.within) in
     let key : Row = (c.args.number, c.args.name.now) in
     let less : is_lt (order (row_at rows (slice_index places middle)) key) ≡ true =
-        ap (λ p. is_lt (order (row_at rows p) key)) (sym c.from.ensures) ∙ sym c.stands_before.ensures ∙ c.if-stands_before.true in
+    ap (λ p. is_lt (order (row_at rows p) key)) (sym c.from.ensures) ∙ sym c.stands_before.ensures ∙ c.if-stands_before.true in
     record {
       halves = omega (arith, c.loop-low-test.true);
       within = c.loop-low.invariant.within;
@@ -30,7 +30,7 @@ loop-low-preserved g c =
     let inside : middle < length places = omega (arith, c.loop-low-test.true, c.loop-low.invariant.within) in
     let key : Row = (c.args.number, c.args.name.now) in
     let not_less : is_lt (order (row_at rows (slice_index places middle)) key) ≡ false =
-        ap (λ p. is_lt (order (row_at rows p) key)) (sym c.from.ensures) ∙ sym c.stands_before.ensures ∙ c.if-stands_before.false in
+    ap (λ p. is_lt (order (row_at rows p) key)) (sym c.from.ensures) ∙ sym c.stands_before.ensures ∙ c.if-stands_before.false in
     record {
       halves = omega (arith, c.loop-low-test.true);
       within = omega (arith, inside);

@@ -13,5 +13,5 @@ returns c =
     let four = c.or-3.ensures ∙ ap₂ option_or three c.on_page-enumerated.ensures in
     let five = c.or-4.ensures ∙ ap₂ option_or four c.on_page-vendor.ensures in
     subst (IsFirstNamed numbered_text c.args.name.now 0) (sym five)
-      (first_of_pages c.args.name.now c.numbered_id.result c.numbered_id-2.result c.numbered_id-3.result c.numbered_id-4.result c.numbered_id-5.result
-        c.numbered_id.ensures c.numbered_id-2.ensures c.numbered_id-3.ensures c.numbered_id-4.ensures c.numbered_id-5.ensures)
+    (first_of_pages c.args.name.now c.numbered_id.result c.numbered_id-2.result c.numbered_id-3.result c.numbered_id-4.result c.numbered_id-5.result
+    c.numbered_id.ensures c.numbered_id-2.ensures c.numbered_id-3.ensures c.numbered_id-4.ensures c.numbered_id-5.ensures)

@@ -18,6 +18,7 @@ returns-then-id-lt65536 c =
       c.if-id-lt65536.true,
       ap (name_in usage_rows) whole ∙ found.1,
       λ n inside h.
-        let pages : (page * 65536 + n) / 65536 ≡ number / 65536 = omega (arith, inside, same, found.0, c.if-id-lt65536.true) in
-        let one = one_on_page usage_rows USAGE_PLACES by_name name (page * 65536 + n) number h found.1 pages in
-        omega (arith, one, same))
+          let pages : (page * 65536 + n) / 65536 ≡ number / 65536 = omega (arith, inside, same, found.0, c.if-id-lt65536.true) in
+          let one = one_on_page usage_rows USAGE_PLACES by_name name (page * 65536 + n) number h found.1 pages in
+          omega (arith, one, same),
+    )

@@ -11,7 +11,7 @@ returns-in-Some c =
     let name = c.args.name.now in
     let number = c.in-Some.number in
     let found : IsFirstNamed name_of_number name 0 (Some number) =
-        subst (IsFirstNamed name_of_number name 0) (sym c.lower.ensures ∙ c.in-Some.is)
-          (first_of_all name c.first_named.result c.first_numbered.result c.first_named.ensures c.first_numbered.ensures) in
+    subst (IsFirstNamed name_of_number name 0) (sym c.lower.ensures ∙ c.in-Some.is)
+    (first_of_all name c.first_named.result c.first_numbered.result c.first_named.ensures c.first_numbered.ensures) in
     let same : number ≡ usage_number c.from.result = sym (whole number) ∙ ap usage_number (sym c.from.ensures) in
     subst (λ n. IsFirstNamed name_of_number name 0 (Some n)) same found

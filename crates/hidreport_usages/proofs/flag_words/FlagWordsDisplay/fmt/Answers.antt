@@ -17,8 +17,8 @@ returns-clause-styled g c = λ flush ok.
     let k = c.in_ok-write_word-8.ensures.styled j.flush refl in
     let l = c.write_word-9.ensures.styled k.flush ok in
     let all = has_written_styled_append took _ _ _ _ _ a (has_written_styled_append took _ _ _ _ _ b (has_written_styled_append took _ _ _ _ _ d
-        (has_written_styled_append took _ _ _ _ _ e (has_written_styled_append took _ _ _ _ _ h (has_written_styled_append took _ _ _ _ _ i
-        (has_written_styled_append took _ _ _ _ _ j (has_written_styled_append took _ _ _ _ _ k l))))))) in
+    (has_written_styled_append took _ _ _ _ _ e (has_written_styled_append took _ _ _ _ _ h (has_written_styled_append took _ _ _ _ _ i
+    (has_written_styled_append took _ _ _ _ _ j (has_written_styled_append took _ _ _ _ _ k l))))))) in
     has_written_styled_of_eq took _ _ _ _ (ap flag_text c.self.view_is) all
 
 pub returns-clause-writes : goal.returns-clause-writes
@@ -34,6 +34,6 @@ returns-clause-writes g c = λ plain ok.
     let k = c.in_ok-write_word-8.ensures.plain j.plain refl in
     let l = c.write_word-9.ensures.plain k.plain ok in
     let all = has_written_append took _ _ _ _ _ a (has_written_append took _ _ _ _ _ b (has_written_append took _ _ _ _ _ d
-        (has_written_append took _ _ _ _ _ e (has_written_append took _ _ _ _ _ h (has_written_append took _ _ _ _ _ i
-        (has_written_append took _ _ _ _ _ j (has_written_append took _ _ _ _ _ k l))))))) in
+    (has_written_append took _ _ _ _ _ e (has_written_append took _ _ _ _ _ h (has_written_append took _ _ _ _ _ i
+    (has_written_append took _ _ _ _ _ j (has_written_append took _ _ _ _ _ k l))))))) in
     has_written_of_eq took _ _ _ _ (ap flag_text c.self.view_is) all
