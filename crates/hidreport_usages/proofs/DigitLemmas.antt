@@ -1,5 +1,5 @@
 -- Four hexadecimal digits and their number.
-use Rattle.std.proofs.Common.{◌≡◌, ℕ, zero, suc, ◌+◌, ◌*◌, ◌/◌, ◌%◌, ◌<◌, List, [], ◌∷◌, length, slice_index, refl, sym, ap, ap₂, ◌∙◌, arith}
+use Rattle.std.proofs.Common.{◌≡◌, ℕ, ◌+◌, ◌*◌, ◌/◌, ◌%◌, ◌<◌, List, [], ◌∷◌, length, slice_index, refl, sym, ap, ap₂, ◌∙◌, arith}
 use Rattle.hidreport_usages.specs.Digits.{digit, four_digits}
 
 -- a text of four letters is its letters

@@ -1,10 +1,10 @@
 -- The page table: what its tests say, each by computation.
-use Rattle.std.proofs.Common.{◌≡◌, ◌<◌, refl, ℕ, suc, true, map, drop, length, List}
-use Rattle.hidreport_usages.specs.Rows.{Row, row_at, IsNameOrder}
+use Rattle.std.proofs.Common.{◌≡◌, ◌<◌, refl, ℕ, suc, true, map, drop, length}
+use Rattle.hidreport_usages.specs.Rows.{row_at, IsNameOrder}
 use Rattle.hidreport_usages.specs.Packed.{HasPieces, Rises, piece}
 use Rattle.hidreport_usages.specs.PageRows.{page_rows}
 use Rattle.hidreport_usages.specs.declared.page_table.TheConstants.{PAGE_NUMBERS, PAGE_ENDS, PAGE_TEXT, PAGE_PLACES}
-use Rattle.hidreport_usages.proofs.Checks.{rises_from, cut, ends_rise, are_plain, are_places, stand_from, rank_from, are_no_vendors}
+use Rattle.hidreport_usages.proofs.Checks.{are_no_vendors}
 use Rattle.hidreport_usages.proofs.PackedLemmas.{Rises-from_test, HasPieces-from_tests, named_at}
 use Rattle.hidreport_usages.proofs.OrderLemmas.{IsNameOrder-from_tests}
 use Rattle.hidreport_usages.proofs.Ranks.{page_ranks}

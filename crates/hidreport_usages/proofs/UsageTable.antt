@@ -1,10 +1,10 @@
 -- The usage table: what its tests say, each by computation.
-use Rattle.std.proofs.Common.{◌≡◌, ◌<◌, refl, ℕ, suc, true, map, drop, length, List}
-use Rattle.hidreport_usages.specs.Rows.{Row, row_at, IsNameOrder}
+use Rattle.std.proofs.Common.{◌≡◌, ◌<◌, refl, ℕ, suc, true, map, drop, length}
+use Rattle.hidreport_usages.specs.Rows.{row_at, IsNameOrder}
 use Rattle.hidreport_usages.specs.Packed.{HasPieces, Rises, piece}
 use Rattle.hidreport_usages.specs.UsageRows.{usage_rows}
 use Rattle.hidreport_usages.specs.declared.usage_table.TheConstants.{USAGE_NUMBERS, USAGE_ENDS, USAGE_TEXT, USAGE_PLACES}
-use Rattle.hidreport_usages.proofs.Checks.{rises_from, cut, ends_rise, are_plain, are_places, stand_from, rank_from, are_apart}
+use Rattle.hidreport_usages.proofs.Checks.{are_apart}
 use Rattle.hidreport_usages.proofs.PackedLemmas.{Rises-from_test, HasPieces-from_tests, named_at}
 use Rattle.hidreport_usages.proofs.OrderLemmas.{IsNameOrder-from_tests}
 use Rattle.hidreport_usages.proofs.Ranks.{usage_ranks}

@@ -1,5 +1,5 @@
 -- The flags of data items as words (HID 1.11, Section 6.2.2.5), in the order of their bits.
-use Rattle.std.specs.Prelude.{ℕ, Bool, if◌then◌else◌, List, ◌++◌, codes}
+use Rattle.std.specs.Prelude.{ℕ, if◌then◌else◌, List, ◌++◌, codes}
 use Rattle.hidreport_items.specs.Flags.{Flags}
 
 abbrev pub flag_text : Flags → List ℕ

@@ -1,5 +1,5 @@
 -- A text that names a number.
-use Rattle.std.specs.Prelude.{◌≡◌, ℕ, ◌<◌, List, Option, Some, None, MatchOption}
+use Rattle.std.specs.Prelude.{◌≡◌, ℕ, ◌<◌, List, Option, Some, MatchOption}
 
 -- the one number of 16 bits that has the name, or none where no such number has it
 abbrev pub IsOnlyNamed : (ℕ → Option (List ℕ)) → List ℕ → Option ℕ → Type 0

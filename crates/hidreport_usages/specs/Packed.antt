@@ -1,5 +1,5 @@
 -- Names laid end to end in one text, each between two ends.
-use Rattle.std.specs.Prelude.{◌≡◌, ℕ, ◌+◌, ◌<◌, ◌≤◌, List, length, slice_index, slice_range, IsAscii}
+use Rattle.std.specs.Prelude.{ℕ, ◌+◌, ◌<◌, ◌≤◌, List, length, slice_index, slice_range, IsAscii}
 
 -- the name at a place
 abbrev pub piece : List ℕ → List ℕ → ℕ → List ℕ

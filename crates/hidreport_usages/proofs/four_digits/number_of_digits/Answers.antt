@@ -1,5 +1,4 @@
-use Rattle.std.proofs.Common.{◌≡◌, length, arith, subst}
-use Rattle.hidreport_usages.specs.Digits.{four_digits}
+use Rattle.std.proofs.Common.{◌≡◌, length, arith}
 use Rattle.hidreport_usages.proofs.DigitLemmas.{is_number}
 use Rattle.hidreport_usages.proofs.four_digits.number_of_digits.Goals as goal
 

@@ -1,8 +1,7 @@
-use Rattle.std.proofs.Common.{◌≡◌, ◌≢◌, ◌<◌, ℕ, true, false, List, Some, length, slice_index, sym, ap, subst, ◌∙◌, arith}
+use Rattle.std.proofs.Common.{◌≡◌, ◌≢◌, ◌<◌, Some, length, slice_index, sym, ap, subst, ◌∙◌, arith}
 use Rattle.std.proofs.lemmas.Slice.Eq.{bytes_eq-Decides}
-use Rattle.std.proofs.lemmas.Bool.Decides.{nat_tests}
 use mathlib.Core.Bool.{false≢true}
-use Rattle.hidreport_usages.specs.Rows.{Row, name_in, row_at, IsFirstNamed}
+use Rattle.hidreport_usages.specs.Rows.{name_in, row_at, IsFirstNamed}
 use Rattle.hidreport_usages.proofs.LookupLemmas.{numbers_of, number_at, none_left, first_found, none_found}
 use Rattle.hidreport_usages.specs.Packed.{Rises}
 use Rattle.hidreport_usages.proofs.names.first_named.Goals as goal

@@ -1,4 +1,4 @@
-use Rattle.std.proofs.Common.{◌≡◌, ◌+◌, ◌*◌, ◌-◌, ◌/◌, ◌<◌, ◌≤◌, ℕ, Some, ap, ◌∙◌, arith}
+use Rattle.std.proofs.Common.{◌≡◌, ◌+◌, ◌*◌, ◌-◌, ◌/◌, Some, ap, ◌∙◌, arith}
 use Rattle.hidreport_usages.specs.Rows.{name_in, IsFirstNamed}
 use Rattle.hidreport_usages.specs.UsageRows.{usage_rows}
 use Rattle.hidreport_usages.specs.declared.usage_table.TheConstants.{USAGE_PLACES}

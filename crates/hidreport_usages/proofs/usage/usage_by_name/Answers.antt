@@ -1,4 +1,4 @@
-use Rattle.std.proofs.Common.{◌≡◌, ℕ, Some, sym, ap, subst, ◌∙◌}
+use Rattle.std.proofs.Common.{◌≡◌, Some, sym, ap, subst, ◌∙◌}
 use Rattle.hidreport.specs.UsageNumber.{usage_number}
 use Rattle.hidreport_usages.specs.Names.{name_of_number}
 use Rattle.hidreport_usages.specs.Rows.{IsFirstNamed}
