@@ -129,7 +129,10 @@ rows page 'usage pages' "$fresh/pages" "$fresh/specs/PageRows.antt"
 for file in src/usage_table.rt src/page_table.rt specs/UsageRows.antt specs/PageRows.antt \
     proofs/Ranks.antt; do
     if [ "${1-}" = --check ]; then
-        cmp -s "$fresh/$file" "$file" || { echo "stale: crates/hidreport_usages/$file" >&2; exit 1; }
+        if ! cmp -s "$fresh/$file" "$file"; then
+            echo "usage_tables: crates/hidreport_usages/$file is stale" >&2
+            exit 1
+        fi
     else
         cp "$fresh/$file" "$file"
     fi

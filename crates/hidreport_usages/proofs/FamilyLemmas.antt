@@ -1,5 +1,6 @@
 -- Names of families, and the numbers in them.
-use Rattle.std.proofs.Common.{◌≡◌, ◌≢◌, ℕ, zero, suc, ◌/◌, ◌%◌, ◌<◌, List, [], ◌++◌, Option, Some, None, Result, Ok, Err, slice_index, sym, ap, ◌∙◌, arith}
+use Rattle.std.proofs.Common.{◌≡◌, ◌≢◌, ℕ, zero, suc, ◌/◌, ◌%◌, ◌<◌, List, [], ◌++◌, Option, Some, None, Result, Ok}
+use Rattle.std.proofs.Common.{Err, slice_index, sym, ap, ◌∙◌, arith}
 use Rattle.std.specs.Prelude.{decimal}
 use Rattle.std.specs.Option.{unwrap_or}
 use Rattle.std.specs.Result.{result_ok}
@@ -30,7 +31,8 @@ four_digits_injective m n lm ln e =
     omega (arith, first, second, third, fourth)
 
 -- from 1 on a counted name has the number
-counted_more : (zeroth : Option (List ℕ)) (prefix : List ℕ) (n : ℕ) → n ≢ 0 → counted zeroth prefix n ≡ Some (prefix ++ decimal n)
+counted_more : (zeroth : Option (List ℕ)) (prefix : List ℕ) (n : ℕ) → n ≢ 0
+    → counted zeroth prefix n ≡ Some (prefix ++ decimal n)
 counted_more zeroth prefix n h = grind (arith, nat_tests, h)
 
 module _ (prefix rest name : List ℕ) (split : prefix ++ rest ≡ name) where
@@ -38,7 +40,8 @@ module _ (prefix rest name : List ℕ) (split : prefix ++ rest ≡ name) where
   behind : (digits : List ℕ) → Some (prefix ++ digits) ≡ Some name → digits ≡ rest
   behind digits e = append_cancel_left prefix digits rest (same_some (prefix ++ digits) name e ∙ sym split)
 
-  pub digits_only : (r : Option ℕ) → IsNumberOf four_digits rest r → IsOnlyNamed (λ id. Some (prefix ++ four_digits id)) name r
+  pub digits_only : (r : Option ℕ) → IsNumberOf four_digits rest r
+      → IsOnlyNamed (λ id. Some (prefix ++ four_digits id)) name r
   digits_only None h = λ n inside e. h n inside (behind (four_digits n) e)
   digits_only (Some m) h = (
     h.0,

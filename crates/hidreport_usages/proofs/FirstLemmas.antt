@@ -1,5 +1,6 @@
 -- The first number that has a name, among several stretches of numbers.
-use Rattle.std.proofs.Common.{◌≡◌, ℕ, ◌+◌, ◌*◌, ◌/◌, ◌%◌, ◌<◌, ◌≤◌, List, Option, Some, None, MatchOption, refl, sym, ap, ap₂, subst, ◌∙◌, arith, inl, inr}
+use Rattle.std.proofs.Common.{◌≡◌, ℕ, ◌+◌, ◌*◌, ◌/◌, ◌%◌, ◌<◌, ◌≤◌, List, Option, Some, None, MatchOption, refl, sym}
+use Rattle.std.proofs.Common.{ap, ap₂, subst, ◌∙◌, arith, inl, inr}
 use Rattle.std.specs.Option.{option_map, option_or}
 use Rattle.std.specs.Prelude.{◌⊎◌}
 use Rattle.std.proofs.lemmas.Bool.{cases_lt}
@@ -20,7 +21,9 @@ IsFirstWithin f name low high first = MatchOption first
 
 module _ (f : ℕ → Option (List ℕ)) (name : List ℕ) where
   -- two stretches that follow each other
-  pub or_within : (low middle high : ℕ) (a b : Option ℕ) → low ≤ middle → middle ≤ high → IsFirstWithin f name low middle a → IsFirstWithin f name middle high b → IsFirstWithin f name low high (option_or a b)
+  pub or_within : (low middle high : ℕ) (a b : Option ℕ) → low ≤ middle → middle ≤ high
+      → IsFirstWithin f name low middle a → IsFirstWithin f name middle high b
+      → IsFirstWithin f name low high (option_or a b)
   or_within low middle high None None lm mh x y = λ n ln nh h. elim (cases_lt n middle) [
     | inl before ↦ x n ln before h
     | inr behind ↦ y n behind nh h
@@ -45,7 +48,8 @@ module _ (f : ℕ → Option (List ℕ)) (name : List ℕ) where
   )
 
   -- the same, where the last goes on without end
-  pub or_last : (low middle : ℕ) (a b : Option ℕ) → low ≤ middle → IsFirstWithin f name low middle a → IsFirstNamed f name middle b → IsFirstNamed f name low (option_or a b)
+  pub or_last : (low middle : ℕ) (a b : Option ℕ) → low ≤ middle → IsFirstWithin f name low middle a
+      → IsFirstNamed f name middle b → IsFirstNamed f name low (option_or a b)
   or_last low middle None None lm x y = λ n ln h. elim (cases_lt n middle) [
     | inl before ↦ x n ln before h
     | inr behind ↦ y n behind h
@@ -91,16 +95,20 @@ at page id = option_map (λ i. page * 65536 + i) id
 
 module _ (name : List ℕ) where
   -- a number of a page of a family has the name that its id has there
-  named : (page id : ℕ) (family : Family) → family_of page ≡ Some family → id < 65536 → numbered_text (page * 65536 + id) ≡ numbered_name family id
+  named : (page id : ℕ) (family : Family) → family_of page ≡ Some family → id < 65536
+      → numbered_text (page * 65536 + id) ≡ numbered_name family id
   named page id family is inside =
       let p : (page * 65536 + id) / 65536 ≡ page = omega (arith, inside) in
       let i : (page * 65536 + id) % 65536 ≡ id = omega (arith, inside) in
       ap₂ (λ q j. numbered_by (family_of q) j) p i ∙ ap (λ o. numbered_by o id) is
 
-  parts : (page n : ℕ) → page * 65536 ≤ n → n < page * 65536 + 65536 → (n ≡ page * 65536 + n % 65536) × (n % 65536 < 65536)
+  parts : (page n : ℕ) → page * 65536 ≤ n → n < page * 65536 + 65536
+      → (n ≡ page * 65536 + n % 65536) × (n % 65536 < 65536)
   parts page n ln nh = (omega (arith, ln, nh), omega arith)
 
-  pub only_within : (page : ℕ) (family : Family) (r : Option ℕ) → family_of page ≡ Some family → IsOnlyNamed (numbered_name family) name r → IsFirstWithin numbered_text name (page * 65536) (page * 65536 + 65536) (at page r)
+  pub only_within : (page : ℕ) (family : Family) (r : Option ℕ) → family_of page ≡ Some family
+      → IsOnlyNamed (numbered_name family) name r
+      → IsFirstWithin numbered_text name (page * 65536) (page * 65536 + 65536) (at page r)
   only_within page family None is h = λ n ln nh e.
       let part = parts page n ln nh in
       h (n % 65536) part.1 (sym (named page (n % 65536) family is part.1) ∙ ap numbered_text (sym part.0) ∙ e)
@@ -114,13 +122,15 @@ module _ (name : List ℕ) where
         omega (arith, same, part.0),
   )
 
-  pub none_within : (first end : ℕ) → ((p : ℕ) → first ≤ p → p < end → family_of p ≡ None) → IsFirstWithin numbered_text name (first * 65536) (end * 65536) None
+  pub none_within : (first end : ℕ) → ((p : ℕ) → first ≤ p → p < end → family_of p ≡ None)
+      → IsFirstWithin numbered_text name (first * 65536) (end * 65536) None
   none_within first end none = λ n ln nh e.
       let nothing = none (n / 65536) (omega (arith, ln)) (omega (arith, nh)) in
       none_some name (sym (ap (λ o. numbered_by o (n % 65536)) nothing) ∙ e)
 
   -- pages of vendors have the same names, and none lies behind them
-  pub vendor_last : (r : Option ℕ) → IsOnlyNamed (numbered_name Vendor) name r → IsFirstNamed numbered_text name (65280 * 65536) (at 65280 r)
+  pub vendor_last : (r : Option ℕ) → IsOnlyNamed (numbered_name Vendor) name r
+      → IsFirstNamed numbered_text name (65280 * 65536) (at 65280 r)
   vendor_last None h = λ n ln e. elim (cases_lt (n / 65536) 65536) [
     | inl inside ↦ h (n % 65536) (omega arith) (sym (ap (λ o. numbered_by o (n % 65536)) (vendor_family (n / 65536) (omega (arith, ln)) inside)) ∙ e)
     | inr past ↦ none_some name (sym (ap (λ o. numbered_by o (n % 65536)) (past_family (n / 65536) past)) ∙ e)
@@ -137,7 +147,10 @@ module _ (name : List ℕ) where
   )
 
   -- the five pages in their order
-  pub first_of_pages : (a b c d e : Option ℕ) → IsOnlyNamed (numbered_name Button) name a → IsOnlyNamed (numbered_name Instance) name b → IsOnlyNamed (numbered_name CodeUnit) name c → IsOnlyNamed (numbered_name Enumerated) name d → IsOnlyNamed (numbered_name Vendor) name e → IsFirstNamed numbered_text name 0 (option_or (option_or (option_or (option_or (at 9 a) (at 10 b)) (at 16 c)) (at 129 d)) (at 65280 e))
+  pub first_of_pages : (a b c d e : Option ℕ) → IsOnlyNamed (numbered_name Button) name a
+      → IsOnlyNamed (numbered_name Instance) name b → IsOnlyNamed (numbered_name CodeUnit) name c
+      → IsOnlyNamed (numbered_name Enumerated) name d → IsOnlyNamed (numbered_name Vendor) name e
+      → IsFirstNamed numbered_text name 0 (option_or (option_or (option_or (option_or (at 9 a) (at 10 b)) (at 16 c)) (at 129 d)) (at 65280 e))
   first_of_pages a b c d e ha hb hc hd he =
       let f = numbered_text in
       let page9 = or_within f name 0 (9 * 65536) (10 * 65536) None (at 9 a) (omega arith) (omega arith) (none_within 0 9 below_9) (only_within 9 Button a refl ha) in
@@ -150,7 +163,10 @@ module _ (name : List ℕ) where
       or_last f name 0 (130 * 65536) (option_or (option_or (option_or (at 9 a) (at 10 b)) (at 16 c)) (at 129 d)) (at 65280 e) (omega arith) page129 rest
 
 -- the first of two names' numbers, where one of two rules gives each name
-pub lower_first : (f g h : ℕ → Option (List ℕ)) (name : List ℕ) (a b : Option ℕ) → ((n : ℕ) → h n ≡ Some name → (f n ≡ Some name) ⊎ (g n ≡ Some name)) → ((n : ℕ) → f n ≡ Some name → h n ≡ Some name) → ((n : ℕ) → g n ≡ Some name → h n ≡ Some name) → IsFirstNamed f name 0 a → IsFirstNamed g name 0 b → IsFirstNamed h name 0 (lower a b)
+pub lower_first : (f g h : ℕ → Option (List ℕ)) (name : List ℕ) (a b : Option ℕ)
+    → ((n : ℕ) → h n ≡ Some name → (f n ≡ Some name) ⊎ (g n ≡ Some name))
+    → ((n : ℕ) → f n ≡ Some name → h n ≡ Some name) → ((n : ℕ) → g n ≡ Some name → h n ≡ Some name)
+    → IsFirstNamed f name 0 a → IsFirstNamed g name 0 b → IsFirstNamed h name 0 (lower a b)
 lower_first f g h name None None from left right x y = λ n ln e. elim (from n e) [
   | inl l ↦ x n ln l
   | inr r ↦ y n ln r

@@ -1,5 +1,6 @@
 -- The names of all usages: those of the table, and those of families.
-use Rattle.std.proofs.Common.{◌≡◌, ℕ, zero, suc, ◌+◌, ◌*◌, ◌/◌, ◌%◌, ◌<◌, List, [], ◌∷◌, length, Option, Some, None, true, refl, sym, ap, ◌∙◌, arith, inl, inr}
+use Rattle.std.proofs.Common.{◌≡◌, ℕ, zero, suc, ◌+◌, ◌*◌, ◌/◌, ◌%◌, ◌<◌, List, [], ◌∷◌, length, Option, Some, None}
+use Rattle.std.proofs.Common.{true, refl, sym, ap, ◌∙◌, arith, inl, inr}
 use Rattle.std.specs.Prelude.{is_none, ◌⊎◌}
 use Rattle.std.proofs.lemmas.Bool.{and_parts}
 use mathlib.Core.Bool.{false≢true}
@@ -18,7 +19,8 @@ is_none-None : {A : Type 0} (o : Option A) → is_none o ≡ true → o ≡ None
 is_none-None None h = refl
 is_none-None (Some x) h = absurd (false≢true h)
 
-apart_at : (rows : List Row) → are_apart rows ≡ true → (p : ℕ) → p < length rows → family_of ((row_at rows p).0 / 65536) ≡ None
+apart_at : (rows : List Row) → are_apart rows ≡ true → (p : ℕ) → p < length rows
+    → family_of ((row_at rows p).0 / 65536) ≡ None
 apart_at [] h p inside = absurd (omega arith)
 apart_at (row ∷ rows) h zero inside = is_none-None _ (and_parts (is_none (family_of (row.0 / 65536))) (are_apart rows) h).0
 apart_at (row ∷ rows) h (suc p) inside = apart_at rows (and_parts (is_none (family_of (row.0 / 65536))) (are_apart rows) h).1 p (omega arith)
@@ -33,10 +35,12 @@ pub whole : (n : ℕ) → n / 65536 * 65536 + n % 65536 ≡ n
 whole n = omega arith
 
 -- a name comes from the table or from a family
-either : (n : ℕ) (name : List ℕ) → name_of_number n ≡ Some name → (name_in usage_rows n ≡ Some name) ⊎ (numbered_text n ≡ Some name)
+either : (n : ℕ) (name : List ℕ) → name_of_number n ≡ Some name
+    → (name_in usage_rows n ≡ Some name) ⊎ (numbered_text n ≡ Some name)
 either n name h = cases (family_of (n / 65536)) refl
   where
-    cases : (o : Option Family) → o ≡ family_of (n / 65536) → (name_in usage_rows n ≡ Some name) ⊎ (numbered_text n ≡ Some name)
+    cases : (o : Option Family) → o ≡ family_of (n / 65536)
+        → (name_in usage_rows n ≡ Some name) ⊎ (numbered_text n ≡ Some name)
     cases None e = inl (ap (name_in usage_rows) (sym (whole n)) ∙ ap (λ o. name_by o (n / 65536) (n % 65536)) e ∙ h)
     cases (Some family) e =
         inr (ap (λ o. numbered_by o (n % 65536)) (sym e) ∙ ap (λ o. name_by o (n / 65536) (n % 65536)) e ∙ h)
@@ -52,5 +56,6 @@ numbered n name h = cases (family_of (n / 65536)) refl
     cases (Some family) e =
         ap (λ o. name_by o (n / 65536) (n % 65536)) (sym e) ∙ ap (λ o. numbered_by o (n % 65536)) e ∙ h
 
-pub first_of_all : (name : List ℕ) (a b : Option ℕ) → IsFirstNamed (name_in usage_rows) name 0 a → IsFirstNamed numbered_text name 0 b → IsFirstNamed name_of_number name 0 (lower a b)
+pub first_of_all : (name : List ℕ) (a b : Option ℕ) → IsFirstNamed (name_in usage_rows) name 0 a
+    → IsFirstNamed numbered_text name 0 b → IsFirstNamed name_of_number name 0 (lower a b)
 first_of_all name a b = lower_first (name_in usage_rows) numbered_text name_of_number name a b (λ n. either n name) (λ n. listed n name) (λ n. numbered n name)

@@ -1,5 +1,6 @@
 -- How the rows of a table stand by name.
-use Rattle.std.proofs.Common.{◌≡◌, ℕ, zero, suc, ◌+◌, ◌/◌, ◌<◌, ◌≤◌, Bool, true, false, nat_lt, nat_eq, List, [], ◌∷◌, length, slice_index, slice_index_or, refl, sym, ap, subst, ◌∙◌, arith, inl, inr}
+use Rattle.std.proofs.Common.{◌≡◌, ℕ, zero, suc, ◌+◌, ◌/◌, ◌<◌, ◌≤◌, Bool, true, false, nat_lt, nat_eq, List, [], ◌∷◌}
+use Rattle.std.proofs.Common.{length, slice_index, slice_index_or, refl, sym, ap, subst, ◌∙◌, arith, inl, inr}
 use Rattle.std.specs.Cmp.{IsTotalOrder}
 use Rattle.std.specs.Ordering.{is_lt, ordering_then}
 use Rattle.std.specs.declared.cmp.Ordering.TheVariants.{Less, Equal, Greater}
@@ -29,7 +30,8 @@ less Greater h = absurd (false≢true h)
 less_by_page : (x y : Row) → page_order x y ≡ Less → order x y ≡ Less
 less_by_page x y h = cases (slice_cmp nat_cmp x.1 y.1) h
   where
-    cases : (o : Ordering) → ordering_then o (nat_cmp (x.0 / 65536) (y.0 / 65536)) ≡ Less → ordering_then o (nat_cmp x.0 y.0) ≡ Less
+    cases : (o : Ordering) → ordering_then o (nat_cmp (x.0 / 65536) (y.0 / 65536)) ≡ Less
+        → ordering_then o (nat_cmp x.0 y.0) ≡ Less
     cases Less e = refl
     cases Greater e = e
     cases Equal e =
@@ -38,7 +40,8 @@ less_by_page x y h = cases (slice_cmp nat_cmp x.1 y.1) h
         grind (arith, nat_tests, below)
 
 module _ (rows : List Row) where
-  places_within : (places : List ℕ) → are_places rows places ≡ true → (k : ℕ) → k < length places → slice_index places k < length rows
+  places_within : (places : List ℕ) → are_places rows places ≡ true → (k : ℕ) → k < length places
+      → slice_index places k < length rows
   places_within [] h k inside = absurd (omega arith)
   places_within (p ∷ places) h zero inside =
       let parts = and_parts (nat_lt p (length rows)) (are_places rows places) h in
@@ -47,7 +50,8 @@ module _ (rows : List Row) where
       places_within places (and_parts (nat_lt p (length rows)) (are_places rows places) h).1 k (omega arith)
 
   -- each row that stands behind x is above it
-  above : (x : Row) (places : List ℕ) → stand_from x rows places ≡ true → (k : ℕ) → k < length places → page_order x (row_at rows (slice_index places k)) ≡ Less
+  above : (x : Row) (places : List ℕ) → stand_from x rows places ≡ true → (k : ℕ) → k < length places
+      → page_order x (row_at rows (slice_index places k)) ≡ Less
   above x [] h k inside = absurd (omega arith)
   above x (p ∷ places) h zero inside =
       less _ (and_parts (is_lt (page_order x (row_at rows p))) (stand_from (row_at rows p) rows places) h).0
@@ -55,7 +59,8 @@ module _ (rows : List Row) where
       let parts = and_parts (is_lt (page_order x (row_at rows p))) (stand_from (row_at rows p) rows places) h in
       page_order_total.trans x (row_at rows p) (row_at rows (slice_index places k)) (less _ parts.0) (above (row_at rows p) places parts.1 k (omega arith))
 
-  stand_rising : (x : Row) (places : List ℕ) → stand_from x rows places ≡ true → (i j : ℕ) → i < j → j < length places → page_order (row_at rows (slice_index places i)) (row_at rows (slice_index places j)) ≡ Less
+  stand_rising : (x : Row) (places : List ℕ) → stand_from x rows places ≡ true → (i j : ℕ) → i < j
+      → j < length places → page_order (row_at rows (slice_index places i)) (row_at rows (slice_index places j)) ≡ Less
   stand_rising x [] h i j below inside = absurd (omega arith)
   stand_rising x (p ∷ places) h zero zero below inside = absurd (omega arith)
   stand_rising x (p ∷ places) h zero (suc j) below inside =
@@ -72,7 +77,8 @@ module _ (places : List ℕ) where
     | inr outside ↦ absurd (omega (arith, sym (get_or_past places k (suc n) outside) ∙ h))
   ]
 
-  ranked : (n : ℕ) (ranks : List ℕ) → rank_from places n ranks ≡ true → (p : ℕ) → p < length ranks → (k : ℕ) × (k < length places) × (slice_index places k ≡ n + p)
+  ranked : (n : ℕ) (ranks : List ℕ) → rank_from places n ranks ≡ true → (p : ℕ) → p < length ranks
+      → (k : ℕ) × (k < length places) × (slice_index places k ≡ n + p)
   ranked n [] h p inside = absurd (omega arith)
   ranked n (rank ∷ ranks) h zero inside =
       let parts = and_parts (nat_eq (slice_index_or places rank (suc n)) n) (rank_from places (suc n) ranks) h in
@@ -83,7 +89,9 @@ module _ (places : List ℕ) where
       let later = ranked (suc n) ranks parts.1 p (omega arith) in
       (later.0, later.1, omega (arith, later.2))
 
-pub IsNameOrder-from_tests : (rows : List Row) (places ranks : List ℕ) → are_places rows places ≡ true → stand_from (0, []) rows places ≡ true → rank_from places 0 ranks ≡ true → length ranks ≡ length rows → IsNameOrder rows places
+pub IsNameOrder-from_tests : (rows : List Row) (places ranks : List ℕ) → are_places rows places ≡ true
+    → stand_from (0, []) rows places ≡ true → rank_from places 0 ranks ≡ true → length ranks ≡ length rows
+    → IsNameOrder rows places
 IsNameOrder-from_tests rows places ranks within stand ranks_fit long = record {
   within = places_within rows places within;
   rising = λ i j below inside. less_by_page (row_at rows (slice_index places i)) (row_at rows (slice_index places j)) (stand_rising rows (0, []) places stand i j below inside);
@@ -102,13 +110,15 @@ not_less x y key below h = cases (is_lt (order y key)) refl
 -- a step of a bisection: all rows up to one that stands before a row do so, and all from one that
 -- doesn't do not
 module _ (rows : List Row) (places : List ℕ) (stands : IsNameOrder rows places) (key : Row) (m : ℕ) (inside : m < length places) where
-  pub before_more : is_lt (order (row_at rows (slice_index places m)) key) ≡ true → (k : ℕ) → k < m + 1 → order (row_at rows (slice_index places k)) key ≡ Less
+  pub before_more : is_lt (order (row_at rows (slice_index places m)) key) ≡ true → (k : ℕ) → k < m + 1
+      → order (row_at rows (slice_index places k)) key ≡ Less
   before_more h k up_to = elim (cases_lt k m) [
     | inl earlier ↦ order_total.trans (row_at rows (slice_index places k)) (row_at rows (slice_index places m)) key (stands.rising k m earlier inside) (less _ h)
     | inr here ↦ let e : m ≡ k = omega (arith, here, up_to) in subst (λ n. order (row_at rows (slice_index places n)) key ≡ Less) e (less _ h)
   ]
 
-  pub behind_more : is_lt (order (row_at rows (slice_index places m)) key) ≡ false → (k : ℕ) → m ≤ k → k < length places → is_lt (order (row_at rows (slice_index places k)) key) ≡ false
+  pub behind_more : is_lt (order (row_at rows (slice_index places m)) key) ≡ false → (k : ℕ) → m ≤ k
+      → k < length places → is_lt (order (row_at rows (slice_index places k)) key) ≡ false
   behind_more h k from within = elim (cases_lt m k) [
     | inl later ↦ not_less (row_at rows (slice_index places m)) (row_at rows (slice_index places k)) key (stands.rising m k later within) h
     | inr here ↦ let e : m ≡ k = omega (arith, here, from) in subst (λ n. is_lt (order (row_at rows (slice_index places n)) key) ≡ false) e h

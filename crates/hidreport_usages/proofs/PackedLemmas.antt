@@ -1,5 +1,6 @@
 -- What the tests of a table say of it.
-use Rattle.std.proofs.Common.{◌≡◌, ℕ, zero, suc, ◌+◌, ◌-◌, ◌<◌, ◌≤◌, true, nat_lt, nat_le, List, [], ◌∷◌, length, drop, map, slice_index, get_or, refl, sym, ap, ◌∙◌, arith}
+use Rattle.std.proofs.Common.{◌≡◌, ℕ, zero, suc, ◌+◌, ◌-◌, ◌<◌, ◌≤◌, true, nat_lt, nat_le, List, [], ◌∷◌, length}
+use Rattle.std.proofs.Common.{drop, map, slice_index, get_or, refl, sym, ap, ◌∙◌, arith}
 use Rattle.std.specs.Prelude.{IsAscii}
 use Rattle.std.proofs.lemmas.Bool.{and_parts}
 use Rattle.std.proofs.lemmas.Bool.Decides.{nat_tests}
@@ -39,12 +40,14 @@ module _ (last : ℕ) where
       let parts = and_parts (nat_le n e) (ends_rise e ends last) h in
       grind (arith, nat_tests, parts.0, first_below_last e ends parts.1)
 
-  ends_within : (n : ℕ) (ends : List ℕ) → ends_rise n ends last ≡ true → (k : ℕ) → k < length ends → slice_index ends k ≤ last
+  ends_within : (n : ℕ) (ends : List ℕ) → ends_rise n ends last ≡ true → (k : ℕ) → k < length ends
+      → slice_index ends k ≤ last
   ends_within n [] h k inside = absurd (omega arith)
   ends_within n (e ∷ ends) h zero inside = first_below_last e ends (and_parts (nat_le n e) (ends_rise e ends last) h).1
   ends_within n (e ∷ ends) h (suc k) inside = ends_within e ends (and_parts (nat_le n e) (ends_rise e ends last) h).1 k (omega arith)
 
-  ends_follow : (n : ℕ) (ends : List ℕ) → ends_rise n ends last ≡ true → (k : ℕ) → k + 1 < length ends → slice_index ends k ≤ slice_index ends (k + 1)
+  ends_follow : (n : ℕ) (ends : List ℕ) → ends_rise n ends last ≡ true → (k : ℕ) → k + 1 < length ends
+      → slice_index ends k ≤ slice_index ends (k + 1)
   ends_follow n [] h k inside = absurd (omega arith)
   ends_follow n (e ∷ []) h k inside = absurd (omega arith)
   ends_follow n (e ∷ f ∷ ends) h zero inside =
@@ -53,7 +56,8 @@ module _ (last : ℕ) where
   ends_follow n (e ∷ f ∷ ends) h (suc k) inside = let s : suc k + 1 ≡ suc (k + 1) = omega arith in
       rw s (ends_follow e (f ∷ ends) (and_parts (nat_le n e) (ends_rise e (f ∷ ends) last) h).1 k (omega arith))
 
-pub HasPieces-from_tests : (text ends : List ℕ) → are_plain text ≡ true → ends_rise 0 ends (length text) ≡ true → HasPieces text ends
+pub HasPieces-from_tests : (text ends : List ℕ) → are_plain text ≡ true → ends_rise 0 ends (length text) ≡ true
+    → HasPieces text ends
 HasPieces-from_tests text ends plain rise = record {
   plain = IsAscii-from_test text plain;
   rise = ends_follow (length text) 0 ends rise;
@@ -61,7 +65,8 @@ HasPieces-from_tests text ends plain rise = record {
 }
 
 -- the pieces that are cut off one by one lie between two ends
-pub cut_at : (text : List ℕ) (from : ℕ) (ends : List ℕ) → ends_rise from ends (length text) ≡ true → (k : ℕ) → k < length ends → get_or (cut from ends (drop from text)) k [] ≡ piece text (from ∷ ends) k
+pub cut_at : (text : List ℕ) (from : ℕ) (ends : List ℕ) → ends_rise from ends (length text) ≡ true → (k : ℕ)
+    → k < length ends → get_or (cut from ends (drop from text)) k [] ≡ piece text (from ∷ ends) k
 cut_at text from [] h k inside = absurd (omega arith)
 cut_at text from (e ∷ ends) h zero inside = refl
 cut_at text from (e ∷ ends) h (suc k) inside =
@@ -71,7 +76,9 @@ cut_at text from (e ∷ ends) h (suc k) inside =
     rw s (ap (λ rest. get_or (cut e ends rest) k []) there ∙ cut_at text e ends parts.1 k (omega arith))
 
 -- so the piece at each place is that of the row there
-pub named_at : (rows : List Row) (text ends : List ℕ) → cut 0 ends text ≡ map (λ row. row.1) rows → ends_rise 0 ends (length text) ≡ true → length ends ≡ length rows → (k : ℕ) → k < length rows → piece text (0 ∷ ends) k ≡ (row_at rows k).1
+pub named_at : (rows : List Row) (text ends : List ℕ) → cut 0 ends text ≡ map (λ row. row.1) rows
+    → ends_rise 0 ends (length text) ≡ true → length ends ≡ length rows → (k : ℕ) → k < length rows
+    → piece text (0 ∷ ends) k ≡ (row_at rows k).1
 named_at rows text ends same rise long k inside =
     sym (cut_at text 0 ends rise k (omega (arith, long)))
     ∙ ap (λ names. get_or names k []) same

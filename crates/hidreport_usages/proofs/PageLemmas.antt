@@ -1,5 +1,6 @@
 -- The names of pages: those of the table, and those of vendors.
-use Rattle.std.proofs.Common.{◌≡◌, ◌≢◌, ℕ, zero, suc, ◌<◌, ◌≤◌, List, [], ◌∷◌, ◌++◌, length, slice_index, Option, Some, None, true, ◌&&◌, sym, ap, ◌∙◌, arith, inl, inr}
+use Rattle.std.proofs.Common.{◌≡◌, ◌≢◌, ℕ, zero, suc, ◌<◌, ◌≤◌, List, [], ◌∷◌, ◌++◌, length, slice_index, Option}
+use Rattle.std.proofs.Common.{Some, None, true, ◌&&◌, sym, ap, ◌∙◌, arith, inl, inr}
 use Rattle.std.specs.Prelude.{nat_lt, not, ◌==◌, codes}
 use Rattle.std.proofs.lemmas.Bool.{and_parts, cases_lt}
 use Rattle.std.proofs.lemmas.Bool.Decides.{nat_tests}
@@ -14,7 +15,8 @@ use Rattle.hidreport_usages.proofs.FamilyLemmas.{none_some, same_some}
 use Rattle.hidreport_usages.proofs.LookupLemmas.{name_in-row, one_on_page}
 use Rattle.hidreport_usages.proofs.PageTable.{apart, by_name}
 
-no_vendor_at : (rows : List Row) → are_no_vendors rows ≡ true → (p : ℕ) → p < length rows → ((row_at rows p).0 < 65280) × (slice_index (row_at rows p).1 6 ≢ 45)
+no_vendor_at : (rows : List Row) → are_no_vendors rows ≡ true → (p : ℕ) → p < length rows
+    → ((row_at rows p).0 < 65280) × (slice_index (row_at rows p).1 6 ≢ 45)
 no_vendor_at [] h p inside = absurd (omega arith)
 no_vendor_at (row ∷ rows) h zero inside =
     let parts = and_parts (nat_lt row.0 65280 && not (slice_index row.1 6 == 45)) (are_no_vendors rows) h in
@@ -42,10 +44,12 @@ above n l h = grind (arith, nat_tests, l, h)
 vendor : (n : ℕ) → 65280 ≤ n → n < 65536 → vendor_name n ≡ Some (codes "Vendor-defined " ++ four_digits n)
 vendor n l h = grind (arith, nat_tests, l, h)
 
-pub listed_only : (name : List ℕ) (p : ℕ) → p < 65536 → IsFirstNamed (name_in page_rows) name 0 (Some p) → IsOnlyNamed (name_in page_rows) name (Some p)
+pub listed_only : (name : List ℕ) (p : ℕ) → p < 65536 → IsFirstNamed (name_in page_rows) name 0 (Some p)
+    → IsOnlyNamed (name_in page_rows) name (Some p)
 listed_only name p inside h = (inside, h.1, λ n small e. one_on_page page_rows PAGE_PLACES by_name name n p e h.1 (omega (arith, small, inside)))
 
-pub lift_listed : (name : List ℕ) (p : ℕ) → IsOnlyNamed (name_in page_rows) name (Some p) → IsOnlyNamed page_name name (Some p)
+pub lift_listed : (name : List ℕ) (p : ℕ) → IsOnlyNamed (name_in page_rows) name (Some p)
+    → IsOnlyNamed page_name name (Some p)
 lift_listed name p h =
     let at = listed_below p name h.1 in (
       h.0,
@@ -58,7 +62,8 @@ lift_listed name p h =
       ],
     )
 
-pub lift_vendor : (name : List ℕ) (r : Option ℕ) → IsOnlyNamed (name_in page_rows) name None → IsOnlyNamed vendor_name name r → IsOnlyNamed page_name name r
+pub lift_vendor : (name : List ℕ) (r : Option ℕ) → IsOnlyNamed (name_in page_rows) name None
+    → IsOnlyNamed vendor_name name r → IsOnlyNamed page_name name r
 lift_vendor name None none h = λ n inside e. elim (cases_lt n 65280) [
   | inl low ↦ none n inside (sym (below n low) ∙ e)
   | inr high ↦ h n inside (sym (above n high inside) ∙ e)
@@ -78,7 +83,9 @@ lift_vendor name (Some p) none h = (
       | inr high ↦ above p high h.0 ∙ h.1
     ]
 
-pub no_vendor_name : (name : List ℕ) → ((n : ℕ) → n < 65536 → Some (codes "Vendor-defined " ++ four_digits n) ≡ Some name → ⊥) → (n : ℕ) → n < 65536 → vendor_name n ≡ Some name → ⊥
+pub no_vendor_name : (name : List ℕ) → ((n : ℕ) → n < 65536
+    → Some (codes "Vendor-defined " ++ four_digits n) ≡ Some name → ⊥) → (n : ℕ) → n < 65536
+    → vendor_name n ≡ Some name → ⊥
 no_vendor_name name none n inside e = elim (cases_lt n 65280) [
   | inl low ↦ none_some name (sym (no_vendor n low) ∙ e)
   | inr high ↦ none n inside (sym (vendor n high inside) ∙ e)

@@ -3,7 +3,8 @@ use Rattle.std.proofs.Common.{◌≡◌, ◌<◌, refl, ℕ, suc, true, map, dro
 use Rattle.hidreport_usages.specs.Rows.{row_at, IsNameOrder}
 use Rattle.hidreport_usages.specs.Packed.{HasPieces, Rises, piece}
 use Rattle.hidreport_usages.specs.UsageRows.{usage_rows}
-use Rattle.hidreport_usages.specs.declared.usage_table.TheConstants.{USAGE_NUMBERS, USAGE_ENDS, USAGE_TEXT, USAGE_PLACES}
+use Rattle.hidreport_usages.specs.declared.usage_table.TheConstants.{USAGE_NUMBERS, USAGE_ENDS, USAGE_TEXT}
+use Rattle.hidreport_usages.specs.declared.usage_table.TheConstants.{USAGE_PLACES}
 use Rattle.hidreport_usages.proofs.Checks.{are_apart}
 use Rattle.hidreport_usages.proofs.PackedLemmas.{Rises-from_test, HasPieces-from_tests, named_at}
 use Rattle.hidreport_usages.proofs.OrderLemmas.{IsNameOrder-from_tests}

@@ -1,5 +1,6 @@
 -- Pages whose usages are numbered without end, and have their names by a rule.
-use Rattle.std.specs.Prelude.{ℕ, ◌==◌, ◌&&◌, nat_le, nat_lt, if◌then◌else◌, List, ◌++◌, codes, decimal}
+use Rattle.std.specs.Prelude.{ℕ, ◌==◌, ◌&&◌, nat_le, nat_lt, if◌then◌else◌, List, ◌++◌, codes}
+use Rattle.std.specs.Prelude.{decimal}
 use Rattle.std.specs.Prelude.{Option, Some, None}
 use Rattle.hidreport_usages.specs.Digits.{four_digits}
 use Rattle.hidreport_usages.specs.declared.family.Family.{Family}

@@ -8,12 +8,14 @@ use Rattle.hidreport_items.specs.declared.main_item.MainItem.TheVariants.{Input,
 use Rattle.hidreport_items.specs.declared.main_item.MainItem.TheVariants.{Collection, EndCollection}
 use Rattle.hidreport_items.specs.declared.main_item.CollectionItem.{CollectionItem}
 use Rattle.hidreport_items.specs.declared.main_item.CollectionItem.TheVariants.{Physical, Report}
-use Rattle.hidreport_items.specs.declared.main_item.CollectionItem.TheVariants.{Application, Logical}
+use Rattle.hidreport_items.specs.declared.main_item.CollectionItem.TheVariants.{Application}
+use Rattle.hidreport_items.specs.declared.main_item.CollectionItem.TheVariants.{Logical}
 use Rattle.hidreport_items.specs.declared.main_item.CollectionItem.TheVariants.{NamedArray}
 use Rattle.hidreport_items.specs.declared.main_item.CollectionItem.TheVariants.{UsageSwitch}
 use Rattle.hidreport_items.specs.declared.main_item.CollectionItem.TheVariants.{UsageModifier}
 use Rattle.hidreport_items.specs.declared.main_item.CollectionItem.TheVariants.{VendorDefined}
-use Rattle.hidreport_items.specs.declared.main_item.CollectionItem.TheVariants.{Reserved as ReservedKind}
+use Rattle.hidreport_items.specs.declared.main_item.CollectionItem.TheVariants.{}
+use Rattle.hidreport_items.specs.declared.main_item.CollectionItem.TheVariants as Kinds
 use Rattle.hidreport_items.specs.declared.global.GlobalItem.{GlobalItem}
 use Rattle.hidreport_items.specs.declared.global.GlobalItem.TheVariants.{UsagePage, LogicalMinimum}
 use Rattle.hidreport_items.specs.declared.global.GlobalItem.TheVariants.{LogicalMaximum}
@@ -89,7 +91,7 @@ collection_name Report = codes "Report"
 collection_name NamedArray = codes "Named Array"
 collection_name UsageSwitch = codes "Usage Switch"
 collection_name UsageModifier = codes "Usage Modifier"
-collection_name (ReservedKind n) = codes "Reserved"
+collection_name (Kinds.Reserved n) = codes "Reserved"
 collection_name (VendorDefined n) = codes "Vendor-defined"
 
 abbrev pub system_name : UnitSystem → List ℕ

@@ -1,5 +1,6 @@
 -- The names of usage pages and usages (HID 1.11, Sections 5.5 and 6.2.2.7; HID Usage Tables 1.5).
-use Rattle.std.specs.Prelude.{ℕ, Bool, ◌+◌, ◌*◌, ◌/◌, ◌%◌, ◌&&◌, nat_le, nat_lt, if◌then◌else◌, List, ◌++◌}
+use Rattle.std.specs.Prelude.{ℕ, Bool, ◌+◌, ◌*◌, ◌/◌, ◌%◌, ◌&&◌, nat_le, nat_lt, if◌then◌else◌}
+use Rattle.std.specs.Prelude.{List, ◌++◌}
 use Rattle.std.specs.Prelude.{codes, decimal, Option, Some, None}
 use Rattle.hidreport_usages.specs.Digits.{four_digits}
 use Rattle.hidreport_usages.specs.Families.{family_of, numbered_name}
@@ -9,7 +10,8 @@ use Rattle.hidreport_usages.specs.UsageRows.{usage_rows}
 use Rattle.hidreport_usages.specs.declared.family.Family.{Family}
 use Rattle.hidreport_usages.specs.declared.usage.UsageName.{UsageName}
 use Rattle.hidreport_usages.specs.declared.usage.UsageName.TheVariants.{Listed, Button, Instance}
-use Rattle.hidreport_usages.specs.declared.usage.UsageName.TheVariants.{CodeUnit, Enumerated, Vendor}
+use Rattle.hidreport_usages.specs.declared.usage.UsageName.TheVariants.{CodeUnit, Enumerated}
+use Rattle.hidreport_usages.specs.declared.usage.UsageName.TheVariants.{Vendor}
 use Rattle.hidreport_usages.specs.declared.page.PageName.{PageName}
 use Rattle.hidreport_usages.specs.declared.page.PageName.TheVariants.{Listed as ListedPage}
 use Rattle.hidreport_usages.specs.declared.page.PageName.TheVariants.{Vendor as VendorPage}

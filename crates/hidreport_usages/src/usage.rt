@@ -180,7 +180,8 @@ fn write_counted<W: fmt::Write>(f: &mut fmt::Formatter<W>, prefix: &str, number:
 
 /// Writes a number in four hexadecimal digits behind a prefix.
 fn write_digits<W: fmt::Write>(f: &mut fmt::Formatter<W>, prefix: &str, number: u16) -> fmt::Result
-    ensures plain { WritesOnOk W.write_str_gives f.old result (prefix.now ++ four_digits number) f.new }
+    ensures plain { WritesOnOk W.write_str_gives f.old result
+        (prefix.now ++ four_digits number) f.new }
     ensures styled { WritesStyledOnOk W.write_str_gives f.old result
         (prefix.now ++ four_digits number) f.new }
 {

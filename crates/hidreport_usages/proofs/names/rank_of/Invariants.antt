@@ -9,7 +9,8 @@ invariant-loop-low g l = record {
   halves : l.low ≤ l.high;
   within : l.high ≤ length l.places;
   before : (k : ℕ) → k < l.low → order (row_at g.T.NameTable.rows (slice_index l.places k)) (l.number, l.name) ≡ Less;
-  behind : (k : ℕ) → l.high ≤ k → k < length l.places → is_lt (order (row_at g.T.NameTable.rows (slice_index l.places k)) (l.number, l.name)) ≡ false;
+  behind : (k : ℕ) → l.high ≤ k → k < length l.places
+      → is_lt (order (row_at g.T.NameTable.rows (slice_index l.places k)) (l.number, l.name)) ≡ false;
 }
 
 abbrev pub decreases-loop-low : goal.decreases-loop-low

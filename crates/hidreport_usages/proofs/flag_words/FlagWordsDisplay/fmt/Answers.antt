@@ -1,5 +1,6 @@
 use Rattle.std.proofs.Common.{refl, ap}
-use Rattle.std.proofs.Output.{has_written_append, has_written_styled_append, has_written_of_eq, has_written_styled_of_eq}
+use Rattle.std.proofs.Output.{has_written_append, has_written_styled_append, has_written_of_eq}
+use Rattle.std.proofs.Output.{has_written_styled_of_eq}
 use Rattle.hidreport_usages.specs.FlagWords.{flag_text}
 use Rattle.hidreport_usages.proofs.flag_words.FlagWordsDisplay.fmt.Goals as goal
 
