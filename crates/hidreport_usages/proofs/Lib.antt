@@ -1,0 +1,12 @@
+pub mod Checks
+pub mod DigitLemmas
+pub mod FamilyLemmas
+pub mod FirstLemmas
+pub mod LookupLemmas
+pub mod NameLemmas
+pub mod OrderLemmas
+pub mod PackedLemmas
+pub mod PageLemmas
+pub mod PageTable
+pub mod Ranks
+pub mod UsageTable

@@ -1,0 +1,10 @@
+pub mod Digits
+pub mod Families
+pub mod FlagWords
+pub mod ItemWords
+pub mod Names
+pub mod Naming
+pub mod Packed
+pub mod PageRows
+pub mod Rows
+pub mod UsageRows
