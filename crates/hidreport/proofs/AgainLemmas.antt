@@ -17,9 +17,9 @@ use Rattle.hidreport.specs.Reading.{is_signed, one_value, read_bits, reads, read
 use Rattle.hidreport.specs.Reading.{with_id}
 use Rattle.hidreport.specs.Records.{ArrayRecord, Attributes, ConstantRecord, FieldPlace, FieldRecord}
 use Rattle.hidreport.specs.Records.{VariableRecord, own_id, place_of}
-use Rattle.hidreport.specs.Writing.{Inserts, begins_in_id, bit_after, fits, has_sign, number_bit}
-use Rattle.hidreport.specs.Writing.{placed, put, value_count, value_width, where_read, written}
-use Rattle.hidreport.specs.Writing.{written_element}
+use Rattle.hidreport.specs.WritingValues.{Inserts, begins_in_id, bit_after, fits, has_sign, number_bit}
+use Rattle.hidreport.specs.WritingValues.{placed, put, value_count, value_width, where_read, written}
+use Rattle.hidreport.specs.WritingValues.{written_element}
 use Rattle.hidreport.specs.WritingLaws.{number_in, numbers_of, reads_numbers}
 use Rattle.hidreport.specs.declared.field.insert_error.InsertError.{InsertError}
 use Rattle.hidreport.specs.declared.field.insert_error.InsertError.TheVariants as refused

@@ -13,7 +13,7 @@ use Rattle.hidreport.specs.Reading.{element_width, reads, values_of, with_id}
 use Rattle.hidreport.specs.Records.{ArrayRecord, ConstantRecord, FieldRecord, ReportRecord}
 use Rattle.hidreport.specs.Records.{VariableRecord, own_id, place_of}
 use Rattle.hidreport.specs.Tiling.{Covers, Each, IsFilled, IsOf}
-use Rattle.hidreport.specs.Writing.{put}
+use Rattle.hidreport.specs.WritingValues.{put}
 use Rattle.hidreport.specs.WritingLaws.{Keeps, LeavesOthers}
 use Rattle.hidreport.proofs.KeptBitsLemmas.{put-id, put-keeps, values-kept}
 

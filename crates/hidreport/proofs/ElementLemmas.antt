@@ -7,7 +7,7 @@ use Rattle.std.proofs.lemmas.Bool.Decides.{nat_tests}
 use Rattle.hidreport_lists.specs.Answer.{Refusal, Bounds}
 use Rattle.hidreport.specs.Reading.{ValueRecord, before_values, element, each_value}
 use Rattle.hidreport.specs.Reading.{element_width}
-use Rattle.hidreport.specs.Writing.{are_readable}
+use Rattle.hidreport.specs.WritingValues.{are_readable}
 
 -- an element is refused as out of bounds alone
 test_refusal : {A : Type 0} (b : Bool) (x : A) (r : Refusal) → cond b (Err Bounds) (Ok x) ≡ Err r

@@ -13,8 +13,8 @@ use Rattle.hidreport.specs.Choosing.{value_number}
 use Rattle.hidreport.specs.Reading.{ValueRecord, element, element_of, element_width, is_signed}
 use Rattle.hidreport.specs.Reading.{read_bits, reads_element, with_id}
 use Rattle.hidreport.specs.Records.{ArrayRecord, Attributes, FieldPlace, FieldRecord, own_id, place_of}
-use Rattle.hidreport.specs.Writing.{begins_in_id, fits, has_sign, placed, put, value_width, where_read}
-use Rattle.hidreport.specs.Writing.{written_element}
+use Rattle.hidreport.specs.WritingValues.{begins_in_id, fits, has_sign, placed, put, value_width, where_read}
+use Rattle.hidreport.specs.WritingValues.{written_element}
 use Rattle.hidreport.specs.WritingLaws.{IsElementWritten, Keeps, number_in}
 use Rattle.hidreport.specs.declared.field.insert_error.InsertError.{InsertError}
 use Rattle.hidreport.specs.declared.field.insert_error.InsertError.TheVariants as refused

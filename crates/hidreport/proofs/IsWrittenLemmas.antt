@@ -16,8 +16,8 @@ use Rattle.hidreport.specs.Reading.{ValueRecord, before_values, each_value, elem
 use Rattle.hidreport.specs.Reading.{is_signed, one_value, read_bits, reads, values_of, with_id}
 use Rattle.hidreport.specs.Records.{ArrayRecord, ConstantRecord, FieldRecord, VariableRecord}
 use Rattle.hidreport.specs.Records.{own_id, place_of}
-use Rattle.hidreport.specs.Writing.{begins_in_id, bit_after, bytes_of, fits, has_sign, number_bit}
-use Rattle.hidreport.specs.Writing.{placed, put, value_count, value_width, where_read, written}
+use Rattle.hidreport.specs.WritingValues.{begins_in_id, bit_after, bytes_of, fits, has_sign, number_bit}
+use Rattle.hidreport.specs.WritingValues.{placed, put, value_count, value_width, where_read, written}
 use Rattle.hidreport.specs.WritingLaws.{IsWritten, Keeps, numbers_of, reads_numbers}
 use Rattle.hidreport.specs.declared.field.insert_error.InsertError.{InsertError}
 use Rattle.hidreport.specs.declared.field.insert_error.InsertError.TheVariants as refused

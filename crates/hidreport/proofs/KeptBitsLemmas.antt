@@ -16,7 +16,7 @@ use Rattle.hidreport.specs.Reading.{is_signed, one_value, read_bits, reads, valu
 use Rattle.hidreport.specs.Records.{ArrayRecord, ConstantRecord, FieldRecord, ReportRecord}
 use Rattle.hidreport.specs.Records.{VariableRecord, own_id, place_of}
 use Rattle.hidreport.specs.Tiling.{Covers, Each, IsFilled, IsOf}
-use Rattle.hidreport.specs.Writing.{begins_in_id, bit_after, bytes_of, number_of, put}
+use Rattle.hidreport.specs.WritingValues.{begins_in_id, bit_after, bytes_of, number_of, put}
 use Rattle.hidreport.specs.WritingLaws.{Keeps, LeavesOthers}
 use Rattle.hidreport.proofs.FixedBitsLemmas.{word-same}
 use Rattle.hidreport.proofs.PutBitsLemmas.{after-bits, after-outside}

@@ -6,7 +6,7 @@ use Rattle.std.proofs.lemmas.Bool.Decides.{nat_tests}
 use Rattle.std.proofs.lemmas.Int.{ints}
 use Rattle.std.proofs.lemmas.Nat.{pow_pos}
 use Rattle.hidreport.specs.Standing.{is_null, null_number}
-use Rattle.hidreport.specs.Writing.{fits}
+use Rattle.hidreport.specs.WritingValues.{fits}
 
 -- where 0, the number below and the one above aren't null, none is
 pub null-complete : (w : ℕ) (low high n : ℤ)

@@ -21,7 +21,7 @@ use Rattle.std.proofs.lemmas.Nat.Bits.{bit_at_ones_above}
 use Rattle.hidreport_items.specs.Numbers.{word}
 use Rattle.hidreport_items.specs.Spelling.{AreBytes}
 use Rattle.hidreport.specs.BitValue.{bit}
-use Rattle.hidreport.specs.Writing.{bit_after, bytes_of, number_bit, put}
+use Rattle.hidreport.specs.WritingValues.{bit_after, bytes_of, number_bit, put}
 use Rattle.hidreport.proofs.BitLemmas.{bit-small, power-fits}
 use Rattle.hidreport.proofs.WordLemmas.{bit-from, word-bit}
 use Rattle.hidreport.proofs.WrittenBitsLemmas.{AreBits, bytes-same}

@@ -14,7 +14,7 @@ use Rattle.hidreport.specs.BitValue.{as_word, bit, value}
 use Rattle.hidreport.specs.Choosing.{value_number}
 use Rattle.hidreport.specs.Reading.{ValueRecord, before_values, each_value, element, element_width}
 use Rattle.hidreport.specs.Reading.{one_value, read_bits, with_id}
-use Rattle.hidreport.specs.Writing.{are_readable, bit_after, fits, number_bit, put}
+use Rattle.hidreport.specs.WritingValues.{are_readable, bit_after, fits, number_bit, put}
 use Rattle.hidreport.specs.WritingLaws.{numbers_of}
 use Rattle.hidreport.proofs.PutBitsLemmas.{after-inside}
 use Rattle.hidreport.proofs.PutValuesLemmas.{length-put, put-bit}

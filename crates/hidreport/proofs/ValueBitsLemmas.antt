@@ -11,7 +11,7 @@ use Rattle.std.proofs.lemmas.Nat.{pow_pos}
 use Rattle.std.proofs.lemmas.Nat.Bits.{bit_at_above, bit_at-lt, same_from_bits_below}
 use Rattle.hidreport.specs.BitValue.{as_word, bit, sum_of_bits, value}
 use Rattle.hidreport.specs.Choosing.{value_number}
-use Rattle.hidreport.specs.Writing.{fits, number_bit, number_of}
+use Rattle.hidreport.specs.WritingValues.{fits, number_bit, number_of}
 use Rattle.hidreport.proofs.BitLemmas.{bit-small, sum-small, zero-or-one}
 use Rattle.hidreport.proofs.WrittenBitsLemmas.{AreBits, number-bit, number-small}
 

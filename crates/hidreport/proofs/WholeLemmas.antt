@@ -12,7 +12,7 @@ use Rattle.hidreport.specs.Bits.{covered_bits}
 use Rattle.hidreport.specs.Reading.{reads}
 use Rattle.hidreport.specs.Records.{FieldRecord, ReportRecord, place_of}
 use Rattle.hidreport.specs.Tiling.{IsFilled}
-use Rattle.hidreport.specs.Writing.{bit_after, bytes_of, put, value_width, written}
+use Rattle.hidreport.specs.WritingValues.{bit_after, bytes_of, put, value_width, written}
 use Rattle.hidreport.specs.WritingLaws.{AllRead, IsWhole, IsWritten, Keeps, SamePadding, numbers_of}
 use Rattle.hidreport.specs.WritingLaws.{reads_numbers, then_written, written_all}
 use Rattle.hidreport.specs.declared.field.insert_error.InsertError.{InsertError}

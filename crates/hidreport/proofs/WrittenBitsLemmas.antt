@@ -15,7 +15,7 @@ use Rattle.std.proofs.lemmas.Nat.Bits.{bit_at-zero, bit_at_and, bit_at_or, bit_a
 use Rattle.std.proofs.lemmas.Nat.Bits.{bit_at_ones_above, same_from_bits_below}
 use Rattle.hidreport_items.specs.Spelling.{AreBytes}
 use Rattle.hidreport.specs.BitValue.{bit}
-use Rattle.hidreport.specs.Writing.{bit_after, bytes_of, number_bit, number_of, put}
+use Rattle.hidreport.specs.WritingValues.{bit_after, bytes_of, number_bit, number_of, put}
 use Rattle.hidreport.proofs.BitLemmas.{bit-small, bit_added, power-fits}
 
 -- bits below 2
