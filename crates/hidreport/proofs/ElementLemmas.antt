@@ -1,6 +1,6 @@
 -- The elements of an array, one after the other.
 use Rattle.std.proofs.Common.{◌≡◌, ℕ, zero, suc, ◌+◌, ◌-◌, ◌*◌, ◌<◌, ◌≤◌, Bool, true, false, cond}
-use Rattle.std.proofs.Common.{◌||◌, nat_le, nat_lt, IsOk, is_ok, List, [], ◌∷◌, ◌++◌, length}
+use Rattle.std.proofs.Common.{◌||◌, nat_le, nat_lt, IsOk, List, [], ◌∷◌, ◌++◌, length}
 use Rattle.std.proofs.Common.{not, Result, Ok, Err, refl, ap, sym, ◌∙◌, arith}
 use Rattle.std.proofs.Math.Nat.{mul-le-mul_left}
 use Rattle.std.proofs.lemmas.Bool.Decides.{nat_tests}

@@ -1,5 +1,5 @@
 -- The laws of a write, by its definition.
-use Rattle.std.proofs.Common.{◌≡◌, ◌≢◌, ℕ, ℤ, Bool, List, Result, Ok, Err, OnOk, refl, sym, ap, arith}
+use Rattle.std.proofs.Common.{◌≡◌, ◌≢◌, ℕ, ℤ, Bool, List, Result, Ok, Err, OnOk}
 use Rattle.hidreport_items.specs.Spelling.{AreBytes}
 use Rattle.hidreport.specs.Reading.{reads_element}
 use Rattle.hidreport.specs.Records.{ArrayRecord, Attributes, FieldPlace, FieldRecord}

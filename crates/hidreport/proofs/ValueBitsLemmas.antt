@@ -1,7 +1,7 @@
 -- Values and their bits in two's complement.
 use Rattle.std.proofs.Common.{◌≡◌, ℕ, zero, suc, ◌+◌, ◌-◌, ◌*◌, ◌^◌, ◌<◌, ◌≤◌, ◌⊎◌, inl, inr, Bool, true}
 use Rattle.std.proofs.Common.{false, nat_lt, ℤ, pos, negsuc, ◌-ℤ◌, List, refl, sym, ap, subst, ◌∙◌, arith}
-use Rattle.std.proofs.Common.{to_z, of_z, FitsSigned}
+use Rattle.std.proofs.Common.{FitsSigned}
 use Rattle.std.specs.Int.{bit_at, w32, cast_signed}
 use Rattle.std.proofs.Math.Nat.{two-pow-succ}
 use Rattle.std.proofs.Math.Pow.{pow_mono}
