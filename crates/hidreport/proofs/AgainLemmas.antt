@@ -1,25 +1,24 @@
 -- What was read, written again.
 use Rattle.std.proofs.Common.{◌≡◌, ◌≢◌, ◌⊎◌, inl, inr, ℕ, zero, suc, ◌+◌, ◌-◌, ◌*◌, ◌/◌, ◌%◌, ◌^◌, ◌<◌}
-use Rattle.std.proofs.Common.{◌≤◌, Bool, true, false, cond, ◌&&◌, ◌||◌, ◌==◌, nat_lt, nat_le, List, []}
-use Rattle.std.proofs.Common.{◌∷◌, length, get_or, Option, Some, None, Result, Ok, Err, IsOk, map, refl, sym}
-use Rattle.std.proofs.Common.{ap, subst, ◌∙◌, arith, ℤ, pos, negsuc, ◌-ℤ◌}
+use Rattle.std.proofs.Common.{◌≤◌, Bool, true, false, cond, ◌&&◌, ◌==◌, nat_lt, List, []}
+use Rattle.std.proofs.Common.{◌∷◌, length, get_or, Option, Result, Ok, Err, IsOk, map, refl, sym}
+use Rattle.std.proofs.Common.{ap, subst, ◌∙◌, arith, ℤ, pos, ◌-ℤ◌}
 use Rattle.std.specs.List.{list_all}
 use Rattle.std.proofs.Math.Nat.{div-add-mod, div-lt_iff_lt-mul, mod-lt, mul_comm}
 use Rattle.std.proofs.lemmas.Bool.Decides.{nat_tests}
-use Rattle.std.proofs.lemmas.Int.{ints}
 use Rattle.std.proofs.lemmas.Nat.{pow_pos}
 use Rattle.hidreport_items.specs.Spelling.{AreBytes}
-use Rattle.hidreport_lists.specs.Answer.{Refusal, Bounds, Mismatch}
-use Rattle.hidreport.specs.BitValue.{as_word, bit, sum_of_bits, value}
+use Rattle.hidreport_lists.specs.Answer.{Refusal, Bounds}
+use Rattle.hidreport.specs.BitValue.{bit, sum_of_bits, value}
 use Rattle.hidreport.specs.Choosing.{value_number}
 use Rattle.hidreport.specs.Reading.{ValueRecord, before_values, each_value, element, element_width}
 use Rattle.hidreport.specs.Reading.{is_signed, one_value, read_bits, reads, reads_element, values_of}
 use Rattle.hidreport.specs.Reading.{with_id}
 use Rattle.hidreport.specs.Records.{ArrayRecord, Attributes, ConstantRecord, FieldPlace, FieldRecord}
 use Rattle.hidreport.specs.Records.{VariableRecord, own_id, place_of}
-use Rattle.hidreport.specs.Writing.{Inserts, begins_in_id, bit_after, fits, has_sign, number_bit}
-use Rattle.hidreport.specs.Writing.{placed, put, value_count, value_width, where_read, written}
-use Rattle.hidreport.specs.Writing.{written_element}
+use Rattle.hidreport.specs.WritingValues.{Inserts, begins_in_id, bit_after, fits, has_sign, number_bit}
+use Rattle.hidreport.specs.WritingValues.{put, value_count, value_width, where_read, written}
+use Rattle.hidreport.specs.WritingValues.{written_element}
 use Rattle.hidreport.specs.WritingLaws.{number_in, numbers_of, reads_numbers}
 use Rattle.hidreport.specs.declared.field.insert_error.InsertError.{InsertError}
 use Rattle.hidreport.specs.declared.field.insert_error.InsertError.TheVariants as refused
@@ -28,7 +27,7 @@ use Rattle.hidreport.proofs.BitLemmas.{bit-small, sum-small, zero-or-one}
 use Rattle.hidreport.proofs.IsElementLemmas.{parts-by}
 use Rattle.hidreport.proofs.IsWrittenLemmas.{room-of, written-parts}
 use Rattle.hidreport.proofs.PutBitsLemmas.{Placed, after-bits, after-inside, after-outside, place-of}
-use Rattle.hidreport.proofs.ReadBackLemmas.{id-passes, readable}
+use Rattle.hidreport.proofs.ReadBackLemmas.{id-passes}
 use Rattle.hidreport.proofs.ValueBitsLemmas.{number-read, top-clear, top-set, value-bits}
 use Rattle.hidreport.proofs.WrittenBitsLemmas.{bytes-same}
 

@@ -1,20 +1,18 @@
 -- Fields of a report lie apart, so writing one leaves the others.
-use Rattle.std.proofs.Common.{◌≡◌, ◌≢◌, ◌⊎◌, inl, inr, ℕ, zero, suc, ◌+◌, ◌-◌, ◌*◌, ◌<◌, ◌≤◌, Bool, true}
-use Rattle.std.proofs.Common.{false, nat_lt, List, [], ◌∷◌, length, Option, Some, None, refl, sym, ap, ◌∙◌}
-use Rattle.std.proofs.Common.{arith, ℤ, Result, subst}
+use Rattle.std.proofs.Common.{◌≡◌, ◌≢◌, ◌⊎◌, inl, inr, ℕ, zero, suc, ◌+◌, ◌*◌, ◌<◌, ◌≤◌, Bool, true}
+use Rattle.std.proofs.Common.{false, nat_lt, List, [], ◌∷◌, length, Option, Some, None, refl, ap, ◌∙◌}
+use Rattle.std.proofs.Common.{arith, ℤ, subst}
 use Rattle.std.specs.Prelude.{slice_get}
-use Rattle.std.proofs.Math.Nat.{div-mul-le_self}
 use Rattle.std.proofs.lemmas.Bool.Decides.{nat_tests}
 use Rattle.std.proofs.lemmas.Grind.{common_steps}
 use Rattle.hidreport_items.specs.Spelling.{AreBytes}
-use Rattle.hidreport.specs.Bits.{covered_bits}
 use Rattle.hidreport.specs.Places.{id_bits}
-use Rattle.hidreport.specs.Reading.{element_width, reads, values_of, with_id}
-use Rattle.hidreport.specs.Records.{ArrayRecord, ConstantRecord, FieldRecord, ReportRecord}
-use Rattle.hidreport.specs.Records.{VariableRecord, own_id, place_of}
-use Rattle.hidreport.specs.Tiling.{Covers, Each, IsFilled, IsOf}
-use Rattle.hidreport.specs.Writing.{put}
-use Rattle.hidreport.specs.WritingLaws.{Keeps, LeavesOthers}
+use Rattle.hidreport.specs.Reading.{values_of, with_id}
+use Rattle.hidreport.specs.Records.{FieldRecord}
+use Rattle.hidreport.specs.Records.{own_id, place_of}
+use Rattle.hidreport.specs.Tiling.{Covers, Each, IsOf}
+use Rattle.hidreport.specs.WritingValues.{put}
+use Rattle.hidreport.specs.WritingLaws.{LeavesOthers}
 use Rattle.hidreport.proofs.KeptBitsLemmas.{put-id, put-keeps, values-kept}
 
 -- each field begins at the first bit or behind it, and has some bits

@@ -1,13 +1,13 @@
 -- The elements of an array, one after the other.
 use Rattle.std.proofs.Common.{◌≡◌, ℕ, zero, suc, ◌+◌, ◌-◌, ◌*◌, ◌<◌, ◌≤◌, Bool, true, false, cond}
-use Rattle.std.proofs.Common.{◌||◌, nat_le, nat_lt, IsOk, is_ok, List, [], ◌∷◌, ◌++◌, length}
+use Rattle.std.proofs.Common.{◌||◌, nat_le, nat_lt, IsOk, List, [], ◌∷◌, ◌++◌, length}
 use Rattle.std.proofs.Common.{not, Result, Ok, Err, refl, ap, sym, ◌∙◌, arith}
 use Rattle.std.proofs.Math.Nat.{mul-le-mul_left}
 use Rattle.std.proofs.lemmas.Bool.Decides.{nat_tests}
 use Rattle.hidreport_lists.specs.Answer.{Refusal, Bounds}
 use Rattle.hidreport.specs.Reading.{ValueRecord, before_values, element, each_value}
 use Rattle.hidreport.specs.Reading.{element_width}
-use Rattle.hidreport.specs.Writing.{are_readable}
+use Rattle.hidreport.specs.WritingValues.{are_readable}
 
 -- an element is refused as out of bounds alone
 test_refusal : {A : Type 0} (b : Bool) (x : A) (r : Refusal) → cond b (Err Bounds) (Ok x) ≡ Err r

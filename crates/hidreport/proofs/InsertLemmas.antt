@@ -1,9 +1,9 @@
 -- The laws of a write, by its definition.
-use Rattle.std.proofs.Common.{◌≡◌, ◌≢◌, ℕ, ℤ, Bool, List, Result, Ok, Err, OnOk, refl, sym, ap, arith}
+use Rattle.std.proofs.Common.{◌≡◌, ◌≢◌, ℕ, ℤ, Bool, List, Result, Ok, Err, OnOk}
 use Rattle.hidreport_items.specs.Spelling.{AreBytes}
 use Rattle.hidreport.specs.Reading.{reads_element}
 use Rattle.hidreport.specs.Records.{ArrayRecord, Attributes, FieldPlace, FieldRecord}
-use Rattle.hidreport.specs.Writing.{Inserts, written, written_element}
+use Rattle.hidreport.specs.WritingValues.{Inserts, written, written_element}
 use Rattle.hidreport.specs.WritingLaws.{IsElementWritten, IsWritten, number_in, reads_numbers}
 use Rattle.hidreport.specs.declared.field.insert_error.InsertError.{InsertError}
 use Rattle.hidreport.specs.declared.field.insert_error.InsertError.TheVariants as refused

@@ -1,20 +1,20 @@
 -- What holds of bytes that one element's value was written into.
-use Rattle.std.proofs.Common.{◌≡◌, ◌≢◌, ◌⊎◌, inl, inr, ℕ, zero, suc, ◌+◌, ◌-◌, ◌*◌, ◌<◌, ◌≤◌, Bool, true}
-use Rattle.std.proofs.Common.{false, cond, ◌&&◌, nat_lt, List, [], ◌∷◌, length, get_or, Option, Some, None}
-use Rattle.std.proofs.Common.{Result, Ok, Err, IsOk, refl, sym, ap, subst, ◌∙◌, arith, ℤ, pos}
+use Rattle.std.proofs.Common.{◌≡◌, ◌≢◌, ◌⊎◌, inl, inr, ℕ, ◌+◌, ◌-◌, ◌*◌, ◌<◌, ◌≤◌, Bool, true}
+use Rattle.std.proofs.Common.{false, cond, nat_lt, List, [], ◌∷◌, Option}
+use Rattle.std.proofs.Common.{Result, Ok, Err, IsOk, refl, sym, ap, subst, ◌∙◌, arith, ℤ}
 use Rattle.std.specs.List.{list_all}
 use Rattle.std.proofs.Math.Nat.{mul-le-mul_left}
 use Rattle.std.proofs.lemmas.Bool.Decides.{nat_tests}
 use Rattle.std.proofs.lemmas.Grind.{common_steps}
 use Rattle.hidreport_items.specs.Spelling.{AreBytes}
-use Rattle.hidreport_lists.specs.Answer.{Refusal, Bounds, Mismatch}
+use Rattle.hidreport_lists.specs.Answer.{Refusal, Bounds}
 use Rattle.hidreport.specs.BitValue.{bit}
 use Rattle.hidreport.specs.Choosing.{value_number}
-use Rattle.hidreport.specs.Reading.{ValueRecord, element, element_of, element_width, is_signed}
+use Rattle.hidreport.specs.Reading.{ValueRecord, element_width, is_signed}
 use Rattle.hidreport.specs.Reading.{read_bits, reads_element, with_id}
-use Rattle.hidreport.specs.Records.{ArrayRecord, Attributes, FieldPlace, FieldRecord, own_id, place_of}
-use Rattle.hidreport.specs.Writing.{begins_in_id, fits, has_sign, placed, put, value_width, where_read}
-use Rattle.hidreport.specs.Writing.{written_element}
+use Rattle.hidreport.specs.Records.{ArrayRecord, Attributes, FieldPlace}
+use Rattle.hidreport.specs.WritingValues.{begins_in_id, fits, placed, put, where_read}
+use Rattle.hidreport.specs.WritingValues.{written_element}
 use Rattle.hidreport.specs.WritingLaws.{IsElementWritten, Keeps, number_in}
 use Rattle.hidreport.specs.declared.field.insert_error.InsertError.{InsertError}
 use Rattle.hidreport.specs.declared.field.insert_error.InsertError.TheVariants as refused

@@ -1,23 +1,22 @@
 -- What holds of bytes that a field's values were written into.
-use Rattle.std.proofs.Common.{◌≡◌, ◌≢◌, ◌⊎◌, inl, inr, ℕ, zero, suc, ◌+◌, ◌-◌, ◌*◌, ◌/◌, ◌%◌, ◌<◌, ◌≤◌}
-use Rattle.std.proofs.Common.{Bool, true, false, cond, not, ◌&&◌, ◌||◌, ◌==◌, nat_lt, nat_le, List, [], ◌∷◌}
-use Rattle.std.proofs.Common.{length, get_or, Option, Some, None, Result, Ok, Err, IsOk, map, refl, sym, ap}
+use Rattle.std.proofs.Common.{◌≡◌, inl, inr, ℕ, ◌+◌, ◌-◌, ◌*◌, ◌<◌, ◌≤◌}
+use Rattle.std.proofs.Common.{Bool, true, false, cond, ◌==◌, List, [], ◌∷◌}
+use Rattle.std.proofs.Common.{length, get_or, Result, Ok, Err, IsOk, refl, sym, ap}
 use Rattle.std.proofs.Common.{subst, ◌∙◌, arith, ℤ, pos}
 use Rattle.std.specs.List.{list_all}
 use Rattle.std.proofs.Math.Nat.{div-mul-le_self}
 use Rattle.std.proofs.lemmas.Bool.Decides.{nat_tests}
-use Rattle.std.proofs.lemmas.Grind.{common_steps}
 use Rattle.hidreport_items.specs.Spelling.{AreBytes}
-use Rattle.hidreport_lists.specs.Answer.{Refusal, Bounds, Mismatch}
-use Rattle.hidreport.specs.BitValue.{as_word, bit, value}
+use Rattle.hidreport_lists.specs.Answer.{Refusal}
+use Rattle.hidreport.specs.BitValue.{bit}
 use Rattle.hidreport.specs.Bits.{covered_bits}
 use Rattle.hidreport.specs.Choosing.{value_number}
-use Rattle.hidreport.specs.Reading.{ValueRecord, before_values, each_value, element, element_width}
-use Rattle.hidreport.specs.Reading.{is_signed, one_value, read_bits, reads, values_of, with_id}
+use Rattle.hidreport.specs.Reading.{ValueRecord, each_value, element, element_width}
+use Rattle.hidreport.specs.Reading.{is_signed, one_value, read_bits, reads, values_of}
 use Rattle.hidreport.specs.Records.{ArrayRecord, ConstantRecord, FieldRecord, VariableRecord}
 use Rattle.hidreport.specs.Records.{own_id, place_of}
-use Rattle.hidreport.specs.Writing.{begins_in_id, bit_after, bytes_of, fits, has_sign, number_bit}
-use Rattle.hidreport.specs.Writing.{placed, put, value_count, value_width, where_read, written}
+use Rattle.hidreport.specs.WritingValues.{begins_in_id, bit_after, bytes_of, fits, has_sign}
+use Rattle.hidreport.specs.WritingValues.{placed, put, value_count, value_width, where_read, written}
 use Rattle.hidreport.specs.WritingLaws.{IsWritten, Keeps, numbers_of, reads_numbers}
 use Rattle.hidreport.specs.declared.field.insert_error.InsertError.{InsertError}
 use Rattle.hidreport.specs.declared.field.insert_error.InsertError.TheVariants as refused

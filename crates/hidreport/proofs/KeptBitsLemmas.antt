@@ -1,23 +1,19 @@
 -- What stays where numbers are put into bytes.
-use Rattle.std.proofs.Common.{◌≡◌, ◌≢◌, ◌⊎◌, inl, inr, ℕ, zero, suc, ◌+◌, ◌-◌, ◌*◌, ◌/◌, ◌%◌, ◌^◌, ◌<◌, ◌≤◌}
+use Rattle.std.proofs.Common.{◌≡◌, ◌⊎◌, inl, inr, ℕ, zero, suc, ◌+◌, ◌-◌, ◌*◌, ◌/◌, ◌%◌, ◌^◌, ◌<◌, ◌≤◌}
 use Rattle.std.proofs.Common.{Bool, true, false, cond, ◌||◌, ◌==◌, nat_le, nat_lt, List, [], ◌∷◌, length}
-use Rattle.std.proofs.Common.{get_or, Option, Some, None, Result, Ok, Err, refl, sym, ap, subst, ◌∙◌, arith, ℤ}
-use Rattle.std.specs.Prelude.{slice_index, slice_get}
+use Rattle.std.proofs.Common.{Option, Some, None, Result, Ok, Err, refl, sym, ap, ◌∙◌, arith, ℤ}
 use Rattle.std.proofs.Math.Nat.{mul-le-mul_left, div-mul-le_self, zero-div}
 use Rattle.std.proofs.lemmas.Bool.Decides.{nat_tests}
 use Rattle.std.proofs.lemmas.List.{get_or_past}
 use Rattle.hidreport_items.specs.Spelling.{AreBytes}
 use Rattle.hidreport_lists.specs.Answer.{Refusal, Bounds, Mismatch}
 use Rattle.hidreport.specs.BitValue.{as_word, bit, value}
-use Rattle.hidreport.specs.Bits.{covered_bits}
-use Rattle.hidreport.specs.Places.{id_bits}
 use Rattle.hidreport.specs.Reading.{ValueRecord, before_values, each_value, element, element_width}
-use Rattle.hidreport.specs.Reading.{is_signed, one_value, read_bits, reads, values_of, with_id}
-use Rattle.hidreport.specs.Records.{ArrayRecord, ConstantRecord, FieldRecord, ReportRecord}
-use Rattle.hidreport.specs.Records.{VariableRecord, own_id, place_of}
-use Rattle.hidreport.specs.Tiling.{Covers, Each, IsFilled, IsOf}
-use Rattle.hidreport.specs.Writing.{begins_in_id, bit_after, bytes_of, number_of, put}
-use Rattle.hidreport.specs.WritingLaws.{Keeps, LeavesOthers}
+use Rattle.hidreport.specs.Reading.{is_signed, one_value, read_bits, values_of, with_id}
+use Rattle.hidreport.specs.Records.{ArrayRecord, ConstantRecord, FieldRecord}
+use Rattle.hidreport.specs.Records.{VariableRecord, place_of}
+use Rattle.hidreport.specs.WritingValues.{begins_in_id, bit_after, number_of, put}
+use Rattle.hidreport.specs.WritingLaws.{Keeps}
 use Rattle.hidreport.proofs.FixedBitsLemmas.{word-same}
 use Rattle.hidreport.proofs.PutBitsLemmas.{after-bits, after-outside}
 use Rattle.hidreport.proofs.PutValuesLemmas.{length-put, put-bit}

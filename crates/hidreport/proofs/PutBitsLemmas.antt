@@ -1,8 +1,8 @@
 -- A word with other bits put into it, and bytes with such a word put in place.
-use Rattle.std.proofs.Common.{◌≡◌, ℕ, zero, suc, ◌+◌, ◌-◌, ◌*◌, ◌/◌, ◌%◌, ◌^◌, ◌<◌, ◌≤◌, ◌⊎◌, inl, inr}
+use Rattle.std.proofs.Common.{◌≡◌, ℕ, suc, ◌+◌, ◌-◌, ◌*◌, ◌/◌, ◌%◌, ◌^◌, ◌<◌, ◌≤◌, ◌⊎◌, inl, inr}
 use Rattle.std.proofs.Common.{Bool, true, false, cond, nat_lt, nat_le, ◌&&◌, min, max, bit_and, bit_or}
 use Rattle.std.proofs.Common.{List, [], ◌∷◌, ◌++◌, length, take, drop, refl}
-use Rattle.std.proofs.Common.{sym, ap, subst, ◌∙◌, arith, get_or, ℤ, pos, negsuc}
+use Rattle.std.proofs.Common.{sym, ap, ◌∙◌, arith, get_or, ℤ, pos, negsuc}
 use Rattle.std.specs.Prelude.{slice_index}
 use Rattle.std.specs.Int.{bit_at, bit_not, w64}
 use Rattle.std.specs.Int.Bits.{mask_lt}
@@ -21,7 +21,7 @@ use Rattle.std.proofs.lemmas.Nat.Bits.{bit_at_ones_above}
 use Rattle.hidreport_items.specs.Numbers.{word}
 use Rattle.hidreport_items.specs.Spelling.{AreBytes}
 use Rattle.hidreport.specs.BitValue.{bit}
-use Rattle.hidreport.specs.Writing.{bit_after, bytes_of, number_bit, put}
+use Rattle.hidreport.specs.WritingValues.{bit_after, bytes_of, number_bit, put}
 use Rattle.hidreport.proofs.BitLemmas.{bit-small, power-fits}
 use Rattle.hidreport.proofs.WordLemmas.{bit-from, word-bit}
 use Rattle.hidreport.proofs.WrittenBitsLemmas.{AreBits, bytes-same}

@@ -6,7 +6,7 @@ use Rattle.std.proofs.lemmas.List.{get_or-take, length-take-le, get_or_default}
 use Rattle.std.proofs.lemmas.Nat.{div-mul-add, mod-mul-add}
 use Rattle.hidreport_items.specs.Spelling.{AreBytes}
 use Rattle.hidreport.specs.BitValue.{bit}
-use Rattle.hidreport.specs.Writing.{bit_after, bytes_of, number_bit, number_of, put}
+use Rattle.hidreport.specs.WritingValues.{bit_after, bytes_of, number_bit, number_of, put}
 use Rattle.hidreport.proofs.PutBitsLemmas.{Placed, after-bits, after-inside, after-none}
 use Rattle.hidreport.proofs.PutBitsLemmas.{after-one, after-outside, place-of}
 use Rattle.hidreport.proofs.WrittenBitsLemmas.{bytes-bit, bytes-same, length-bytes_of}

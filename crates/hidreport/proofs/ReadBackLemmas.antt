@@ -1,6 +1,6 @@
 -- What was written is read.
-use Rattle.std.proofs.Common.{◌≡◌, ◌≢◌, ◌⊎◌, inl, inr, ℕ, zero, suc, ◌+◌, ◌-◌, ◌*◌, ◌<◌, ◌≤◌, Bool, true}
-use Rattle.std.proofs.Common.{◌/◌, ◌%◌, ◌&&◌, false, cond, not, ◌||◌, ◌==◌, nat_lt, nat_le, List, [], ◌∷◌, length, get_or}
+use Rattle.std.proofs.Common.{◌≡◌, ℕ, zero, suc, ◌+◌, ◌-◌, ◌*◌, ◌<◌, ◌≤◌, Bool, true}
+use Rattle.std.proofs.Common.{◌/◌, ◌%◌, ◌&&◌, false, cond, ◌||◌, ◌==◌, nat_lt, nat_le, List, [], ◌∷◌, length, get_or}
 use Rattle.std.proofs.Common.{Option, Some, None, Result, Ok, Err, IsOk, map, refl, sym, ap, subst, ◌∙◌}
 use Rattle.std.proofs.Common.{arith, ℤ, pos}
 use Rattle.std.specs.List.{list_all}
@@ -8,16 +8,15 @@ use Rattle.std.proofs.Math.Nat.{mul-le-mul_left}
 use Rattle.std.proofs.lemmas.Bool.Decides.{nat_tests}
 use Rattle.std.proofs.lemmas.Nat.{div-mul-add, mod-mul-add}
 use Rattle.std.proofs.Math.Nat.{mul_comm}
-use Rattle.hidreport_items.specs.Spelling.{AreBytes}
 use Rattle.hidreport_lists.specs.Answer.{Refusal, Bounds, Mismatch}
 use Rattle.hidreport.specs.BitValue.{as_word, bit, value}
 use Rattle.hidreport.specs.Choosing.{value_number}
-use Rattle.hidreport.specs.Reading.{ValueRecord, before_values, each_value, element, element_width}
-use Rattle.hidreport.specs.Reading.{one_value, read_bits, with_id}
-use Rattle.hidreport.specs.Writing.{are_readable, bit_after, fits, number_bit, put}
+use Rattle.hidreport.specs.Reading.{ValueRecord, before_values, each_value}
+use Rattle.hidreport.specs.Reading.{read_bits, with_id}
+use Rattle.hidreport.specs.WritingValues.{fits, number_bit, put}
 use Rattle.hidreport.specs.WritingLaws.{numbers_of}
 use Rattle.hidreport.proofs.PutBitsLemmas.{after-inside}
-use Rattle.hidreport.proofs.PutValuesLemmas.{length-put, put-bit}
+use Rattle.hidreport.proofs.PutValuesLemmas.{put-bit}
 use Rattle.hidreport.proofs.ValueBitsLemmas.{number-read, value-of-bits}
 
 -- bits are read as a number

@@ -1,7 +1,7 @@
 -- Values and their bits in two's complement.
 use Rattle.std.proofs.Common.{◌≡◌, ℕ, zero, suc, ◌+◌, ◌-◌, ◌*◌, ◌^◌, ◌<◌, ◌≤◌, ◌⊎◌, inl, inr, Bool, true}
 use Rattle.std.proofs.Common.{false, nat_lt, ℤ, pos, negsuc, ◌-ℤ◌, List, refl, sym, ap, subst, ◌∙◌, arith}
-use Rattle.std.proofs.Common.{to_z, of_z, FitsSigned}
+use Rattle.std.proofs.Common.{FitsSigned}
 use Rattle.std.specs.Int.{bit_at, w32, cast_signed}
 use Rattle.std.proofs.Math.Nat.{two-pow-succ}
 use Rattle.std.proofs.Math.Pow.{pow_mono}
@@ -11,7 +11,7 @@ use Rattle.std.proofs.lemmas.Nat.{pow_pos}
 use Rattle.std.proofs.lemmas.Nat.Bits.{bit_at_above, bit_at-lt, same_from_bits_below}
 use Rattle.hidreport.specs.BitValue.{as_word, bit, sum_of_bits, value}
 use Rattle.hidreport.specs.Choosing.{value_number}
-use Rattle.hidreport.specs.Writing.{fits, number_bit, number_of}
+use Rattle.hidreport.specs.WritingValues.{fits, number_bit, number_of}
 use Rattle.hidreport.proofs.BitLemmas.{bit-small, sum-small, zero-or-one}
 use Rattle.hidreport.proofs.WrittenBitsLemmas.{AreBits, number-bit, number-small}
 

@@ -1,7 +1,7 @@
 -- A report whose fields have all been written.
-use Rattle.std.proofs.Common.{◌≡◌, ◌≢◌, ◌⊎◌, inl, inr, ℕ, zero, suc, ◌+◌, ◌*◌, ◌<◌, ◌≤◌, List, [], ◌∷◌}
-use Rattle.std.proofs.Common.{length, get_or, Option, Some, Result, Ok, Err, refl, sym, ap, subst, ◌∙◌, arith}
-use Rattle.std.proofs.Common.{ℤ, pos, Bool, true, false, nat_lt}
+use Rattle.std.proofs.Common.{◌≡◌, ◌⊎◌, inl, inr, ℕ, zero, suc, ◌+◌, ◌*◌, ◌<◌, ◌≤◌, List, [], ◌∷◌}
+use Rattle.std.proofs.Common.{length, Some, Result, Ok, Err, refl, sym, ap, subst, ◌∙◌, arith}
+use Rattle.std.proofs.Common.{ℤ, Bool, true, false, nat_lt}
 use Rattle.std.specs.Prelude.{All}
 use Rattle.std.proofs.lemmas.Bool.Decides.{nat_tests}
 use Rattle.std.specs.Prelude.{slice_get}
@@ -12,15 +12,15 @@ use Rattle.hidreport.specs.Bits.{covered_bits}
 use Rattle.hidreport.specs.Reading.{reads}
 use Rattle.hidreport.specs.Records.{FieldRecord, ReportRecord, place_of}
 use Rattle.hidreport.specs.Tiling.{IsFilled}
-use Rattle.hidreport.specs.Writing.{bit_after, bytes_of, put, value_width, written}
-use Rattle.hidreport.specs.WritingLaws.{AllRead, IsWhole, IsWritten, Keeps, SamePadding, numbers_of}
-use Rattle.hidreport.specs.WritingLaws.{reads_numbers, then_written, written_all}
+use Rattle.hidreport.specs.WritingValues.{bit_after, bytes_of, value_width, written}
+use Rattle.hidreport.specs.WritingLaws.{AllRead, IsWhole, Keeps, SamePadding, numbers_of}
+use Rattle.hidreport.specs.WritingLaws.{then_written, written_all}
 use Rattle.hidreport.specs.declared.field.insert_error.InsertError.{InsertError}
 use Rattle.hidreport.proofs.BitLemmas.{bit-small}
 use Rattle.hidreport.proofs.KeptBitsLemmas.{bit-past}
 use Rattle.hidreport.proofs.IsWrittenLemmas.{covered, is-written, written-parts}
 use Rattle.hidreport.proofs.PutBitsLemmas.{Placed, after-bits, after-inside, place-of}
-use Rattle.hidreport.proofs.PutValuesLemmas.{length-put, put-bit}
+use Rattle.hidreport.proofs.PutValuesLemmas.{put-bit}
 use Rattle.hidreport.proofs.WrittenBitsLemmas.{AreBits, bytes-same, number-small}
 
 -- bytes made of bits are bytes

@@ -1,13 +1,13 @@
 -- What is written, by what is read.
 use Rattle.std.proofs.Common.{◌≡◌, ℕ, Bool, true, false, cond, ◌==◌, List, [], ◌∷◌, length, ℤ}
-use Rattle.std.proofs.Common.{Option, Some, None, Result, Ok, Err, IsOk, refl, ap, sym, ◌∙◌, arith}
+use Rattle.std.proofs.Common.{Option, Some, None, Result, Ok, Err, IsOk, refl, ap, ◌∙◌, arith}
 use Rattle.std.specs.List.{list_all}
 use Rattle.std.proofs.lemmas.Bool.Decides.{nat_tests}
 use Rattle.hidreport_lists.specs.Answer.{Refusal, Mismatch}
-use Rattle.hidreport.specs.Reading.{ValueRecord, is_signed, reads, values_of, with_id}
+use Rattle.hidreport.specs.Reading.{ValueRecord, reads, values_of, with_id}
 use Rattle.hidreport.specs.Records.{Attributes, FieldPlace, FieldRecord, ArrayRecord, own_id}
-use Rattle.hidreport.specs.Writing.{begins_in_id, fits, has_sign, placed, put, value_width}
-use Rattle.hidreport.specs.Writing.{where_read, written}
+use Rattle.hidreport.specs.WritingValues.{begins_in_id, fits, has_sign, placed, put, value_width}
+use Rattle.hidreport.specs.WritingValues.{where_read, written}
 use Rattle.hidreport.specs.declared.field.insert_error.InsertError.{InsertError}
 use Rattle.hidreport.specs.declared.field.insert_error.InsertError.TheVariants as refused
 use Rattle.hidreport.specs.declared.field.usage.Usage.{Usage}

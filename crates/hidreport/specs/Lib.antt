@@ -28,7 +28,7 @@ pub mod UsageRange
 pub mod Visibility
 pub mod Views
 pub mod Weight
-pub mod Writing
+pub mod WritingValues
 pub mod WritingLaws
 -- what public clauses cite of the crates below, so that a user names this one alone
 pub use Rattle.hidreport_types.specs.UnitTable

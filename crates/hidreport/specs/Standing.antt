@@ -2,7 +2,7 @@
 use Rattle.std.specs.Prelude.{◌≡◌, ◌≢◌, ◌≤ℤ◌, ◌+ℤ◌, ◌-ℤ◌, ℕ, ℤ, pos, int_lt, nat_lt, nat_le, ◌&&◌}
 use Rattle.std.specs.Prelude.{◌||◌, if◌then◌else◌, Bool, List, Option, None, Some}
 use Rattle.hidreport.specs.Choosing.{usage_chosen}
-use Rattle.hidreport.specs.Writing.{fits}
+use Rattle.hidreport.specs.WritingValues.{fits}
 use Rattle.hidreport.specs.declared.field.usage.Usage.{Usage}
 
 -- the least number that stands for the usage; none where no number does

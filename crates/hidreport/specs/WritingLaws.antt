@@ -9,7 +9,7 @@ use Rattle.hidreport.specs.Choosing.{value_number}
 use Rattle.hidreport.specs.Reading.{ValueRecord, reads, reads_element}
 use Rattle.hidreport.specs.Records.{FieldRecord, ReportRecord, place_of}
 use Rattle.hidreport.specs.Tiling.{IsFilled}
-use Rattle.hidreport.specs.Writing.{value_width, written, written_element}
+use Rattle.hidreport.specs.WritingValues.{value_width, written, written_element}
 use Rattle.hidreport.specs.declared.field.insert_error.InsertError.{InsertError}
 use Rattle.hidreport.specs.declared.field.insert_error.InsertError.TheVariants as refused
 

@@ -10,7 +10,7 @@ ghost use Rattle.hidreport.specs.Standing.{IsLeastFor, is_null, null_number};
 ghost use Rattle.hidreport.specs.Tiling.{HasRange};
 ghost use Rattle.hidreport.specs.UsageRange.{range_of, HasExactly};
 ghost use Rattle.hidreport_items.specs.Spelling.{AreBytes};
-ghost use Rattle.hidreport.specs.Writing.{Inserts, written, written_element};
+ghost use Rattle.hidreport.specs.WritingValues.{Inserts, written, written_element};
 ghost use Rattle.hidreport.specs.WritingLaws.{IsElementWritten, IsWritten, number_in};
 ghost use Rattle.hidreport.specs.WritingLaws.{reads_numbers};
 ghost use Rattle.hidreport.specs.Views.{array_attributes, array_record};

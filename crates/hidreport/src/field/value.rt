@@ -6,7 +6,7 @@ ghost use Rattle.hidreport_lists.specs.Answer.{Answers, Bounds, IsOfReading};
 ghost use Rattle.hidreport.specs.BitValue.{sum_of_bits, value, as_word};
 ghost use Rattle.hidreport.specs.Choosing.{value_number};
 ghost use Rattle.hidreport.specs.Reading.{read_bits, with_id};
-ghost use Rattle.hidreport.specs.Writing.{are_readable};
+ghost use Rattle.hidreport.specs.WritingValues.{are_readable};
 
 use hidreport_lists::ParserError;
 use hidreport_types::ReportId;

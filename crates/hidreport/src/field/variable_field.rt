@@ -3,7 +3,7 @@ ghost use Rattle.hidreport_lists.specs.Answer.{AnswersBy, IsOfReading};
 ghost use Rattle.hidreport.specs.Bits.{FixesBits};
 ghost use Rattle.hidreport.specs.Reading.{reads};
 ghost use Rattle.hidreport_items.specs.Spelling.{AreBytes};
-ghost use Rattle.hidreport.specs.Writing.{Inserts, written};
+ghost use Rattle.hidreport.specs.WritingValues.{Inserts, written};
 ghost use Rattle.hidreport.specs.WritingLaws.{IsWritten, reads_numbers};
 ghost use Rattle.hidreport.specs.Views.{variable_attributes, variable_record};
 

@@ -5,8 +5,8 @@ ghost use Rattle.std.specs.Int.{bit_at};
 ghost use Rattle.std.specs.List.{list_all};
 ghost use Rattle.hidreport_items.specs.Spelling.{AreBytes};
 ghost use Rattle.hidreport.specs.Reading.{with_id};
-ghost use Rattle.hidreport.specs.Writing.{begins_in_id, bit_after, fits, place_check, put};
-ghost use Rattle.hidreport.specs.Writing.{where_read};
+ghost use Rattle.hidreport.specs.WritingValues.{begins_in_id, bit_after, fits, place_check, put};
+ghost use Rattle.hidreport.specs.WritingValues.{where_read};
 
 use crate::field::insert_error::InsertError;
 use crate::field::value::{are_readable, check_id, word};

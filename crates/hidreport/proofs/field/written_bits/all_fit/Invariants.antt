@@ -1,6 +1,6 @@
 use Rattle.std.proofs.Common.{◌≡◌, true, take}
 use Rattle.std.specs.List.{list_all}
-use Rattle.hidreport.specs.Writing.{fits}
+use Rattle.hidreport.specs.WritingValues.{fits}
 use Rattle.hidreport.proofs.field.written_bits.all_fit.Given as goal
 
 -- the numbers before this one fit

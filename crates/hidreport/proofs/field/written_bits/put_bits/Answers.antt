@@ -2,7 +2,7 @@ use Rattle.std.proofs.Common.{◌-◌, ◌/◌, ◌%◌, ◌∙◌, [], ◌∷�
 use Rattle.std.specs.Int.{w64}
 use Rattle.std.proofs.lemmas.Int.{to_z-of_z}
 use Rattle.hidreport_lists.proofs.CutLemmas.{are_bytes}
-use Rattle.hidreport.specs.Writing.{bit_after}
+use Rattle.hidreport.specs.WritingValues.{bit_after}
 use Rattle.hidreport.proofs.PutBitsLemmas.{put-in-place}
 use Rattle.hidreport.proofs.field.written_bits.put_bits.Goals as goal
 

@@ -3,7 +3,7 @@ use Rattle.std.proofs.Common.{rules, sym, ap, ◌∙◌}
 use Rattle.std.specs.Int.{w64}
 use Rattle.std.proofs.lemmas.Int.{to_z-of_z}
 use Rattle.std.proofs.lemmas.List.{get_or_default}
-use Rattle.hidreport.specs.Writing.{put}
+use Rattle.hidreport.specs.WritingValues.{put}
 use Rattle.hidreport_lists.proofs.CutLemmas.{are_bytes}
 use Rattle.hidreport.proofs.PutValuesLemmas.{length-put, put-more, put-none}
 use Rattle.hidreport.proofs.field.written_bits.put_values.Goals as goal

@@ -1,5 +1,5 @@
 use Rattle.std.proofs.Common.{◌≡◌, ◌+◌, ◌*◌, length, take}
-use Rattle.hidreport.specs.Writing.{put}
+use Rattle.hidreport.specs.WritingValues.{put}
 use Rattle.hidreport.proofs.field.written_bits.put_values.Given as goal
 
 -- the numbers before this one are in place

@@ -2,7 +2,7 @@ use Rattle.std.proofs.Common.{◌≡◌, ◌∙◌, ◌-◌, ◌*◌, ◌%◌, �
 use Rattle.std.specs.Int.{bit_at}
 use Rattle.hidreport_items.specs.Spelling.{AreBytes}
 use Rattle.hidreport_lists.proofs.CutLemmas.{are_bytes}
-use Rattle.hidreport.specs.Writing.{number_bit}
+use Rattle.hidreport.specs.WritingValues.{number_bit}
 use Rattle.hidreport.proofs.PutBitsLemmas.{of_z-bit, replaced, word-bits}
 use Rattle.hidreport.proofs.field.written_bits.word_with.Goals as goal
 

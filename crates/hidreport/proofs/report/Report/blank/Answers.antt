@@ -1,4 +1,4 @@
-use Rattle.std.proofs.Common.{◌≡◌, length, drop, subst, sym, arith, rules}
+use Rattle.std.proofs.Common.{◌≡◌, length, drop, subst, sym, rules}
 use Rattle.std.proofs.lemmas.List.{take_at}
 use Rattle.hidreport.specs.Records.{ReportRecord}
 use Rattle.hidreport.specs.WritingLaws.{IsWhole}

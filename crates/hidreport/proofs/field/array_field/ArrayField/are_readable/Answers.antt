@@ -1,6 +1,5 @@
-use Rattle.std.proofs.Common.{◌≡◌, ℕ, ◌+◌, ◌-◌, ◌*◌, ◌<◌, ◌≤◌, ◌∙◌, pos, int_lt, sym, subst}
+use Rattle.std.proofs.Common.{◌≡◌, ℕ, ◌+◌, ◌-◌, ◌*◌, ◌≤◌, ◌∙◌, pos, int_lt, sym, subst}
 use Rattle.std.proofs.Common.{length, arith}
-use Rattle.hidreport.specs.Reading.{element_width}
 use Rattle.hidreport.proofs.ElementLemmas.{elements-readable-by, elements-refused-by}
 use Rattle.hidreport.proofs.ElementLemmas.{readable-bits}
 use Rattle.hidreport.proofs.field.array_field.ArrayField.are_readable.Goals as goal

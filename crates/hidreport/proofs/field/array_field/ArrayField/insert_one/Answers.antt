@@ -2,7 +2,7 @@ use Rattle.std.proofs.Common.{subst}
 use Rattle.std.specs.Int.{w64}
 use Rattle.std.proofs.lemmas.Int.{to_z-of_z}
 use Rattle.hidreport.specs.Views.{array_attributes, array_place, array_record}
-use Rattle.hidreport.specs.Writing.{Inserts, written_element}
+use Rattle.hidreport.specs.WritingValues.{Inserts, written_element}
 use Rattle.hidreport.proofs.InsertLemmas.{element-again-of, element-laws-of}
 use Rattle.hidreport.proofs.field.array_field.ArrayField.insert_one.Goals as goal
 

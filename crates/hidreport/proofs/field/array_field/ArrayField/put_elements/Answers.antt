@@ -1,10 +1,9 @@
-use Rattle.std.proofs.Common.{◌≡◌, ◌∙◌, ℕ, List, Ok, ap, sym, refl, rules, int_lt, pos, true, false, length, arith}
+use Rattle.std.proofs.Common.{◌≡◌, ◌∙◌, ℕ, List, Ok, ap, sym, refl, rules, length}
 use Rattle.std.specs.List.{list_all}
 use Rattle.hidreport.specs.Reading.{element_width}
 use Rattle.hidreport.specs.Views.{array_attributes, array_place, array_record}
-use Rattle.hidreport.specs.Writing.{fits, put, where_read}
-use Rattle.hidreport.specs.Reading.{with_id}
-use Rattle.hidreport.proofs.WrittenLemmas.{placed-ok, placed-unfit, ready, written-array}
+use Rattle.hidreport.specs.WritingValues.{fits, put}
+use Rattle.hidreport.proofs.WrittenLemmas.{placed-ok, placed-unfit, written-array}
 use Rattle.hidreport.proofs.field.array_field.ArrayField.put_elements.Goals as goal
 
 pub returns-then-not-all_fit-clause-answer : goal.returns-then-not-all_fit-clause-answer

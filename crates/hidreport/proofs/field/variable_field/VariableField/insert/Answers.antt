@@ -2,7 +2,7 @@ use Rattle.std.proofs.Common.{[], ◌∷◌, subst}
 use Rattle.std.specs.Int.{w64}
 use Rattle.std.proofs.lemmas.Int.{to_z-of_z}
 use Rattle.hidreport.specs.Views.{variable_record}
-use Rattle.hidreport.specs.Writing.{Inserts, written}
+use Rattle.hidreport.specs.WritingValues.{Inserts, written}
 use Rattle.hidreport.proofs.InsertLemmas.{again-of, laws-of}
 use Rattle.hidreport.proofs.field.variable_field.VariableField.insert.Goals as goal
 
