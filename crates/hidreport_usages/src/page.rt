@@ -37,7 +37,8 @@ pub fn page_name(usage_page: UsagePage) -> Option<PageName>
     }
 }
 
-/// The usage page that has this name, letter for letter, or none where none has it.
+/// The usage page (Section 6.2.2.7) that has this name, letter for letter, or none where none has
+/// it.
 ///
 /// `page_name` gives the page that is found this name again.
 pub fn page_by_name(name: &str) -> Option<UsagePage>

@@ -74,7 +74,8 @@ fn numbered(family: Family, id: u16) -> Option<UsageName>
     }
 }
 
-/// The usage of a page that has this name, letter for letter, or none where none has it.
+/// The usage of a page (Section 5.5) that has this name, letter for letter, or none where none has
+/// it.
 ///
 /// A name stands once on a page. `usage_name` gives the usage that is found this name again.
 pub fn usage_on_page(usage_page: UsagePage, name: &str) -> Option<UsageId>
@@ -91,7 +92,7 @@ pub fn usage_on_page(usage_page: UsagePage, name: &str) -> Option<UsageId>
     }
 }
 
-/// The usage that has this name, letter for letter, or none where none has it.
+/// The usage (Section 5.5) that has this name, letter for letter, or none where none has it.
 ///
 /// Several pages can have usages of one name: it is that of the lowest page. Every page of vendors
 /// has the same names, so it is page FF00 that is answered for them.
