@@ -1,7 +1,9 @@
 #!/bin/sh
 # Two short descriptors that ask for much are answered within seconds and 100 MB: one of 2^32 - 1
 # fields is refused for want of memory, and one of collections over 2^24 usages, in which no field
-# lies, has no reports. Within a limit of 65,536 files are answered in 64 MB, also ones without end.
+# lies, has no reports. Within a limit of 65,536 files are answered in 64 MB and a second: those that
+# ask for much, 64 KB and 1 MB of one item, and ones without end. `items` and `rebuild` of 64 KB are,
+# too.
 # The argument, if any, is the program to look at; else the one that ./hidreport built.
 set -eu
 
@@ -12,6 +14,7 @@ if [ ! -x "$program" ]; then
     exit 2
 fi
 scratch=$(mktemp -d)
+answers=0
 trap 'rm -rf "$scratch"' EXIT
 printf '\001' > "$scratch/report"
 
@@ -21,8 +24,9 @@ answers() {
     wanted=$2
     printf '%s\n' "$3" > "$scratch/wanted"
     shift 3
+    answers=$((answers + 1))
     status=0
-    (ulimit -v "$kilobytes" && timeout 5 "$program" "$@") > "$scratch/out" 2>&1 || status=$?
+    (ulimit -v "$kilobytes" && timeout "$seconds" "$program" "$@") > "$scratch/out" 2>&1 || status=$?
     if [ "$status" -ne "$wanted" ] || ! cmp -s "$scratch/wanted" "$scratch/out"; then
         echo "little_memory: $* ended with $status and:" >&2
         cat "$scratch/out" >&2
@@ -38,7 +42,25 @@ while [ "$n" -lt 1020 ]; do
     n=$((n + 1))
 done >> "$scratch/collections"
 
+# A file of so many times what is printed.
+again() {
+    name=$1
+    times=$2
+    n=0
+    while [ "$n" -lt "$times" ]; do
+        printf "$3"
+        n=$((n + 1))
+    done > "$scratch/$name"
+}
+
 head -c 65536 /dev/zero | tr '\0' '\244' > "$scratch/pushes"
+head -c 1048576 /dev/zero | tr '\0' '\244' > "$scratch/long"
+head -c 65536 /dev/zero > "$scratch/zeros"
+again usages 32768 '\011\060'
+again opened 32768 '\241\000'
+again global_in_push 32768 '\244\024'
+again ended_in_push 13107 '\244\011\060\261\002'
+again long_items 16384 '\376\001\000\000'
 mkfifo "$scratch/fifo"
 
 case $program in
@@ -46,12 +68,27 @@ case $program in
     *) program=$PWD/$program ;;
 esac
 cd "$scratch"
+seconds=5
 answers 100000 2 'fault: memory' values fields report
 answers 100000 1 'refused: no report' values collections report
-answers 64000 1 'refused: no report' values-within 65536 pushes report
-answers 64000 2 'fault: too long' values-within 65536 /dev/zero report
-answers 64000 2 'fault: too long' values-within 65536 pushes /dev/zero
+seconds=1
+for command in values-within values-globals-within; do
+    answers 64000 1 'refused: budget exceeded at offset 11' "$command" 65536 fields report
+    answers 64000 1 'refused: budget exceeded at offset 13' "$command" 65536 collections report
+    for file in pushes usages opened global_in_push ended_in_push long_items; do
+        answers 64000 1 'refused: no report' "$command" 65536 "$file" report
+    done
+    answers 64000 1 'refused: invalid data at offset 0: Invalid data: Invalid item tag 0b000000' \
+        "$command" 65536 zeros report
+    for file in long /dev/zero; do
+        answers 64000 2 'fault: too long' "$command" 65536 "$file" report
+        answers 64000 2 'fault: too long' "$command" 65536 pushes "$file"
+    done
+done
+answers 64000 1 'refused: invalid data at offset 0: Invalid data: Invalid item tag 0b000000' items zeros
+answers 64000 1 'refused: invalid data at offset 0: Invalid data: Invalid item tag 0b000000' rebuild zeros
+answers 64000 0 "$(awk 'BEGIN { while (n < 65536) print n++ " a4 Push" }')" items pushes
 timeout 10 cat /dev/zero > fifo 2> /dev/null &
 answers 64000 2 'fault: too long' values-globals-within 65536 fifo report
 wait
-echo 'little memory: 6 answers'
+echo "little memory: $answers answers"
