@@ -8,10 +8,10 @@
 #include <stdlib.h>
 #include <string.h>
 
-enum { ROOM = 256 };
+enum { ROOM = 256, LENGTH = 70000 };
 
 /* The descriptor and the report of a question. */
-static uint8_t bytes[4096], report[4096];
+static uint8_t bytes[LENGTH], report[LENGTH];
 static size_t length, report_length;
 
 /* What the last questions gave stays for the questions about it. */
@@ -27,18 +27,28 @@ static void refuse(const char *why, const char *line)
     exit(2);
 }
 
-/* Bytes are hexadecimal, `-` is none; they end at a `/`. */
+/* Bytes are hexadecimal, `-` is none, `9*a4` is one of them nine times; they end at a `/`. */
 static size_t bytes_of(const char *text, uint8_t *into)
 {
-    size_t length = 0;
+    size_t length = 0, times;
     unsigned byte;
-    while (*text && *text != '/')
-        if (*text == ' ' || *text == '-')
+    int used;
+    while (*text && *text != '/') {
+        if (*text == ' ' || *text == '-') {
             text++;
-        else if (sscanf(text, "%2x", &byte) == 1)
-            into[length++] = (uint8_t)byte, text += 2;
-        else
-            refuse("no bytes", text);
+            continue;
+        }
+        if (sscanf(text, "%zu*%2x%n", &times, &byte, &used) != 2) {
+            times = 1;
+            if (sscanf(text, "%2x%n", &byte, &used) != 1)
+                refuse("no bytes", text);
+        }
+        if (times > LENGTH - length)
+            refuse("too many bytes", text);
+        memset(into + length, (int)byte, times);
+        length += times;
+        text += used;
+    }
     return length;
 }
 
@@ -170,9 +180,10 @@ static void choose(const char *limit, const char *push)
     options = HIDREPORT_DEFAULTS;
     if (strcmp(limit, "default") != 0)
         options.limit = strcmp(limit, "none") == 0 ? HIDREPORT_NO_LIMIT : number_of(limit);
-    options.push = strcmp(push, "all") == 0       ? HIDREPORT_PUSH_ALL
-                   : strcmp(push, "globals") == 0 ? HIDREPORT_PUSH_GLOBALS
-                                                  : number_of(push);
+    if (strcmp(push, "default") != 0)
+        options.push = strcmp(push, "all") == 0       ? HIDREPORT_PUSH_ALL
+                       : strcmp(push, "globals") == 0 ? HIDREPORT_PUSH_GLOBALS
+                                                      : number_of(push);
 }
 
 static void reports(const char *direction, const char *none)
@@ -227,6 +238,16 @@ static void message(const char *first, const char *second)
     static uint8_t text[ROOM];
     (void)first, (void)second;
     print_written(hidreport_message(bytes, length, options, text, sizeof text), text, "%c");
+}
+
+static void refusal(const char *first, const char *second)
+{
+    static uint8_t text[ROOM];
+    struct hidreport_answer answer =
+        hidreport_describe(bytes, length, options, HIDREPORT_INPUT, NULL, 0);
+    struct hidreport_answer told = hidreport_message(bytes, length, options, text, sizeof text);
+    (void)first, (void)second;
+    printf("  %s at %zu: %.*s\n", words_of(answer.status), answer.offset, (int)told.count, text);
 }
 
 static void items(const char *first, const char *second)
@@ -286,7 +307,8 @@ static const struct {
     {"reports", 1, reports},         {"describe", 1, describe},
     {"find", 1, find},               {"usages", 1, list_usages},
     {"collections", 1, collections}, {"collection-usages", 2, collection_usages},
-    {"message", 0, message},         {"items", 0, items},
+    {"message", 0, message},         {"refusal", 0, refusal},
+    {"items", 0, items},
     {"rebuild", 0, rebuild},         {"items-message", 0, items_message},
     {"value", 2, value},             {"values", 1, values},
     {"usage", 2, usage},

@@ -13,10 +13,18 @@ struct Asked {
     usages: Vec<u32>,
 }
 
-fn bytes_of(text: &str) -> Vec<u8> {
-    let digits: Vec<char> = text.chars().filter(|c| c.is_ascii_hexdigit()).collect();
+/// The bytes of a word: of hexadecimal digits, or `9*a4`, one of them nine times.
+fn word_bytes(word: &str) -> Vec<u8> {
+    if let Some((times, byte)) = word.split_once('*') {
+        return word_bytes(byte).repeat(times.parse().expect("a number"));
+    }
+    let digits: Vec<char> = word.chars().filter(|c| c.is_ascii_hexdigit()).collect();
     let byte = |pair: &[char]| u8::from_str_radix(&pair.iter().collect::<String>(), 16);
     digits.chunks(2).map(|pair| byte(pair).expect("two digits")).collect()
+}
+
+fn bytes_of(text: &str) -> Vec<u8> {
+    text.split_whitespace().flat_map(word_bytes).collect()
 }
 
 /// Another direction than these can't be named in Rust.
@@ -37,6 +45,7 @@ fn options_of(limit: &str, push: &str) -> Options {
             _ => limit.parse().expect("a limit"),
         },
         push: match push {
+            "default" => Options::default().push,
             "all" => PUSH_ALL,
             "globals" => PUSH_GLOBALS,
             _ => push.parse().expect("a number"),
@@ -97,6 +106,12 @@ fn say(message: Result<String, u32>) {
         Ok(text) => println!("  count {} offset 0 accepted\n  {text}", text.len()),
         Err(status) => println!("  count 0 offset 0 {}\n  ", words_of(status)),
     }
+}
+
+/// A refusal with its text.
+fn tell(answer: Result<Vec<Field>, Refusal>) {
+    let refusal = answer.expect_err("a refusal");
+    println!("  {} at {}: {}", words_of(refusal.status), refusal.offset, refusal.message);
 }
 
 fn print_field(f: &Field) {
@@ -236,6 +251,11 @@ impl Asked {
                 println!("  {digits}");
             }
             "message" => say(hidreport_c::message(&descriptor(1), self.options)),
+            "refusal" => tell(hidreport_c::describe(
+                &descriptor(1),
+                self.options,
+                Direction::Input,
+            )),
             "items-message" => say(hidreport_c::items_message(&descriptor(1))),
             other => panic!("no question: {other}"),
         }
