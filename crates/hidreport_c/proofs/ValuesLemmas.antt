@@ -1,7 +1,7 @@
 -- All values of a field, written one after the other.
 use Rattle.std.proofs.Common.{◌≡◌, ℕ, zero, suc, ◌+◌, ◌<◌, List, [], ◌∷◌, length, take}
 use Rattle.std.proofs.Common.{slice_set, Option, None, Some, IsOk, Result, Ok, Err, Bool, true}
-use Rattle.std.proofs.Common.{false, cond, nat_le, nat_lt, ◌||◌, ◌*◌, ◌-◌, ◌≤◌}
+use Rattle.std.proofs.Common.{false, not, cond, nat_le, nat_lt, ◌||◌, ◌*◌, ◌-◌, ◌≤◌}
 use Rattle.std.proofs.Common.{◌⊎◌, inl, inr, refl, ap, sym, ◌∙◌, arith}
 use Rattle.std.proofs.Math.Dec.{leb}
 use Rattle.std.proofs.Math.Nat.{min-eq_left, min-eq_right}
@@ -9,7 +9,7 @@ use Rattle.std.proofs.Math.Seq.{drop-nil, take-nil}
 use Rattle.std.proofs.lemmas.Bool.Decides.{leb_tells, nat_tests}
 use Rattle.std.specs.Prelude.{◌==◌, min, slice_get}
 use Rattle.hidreport.specs.Answer.{Refusal, Bounds, Mismatch}
-use Rattle.hidreport.proofs.ElementLemmas.{elements-last, elements-outside}
+use Rattle.hidreport.proofs.ElementLemmas.{elements-outside, elements-readable-by}
 use Rattle.hidreport.specs.Reading.{ValueRecord, before_values, element, each_value, with_id}
 use Rattle.hidreport.specs.Reading.{element_width}
 use Rattle.hidreport_c.proofs.ListsLemmas.{written-none}
@@ -70,11 +70,6 @@ elements-length first end count s bytes index (suc more) all h =
     ap length (sym parts.4)
     ∙ ap suc (elements-length first end count s bytes (index + 1) more parts.1 parts.3)
 
-given-unless : (b : Bool) (x : ValueRecord) → b ≡ false
-    → (v : ValueRecord) × (cond b (Err Bounds) (Ok x) ≡ Ok v)
-given-unless true x h = cc
-given-unless false x h = (x, refl)
-
 refused-where : (b : Bool) (x : ValueRecord) → b ≡ true
     → cond b (Err Bounds) (Ok x) ≡ Err Bounds
 refused-where true x h = refl
@@ -99,10 +94,8 @@ pub elements-accepted : (first end count last : ℕ) (s : Bool) (bytes : List �
     → first + w * last + w ≤ 8 * length bytes
     → IsOk (each_value (element first end count s bytes) 0 count)
 elements-accepted first end count last s bytes w counts is some narrow within =
-    let width = element_width first end count in
-    let found = given-unless _ _ (inside (first + width * last) width (8 * length bytes)
-    (rw (sym is) some) (rw (sym is) narrow) (rw (sym is) within)) in
-    elements-last first end count s bytes count last found.0 counts found.1
+    elements-readable-by first end count s bytes count last w (first + w * last) counts is refl
+    (ap not (inside (first + w * last) w (8 * length bytes) some narrow within))
 
 -- and none is where it hasn't, or doesn't
 pub elements-past : (first end count last : ℕ) (s : Bool) (bytes : List ℕ) (w : ℕ)
