@@ -61,6 +61,9 @@ again opened 32768 '\241\000'
 again global_in_push 32768 '\244\024'
 again ended_in_push 13107 '\244\011\060\261\002'
 again long_items 16384 '\376\001\000\000'
+# A real pen whose first count, 95 at 18, is the header 97 of four bytes.
+pen="$top/crates/hidreport_printer/data/pen.rdesc"
+{ head -c 18 "$pen"; printf '\227'; tail -c +20 "$pen"; } > "$scratch/pen"
 mkfifo "$scratch/fifo"
 
 case $program in
@@ -75,6 +78,7 @@ seconds=1
 for command in values-within values-globals-within; do
     answers 64000 1 'refused: budget exceeded at offset 11' "$command" 65536 fields report
     answers 64000 1 'refused: budget exceeded at offset 13' "$command" 65536 collections report
+    answers 64000 1 'refused: budget exceeded at offset 44' "$command" 65536 pen report
     for file in pushes usages opened global_in_push ended_in_push long_items; do
         answers 64000 1 'refused: no report' "$command" 65536 "$file" report
     done
