@@ -35,6 +35,8 @@ pub mod BudgetWalkLemmas
 pub mod TilingLemmas
 pub mod TilingWalkLemmas
 pub mod UsageLemmas
+pub mod UsageFaultLemmas
+pub mod UntouchedLemmas
 pub mod ReportListLemmas
 pub mod FieldLemmas
 pub mod DataLemmas
@@ -43,6 +45,7 @@ pub mod WeightLemmas
 pub mod ParseLemmas
 pub mod ReadBackLemmas
 pub mod RefusalLemmas
+pub mod RepairLemmas
 pub mod RangeLemmas
 pub mod ElementLemmas
 pub mod SegmentLemmas

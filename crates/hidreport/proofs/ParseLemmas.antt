@@ -36,7 +36,7 @@ abbrev step_of : Result StateRecord MeaningFault → Result StateRecord MeaningF
 step_of r = r
 
 -- an item that stops the walk neither by a fault nor by its weight
-goes-on : (left : Option ℕ) (h next : StateRecord) (x : ItemType) (o : Option MeaningFault)
+pub goes-on : (left : Option ℕ) (h next : StateRecord) (x : ItemType) (o : Option MeaningFault)
     → fault_in h x ≡ o → step h x ≡ Ok next → is_past left (weight_in h x) ≡ false
     → unless_fault (stop_in left h x) (next_state h x) ≡ Ok next
 goes-on left h next x None faultless stepped within =

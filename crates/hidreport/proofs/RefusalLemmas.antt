@@ -8,8 +8,6 @@ use Rattle.hidreport_items.specs.Spelling.{item_of}
 use Rattle.hidreport_items.specs.declared.global.GlobalItem.TheVariants as global
 use Rattle.hidreport_items.specs.declared.item.ItemType.{ItemType}
 use Rattle.hidreport_items.specs.declared.item.ItemType.TheVariants as item
-use Rattle.hidreport_items.specs.declared.local.LocalItem.{LocalItem}
-use Rattle.hidreport_items.specs.declared.local.LocalItem.TheVariants as local
 use Rattle.hidreport_items.specs.declared.main_item.MainItem.TheVariants as main
 use Rattle.hidreport_lists.specs.Answer.{Answers, Refusal, Mismatch, OverBudget}
 use Rattle.hidreport_lists.specs.Entry.{Entry}
@@ -30,11 +28,10 @@ use Rattle.hidreport.specs.MeaningFault.{MissingUsageMaximum, MissingUsagePage, 
 use Rattle.hidreport.specs.MeaningFault.{PastBounds, PastBudget}
 use Rattle.hidreport.specs.Options.{parse_limited}
 use Rattle.hidreport.specs.Records.{DescriptorRecord}
-use Rattle.hidreport.specs.Usages.{UsageList, as_single, before_usages, last_local, maximum_of}
-use Rattle.hidreport.specs.Usages.{minimum_of, on_page, range_usages, single_usages, usages_by}
-use Rattle.hidreport.specs.Usages.{usages_of}
+use Rattle.hidreport.specs.Usages.{UsageList, usages_of}
 use Rattle.hidreport.specs.declared.field.usage.Usage.{Usage}
 use Rattle.hidreport.specs.declared.parser.extent.Extent.{Extent}
+use Rattle.hidreport.proofs.UsageFaultLemmas.{usages-never}
 
 -- a report of another id is no refusal of a descriptor
 
@@ -81,43 +78,8 @@ no-mismatch (Err (errors.BudgetExceeded offset)) answer a never is = cc
 
 -- without a limit none is passed: no item has this fault
 
-before-plain : (u : Usage) (r : Result (List Usage) MeaningFault) → r ≢ Err PastBudget
-    → before_usages u r ≢ Err PastBudget
-before-plain u (Ok us) plain is = cc
-before-plain u (Err f) plain is = let same : f ≡ PastBudget = cc in plain (ap Err same)
-
-page-plain : (page : Option ℕ) (id : ℕ) (r : Result (List Usage) MeaningFault)
-    → r ≢ Err PastBudget → on_page page id r ≢ Err PastBudget
-page-plain None id r plain is = cc
-page-plain (Some page) id r plain is =
-    before-plain (record { usage_page = page; usage_id = id }) r plain is
-
-single-plain : (page : Option ℕ) (xs : List LocalItem) → single_usages page xs ≢ Err PastBudget
-single-plain page [] is = cc
-single-plain page (local.Usage own id ∷ xs) is =
-    before-plain (record { usage_page = own; usage_id = id }) (single_usages page xs)
-    (single-plain page xs) is
-single-plain page (local.UsageId id ∷ xs) is =
-    page-plain page id (single_usages page xs) (single-plain page xs) is
-single-plain page (x ∷ xs) is = single-plain page xs is
-
-as-single-plain : (r : Result (List Usage) MeaningFault) → r ≢ Err PastBudget
-    → as_single r ≢ Err PastBudget
-as-single-plain (Ok us) plain is = cc
-as-single-plain (Err f) plain is = let same : f ≡ PastBudget = cc in plain (ap Err same)
-
-range-plain : (low : ℕ) (high page : Option ℕ) → range_usages low high page ≢ Err PastBudget
-range-plain low None page is = cc
-range-plain low (Some high) None is = cc
-range-plain low (Some high) (Some page) is = cc
-
-usages-by-plain : (low : Option ℕ) (f : ItemState) → usages_by low f ≢ Err PastBudget
-usages-by-plain (Some low) f = range-plain low (last_local maximum_of f.locals) f.usage_page
-usages-by-plain None f = as-single-plain (single_usages f.usage_page f.locals)
-    (single-plain f.usage_page f.locals)
-
 usages-plain : (f : ItemState) → usages_of f ≢ Err PastBudget
-usages-plain f = usages-by-plain (last_local minimum_of f.locals) f
+usages-plain = usages-never PastBudget (λ e. cc) (λ e. cc)
 
 first-of-plain : (a b : Option MeaningFault) → a ≢ Some PastBudget → b ≢ Some PastBudget
     → first_of a b ≢ Some PastBudget

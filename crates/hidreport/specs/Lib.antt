@@ -19,6 +19,7 @@ pub mod Parser
 pub mod Places
 pub mod Reading
 pub mod Records
+pub mod Repair
 pub mod Segments
 pub mod Standing
 pub mod Usages
@@ -53,6 +54,7 @@ pub use Rattle.hidreport_lists.specs.Data
 pub use Rattle.hidreport_lists.specs.DescriptorBuilder
 pub use Rattle.hidreport_lists.specs.Entry
 pub use Rattle.hidreport_lists.specs.Itemising
+pub use Rattle.hidreport_lists.specs.Mending
 pub use Rattle.hidreport_lists.specs.Messages
 pub use Rattle.hidreport_lists.specs.Rebuilt
 pub use Rattle.hidreport_lists.specs.ShortOrLong

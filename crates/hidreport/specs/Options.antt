@@ -1,9 +1,11 @@
 -- Parsing as it is asked for: by a reading of Push and Pop, and under a limit, if any.
 use Rattle.std.specs.Prelude.{ℕ, nat_lt, if◌then◌else◌, List, length, Option, None, Some, Result, Err}
 use Rattle.hidreport_lists.specs.Answer.{OverBudget, Refusal}
-use Rattle.hidreport.specs.Budget.{parse_within_by}
+use Rattle.hidreport_items.specs.declared.item.ItemType.{ItemType}
+use Rattle.hidreport.specs.Budget.{meaning_within_by, parse_within_by}
 use Rattle.hidreport.specs.ItemState.{item_state, item_state_globals_only}
-use Rattle.hidreport.specs.Meaning.{PushReading, parse_by}
+use Rattle.hidreport.specs.Meaning.{PushReading, meaning_by, parse_by}
+use Rattle.hidreport.specs.MeaningFault.{MeaningFault}
 use Rattle.hidreport.specs.Records.{DescriptorRecord}
 use Rattle.hidreport.specs.declared.parse_options.ParseOptions.{ParseOptions}
 use Rattle.hidreport.specs.declared.parser.push_keeps.PushKeeps.{PushKeeps}
@@ -18,6 +20,16 @@ reading_of push_keeps.Globals = item_state_globals_only
 abbrev pub parse_limited : PushReading → Option ℕ → List ℕ → Result DescriptorRecord Refusal
 parse_limited reading None = parse_by reading
 parse_limited reading (Some limit) = parse_within_by reading limit
+
+-- the meaning of items by a reading, under a limit, if any
+abbrev pub meaning_limited : PushReading → Option ℕ → List ItemType
+    → Result DescriptorRecord (ℕ × MeaningFault)
+meaning_limited reading None = meaning_by reading
+meaning_limited reading (Some limit) = meaning_within_by reading limit
+
+-- the meaning of items as it is asked for
+abbrev pub meaning_as : ParseOptions → List ItemType → Result DescriptorRecord (ℕ × MeaningFault)
+meaning_as options = meaning_limited (reading_of options.push_keeps) options.limit
 
 -- the most bytes that a descriptor may have, where it has more
 abbrev pub past_longest : Option ℕ → ℕ → Option ℕ

@@ -8,6 +8,7 @@ pub mod Layout
 pub mod Ids
 pub mod Locals
 pub mod Machine
+pub mod Mended
 pub mod Opened
 pub mod Refusals
 pub mod Usages

@@ -6,6 +6,7 @@ mod descriptor;
 mod field;
 mod parse_options;
 mod parser;
+mod repairing;
 mod report;
 
 /// The numbers that items carry, each as a type of its own.
@@ -52,9 +53,10 @@ pub use field::value::FieldValue;
 pub use field::variable_field::VariableField;
 pub use field::{Field, FieldId};
 pub use hid::CollectionItem as CollectionType;
-pub use hidreport_lists::ParserError;
+pub use hidreport_lists::{Mend, ParserError};
 pub use parse_options::ParseOptions;
 pub use parser::push_keeps::PushKeeps;
+pub use repairing::{Change, RepairOptions, Repaired, repair};
 pub use report::{RDescReport, Report};
 pub use types::{
     Delimiter, DesignatorIndex, DesignatorMaximum, DesignatorMinimum, LogicalMaximum,

@@ -9,7 +9,7 @@ ghost use Rattle.hidreport.specs.Meaning.{empty_descriptor, refusal_at};
 ghost use Rattle.hidreport.specs.Parser.Budget.{walk_bytes};
 ghost use Rattle.hidreport.specs.Parser.Refusals.{IsRefusal, fault_named};
 
-mod budget;
+pub(crate) mod budget;
 mod extent;
 mod fault;
 mod globals;
@@ -25,7 +25,7 @@ pub(crate) mod push_keeps;
 mod report_list;
 mod report_lists;
 mod slot;
-mod state;
+pub(crate) mod state;
 mod usage_bounds;
 mod usages;
 

@@ -21,6 +21,7 @@ mod question;
 mod readers;
 mod readings;
 mod rebuilt;
+mod repairs;
 mod tally;
 mod units;
 mod usages;

@@ -13,6 +13,7 @@ use crate::parts::{add_any, add_long, add_short};
 use crate::readers::add_read_as;
 use crate::readings::add_readings;
 use crate::rebuilt::{add_alike, add_rebuilt};
+use crate::repairs::add_repaired;
 use crate::tally::Tally;
 use crate::units::{add_exponent, add_unit, add_units, add_usage};
 use crate::usages::{add_chosen, add_usages_of};
@@ -80,6 +81,7 @@ fn add_answer_without_field(
             let (limit, words) = first_of(words)?;
             add_many(alloc, text, Way::Within(number_of(limit)?), words)
         }
+        "repair" => add_repaired(alloc, text, words),
         "made" => add_made(alloc, text, words),
         "kind" => add_kind_of(text, words),
         "unit" => add_unit(alloc, text, words),

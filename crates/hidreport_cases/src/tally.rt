@@ -2,7 +2,7 @@
 use std::fmt;
 
 /// The kinds, by the first words of their questions.
-static KINDS: [&str; 38] = [
+static KINDS: [&str; 39] = [
     "parse",
     "parse-globals",
     "parse-within",
@@ -34,6 +34,7 @@ static KINDS: [&str; 38] = [
     "made",
     "kind",
     "rebuild",
+    "repair",
     "unit",
     "units",
     "exponent",
@@ -47,7 +48,7 @@ static KINDS: [&str; 38] = [
 #[derive(Drop)]
 pub struct Tally {
     /// How many questions of each kind, in the order of `KINDS`.
-    asked: [usize; 38],
+    asked: [usize; 39],
     /// How many had another answer, or couldn't be asked.
     differing: usize,
     /// How many cut descriptors were asked besides.
@@ -59,7 +60,7 @@ pub struct Tally {
 impl Tally {
     pub fn new() -> Tally {
         Tally {
-            asked: [0; 38],
+            asked: [0; 39],
             differing: 0,
             cuts: 0,
             flips: 0,

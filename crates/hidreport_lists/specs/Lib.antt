@@ -5,6 +5,7 @@ pub mod Entry
 pub mod FrontItem
 pub mod Headers
 pub mod Itemising
+pub mod Mending
 pub mod Messages
 pub mod Rebuilt
 pub mod ShortOrLong

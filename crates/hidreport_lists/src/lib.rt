@@ -13,6 +13,7 @@ mod front;
 mod laws;
 mod list;
 mod long_item;
+mod mending;
 mod rebuilding;
 mod short_item;
 
@@ -34,5 +35,6 @@ pub use front::{FrontItem, PlacedFault, check_items, front_item};
 pub use laws::bytes_are_items_or_have_a_fault;
 pub use list::{ReportDescriptorItem, ReportDescriptorItems};
 pub use long_item::LongItem;
+pub use mending::{Mend, Piece, pieces};
 pub use rebuilding::rebuild;
 pub use short_item::{Item, ShortItem};

@@ -206,6 +206,11 @@ unless_fault (Some f) h = Err f
 abbrev pub fault_in : StateRecord → ItemType → Option MeaningFault
 fault_in h x = item_fault (counts_in h x) h.item_state x
 
+-- the same of an item that may be missing
+abbrev pub fault_held : StateRecord → Option ItemType → Option MeaningFault
+fault_held h None = None
+fault_held h (Some x) = fault_in h x
+
 -- one item further, or its fault
 abbrev pub step : StateRecord → ItemType → Result StateRecord MeaningFault
 step h x = unless_fault (fault_in h x) (next_state h x)

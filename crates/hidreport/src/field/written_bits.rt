@@ -98,6 +98,7 @@ pub(crate) fn put_values(bytes: &mut [u8], first: usize, width: usize, numbers: 
 }
 
 /// Puts a number in place of the bits from `first` on; all others stay.
+#[inline(always)]
 pub(crate) fn put_bits(bytes: &mut [u8], first: usize, width: usize, number: i64)
     requires some { 0 < width }
     requires narrow { width ≤ 32 }
@@ -106,8 +107,43 @@ pub(crate) fn put_bits(bytes: &mut [u8], first: usize, width: usize, number: i64
     ensures { bytes.new ≡ put first width (number ∷ []) bytes.old }
 {
     let touched = &mut bytes[first / 8..(first + width).div_ceil(8)];
-    let word = word_with(touched, first % 8, width, number);
-    put_word(touched, word);
+    put_touched(touched, first % 8, width, number);
+}
+
+/// The same in the bytes that are touched, at most five; and what they are as one number then.
+#[inline(always)]
+fn put_touched(bytes: &mut [u8], first: usize, width: usize, number: i64) -> u64
+    requires short { length bytes.now ≤ 5 }
+    requires low { first < 8 }
+    requires narrow { width ≤ 32 }
+    ensures length { length bytes.new ≡ length bytes.old }
+    ensures bytes { (k : ℕ) → k < length bytes.new
+        → slice_index bytes.new k ≡ result / 2 ^ (8 * k) % 256 }
+    ensures bits { (i : ℕ) → i < 8 * length bytes.old
+        → bit_at result i ≡ bit_after first width (number ∷ []) bytes.old i }
+{
+    if let [byte] = bytes {
+        let word = word_with(&[*byte], first, width, number);
+        *byte = (word & 0xff) as u8;
+        return word;
+    }
+    put_several(bytes, first, width, number)
+}
+
+/// The same, whatever their number.
+fn put_several(bytes: &mut [u8], first: usize, width: usize, number: i64) -> u64
+    requires short { length bytes.now ≤ 5 }
+    requires low { first < 8 }
+    requires narrow { width ≤ 32 }
+    ensures length { length bytes.new ≡ length bytes.old }
+    ensures bytes { (k : ℕ) → k < length bytes.new
+        → slice_index bytes.new k ≡ result / 2 ^ (8 * k) % 256 }
+    ensures bits { (i : ℕ) → i < 8 * length bytes.old
+        → bit_at result i ≡ bit_after first width (number ∷ []) bytes.old i }
+{
+    let word = word_with(bytes, first, width, number);
+    put_word(bytes, word);
+    word
 }
 
 /// At most five bytes as one number, with a number in place of the bits from `first` on.

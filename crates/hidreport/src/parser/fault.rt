@@ -2,6 +2,7 @@ ghost use Rattle.std.specs.Prelude.{◌≡◌, IfSome, None};
 ghost use Rattle.hidreport_lists.specs.Answer.{InvalidAt};
 ghost use Rattle.hidreport.specs.Meaning.{refusal_at};
 ghost use Rattle.hidreport.specs.Parser.Refusals.{IsRefusal, fault_named};
+ghost use Rattle.hidreport.specs.Repair.{is_missing_usages};
 ghost use Rattle.hidreport.specs.declared.parser.fault.Fault.TheVariants.{OutOfMemory};
 
 use hidreport_lists::ParserError;
@@ -52,6 +53,13 @@ impl<T: Drop> From<AllocFailed<T>> for Fault {
 }
 
 impl Fault {
+    /// Whether it is that a data item has no usages.
+    pub(crate) fn is_missing_usages(&self) -> bool
+        ensures { result ≡ is_missing_usages (fault_named self.now) }
+    {
+        matches!(self, Fault::MissingUsages)
+    }
+
     /// The refusal of the item at this offset.
     pub(crate) fn at(self, alloc: Global, offset: usize) -> ParserError
         ensures named { IfSome (fault_named self) (λ fault.

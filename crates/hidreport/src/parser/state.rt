@@ -1,5 +1,6 @@
-ghost use Rattle.std.specs.Prelude.{◌≡◌, ◌+◌, ◌*◌, ◌<◌, ◌≤◌, ◌^◌, None, IfOk, IfErr, OnOk};
-ghost use Rattle.hidreport.specs.Parser.Refusals.{IsFaultOf};
+ghost use Rattle.std.specs.Prelude.{◌≡◌, ◌≢◌, ◌+◌, ◌*◌, ◌<◌, ◌≤◌, ◌^◌, None, IfOk, IfErr};
+ghost use Rattle.std.specs.Prelude.{OnOk};
+ghost use Rattle.hidreport.specs.Parser.Refusals.{IsFaultOf, fault_named};
 ghost use Rattle.hidreport.specs.Parser.Usages.{HasUsages, usages_fault};
 ghost use Rattle.hidreport.specs.Views.{item_flags};
 
@@ -49,7 +50,8 @@ impl Model for State {
 }
 
 impl State {
-    ghost use Rattle.std.specs.Prelude.{◌≡◌, ◌+◌, false, None, Ok, IfErr, OnOk};
+    ghost use Rattle.std.specs.Prelude.{◌≡◌, ◌+◌, false, None, Ok, Some, IfErr, OnOk};
+    ghost use Rattle.hidreport.specs.Repair.{is_meant_unsigned, is_missing_usages};
     ghost use Rattle.hidreport.specs.Parser.Budget.{is_past, left_behind, stop_in, weight_in};
     ghost use Rattle.hidreport.specs.Parser.Machine.{fault_in, first_state, next_opened, next_state, step};
     ghost use Rattle.hidreport.specs.Parser.Refusals.{IsFaultOf};
@@ -86,6 +88,58 @@ impl State {
             ItemType::Long | ItemType::Reserved => {}
         }
         Ok(())
+    }
+
+    /// Whether an item is a data item that would make fields with data, and there are no usages.
+    pub(crate) fn lacks_usages(&self, item: &ItemType) -> bool
+        ensures { result ≡ is_missing_usages (fault_in self.now item.now) }
+    {
+        let ItemType::Main(item) = item else {
+            return false;
+        };
+        let item = match item {
+            MainItem::Input(item) => DataItem::from(*item),
+            MainItem::Output(item) => DataItem::from(*item),
+            MainItem::Feature(item) => DataItem::from(*item),
+            MainItem::Collection(_) => return false,
+            MainItem::EndCollection => return false,
+        };
+        self.data_lacks_usages(&item)
+    }
+
+    /// The same of a data item.
+    fn data_lacks_usages(&self, item: &DataItem) -> bool
+        ensures { result ≡ is_missing_usages (fault_in self.now (as_item item.now)) }
+    {
+        if self.item_states.globals().extent().is_none() {
+            return false;
+        }
+        match needed_usages(item, &self.item_states) {
+            Ok(_) => false,
+            Err(fault) => fault.is_missing_usages(),
+        }
+    }
+
+    /// Whether an item is a negative maximum, and no negative minimum is in force.
+    pub(crate) fn is_meant_unsigned(&self, item: &ItemType) -> bool
+        ensures { result ≡ is_meant_unsigned self.now.item_state (Some item.now) }
+    {
+        let globals = self.item_states.globals();
+        match item {
+            ItemType::Global(GlobalItem::LogicalMaximum(maximum)) => {
+                i32::from(*maximum) < 0
+                    && globals
+                        .logical_minimum
+                        .is_none_or(|minimum| i32::from(minimum) >= 0)
+            }
+            ItemType::Global(GlobalItem::PhysicalMaximum(maximum)) => {
+                i32::from(*maximum) < 0
+                    && globals
+                        .physical_minimum
+                        .is_none_or(|minimum| i32::from(minimum) >= 0)
+            }
+            _ => false,
+        }
     }
 
     /// A Push keeps what is in force, a Pop brings it back, any other item sets a value.
@@ -235,6 +289,7 @@ fn needed_usages<'a>(item: &DataItem, item_states: &'a ItemStateTable) -> Result
     ensures usages { IfOk result (HasUsages (item_flags item.now) item_states.now.now) }
     ensures err { IfErr result (λ e.
         IsFaultOf e (usages_fault (item_flags item.now) item_states.now.now)) }
+    ensures named { IfErr result (λ e. fault_named e ≢ None) }
 {
     if item.is_constant {
         return Ok(Usages::none());

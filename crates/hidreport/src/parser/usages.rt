@@ -1,8 +1,8 @@
 //! The usages of an item (Section 6.2.2.8).
-ghost use Rattle.std.specs.Prelude.{◌≡◌, ◌<◌, length, map, IfOk};
+ghost use Rattle.std.specs.Prelude.{◌≡◌, ◌≢◌, ◌<◌, length, map, None, IfErr, IfOk};
 ghost use Rattle.hidreport.specs.Fields.{usage_at};
 ghost use Rattle.hidreport.specs.Parser.Locals.{usage_under};
-ghost use Rattle.hidreport.specs.Parser.Refusals.{Finds};
+ghost use Rattle.hidreport.specs.Parser.Refusals.{Finds, fault_named};
 ghost use Rattle.hidreport.specs.Parser.Usages.{usage_list};
 ghost use Rattle.hidreport.specs.Usages.{as_single, single_usages, usages_of};
 
@@ -107,7 +107,8 @@ fn single_list(
 /// usages. Of several minima or maxima the last counts.
 #[inline(always)]
 pub(crate) fn usages_of(item_states: &ItemStateTable) -> Result<Usages<'_>, Fault>
-    ensures { Finds usage_list result (usages_of item_states.now.now) }
+    ensures found { Finds usage_list result (usages_of item_states.now.now) }
+    ensures named { IfErr result (λ e. fault_named e ≢ None) }
 {
     let locals = item_states.locals();
     let page = item_states.globals().usage_page;
@@ -129,7 +130,8 @@ pub(crate) fn usages_of(item_states: &ItemStateTable) -> Result<Usages<'_>, Faul
 
 /// The single usages, in order; one without a page of its own needs the page in force.
 fn single_usages(page: Option<UsagePage>, locals: &Locals) -> Result<Usages<'_>, Fault>
-    ensures { Finds usage_list result (as_single (single_usages page locals.now)) }
+    ensures found { Finds usage_list result (as_single (single_usages page locals.now)) }
+    ensures named { IfErr result (λ e. fault_named e ≢ None) }
 {
     let usages = locals.usages();
     match page {

@@ -9,11 +9,11 @@ use Rattle.hidreport.proofs.field.written_bits.put_bits.Goals as goal
 pub returns : goal.returns
 returns c =
     let end = c.div_ceil.result in
-    put-in-place c.args.bytes.now c.put_word.new.bytes c.args.first c.args.width end
-    c.word_with-word.result c.args.number (omega (arith, c.div_ceil.ensures))
+    put-in-place c.args.bytes.now c.put_touched.new.bytes c.args.first c.args.width end
+    c.put_touched.result c.args.number (omega (arith, c.div_ceil.ensures))
     (omega (arith, c.div_ceil.ensures, c.requires.within)) (omega (arith, c.div_ceil.ensures))
-    c.put_word.ensures.length c.put_word.ensures.bytes
-    (λ i lt. c.word_with-word.ensures i lt
+    c.put_touched.ensures.length c.put_touched.ensures.bytes
+    (λ i lt. c.put_touched.ensures.bits i lt
     ∙ ap (λ z. bit_after (c.args.first % 8) c.args.width (z ∷ [])
     (take (end - c.args.first / 8) (drop (c.args.first / 8) c.args.bytes.now)) i)
     (to_z-of_z w64 c.args.number c.ranges.number))

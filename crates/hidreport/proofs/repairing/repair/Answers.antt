@@ -1,0 +1,20 @@
+use Rattle.std.proofs.Common.{arith, refl, subst}
+use Rattle.hidreport_lists.proofs.CutLemmas.{are_bytes}
+use Rattle.hidreport_lists.specs.Answer.{AnswersBy}
+use Rattle.hidreport.specs.Options.{parse_as}
+use Rattle.hidreport.specs.Repair.{repaired_view}
+use Rattle.hidreport.proofs.UntouchedLemmas.{accepts-answer, untouched-ok}
+use Rattle.hidreport.proofs.repairing.repair.Goals as goal
+
+pub returns-clause-untouched : goal.returns-clause-untouched
+returns-clause-untouched c = λ no ok.
+    subst (λ r. AnswersBy repaired_view c.repaired_bytes.result r)
+    (untouched-ok c.args.options c.args.bytes.now
+    (parse_as c.args.options.parse c.args.bytes.now)
+    (are_bytes c.args.bytes.now (λ i. omega (arith, c.type_inv.bytes i))) no refl ok)
+    c.repaired_bytes.ensures
+
+pub returns-clause-accepted : goal.returns-clause-accepted
+returns-clause-accepted c =
+    accepts-answer c.args.options c.args.bytes.now c.repaired_bytes.result
+    c.repaired_bytes.ensures

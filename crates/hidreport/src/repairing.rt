@@ -1,0 +1,60 @@
+//! Descriptors that hosts accept, made such as are read.
+ghost use Rattle.std.specs.Prelude.{◌≡◌, [], false, IfOk, IsOk, Ok};
+ghost use Rattle.hidreport_lists.specs.Answer.{AnswersBy};
+ghost use Rattle.hidreport.specs.Options.{parse_as};
+ghost use Rattle.hidreport.specs.Repair.{repaired, repaired_view};
+
+mod change;
+mod mending;
+mod repair_options;
+
+use crate::descriptor::ReportDescriptor;
+pub use change::{Change, Repaired};
+use hidreport_lists::{ParserError, pieces};
+use mending::mend_all;
+pub use repair_options::RepairOptions;
+use std::alloc::Global;
+
+/// A descriptor that `try_from_with` reads by these options, made of one that hosts accept, as
+/// Linux's hid-core reads it (Section 6.2.2); and what was changed.
+///
+/// An item that needs data and has none has the data 0. A main item whose tag the standard doesn't
+/// know is left out, with the local items that would have been its own. An Input, Output or Feature
+/// that makes fields with data and has no usages is padding of the same size, its flag Constant
+/// set. Where it is asked for, a negative maximum is written without a sign where no negative
+/// minimum is in force (`25 ff` as `26 ff 00`), and an item that is cut short is left out. Each
+/// other item stands as it stood, in order.
+///
+/// Refused is the first fault that stays, with its offset in the bytes that were given, and as
+/// `try_from_with` says it: an item that is cut short before any fault of meaning. `OutOfBounds`,
+/// `BudgetExceeded` and `OutOfMemory` come as they do there; nothing at all, or nothing that stays,
+/// is `InvalidData` at 0, `Empty report descriptor`.
+///
+/// What is written is read (`accepted`); and a descriptor that is read stays as it is, without a
+/// change, unless maxima are asked for (`untouched`).
+pub fn repair(alloc: Global, bytes: &[u8], options: RepairOptions) -> Result<Repaired, ParserError>
+    ensures exact { AnswersBy repaired_view result (repaired options bytes.now) }
+    ensures untouched { options.unsigned_maxima ≡ false → IsOk (parse_as options.parse bytes.now)
+        → AnswersBy repaired_view result (Ok (record { bytes = bytes.now; changes = [] })) }
+    ensures accepted { IfOk result (λ repaired. IsOk (parse_as options.parse repaired.bytes.items)) }
+{
+    repaired_bytes(alloc, bytes, options)
+}
+
+/// What `repair` answers, by the definition alone.
+fn repaired_bytes(
+    alloc: Global,
+    bytes: &[u8],
+    options: RepairOptions,
+) -> Result<Repaired, ParserError>
+    ensures { AnswersBy repaired_view result (repaired options bytes.now) }
+{
+    if let Some(offset) = options.parse.past_longest(bytes.len()) {
+        return Err(ParserError::BudgetExceeded { offset });
+    }
+    let mut pieces = pieces(alloc, bytes, options.leave_out_cut_short)?;
+    mend_all(alloc, pieces.as_mut_slice(), options)?;
+    let repaired = Repaired::of(alloc, pieces.as_slice())?;
+    ReportDescriptor::try_from_with(alloc, repaired.bytes.as_slice(), options.parse)?;
+    Ok(repaired)
+}

@@ -1,0 +1,37 @@
+//! How a descriptor is repaired.
+ghost use Rattle.std.specs.Prelude.{◌≡◌, false, None};
+ghost use Rattle.hidreport.specs.declared.parser.push_keeps.PushKeeps.TheVariants as push_keeps;
+
+use crate::parse_options::ParseOptions;
+
+/// What `repair` mends, and how what it writes is read. The default mends what Linux's hid-core
+/// reads without asking.
+#[derive(Clone, Copy, Debug, PartialEq, Eq)]
+pub struct RepairOptions {
+    /// How the repaired descriptor is read.
+    pub parse: ParseOptions,
+
+    /// Whether an item that is cut short is left out, with all bytes from there on. hid-core
+    /// refuses it.
+    pub leave_out_cut_short: bool,
+
+    /// Whether a negative maximum is written as the same data without a sign, where no negative
+    /// minimum is in force. hid-core always reads it so.
+    pub unsigned_maxima: bool,
+}
+
+impl Default for RepairOptions {
+    ghost is_default = { λ options. options ≡ record {
+      parse = record { push_keeps = push_keeps.All; limit = None; longest = None };
+      leave_out_cut_short = false;
+      unsigned_maxima = false;
+    } };
+
+    fn default() -> RepairOptions {
+        RepairOptions {
+            parse: ParseOptions::default(),
+            leave_out_cut_short: false,
+            unsigned_maxima: false,
+        }
+    }
+}

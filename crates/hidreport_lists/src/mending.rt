@@ -1,0 +1,267 @@
+//! Items as Linux's hid-core reads them where bytes can't be read as items (Section 6.2.2).
+ghost use Rattle.std.specs.Prelude.{◌≡◌, Err, IfErr, IfOk, Ok};
+ghost use Rattle.hidreport_items.specs.ItemFaults.{told_fault};
+ghost use Rattle.hidreport_lists.specs.Answer.{AnswersBy};
+ghost use Rattle.hidreport_lists.specs.Itemising.{as_refusal};
+ghost use Rattle.hidreport_lists.specs.Mending.{front_piece, left_out, pieces, whole_piece};
+ghost use Rattle.hidreport_lists.specs.Mending.{without_ended};
+
+use crate::error::ParserError;
+use crate::front::PlacedFault;
+use crate::short_item::following;
+use hidreport_items::{ItemBytes, ItemFault, ItemType, read_item};
+use std::alloc::Global;
+use std::marker::Model;
+
+/// Why something else stands in a repaired descriptor than what stood there.
+#[derive(Clone, Copy, Debug, PartialEq, Eq)]
+pub enum Mend {
+    /// An item that needs a data byte had none: its data is 0 now.
+    NoData,
+
+    /// A main item of a tag that the standard doesn't know is left out.
+    UnknownMainItem,
+
+    /// A local item is left out with the main item that it would have been of.
+    EndedLocal,
+
+    /// A data item without a usage is padding now.
+    NoUsage,
+
+    /// A maximum that was meant unsigned has data that says so.
+    UnsignedMaximum,
+
+    /// An item was cut short, and is left out.
+    CutShort,
+}
+
+/// What stands in the place of bytes.
+#[derive(Debug, Drop)]
+enum Standing {
+    /// The item that stood there.
+    AsItStood(ItemType),
+
+    /// An item in these bytes.
+    Written(ItemBytes, ItemType),
+
+    /// Nothing.
+    LeftOut,
+}
+
+/// Bytes of a descriptor, and what stands in their place.
+#[derive(Debug, Drop)]
+pub struct Piece<'a> {
+    offset: usize,
+    stood: &'a [u8],
+    standing: Standing,
+    mend: Option<Mend>,
+}
+
+impl<'a> Model for Piece<'a> {
+    ghost use Rattle.hidreport_lists.specs.Mending.{PieceRecord, standing_in};
+
+    ghost Value = { PieceRecord };
+
+    ghost view = { λ p. record {
+      offset = p.offset;
+      stood = p.stood.now;
+      stands = standing_in p.stood.now p.standing;
+      mend = p.mend;
+    } };
+}
+
+/// What hid-core reads of the bytes: items, and where there is none, an item with the data 0 or
+/// nothing; what is cut short is left out where that is asked for.
+///
+/// What hid-core can't read either is `InvalidData` at its offset, as
+/// `ReportDescriptorItems::try_from` says it. `OutOfMemory` comes only where a growth is refused.
+pub fn pieces<'a>(
+    alloc: Global,
+    bytes: &'a [u8],
+    leave_out_cut_short: bool,
+) -> Result<Vec<Piece<'a>>, ParserError>
+    ensures { AnswersBy (λ pieces. pieces.items) result
+        (as_refusal (pieces leave_out_cut_short bytes.now)) }
+{
+    let mut pieces = Vec::new(alloc);
+    let mut offset = 0;
+    let mut rest = bytes;
+    while !rest.is_empty() {
+        let piece = match front_piece(offset, rest, leave_out_cut_short) {
+            Ok(piece) => piece,
+            Err(fault) => return Err(PlacedFault { offset, fault }.refusal(alloc)),
+        };
+        let size = piece.size();
+        pieces.push(piece)?;
+        offset += size;
+        rest = rest.split_at(size).1;
+    }
+    leave_out_ended(pieces.as_mut_slice());
+    Ok(pieces)
+}
+
+/// The first piece of bytes that stand at the offset.
+fn front_piece<'a>(
+    offset: usize,
+    bytes: &'a [u8],
+    leave_out_cut_short: bool,
+) -> Result<Piece<'a>, ItemFault>
+    ensures piece { IfOk result (λ piece.
+        front_piece leave_out_cut_short offset bytes.now ≡ Ok piece) }
+    ensures fault { IfErr result (λ fault.
+        front_piece leave_out_cut_short offset bytes.now ≡ Err (told_fault fault)) }
+{
+    let Some((header, after)) = bytes.split_first() else {
+        return Err(ItemFault::TooFew);
+    };
+    let following = following(*header, after);
+    if after.len() >= following {
+        return Ok(whole_piece(offset, &bytes[..1 + following]));
+    }
+    if leave_out_cut_short {
+        Ok(left_out(Mend::CutShort, offset, bytes))
+    } else {
+        Err(ItemFault::TooFew)
+    }
+}
+
+/// A header and all that follows it: the item that they are, or with the data 0 are, or nothing.
+fn whole_piece<'a>(offset: usize, stood: &'a [u8]) -> Piece<'a>
+    ensures { result ≡ whole_piece offset stood.now }
+{
+    let Some((header, data_bytes)) = stood.split_first() else {
+        return left_out(Mend::UnknownMainItem, offset, stood);
+    };
+    if let Ok(item) = read_item(*header, data_bytes) {
+        return Piece {
+            offset,
+            stood,
+            standing: Standing::AsItStood(item),
+            mend: None,
+        };
+    }
+    let header = header - header % 4 + 1;
+    match read_item(header, &[0]) {
+        Ok(item) => Piece {
+            offset,
+            stood,
+            standing: Standing::Written(ItemBytes::new(header, &[0]), item),
+            mend: Some(Mend::NoData),
+        },
+        Err(_) => left_out(Mend::UnknownMainItem, offset, stood),
+    }
+}
+
+/// Bytes that are left out.
+fn left_out<'a>(mend: Mend, offset: usize, stood: &'a [u8]) -> Piece<'a>
+    ensures { result ≡ left_out mend offset stood.now }
+{
+    Piece {
+        offset,
+        stood,
+        standing: Standing::LeftOut,
+        mend: Some(mend),
+    }
+}
+
+/// Leaves out the local items that end with a main item which is left out.
+fn leave_out_ended(pieces: &mut [Piece])
+    ensures { pieces.new ≡ without_ended pieces.old }
+{
+    let mut is_unknown = false;
+    let mut index = pieces.len();
+    while index > 0 {
+        index -= 1;
+        let piece = &mut pieces[index];
+        if is_unknown && piece.holds_local() {
+            piece.standing = Standing::LeftOut;
+            piece.mend = Some(Mend::EndedLocal);
+        } else {
+            is_unknown = piece.is_unknown() || (is_unknown && !piece.holds_main());
+        }
+    }
+}
+
+impl<'a> Piece<'a> {
+    ghost use Rattle.std.specs.Prelude.{◌≡◌, length, Some};
+    ghost use Rattle.hidreport_lists.specs.Mending.{holding, is_local, is_main, is_unknown};
+    ghost use Rattle.hidreport_lists.specs.Mending.{item_in, standing_bytes};
+
+    /// How many bytes of the descriptor stand before it.
+    pub fn offset(&self) -> usize
+        ensures { result ≡ self.now.offset }
+    {
+        self.offset
+    }
+
+    /// What stood there.
+    pub fn stood(&self) -> &[u8]
+        ensures { result.now ≡ self.now.stood }
+    {
+        self.stood
+    }
+
+    /// The item that stands there, if any.
+    pub fn item(&self) -> Option<ItemType>
+        ensures { result ≡ item_in self.now }
+    {
+        match &self.standing {
+            Standing::AsItStood(item) | Standing::Written(_, item) => Some(*item),
+            Standing::LeftOut => None,
+        }
+    }
+
+    /// The bytes that stand there now, none where it is left out.
+    pub fn bytes(&self) -> &[u8]
+        ensures { result.now ≡ standing_bytes self.now.stands }
+    {
+        match &self.standing {
+            Standing::AsItStood(_) => self.stood,
+            Standing::Written(bytes, _) => bytes.as_slice(),
+            Standing::LeftOut => &[],
+        }
+    }
+
+    /// Why another item stands there, or none.
+    pub fn mend(&self) -> Option<Mend>
+        ensures { result ≡ self.now.mend }
+    {
+        self.mend
+    }
+
+    /// Puts an item there that these bytes spell.
+    pub fn write(&mut self, mend: Mend, bytes: ItemBytes, item: ItemType)
+        ensures { self.new ≡ holding (Some mend) self.old.offset self.old.stood bytes item }
+    {
+        self.standing = Standing::Written(bytes, item);
+        self.mend = Some(mend);
+    }
+
+    /// How many bytes stood there.
+    fn size(&self) -> usize
+        ensures { result ≡ length self.now.stood }
+    {
+        self.stood.len()
+    }
+
+    /// Whether a main item of an unknown tag stood there.
+    fn is_unknown(&self) -> bool
+        ensures { result ≡ is_unknown self.now.mend }
+    {
+        self.mend == Some(Mend::UnknownMainItem)
+    }
+
+    /// Whether a main item stands there.
+    fn holds_main(&self) -> bool
+        ensures { result ≡ is_main (item_in self.now) }
+    {
+        matches!(self.item(), Some(ItemType::Main(_)))
+    }
+
+    /// Whether a local item stands there.
+    fn holds_local(&self) -> bool
+        ensures { result ≡ is_local (item_in self.now) }
+    {
+        matches!(self.item(), Some(ItemType::Local(_)))
+    }
+}
