@@ -5,6 +5,7 @@
 mod descriptors;
 mod items;
 mod lists;
+mod repairs;
 mod values;
 mod wanted;
 
@@ -20,6 +21,7 @@ use items::{
     long_data_is_refused, long_items_are_read, long_items_are_told, three_bytes_are_refused,
 };
 use lists::{LISTS, REBUILT, list_is_answered, rebuilding_is_answered};
+use repairs::{REPAIRED, repair_is_answered};
 use std::alloc::{AllocError, Global};
 use std::process::Abort;
 use values::{
@@ -88,6 +90,9 @@ pub(crate) fn count_refused<R: Abort>(rt: &R, alloc: Global) -> usize {
     }
     for (bytes, wanted) in &REBUILT {
         refused = count(rt, refused, rebuilding_is_answered(alloc, bytes, *wanted));
+    }
+    for (bytes, wanted) in &REPAIRED {
+        refused = count(rt, refused, repair_is_answered(alloc, bytes, *wanted));
     }
     for (bytes, wanted) in &DESCRIPTORS {
         refused = count(rt, refused, descriptor_is_answered(alloc, bytes, *wanted));
