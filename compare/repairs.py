@@ -2,8 +2,16 @@
 """Prints crates/hidreport_cases/data/repairs.txt: descriptors that hosts accept, and what is made of
 them, by a model of how Linux's hid-core reads items (drivers/hid/hid-core.c: fetch_item,
 hid_parser_main, hid_parser_global, hid_parser_local, hid_add_field, hid_open_report), which knows
-nothing of this library's code."""
+nothing of this library's code. With the word `refused` it prints repairs_of_refused.txt: the same of
+each descriptor in the other files that is refused, and with `counts` how many those are."""
+import glob
+import os
+import re
+import sys
+from collections import Counter
 
+DATA_FILES = os.path.join(os.path.dirname(os.path.dirname(os.path.abspath(__file__))),
+                          "crates/hidreport_cases/data")
 SIZES = [0, 1, 2, 4]
 GLOBALS = {0x04: "page", 0x14: "logical minimum", 0x24: "logical maximum",
            0x34: "physical minimum", 0x44: "physical maximum", 0x54: "exponent", 0x64: "unit",
@@ -68,6 +76,7 @@ class State:
     def __init__(self, keeps_locals):
         self.values, self.locals, self.stack = {}, [], []
         self.keeps_locals, self.depth, self.listed = keeps_locals, [], 0
+        self.ends = {}
 
     def usages(self):
         """The usages in force: a list, or the text of a fault."""
@@ -161,6 +170,7 @@ def fields(state, item, limit):
     if size == 0 or count == 0:
         return
     if data[0] & 1:
+        grow(state, prefix, size * count)
         spend(state, at, limit, 1)
         return
     usages = state.usages()
@@ -169,11 +179,24 @@ def fields(state, item, limit):
     if not usages:
         item[2] = stands[:1] + bytes([data[0] | 1]) + data[1:]
         item[3] = "no usage"
+        grow(state, prefix, size * count)
         spend(state, at, limit, 1)
-    elif data[0] & 2:
+        return
+    grow(state, prefix, size * count)
+    if data[0] & 2:
         spend(state, at, limit, count * (1 + sum(state.depth)))
     else:
         spend(state, at, limit, 1 + len(usages) + sum(state.depth))
+
+
+def grow(state, direction, bits):
+    """The bits of a report, which a number of 64 bits has to count."""
+    ends = state.ends.setdefault(direction, {})
+    key = state.values.get("id", next(iter(ends), None))
+    key = None if key is None else key & 0xFF
+    ends[key] = ends.get(key, 0 if key is None else 8) + bits
+    if ends[key] >= 1 << 64:
+        raise Refused("refused: out of bounds")
 
 
 def spend(state, at, limit, weight):
@@ -254,21 +277,66 @@ CASES = [
 ]
 
 
-def main():
-    print("# Descriptors that hosts accept, and what is made of them. compare/repairs.py wrote this file.\n")
+def tell(words, digits, raw):
+    """A question with its answer, and the answer's first line."""
+    print(f"repair {words} / {digits}")
+    try:
+        out, changes = mend(raw, words.split())
+    except Refused as refused:
+        print(f"  {refused}")
+        return str(refused)
+    print(f"  {out.hex()}")
+    for at, stood, stands, why in changes:
+        print(f"    {at} {stood.hex()} {stands.hex() if stands else '-'} {why}")
+    return "read"
+
+
+def bytes_of(text):
+    out = b""
+    for word in text.split():
+        often, _, digits = word.rpartition("*")
+        out += b"" if word == "-" else bytes.fromhex(digits) * int(often or 1)
+    return out
+
+
+def refused_descriptors():
+    """What the other files say is refused for more than its bounds: the bytes and the refusal."""
+    seen = set()
+    for name in sorted(glob.glob(DATA_FILES + "/*.txt")):
+        lines = open(name).read().split("\n")
+        for question, answer in zip(lines, lines[1:]):
+            found = re.match(r"(parse|shape) (.*)$", question)
+            told = re.match(r"  refused at \d+: (.*)$", answer)
+            if found and told and told[1] != "budget":
+                raw = bytes_of(found[2])
+                if raw and raw not in seen:
+                    seen.add(raw)
+                    yield raw, re.sub("0b[01]+", "..", told[1])
+
+
+def print_refused():
+    print("# Each descriptor of the other files that is refused, and what is made of it.")
+    print("# compare/repairs.py wrote this file.\n")
+    counts = Counter()
+    for raw, refusal in refused_descriptors():
+        counts[refusal, tell("as-usual", raw.hex(), raw) == "read"] += 1
+    return counts
+
+
+def print_own():
+    print("# Descriptors that hosts accept, and what is made of them.")
+    print("# compare/repairs.py wrote this file.\n")
     for comment, questions in CASES:
         print(f"# {comment}")
         for words, digits in questions:
-            raw = b"" if digits == "-" else bytes.fromhex(digits)
-            print(f"repair {words} / {digits}")
-            try:
-                out, changes = mend(raw, words.split())
-                print(f"  {out.hex()}")
-                for at, stood, stands, why in changes:
-                    print(f"    {at} {stood.hex()} {stands.hex() if stands else '-'} {why}")
-            except Refused as refused:
-                print(f"  {refused}")
+            tell(words, digits, bytes_of(digits))
         print()
 
 
-main()
+if sys.argv[1:] == ["refused"]:
+    print_refused()
+elif sys.argv[1:] == ["counts"]:
+    for (refusal, is_read), count in sorted(print_refused().items()):
+        print(f"{count:4} {'read' if is_read else 'stays'} {refusal}", file=sys.stderr)
+else:
+    print_own()

@@ -46,6 +46,7 @@ pub mod ParseLemmas
 pub mod ReadBackLemmas
 pub mod RefusalLemmas
 pub mod RepairLemmas
+pub mod RepairLawLemmas
 pub mod RangeLemmas
 pub mod ElementLemmas
 pub mod SegmentLemmas

@@ -20,6 +20,7 @@ pub mod Places
 pub mod Reading
 pub mod Records
 pub mod Repair
+pub mod RepairLaws
 pub mod Segments
 pub mod Standing
 pub mod Usages

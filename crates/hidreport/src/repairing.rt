@@ -3,6 +3,7 @@ ghost use Rattle.std.specs.Prelude.{◌≡◌, [], false, IfOk, IsOk, Ok};
 ghost use Rattle.hidreport_lists.specs.Answer.{AnswersBy};
 ghost use Rattle.hidreport.specs.Options.{parse_as};
 ghost use Rattle.hidreport.specs.Repair.{repaired, repaired_view};
+ghost use Rattle.hidreport.specs.RepairLaws.{IsRepairOf};
 
 mod change;
 mod mending;
@@ -30,12 +31,14 @@ use std::alloc::Global;
 /// `BudgetExceeded` and `OutOfMemory` come as they do there; nothing at all, or nothing that stays,
 /// is `InvalidData` at 0, `Empty report descriptor`.
 ///
-/// What is written is read (`accepted`); and a descriptor that is read stays as it is, without a
-/// change, unless maxima are asked for (`untouched`).
+/// What is written is read (`accepted`); what no change names stands as it stood, in order
+/// (`kept`); and a descriptor that is read stays as it is, without a change, unless maxima are asked
+/// for (`untouched`).
 pub fn repair(alloc: Global, bytes: &[u8], options: RepairOptions) -> Result<Repaired, ParserError>
     ensures exact { AnswersBy repaired_view result (repaired options bytes.now) }
     ensures untouched { options.unsigned_maxima ≡ false → IsOk (parse_as options.parse bytes.now)
         → AnswersBy repaired_view result (Ok (record { bytes = bytes.now; changes = [] })) }
+    ensures kept { IfOk result (λ repaired. IsRepairOf bytes.now (repaired_view repaired)) }
     ensures accepted { IfOk result (λ repaired. IsOk (parse_as options.parse repaired.bytes.items)) }
 {
     repaired_bytes(alloc, bytes, options)

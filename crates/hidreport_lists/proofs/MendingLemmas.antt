@@ -40,7 +40,7 @@ inside-piece leave_out offset (suc inside) (b ∷ bs) le =
     ∙ ap (λ n. pieces_from leave_out n 0 (drop inside bs)) (omega arith)
 
 -- all bytes are inside the piece
-all-inside : (leave_out : Bool) (offset inside : ℕ) (bs : List ℕ) → length bs ≤ inside
+pub all-inside : (leave_out : Bool) (offset inside : ℕ) (bs : List ℕ) → length bs ≤ inside
     → pieces_from leave_out offset inside bs ≡ Ok []
 all-inside leave_out offset inside [] le = refl
 all-inside leave_out offset zero (b ∷ bs) le = absurd (omega arith)

@@ -3,6 +3,7 @@ use Rattle.hidreport_lists.proofs.CutLemmas.{are_bytes}
 use Rattle.hidreport_lists.specs.Answer.{AnswersBy}
 use Rattle.hidreport.specs.Options.{parse_as}
 use Rattle.hidreport.specs.Repair.{repaired_view}
+use Rattle.hidreport.proofs.RepairLawLemmas.{repair-so}
 use Rattle.hidreport.proofs.UntouchedLemmas.{accepts-answer, untouched-ok}
 use Rattle.hidreport.proofs.repairing.repair.Goals as goal
 
@@ -18,3 +19,7 @@ pub returns-clause-accepted : goal.returns-clause-accepted
 returns-clause-accepted c =
     accepts-answer c.args.options c.args.bytes.now c.repaired_bytes.result
     c.repaired_bytes.ensures
+
+pub returns-clause-kept : goal.returns-clause-kept
+returns-clause-kept c =
+    repair-so c.args.options c.args.bytes.now c.repaired_bytes.result c.repaired_bytes.ensures
