@@ -1,7 +1,9 @@
--- Lookup (Section 5.6): the report that bytes are of.
+-- Lookup (Section 5.6): the report that bytes are of, and the one with an id.
 use Rattle.std.specs.Prelude.{ℕ, List, [], ◌∷◌, Option, None, Some, find}
 use Rattle.hidreport.specs.Making.{same_key}
-use Rattle.hidreport.specs.Records.{ReportRecord}
+use Rattle.hidreport.specs.Records.{DescriptorRecord, ReportRecord}
+use Rattle.hidreport.specs.declared.field.data_item.Direction.{Direction}
+use Rattle.hidreport.specs.declared.field.data_item.Direction.TheVariants as direction
 
 -- where the first report has no id it is the answer, else that with the first byte as its id
 abbrev pub find_by : Option ℕ → List ReportRecord → ReportRecord → ℕ → Option ReportRecord
@@ -13,3 +15,13 @@ abbrev pub find_report : List ReportRecord → List ℕ → Option ReportRecord
 find_report reports [] = None
 find_report [] (b ∷ bytes) = None
 find_report (first ∷ more) (b ∷ bytes) = find_by first.id (first ∷ more) first b
+
+-- the reports of a direction
+abbrev pub reports_of : Direction → DescriptorRecord → List ReportRecord
+reports_of direction.Input descriptor = descriptor.input
+reports_of direction.Output descriptor = descriptor.output
+reports_of direction.Feature descriptor = descriptor.feature
+
+-- the first with this id, or the first without, if there is one
+abbrev pub report_with : Option ℕ → List ReportRecord → Option ReportRecord
+report_with id reports = find (λ r. same_key r.id id) reports

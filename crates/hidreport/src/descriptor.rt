@@ -7,7 +7,7 @@ ghost use Rattle.hidreport_lists.specs.Itemising.{itemise};
 ghost use Rattle.hidreport_lists.specs.Rebuilt.{items_of};
 ghost use Rattle.hidreport.specs.Budget.{parse_within};
 ghost use Rattle.hidreport.specs.Laws.{KeptItemsMean, RebuiltBytesMean, SegmentsAreIdle};
-ghost use Rattle.hidreport.specs.Lookup.{find_report};
+ghost use Rattle.hidreport.specs.Lookup.{find_report, report_with, reports_of};
 ghost use Rattle.hidreport.specs.Meaning.{parse, parse_by, parse_globals_only};
 ghost use Rattle.hidreport.specs.Options.{parse_as, parse_limited, reading_of};
 ghost use Rattle.hidreport.specs.Reading.{reads};
@@ -22,8 +22,9 @@ use crate::parse_options::ParseOptions;
 use crate::parser;
 use crate::parser::push_keeps::PushKeeps;
 use crate::report::RDescReport;
-use crate::report::reports::{Reports, find_report};
+use crate::report::reports::{Reports, find_report, find_with_id};
 use hidreport_lists::ParserError;
+use hidreport_types::ReportId;
 use std::alloc::Global;
 use std::marker::Model;
 
@@ -217,6 +218,25 @@ impl ReportDescriptor {
         ensures { result.now ≡ self.now.feature }
     {
         self.reports.of(Direction::Feature)
+    }
+
+    /// The reports of a direction: what `input_reports`, `output_reports` or `feature_reports` gives.
+    pub fn reports(&self, direction: Direction) -> &[RDescReport]
+        ensures { result.now ≡ reports_of direction self.now }
+    {
+        match direction {
+            Direction::Input => self.input_reports(),
+            Direction::Output => self.output_reports(),
+            Direction::Feature => self.feature_reports(),
+        }
+    }
+
+    /// The report with this id in a direction (Section 5.6), for `None` the one without an id.
+    /// `None` where there is no such report.
+    pub fn report(&self, direction: Direction, id: Option<ReportId>) -> Option<&RDescReport>
+        ensures { option_copied result ≡ report_with id (reports_of direction self.now) }
+    {
+        find_with_id(self.reports(direction), id)
     }
 
     /// The input report that a report's bytes are of (Section 5.6): the first where it has no id,

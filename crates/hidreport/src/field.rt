@@ -1,6 +1,6 @@
 //! What a field of a report is.
 ghost use Rattle.std.specs.Prelude.{◌≡◌, IfOk};
-ghost use Rattle.hidreport.specs.Records.{own_id};
+ghost use Rattle.hidreport.specs.Records.{own_id, usages_in};
 ghost use Rattle.hidreport.specs.Views.{field_bits, field_collections, field_id, field_record};
 
 pub(crate) mod array_field;
@@ -22,6 +22,8 @@ use hidreport_types::ReportId;
 use std::alloc::AllocError;
 use std::marker::Model;
 use std::ops::Range;
+use std::slice;
+use usage::Usage;
 use variable_field::VariableField;
 
 /// The number of a field, counted from 0 in the order of the descriptor.
@@ -119,6 +121,18 @@ impl Field {
         match self {
             Field::Variable(field) => field.collections.as_slice(),
             Field::Array(field) => field.collections.as_slice(),
+            Field::Constant(_) => &[],
+        }
+    }
+
+    /// What the field's values are for, in the order of the descriptor (Section 6.2.2.8): the usage
+    /// of a variable field, those that an array chooses among, and none of padding.
+    pub fn usages(&self) -> &[Usage]
+        ensures { result.now ≡ usages_in (field_record self.now) }
+    {
+        match self {
+            Field::Variable(field) => slice::from_ref(&field.usage),
+            Field::Array(field) => field.usages(),
             Field::Constant(_) => &[],
         }
     }

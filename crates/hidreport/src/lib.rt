@@ -45,6 +45,7 @@ pub use descriptor::ReportDescriptor;
 pub use field::array_field::ArrayField;
 pub use field::collection::{Collection, CollectionId};
 pub use field::constant_field::ConstantField;
+pub use field::data_item::Direction;
 pub use field::field_attributes::FieldAttributes;
 pub use field::insert_error::InsertError;
 pub use field::usage::Usage;

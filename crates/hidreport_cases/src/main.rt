@@ -14,6 +14,7 @@ mod fields;
 mod insertions;
 mod items;
 mod kinds;
+mod lookups;
 mod made;
 mod malformed;
 mod parts;

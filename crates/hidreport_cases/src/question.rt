@@ -7,6 +7,7 @@ use crate::cuts::add_cuts;
 use crate::descriptors::{Ids, Way, add_descriptor, add_many, read};
 use crate::insertions::{add_blanks, add_inserted, add_inserted_one, add_standing};
 use crate::items::{add_item, add_list, add_short_of};
+use crate::lookups::add_by_id;
 use crate::made::{add_kind_of, add_made};
 use crate::malformed::Malformed;
 use crate::parts::{add_any, add_long, add_short};
@@ -64,6 +65,7 @@ fn add_answer_of_writing(
         "insert-one" => add_inserted_one(alloc, text, asked, words),
         "value-of" => add_standing(text, asked, words),
         "blank" => add_blanks(alloc, text, asked),
+        "by-id" => add_by_id(text, asked, words),
         _ => add_answer_without_field(alloc, text, kind, words),
     }
 }

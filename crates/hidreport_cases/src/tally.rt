@@ -2,7 +2,7 @@
 use std::fmt;
 
 /// The kinds, by the first words of their questions.
-static KINDS: [&str; 39] = [
+static KINDS: [&str; 40] = [
     "parse",
     "parse-globals",
     "parse-within",
@@ -16,6 +16,7 @@ static KINDS: [&str; 39] = [
     "insert-one",
     "value-of",
     "blank",
+    "by-id",
     "many",
     "many-within",
     "list",
@@ -48,7 +49,7 @@ static KINDS: [&str; 39] = [
 #[derive(Drop)]
 pub struct Tally {
     /// How many questions of each kind, in the order of `KINDS`.
-    asked: [usize; 39],
+    asked: [usize; 40],
     /// How many had another answer, or couldn't be asked.
     differing: usize,
     /// How many cut descriptors were asked besides.
@@ -60,7 +61,7 @@ pub struct Tally {
 impl Tally {
     pub fn new() -> Tally {
         Tally {
-            asked: [0; 39],
+            asked: [0; 40],
             differing: 0,
             cuts: 0,
             flips: 0,

@@ -8,8 +8,8 @@ ghost use Rattle.hidreport.specs.Views.{direction_of, item_flags};
 use hidreport_items::{FeatureItem, InputItem, MainDataItem, OutputItem};
 
 /// The three directions in which reports go (Section 6.2.2.4).
-#[derive(Clone, Copy, Debug)]
-pub(crate) enum Direction {
+#[derive(Clone, Copy, Debug, PartialEq, Eq)]
+pub enum Direction {
     /// From the device.
     Input,
 

@@ -1,10 +1,11 @@
 ghost use Rattle.std.specs.Prelude.{◌≡◌, Some, find, option_copied};
-ghost use Rattle.hidreport.specs.Lookup.{find_report};
+ghost use Rattle.hidreport.specs.Lookup.{find_report, report_with};
 ghost use Rattle.hidreport.specs.Making.{same_key};
 ghost use Rattle.hidreport.specs.Records.{ReportRecord};
 
 use crate::field::data_item::Direction;
 use crate::report::RDescReport;
+use hidreport_types::ReportId;
 use std::alloc::Global;
 use std::marker::Model;
 
@@ -74,14 +75,22 @@ fn find_by_id(reports: &[RDescReport], id: u8) -> Option<&RDescReport>
     ensures { option_copied result
         ≡ find (λ (r : ReportRecord). same_key r.id (Some id)) reports.now }
 {
+    find_with_id(reports, Some(ReportId::from(id)))
+}
+
+/// The report with this id, or without one.
+pub(crate) fn find_with_id(reports: &[RDescReport], id: Option<ReportId>) -> Option<&RDescReport>
+    ensures { option_copied result ≡ report_with id reports.now }
+{
     reports.iter().find(|report| has_id(report, id))
 }
 
-fn has_id(report: &RDescReport, id: u8) -> bool
-    ensures { result ≡ same_key report.now.id (Some id) }
+fn has_id(report: &RDescReport, id: Option<ReportId>) -> bool
+    ensures { result ≡ same_key report.now.id id }
 {
-    match report.id {
-        None => false,
-        Some(own) => u8::from(own) == id,
+    match (report.id, id) {
+        (Some(own), Some(id)) => u8::from(own) == u8::from(id),
+        (None, None) => true,
+        _ => false,
     }
 }

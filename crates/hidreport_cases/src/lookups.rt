@@ -1,0 +1,53 @@
+//! Reports by their direction and id, and what their fields are for.
+use crate::asked::Asked;
+use crate::kinds::add_usages;
+use crate::malformed::Malformed;
+use crate::words::number_of;
+use hidreport::{Direction, Report, ReportDescriptor, ReportId};
+use std::alloc::AllocError;
+use std::fmt::Write;
+
+/// Answers `by-id ID ..`: for each id, `-` for none, the reports of the last descriptor that have
+/// it, each with its direction, its bits, and the usages of each field in brackets.
+pub fn add_by_id(text: &mut String, asked: &Asked, words: &str) -> Result<(), Malformed> {
+    let descriptor = asked.descriptor()?;
+    for word in words.split(" ") {
+        write!(text, "{word}:")?;
+        let id = id_of(word)?;
+        add_report(text, descriptor, "input", Direction::Input, id)?;
+        add_report(text, descriptor, "output", Direction::Output, id)?;
+        add_report(text, descriptor, "feature", Direction::Feature, id)?;
+        text.push_str("\n")?;
+    }
+    Ok(())
+}
+
+fn id_of(word: &str) -> Result<Option<ReportId>, Malformed> {
+    if word == "-" {
+        return Ok(None);
+    }
+    match u8::try_from(number_of(word)?) {
+        Ok(id) => Ok(Some(ReportId::from(id))),
+        Err(_too_great) => Err(Malformed::Number),
+    }
+}
+
+fn add_report(
+    text: &mut String,
+    descriptor: &ReportDescriptor,
+    name: &str,
+    direction: Direction,
+    id: Option<ReportId>,
+) -> Result<(), AllocError> {
+    let Some(report) = descriptor.report(direction, id) else {
+        return Ok(());
+    };
+    let bits = report.size_in_bits();
+    write!(text, " {name} {bits}")?;
+    for field in report.fields() {
+        text.push_str(" [")?;
+        add_usages(text, field.usages())?;
+        text.push_str("]")?;
+    }
+    Ok(())
+}
