@@ -1,14 +1,7 @@
 /* Asks the library what the lines of its input ask, and prints each question with its answer below
  * it, two spaces in: every member of every struct. c/cases.txt has such lines, and says how they
  * are written; checks/c_cases.sh compares. */
-#include <hidreport.h>
-
-#include <inttypes.h>
-#include <stdio.h>
-#include <stdlib.h>
-#include <string.h>
-
-enum { ROOM = 256, LENGTH = 70000 };
+#include "cases_words.h"
 
 /* The descriptor and the report of a question. */
 static uint8_t bytes[LENGTH], report[LENGTH];
@@ -21,83 +14,18 @@ static size_t field_count;
 static uint32_t usages[ROOM];
 static size_t usage_count;
 
-static void refuse(const char *why, const char *line)
+/* As many as there is room for. */
+static size_t print_answer_within(struct hidreport_answer answer, size_t room)
 {
-    fprintf(stderr, "cases: %s: %s\n", why, line);
-    exit(2);
-}
-
-/* Bytes are hexadecimal, `-` is none, `9*a4` is one of them nine times; they end at a `/`. */
-static size_t bytes_of(const char *text, uint8_t *into)
-{
-    size_t length = 0, times;
-    unsigned byte;
-    int used;
-    while (*text && *text != '/') {
-        if (*text == ' ' || *text == '-') {
-            text++;
-            continue;
-        }
-        if (sscanf(text, "%zu*%2x%n", &times, &byte, &used) != 2) {
-            times = 1;
-            if (sscanf(text, "%2x%n", &byte, &used) != 1)
-                refuse("no bytes", text);
-        }
-        if (times > LENGTH - length)
-            refuse("too many bytes", text);
-        memset(into + length, (int)byte, times);
-        length += times;
-        text += used;
-    }
-    return length;
-}
-
-static const char *words_of(uint32_t status)
-{
-    switch (status) {
-    case HIDREPORT_ACCEPTED: return "accepted";
-    case HIDREPORT_INVALID_DATA: return "invalid-data";
-    case HIDREPORT_OUT_OF_BOUNDS: return "out-of-bounds";
-    case HIDREPORT_MISMATCHING_REPORT_ID: return "mismatching-report-id";
-    case HIDREPORT_OUT_OF_MEMORY: return "out-of-memory";
-    case HIDREPORT_BUDGET_EXCEEDED: return "budget-exceeded";
-    case HIDREPORT_UNKNOWN_OPTION: return "unknown-option";
-    default: return "?";
-    }
-}
-
-static const char *kind_of(uint32_t kind)
-{
-    switch (kind) {
-    case HIDREPORT_VARIABLE: return "variable";
-    case HIDREPORT_ARRAY: return "array";
-    case HIDREPORT_CONSTANT: return "constant";
-    default: return "?";
-    }
-}
-
-/* The kind of a collection; a number where the standard of today has none. */
-static const char *collection_of(uint32_t kind)
-{
-    static char number[16];
-    switch (kind) {
-    case HIDREPORT_PHYSICAL: return "physical";
-    case HIDREPORT_APPLICATION: return "application";
-    case HIDREPORT_LOGICAL: return "logical";
-    case HIDREPORT_REPORT: return "report";
-    case HIDREPORT_NAMED_ARRAY: return "named-array";
-    case HIDREPORT_USAGE_SWITCH: return "usage-switch";
-    case HIDREPORT_USAGE_MODIFIER: return "usage-modifier";
-    default: snprintf(number, sizeof number, "%" PRIu32, kind); return number;
-    }
+    printf("  count %zu offset %zu", answer.count, answer.offset);
+    printf(" %s\n", words_of(answer.status));
+    return answer.count < room ? answer.count : room;
 }
 
 /* As many as the arrays here have room for. */
 static size_t print_answer(struct hidreport_answer answer)
 {
-    printf("  count %zu offset %zu", answer.count, answer.offset);
-    printf(" %s\n", words_of(answer.status));
-    return answer.count < ROOM ? answer.count : ROOM;
+    return print_answer_within(answer, ROOM);
 }
 
 static void print_measures(const struct hidreport_measures *m)
@@ -138,27 +66,18 @@ static void keep_usages(struct hidreport_answer answer)
         printf("  %08" PRIx32 "\n", usages[i]);
 }
 
-/* Text, or bytes as hexadecimal numbers. */
-static void print_written(struct hidreport_answer answer, const uint8_t *written, const char *form)
+/* So much text, or so many bytes as hexadecimal numbers. */
+static void print_first(size_t count, const uint8_t *written, const char *form)
 {
-    size_t count = print_answer(answer);
     printf("  ");
     for (size_t i = 0; i < count; i++)
         printf(form, written[i]);
     printf("\n");
 }
 
-static uint32_t number_of(const char *word)
+static void print_written(struct hidreport_answer answer, const uint8_t *written, const char *form)
 {
-    return (uint32_t)strtoul(word, NULL, 10);
-}
-
-static uint32_t direction_of(const char *word)
-{
-    return strcmp(word, "input") == 0     ? HIDREPORT_INPUT
-           : strcmp(word, "output") == 0  ? HIDREPORT_OUTPUT
-           : strcmp(word, "feature") == 0 ? HIDREPORT_FEATURE
-                                          : number_of(word);
+    print_first(print_answer(answer), written, form);
 }
 
 static const struct hidreport_field *field_of(const char *word)
@@ -273,6 +192,34 @@ static void rebuild(const char *first, const char *second)
     print_written(hidreport_rebuild(bytes, length, rebuilt, sizeof rebuilt), rebuilt, "%02x");
 }
 
+static void repair(const char *mends, const char *room)
+{
+    static uint8_t repaired[ROOM];
+    struct hidreport_answer answer =
+        hidreport_repair(bytes, length, options, mends_of(mends), repaired, room_of(room));
+    print_first(print_answer_within(answer, room_of(room)), repaired, "%02x");
+}
+
+static void changes(const char *mends, const char *room)
+{
+    static struct hidreport_change c[ROOM];
+    size_t count = print_answer_within(
+        hidreport_changes(bytes, length, options, mends_of(mends), c, room_of(room)),
+        room_of(room));
+    for (size_t i = 0; i < count; i++)
+        printf("  offset %zu stood %zu stands %zu %s\n", c[i].offset, c[i].stood, c[i].stands,
+               reason_of(c[i].reason));
+}
+
+static void repair_message(const char *mends, const char *none)
+{
+    static uint8_t text[ROOM];
+    (void)none;
+    print_written(
+        hidreport_repair_message(bytes, length, options, mends_of(mends), text, sizeof text), text,
+        "%c");
+}
+
 static void value(const char *field, const char *index)
 {
     struct hidreport_value read =
@@ -308,8 +255,10 @@ static const struct {
     {"find", 1, find},               {"usages", 1, list_usages},
     {"collections", 1, collections}, {"collection-usages", 2, collection_usages},
     {"message", 0, message},         {"refusal", 0, refusal},
-    {"items", 0, items},
-    {"rebuild", 0, rebuild},         {"items-message", 0, items_message},
+    {"items", 0, items},             {"rebuild", 0, rebuild},
+    {"items-message", 0, items_message},
+    {"repair", 2, repair},           {"changes", 2, changes},
+    {"repair-message", 1, repair_message},
     {"value", 2, value},             {"values", 1, values},
     {"usage", 2, usage},
 };

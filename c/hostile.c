@@ -102,8 +102,14 @@ static void ask(const struct row *row, const uint8_t *bytes, size_t length)
     look(row, "collections", hidreport_collections(bytes, length, options, 0, NULL, 0));
     look(row, "collection_usages",
          hidreport_collection_usages(bytes, length, options, 0, 0, NULL, 0));
+    look(row, "repair",
+         hidreport_repair(bytes, length, options, HIDREPORT_MEND_DEFAULT, NULL, 0));
+    look(row, "changes",
+         hidreport_changes(bytes, length, options, HIDREPORT_MEND_DEFAULT, NULL, 0));
     look_at_text(row, "message", row->status != HIDREPORT_ACCEPTED,
                  hidreport_message(bytes, length, options, NULL, 0));
+    look_at_text(row, "repair_message", row->status != HIDREPORT_ACCEPTED,
+                 hidreport_repair_message(bytes, length, options, HIDREPORT_MEND_DEFAULT, NULL, 0));
     if (length > 65536)
         return;
     look_at_items(row, "items", hidreport_items(bytes, length, NULL, 0));

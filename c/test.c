@@ -77,6 +77,8 @@ static struct hidreport_answer ask(struct question q, void *array, size_t room)
     case 'i': return hidreport_items(bytes, length, array, room);
     case 'n': return hidreport_items_message(bytes, length, array, room);
     case 'r': return hidreport_rebuild(bytes, length, array, room);
+    case 'e': return hidreport_repair(bytes, length, o, HIDREPORT_MEND_CUT_SHORT, array, room);
+    case 'h': return hidreport_changes(bytes, length, o, HIDREPORT_MEND_CUT_SHORT, array, room);
     default: return hidreport_values(q.field, q.report, q.report_length, array, room);
     }
 }
@@ -189,6 +191,31 @@ static void expect_reports(size_t fields)
     free(reports);
 }
 
+/* What is repaired is read, and as long as the changes say; what is read stays as it is. */
+static void expect_repaired(int is_read)
+{
+    uint8_t *bytes;
+    struct hidreport_change *changes;
+    struct question q = {'e', NULL, 0, NULL}, h = {'h', NULL, 0, NULL};
+    struct hidreport_answer repaired = ask_all(q, &bytes, 1);
+    struct hidreport_answer listed = ask_all(h, &changes, sizeof *changes);
+    size_t length = descriptor_length;
+    for (size_t i = 0; i < listed.count; i++)
+        length = length - changes[i].stood + changes[i].stands;
+    if (listed.status != repaired.status || listed.offset != repaired.offset)
+        fail("the changes are refused otherwise than the repair");
+    if (repaired.status == HIDREPORT_ACCEPTED && repaired.count != length)
+        fail("what is repaired is not as long as its changes say");
+    if (repaired.status == HIDREPORT_ACCEPTED
+        && hidreport_describe(bytes, length, HIDREPORT_DEFAULTS, HIDREPORT_INPUT, NULL, 0).status)
+        fail("what is repaired is refused");
+    if (is_read && (repaired.status != HIDREPORT_ACCEPTED || listed.count != 0
+                    || memcmp(bytes, descriptor, length) != 0))
+        fail("what is read is changed");
+    free(bytes);
+    free(changes);
+}
+
 static int print_values(const char *name)
 {
     static uint8_t report[8192];
@@ -200,6 +227,7 @@ static int print_values(const char *name)
     if (described.status != answer.status || described.count < answer.count)
         fail("a report has more fields than all");
     expect_reports(described.count);
+    expect_repaired(described.status == HIDREPORT_ACCEPTED);
     for (size_t i = 0; i < answer.count; i++)
         print_field(&fields[i], report, length);
     free(fields);

@@ -14,7 +14,7 @@ if ! command -v cc > /dev/null || ! command -v ar > /dev/null; then
     exit 0
 fi
 prefix=${1:-$scratch/prefix}
-[ $# -gt 0 ] || "$top/install" "$prefix" > /dev/null
+[ $# -gt 0 ] || "$top/install" "$prefix" c > /dev/null
 grep -v '^  ' "$top/c/cases.txt" > "$scratch/questions"
 asked=$(grep -c '^[a-z]' "$scratch/questions")
 

@@ -27,7 +27,7 @@ wrong() {
 # The launcher builds the program where it isn't built.
 "$top/hidreport" values "$data/mouse.rdesc" "$data/mouse.report" > "$scratch/mouse"
 program="$top/crates/hidreport_main/out/hidreport_main"
-"$top/install" "$prefix" > "$scratch/said" || wrong 'nothing was installed'
+"$top/install" "$prefix" c > "$scratch/said" || wrong 'nothing was installed'
 
 # What pkg-config says, or what the file says without it.
 if command -v pkg-config > /dev/null; then

@@ -41,9 +41,9 @@ enum hidreport_status {
     /* memory was refused */
     HIDREPORT_OUT_OF_MEMORY = 4,
     /* with the item at `offset` the descriptor lists more than the limit of the options, or with a
-     * limit it has more than 65536 bytes: then this is `offset` */
+     * limit it has more than 65536 bytes, as given or repaired: then this is `offset` */
     HIDREPORT_BUDGET_EXCEEDED = 5,
-    /* `push` of the options is no enum hidreport_push */
+    /* `push` of the options is no enum hidreport_push, or `mends` no sum of enum hidreport_mends */
     HIDREPORT_UNKNOWN_OPTION = 6
 };
 
@@ -69,6 +69,26 @@ enum hidreport_collection_kind {
 enum hidreport_push {
     HIDREPORT_PUSH_ALL = 0,    /* global and local items, as the Rust crate has it */
     HIDREPORT_PUSH_GLOBALS = 1 /* global items alone, as Linux has it */
+};
+
+/* `mends`: what a repair mends besides, one of these or the sum */
+enum hidreport_mends {
+    HIDREPORT_MEND_DEFAULT = 0, /* nothing besides */
+    /* an item that is cut short is left out, with all bytes from there on; Linux refuses it */
+    HIDREPORT_MEND_CUT_SHORT = 1,
+    /* a negative maximum is written as the same data without a sign, where no negative minimum is
+     * in force; Linux always reads it so */
+    HIDREPORT_MEND_UNSIGNED_MAXIMA = 2
+};
+
+/* `reason` of a change */
+enum hidreport_reason {
+    HIDREPORT_NO_DATA = 0,           /* an item that needs a data byte had none: its data is 0 */
+    HIDREPORT_UNKNOWN_MAIN_ITEM = 1, /* a main item of an unknown tag is left out */
+    HIDREPORT_ENDED_LOCAL = 2,       /* a local item of such a main item is left out with it */
+    HIDREPORT_NO_USAGE = 3,          /* a data item without a usage is padding */
+    HIDREPORT_UNSIGNED_MAXIMUM = 4,  /* a maximum that was meant unsigned is written so */
+    HIDREPORT_CUT_SHORT = 5          /* an item was cut short, and is left out */
 };
 
 /* How a descriptor is read. Most programs pass HIDREPORT_DEFAULTS. */
@@ -181,6 +201,16 @@ struct hidreport_item {
     size_t size;   /* how many it has, its header among them */
 };
 
+/* A place where something else stands in the repaired descriptor. What stands there now begins in
+ * the repaired bytes at `offset`, less what `stood` and more what `stands` has in the changes
+ * before. */
+struct hidreport_change {
+    size_t offset;   /* how many bytes of the descriptor stand before it */
+    size_t stood;    /* how many bytes stood there, an item and all of it */
+    size_t stands;   /* how many stand there now; 0 where it is left out */
+    uint32_t reason; /* enum hidreport_reason */
+};
+
 /* The version of the library: HIDREPORT_VERSION of its own header. */
 uint32_t hidreport_version(void);
 
@@ -239,6 +269,25 @@ struct hidreport_answer hidreport_rebuild(const uint8_t *descriptor, size_t leng
  * others. */
 struct hidreport_answer hidreport_items_message(const uint8_t *descriptor, size_t length,
                                                 uint8_t *text, size_t room);
+
+/* A descriptor that is read by these options, made of one that hosts accept, as Linux reads it: the
+ * same where it is read as it is, and no maximum is to be mended. `mends` is a sum of enum
+ * hidreport_mends. Refused is the first fault that stays, at its offset in the bytes that were
+ * given. */
+struct hidreport_answer hidreport_repair(const uint8_t *descriptor, size_t length,
+                                         struct hidreport_options options, uint32_t mends,
+                                         uint8_t *bytes, size_t room);
+
+/* What hidreport_repair changes, in the order of the offsets: none where the descriptor stays as it
+ * is. */
+struct hidreport_answer hidreport_changes(const uint8_t *descriptor, size_t length,
+                                          struct hidreport_options options, uint32_t mends,
+                                          struct hidreport_change *changes, size_t room);
+
+/* What these two refuse a descriptor for, as hidreport_message says of the others. */
+struct hidreport_answer hidreport_repair_message(const uint8_t *descriptor, size_t length,
+                                                 struct hidreport_options options, uint32_t mends,
+                                                 uint8_t *text, size_t room);
 
 /* Value `index` of a field, counted from 0, in a report with these bytes. It takes no memory, and
  * reads nothing but the report's bytes, whatever numbers the field has. */

@@ -1,6 +1,6 @@
 //! Prints the questions of its input with their answers, as c/cases.c does, by this module's
 //! functions.
-use hidreport_c::{collection_kind, field_kind, status};
+use hidreport_c::{collection_kind, field_kind, mends, reason, status};
 use hidreport_c::{Direction, Field, Options, Refusal, DEFAULT_LIMIT, NO_LIMIT};
 use hidreport_c::{PUSH_ALL, PUSH_GLOBALS};
 use std::io::BufRead;
@@ -50,6 +50,36 @@ fn options_of(limit: &str, push: &str) -> Options {
             "globals" => PUSH_GLOBALS,
             _ => push.parse().expect("a number"),
         },
+    }
+}
+
+fn mends_of(word: &str) -> u32 {
+    match word {
+        "default" => mends::DEFAULT,
+        "cut-short" => mends::CUT_SHORT,
+        "unsigned-maxima" => mends::UNSIGNED_MAXIMA,
+        "both" => mends::CUT_SHORT + mends::UNSIGNED_MAXIMA,
+        _ => word.parse().expect("a number"),
+    }
+}
+
+/// The module makes room for all that there is; with less, C has the first of them.
+fn room_of(word: &str) -> usize {
+    match word {
+        "enough" => usize::MAX,
+        _ => word.parse().expect("a room"),
+    }
+}
+
+fn reason_of(number: u32) -> &'static str {
+    match number {
+        reason::NO_DATA => "no data",
+        reason::UNKNOWN_MAIN_ITEM => "unknown main item",
+        reason::ENDED_LOCAL => "local of an unknown main item",
+        reason::NO_USAGE => "no usage",
+        reason::UNSIGNED_MAXIMUM => "unsigned maximum",
+        reason::CUT_SHORT => "cut short",
+        _ => "?",
     }
 }
 
@@ -106,6 +136,11 @@ fn say(message: Result<String, u32>) {
         Ok(text) => println!("  count {} offset 0 accepted\n  {text}", text.len()),
         Err(status) => println!("  count 0 offset 0 {}\n  ", words_of(status)),
     }
+}
+
+fn print_bytes(bytes: &[u8]) {
+    let digits: String = bytes.iter().map(|byte| format!("{byte:02x}")).collect();
+    println!("  {digits}");
 }
 
 /// A refusal with its text.
@@ -226,6 +261,20 @@ impl Asked {
         }
     }
 
+    /// Questions of a repair.
+    fn ask_repair(&self, kind: &str, words: &[&str], descriptor: &[u8]) {
+        let (mends, room) = (mends_of(words[0]), room_of(words[1]));
+        if kind == "repair" {
+            let bytes = counted(hidreport_c::repair(descriptor, self.options, mends));
+            return print_bytes(&bytes[..room.min(bytes.len())]);
+        }
+        let listed = counted(hidreport_c::changes(descriptor, self.options, mends));
+        for c in listed.iter().take(room) {
+            print!("  offset {} stood {} stands {}", c.offset, c.stood, c.stands);
+            println!(" {}", reason_of(c.reason));
+        }
+    }
+
     fn answer(&mut self, line: &str) {
         let (question, report) = line.split_once('/').unwrap_or((line, ""));
         let report = bytes_of(report);
@@ -245,10 +294,11 @@ impl Asked {
                     println!("  offset {} size {}", item.offset, item.size);
                 }
             }
-            "rebuild" => {
-                let bytes = counted(hidreport_c::rebuild(&descriptor(1)));
-                let digits: String = bytes.iter().map(|byte| format!("{byte:02x}")).collect();
-                println!("  {digits}");
+            "rebuild" => print_bytes(&counted(hidreport_c::rebuild(&descriptor(1)))),
+            kind @ ("repair" | "changes") => self.ask_repair(kind, &words[1..], &descriptor(3)),
+            "repair-message" => {
+                let mends = mends_of(words[1]);
+                say(hidreport_c::repair_message(&descriptor(2), self.options, mends))
             }
             "message" => say(hidreport_c::message(&descriptor(1), self.options)),
             "refusal" => tell(hidreport_c::describe(

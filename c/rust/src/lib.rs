@@ -1,8 +1,10 @@
 //! The static library `hidreport_c` from Rust: safe functions over the declarations of `sys`.
 //! Not the Rust crate `hidreport`, which is written in Rust; this one calls what was proved.
+mod repairing;
 mod sys;
 
-pub use sys::{Collection, Field, Item, Options, Report};
+pub use repairing::{changes, mends, reason, repair, repair_message};
+pub use sys::{Change, Collection, Field, Item, Options, Report};
 
 /// The direction of a report.
 #[derive(Clone, Copy, Debug, PartialEq)]

@@ -100,6 +100,15 @@ pub struct Item {
 }
 
 #[repr(C)]
+#[derive(Clone, Copy, Debug, Default, PartialEq)]
+pub struct Change {
+    pub offset: usize,
+    pub stood: usize,
+    pub stands: usize,
+    pub reason: u32,
+}
+
+#[repr(C)]
 #[derive(Clone, Copy, Debug, PartialEq)]
 pub struct Usage {
     pub usage: u32,
@@ -201,6 +210,33 @@ extern "C" {
     pub fn hidreport_items_message(
         descriptor: *const u8,
         length: usize,
+        text: *mut u8,
+        room: usize,
+    ) -> Answer;
+
+    pub fn hidreport_repair(
+        descriptor: *const u8,
+        length: usize,
+        options: Options,
+        mends: u32,
+        bytes: *mut u8,
+        room: usize,
+    ) -> Answer;
+
+    pub fn hidreport_changes(
+        descriptor: *const u8,
+        length: usize,
+        options: Options,
+        mends: u32,
+        changes: *mut Change,
+        room: usize,
+    ) -> Answer;
+
+    pub fn hidreport_repair_message(
+        descriptor: *const u8,
+        length: usize,
+        options: Options,
+        mends: u32,
         text: *mut u8,
         room: usize,
     ) -> Answer;

@@ -145,15 +145,24 @@ says-refusal errors.OutOfMemory answer old new told h says = inr says
 says-refusal (errors.BudgetExceeded offset) answer old new told h says =
     says-as answer (OverBudget offset) old new told h says
 
--- of what isn't refused there is nothing to say
-pub says-nothing : (o : Option ParseOptions) (options : ParseOptions) (bytes : List ℕ)
-    (d : DescriptorRecord) (old : List ℕ) (told : HidreportAnswer) → o ≡ Some options
-    → parse_as options bytes ≡ Ok d → told ≡ counted 0
-    → ListsBy (λ chosen. message_in (parse_as chosen bytes)) o old old told
-says-nothing None options bytes d old told is read h = cc
-says-nothing (Some z) options bytes d old told is read h =
+-- what is told by the options that were chosen
+pub lists-chosen : {A O : Type 0} (chosen : Option O) (options : O)
+    (answer : O → Result (List A) Refusal) (old new : List A) (told : HidreportAnswer)
+    → chosen ≡ Some options → Lists (answer options) old new told
+    → ListsBy answer chosen old new told
+lists-chosen None options answer old new told is lists = cc
+lists-chosen (Some z) options answer old new told is lists =
     let same : z ≡ options = cc in
-    rw (ap (λ o. parse_as o bytes) same ∙ read) (inl (h, sym (written-none old)))
+    rw (ap answer same) lists
+
+-- of what isn't refused there is nothing to say
+pub says-nothing : {A O : Type 0} (chosen : Option O) (options : O)
+    (answer : O → Result A Refusal) (x : A) (old : List ℕ) (told : HidreportAnswer)
+    → chosen ≡ Some options → answer options ≡ Ok x → told ≡ counted 0
+    → ListsBy (λ o. message_in (answer o)) chosen old old told
+says-nothing chosen options answer x old told is read h =
+    lists-chosen chosen options (λ o. message_in (answer o)) old old told is
+    (rw read (inl (h, sym (written-none old))))
 
 -- what is told in place of a descriptor is told of each list in it
 pub lists-unread : {A : Type 0} (told : HidreportAnswer) (options : Option ParseOptions)

@@ -68,8 +68,8 @@ listed parts (Err refusal) = Err refusal
 
 -- the same of what options choose; where they choose nothing, the caller is told so, and the array
 -- is as it was
-abbrev pub ListsBy : {A : Type 0} → (ParseOptions → Result (List A) Refusal)
-    → Option ParseOptions → List A → List A → HidreportAnswer → Type 0
+abbrev pub ListsBy : {A O : Type 0} → (O → Result (List A) Refusal) → Option O → List A → List A
+    → HidreportAnswer → Type 0
 ListsBy answer None old new told = (told ≡ unknown_option) × (new ≡ old)
 ListsBy answer (Some options) old new told = Lists (answer options) old new told
 

@@ -6,6 +6,7 @@ pub mod Items
 pub mod Message
 pub mod Numbered
 pub mod Options
+pub mod Repair
 pub mod Report
 pub mod Status
 pub mod Usages

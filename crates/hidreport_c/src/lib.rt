@@ -3,6 +3,7 @@
 #![tactic(auto)]
 
 mod answer;
+mod change;
 mod collection;
 mod describe;
 mod field;
@@ -11,6 +12,7 @@ mod message;
 mod numbered;
 mod options;
 mod part;
+mod repair;
 mod report;
 mod status;
 #[cfg(test)]

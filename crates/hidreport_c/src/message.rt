@@ -1,16 +1,18 @@
 //! What is wrong with a descriptor, as text.
 ghost use Rattle.hidreport.specs.Itemising.{as_refusal, itemise};
 ghost use Rattle.hidreport.specs.Options.{parse_as};
+ghost use Rattle.hidreport.specs.Repair.{repaired};
 ghost use Rattle.hidreport.specs.Spelling.{item_of};
 ghost use Rattle.hidreport_c.specs.Answer.{Lists, ListsBy};
 ghost use Rattle.hidreport_c.specs.Message.{Says, message_in, words_of};
 ghost use Rattle.hidreport_c.specs.Options.{options_of};
+ghost use Rattle.hidreport_c.specs.Repair.{repair_options_of};
 
 use crate::answer::{HidreportAnswer, write_bytes};
 use crate::options::HidreportOptions;
 use crate::status::{OUT_OF_MEMORY, UNKNOWN_OPTION};
 use hidreport::hid::ReportDescriptorItems;
-use hidreport::{ParserError, ReportDescriptor};
+use hidreport::{ParserError, ReportDescriptor, repair};
 use std::alloc::Global;
 
 /// What a descriptor is refused for by these options, in the words of `ParserError` without the
@@ -48,6 +50,28 @@ pub extern "C" fn hidreport_items_message(
         result }
 {
     match ReportDescriptorItems::try_from(alloc, descriptor) {
+        Ok(_) => HidreportAnswer::counted(0),
+        Err(error) => write_message(&error, text),
+    }
+}
+
+/// What `hidreport_repair` and `hidreport_changes` refuse a descriptor for, as `hidreport_message`
+/// says of the others; empty where it is repaired.
+#[unsafe(no_mangle)]
+pub extern "C" fn hidreport_repair_message(
+    alloc: Global,
+    descriptor: &[u8],
+    options: HidreportOptions,
+    mends: u32,
+    text: &mut [u8],
+) -> HidreportAnswer
+    ensures { ListsBy (λ chosen. message_in (repaired chosen descriptor.now))
+        (repair_options_of mends (options_of options)) text.old text.new result }
+{
+    let Some(options) = options.for_repair(mends) else {
+        return HidreportAnswer::refused(UNKNOWN_OPTION);
+    };
+    match repair(alloc, descriptor, options) {
         Ok(_) => HidreportAnswer::counted(0),
         Err(error) => write_message(&error, text),
     }

@@ -1,8 +1,9 @@
 //! How C asks for a descriptor to be read.
 ghost use Rattle.std.specs.Prelude.{◌≡◌};
 ghost use Rattle.hidreport_c.specs.Options.{limit_of, longest_of, options_of, push_keeps_of};
+ghost use Rattle.hidreport_c.specs.Repair.{repair_options_of};
 
-use hidreport::{ParseOptions, PushKeeps};
+use hidreport::{ParseOptions, PushKeeps, RepairOptions};
 
 /// How a descriptor is read (`struct hidreport_options`).
 #[repr(C)]
@@ -26,6 +27,22 @@ impl HidreportOptions {
             push_keeps: push_keeps_of(self.push)?,
             limit,
             longest: longest_of(limit),
+        })
+    }
+
+    /// The same for a repair with these mends, a sum of 1, for what is cut short, and 2, for maxima
+    /// that were meant unsigned; none where that is no such sum, either.
+    pub(crate) fn for_repair(self, mends: u32) -> Option<RepairOptions>
+        ensures { result ≡ repair_options_of mends (options_of self) }
+    {
+        let parse = self.chosen()?;
+        if mends >= 4 {
+            return None;
+        }
+        Some(RepairOptions {
+            parse,
+            leave_out_cut_short: mends % 2 == 1,
+            unsigned_maxima: mends > 1,
         })
     }
 }

@@ -1,12 +1,14 @@
 use crate::answer::HidreportAnswer;
+use crate::change::{HidreportChange, hidreport_changes};
 use crate::collection::{HidreportCollection, hidreport_collection_usages, hidreport_collections};
 use crate::describe::{hidreport_describe, hidreport_find};
 use crate::field::{
     HidreportCollections, HidreportField, HidreportFlags, HidreportMeasures, HidreportUsages,
 };
 use crate::items::{HidreportItem, hidreport_items, hidreport_rebuild};
-use crate::message::{hidreport_items_message, hidreport_message};
+use crate::message::{hidreport_items_message, hidreport_message, hidreport_repair_message};
 use crate::options::HidreportOptions;
+use crate::repair::hidreport_repair;
 use crate::report::{HidreportReport, hidreport_reports};
 use crate::usages::{hidreport_usage_of, hidreport_usages};
 use crate::value::{hidreport_value, hidreport_values};
@@ -256,4 +258,62 @@ fn items_stand_at_their_offsets(rt: HostRuntime) {
     assert!(rt; is_answer(hidreport_rebuild(rt.alloc(), long, &mut bytes), 4, 0, 0));
     assert!(rt; bytes == [0x05, 0x01, 0x15, 0x05, 0]);
     assert!(rt; is_answer(hidreport_items(rt.alloc(), b"\x05", &mut items), 0, 0, 1));
+}
+
+fn is_change(change: HidreportChange, offset: usize, stood: usize, stands: usize) -> bool {
+    (change.offset, change.stood, change.stands) == (offset, stood, stands)
+}
+
+/// A usage with a zero byte behind it, and an input that so has none.
+const ZERO_INSIDE: &[u8] = b"\x05\x01\x09\x30\x00\x75\x08\x95\x01\x81\x02";
+
+#[test]
+fn a_descriptor_is_repaired(rt: HostRuntime) {
+    let mut bytes = [7; 9];
+    let repaired = hidreport_repair(rt.alloc(), ZERO_INSIDE, DEFAULTS, 0, &mut bytes);
+    assert!(rt; is_answer(repaired, 8, 0, 0));
+    assert!(rt; bytes == [0x05, 0x01, 0x75, 0x08, 0x95, 0x01, 0x81, 0x03, 7]);
+    let mut few = [7, 7];
+    let repaired = hidreport_repair(rt.alloc(), ZERO_INSIDE, DEFAULTS, 3, &mut few);
+    assert!(rt; is_answer(repaired, 8, 0, 0) && few == [0x05, 0x01]);
+    let blank = HidreportChange {
+        offset: 77,
+        stood: 77,
+        stands: 77,
+        reason: 77,
+    };
+    let mut changes = [blank, blank, blank, blank];
+    let listed = hidreport_changes(rt.alloc(), ZERO_INSIDE, DEFAULTS, 0, &mut changes);
+    assert!(rt; is_answer(listed, 3, 0, 0));
+    let [usage, zero, input, behind] = changes;
+    assert!(rt; is_change(usage, 2, 2, 0) && is_change(zero, 4, 1, 0));
+    assert!(rt; is_change(input, 9, 2, 2) && behind.offset == 77);
+    assert!(rt; (usage.reason, zero.reason, input.reason, behind.reason) == (2, 1, 3, 77));
+}
+
+#[test]
+fn a_repair_mends_what_is_asked_for(rt: HostRuntime) {
+    let cut = b"\xa1\x00\xc0\x05";
+    let wide = b"\x25\xff";
+    let zero = b"\x00\x19\x01\xa1\x00";
+    let mut text = [0; 32];
+    let said = hidreport_repair_message(rt.alloc(), cut, DEFAULTS, 2, &mut text);
+    assert!(rt; has_text(said, &text, b"Insufficient data"));
+    let refused = hidreport_repair(rt.alloc(), cut, DEFAULTS, 0, &mut []);
+    assert!(rt; is_answer(refused, 0, 3, 1));
+    let mended = hidreport_repair(rt.alloc(), cut, DEFAULTS, 1, &mut []);
+    assert!(rt; is_answer(mended, 3, 0, 0));
+    let mut bytes = [7, 7, 7];
+    let kept = hidreport_repair(rt.alloc(), wide, DEFAULTS, 1, &mut bytes);
+    assert!(rt; is_answer(kept, 2, 0, 0) && bytes == [0x25, 0xff, 7]);
+    let mended = hidreport_repair(rt.alloc(), wide, DEFAULTS, 2, &mut bytes);
+    assert!(rt; is_answer(mended, 3, 0, 0) && bytes == [0x26, 0xff, 0]);
+    let unknown = hidreport_repair(rt.alloc(), wide, DEFAULTS, 4, &mut bytes);
+    assert!(rt; is_answer(unknown, 0, 0, 6));
+    let unknown = hidreport_changes(rt.alloc(), wide, DEFAULTS, 5, &mut []);
+    assert!(rt; is_answer(unknown, 0, 0, 6));
+    let said = hidreport_repair_message(rt.alloc(), zero, DEFAULTS, 0, &mut text);
+    assert!(rt; has_text(said, &text, b"Missing UsageMaximum in locals"));
+    let said = hidreport_repair_message(rt.alloc(), wide, DEFAULTS, 0, &mut text);
+    assert!(rt; has_text(said, &text, b""));
 }

@@ -1,0 +1,82 @@
+//! What a repair changed.
+ghost use Rattle.std.specs.Prelude.{◌≡◌};
+ghost use Rattle.hidreport.specs.Repair.{change_view};
+ghost use Rattle.hidreport_c.specs.Repair.{ListsOfRepair, change_as_c, changes_as_c, reason_of};
+
+use crate::answer::{HidreportAnswer, refusal};
+use crate::options::HidreportOptions;
+use crate::part::{Part, write};
+use crate::status::UNKNOWN_OPTION;
+use hidreport::{Change, Mend, repair};
+use std::alloc::Global;
+
+/// A place of a descriptor where something else stands after its repair (`struct
+/// hidreport_change`).
+#[repr(C)]
+#[derive(Clone, Copy)]
+pub struct HidreportChange {
+    /// The bytes of the descriptor before it.
+    pub offset: usize,
+    /// How many bytes stood there, an item and all of it.
+    pub stood: usize,
+    /// How many stand there now, an item, or none where it was left out.
+    pub stands: usize,
+    /// Why: 0 an item that needs a data byte had none, 1 a main item of an unknown tag is left out,
+    /// 2 so is a local item of one, 3 a data item without a usage is padding, 4 a maximum was meant
+    /// unsigned, 5 an item was cut short.
+    pub reason: u32,
+}
+
+impl Part for Change {
+    type InC = HidreportChange;
+
+    ghost in_c = { λ change. change_as_c (change_view change) };
+
+    fn in_c(&self) -> HidreportChange {
+        HidreportChange {
+            offset: self.offset,
+            stood: self.stood.len(),
+            stands: self.stands.len(),
+            reason: reason_of(self.mend),
+        }
+    }
+}
+
+/// The number of a reason.
+fn reason_of(mend: Mend) -> u32
+    ensures { result ≡ reason_of mend }
+{
+    match mend {
+        Mend::NoData => 0,
+        Mend::UnknownMainItem => 1,
+        Mend::EndedLocal => 2,
+        Mend::NoUsage => 3,
+        Mend::UnsignedMaximum => 4,
+        Mend::CutShort => 5,
+    }
+}
+
+/// What `hidreport_repair` changes in a descriptor by the same options and mends, in the order of
+/// the offsets; nothing where the descriptor stays as it is.
+///
+/// They are written and counted as `hidreport_describe` says, and refused as `hidreport_repair`
+/// says.
+#[unsafe(no_mangle)]
+pub extern "C" fn hidreport_changes(
+    alloc: Global,
+    descriptor: &[u8],
+    options: HidreportOptions,
+    mends: u32,
+    changes: &mut [HidreportChange],
+) -> HidreportAnswer
+    ensures { ListsOfRepair changes_as_c options mends descriptor.now changes.old changes.new
+        result }
+{
+    let Some(options) = options.for_repair(mends) else {
+        return HidreportAnswer::refused(UNKNOWN_OPTION);
+    };
+    match repair(alloc, descriptor, options) {
+        Ok(repaired) => write(&repaired.changes, changes),
+        Err(error) => refusal(&error),
+    }
+}
