@@ -1,0 +1,42 @@
+#!/bin/bash
+# What `hid decode` writes is compiled to the same bytes: of each descriptor of the cases
+# (crates/hidreport_cases/data) and of bench/descriptors whose items can be read. Beside the gate's
+# runs in crates/hid_runs. Its argument is the program; else it is the one that ./hid built.
+set -eu
+
+top=$(cd "$(dirname "$0")/.." && pwd)
+program=${1:-$top/crates/hid/out/hid}
+[ -x "$program" ] || {
+    echo "hid_texts: no program $program" >&2
+    exit 2
+}
+scratch=$(mktemp -d)
+trap 'rm -rf "$scratch"' EXIT
+
+# A descriptor in a line: its bytes, without what a case says beside them.
+{
+    sed -nE 's/^(parse|shape|repair|rebuild|list) ([0-9a-f][0-9a-f ]*)( .*)?$/\2/p' \
+        "$top"/crates/hidreport_cases/data/*.txt
+    for file in "$top"/bench/descriptors/*.txt; do
+        sed 's/#.*//' "$file" | tr '\n' ' '
+        echo
+    done
+} | tr -d ' ' | LC_ALL=C sort -u | grep -E '^([0-9a-f]{2})+$' > "$scratch/descriptors"
+
+compiled=0
+while read -r digits; do
+    # A descriptor that is refused is shown up to its fault, with the status 1.
+    echo "$digits" | "$program" decode --form hex - > "$scratch/text" 2> "$scratch/errors" || continue
+    got=$("$program" compile --to hex "$scratch/text" 2> "$scratch/errors" | tr -d ' \n')
+    if [ "$got" != "$digits" ] || [ -s "$scratch/errors" ]; then
+        echo "hid_texts: $digits is compiled to $got" >&2
+        cat "$scratch/errors" >&2
+        exit 1
+    fi
+    compiled=$((compiled + 1))
+done < "$scratch/descriptors"
+[ "$compiled" -ge 2000 ] || {
+    echo "hid_texts: only $compiled descriptors are compiled" >&2
+    exit 1
+}
+echo "hid_texts: $compiled descriptors, decoded and compiled to the same bytes"

@@ -1,0 +1,287 @@
+//! `hid check`: what is odd in a descriptor, and what the standard says.
+use crate::decode::{offset_of, remark_of};
+use crate::direction::DIRECTIONS;
+use crate::fields::add_title;
+use crate::items::{PlacedItem, items_of};
+use hidreport::hid::{CollectionItem, GlobalItem, ItemType, LocalItem, MainDataItem, MainItem};
+use hidreport::{Direction, Field, ParserError, RDescReport, Report, ReportDescriptor};
+use std::alloc::{AllocError, Global};
+use std::mem;
+
+/// Something odd.
+#[derive(Drop)]
+pub struct Finding {
+    /// The offset of the item, where it is an item's.
+    pub offset: Option<usize>,
+    /// What is odd, and the section of the standard.
+    pub remark: String,
+}
+
+/// The globals in force that are looked at.
+#[derive(Clone, Copy)]
+struct Globals {
+    low: i32,
+    high: i32,
+    high_offset: usize,
+    size: usize,
+    count: usize,
+}
+
+/// What the items so far say.
+#[derive(Drop)]
+struct Watch {
+    alloc: Global,
+    findings: Vec<Finding>,
+    globals: Globals,
+    usages: u64,
+    first_usage: usize,
+    range_start: u32,
+    open: Vec<usize>,
+    pushed: Vec<(usize, Globals)>,
+}
+
+/// All that is odd, in the order of the offsets; what is of no item comes last.
+pub fn findings(
+    alloc: Global,
+    bytes: &[u8],
+    parsed: &Result<ReportDescriptor, ParserError>,
+) -> Result<Vec<Finding>, AllocError> {
+    let mut watch = Watch::new(alloc);
+    let placed = items_of(alloc, bytes)?;
+    for entry in placed.items.iter() {
+        watch.pass(entry)?;
+    }
+    watch.end()?;
+    match parsed {
+        Ok(descriptor) => watch.tell_sizes(descriptor)?,
+        Err(fault) => {
+            let remark = remark_of(fault);
+            let remark = format!(in alloc; "refused: {remark}")?;
+            let offset = offset_of(Some(fault));
+            watch.findings.push(Finding { offset, remark })?;
+        }
+    }
+    let mut findings = watch.findings;
+    findings.sort_by_key(|it| it.offset.unwrap_or(usize::MAX))?;
+    Ok(findings)
+}
+
+impl Watch {
+    /// Before the first item.
+    fn new(alloc: Global) -> Watch {
+        Watch {
+            alloc,
+            findings: Vec::new(alloc),
+            globals: Globals {
+                low: 0,
+                high: 0,
+                high_offset: 0,
+                size: 0,
+                count: 0,
+            },
+            usages: 0,
+            first_usage: 0,
+            range_start: 0,
+            open: Vec::new(alloc),
+            pushed: Vec::new(alloc),
+        }
+    }
+
+    /// Notes what is odd at an offset.
+    fn tell(&mut self, offset: usize, remark: &str) -> Result<(), AllocError> {
+        let remark = String::from_str(self.alloc, remark)?;
+        let offset = Some(offset);
+        Ok(self.findings.push(Finding { offset, remark })?)
+    }
+
+    /// Goes over an item.
+    fn pass(&mut self, entry: &PlacedItem) -> Result<(), AllocError> {
+        let offset = entry.offset;
+        match entry.item {
+            ItemType::Main(item) => self.pass_main(offset, item),
+            ItemType::Global(item) => self.pass_global(offset, &item),
+            ItemType::Local(item) => {
+                self.pass_local(offset, item);
+                Ok(())
+            }
+            ItemType::Long => self.tell(offset, "a long item: none is defined (Section 6.2.2.3)"),
+            ItemType::Reserved => self.tell(offset, "its type is reserved (Section 6.2.2.2)"),
+        }
+    }
+
+    fn pass_main(&mut self, offset: usize, item: MainItem) -> Result<(), AllocError> {
+        match item {
+            MainItem::Collection(kind) => {
+                if self.open.is_empty() && kind != CollectionItem::Application {
+                    self.tell(
+                        offset,
+                        "an outermost collection is an Application (Section 8.4)",
+                    )?;
+                }
+                self.open.push(offset)?;
+            }
+            MainItem::EndCollection => {
+                self.tell_unused()?;
+                let _ = self.open.pop();
+            }
+            MainItem::Input(item) => self.tell_data(offset, item.is_constant())?,
+            MainItem::Output(item) => self.tell_data(offset, item.is_constant())?,
+            MainItem::Feature(item) => self.tell_data(offset, item.is_constant())?,
+        }
+        self.usages = 0;
+        Ok(())
+    }
+
+    /// Notes what is odd at an Input, Output or Feature.
+    fn tell_data(&mut self, offset: usize, is_constant: bool) -> Result<(), AllocError> {
+        if self.open.is_empty() {
+            self.tell(offset, "it lies in no collection (Section 8.4)")?;
+        }
+        if self.globals.size == 0 || self.globals.count == 0 {
+            self.tell(offset, "it has no bits (Section 6.2.2.7)")?;
+        }
+        if is_constant {
+            return Ok(());
+        }
+        if self.globals.high < self.globals.low {
+            self.tell_bounds()?;
+        }
+        let (usages, count) = (self.usages, self.globals.count);
+        if (count as u64) < usages && self.globals.size == 1 {
+            let remark = format!(in self.alloc;
+                "{usages} usages for {count} fields (Section 6.2.2.8)"
+            )?;
+            self.tell(self.first_usage, &remark)?;
+        }
+        Ok(())
+    }
+
+    /// Notes that the logical maximum is below the minimum, and what may be meant.
+    fn tell_bounds(&mut self) -> Result<(), AllocError> {
+        let (low, high) = (self.globals.low, self.globals.high);
+        let is_unsigned = 0 <= low && high < 0;
+        let hint = if is_unsigned {
+            ": without a sign it takes a byte more"
+        } else {
+            ""
+        };
+        let remark = format!(in self.alloc;
+            "the maximum {high} is below the minimum {low}{hint} (Section 6.2.2.7)"
+        )?;
+        self.tell(self.globals.high_offset, &remark)
+    }
+
+    fn pass_global(&mut self, offset: usize, item: &GlobalItem) -> Result<(), AllocError> {
+        match item {
+            GlobalItem::LogicalMinimum(number) => self.globals.low = i32::from(number),
+            GlobalItem::LogicalMaximum(number) => {
+                self.globals.high = i32::from(number);
+                self.globals.high_offset = offset;
+            }
+            GlobalItem::ReportSize(number) => self.globals.size = usize::from(number),
+            GlobalItem::ReportCount(number) => self.globals.count = usize::from(number),
+            GlobalItem::ReportId(id) if u8::from(id) == 0 => {
+                self.tell(offset, "the report id 0 is reserved (Section 6.2.2.7)")?;
+            }
+            GlobalItem::Push => self.pushed.push((offset, self.globals))?,
+            GlobalItem::Pop => {
+                if let Some((_offset, globals)) = self.pushed.pop() {
+                    self.globals = globals;
+                }
+            }
+            GlobalItem::Reserved => self.tell(offset, "its tag is reserved (Section 6.2.2.7)")?,
+            _ => {}
+        }
+        Ok(())
+    }
+
+    fn pass_local(&mut self, offset: usize, item: LocalItem) {
+        let more = match item {
+            LocalItem::Usage(..) | LocalItem::UsageId(_) => 1,
+            LocalItem::UsageMinimum(start) => {
+                self.range_start = u32::from(start);
+                0
+            }
+            LocalItem::UsageMaximum(end) => {
+                let range = u64::from(u32::from(end)).saturating_sub(u64::from(self.range_start));
+                range.saturating_add(1)
+            }
+            _ => 0,
+        };
+        if self.usages == 0 {
+            self.first_usage = offset;
+        }
+        self.usages = self.usages.saturating_add(more);
+    }
+
+    /// Notes that usages stand behind the last item that could use them.
+    fn tell_unused(&mut self) -> Result<(), AllocError> {
+        if self.usages == 0 {
+            return Ok(());
+        }
+        self.tell(
+            self.first_usage,
+            "no item uses the usages from here on (Section 6.2.2.8)",
+        )
+    }
+
+    /// Notes what is odd at the end.
+    fn end(&mut self) -> Result<(), AllocError> {
+        self.tell_unused()?;
+        let open = mem::replace(&mut self.open, Vec::new(self.alloc));
+        for offset in open.iter() {
+            self.tell(*offset, "the collection isn't closed (Section 6.2.2.4)")?;
+        }
+        let pushed = mem::replace(&mut self.pushed, Vec::new(self.alloc));
+        for (offset, _globals) in pushed.iter() {
+            self.tell(
+                *offset,
+                "what is kept is never brought back (Section 6.2.2.7)",
+            )?;
+        }
+        Ok(())
+    }
+
+    /// Notes the reports that are no whole number of bytes, and the fields that lie in too many.
+    fn tell_sizes(&mut self, descriptor: &ReportDescriptor) -> Result<(), AllocError> {
+        for direction in DIRECTIONS {
+            for report in descriptor.reports(direction) {
+                let bits = report.size_in_bits();
+                if bits % 8 != 0 {
+                    let said = ": its bits are no whole number of bytes (Section 8.4)";
+                    self.tell_of_report(direction, report, said)?;
+                }
+                if report.fields().iter().any(is_in_five_bytes) {
+                    let said = ": a field lies in more than four bytes (Section 8.4)";
+                    self.tell_of_report(direction, report, said)?;
+                }
+            }
+        }
+        Ok(())
+    }
+
+    /// Notes what is odd in a report.
+    fn tell_of_report(
+        &mut self,
+        direction: Direction,
+        report: &RDescReport,
+        said: &str,
+    ) -> Result<(), AllocError> {
+        let mut remark = String::new(self.alloc);
+        add_title(&mut remark, direction, report)?;
+        remark.push_str(said)?;
+        let offset = None;
+        Ok(self.findings.push(Finding { offset, remark })?)
+    }
+}
+
+/// Whether a value lies in more than four bytes.
+fn is_in_five_bytes(field: &Field) -> bool {
+    match field {
+        Field::Variable(field) => {
+            let last = field.bits.end.saturating_sub(1) / 8;
+            last.saturating_sub(field.bits.start / 8) > 3
+        }
+        _ => false,
+    }
+}

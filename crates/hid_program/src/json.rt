@@ -1,0 +1,202 @@
+//! Answers as JSON, an object in each line.
+use crate::direction::{DIRECTIONS, word_of};
+use crate::field_words::add_name;
+use crate::item_words::add_item;
+use crate::items::PlacedItem;
+use crate::naming::{add_bytes, add_usage};
+use crate::pages::Pages;
+use crate::values::chosen;
+use hidreport::{
+    ArrayField, Direction, Field, RDescReport, Report, ReportDescriptor, VariableField,
+};
+use hidreport_usages::item_name;
+use serde_json::{Value, json};
+use std::alloc::{AllocError, Global};
+
+/// What `serde_json` refuses: memory, since nothing else can go wrong in writing these values.
+pub type Refusal = serde_json::Error;
+
+/// Appends a value as a line.
+fn add_value(text: &mut String, value: &Value) -> Result<(), Refusal> {
+    let line = value.to_string(*text.allocator())?;
+    text.push_str(line.as_str())?;
+    text.push_str("\n")?;
+    Ok(())
+}
+
+/// Bytes in hexadecimal digits.
+fn digits_of(alloc: Global, bytes: &[u8]) -> Result<String, AllocError> {
+    let mut digits = String::new(alloc);
+    add_bytes(&mut digits, bytes)?;
+    Ok(digits)
+}
+
+/// What a field is for, in words.
+fn name_of(alloc: Global, field: &Field) -> Result<String, AllocError> {
+    let mut name = String::new(alloc);
+    add_name(&mut name, field)?;
+    Ok(name)
+}
+
+/// The report's id as a number, or null.
+fn id_of(report: &RDescReport) -> Value {
+    match report.report_id() {
+        Some(id) => Value::from(u8::from(id)),
+        None => Value::Null,
+    }
+}
+
+/// Appends an item.
+pub fn add_item_json(
+    text: &mut String,
+    entry: &PlacedItem,
+    depth: usize,
+    pages: &Pages,
+) -> Result<(), Refusal> {
+    let alloc = *text.allocator();
+    let mut words = String::new(alloc);
+    add_item(&mut words, &entry.item, pages.page())?;
+    let bytes = digits_of(alloc, entry.bytes)?;
+    let value = json!(in alloc; {
+        "offset": entry.offset,
+        "bytes": bytes,
+        "depth": depth,
+        "item": item_name(&entry.item),
+        "words": words,
+    })?;
+    add_value(text, &value)
+}
+
+/// Appends what is wrong or odd, with its offset where it has one.
+pub fn add_remark(
+    text: &mut String,
+    key: &str,
+    offset: Option<usize>,
+    remark: &str,
+) -> Result<(), Refusal> {
+    let offset = match offset {
+        Some(offset) => Value::from(offset),
+        None => Value::Null,
+    };
+    let value = json!(in *text.allocator(); { "offset": offset, (key): remark })?;
+    add_value(text, &value)
+}
+
+/// The fields of the reports of the three directions.
+pub fn listed_json(alloc: Global, descriptor: &ReportDescriptor) -> Result<String, Refusal> {
+    let mut text = String::new(alloc);
+    for direction in DIRECTIONS {
+        for report in descriptor.reports(direction) {
+            for field in report.fields() {
+                add_field(&mut text, direction, report, field)?;
+            }
+        }
+    }
+    Ok(text)
+}
+
+/// Appends a field.
+fn add_field(
+    text: &mut String,
+    direction: Direction,
+    report: &RDescReport,
+    field: &Field,
+) -> Result<(), Refusal> {
+    let alloc = *text.allocator();
+    let (kind, low, high) = match field {
+        Field::Variable(field) => ("variable", field.logical_minimum, field.logical_maximum),
+        Field::Array(field) => ("array", field.logical_minimum, field.logical_maximum),
+        Field::Constant(_) => return add_padding(text, direction, report, field),
+    };
+    let value = json!(in alloc; {
+        "direction": word_of(direction),
+        "report": id_of(report),
+        "start": field.bits().start,
+        "end": field.bits().end,
+        "kind": kind,
+        "name": name_of(alloc, field)?,
+        "minimum": i32::from(low),
+        "maximum": i32::from(high),
+    })?;
+    add_value(text, &value)
+}
+
+fn add_padding(
+    text: &mut String,
+    direction: Direction,
+    report: &RDescReport,
+    field: &Field,
+) -> Result<(), Refusal> {
+    let value = json!(in *text.allocator(); {
+        "direction": word_of(direction),
+        "report": id_of(report),
+        "start": field.bits().start,
+        "end": field.bits().end,
+        "kind": "padding",
+    })?;
+    add_value(text, &value)
+}
+
+/// Appends the values of a report.
+pub fn add_values_json(
+    text: &mut String,
+    direction: Direction,
+    report: &RDescReport,
+    bytes: &[u8],
+) -> Result<(), Refusal> {
+    for field in report.fields() {
+        match field {
+            Field::Variable(own) => add_variable(text, direction, report, own, bytes)?,
+            Field::Array(own) => add_array(text, direction, report, own, bytes)?,
+            Field::Constant(_) => {}
+        }
+    }
+    Ok(())
+}
+
+fn add_variable(
+    text: &mut String,
+    direction: Direction,
+    report: &RDescReport,
+    field: &VariableField,
+    bytes: &[u8],
+) -> Result<(), Refusal> {
+    let Ok(value) = field.extract(bytes) else {
+        return Ok(());
+    };
+    let alloc = *text.allocator();
+    let mut name = String::new(alloc);
+    add_usage(&mut name, field.usage)?;
+    let value = json!(in alloc; {
+        "direction": word_of(direction),
+        "report": id_of(report),
+        "name": name,
+        "usage": u32::from(field.usage),
+        "value": i64::from(value),
+    })?;
+    add_value(text, &value)
+}
+
+fn add_array(
+    text: &mut String,
+    direction: Direction,
+    report: &RDescReport,
+    field: &ArrayField,
+    bytes: &[u8],
+) -> Result<(), Refusal> {
+    let alloc = *text.allocator();
+    let mut usages = Vec::new(alloc);
+    for index in 0..usize::from(field.report_count) {
+        if let Some(usage) = chosen(field, bytes, index) {
+            let mut name = String::new(alloc);
+            add_usage(&mut name, usage)?;
+            usages.push(Value::String(name)).map_err(AllocError::from)?;
+        }
+    }
+    let value = json!(in alloc; {
+        "direction": word_of(direction),
+        "report": id_of(report),
+        "usages": Value::Array(usages),
+    })?;
+    add_value(text, &value)
+}

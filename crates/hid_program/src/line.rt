@@ -1,0 +1,217 @@
+//! A report's values in one line, by names that are made once.
+use crate::naming::{add_page, add_usage_on_page};
+use crate::values::chosen;
+use hidreport::{ArrayField, Field, RDescReport, Report, ReportDescriptor, VariableField};
+use std::alloc::{AllocError, Global};
+use std::fmt::Write;
+
+/// A report, its fields' names, and the bytes that it had last.
+#[derive(Drop)]
+struct Named<'a> {
+    report: &'a RDescReport,
+    names: Vec<String>,
+    id: String,
+    last: Option<Vec<u8>>,
+}
+
+/// The input reports of a descriptor, as lines.
+#[derive(Drop)]
+pub struct Lines<'a> {
+    reports: Vec<Named<'a>>,
+    only_changes: bool,
+}
+
+impl<'a> Lines<'a> {
+    /// Before the first report. With `only_changes` a field whose bits are as they were last is left
+    /// out, and so is a report with no other.
+    pub fn new(
+        alloc: Global,
+        descriptor: &'a ReportDescriptor,
+        only_changes: bool,
+    ) -> Result<Lines<'a>, AllocError> {
+        let mut reports = Vec::new(alloc);
+        for report in descriptor.input_reports() {
+            let mut names = Vec::new(alloc);
+            let mut id = String::new(alloc);
+            if let Some(number) = report.report_id() {
+                write!(id, "{number}: ")?;
+            }
+            for field in report.fields() {
+                names.push(name_of(alloc, field)?)?;
+            }
+            reports.push(Named {
+                report,
+                names,
+                id,
+                last: None,
+            })?;
+        }
+        Ok(Lines {
+            reports,
+            only_changes,
+        })
+    }
+
+    /// How many bytes the report has that begins with these; none where no report does.
+    pub fn size_of(&self, bytes: &[u8]) -> Option<usize> {
+        Some(self.report_of(bytes)?.size_in_bytes())
+    }
+
+    /// The report that these bytes are of.
+    pub fn report_of(&self, bytes: &[u8]) -> Option<&RDescReport> {
+        let first = *bytes.first()?;
+        for named in self.reports.iter() {
+            if is_of(named.report, first) {
+                return Some(named.report);
+            }
+        }
+        None
+    }
+
+    /// Appends the line of a report, and answers whether the descriptor has it.
+    pub fn add(&mut self, text: &mut String, bytes: &[u8]) -> Result<bool, AllocError> {
+        let Some(first) = bytes.first() else {
+            return Ok(false);
+        };
+        for named in self.reports.iter_mut() {
+            if is_of(named.report, *first) {
+                named.add(text, bytes, self.only_changes)?;
+                return Ok(true);
+            }
+        }
+        Ok(false)
+    }
+}
+
+/// Whether bytes with this first one are of a report.
+fn is_of(report: &RDescReport, first: u8) -> bool {
+    match report.report_id() {
+        Some(id) => u8::from(id) == first,
+        None => true,
+    }
+}
+
+/// What a field is called in a line.
+fn name_of(alloc: Global, field: &Field) -> Result<String, AllocError> {
+    let mut name = String::new(alloc);
+    match field {
+        Field::Variable(field) => add_usage_on_page(&mut name, field.usage)?,
+        Field::Array(field) => match field.usages().first() {
+            Some(usage) => add_page(&mut name, usage.usage_page)?,
+            None => name.push_str("array")?,
+        },
+        Field::Constant(_) => {}
+    }
+    Ok(name)
+}
+
+impl<'a> Named<'a> {
+    /// Appends the line of a report.
+    fn add(
+        &mut self,
+        text: &mut String,
+        bytes: &[u8],
+        only_changes: bool,
+    ) -> Result<(), AllocError> {
+        let start = text.len();
+        add_fields(
+            text,
+            self.report,
+            &self.names,
+            &self.id,
+            self.last.as_deref(),
+            bytes,
+        )?;
+        if !only_changes || start < text.len() {
+            text.push_str("\n")?;
+        }
+        if only_changes {
+            self.last = Some(Vec::from_slice(*text.allocator(), bytes)?);
+        }
+        Ok(())
+    }
+}
+
+/// Appends the values of a report's fields, but for those that are as they were last.
+fn add_fields(
+    text: &mut String,
+    report: &RDescReport,
+    names: &[String],
+    id: &str,
+    last: Option<&[u8]>,
+    bytes: &[u8],
+) -> Result<(), AllocError> {
+    let start = text.len();
+    let mut before = None;
+    for (field, name) in report.fields().iter().zip(names.iter()) {
+        if is_as_before(field, last, bytes) {
+            continue;
+        }
+        let is_first = text.len() == start;
+        let gap = if is_first { id } else { " " };
+        let is_next = !is_first && before == Some(name.as_str());
+        match field {
+            Field::Variable(field) => add_variable(text, field, name, bytes, gap, is_next)?,
+            Field::Array(field) => add_array(text, field, name, bytes, gap)?,
+            Field::Constant(_) => {}
+        }
+        before = Some(name.as_str());
+    }
+    Ok(())
+}
+
+/// Whether a field's bits are as they were.
+fn is_as_before(field: &Field, last: Option<&[u8]>, bytes: &[u8]) -> bool {
+    let Some(last) = last else {
+        return false;
+    };
+    match field {
+        Field::Variable(field) => match (field.extract(last), field.extract(bytes)) {
+            (Ok(before), Ok(now)) => i64::from(before) == i64::from(now),
+            _ => false,
+        },
+        Field::Array(field) => (0..usize::from(field.report_count)).all(|index| chosen(
+            field, last, index,
+        ) == chosen(field, bytes, index)),
+        Field::Constant(_) => true,
+    }
+}
+
+/// Appends a value, behind its name or, where the field before has the same name, behind a comma.
+fn add_variable(
+    text: &mut String,
+    field: &VariableField,
+    name: &String,
+    bytes: &[u8],
+    gap: &str,
+    is_next: bool,
+) -> Result<(), AllocError> {
+    let Ok(value) = field.extract(bytes) else {
+        return Ok(());
+    };
+    let value = i64::from(value);
+    if is_next {
+        return write!(text, ",{value}");
+    }
+    write!(text, "{gap}{name}={value}")
+}
+
+/// Appends the usages that an array's values stand for.
+fn add_array(
+    text: &mut String,
+    field: &ArrayField,
+    name: &String,
+    bytes: &[u8],
+    gap: &str,
+) -> Result<(), AllocError> {
+    write!(text, "{gap}{name}=[")?;
+    let mut gap = "";
+    for index in 0..usize::from(field.report_count) {
+        if let Some(usage) = chosen(field, bytes, index) {
+            text.push_str(gap)?;
+            add_usage_on_page(text, usage)?;
+            gap = ", ";
+        }
+    }
+    text.push_str("]")
+}

@@ -1,0 +1,96 @@
+//! `hid map --svg`: the bits of each report as a picture.
+use crate::direction::DIRECTIONS;
+use crate::fields::add_title;
+use crate::map::{bytes_of, shortened};
+use crate::rows::{Row, rows_of};
+use hidreport::ReportDescriptor;
+use std::alloc::{AllocError, Global};
+use std::fmt::Write;
+
+/// How wide a bit is, how high a row, and how wide what stands before the rows, in pixels.
+const BIT: usize = 88;
+
+const ROW: usize = 24;
+
+const LEFT: usize = 72;
+
+/// The picture of all reports, below each other.
+pub fn drawn_as_svg(alloc: Global, descriptor: &ReportDescriptor) -> Result<String, AllocError> {
+    let mut body = String::new(alloc);
+    let mut top = 0usize;
+    for direction in DIRECTIONS {
+        for report in descriptor.reports(direction) {
+            let mut title = String::new(alloc);
+            add_title(&mut title, direction, report)?;
+            add_text(&mut body, 4, top, "start", &title)?;
+            for bit in 0..8usize {
+                let middle = LEFT + BIT / 2 + BIT * bit;
+                let number = format!(in alloc; "{}", 7 - bit)?;
+                add_text(&mut body, middle, top, "middle", &number)?;
+            }
+            top = top.saturating_add(ROW);
+            for row in rows_of(alloc, report)?.iter() {
+                add_row(&mut body, row, top)?;
+                top = top.saturating_add(ROW);
+            }
+            top = top.saturating_add(ROW / 2);
+        }
+    }
+    let width = LEFT + BIT * 8 + 4;
+    format!(in alloc;
+        "<svg xmlns=\"http://www.w3.org/2000/svg\" width=\"{width}\" height=\"{top}\" \
+        font-family=\"sans-serif\" font-size=\"12\">\n{body}</svg>\n"
+    )
+}
+
+/// Appends a row of cells, its bytes before it.
+fn add_row(body: &mut String, row: &Row, top: usize) -> Result<(), AllocError> {
+    let alloc = *body.allocator();
+    let bytes = bytes_of(alloc, row)?;
+    add_text(body, LEFT - 8, top, "end", &bytes)?;
+    let mut left = LEFT;
+    for cell in row.cells.iter() {
+        let width = cell.bits.saturating_mul(BIT);
+        let fill = if cell.name.as_str() == "-" {
+            "#eeeeee"
+        } else {
+            "white"
+        };
+        writeln!(
+            body,
+            "<rect x=\"{left}\" y=\"{top}\" width=\"{width}\" height=\"{ROW}\" fill=\"{fill}\" \
+            stroke=\"black\"/>"
+        )?;
+        let middle = left.saturating_add(width / 2);
+        add_text(
+            body,
+            middle,
+            top,
+            "middle",
+            shortened(&cell.name, width / 7),
+        )?;
+        left = left.saturating_add(width);
+    }
+    Ok(())
+}
+
+/// Appends a text in a row; what a name can have that means something else is written so.
+fn add_text(
+    body: &mut String,
+    x: usize,
+    top: usize,
+    anchor: &str,
+    text: &str,
+) -> Result<(), AllocError> {
+    let y = top.saturating_add(16);
+    write!(body, "<text x=\"{x}\" y=\"{y}\" text-anchor=\"{anchor}\">")?;
+    for letter in text.chars() {
+        match letter {
+            '&' => body.push_str("&amp;")?,
+            '<' => body.push_str("&lt;")?,
+            '>' => body.push_str("&gt;")?,
+            letter => body.push(letter)?,
+        }
+    }
+    body.push_str("</text>\n")
+}
