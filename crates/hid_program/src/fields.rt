@@ -60,14 +60,11 @@ fn add_opened(
     before: &[Collection],
     around: &[Collection],
 ) -> Result<(), AllocError> {
-    let mut is_new = false;
-    for (depth, collection) in around.iter().enumerate() {
-        is_new = is_new || before.get(depth) != Some(collection);
-        if is_new {
-            add_indent(text, depth.saturating_add(1))?;
-            add_collection(text, collection)?;
-            text.push_str("\n")?;
-        }
+    let shared = Collection::shared(before, around);
+    for (depth, collection) in around.iter().enumerate().skip(shared) {
+        add_indent(text, depth.saturating_add(1))?;
+        add_collection(text, collection)?;
+        text.push_str("\n")?;
     }
     Ok(())
 }

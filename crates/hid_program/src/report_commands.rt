@@ -16,7 +16,7 @@ use hidreport::{Direction, RDescReport, Report, ReportDescriptor, ReportId};
 use std::rt::Files;
 
 /// Writes the bytes of a report whose fields have the named values.
-pub fn set<R: AllocGlobal + Print>(
+pub fn set<R: AllocGlobal + Print + Eprint>(
     rt: &R,
     descriptor: &ReportDescriptor,
     matches: &ArgMatches,
@@ -34,8 +34,11 @@ pub fn set<R: AllocGlobal + Print>(
     };
     let none: &[&str] = &[];
     let words = matches.get_strs("NAME=NUMBER").unwrap_or(none);
-    let bytes = written(rt.alloc(), report, words)?;
-    write(rt, &bytes, target_of(matches), Meaning::Report)
+    let written = written(rt.alloc(), report, words)?;
+    for note in written.notes.as_str().lines() {
+        eprintln!(rt; "hid: {note}")?;
+    }
+    write(rt, &written.bytes, target_of(matches), Meaning::Report)
 }
 
 /// The direction that the words say.

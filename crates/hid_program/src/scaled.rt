@@ -1,48 +1,31 @@
 //! Values in physical units (Section 6.2.2.7).
-use hidreport::VariableField;
+use hidreport::{Fraction, VariableField};
 use std::alloc::AllocError;
 use std::fmt::Write;
 
-/// A number as a fraction whose denominator is above 0.
-#[derive(Clone, Copy, Debug, PartialEq)]
-pub struct Fraction {
-    numerator: i128,
-    denominator: i128,
-}
-
-/// What a value of the field stands for, in its unit: the logical bounds stand for the physical
-/// ones, and what is between them lies on a line. None where the field has no unit or no physical
-/// bounds, and where its logical bounds are equal; physical bounds that are both 0 are the logical ones.
+/// What a value of the field stands for, in its unit: none where the field has no unit or no
+/// physical bounds, and where its logical bounds leave no room.
 pub fn physical(field: &VariableField, value: i64) -> Option<Fraction> {
     if u32::from(field.unit?) == 0 {
         return None;
     }
-    let physical_low = i128::from(i32::from(field.physical_minimum?));
-    let physical_high = i128::from(i32::from(field.physical_maximum?));
-    let low = i128::from(i32::from(field.logical_minimum));
-    let high = i128::from(i32::from(field.logical_maximum));
+    field.physical_minimum?;
+    field.physical_maximum?;
+    let Fraction {
+        numerator,
+        denominator,
+    } = field.physical_value(value)?;
     let power = field.unit_exponent.map_or(0, |it| it.exponent());
-    let range = high.checked_sub(low)?;
-    if range <= 0 {
-        return None;
-    }
-    let (physical_low, physical_high) = match (physical_low, physical_high) {
-        (0, 0) => (low, high),
-        bounds => bounds,
-    };
-    let above = i128::from(value).checked_sub(low)?;
-    let scaled = above.checked_mul(physical_high.checked_sub(physical_low)?)?;
-    let numerator = scaled.checked_add(physical_low.checked_mul(range)?)?;
     let ten = 10i128.checked_pow(u32::from(power.unsigned_abs()))?;
     if power < 0 {
         Some(Fraction {
             numerator,
-            denominator: range.checked_mul(ten)?,
+            denominator: denominator.checked_mul(ten)?,
         })
     } else {
         Some(Fraction {
             numerator: numerator.checked_mul(ten)?,
-            denominator: range,
+            denominator,
         })
     }
 }

@@ -21,7 +21,9 @@ pub mod Reading
 pub mod Records
 pub mod Repair
 pub mod RepairLaws
+pub mod Scaling
 pub mod Segments
+pub mod SharedCollections
 pub mod Standing
 pub mod Usages
 pub mod Tiling

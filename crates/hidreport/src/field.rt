@@ -8,6 +8,7 @@ pub(crate) mod collection;
 pub(crate) mod constant_field;
 pub(crate) mod data_item;
 pub(crate) mod field_attributes;
+pub(crate) mod fraction;
 pub(crate) mod insert_error;
 pub(crate) mod usage;
 pub(crate) mod usage_range;

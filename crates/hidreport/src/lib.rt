@@ -47,6 +47,7 @@ pub use field::collection::{Collection, CollectionId};
 pub use field::constant_field::ConstantField;
 pub use field::data_item::Direction;
 pub use field::field_attributes::FieldAttributes;
+pub use field::fraction::Fraction;
 pub use field::insert_error::InsertError;
 pub use field::usage::Usage;
 pub use field::usage_range::UsageRange;

@@ -3,7 +3,7 @@ use crate::asked::Asked;
 use crate::kinds::add_usages;
 use crate::malformed::Malformed;
 use crate::words::number_of;
-use hidreport::{Direction, Report, ReportDescriptor, ReportId};
+use hidreport::{Collection, Direction, Report, ReportDescriptor, ReportId};
 use std::alloc::AllocError;
 use std::fmt::Write;
 
@@ -19,6 +19,28 @@ pub fn add_by_id(text: &mut String, asked: &Asked, words: &str) -> Result<(), Ma
         add_report(text, descriptor, "feature", Direction::Feature, id)?;
         text.push_str("\n")?;
     }
+    Ok(())
+}
+
+/// Answers `shared FIELD FIELD ..`: how many of the outermost collections each field of the last
+/// descriptor shares with the one before it.
+pub fn add_shared(text: &mut String, asked: &Asked, words: &str) -> Result<(), Malformed> {
+    let mut before: &[Collection] = &[];
+    let mut gap = "";
+    for word in words.split(" ") {
+        let Ok(number) = u32::try_from(number_of(word)?) else {
+            return Err(Malformed::Number);
+        };
+        let around = asked.field(number)?.collections();
+        let count = Collection::shared(before, around);
+        write!(text, "{gap}{count}")?;
+        gap = " ";
+        before = around;
+    }
+    text.push_str(
+        "
+",
+    )?;
     Ok(())
 }
 

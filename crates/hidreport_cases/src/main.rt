@@ -23,6 +23,7 @@ mod readers;
 mod readings;
 mod rebuilt;
 mod repairs;
+mod scaled;
 mod tally;
 mod units;
 mod usages;

@@ -7,7 +7,7 @@ use crate::cuts::add_cuts;
 use crate::descriptors::{Ids, Way, add_descriptor, add_many, read};
 use crate::insertions::{add_blanks, add_inserted, add_inserted_one, add_standing};
 use crate::items::{add_item, add_list, add_short_of};
-use crate::lookups::add_by_id;
+use crate::lookups::{add_by_id, add_shared};
 use crate::made::{add_kind_of, add_made};
 use crate::malformed::Malformed;
 use crate::parts::{add_any, add_long, add_short};
@@ -15,6 +15,7 @@ use crate::readers::add_read_as;
 use crate::readings::add_readings;
 use crate::rebuilt::{add_alike, add_rebuilt};
 use crate::repairs::add_repaired;
+use crate::scaled::add_scaled;
 use crate::tally::Tally;
 use crate::units::{add_exponent, add_unit, add_units, add_usage};
 use crate::usages::{add_chosen, add_usages_of};
@@ -66,6 +67,7 @@ fn add_answer_of_writing(
         "value-of" => add_standing(text, asked, words),
         "blank" => add_blanks(alloc, text, asked),
         "by-id" => add_by_id(text, asked, words),
+        "shared" => add_shared(text, asked, words),
         _ => add_answer_without_field(alloc, text, kind, words),
     }
 }
@@ -84,6 +86,7 @@ fn add_answer_without_field(
             add_many(alloc, text, Way::Within(number_of(limit)?), words)
         }
         "repair" => add_repaired(alloc, text, words),
+        "scaled" => add_scaled(alloc, text, words),
         "made" => add_made(alloc, text, words),
         "kind" => add_kind_of(text, words),
         "unit" => add_unit(alloc, text, words),

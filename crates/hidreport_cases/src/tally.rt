@@ -2,7 +2,7 @@
 use std::fmt;
 
 /// The kinds, by the first words of their questions.
-static KINDS: [&str; 40] = [
+static KINDS: [&str; 42] = [
     "parse",
     "parse-globals",
     "parse-within",
@@ -17,6 +17,7 @@ static KINDS: [&str; 40] = [
     "value-of",
     "blank",
     "by-id",
+    "shared",
     "many",
     "many-within",
     "list",
@@ -36,6 +37,7 @@ static KINDS: [&str; 40] = [
     "kind",
     "rebuild",
     "repair",
+    "scaled",
     "unit",
     "units",
     "exponent",
@@ -49,7 +51,7 @@ static KINDS: [&str; 40] = [
 #[derive(Drop)]
 pub struct Tally {
     /// How many questions of each kind, in the order of `KINDS`.
-    asked: [usize; 40],
+    asked: [usize; 42],
     /// How many had another answer, or couldn't be asked.
     differing: usize,
     /// How many cut descriptors were asked besides.
@@ -61,7 +63,7 @@ pub struct Tally {
 impl Tally {
     pub fn new() -> Tally {
         Tally {
-            asked: [0; 40],
+            asked: [0; 42],
             differing: 0,
             cuts: 0,
             flips: 0,

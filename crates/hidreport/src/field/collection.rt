@@ -116,6 +116,7 @@ impl Model for Collection {
 
 impl Collection {
     ghost use Rattle.hidreport.specs.CollectionUsages.{collection_usages};
+    ghost use Rattle.hidreport.specs.SharedCollections.{shared};
 
     /// The collection with these parts.
     pub(crate) fn new(
@@ -155,6 +156,22 @@ impl Collection {
         ensures { result.now ≡ self.now.usages }
     {
         self.usages.as_slice()
+    }
+
+    /// How many of the outermost collections two lists have in common: what lies behind them in
+    /// the first is closed, and in the second opened, on the way from one field to another.
+    pub fn shared(before: &[Collection], around: &[Collection]) -> usize
+        ensures { result ≡ shared before.now around.now }
+    {
+        let mut count = 0;
+        let mut left = before;
+        let mut right = around;
+        while !left.is_empty() && !right.is_empty() && left[0] == right[0] {
+            count += 1;
+            left = left.split_at(1).1;
+            right = right.split_at(1).1;
+        }
+        count
     }
 
     /// The same collection once more; both share the list of usages. It takes no memory; an

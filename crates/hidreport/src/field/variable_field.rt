@@ -1,7 +1,9 @@
-ghost use Rattle.std.specs.Prelude.{◌≡◌, ◌≢◌, [], ◌∷◌, pos, int_lt, IfErr, IfOk, OnOk};
+ghost use Rattle.std.specs.Prelude.{◌≡◌, ◌≢◌, [], ◌∷◌, pos, int_lt, ◌&&◌, IfErr, IfOk, OnOk};
+ghost use Rattle.std.specs.Ordering.{int_eq};
 ghost use Rattle.hidreport_lists.specs.Answer.{AnswersBy, IsOfReading};
 ghost use Rattle.hidreport.specs.Bits.{FixesBits};
 ghost use Rattle.hidreport.specs.Reading.{reads};
+ghost use Rattle.hidreport.specs.Scaling.{normalized, physical_between, physical_value};
 ghost use Rattle.hidreport_items.specs.Spelling.{AreBytes};
 ghost use Rattle.hidreport.specs.WritingValues.{Inserts, written};
 ghost use Rattle.hidreport.specs.WritingLaws.{IsWritten, reads_numbers};
@@ -11,6 +13,7 @@ use crate::field::FieldId;
 use crate::field::collection::Collection;
 use crate::field::data_item::DataItem;
 use crate::field::field_attributes::FieldAttributes;
+use crate::field::fraction::Fraction;
 use crate::field::insert_error::InsertError;
 use crate::field::usage::Usage;
 use crate::field::value::{FieldValue, check_id, read_bits};
@@ -126,6 +129,41 @@ impl VariableField {
         Ok(())
     }
 
+    /// What a value of the field stands for, in its unit times ten to its exponent
+    /// (Section 6.2.2.7): the logical bounds stand for the physical ones, and a value lies on the
+    /// line through both, beyond them too. Physical bounds that are both 0 or unset are the logical
+    /// ones. None where the logical minimum isn't below the maximum.
+    pub fn physical_value(&self, value: i64) -> Option<Fraction>
+        ensures { result ≡ physical_value (variable_attributes self.now) value }
+    {
+        let first = self.physical_minimum.map_or(0, i32::from);
+        let last = self.physical_maximum.map_or(0, i32::from);
+        self.value_between(first, last, value)
+    }
+
+    /// The same, where these are the physical bounds.
+    fn value_between(&self, first: i32, last: i32, value: i64) -> Option<Fraction>
+        ensures { result ≡ physical_between first last (variable_attributes self.now) value }
+    {
+        let low = i32::from(self.logical_minimum);
+        let high = i32::from(self.logical_maximum);
+        if are_unset(first, last) {
+            Fraction::on_line(value, low, high, low, high)
+        } else {
+            Fraction::on_line(value, low, high, first, last)
+        }
+    }
+
+    /// A value of the field between -1, its logical minimum, and 1, its logical maximum; beyond
+    /// them it goes on as it does between them. None where the minimum isn't below the maximum.
+    pub fn normalized(&self, value: i64) -> Option<Fraction>
+        ensures { result ≡ normalized (variable_attributes self.now) value }
+    {
+        let low = i32::from(self.logical_minimum);
+        let high = i32::from(self.logical_maximum);
+        Fraction::on_line(value, low, high, -1, 1)
+    }
+
     /// The same field once more; both share the list of collections. It takes no memory; an
     /// `AllocError` comes only where that list would have 2^63 owners.
     pub fn clone(&self) -> Result<VariableField, AllocError>
@@ -146,6 +184,13 @@ impl VariableField {
             item: self.item,
         })
     }
+}
+
+/// Whether physical bounds say nothing: both are 0.
+fn are_unset(first: i32, last: i32) -> bool
+    ensures { result ≡ (int_eq first (pos 0) && int_eq last (pos 0)) }
+{
+    first == 0 && last == 0
 }
 
 impl FieldAttributes for VariableField {
