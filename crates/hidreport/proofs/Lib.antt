@@ -47,6 +47,7 @@ pub mod ReadBackLemmas
 pub mod RefusalLemmas
 pub mod RepairLemmas
 pub mod RepairLawLemmas
+pub mod RepairRefusalLemmas
 pub mod RangeLemmas
 pub mod ElementLemmas
 pub mod SegmentLemmas
