@@ -32,9 +32,9 @@ use std::alloc::Global;
 /// is `InvalidData` at 0, `Empty report descriptor`.
 ///
 /// What is written is read (`accepted`); what no change names stands as it stood, in order
-/// (`kept`); each field has the bits of its report that hid-core gives it (`bits`); and a descriptor
-/// that is read stays as it is, without a change, unless maxima are asked for (`untouched`).
-/// `MismatchingReportId` never comes (`own_bytes`).
+/// (`kept`); each field lies in the bits of its report where the items that hid-core reads put it
+/// (`bits`); and a descriptor that is read stays as it is, without a change, unless maxima are asked
+/// for (`untouched`). `MismatchingReportId` never comes (`own_bytes`).
 pub fn repair(alloc: Global, bytes: &[u8], options: RepairOptions) -> Result<Repaired, ParserError>
     ensures exact { AnswersBy repaired_view result (repaired options bytes.now) }
     ensures untouched { options.unsigned_maxima ≡ false → IsOk (parse_as options.parse bytes.now)
