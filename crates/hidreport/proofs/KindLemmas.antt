@@ -182,13 +182,14 @@ kind-again h other bs cs x y read again types prefixes =
     ∙ ap (λ t. kind_by t (prefix other)) types
     ∙ ap (kind_by (type_of h)) prefixes ∙ sym (kind-header h bs x read)
 
--- none of them is a long item
+-- the item that is read
 abbrev read-is : ItemType → Result ItemType GrammarFault
 read-is x = Ok x
 
 kind-long : (x : ItemType) → read-is item.Long ≡ read-is x → kind x ≡ None
 kind-long x e = let same : item.Long ≡ x = cc in sym (ap kind same)
 
+-- none of them is a long item
 pub kind-short : (h : ℕ) (bs : List ℕ) (x z : ItemType) → item_of h bs ≡ Ok x → kind x ≡ Some z
     → following_length h bs ≡ data_length h
 kind-short h bs x z is known = short-by (is_long_header h) refl
