@@ -46,8 +46,14 @@ pub mod ParseLemmas
 pub mod ReadBackLemmas
 pub mod RefusalLemmas
 pub mod RepairLemmas
+pub mod KindLemmas
+pub mod OutlineLemmas
 pub mod RepairLawLemmas
+pub mod RepairRefusalLemmas
+pub mod RepairBitsLemmas
+pub mod MendedPieceLemmas
 pub mod RangeLemmas
 pub mod ElementLemmas
 pub mod SegmentLemmas
+pub mod SpelledPieceLemmas
 pub mod StandingLemmas

@@ -197,7 +197,7 @@ missing-past None true = refl
 missing-past None false = refl
 
 -- the limit has no part in that usages are missing
-missing-stop : (left : Option ℕ) (h : StateRecord) (o : Option ItemType)
+pub missing-stop : (left : Option ℕ) (h : StateRecord) (o : Option ItemType)
     → is_missing_usages (stop_held left h o) ≡ is_missing_usages (fault_held h o)
 missing-stop left h None = refl
 missing-stop left h (Some x) = missing-past (fault_in h x) (is_past left (weight_in h x))

@@ -114,7 +114,7 @@ goes-by (Some f) left h k x xs d stops walks =
     (λ n. walk_within (left_behind left (weight_in h x)) n (k + 1) xs)) stops in cc
 
 -- what stops nothing has signed fault, and fits
-stop-none : (o : Option MeaningFault) (b : Bool) → first_of o (past_fault b) ≡ None
+pub stop-none : (o : Option MeaningFault) (b : Bool) → first_of o (past_fault b) ≡ None
     → (o ≡ None) × (b ≡ false)
 stop-none None true e = cc
 stop-none None false e = (refl, refl)

@@ -1,8 +1,20 @@
--- Laws of a repair (Section 6.2.2): what stays as it stood.
-use Rattle.std.specs.Prelude.{◌≡◌, ℕ, ◌+◌, List, [], ◌∷◌, length, filter_map, flat_map, None}
-use Rattle.hidreport_lists.specs.Mending.{PieceRecord, standing_bytes}
+-- Laws of a repair (Section 6.2.2): what stays as it stood, and where fields lie.
+use Rattle.std.specs.Prelude.{◌≡◌, ℕ, ◌+◌, List, [], ◌∷◌, length, map, filter_map, flat_map, None}
+use Rattle.std.specs.Prelude.{Option, Ok, option_map}
+use Rattle.hidreport_items.specs.Spelling.{item_of}
+use Rattle.hidreport_items.specs.declared.item.ItemType.{ItemType}
+use Rattle.hidreport_lists.specs.Entry.{Entry}
+use Rattle.hidreport_lists.specs.Itemising.{Itemises}
+use Rattle.hidreport_lists.specs.Mending.{PieceRecord, item_in, pieces, standing_bytes}
+use Rattle.hidreport_lists.specs.Rebuilt.{items_of}
+use Rattle.hidreport.specs.Kinds.{Direction, data_of}
+use Rattle.hidreport.specs.Making.{extent, key}
+use Rattle.hidreport.specs.Options.{reading_of}
+use Rattle.hidreport.specs.Places.{start}
 use Rattle.hidreport.specs.Repair.{RepairedRecord, change_in, joined}
 use Rattle.hidreport.specs.Tiling.{Each}
+use Rattle.hidreport.specs.declared.parser.push_keeps.PushKeeps.{PushKeeps}
+use Rattle.hidreport.specs.declared.repairing.repair_options.RepairOptions.{RepairOptions}
 
 -- each piece stood behind all bytes of those before it
 abbrev pub AreInPlace : ℕ → List PieceRecord → Type 0
@@ -22,3 +34,27 @@ pub record IsRepairOf (bytes : List ℕ) (r : RepairedRecord) : Type 0 where
   pub written : joined pieces ≡ r.bytes
   pub changes : filter_map change_in pieces ≡ r.changes
   pub same : Each StandsAsItStood pieces
+
+-- the direction of a data item
+abbrev pub direction_of : ItemType → Option Direction
+direction_of x = option_map (λ p. p.0) (data_of x)
+
+-- The items at each index have the same direction, if any, and the same size and count in force;
+-- fields of a direction would begin there at the same bit of the same report.
+pub record SamePlaces (keeps : PushKeeps) (items others : List ItemType) : Type 0 where
+  pub directions : map direction_of items ≡ map direction_of others
+  pub extents : (k : ℕ) → extent (reading_of keeps items k) ≡ extent (reading_of keeps others k)
+  pub reports : (d : Direction) (k : ℕ)
+      → key (reading_of keeps items) d items k ≡ key (reading_of keeps others) d others k
+  pub starts : (d : Direction) (k : ℕ)
+      → start (reading_of keeps items) d items k ≡ start (reading_of keeps others) d others k
+
+-- Each field keeps its bits: the repaired bytes are items that lie where those lie which hid-core
+-- reads of the bytes.
+pub record KeepsBits (options : RepairOptions) (bytes : List ℕ) (r : RepairedRecord)
+    : Type 0 where
+  pub read : List PieceRecord
+  pub reads : pieces options.leave_out_cut_short bytes ≡ Ok read
+  pub entries : List Entry
+  pub written : Itemises item_of r.bytes entries
+  pub places : SamePlaces options.parse.push_keeps (filter_map item_in read) (items_of entries)

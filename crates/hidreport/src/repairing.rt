@@ -1,9 +1,9 @@
 //! Descriptors that hosts accept, made such as are read.
-ghost use Rattle.std.specs.Prelude.{◌≡◌, [], false, IfOk, IsOk, Ok};
+ghost use Rattle.std.specs.Prelude.{◌≡◌, ◌≢◌, [], false, Err, IfOk, IsOk, Ok};
 ghost use Rattle.hidreport_lists.specs.Answer.{AnswersBy};
 ghost use Rattle.hidreport.specs.Options.{parse_as};
 ghost use Rattle.hidreport.specs.Repair.{repaired, repaired_view};
-ghost use Rattle.hidreport.specs.RepairLaws.{IsRepairOf};
+ghost use Rattle.hidreport.specs.RepairLaws.{IsRepairOf, KeepsBits};
 
 mod change;
 mod mending;
@@ -32,14 +32,17 @@ use std::alloc::Global;
 /// is `InvalidData` at 0, `Empty report descriptor`.
 ///
 /// What is written is read (`accepted`); what no change names stands as it stood, in order
-/// (`kept`); and a descriptor that is read stays as it is, without a change, unless maxima are asked
-/// for (`untouched`).
+/// (`kept`); each field lies in the bits of its report where the items that hid-core reads put it
+/// (`bits`); and a descriptor that is read stays as it is, without a change, unless maxima are asked
+/// for (`untouched`). `MismatchingReportId` never comes (`own_bytes`).
 pub fn repair(alloc: Global, bytes: &[u8], options: RepairOptions) -> Result<Repaired, ParserError>
     ensures exact { AnswersBy repaired_view result (repaired options bytes.now) }
     ensures untouched { options.unsigned_maxima ≡ false → IsOk (parse_as options.parse bytes.now)
         → AnswersBy repaired_view result (Ok (record { bytes = bytes.now; changes = [] })) }
     ensures kept { IfOk result (λ repaired. IsRepairOf bytes.now (repaired_view repaired)) }
+    ensures bits { IfOk result (λ repaired. KeepsBits options bytes.now (repaired_view repaired)) }
     ensures accepted { IfOk result (λ repaired. IsOk (parse_as options.parse repaired.bytes.items)) }
+    ensures own_bytes { result ≢ Err ParserError.MismatchingReportId }
 {
     repaired_bytes(alloc, bytes, options)
 }

@@ -3,7 +3,9 @@ use Rattle.hidreport_lists.proofs.CutLemmas.{are_bytes}
 use Rattle.hidreport_lists.specs.Answer.{AnswersBy}
 use Rattle.hidreport.specs.Options.{parse_as}
 use Rattle.hidreport.specs.Repair.{repaired_view}
+use Rattle.hidreport.proofs.RepairBitsLemmas.{repair-keeps-bits}
 use Rattle.hidreport.proofs.RepairLawLemmas.{repair-so}
+use Rattle.hidreport.proofs.RepairRefusalLemmas.{repair-no-mismatch}
 use Rattle.hidreport.proofs.UntouchedLemmas.{accepts-answer, untouched-ok}
 use Rattle.hidreport.proofs.repairing.repair.Goals as goal
 
@@ -23,3 +25,11 @@ returns-clause-accepted c =
 pub returns-clause-kept : goal.returns-clause-kept
 returns-clause-kept c =
     repair-so c.args.options c.args.bytes.now c.repaired_bytes.result c.repaired_bytes.ensures
+
+pub returns-clause-bits : goal.returns-clause-bits
+returns-clause-bits c = repair-keeps-bits c.args.options c.args.bytes.now c.repaired_bytes.result
+    (are_bytes c.args.bytes.now (λ i. omega (arith, c.type_inv.bytes i))) c.repaired_bytes.ensures
+
+pub returns-clause-own_bytes : goal.returns-clause-own_bytes
+returns-clause-own_bytes c = repair-no-mismatch c.args.options c.args.bytes.now
+    c.repaired_bytes.result c.repaired_bytes.ensures

@@ -1,0 +1,302 @@
+-- What places don't ask of an item is blanked: where items lie, their outlines lie.
+use Rattle.std.proofs.Common.{◌≡◌, ℕ, zero, suc, ◌+◌, ◌-◌, Bool, true, false, cond, ◌&&◌, List, []}
+use Rattle.std.proofs.Common.{◌∷◌, take, map, filter, nat_lt, Option, refl, sym, ap, ◌∙◌}
+use Rattle.std.specs.Prelude.{pos, nat_le, count_by, sum_by, is_some}
+use Rattle.std.specs.List.{enumerate_from}
+use Rattle.std.proofs.lemmas.List.{take-map}
+use Rattle.std.proofs.lemmas.List.Sums.{sum_by-cons}
+use Rattle.hidreport_items.specs.Flags.{flags_of}
+use Rattle.hidreport_items.specs.declared.global.GlobalItem.TheVariants as global
+use Rattle.hidreport_items.specs.declared.item.ItemType.{ItemType}
+use Rattle.hidreport_items.specs.declared.item.ItemType.TheVariants as item
+use Rattle.hidreport_items.specs.declared.main_item.MainItem.TheVariants as main
+use Rattle.hidreport.specs.ItemState.{ItemState, first_of, last_value}
+use Rattle.hidreport.specs.ItemState.{global as in_force}
+use Rattle.hidreport.specs.Kinds.{Direction, Indexed, data_of, goes, is_pop, is_push}
+use Rattle.hidreport.specs.Kinds.{report_count_of, report_id_of, report_size_of}
+use Rattle.hidreport.specs.Making.{both_set, extent, first_report_id, key, makers, makers_of, makes}
+use Rattle.hidreport.specs.Making.{same_key}
+use Rattle.hidreport.specs.Options.{reading_of}
+use Rattle.hidreport.specs.Places.{bits_of, end_before, id_bits, start}
+use Rattle.hidreport.specs.RepairLaws.{SamePlaces, direction_of}
+use Rattle.hidreport.specs.Visibility.{before, is_visible, level, stays_up, visible}
+use Rattle.hidreport.specs.declared.parser.push_keeps.PushKeeps.{PushKeeps}
+use Rattle.hidreport.specs.declared.parser.push_keeps.PushKeeps.TheVariants as push_keeps
+
+-- flags and maxima are blanked
+abbrev pub outline : ItemType → ItemType
+outline (item.Main (main.Input flags)) = item.Main (main.Input (flags_of 0))
+outline (item.Main (main.Output flags)) = item.Main (main.Output (flags_of 0))
+outline (item.Main (main.Feature flags)) = item.Main (main.Feature (flags_of 0))
+outline (item.Global (global.LogicalMaximum n)) = item.Global (global.LogicalMaximum (pos 0))
+outline (item.Global (global.PhysicalMaximum n)) = item.Global (global.PhysicalMaximum (pos 0))
+outline x = x
+
+-- this is the same of both
+record Alike (x y : ItemType) : Type 0 where
+  push : is_push x ≡ is_push y
+  pop : is_pop x ≡ is_pop y
+  size : report_size_of x ≡ report_size_of y
+  id : report_id_of x ≡ report_id_of y
+  count : report_count_of x ≡ report_count_of y
+  direction : direction_of x ≡ direction_of y
+  goes_too : (d : Direction) → goes d (data_of x) ≡ goes d (data_of y)
+
+alike : (x : ItemType) → Alike (outline x) x
+alike (item.Main (main.Input flags)) = record {
+  push = refl;
+  pop = refl;
+  size = refl;
+  id = refl;
+  count = refl;
+  direction = refl;
+  goes_too = λ d. refl;
+}
+alike (item.Main (main.Output flags)) = record {
+  push = refl;
+  pop = refl;
+  size = refl;
+  id = refl;
+  count = refl;
+  direction = refl;
+  goes_too = λ d. refl;
+}
+alike (item.Main (main.Feature flags)) = record {
+  push = refl;
+  pop = refl;
+  size = refl;
+  id = refl;
+  count = refl;
+  direction = refl;
+  goes_too = λ d. refl;
+}
+alike (item.Global (global.LogicalMaximum n)) = record {
+  push = refl;
+  pop = refl;
+  size = refl;
+  id = refl;
+  count = refl;
+  direction = refl;
+  goes_too = λ d. refl;
+}
+alike (item.Global (global.PhysicalMaximum n)) = record {
+  push = refl;
+  pop = refl;
+  size = refl;
+  id = refl;
+  count = refl;
+  direction = refl;
+  goes_too = λ d. refl;
+}
+alike x = record {
+  push = refl;
+  pop = refl;
+  size = refl;
+  id = refl;
+  count = refl;
+  direction = refl;
+  goes_too = λ d. refl;
+}
+
+abbrev outlines : List ItemType → List ItemType
+outlines items = map outline items
+
+abbrev outlined : Indexed → Indexed
+outlined p = (p.0, outline p.1)
+
+-- lists of what is made of each
+
+sum-same : {X Y : Type 0} (g : X → Y) (f : Y → ℕ) (h : X → ℕ) → ((x : X) → f (g x) ≡ h x)
+    → (xs : List X) → sum_by f (map g xs) ≡ sum_by h xs
+sum-same g f h same [] = refl
+sum-same g f h same (x ∷ xs) =
+    sum_by-cons f (g x) (map g xs) ∙ ap (λ n. n + sum_by f (map g xs)) (same x)
+    ∙ ap (λ n. h x + n) (sum-same g f h same xs) ∙ sym (sum_by-cons h x xs)
+
+filter-same : (p q : Indexed → Bool) → ((x : Indexed) → p (outlined x) ≡ q x) → (xs : List Indexed)
+    → filter p (map outlined xs) ≡ map outlined (filter q xs)
+filter-same p q same [] = refl
+filter-same p q same (x ∷ xs) =
+    by (p (outlined x)) (q x) (same x) (filter-same p q same xs)
+  where
+    by : (b c : Bool) → b ≡ c → filter p (map outlined xs) ≡ map outlined (filter q xs)
+        → cond b (outlined x ∷ filter p (map outlined xs)) (filter p (map outlined xs))
+        ≡ map outlined (cond c (x ∷ filter q xs) (filter q xs))
+    by true true e rest = ap (λ l. outlined x ∷ l) rest
+    by false false e rest = rest
+    by true false e rest = cc
+    by false true e rest = cc
+
+indexed-same : (n : ℕ) (items : List ItemType)
+    → enumerate_from n (outlines items) ≡ map outlined (enumerate_from n items)
+indexed-same n [] = refl
+indexed-same n (x ∷ xs) = ap (λ l. (n, outline x) ∷ l) (indexed-same (n + 1) xs)
+
+before-same : (items : List ItemType) (k : ℕ)
+    → before (outlines items) k ≡ map outlined (before items k)
+before-same items k =
+    ap (enumerate_from 0) (take-map outline k items) ∙ indexed-same 0 (take k items)
+
+-- what is visible
+
+count-same : (p : ItemType → Bool) → ((x : ItemType) → p (outline x) ≡ p x)
+    → (items : List ItemType) (k : ℕ)
+    → count_by p (take k (outlines items)) ≡ count_by p (take k items)
+count-same p same items k = ap (count_by p) (take-map outline k items)
+    ∙ sum-same outline (λ x. cond (p x) 1 0) (λ x. cond (p x) 1 0)
+    (λ x. ap (λ b. cond b 1 0) (same x)) (take k items)
+
+level-same : (items : List ItemType) (k : ℕ) → level (outlines items) k ≡ level items k
+level-same items k =
+    ap (λ n. n - count_by is_pop (take k (outlines items)))
+    (count-same is_push (λ x. (alike x).push) items k)
+    ∙ ap (λ n. count_by is_push (take k items) - n)
+    (count-same is_pop (λ x. (alike x).pop) items k)
+
+stays-same : (items : List ItemType) (floor j n : ℕ)
+    → stays_up (outlines items) floor j n ≡ stays_up items floor j n
+stays-same items floor j zero = refl
+stays-same items floor j (suc n) =
+    ap (λ m. nat_le floor m && stays_up (outlines items) floor j n) (level-same items (j + suc n))
+    ∙ ap (λ b. nat_le floor (level items (j + suc n)) && b) (stays-same items floor j n)
+
+is-visible-same : (items : List ItemType) (j k : ℕ)
+    → is_visible (outlines items) j k ≡ is_visible items j k
+is-visible-same items j k =
+    ap (λ n. nat_lt j k && stays_up (outlines items) n j (k - j)) (level-same items j)
+    ∙ ap (λ b. nat_lt j k && b) (stays-same items (level items j) j (k - j))
+
+visible-same : (items : List ItemType) (k : ℕ)
+    → visible (outlines items) k ≡ map outlined (visible items k)
+visible-same items k =
+    ap (filter (λ (p : Indexed). is_visible (outlines items) p.0 k)) (before-same items k)
+    ∙ filter-same (λ p. is_visible (outlines items) p.0 k) (λ p. is_visible items p.0 k)
+    (λ p. is-visible-same items p.0 k) (before items k)
+
+-- what is in force
+
+value-same : (tag : ItemType → Option ℕ) → ((x : ItemType) → tag (outline x) ≡ tag x)
+    → (ps : List Indexed) → last_value tag (map outlined ps) ≡ last_value tag ps
+value-same tag same [] = refl
+value-same tag same (p ∷ ps) =
+    ap (λ o. first_of o (tag (outline p.1))) (value-same tag same ps)
+    ∙ ap (λ o. first_of (last_value tag ps) o) (same p.1)
+
+force-same : (tag : ItemType → Option ℕ) → ((x : ItemType) → tag (outline x) ≡ tag x)
+    → (items : List ItemType) (k : ℕ) → in_force tag (outlines items) k ≡ in_force tag items k
+force-same tag same items k =
+    ap (last_value tag) (visible-same items k) ∙ value-same tag same (visible items k)
+
+-- size, count and id are in force by each reading alike
+record IsRead (f : ItemState) (items : List ItemType) (k : ℕ) : Type 0 where
+  size : f.report_size ≡ in_force report_size_of items k
+  count : f.report_count ≡ in_force report_count_of items k
+  id : f.report_id ≡ in_force report_id_of items k
+
+is-read : (keeps : PushKeeps) (items : List ItemType) (k : ℕ)
+    → IsRead (reading_of keeps items k) items k
+is-read push_keeps.All items k = record { size = refl; count = refl; id = refl }
+is-read push_keeps.Globals items k = record { size = refl; count = refl; id = refl }
+
+extent-same : (keeps : PushKeeps) (items : List ItemType) (k : ℕ)
+    → extent (reading_of keeps (outlines items) k) ≡ extent (reading_of keeps items k)
+extent-same keeps items k =
+    let f = reading_of keeps (outlines items) k in
+    let g = reading_of keeps items k in
+    let now = is-read keeps (outlines items) k in
+    let was = is-read keeps items k in
+    ap (λ o. both_set o f.report_count) (now.size
+    ∙ force-same report_size_of (λ x. (alike x).size) items k ∙ sym was.size)
+    ∙ ap (λ o. both_set g.report_size o) (now.count
+    ∙ force-same report_count_of (λ x. (alike x).count) items k ∙ sym was.count)
+
+id-same : (keeps : PushKeeps) (items : List ItemType) (k : ℕ)
+    → (reading_of keeps (outlines items) k).report_id ≡ (reading_of keeps items k).report_id
+id-same keeps items k = (is-read keeps (outlines items) k).id
+    ∙ force-same report_id_of (λ x. (alike x).id) items k ∙ sym (is-read keeps items k).id
+
+-- what makes fields, and where
+
+makes-same : (keeps : PushKeeps) (items : List ItemType) (d : Direction) (p : Indexed)
+    → makes (reading_of keeps (outlines items)) d (outlined p)
+    ≡ makes (reading_of keeps items) d p
+makes-same keeps items d p =
+    ap (λ b. b && is_some (extent (reading_of keeps (outlines items) p.0)))
+    ((alike p.1).goes_too d)
+    ∙ ap (λ o. goes d (data_of p.1) && is_some o) (extent-same keeps items p.0)
+
+makers-same : (keeps : PushKeeps) (items : List ItemType) (d : Direction) (k : ℕ)
+    → makers (reading_of keeps (outlines items)) d (outlines items) k
+    ≡ map outlined (makers (reading_of keeps items) d items k)
+makers-same keeps items d k =
+    ap (filter (makes (reading_of keeps (outlines items)) d)) (before-same items k)
+    ∙ filter-same (makes (reading_of keeps (outlines items)) d) (makes (reading_of keeps items) d)
+    (makes-same keeps items d) (before items k)
+
+first-same : (keeps : PushKeeps) (items : List ItemType) (ps : List Indexed)
+    → first_report_id (reading_of keeps (outlines items)) (map outlined ps)
+    ≡ first_report_id (reading_of keeps items) ps
+first-same keeps items [] = refl
+first-same keeps items (p ∷ ps) = id-same keeps items p.0
+
+key-same : (keeps : PushKeeps) (items : List ItemType) (d : Direction) (k : ℕ)
+    → key (reading_of keeps (outlines items)) d (outlines items) k
+    ≡ key (reading_of keeps items) d items k
+key-same keeps items d k =
+    let now = reading_of keeps (outlines items) in
+    let was = reading_of keeps items in
+    ap (λ o. first_of o (first_report_id now (makers now d (outlines items) k)))
+    (id-same keeps items k)
+    ∙ ap (λ l. first_of (was k).report_id (first_report_id now l)) (makers-same keeps items d k)
+    ∙ ap (first_of (was k).report_id) (first-same keeps items (makers was d items k))
+
+makers_of-same : (keeps : PushKeeps) (items : List ItemType) (d : Direction) (id : Option ℕ) (k : ℕ)
+    → makers_of (reading_of keeps (outlines items)) d id (outlines items) k
+    ≡ map outlined (makers_of (reading_of keeps items) d id items k)
+makers_of-same keeps items d id k =
+    let now = reading_of keeps (outlines items) in
+    let was = reading_of keeps items in
+    ap (filter (λ (p : Indexed). same_key (key now d (outlines items) p.0) id))
+    (makers-same keeps items d k)
+    ∙ filter-same (λ p. same_key (key now d (outlines items) p.0) id)
+    (λ p. same_key (key was d items p.0) id)
+    (λ p. ap (λ o. same_key o id) (key-same keeps items d p.0)) (makers was d items k)
+
+end-same : (keeps : PushKeeps) (items : List ItemType) (d : Direction) (id : Option ℕ) (k : ℕ)
+    → end_before (reading_of keeps (outlines items)) d id (outlines items) k
+    ≡ end_before (reading_of keeps items) d id items k
+end-same keeps items d id k =
+    let now = reading_of keeps (outlines items) in
+    let was = reading_of keeps items in
+    ap (λ l. id_bits id + sum_by (λ (p : Indexed). bits_of (extent (now p.0))) l)
+    (makers_of-same keeps items d id k)
+    ∙ ap (λ n. id_bits id + n) (sum-same outlined (λ p. bits_of (extent (now p.0)))
+    (λ p. bits_of (extent (was p.0))) (λ p. ap bits_of (extent-same keeps items p.0))
+    (makers_of was d id items k))
+
+start-same : (keeps : PushKeeps) (items : List ItemType) (d : Direction) (k : ℕ)
+    → start (reading_of keeps (outlines items)) d (outlines items) k
+    ≡ start (reading_of keeps items) d items k
+start-same keeps items d k =
+    ap (λ o. end_before (reading_of keeps (outlines items)) d o (outlines items) k)
+    (key-same keeps items d k)
+    ∙ end-same keeps items d (key (reading_of keeps items) d items k) k
+
+directions-same : (items : List ItemType) → map direction_of (outlines items) ≡ map direction_of items
+directions-same [] = refl
+directions-same (x ∷ xs) =
+    ap (λ o. o ∷ map direction_of (outlines xs)) (alike x).direction
+    ∙ ap (λ l. direction_of x ∷ l) (directions-same xs)
+
+-- items with the same outlines lie in the same places
+pub same-places : (keeps : PushKeeps) (items others : List ItemType)
+    → map outline items ≡ map outline others → SamePlaces keeps items others
+same-places keeps items others same = record {
+  directions = sym (directions-same items) ∙ ap (map direction_of) same ∙ directions-same others;
+  extents = λ k. sym (extent-same keeps items k)
+      ∙ ap (λ l. extent (reading_of keeps l k)) same ∙ extent-same keeps others k;
+  reports = λ d k. sym (key-same keeps items d k)
+      ∙ ap (λ l. key (reading_of keeps l) d l k) same ∙ key-same keeps others d k;
+  starts = λ d k. sym (start-same keeps items d k)
+      ∙ ap (λ l. start (reading_of keeps l) d l k) same ∙ start-same keeps others d k;
+}
