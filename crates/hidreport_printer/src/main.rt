@@ -48,15 +48,15 @@ fn print_reports<R: Print>(rt: &R, direction: &str, reports: &[RDescReport]) -> 
         println!(rt; ", {} bits", report.size_in_bits())?;
         let mut open: &[Collection] = &[];
         for field in report.fields() {
-            for (depth, around) in field.collections().iter().enumerate() {
-                if open.get(depth) != Some(around) {
-                    print!(rt; "    {:1$}{2:?}", "", depth, around.collection_type())?;
-                    print_usages(rt, around.usages())?;
-                    println!(rt; "")?;
-                }
+            let around = field.collections();
+            let shared = Collection::shared(open, around);
+            for (depth, collection) in around.iter().enumerate().skip(shared) {
+                print!(rt; "    {:1$}{2:?}", "", depth, collection.collection_type())?;
+                print_usages(rt, collection.usages())?;
+                println!(rt; "")?;
             }
             if !matches!(field, Field::Constant(_)) {
-                open = field.collections();
+                open = around;
             }
             print!(rt; "    {:1$}{2:?}", "", open.len(), field.bits())?;
             match field {
