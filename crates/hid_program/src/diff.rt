@@ -4,16 +4,37 @@ use crate::field_words::add_field;
 use crate::fields::add_title;
 use hidreport::{Direction, Field, RDescReport, Report, ReportDescriptor};
 use std::alloc::{AllocError, Global};
-use std::fmt::Write;
 
-/// The fields that are in one of two descriptors and not in the other, report by report: behind `-`
-/// what the first alone has, behind `+` what the second alone has. No text where they have the same.
-pub fn differing(
+/// Which of two descriptors has a field that the other hasn't.
+#[derive(Clone, Copy, Debug, PartialEq)]
+pub enum Side {
+    /// The first.
+    First,
+
+    /// The second.
+    Second,
+}
+
+/// A field that is in one of two descriptors alone.
+#[derive(Clone, Copy, Debug)]
+pub struct Difference<'a> {
+    /// Which of them has it.
+    pub side: Side,
+    /// The direction of its report.
+    pub direction: Direction,
+    /// Its report, or the other descriptor's with its id.
+    pub report: &'a RDescReport,
+    /// The field.
+    pub field: &'a Field,
+}
+
+/// The fields that are in one of two descriptors and not in the other, report by report.
+pub fn differences<'a>(
     alloc: Global,
-    first: &ReportDescriptor,
-    second: &ReportDescriptor,
-) -> Result<String, AllocError> {
-    let mut text = String::new(alloc);
+    first: &'a ReportDescriptor,
+    second: &'a ReportDescriptor,
+) -> Result<Vec<Difference<'a>>, AllocError> {
+    let mut found = Vec::new(alloc);
     for direction in DIRECTIONS {
         for report in first.reports(direction) {
             let id = *report.report_id();
@@ -22,56 +43,63 @@ pub fn differing(
                 Some(other) => other.fields(),
                 None => none,
             };
-            add_report(&mut text, direction, report, report.fields(), fields)?;
+            add_report(&mut found, direction, report, report.fields(), fields)?;
         }
         for report in second.reports(direction) {
             let id = *report.report_id();
             if first.report(direction, id).is_none() {
-                add_report(&mut text, direction, report, &[], report.fields())?;
+                add_report(&mut found, direction, report, &[], report.fields())?;
             }
         }
     }
-    Ok(text)
+    Ok(found)
 }
 
-/// Appends the fields of one report that differ, below its name.
-fn add_report(
-    text: &mut String,
+/// Appends the fields of one report that differ.
+fn add_report<'a>(
+    found: &mut Vec<Difference<'a>>,
     direction: Direction,
-    report: &RDescReport,
-    first: &[Field],
-    second: &[Field],
+    report: &'a RDescReport,
+    first: &'a [Field],
+    second: &'a [Field],
 ) -> Result<(), AllocError> {
-    let mut lines = String::new(*text.allocator());
+    let alloc = *found.allocator();
     let (mut left, mut right) = (first, second);
     for _ in 0..u64::MAX {
-        match (left.split_first(), right.split_first()) {
+        let (side, field) = match (left.split_first(), right.split_first()) {
             (Some((mine, behind)), Some((other, beyond))) => {
-                if words(*text.allocator(), mine)? == words(*text.allocator(), other)? {
+                if words(alloc, mine)? == words(alloc, other)? {
                     left = behind;
                     right = beyond;
-                } else if mine.bits().start <= other.bits().start {
-                    add_line(&mut lines, "-", mine)?;
+                    continue;
+                }
+                if mine.bits().start <= other.bits().start {
                     left = behind;
+                    (Side::First, mine)
                 } else {
-                    add_line(&mut lines, "+", other)?;
                     right = beyond;
+                    (Side::Second, other)
                 }
             }
             (Some((mine, behind)), None) => {
-                add_line(&mut lines, "-", mine)?;
                 left = behind;
+                (Side::First, mine)
             }
             (None, Some((other, beyond))) => {
-                add_line(&mut lines, "+", other)?;
                 right = beyond;
+                (Side::Second, other)
             }
             (None, None) => break,
+        };
+        let difference = Difference {
+            side,
+            direction,
+            report,
+            field,
+        };
+        if found.push(difference).is_err() {
+            return Err(AllocError);
         }
-    }
-    if !lines.is_empty() {
-        add_title(text, direction, report)?;
-        write!(text, "\n{lines}")?;
     }
     Ok(())
 }
@@ -83,8 +111,30 @@ fn words(alloc: Global, field: &Field) -> Result<String, AllocError> {
     Ok(words)
 }
 
-fn add_line(lines: &mut String, sign: &str, field: &Field) -> Result<(), AllocError> {
-    write!(lines, "{sign} ")?;
-    add_field(lines, field)?;
-    lines.push_str("\n")
+/// Fields that differ, in words, below the name of their report: behind `-` what the first
+/// descriptor alone has, behind `+` what the second alone has.
+pub fn differing(alloc: Global, found: &[Difference]) -> Result<String, AllocError> {
+    let mut text = String::new(alloc);
+    let mut before: Option<(Direction, Option<u8>)> = None;
+    for difference in found {
+        let Difference {
+            side,
+            direction,
+            report,
+            field,
+        } = *difference;
+        let named = Some((direction, report.report_id().map(u8::from)));
+        if named != before {
+            add_title(&mut text, direction, report)?;
+            text.push_str("\n")?;
+            before = named;
+        }
+        text.push_str(match side {
+            Side::First => "- ",
+            Side::Second => "+ ",
+        })?;
+        add_field(&mut text, field)?;
+        text.push_str("\n")?;
+    }
+    Ok(text)
 }

@@ -1,4 +1,5 @@
 //! Answers as JSON, an object in each line.
+use crate::diff::{Difference, Side};
 use crate::direction::{DIRECTIONS, word_of};
 use crate::field_words::add_name;
 use crate::item_words::add_item;
@@ -88,27 +89,27 @@ pub fn listed_json(alloc: Global, descriptor: &ReportDescriptor) -> Result<Strin
     for direction in DIRECTIONS {
         for report in descriptor.reports(direction) {
             for field in report.fields() {
-                add_field(&mut text, direction, report, field)?;
+                let value = field_value(alloc, direction, report, field)?;
+                add_value(&mut text, &value)?;
             }
         }
     }
     Ok(text)
 }
 
-/// Appends a field.
-fn add_field(
-    text: &mut String,
+/// A field.
+fn field_value(
+    alloc: Global,
     direction: Direction,
     report: &RDescReport,
     field: &Field,
-) -> Result<(), Refusal> {
-    let alloc = *text.allocator();
+) -> Result<Value, Refusal> {
     let (kind, low, high) = match field {
         Field::Variable(field) => ("variable", field.logical_minimum, field.logical_maximum),
         Field::Array(field) => ("array", field.logical_minimum, field.logical_maximum),
-        Field::Constant(_) => return add_padding(text, direction, report, field),
+        Field::Constant(_) => return padding_value(alloc, direction, report, field),
     };
-    let value = json!(in alloc; {
+    Ok(json!(in alloc; {
         "direction": word_of(direction),
         "report": id_of(report),
         "start": field.bits().start,
@@ -117,24 +118,42 @@ fn add_field(
         "name": name_of(alloc, field)?,
         "minimum": i32::from(low),
         "maximum": i32::from(high),
-    })?;
-    add_value(text, &value)
+    })?)
 }
 
-fn add_padding(
-    text: &mut String,
+fn padding_value(
+    alloc: Global,
     direction: Direction,
     report: &RDescReport,
     field: &Field,
-) -> Result<(), Refusal> {
-    let value = json!(in *text.allocator(); {
+) -> Result<Value, Refusal> {
+    Ok(json!(in alloc; {
         "direction": word_of(direction),
         "report": id_of(report),
         "start": field.bits().start,
         "end": field.bits().end,
         "kind": "padding",
-    })?;
-    add_value(text, &value)
+    })?)
+}
+
+/// Fields that one of two descriptors alone has.
+pub fn differing_json(alloc: Global, found: &[Difference]) -> Result<String, Refusal> {
+    let mut text = String::new(alloc);
+    for difference in found {
+        let side = match difference.side {
+            Side::First => "first",
+            Side::Second => "second",
+        };
+        let own = field_value(
+            alloc,
+            difference.direction,
+            difference.report,
+            difference.field,
+        )?;
+        let value = json!(in alloc; { "only": side, "field": own })?;
+        add_value(&mut text, &value)?;
+    }
+    Ok(text)
 }
 
 /// Appends the values of a report.

@@ -4,12 +4,12 @@ use crate::command_line::command_line;
 use crate::compile::compile_text;
 use crate::convert::{Meaning, Target, converted};
 use crate::decode::decoded;
-use crate::diff::differing;
+use crate::diff::{differences, differing};
 use crate::ending::Ending;
 use crate::fields::listed;
 use crate::following::record;
 use crate::input::{Given, bytes_named};
-use crate::json::{add_remark, listed_json};
+use crate::json::{add_remark, differing_json, listed_json};
 use crate::map::drawn;
 use crate::reading::descriptor_named;
 use crate::report_commands::{set, values};
@@ -71,7 +71,7 @@ fn carried_out<R: AllocGlobal + Clock + Files + Input + Print + Eprint>(
     file: &str,
     matches: &ArgMatches,
 ) -> Result<Ending> {
-    if settings.is_json && !matches!(name, "decode" | "fields" | "values" | "check" | "record") {
+    if settings.is_json && matches!(name, "set" | "convert" | "compile" | "map") {
         eprintln!(rt; "hid: {name} has no JSON")?;
         return Ok(Ending::Misused);
     }
@@ -206,9 +206,13 @@ fn diff<R: AllocGlobal + Clock + Files + Input + Print + Eprint>(
     let second = ReportDescriptor::try_from_with(rt.alloc(), &given.bytes, settings.parse).context(
         format_args!("{name}"),
     )?;
-    let text = differing(rt.alloc(), first, &second)?;
-    show(rt, text.as_str())?;
-    Ok(if text.is_empty() {
+    let found = differences(rt.alloc(), first, &second)?;
+    if settings.is_json {
+        show(rt, differing_json(rt.alloc(), &found)?.as_str())?;
+    } else {
+        show(rt, differing(rt.alloc(), &found)?.as_str())?;
+    }
+    Ok(if found.is_empty() {
         Ending::Done
     } else {
         Ending::Refused

@@ -12,7 +12,8 @@ use std::fmt::Write;
 pub fn add_by_id(text: &mut String, asked: &Asked, words: &str) -> Result<(), Malformed> {
     let descriptor = asked.descriptor()?;
     for word in words.split(" ") {
-        write!(text, "{word}:")?;
+        text.push_str(word)?;
+        text.push_str(":")?;
         let id = id_of(word)?;
         add_report(text, descriptor, "input", Direction::Input, id)?;
         add_report(text, descriptor, "output", Direction::Output, id)?;
@@ -33,7 +34,8 @@ pub fn add_shared(text: &mut String, asked: &Asked, words: &str) -> Result<(), M
         };
         let around = asked.field(number)?.collections();
         let count = Collection::shared(before, around);
-        write!(text, "{gap}{count}")?;
+        text.push_str(gap)?;
+        write!(text, "{count}")?;
         gap = " ";
         before = around;
     }
@@ -65,7 +67,9 @@ fn add_report(
         return Ok(());
     };
     let bits = report.size_in_bits();
-    write!(text, " {name} {bits}")?;
+    text.push_str(" ")?;
+    text.push_str(name)?;
+    write!(text, " {bits}")?;
     for field in report.fields() {
         text.push_str(" [")?;
         add_usages(text, field.usages())?;
