@@ -14,10 +14,9 @@ pub fn add_by_id(text: &mut String, asked: &Asked, words: &str) -> Result<(), Ma
     for word in words.split(" ") {
         text.push_str(word)?;
         text.push_str(":")?;
-        let id = id_of(word)?;
-        add_report(text, descriptor, "input", Direction::Input, id)?;
-        add_report(text, descriptor, "output", Direction::Output, id)?;
-        add_report(text, descriptor, "feature", Direction::Feature, id)?;
+        add_report(text, descriptor, "input", Direction::Input, id_of(word)?)?;
+        add_report(text, descriptor, "output", Direction::Output, id_of(word)?)?;
+        add_report(text, descriptor, "feature", Direction::Feature, id_of(word)?)?;
         text.push_str("\n")?;
     }
     Ok(())
