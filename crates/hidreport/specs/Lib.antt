@@ -1,4 +1,5 @@
 pub mod BitValue
+pub mod CollectionParts
 pub mod CollectionUsages
 pub mod Bits
 pub mod Blank

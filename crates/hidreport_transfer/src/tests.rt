@@ -15,7 +15,7 @@ fn reads_all(rt: HostRuntime) -> Result<(), Fail> {
     assert_eq!(rt; bytes.as_slice(), WORDS);
     assert_eq!(rt; read_to_end(rt.alloc(), &mut source)?.len(), 0);
 
-    let many = vec![in rt.alloc(); 7u8; 1500]?;
+    let many = vec![in rt.alloc(); 7u8; 10000]?;
     let mut source = FromRead::new(many.as_slice());
     let bytes = read_to_end(rt.alloc(), &mut source)?;
     assert_eq!(rt; bytes.as_slice(), many.as_slice());
@@ -92,15 +92,15 @@ fn write_of_nothing_fails(rt: HostRuntime) -> Result<(), Fail> {
 
 #[test]
 fn reads_all_within_a_limit(rt: HostRuntime) -> Result<(), Fail> {
-    for limit in [19, 20, 700, usize::MAX] {
+    for limit in [19, 20, 5000, usize::MAX] {
         let mut source = FromRead::new(WORDS);
         let bytes = read_to_end_within(rt.alloc(), &mut source, limit)?;
         assert_eq!(rt; bytes.as_slice(), WORDS);
         assert_eq!(rt; read_to_end_within(rt.alloc(), &mut source, 0)?.len(), 0);
     }
-    let many = vec![in rt.alloc(); 7u8; 1500]?;
+    let many = vec![in rt.alloc(); 7u8; 10000]?;
     let mut source = FromRead::new(many.as_slice());
-    let bytes = read_to_end_within(rt.alloc(), &mut source, 1500)?;
+    let bytes = read_to_end_within(rt.alloc(), &mut source, 10000)?;
     assert_eq!(rt; bytes.as_slice(), many.as_slice());
     Ok(())
 }
@@ -123,7 +123,7 @@ fn past_a_limit_nothing_is_read(rt: HostRuntime) -> Result<(), Fail> {
 
 #[test]
 fn an_endless_reader_is_left(rt: HostRuntime) {
-    for limit in [0, 1, 512, 700] {
+    for limit in [0, 1, 4096, 5000] {
         let mut reader = FlakyReader {
             reads: 0,
             bad_read: 0,

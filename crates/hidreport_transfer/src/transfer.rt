@@ -7,8 +7,9 @@ use crate::ends::{Sink, Source};
 use crate::fault::RunFault;
 use std::alloc::Global;
 
-/// How many bytes a read asks for at most.
-pub(crate) const CHUNK: usize = 512;
+/// How many bytes a read asks for at most: a descriptor that Linux takes is no longer, so that one
+/// read has all of it.
+pub(crate) const CHUNK: usize = 4096;
 
 /// The bytes that `source` has left, read to its end.
 ///

@@ -91,27 +91,29 @@ impl CollectionUsages {
     }
 }
 
+/// What a collection has: what its fields have in common, its id, and its usages, one by itself or a
+/// list that is shared. In this order they take 16 bytes.
+#[derive(Debug, Drop)]
+pub(crate) enum CollectionParts {
+    One(CollectionItem, CollectionId, Usage),
+    List(CollectionItem, CollectionId, ArcSlice<Usage>),
+}
+
 /// A group of fields that belong together (Section 6.2.2.6).
 ///
 /// Two collections are equal where their ids are.
 #[derive(Debug, Drop)]
 pub struct Collection {
-    id: CollectionId,
-    collection_type: CollectionItem,
-    usages: CollectionUsages,
+    parts: CollectionParts,
 }
 
 impl Model for Collection {
-    ghost use Rattle.hidreport.specs.CollectionUsages.{collection_usages};
+    ghost use Rattle.hidreport.specs.CollectionParts.{parts_record};
     ghost use Rattle.hidreport.specs.Records.{CollectionRecord};
 
     ghost Value = { CollectionRecord };
 
-    ghost view = { λ c. record {
-      id = c.id;
-      kind = c.collection_type;
-      usages = collection_usages c.usages;
-    } };
+    ghost view = { λ c. parts_record c.parts };
 }
 
 impl Collection {
@@ -130,10 +132,13 @@ impl Collection {
           usages = collection_usages usages;
         } }
     {
-        Collection {
-            id,
-            collection_type,
-            usages,
+        match usages {
+            CollectionUsages::One(usage) => Collection {
+                parts: CollectionParts::One(collection_type, id, usage),
+            },
+            CollectionUsages::List(usages) => Collection {
+                parts: CollectionParts::List(collection_type, id, usages),
+            },
         }
     }
 
@@ -141,21 +146,30 @@ impl Collection {
     pub fn id(&self) -> &CollectionId
         ensures { result.now ≡ self.now.id }
     {
-        &self.id
+        match &self.parts {
+            CollectionParts::One(_, id, _) => id,
+            CollectionParts::List(_, id, _) => id,
+        }
     }
 
     /// What the collection's fields have in common.
     pub fn collection_type(&self) -> CollectionItem
         ensures { result ≡ self.now.kind }
     {
-        self.collection_type
+        match &self.parts {
+            CollectionParts::One(kind, _, _) => *kind,
+            CollectionParts::List(kind, _, _) => *kind,
+        }
     }
 
     /// The collection's usages, in the order of the descriptor.
     pub fn usages(&self) -> &[Usage]
         ensures { result.now ≡ self.now.usages }
     {
-        self.usages.as_slice()
+        match &self.parts {
+            CollectionParts::One(_, _, usage) => slice::from_ref(usage),
+            CollectionParts::List(_, _, usages) => usages.as_slice(),
+        }
     }
 
     /// How many of the outermost collections two lists have in common: what lies behind them in
@@ -179,11 +193,15 @@ impl Collection {
     pub fn clone(&self) -> Result<Collection, AllocError>
         ensures { IfOk result (λ copy. copy ≡ self.now) }
     {
-        Ok(Collection {
-            id: self.id.clone(),
-            collection_type: self.collection_type,
-            usages: self.usages.clone()?,
-        })
+        let parts = match &self.parts {
+            CollectionParts::One(kind, id, usage) => {
+                CollectionParts::One(*kind, id.clone(), *usage)
+            }
+            CollectionParts::List(kind, id, usages) => {
+                CollectionParts::List(*kind, id.clone(), usages.clone()?)
+            }
+        };
+        Ok(Collection { parts })
     }
 }
 
@@ -194,7 +212,7 @@ impl PartialEq for Collection {
     ghost laws = { Prim.search (comparing, rules) };
 
     fn eq(&self, other: &Collection) -> bool {
-        self.id == other.id
+        self.id() == other.id()
     }
 }
 
@@ -209,6 +227,6 @@ impl Hash for Collection {
     ghost respects_eq = { Prim.search (hashing, rules) };
 
     fn hash<H: Hasher>(&self, state: &mut H) {
-        self.id.hash(state);
+        self.id().hash(state);
     }
 }
