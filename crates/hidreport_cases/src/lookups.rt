@@ -16,7 +16,13 @@ pub fn add_by_id(text: &mut String, asked: &Asked, words: &str) -> Result<(), Ma
         text.push_str(":")?;
         add_report(text, descriptor, "input", Direction::Input, id_of(word)?)?;
         add_report(text, descriptor, "output", Direction::Output, id_of(word)?)?;
-        add_report(text, descriptor, "feature", Direction::Feature, id_of(word)?)?;
+        add_report(
+            text,
+            descriptor,
+            "feature",
+            Direction::Feature,
+            id_of(word)?,
+        )?;
         text.push_str("\n")?;
     }
     Ok(())
