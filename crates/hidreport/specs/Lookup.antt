@@ -1,5 +1,5 @@
 -- Lookup (Section 5.6): the report that bytes are of, and the one with an id.
-use Rattle.std.specs.Prelude.{ℕ, List, [], ◌∷◌, Option, None, Some, find}
+use Rattle.std.specs.Prelude.{◌≡◌, true, ℕ, List, [], ◌∷◌, Option, None, Some, find, slice_get}
 use Rattle.hidreport.specs.Making.{same_key}
 use Rattle.hidreport.specs.Records.{DescriptorRecord, ReportRecord}
 use Rattle.hidreport.specs.declared.field.data_item.Direction.{Direction}
@@ -25,3 +25,10 @@ reports_of direction.Feature descriptor = descriptor.feature
 -- the first with this id, or the first without, if there is one
 abbrev pub report_with : Option ℕ → List ReportRecord → Option ReportRecord
 report_with id reports = find (λ r. same_key r.id id) reports
+
+-- one of these reports, which has this id
+pub record IsOneWith (id : Option ℕ) (reports : List ReportRecord) (report : ReportRecord) : Type 0
+  where
+    pub index : ℕ
+    pub there : slice_get reports index ≡ Some report
+    pub wanted : same_key report.id id ≡ true

@@ -1,4 +1,4 @@
-ghost use Rattle.std.specs.Prelude.{◌≡◌, ◌≢◌, ◌≤◌, ℕ, [], None, Err, Ok, IfOk, IfSome, List};
+ghost use Rattle.std.specs.Prelude.{◌≡◌, ◌≢◌, ◌≤◌, ℕ, [], None, Some, Err, Ok, IfOk, IfSome, List};
 ghost use Rattle.std.specs.Prelude.{option_copied};
 ghost use Rattle.hidreport_items.specs.Spelling.{item_of};
 ghost use Rattle.hidreport_lists.specs.Answer.{Answers, Mismatch};
@@ -22,7 +22,7 @@ use crate::parse_options::ParseOptions;
 use crate::parser;
 use crate::parser::push_keeps::PushKeeps;
 use crate::report::RDescReport;
-use crate::report::reports::{Reports, find_report, find_with_id};
+use crate::report::reports::{Reports, find_with_id, likely_report};
 use hidreport_lists::ParserError;
 use hidreport_types::ReportId;
 use std::alloc::Global;
@@ -37,10 +37,13 @@ pub struct ReportDescriptor {
 
 impl Model for ReportDescriptor {
     ghost use Rattle.hidreport.specs.Records.{DescriptorRecord};
+    ghost use Rattle.hidreport.specs.Tiling.{IsTiled};
 
     ghost Value = { DescriptorRecord };
 
     ghost view = { λ d. d.reports };
+
+    ghost invariant = { λ d. IsTiled d.reports };
 }
 
 impl ReportDescriptor {
@@ -236,7 +239,33 @@ impl ReportDescriptor {
     pub fn report(&self, direction: Direction, id: Option<ReportId>) -> Option<&RDescReport>
         ensures { option_copied result ≡ report_with id (reports_of direction self.now) }
     {
-        find_with_id(self.reports(direction), id)
+        match id {
+            Some(id) => self.report_with_id(direction, id),
+            None => find_with_id(self.reports.of(direction), None),
+        }
+    }
+
+    /// The report with this id in a direction, which is looked for first where it likely stands.
+    fn report_with_id(&self, direction: Direction, id: ReportId) -> Option<&RDescReport>
+        ensures { option_copied result ≡ report_with (Some id) (reports_of direction self.now) }
+    {
+        let reports = self.reports.of(direction);
+        if let Some(report) = likely_report(reports, id) {
+            return Some(report);
+        }
+        find_with_id(reports, Some(id))
+    }
+
+    /// The report of a direction that a report's bytes are of.
+    fn find_report(&self, direction: Direction, bytes: &[u8]) -> Option<&RDescReport>
+        ensures { option_copied result ≡ find_report (reports_of direction self.now) bytes.now }
+    {
+        let id = *bytes.first()?;
+        let first = self.reports.of(direction).first()?;
+        match first.id {
+            None => Some(first),
+            Some(_) => self.report_with_id(direction, ReportId::from(id)),
+        }
     }
 
     /// The input report that a report's bytes are of (Section 5.6): the first where it has no id,
@@ -249,7 +278,7 @@ impl ReportDescriptor {
         ensures own { IsTiled self.now → IfSome (option_copied result) (λ report.
             Each (λ (field : FieldRecord). reads field bytes.now ≢ Err Mismatch) report.fields) }
     {
-        find_report(self.input_reports(), bytes)
+        self.find_report(Direction::Input, bytes)
     }
 
     /// The output report that a report's bytes are of, as `find_input_report` says.
@@ -258,7 +287,7 @@ impl ReportDescriptor {
         ensures own { IsTiled self.now → IfSome (option_copied result) (λ report.
             Each (λ (field : FieldRecord). reads field bytes.now ≢ Err Mismatch) report.fields) }
     {
-        find_report(self.output_reports(), bytes)
+        self.find_report(Direction::Output, bytes)
     }
 
     /// The feature report that a report's bytes are of, as `find_input_report` says.
@@ -267,6 +296,6 @@ impl ReportDescriptor {
         ensures own { IsTiled self.now → IfSome (option_copied result) (λ report.
             Each (λ (field : FieldRecord). reads field bytes.now ≢ Err Mismatch) report.fields) }
     {
-        find_report(self.feature_reports(), bytes)
+        self.find_report(Direction::Feature, bytes)
     }
 }

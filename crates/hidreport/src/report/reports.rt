@@ -1,7 +1,6 @@
-ghost use Rattle.std.specs.Prelude.{◌≡◌, Some, find, option_copied};
-ghost use Rattle.hidreport.specs.Lookup.{find_report, report_with};
+ghost use Rattle.std.specs.Prelude.{◌≡◌, Some, IfSome, option_copied};
+ghost use Rattle.hidreport.specs.Lookup.{IsOneWith, report_with};
 ghost use Rattle.hidreport.specs.Making.{same_key};
-ghost use Rattle.hidreport.specs.Records.{ReportRecord};
 
 use crate::field::data_item::Direction;
 use crate::report::RDescReport;
@@ -57,28 +56,23 @@ impl Reports {
     }
 }
 
-/// The report that a report's bytes are of (Section 5.6): the first where it has no id, else the
-/// one with the first byte as its id.
-pub(crate) fn find_report<'a>(reports: &'a [RDescReport], bytes: &[u8]) -> Option<&'a RDescReport>
-    ensures { option_copied result ≡ find_report reports.now bytes.now }
+/// The report with this id where it stands as far behind the first as its id is above the first's:
+/// ids mostly rise by one.
+pub(crate) fn likely_report(reports: &[RDescReport], id: ReportId) -> Option<&RDescReport>
+    ensures { IfSome (option_copied result) (IsOneWith (Some id) reports.now) }
 {
-    let id = *bytes.first()?;
     let first = reports.first()?;
-    match first.id {
-        None => Some(first),
-        Some(_) => find_by_id(reports, id),
+    let first = u8::from(first.id?);
+    let report = reports.get(usize::from(u8::from(id).wrapping_sub(first)))?;
+    if has_id(report, Some(id)) {
+        Some(report)
+    } else {
+        None
     }
 }
 
-/// The report with this id.
-fn find_by_id(reports: &[RDescReport], id: u8) -> Option<&RDescReport>
-    ensures { option_copied result
-        ≡ find (λ (r : ReportRecord). same_key r.id (Some id)) reports.now }
-{
-    find_with_id(reports, Some(ReportId::from(id)))
-}
-
 /// The report with this id, or without one.
+#[inline(always)]
 pub(crate) fn find_with_id(reports: &[RDescReport], id: Option<ReportId>) -> Option<&RDescReport>
     ensures { option_copied result ≡ report_with id reports.now }
 {

@@ -1,13 +1,9 @@
-use Rattle.std.proofs.Common.{◌∙◌, IfSome, List, Option, ap, subst, sym}
-use Rattle.hidreport.specs.Lookup.{find_report}
+use Rattle.std.proofs.Common.{IfSome, Option, subst, sym}
 use Rattle.hidreport.specs.Records.{ReportRecord}
 use Rattle.hidreport.proofs.OwnReportsLemmas.{AllOwn, input-own}
 use Rattle.hidreport.proofs.descriptor.ReportDescriptor.find_input_report.Goals as goal
 
 pub returns-clause-own : goal.returns-clause-own
 returns-clause-own c = λ tiled.
-    let is = c.find_report.ensures
-    ∙ ap (λ (rs : List ReportRecord). find_report rs c.args.bytes.now)
-    c.input_reports.ensures in
-    subst (λ (o : Option ReportRecord). IfSome o (AllOwn c.args.bytes.now)) (sym is)
-    (input-own c.args.self.now c.args.bytes.now tiled)
+    subst (λ (o : Option ReportRecord). IfSome o (AllOwn c.args.bytes.now))
+    (sym c.find_report.ensures) (input-own c.args.self.now c.args.bytes.now tiled)

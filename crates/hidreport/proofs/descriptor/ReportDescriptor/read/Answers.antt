@@ -1,8 +1,11 @@
 use Rattle.std.proofs.Common.{◌∙◌, Result, subst, sym}
 use Rattle.std.proofs.lemmas.Result.{err_from_is_err_and}
 use Rattle.hidreport_lists.specs.Answer.{Refusal, Refuses}
+use Rattle.hidreport.specs.Options.{reading_of}
 use Rattle.hidreport.specs.Records.{DescriptorRecord}
+use Rattle.hidreport.proofs.BudgetBoundLemmas.{limited-plain}
 use Rattle.hidreport.proofs.ParseLemmas.{bytes-as}
+use Rattle.hidreport.proofs.TilingWalkLemmas.{parse-tiled}
 use Rattle.hidreport.proofs.descriptor.ReportDescriptor.read.Goals as goal
 
 pub returns-in_err-reports : goal.returns-in_err-reports
@@ -16,3 +19,8 @@ returns-in_err-reports c =
 pub returns : goal.returns
 returns c = sym (bytes-as c.args.push_keeps c.args.limit c.args.bytes.now)
     ∙ c.in_ok-reports.ensures
+
+pub invariant_of-result : goal.invariant_of-result
+invariant_of-result c = parse-tiled c.args.push_keeps c.args.bytes.now c.in_ok-reports.reports
+    (limited-plain (reading_of c.args.push_keeps) c.args.limit c.args.bytes.now
+    c.in_ok-reports.reports (returns c))
