@@ -1,7 +1,9 @@
 pub mod Cut
 pub mod Hex
+pub mod Lookups
 pub mod Mouse
 pub mod Rebuilt
+pub mod Repairs
 pub mod Summary
 pub mod Tiled
 pub mod Within

@@ -1,0 +1,46 @@
+-- Repaired descriptors, and lists of items, whose laws rows tell.
+use Rattle.std.specs.Prelude.{ℕ, false, List, [], ◌∷◌, None}
+use Rattle.hidreport_lists.specs.declared.mending.Mend.TheVariants as mend
+use Rattle.hidreport.specs.Flags.{flags_of}
+use Rattle.hidreport.specs.GlobalItem.TheVariants as global
+use Rattle.hidreport.specs.ItemType.{ItemType}
+use Rattle.hidreport.specs.ItemType.TheVariants as item
+use Rattle.hidreport.specs.MainItem.TheVariants as main
+use Rattle.hidreport.specs.Repair.{ChangeRecord, RepairedRecord}
+use Rattle.hidreport.specs.declared.parser.push_keeps.PushKeeps.TheVariants as push_keeps
+use Rattle.hidreport.specs.declared.repairing.repair_options.RepairOptions.{RepairOptions}
+use Rattle.hidreport_definitions.specs.Hex.{hex}
+
+-- the bytes of a text, with these changes named
+abbrev pub repaired_to : List ℕ → List ChangeRecord → RepairedRecord
+repaired_to text changes = record { bytes = hex text; changes = changes }
+
+-- at an offset a text's bytes became those of another, for want of usages
+abbrev pub padded_at : ℕ → List ℕ → List ℕ → ChangeRecord
+padded_at offset stood stands =
+    record { offset = offset; stood = hex stood; stands = hex stands; mend = mend.NoUsage }
+
+-- at an offset a text's bytes were left out, as an unknown main item
+abbrev pub left_out_at : ℕ → List ℕ → ChangeRecord
+left_out_at offset stood =
+    record { offset = offset; stood = hex stood; stands = []; mend = mend.UnknownMainItem }
+
+-- what Linux's hid-core reads without asking
+abbrev pub as_hid_core : RepairOptions
+as_hid_core = record {
+  parse = record { push_keeps = push_keeps.All; limit = None; longest = None };
+  leave_out_cut_short = false;
+  unsigned_maxima = false;
+}
+
+-- an Input and an Output with the flags of a number
+abbrev pub input : ℕ → ItemType
+input flags = item.Main (main.Input (flags_of flags))
+
+abbrev pub output : ℕ → ItemType
+output flags = item.Main (main.Output (flags_of flags))
+
+-- so many fields of so many bits, made by this item, before other items
+abbrev pub fields_by : ℕ → ℕ → ItemType → List ItemType → List ItemType
+fields_by size count maker others =
+    item.Global (global.ReportSize size) ∷ item.Global (global.ReportCount count) ∷ maker ∷ others
