@@ -1,5 +1,5 @@
 //! A field in words: its bits, its name, its bounds and its flags.
-use crate::naming::{add_usage, add_usages};
+use crate::naming::{add_usage, add_usages, measured};
 use hidreport::{ArrayField, Field, FieldAttributes, Unit, UnitExponent, VariableField};
 use std::alloc::AllocError;
 use std::fmt::Write;
@@ -64,10 +64,11 @@ fn add_unit(
     let Some(unit) = unit else {
         return Ok(());
     };
-    if u32::from(unit) == 0 {
+    let units = measured(*text.allocator(), unit)?;
+    if units.is_empty() {
         return Ok(());
     }
-    write!(text, " {unit}")?;
+    write!(text, " {units}")?;
     match exponent {
         Some(exponent) if exponent.exponent() != 0 => {
             let power = exponent.exponent();

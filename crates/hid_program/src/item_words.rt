@@ -1,5 +1,7 @@
 //! An item in words, as `hid decode` writes it and `hid compile` reads it.
-use crate::naming::{add_collection_kind, add_page, add_usage, add_usage_on_page, on_page};
+use crate::naming::{
+    add_collection_kind, add_page, add_usage, add_usage_on_page, measured, on_page,
+};
 use hidreport::Usage;
 use hidreport::hid::{GlobalItem, ItemType, LocalItem, MainItem};
 use hidreport::types::{Unit, UsagePage};
@@ -55,13 +57,18 @@ fn add_global(text: &mut String, item: &GlobalItem) -> Result<(), AllocError> {
     }
 }
 
-/// Appends a unit's number, and its system with what it measures.
+/// Appends a unit's number, and its system with what it measures (Section 6.2.2.7).
 fn add_unit(text: &mut String, unit: Unit) -> Result<(), AllocError> {
     let number = u32::from(unit);
-    let system = system_name(&unit.system());
+    let system = match number % 16 {
+        5..=14 => "Reserved",
+        15 => "Vendor-defined",
+        _ => system_name(&unit.system()),
+    };
     write!(text, " (0x{number:x}, {system}")?;
-    if number > 15 {
-        write!(text, ", {unit}")?;
+    let units = measured(*text.allocator(), unit)?;
+    if !units.is_empty() {
+        write!(text, ", {units}")?;
     }
     text.push_str(")")
 }

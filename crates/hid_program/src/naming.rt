@@ -1,9 +1,9 @@
 //! Usages, pages and collections by the names of the HID Usage Tables, or by their numbers.
 use hidreport::hid::CollectionItem;
-use hidreport::types::{UsageId, UsagePage};
+use hidreport::types::{Unit, UnitSystem, UsageId, UsagePage};
 use hidreport::{Collection, Usage};
 use hidreport_usages::{collection_name, page_name, usage_name};
-use std::alloc::AllocError;
+use std::alloc::{AllocError, Global};
 use std::fmt::Write;
 
 /// Appends a page's name, or its number.
@@ -86,4 +86,13 @@ pub fn add_bytes(text: &mut String, bytes: &[u8]) -> Result<(), AllocError> {
 /// The usage with this id on a page.
 pub fn on_page(page: UsagePage, id: UsageId) -> Usage {
     Usage::from_page_and_id(page, id)
+}
+
+/// What a unit measures, by its system; no text where it has none of the four that the standard
+/// names (Section 6.2.2.7), and where it measures nothing.
+pub fn measured(alloc: Global, unit: Unit) -> Result<String, AllocError> {
+    match unit.system() {
+        UnitSystem::None => Ok(String::new(alloc)),
+        _ => unit.to_string(alloc),
+    }
 }

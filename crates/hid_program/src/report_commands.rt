@@ -7,7 +7,7 @@ use crate::input::{Form, Given};
 use crate::json::add_values_json;
 use crate::reading::reports_named;
 use crate::running::{show, target_of, write};
-use crate::set::written;
+use crate::set::filled;
 use crate::settings::Settings;
 use crate::values::{add_down, add_values};
 use anyhow::{Context, Result, bail, ensure};
@@ -34,7 +34,7 @@ pub fn set<R: AllocGlobal + Print + Eprint>(
     };
     let none: &[&str] = &[];
     let words = matches.get_strs("NAME=NUMBER").unwrap_or(none);
-    let written = written(rt.alloc(), report, words)?;
+    let written = filled(rt.alloc(), report, words)?;
     for note in written.notes.as_str().lines() {
         eprintln!(rt; "hid: {note}")?;
     }

@@ -16,7 +16,7 @@ pub struct Written {
 
 /// A report in which each of these names has its number, and all else is 0. A usage that stands for
 /// a value of an array is put into the next element where its number isn't 0.
-pub fn written(alloc: Global, report: &RDescReport, words: &[&str]) -> Result<Written> {
+pub fn filled(alloc: Global, report: &RDescReport, words: &[&str]) -> Result<Written> {
     let mut bytes = report.blank(alloc)?;
     let mut notes = String::new(alloc);
     let mut used = vec![in alloc; 0usize; report.fields().len()]?;

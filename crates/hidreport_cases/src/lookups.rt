@@ -32,22 +32,21 @@ pub fn add_by_id(text: &mut String, asked: &Asked, words: &str) -> Result<(), Ma
 /// descriptor shares with the one before it.
 pub fn add_shared(text: &mut String, asked: &Asked, words: &str) -> Result<(), Malformed> {
     let mut before: &[Collection] = &[];
-    let mut gap = "";
+    let mut is_first = true;
     for word in words.split(" ") {
         let Ok(number) = u32::try_from(number_of(word)?) else {
             return Err(Malformed::Number);
         };
         let around = asked.field(number)?.collections();
         let count = Collection::shared(before, around);
-        text.push_str(gap)?;
+        if !is_first {
+            text.push_str(" ")?;
+        }
         write!(text, "{count}")?;
-        gap = " ";
+        is_first = false;
         before = around;
     }
-    text.push_str(
-        "
-",
-    )?;
+    text.push_str("\n")?;
     Ok(())
 }
 
