@@ -1,27 +1,32 @@
 #!/bin/bash
-# What `hid decode` says is set beside what TShark shows of the same bytes, item by item: of each
-# descriptor of compare/tshark.txt. Where their words differ, both stand in
-# compare/tshark_differences.txt below the reason. Nothing but this program is run. Its argument is
-# the program; else it is the one that ./hid built.
+# What `hid decode` says is set beside what another program shows of the same bytes, item by item:
+# TShark (compare/tshark.txt), or under its other name, beside_lsusb.sh, lsusb (compare/lsusb.txt).
+# Where their words differ, both stand in compare/tshark_differences.txt or lsusb_differences.txt
+# below the reason. Nothing but `hid` is run. The argument is that program; else it is the one that
+# ./hid built.
 set -eu
 
 top=$(cd "$(dirname "$0")/.." && pwd)
+self=$(basename "$0" .sh)
+other=${self#beside_}
+shown=$top/compare/$other.txt
+differences=$top/compare/${other}_differences.txt
 program=${1:-$top/crates/hid/out/hid}
 [ -x "$program" ] || {
-    echo "beside_tshark: no program $program" >&2
+    echo "$self: no program $program" >&2
     exit 2
 }
 scratch=$(mktemp -d)
 trap 'rm -rf "$scratch"' EXIT
 
 # What the program says of each descriptor; where one is refused, the status is 1.
-sed -n 's/^descriptor //p' "$top/compare/tshark.txt" > "$scratch/descriptors"
+sed -n 's/^descriptor //p' "$shown" > "$scratch/descriptors"
 while read -r digits; do
     echo "descriptor $digits"
     ended=0
     echo "$digits" | "$program" decode --form hex - 2> "$scratch/errors" || ended=$?
     [ "$ended" -le 1 ] || {
-        echo "beside_tshark: the status is $ended for $digits" >&2
+        echo "$self: the status is $ended for $digits" >&2
         cat "$scratch/errors" >&2
         exit 1
     }
@@ -29,7 +34,7 @@ done < "$scratch/descriptors" > "$scratch/ours"
 
 LC_ALL=C awk '
 function complain(text) {
-    print "beside_tshark: " text > "/dev/stderr"
+    print self ": " text > "/dev/stderr"
     faults++
 }
 
@@ -38,6 +43,14 @@ function number_of(bytes,    i, value) {
     value = 0
     for (i = length(bytes) - 1; i > 0; i -= 3)
         value = value * 256 + 16 * digit(bytes, i) + digit(bytes, i + 1)
+    return value
+}
+
+# How many numbers so many bytes can write.
+function limit(bytes,    i, value) {
+    value = 1
+    for (i = 1; i < length(bytes); i += 3)
+        value *= 256
     return value
 }
 
@@ -70,6 +83,7 @@ function filled(text, bytes,    data, value) {
     data = substr(bytes, 4)
     value = number_of(data)
     text = put(text, "{d}", sprintf("%.0f", value))
+    text = put(text, "{s}", sprintf("%.0f", value - (data ~ /[89a-f].$/ ? limit(data) : 0)))
     text = put(text, "{xx}", hexadecimal(value, 2))
     text = put(text, "{xxxx}", hexadecimal(value, 4))
     text = put(text, "{XXXX}", toupper(hexadecimal(value, 4)))
@@ -157,9 +171,9 @@ function compare(their, our,    theirs, ours, inside, row, bytes) {
     theirs = their_words[their]
     ours = words_of[our]
     items++
-    # TShark shows the end of a collection inside of it.
+    # TShark shows the end of a collection inside of it; lsusb shows no depths.
     inside = ours == "End Collection" && open > 0
-    if (their_depth[their] != open || depth_of[our] != open - inside)
+    if (their_depth[their] != (self == "beside_tshark" ? open : 0) || depth_of[our] != open - inside)
         complain(title " " offset_of[our] ": in " open " collections the depths are " \
             their_depth[their] " and " depth_of[our])
     if (name_of(ours) == "Collection")
@@ -259,7 +273,7 @@ END {
     met = 0
     for (i in reasons_met)
         met++
-    printf "beside_tshark: %d descriptors, %d items: ", descriptors, items
+    printf "%s: %d descriptors, %d items: ", self, descriptors, items
     printf "%d in the same words, %d in others, for %d reasons\n", same, others, met
-}' differences="$top/compare/tshark_differences.txt" ours="$scratch/ours" \
-    "$top/compare/tshark_differences.txt" "$scratch/ours" "$top/compare/tshark.txt"
+}' self="$self" differences="$differences" ours="$scratch/ours" \
+    "$differences" "$scratch/ours" "$shown"
