@@ -34,8 +34,8 @@ done < "$scratch/descriptors" > "$scratch/ours"
 
 LC_ALL=C awk '
 function complain(text) {
-    print self ": " text > "/dev/stderr"
-    faults++
+    if (++faults <= 40)
+        print self ": " text > "/dev/stderr"
 }
 
 # The number that bytes such as "38 02" write, the first the lowest.
@@ -106,6 +106,19 @@ function row_of(places, theirs, ours, bytes,    i, number, list) {
     return 0
 }
 
+# The row by which an item that is told in these words there has other words here.
+function row_with_others(places, theirs, bytes,    i, number, list) {
+    number = split(places, list, "\n")
+    for (i = 1; i <= number; i++)
+        if ((list[i], theirs) in others_of)
+            return others_of[list[i], theirs]
+    for (i = 1; i <= marked; i++)
+        if (index("\n" places "\n", "\n" where[pattern[i]] "\n") &&
+            filled(left[pattern[i]], bytes) == theirs && filled(right[pattern[i]], bytes) != theirs)
+            return pattern[i]
+    return 0
+}
+
 function take(row) {
     times[row]++
     others++
@@ -167,13 +180,14 @@ function alone(offset, theirs, ours,    row) {
 }
 
 # An item that both have.
-function compare(their, our,    theirs, ours, inside, row, bytes) {
+function compare(their, our,    theirs, ours, inside, depth, row, bytes, places) {
     theirs = their_words[their]
     ours = words_of[our]
     items++
     # TShark shows the end of a collection inside of it; lsusb shows no depths.
     inside = ours == "End Collection" && open > 0
-    if (their_depth[their] != (self == "beside_tshark" ? open : 0) || depth_of[our] != open - inside)
+    depth = self == "beside_tshark" ? open : 0
+    if (their_depth[their] != depth || depth_of[our] != open - inside)
         complain(title " " offset_of[our] ": in " open " collections the depths are " \
             their_depth[their] " and " depth_of[our])
     if (name_of(ours) == "Collection")
@@ -182,15 +196,14 @@ function compare(their, our,    theirs, ours, inside, row, bytes) {
         open--
 
     bytes = bytes_of[our]
-    if (theirs == ours)
+    places = page " " bytes "\n" page "\n"
+    row = row_of(places, theirs, ours, bytes)
+    if (theirs == ours && !row_with_others(places, theirs, bytes))
         same++
-    else {
-        row = row_of(page " " bytes "\n" page "\n", theirs, ours, bytes)
-        if (row)
-            take(row)
-        else
-            complain(title " " offset_of[our] ": " page " " bytes " | " theirs " | " ours)
-    }
+    else if (theirs != ours && row)
+        take(row)
+    else
+        complain(title " " offset_of[our] ": " page " " bytes " | " theirs " | " ours)
     if (name_of(ours) == "Usage Page") {
         page = ours
         sub(/^Usage Page \(/, "", page)
@@ -225,7 +238,8 @@ function compare_all(    their, our) {
 
 BEGIN { DIGITS = "0123456789abcdef" }
 
-# The differences: below a reason, rows THEIRS | OURS or PLACE | THEIRS | OURS.
+# The differences: below a reason, rows THEIRS | OURS or PLACE | THEIRS | OURS. Where the words of a
+# row are told there, those of the other side have to be told here.
 FILENAME == differences && /^#/ { if (!is_reason) reasons++; is_reason = 1; next }
 FILENAME == differences {
     is_reason = 0
@@ -242,8 +256,10 @@ FILENAME == differences {
         pattern[++marked] = rows
     } else if ((where[rows], left[rows], right[rows]) in exact)
         complain("differences, line " FNR ": it stands twice")
-    else
+    else {
         exact[where[rows], left[rows], right[rows]] = rows
+        others_of[where[rows], left[rows]] = rows
+    }
     next
 }
 
@@ -268,6 +284,8 @@ END {
             complain("differences, line " line_of[i] ": it occurs nowhere: " left[i] " | " right[i])
     if (descriptors < 40)
         complain("only " descriptors + 0 " descriptors")
+    if (faults > 40)
+        print self ": and " faults - 40 " more" > "/dev/stderr"
     if (faults)
         exit 1
     met = 0

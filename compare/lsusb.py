@@ -39,11 +39,12 @@ int main(void)
 }
 """
 
-HEADER = """# What lsusb (usbutils 014) shows of report descriptors: a line for each item, with its offset, and
+HEADER = """\
+# What lsusb (usbutils 014) shows of report descriptors: a line for each item, with its offset, and
 # in parentheses what it shows below the item, or else the number behind its bytes; behind ` = `
 # stands the number of an item for which it shows no name. It doesn't indent. Written by
-# compare/lsusb.py from the descriptors of compare/tshark.txt but those with a long item, which lsusb
-# doesn't know; checks/beside_lsusb.sh compares what `hid decode` says."""
+# compare/lsusb.py from the descriptors of compare/tshark.txt but those with a long item, which
+# lsusb doesn't know; checks/beside_lsusb.sh compares what `hid decode` says."""
 
 
 def build(sources, program):
@@ -51,8 +52,8 @@ def build(sources, program):
     text = (sources / "lsusb.c").read_text()
     functions = [re.search(rf"^static void {name}\(.*?^}}", text, re.M | re.S).group(0)
                  for name in ("dump_unit", "dump_report_desc")]
-    subprocess.run(["cc", "-w", "-x", "c", "-I", sources, "-o", program, "-"], check=True, text=True,
-                   input=BEFORE + "\n".join(functions) + AFTER)
+    subprocess.run(["cc", "-w", "-x", "c", "-I", sources, "-o", program, "-"], check=True,
+                   input=BEFORE + "\n".join(functions) + AFTER, text=True)
 
 
 def shown(program, data):

@@ -19,7 +19,8 @@ CONFIGURATION = bytes.fromhex(
     "09 02 22 00 01 01 00 a0 32  09 04 00 00 01 03 01 02 00  09 21 11 01 00 01 22 00 00"
     "07 05 81 03 04 00 0a")
 
-HEADER = """# What {version} shows of report descriptors: a line for each item, with its
+HEADER = """\
+# What {version} shows of report descriptors: a line for each item, with its
 # offset, and two spaces deeper for each collection around it. Behind ` = ` stands the number of an
 # item that has no parenthesis. Written by compare/tshark.py, which reads the lines `descriptor` of
 # this file, and those behind `## ` which say where they are from: a file of bench/descriptors or of
