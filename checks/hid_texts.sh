@@ -1,7 +1,8 @@
 #!/bin/bash
 # What `hid decode` writes is compiled to the same bytes: of each descriptor of the cases
-# (crates/hidreport_cases/data) and of bench/descriptors whose items can be read. Beside the gate's
-# runs in crates/hid_runs. Its argument is the program; else it is the one that ./hid built.
+# (crates/hidreport_cases/data) and of bench/descriptors whose items can be read; then refusals for
+# which it takes more than a file. Beside the gate's runs in crates/hid_runs. Its argument is the
+# program; else it is the one that ./hid built.
 set -eu
 
 top=$(cd "$(dirname "$0")/.." && pwd)
@@ -40,3 +41,19 @@ done < "$scratch/descriptors"
     exit 1
 }
 echo "hid_texts: $compiled descriptors, decoded and compiled to the same bytes"
+
+# What no stored run shows: an input that is too long, too little memory, a device that is full.
+refused() {
+    [ "$1" = "$2" ] || {
+        echo "hid_texts: '$1' in place of '$2'" >&2
+        exit 1
+    }
+}
+refused "$(head -c 67108864 /dev/zero | "$program" decode --form bytes - 2>&1)" \
+    'hid: -: longer than 64 MiB'
+refused "$(
+    ulimit -v 65536
+    yes ab | tr -d '\n' | tr ab '\005\001' | head -c 8388608 | "$program" decode --form bytes - 2>&1
+)" 'hid: -: memory allocation failed'
+refused "$(echo 0501 | "$program" convert --form hex - 2>&1 > /dev/full)" \
+    'hid: -: No space left on device (os error 28)'
