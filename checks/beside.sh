@@ -1,17 +1,21 @@
 #!/bin/bash
 # What `hid decode` says is set beside what another program shows of the same bytes, item by item:
-# TShark (compare/tshark.txt), or under its other name, beside_lsusb.sh, lsusb (compare/lsusb.txt).
-# Where their words differ, both stand in compare/tshark_differences.txt or lsusb_differences.txt
-# below the reason. Nothing but `hid` is run. The argument is that program; else it is the one that
+# `tshark` (compare/tshark.txt) or `lsusb` (compare/lsusb.txt), which is the first argument. Where
+# their words differ, both stand in compare/tshark_differences.txt or lsusb_differences.txt below the
+# reason. Nothing but `hid` is run. The second argument is that program; else it is the one that
 # ./hid built.
 set -eu
 
 top=$(cd "$(dirname "$0")/.." && pwd)
-self=$(basename "$0" .sh)
-other=${self#beside_}
+other=${1:-tshark}
+self=beside_$other
 shown=$top/compare/$other.txt
 differences=$top/compare/${other}_differences.txt
-program=${1:-$top/crates/hid/out/hid}
+program=${2:-$top/crates/hid/out/hid}
+[ -f "$shown" ] || {
+    echo "beside: there is no $shown" >&2
+    exit 2
+}
 [ -x "$program" ] || {
     echo "$self: no program $program" >&2
     exit 2

@@ -1,1 +1,0 @@
-beside_tshark.sh
