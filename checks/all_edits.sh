@@ -2,15 +2,15 @@
 # Tries every edit that the prover must refuse: those of the gate, crates/NAME/must-fail/, and those
 # beside, crates/NAME/more-edits/. Its arguments are the crates; without any, all that have edits.
 # It works in a copy, which it removes. Each crate is proved as it stands first: of one that isn't,
-# every edit would be refused. Then `rt must-fail` tries as many edits side by side as there are
-# processors (at most two: RT_JOBS=2 bash checks/all_edits.sh NAME), and passes over those that were
-# tried on this machine before, where nothing that they stand on has changed.
+# every edit would be refused. Then the edits are tried in parts of at most 36, a folder each, and as
+# many parts side by side as there are processors (at most two: LANES=2 bash checks/all_edits.sh NAME).
 # Its status is 0 where every file is an edit, and each was refused.
 set -eu
 
 top=$(cd "$(dirname "$0")/.." && pwd)
 . "$top/checks/needs.sh"
 need_rt all_edits
+lanes=${LANES:-$(nproc)}
 scratch=$(mktemp -d)
 trap 'rm -rf "$scratch"' EXIT
 
@@ -37,14 +37,14 @@ if [ $# -eq 0 ]; then
     done
 fi
 
-mkdir "$scratch/copy"
-git init -q "$scratch/copy"
-cp "$top/crates.txt" "$top/HANDLES" "$scratch/copy"
+copy="$scratch/copy"
+mkdir "$copy" "$scratch/parts"
+git init -q "$copy"
+cp "$top/crates.txt" "$top/HANDLES" "$copy"
 for crate in $listed; do
-    mkdir -p "$scratch/copy/crates/$crate/must-fail"
+    mkdir -p "$copy/crates/$crate"
     for part in src specs proofs; do
-        [ ! -d "$top/crates/$crate/$part" ] ||
-            cp -r "$top/crates/$crate/$part" "$scratch/copy/crates/$crate"
+        [ ! -d "$top/crates/$crate/$part" ] || cp -r "$top/crates/$crate/$part" "$copy/crates/$crate"
     done
 done
 
@@ -57,20 +57,30 @@ tell_other() {
     echo "    ${1#"$top/crates/"}: $2"
 }
 
-# Puts a crate's edits into one folder of the copy, and names them in $scratch/edits.
+# Proves a crate as it stands.
+prove() {
+    (cd "$copy/crates/$1" && rt check) > "$scratch/said" 2>&1 || {
+        echo "    $1 is not proved as it stands:"
+        grep -m 5 ': error' "$scratch/said" || tail -n 5 "$scratch/said"
+        return 1
+    }
+}
+
+# Notes a crate's edits in parts of at most 36: $scratch/parts/CRATE.NUMBER has their files.
 gather() {
-    : > "$scratch/edits"
+    local file name number=0 noted="$scratch/names"
+    : > "$noted"
     while read -r file; do
         name=${file##*/}
-        to="$scratch/copy/crates/$1/must-fail/$name"
         case ${file#"$top/crates/$1/"*/} in
             */* | .* | *[!A-Za-z0-9_.-]*) tell_other "$file" 'BAD EDIT: its folder or its name' ;;
             *.edit)
-                if [ -e "$to" ]; then
+                if grep -qxF -e "$name" "$noted"; then
                     tell_other "$file" 'BAD EDIT: another has its name'
                 else
-                    cp "$file" "$to"
-                    echo "$file" >> "$scratch/edits"
+                    echo "$name" >> "$noted"
+                    echo "$file" >> "$scratch/parts/$1.$((number / 36))"
+                    number=$((number + 1))
                 fi
                 ;;
             *) tell_other "$file" 'BAD EDIT: it ends otherwise than .edit' ;;
@@ -78,39 +88,68 @@ gather() {
     done < <(files_of "$1")
 }
 
-# Tries the edits of a crate, and tells how many were refused, and each that was not.
-try_crate() {
-    begun=$SECONDS
-    gather "$1"
-    well=0
-    : > "$scratch/said"
-    if [ -s "$scratch/edits" ]; then
-        if (cd "$scratch/copy/crates/$1" && rt check ${RT_JOBS:+--jobs "$RT_JOBS"}) \
-            > "$scratch/proved" 2>&1; then
-            (cd "$scratch/copy" && rt must-fail "$1") > "$scratch/said" 2>&1 || true
-        else
-            echo "    $1 is not proved as it stands:"
-            grep -m 5 ': error' "$scratch/proved" || tail -n 5 "$scratch/proved"
-        fi
-    fi
+# Tries a part in a folder of its own; what rt says of it goes beside the part.
+try_part() {
+    local part=$1 crate folder
+    crate=$(basename "$part")
+    crate=${crate%.*}
+    folder="$part.folder"
+    # The files that rt only reads are shared with the copy.
+    cp -al "$copy" "$folder"
+    mkdir "$folder/crates/$crate/must-fail"
+    xargs -d '\n' cp -t "$folder/crates/$crate/must-fail" < "$part"
+    (cd "$folder" && rt must-fail "$crate") > "$part.said" 2>&1 || true
+    rm -rf "$folder"
+}
+
+# Counts the edits of a part that were refused, and tells each that was not.
+judge() {
+    local part=$1 crate file answer
+    crate=$(basename "$part")
+    crate=${crate%.*}
     while read -r file; do
-        answer=$(grep -m 1 -F "must-fail $1/${file##*/}: " "$scratch/said" || true)
+        answer=$(grep -m 1 -F "must-fail $crate/${file##*/}: " "$part.said" || true)
         case $answer in
             *': refused, as it must be (only '*)
                 # By a limit of the prover, or since a proof names what is gone.
-                well=$((well + 1))
+                refused=$((refused + 1))
                 echo "    ${answer#rt: }"
                 ;;
-            *': refused, as it must be'*) well=$((well + 1)) ;;
+            *': refused, as it must be'*) refused=$((refused + 1)) ;;
             *) answer=${answer#*"/${file##*/}: "} && tell_other "$file" "${answer:-NOT TRIED}" ;;
         esac
-    done < "$scratch/edits"
-    refused=$((refused + well))
-    echo "$1: $well of $(files_of "$1" | wc -l) edits refused ($((SECONDS - begun)) s)"
+    done < "$part"
 }
 
 for crate in "$@"; do
-    try_crate "$crate"
+    gather "$crate"
+    begun=$SECONDS
+    if prove "$crate"; then
+        echo "$crate: proved as it stands ($((SECONDS - begun)) s)"
+    else
+        rm -f "$scratch/parts/$crate".*
+        others=$((others + 1))
+    fi
 done
-echo "all_edits: $refused refused, $others not"
+
+# The parts of the largest crates first.
+for crate in "$@"; do
+    size=$(cat "$top/crates/$crate"/{src,specs,proofs}/* 2> /dev/null | wc -c)
+    for part in "$scratch/parts/$crate".*; do
+        [ ! -e "$part" ] || echo "$size $part"
+    done
+done | sort -rn | cut -d' ' -f2- > "$scratch/order"
+export -f try_part
+export copy
+begun=$SECONDS
+xargs -d '\n' -P "$lanes" -I '{}' bash -c 'try_part {}' < "$scratch/order"
+
+for crate in "$@"; do
+    before=$refused
+    for part in "$scratch/parts/$crate".*.said; do
+        [ ! -e "$part" ] || judge "${part%.said}"
+    done
+    echo "$crate: $((refused - before)) of $(files_of "$crate" | wc -l) edits refused"
+done
+echo "all_edits: $refused refused, $others not ($((SECONDS - begun)) s for the edits)"
 [ "$others" -eq 0 ]

@@ -2,8 +2,9 @@
 # What C gets, by the header and by the Rust module: the questions of c/cases.txt are asked of the
 # static library by a C program and by a Rust one, whose answers have to be those that stand there.
 # Its argument is a folder that ./install filled; without one it fills one, which takes half a
-# minute behind a check of `hidreport_c`, two behind the gate. Where no C compiler is there, or no
-# cargo, it says so and leaves that part out.
+# minute behind a check of `hidreport_c`. With `behind-ci` it builds the library over what `rt ci`
+# has just proved (checks/c_library.sh), in two minutes. Where no C compiler is there, or no cargo, it
+# says so and leaves that part out.
 set -eu
 
 top=$(cd "$(dirname "$0")/.." && pwd)
@@ -14,7 +15,16 @@ if ! command -v cc > /dev/null || ! command -v ar > /dev/null; then
     exit 0
 fi
 prefix=${1:-$scratch/prefix}
-[ $# -gt 0 ] || "$top/install" "$prefix" c > /dev/null
+if [ "$prefix" = behind-ci ]; then
+    prefix=$scratch/prefix
+    export HIDREPORT_ARCHIVE="$scratch/libhidreport_c.a"
+    bash "$top/checks/c_library.sh" "$HIDREPORT_ARCHIVE" > "$scratch/said" 2>&1 || {
+        tail -n 5 "$scratch/said"
+        echo 'c_cases: not built over what rt ci has proved, so all is proved once more'
+        unset HIDREPORT_ARCHIVE
+    }
+fi
+[ -e "$prefix" ] || "$top/install" "$prefix" c > /dev/null
 grep -v '^  ' "$top/c/cases.txt" > "$scratch/questions"
 asked=$(grep -c '^[a-z]' "$scratch/questions")
 

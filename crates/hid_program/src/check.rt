@@ -6,7 +6,7 @@ use crate::items::{PlacedItem, items_of};
 use hidreport::hid::{CollectionItem, GlobalItem, ItemType, LocalItem, MainDataItem, MainItem};
 use hidreport::{Direction, Field, ParserError, RDescReport, Report, ReportDescriptor};
 use std::alloc::{AllocError, Global};
-use std::mem;
+use std::fmt::Write;
 
 /// Something odd.
 #[derive(Drop)]
@@ -25,6 +25,15 @@ struct Globals {
     high_offset: usize,
     size: usize,
     count: usize,
+}
+
+/// Appends the line of a finding.
+pub fn add_finding(text: &mut String, finding: &Finding) -> Result<(), AllocError> {
+    let remark = &finding.remark;
+    match finding.offset {
+        Some(offset) => writeln!(text, "{offset:>5}: {remark}"),
+        None => writeln!(text, "       {remark}"),
+    }
 }
 
 /// What the items so far say.
@@ -48,18 +57,10 @@ pub fn findings(
 ) -> Result<Vec<Finding>, AllocError> {
     let mut watch = Watch::new(alloc);
     let placed = items_of(alloc, bytes)?;
-    for entry in placed.items.iter() {
-        watch.pass(entry)?;
-    }
-    watch.end()?;
+    watch.pass_all(&placed.items)?;
     match parsed {
         Ok(descriptor) => watch.tell_sizes(descriptor)?,
-        Err(fault) => {
-            let remark = remark_of(fault);
-            let remark = format!(in alloc; "refused: {remark}")?;
-            let offset = offset_of(Some(fault));
-            watch.findings.push(Finding { offset, remark })?;
-        }
+        Err(fault) => watch.tell_refusal(fault)?,
     }
     let mut findings = watch.findings;
     findings.sort_by_key(|it| it.offset.unwrap_or(usize::MAX))?;
@@ -94,6 +95,22 @@ impl Watch {
         Ok(self.findings.push(Finding { offset, remark })?)
     }
 
+    /// Goes over all items.
+    fn pass_all(&mut self, items: &[PlacedItem]) -> Result<(), AllocError> {
+        for entry in items {
+            self.pass(entry)?;
+        }
+        self.end()
+    }
+
+    /// Notes why a descriptor is refused.
+    fn tell_refusal(&mut self, fault: &ParserError) -> Result<(), AllocError> {
+        let remark = remark_of(fault);
+        let remark = format!(in self.alloc; "refused: {remark}")?;
+        let offset = offset_of(Some(fault));
+        Ok(self.findings.push(Finding { offset, remark })?)
+    }
+
     /// Goes over an item.
     fn pass(&mut self, entry: &PlacedItem) -> Result<(), AllocError> {
         let offset = entry.offset;
@@ -111,15 +128,7 @@ impl Watch {
 
     fn pass_main(&mut self, offset: usize, item: MainItem) -> Result<(), AllocError> {
         match item {
-            MainItem::Collection(kind) => {
-                if self.open.is_empty() && kind != CollectionItem::Application {
-                    self.tell(
-                        offset,
-                        "an outermost collection is an Application (Section 8.4)",
-                    )?;
-                }
-                self.open.push(offset)?;
-            }
+            MainItem::Collection(kind) => self.open_collection(offset, kind)?,
             MainItem::EndCollection => {
                 self.tell_unused()?;
                 let _ = self.open.pop();
@@ -132,26 +141,39 @@ impl Watch {
         Ok(())
     }
 
+    fn open_collection(&mut self, offset: usize, kind: CollectionItem) -> Result<(), AllocError> {
+        if self.open.is_empty() && kind != CollectionItem::Application {
+            self.tell(
+                offset,
+                "an outermost collection is an Application (Section 8.4)",
+            )?;
+        }
+        Ok(self.open.push(offset)?)
+    }
+
     /// Notes what is odd at an Input, Output or Feature.
     fn tell_data(&mut self, offset: usize, is_constant: bool) -> Result<(), AllocError> {
-        if self.open.is_empty() {
-            self.tell(offset, "it lies in no collection (Section 8.4)")?;
-        }
-        if self.globals.size == 0 || self.globals.count == 0 {
-            self.tell(offset, "it has no bits (Section 6.2.2.7)")?;
-        }
+        self.tell_place(offset)?;
+        self.tell_no_bits(offset)?;
         if is_constant {
             return Ok(());
         }
-        if self.globals.high < self.globals.low {
-            self.tell_bounds()?;
+        self.tell_bounds()?;
+        self.tell_usages()
+    }
+
+    /// Notes that no collection is open.
+    fn tell_place(&mut self, offset: usize) -> Result<(), AllocError> {
+        if self.open.is_empty() {
+            return self.tell(offset, "it lies in no collection (Section 8.4)");
         }
-        let (usages, count) = (self.usages, self.globals.count);
-        if (count as u64) < usages && self.globals.size == 1 {
-            let remark = format!(in self.alloc;
-                "{usages} usages for {count} fields (Section 6.2.2.8)"
-            )?;
-            self.tell(self.first_usage, &remark)?;
+        Ok(())
+    }
+
+    /// Notes that there is nothing to hold a value.
+    fn tell_no_bits(&mut self, offset: usize) -> Result<(), AllocError> {
+        if self.globals.size == 0 || self.globals.count == 0 {
+            return self.tell(offset, "it has no bits (Section 6.2.2.7)");
         }
         Ok(())
     }
@@ -159,16 +181,26 @@ impl Watch {
     /// Notes that the logical maximum is below the minimum, and what may be meant.
     fn tell_bounds(&mut self) -> Result<(), AllocError> {
         let (low, high) = (self.globals.low, self.globals.high);
-        let is_unsigned = 0 <= low && high < 0;
-        let hint = if is_unsigned {
-            ": without a sign it takes a byte more"
-        } else {
-            ""
-        };
+        if low <= high {
+            return Ok(());
+        }
+        let hint = hint_of(low, high);
         let remark = format!(in self.alloc;
             "the maximum {high} is below the minimum {low}{hint} (Section 6.2.2.7)"
         )?;
         self.tell(self.globals.high_offset, &remark)
+    }
+
+    /// Notes that there are more usages than buttons or keys of one bit.
+    fn tell_usages(&mut self) -> Result<(), AllocError> {
+        let (usages, count) = (self.usages, self.globals.count);
+        if usages <= count as u64 || self.globals.size != 1 {
+            return Ok(());
+        }
+        let remark = format!(in self.alloc;
+            "{usages} usages for {count} fields (Section 6.2.2.8)"
+        )?;
+        self.tell(self.first_usage, &remark)
     }
 
     fn pass_global(&mut self, offset: usize, item: &GlobalItem) -> Result<(), AllocError> {
@@ -228,16 +260,27 @@ impl Watch {
     /// Notes what is odd at the end.
     fn end(&mut self) -> Result<(), AllocError> {
         self.tell_unused()?;
-        let open = mem::replace(&mut self.open, Vec::new(self.alloc));
-        for offset in open.iter() {
-            self.tell(*offset, "the collection isn't closed (Section 6.2.2.4)")?;
+        self.tell_open()?;
+        self.tell_pushed()
+    }
+
+    fn tell_open(&mut self) -> Result<(), AllocError> {
+        for index in 0..self.open.len() {
+            if let Some(offset) = self.open.get(index).copied() {
+                self.tell(offset, "the collection isn't closed (Section 6.2.2.4)")?;
+            }
         }
-        let pushed = mem::replace(&mut self.pushed, Vec::new(self.alloc));
-        for (offset, _globals) in pushed.iter() {
-            self.tell(
-                *offset,
-                "what is kept is never brought back (Section 6.2.2.7)",
-            )?;
+        Ok(())
+    }
+
+    fn tell_pushed(&mut self) -> Result<(), AllocError> {
+        for index in 0..self.pushed.len() {
+            if let Some((offset, _globals)) = self.pushed.get(index).copied() {
+                self.tell(
+                    offset,
+                    "what is kept is never brought back (Section 6.2.2.7)",
+                )?;
+            }
         }
         Ok(())
     }
@@ -246,18 +289,27 @@ impl Watch {
     fn tell_sizes(&mut self, descriptor: &ReportDescriptor) -> Result<(), AllocError> {
         for direction in DIRECTIONS {
             for report in descriptor.reports(direction) {
-                let bits = report.size_in_bits();
-                if bits % 8 != 0 {
-                    let said = ": its bits are no whole number of bytes (Section 8.4)";
-                    self.tell_of_report(direction, report, said)?;
-                }
-                if report.fields().iter().any(is_in_five_bytes) {
-                    let said = ": a field lies in more than four bytes (Section 8.4)";
-                    self.tell_of_report(direction, report, said)?;
-                }
+                self.tell_bits(direction, report)?;
+                self.tell_wide(direction, report)?;
             }
         }
         Ok(())
+    }
+
+    fn tell_bits(&mut self, direction: Direction, report: &RDescReport) -> Result<(), AllocError> {
+        if report.size_in_bits() % 8 == 0 {
+            return Ok(());
+        }
+        let said = ": its bits are no whole number of bytes (Section 8.4)";
+        self.tell_of_report(direction, report, said)
+    }
+
+    fn tell_wide(&mut self, direction: Direction, report: &RDescReport) -> Result<(), AllocError> {
+        if !report.fields().iter().any(is_in_five_bytes) {
+            return Ok(());
+        }
+        let said = ": a field lies in more than four bytes (Section 8.4)";
+        self.tell_of_report(direction, report, said)
     }
 
     /// Notes what is odd in a report.
@@ -272,6 +324,15 @@ impl Watch {
         remark.push_str(said)?;
         let offset = None;
         Ok(self.findings.push(Finding { offset, remark })?)
+    }
+}
+
+/// What may be meant by a maximum below the minimum.
+fn hint_of(low: i32, high: i32) -> &'static str {
+    if 0 <= low && high < 0 {
+        ": without a sign it takes a byte more"
+    } else {
+        ""
     }
 }
 

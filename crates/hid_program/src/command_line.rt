@@ -2,6 +2,43 @@
 use clap::{Arg, ArgAction, Command};
 use std::alloc::{AllocError, Global};
 
+/// What may stand for an argument.
+#[derive(Clone, Copy)]
+enum Kind {
+    /// A word that has to be there.
+    Word,
+
+    /// Words, or none.
+    Words,
+
+    /// An option without a value.
+    Flag,
+
+    /// An option without a value, for all commands.
+    Setting,
+
+    /// The most that a descriptor may list.
+    Limit,
+
+    /// What inputs hold.
+    Form,
+
+    /// What a Push keeps.
+    Push,
+
+    /// When names are in colour.
+    Colour,
+
+    /// Which way reports go.
+    Direction,
+
+    /// What bytes are written as.
+    Target,
+}
+
+/// An argument's name, what may stand for it, and what it is for.
+type Argument = (&'static str, Kind, &'static str);
+
 static FORMS: [&str; 4] = ["bytes", "hex", "recorder", "dump"];
 
 static PUSHES: [&str; 2] = ["globals", "all"];
@@ -11,6 +48,141 @@ static COLOURS: [&str; 3] = ["auto", "always", "never"];
 static DIRECTIONS: [&str; 3] = ["input", "output", "feature"];
 
 static TARGETS: [&str; 5] = ["hex", "c", "rust", "bytes", "recording"];
+
+/// The options of all commands.
+static OPTIONS: [Argument; 6] = [
+    (
+        "form",
+        Kind::Form,
+        "What the inputs hold, where it isn't to be guessed",
+    ),
+    ("limit", Kind::Limit, "The most that a descriptor may list"),
+    (
+        "push",
+        Kind::Push,
+        "What a Push keeps: globals, as hosts read, or all",
+    ),
+    (
+        "lenient",
+        Kind::Setting,
+        "Mend the descriptor first, as Linux reads it",
+    ),
+    (
+        "json",
+        Kind::Setting,
+        "Write an object of JSON in each line",
+    ),
+    ("color", Kind::Colour, "Show names in colour"),
+];
+
+const FILE: Argument = ("FILE", Kind::Word, "The descriptor");
+
+const DIRECTION: Argument = ("direction", Kind::Direction, "Which way the reports go");
+
+const TARGET: Argument = ("to", Kind::Target, "What the bytes are written as");
+
+/// Of `decode`, `fields` and `check`.
+static DECODE: [Argument; 1] = [FILE];
+
+static VALUES: [Argument; 4] = [
+    FILE,
+    (
+        "REPORT",
+        Kind::Words,
+        "Reports: files, or - for lines of hex text; those of FILE where it is a recording",
+    ),
+    DIRECTION,
+    (
+        "down",
+        Kind::Flag,
+        "Show only the keys and buttons that are down, a name in each line",
+    ),
+];
+
+static RECORD: [Argument; 4] = [
+    FILE,
+    (
+        "STREAM",
+        Kind::Word,
+        "A node, a pipe, a recording, or - for the standard input",
+    ),
+    (
+        "changes",
+        Kind::Flag,
+        "Leave out what is as it was in the report before",
+    ),
+    ("raw", Kind::Flag, "Write hid-recorder's lines"),
+];
+
+static SET: [Argument; 5] = [
+    FILE,
+    (
+        "ID",
+        Kind::Word,
+        "The report's id, or - where reports have none",
+    ),
+    (
+        "NAME=NUMBER",
+        Kind::Words,
+        "A field's value, or a key of an array that is down (1)",
+    ),
+    DIRECTION,
+    TARGET,
+];
+
+static CONVERT: [Argument; 2] = [FILE, TARGET];
+
+static COMPILE: [Argument; 2] = [
+    ("TEXT", Kind::Word, "The text, or - for the standard input"),
+    TARGET,
+];
+
+static MAP: [Argument; 2] = [FILE, ("svg", Kind::Flag, "Write the picture as SVG")];
+
+static DIFF: [Argument; 2] = [
+    ("FILE", Kind::Word, "A descriptor"),
+    ("OTHER", Kind::Word, "Another"),
+];
+
+/// The commands, and what each is for.
+static COMMANDS: [(&str, &str); 10] = [
+    ("decode", "Shows the items of a descriptor in words"),
+    (
+        "fields",
+        "Shows the reports of a descriptor and their fields",
+    ),
+    ("values", "Shows the values of reports"),
+    (
+        "record",
+        "Shows each report of a stream in a line, as it comes",
+    ),
+    ("set", "Writes the bytes of a report"),
+    ("convert", "Writes a descriptor in another form"),
+    (
+        "compile",
+        "Writes the descriptor that a text of hid decode says",
+    ),
+    ("map", "Draws the bits of each report"),
+    ("diff", "Shows the fields in which two descriptors differ"),
+    (
+        "check",
+        "Shows what is odd in a descriptor, and what the standard says",
+    ),
+];
+
+/// The arguments of a command.
+fn arguments_of(name: &str) -> &'static [Argument] {
+    match name {
+        "values" => &VALUES,
+        "record" => &RECORD,
+        "set" => &SET,
+        "convert" => &CONVERT,
+        "compile" => &COMPILE,
+        "map" => &MAP,
+        "diff" => &DIFF,
+        _ => &DECODE,
+    }
+}
 
 /// What stands below the help.
 const AFTER: &str = "FILE is a report descriptor: a file, - for the standard input, or a node such \
@@ -25,199 +197,55 @@ pub fn command_line<'a>(alloc: Global) -> Result<Command<'a>, AllocError> {
         .after_help(AFTER)
         .subcommand_required(true)
         .arg_required_else_help(true);
-    let hid = with_reading(alloc, hid)?;
-    let hid = with_showing(alloc, hid)?;
-    hid.subcommand(decode(alloc)?)?
-        .subcommand(fields(alloc)?)?
-        .subcommand(values(alloc)?)?
-        .subcommand(record(alloc)?)?
-        .subcommand(set(alloc)?)?
-        .subcommand(convert(alloc)?)?
-        .subcommand(compile(alloc)?)?
-        .subcommand(map(alloc)?)?
-        .subcommand(diff(alloc)?)?
-        .subcommand(check(alloc)?)
+    let mut hid = with_arguments(alloc, hid, &OPTIONS)?;
+    for (name, about) in &COMMANDS {
+        let command = Command::new(alloc, name).about(about);
+        hid = hid.subcommand(with_arguments(alloc, command, arguments_of(name))?)?;
+    }
+    Ok(hid)
 }
 
-/// With the options that say how a descriptor is read.
-fn with_reading<'a>(alloc: Global, hid: Command<'a>) -> Result<Command<'a>, AllocError> {
-    let form = option(
-        alloc,
-        "form",
-        "FORM",
-        "What the inputs hold, where it isn't to be guessed",
-    )
-    .value_parser(FORMS.as_slice());
-    let limit = option(alloc, "limit", "N", "The most that a descriptor may list")
-        .value_parser(clap::value_parser!(usize))
-        .default_value("65536");
-    let push = option(
-        alloc,
-        "push",
-        "WHAT",
-        "What a Push keeps: globals, as hosts read, or all",
-    )
-    .value_parser(PUSHES.as_slice())
-    .default_value("globals");
-    let lenient = flag(
-        alloc,
-        "lenient",
-        "Mend the descriptor first, as Linux reads it",
-    );
-    hid.arg(form)?.arg(limit)?.arg(push)?.arg(lenient)
+/// A command with these arguments, too.
+fn with_arguments<'a>(
+    alloc: Global,
+    command: Command<'a>,
+    arguments: &[Argument],
+) -> Result<Command<'a>, AllocError> {
+    let mut command = command;
+    for argument in arguments {
+        command = command.arg(argument_of(alloc, *argument))?;
+    }
+    Ok(command)
 }
 
-/// With the options that say how an answer is written.
-fn with_showing<'a>(alloc: Global, hid: Command<'a>) -> Result<Command<'a>, AllocError> {
-    let json = flag(alloc, "json", "Write an object of JSON in each line");
-    let color = option(alloc, "color", "WHEN", "Show names in colour")
-        .value_parser(COLOURS.as_slice())
-        .default_value("auto");
-    hid.arg(json)?.arg(color)
+/// An argument.
+fn argument_of<'a>(alloc: Global, argument: Argument) -> Arg<'a> {
+    let (name, kind, help) = argument;
+    let arg = Arg::new(alloc, name).help(help);
+    match kind {
+        Kind::Word => arg.value_name(name).required(true),
+        Kind::Words => arg.num_args(0..),
+        Kind::Flag => arg.long(name).action(ArgAction::SetTrue),
+        Kind::Setting => arg.long(name).action(ArgAction::SetTrue).global(true),
+        Kind::Limit => arg
+            .long(name)
+            .value_name("N")
+            .value_parser(clap::value_parser!(usize))
+            .default_value("65536")
+            .global(true),
+        Kind::Form => choice(arg, name, "FORM", &FORMS).global(true),
+        Kind::Push => choice(arg, name, "WHAT", &PUSHES)
+            .default_value("globals")
+            .global(true),
+        Kind::Colour => choice(arg, name, "WHEN", &COLOURS)
+            .default_value("auto")
+            .global(true),
+        Kind::Direction => choice(arg, name, "DIRECTION", &DIRECTIONS).default_value("input"),
+        Kind::Target => choice(arg, name, "TARGET", &TARGETS).default_value("hex"),
+    }
 }
 
-/// An option with a value, for all commands.
-fn option<'a>(alloc: Global, name: &'a str, value: &'a str, help: &'a str) -> Arg<'a> {
-    Arg::new(alloc, name)
-        .long(name)
-        .value_name(value)
-        .help(help)
-        .global(true)
-}
-
-/// An option without a value, for all commands.
-fn flag<'a>(alloc: Global, name: &'a str, help: &'a str) -> Arg<'a> {
-    Arg::new(alloc, name)
-        .long(name)
-        .action(ArgAction::SetTrue)
-        .help(help)
-        .global(true)
-}
-
-/// An argument that has to be there.
-fn word<'a>(alloc: Global, name: &'a str, help: &'a str) -> Arg<'a> {
-    Arg::new(alloc, name)
-        .value_name(name)
-        .required(true)
-        .help(help)
-}
-
-/// The direction of the reports.
-fn direction<'a>(alloc: Global) -> Arg<'a> {
-    Arg::new(alloc, "direction")
-        .long("direction")
-        .value_name("DIRECTION")
-        .value_parser(DIRECTIONS.as_slice())
-        .default_value("input")
-        .help("Which way the reports go")
-}
-
-fn decode<'a>(alloc: Global) -> Result<Command<'a>, AllocError> {
-    Command::new(alloc, "decode")
-        .about("Shows the items of a descriptor in words")
-        .arg(word(alloc, "FILE", "The descriptor"))
-}
-
-fn fields<'a>(alloc: Global) -> Result<Command<'a>, AllocError> {
-    Command::new(alloc, "fields")
-        .about("Shows the reports of a descriptor and their fields")
-        .arg(word(alloc, "FILE", "The descriptor"))
-}
-
-fn values<'a>(alloc: Global) -> Result<Command<'a>, AllocError> {
-    let reports = Arg::new(alloc, "REPORT").num_args(0..).help(
-        "Reports: files, or - for lines of hex text; those of FILE where it is a recording",
-    );
-    let down = Arg::new(alloc, "down")
-        .long("down")
-        .action(ArgAction::SetTrue)
-        .help("Show only the keys and buttons that are down, a name in each line");
-    Command::new(alloc, "values")
-        .about("Shows the values of reports")
-        .arg(word(alloc, "FILE", "The descriptor"))?
-        .arg(reports)?
-        .arg(direction(alloc))?
-        .arg(down)
-}
-
-fn record<'a>(alloc: Global) -> Result<Command<'a>, AllocError> {
-    let changes = Arg::new(alloc, "changes")
-        .long("changes")
-        .action(ArgAction::SetTrue)
-        .help("Leave out what is as it was in the report before");
-    let raw = Arg::new(alloc, "raw")
-        .long("raw")
-        .action(ArgAction::SetTrue)
-        .help("Write hid-recorder's lines");
-    Command::new(alloc, "record")
-        .about("Shows each report of a stream in a line, as it comes")
-        .arg(word(alloc, "FILE", "The descriptor"))?
-        .arg(word(
-            alloc,
-            "STREAM",
-            "A node, a pipe, a recording, or - for the standard input",
-        ))?
-        .arg(changes)?
-        .arg(raw)
-}
-
-fn set<'a>(alloc: Global) -> Result<Command<'a>, AllocError> {
-    let values = Arg::new(alloc, "NAME=NUMBER")
-        .num_args(0..)
-        .help("A field's value, or a key of an array that is down (1)");
-    Command::new(alloc, "set")
-        .about("Writes the bytes of a report")
-        .arg(word(alloc, "FILE", "The descriptor"))?
-        .arg(word(alloc, "ID", "The report's id, or - where reports have none"))?
-        .arg(values)?
-        .arg(direction(alloc))?
-        .arg(target(alloc))
-}
-
-/// What bytes are written as.
-fn target<'a>(alloc: Global) -> Arg<'a> {
-    Arg::new(alloc, "to")
-        .long("to")
-        .value_name("TARGET")
-        .value_parser(TARGETS.as_slice())
-        .default_value("hex")
-        .help("What the bytes are written as")
-}
-
-fn convert<'a>(alloc: Global) -> Result<Command<'a>, AllocError> {
-    Command::new(alloc, "convert")
-        .about("Writes a descriptor in another form")
-        .arg(word(alloc, "FILE", "The descriptor"))?
-        .arg(target(alloc))
-}
-
-fn compile<'a>(alloc: Global) -> Result<Command<'a>, AllocError> {
-    Command::new(alloc, "compile")
-        .about("Writes the descriptor that a text of hid decode says")
-        .arg(word(alloc, "TEXT", "The text, or - for the standard input"))?
-        .arg(target(alloc))
-}
-
-fn map<'a>(alloc: Global) -> Result<Command<'a>, AllocError> {
-    let svg = Arg::new(alloc, "svg")
-        .long("svg")
-        .action(ArgAction::SetTrue)
-        .help("Write the picture as SVG");
-    Command::new(alloc, "map")
-        .about("Draws the bits of each report")
-        .arg(word(alloc, "FILE", "The descriptor"))?
-        .arg(svg)
-}
-
-fn diff<'a>(alloc: Global) -> Result<Command<'a>, AllocError> {
-    Command::new(alloc, "diff")
-        .about("Shows the fields in which two descriptors differ")
-        .arg(word(alloc, "FILE", "A descriptor"))?
-        .arg(word(alloc, "OTHER", "Another"))
-}
-
-fn check<'a>(alloc: Global) -> Result<Command<'a>, AllocError> {
-    Command::new(alloc, "check")
-        .about("Shows what is odd in a descriptor, and what the standard says")
-        .arg(word(alloc, "FILE", "The descriptor"))
+/// An option whose value is one of these words.
+fn choice<'a>(arg: Arg<'a>, name: &'a str, value: &'a str, words: &'a [&'a str]) -> Arg<'a> {
+    arg.long(name).value_name(value).value_parser(words)
 }

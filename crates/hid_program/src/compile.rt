@@ -1,11 +1,13 @@
 //! `hid compile`: a descriptor's bytes from the text that `hid decode` writes.
-use crate::hex_text::bytes_of_hex;
 use crate::item_reading::bytes_of_words;
 use crate::item_words::add_item;
 use crate::pages::Pages;
 use anyhow::{Context, Result, bail};
+use hid_input::bytes_of_hex;
+use hidreport::hid::ItemType;
+use hidreport::types::UsagePage;
 use hidreport_lists::front_item;
-use std::alloc::Global;
+use std::alloc::{AllocError, Global};
 use std::fmt::Write;
 
 /// A descriptor, and the lines whose words say something else than the bytes before them.
@@ -102,10 +104,20 @@ fn is_byte(word: &str) -> bool {
 fn says(alloc: Global, bytes: &[u8], words: &str, pages: &Pages) -> Result<bool> {
     match front_item(bytes) {
         Ok(front) if front.size == bytes.len() => {
-            let mut own = String::new(alloc);
-            add_item(&mut own, &front.item, pages.page())?;
-            Ok(own.as_str() == words)
+            Ok(is_said(alloc, &front.item, words, pages.page())?)
         }
         _ => Ok(false),
     }
+}
+
+/// Whether these are an item's words.
+fn is_said(
+    alloc: Global,
+    item: &ItemType,
+    words: &str,
+    page: UsagePage,
+) -> Result<bool, AllocError> {
+    let mut own = String::new(alloc);
+    add_item(&mut own, item, page)?;
+    Ok(own.as_str() == words)
 }

@@ -1,6 +1,6 @@
 //! `hid convert`: a descriptor's bytes as hex text, as source, or as a recording.
 use crate::item_words::add_item;
-use crate::items::items_of;
+use crate::items::{PlacedItem, items_of};
 use crate::naming::add_bytes;
 use crate::pages::Pages;
 use std::alloc::{AllocError, Global};
@@ -75,28 +75,35 @@ pub fn converted(
     meaning: Meaning,
 ) -> Result<String, AllocError> {
     let mut text = String::new(alloc);
-    let count = bytes.len();
-    let (name_in_c, name_in_rust) = meaning.names();
     match target {
         Target::Hex | Target::Bytes => add_hex(&mut text, bytes)?,
-        Target::Recording => {
-            let mark = meaning.mark();
-            write!(text, "{mark} {count} ")?;
-            add_bytes(&mut text, bytes)?;
-            text.push_str("\n")?;
-        }
-        Target::C => {
-            writeln!(text, "static const unsigned char {name_in_c}[{count}] = {{")?;
-            add_source(&mut text, bytes, meaning)?;
-            text.push_str("};\n")?;
-        }
-        Target::Rust => {
-            writeln!(text, "pub const {name_in_rust}: [u8; {count}] = [")?;
-            add_source(&mut text, bytes, meaning)?;
-            text.push_str("];\n")?;
-        }
+        Target::Recording => add_recording(&mut text, bytes, meaning)?,
+        Target::C => add_c(&mut text, bytes, meaning)?,
+        Target::Rust => add_rust(&mut text, bytes, meaning)?,
     }
     Ok(text)
+}
+
+/// Appends hid-recorder's line.
+fn add_recording(text: &mut String, bytes: &[u8], meaning: Meaning) -> Result<(), AllocError> {
+    let (mark, count) = (meaning.mark(), bytes.len());
+    write!(text, "{mark} {count} ")?;
+    add_bytes(text, bytes)?;
+    text.push_str("\n")
+}
+
+fn add_c(text: &mut String, bytes: &[u8], meaning: Meaning) -> Result<(), AllocError> {
+    let ((name, _), count) = (meaning.names(), bytes.len());
+    writeln!(text, "static const unsigned char {name}[{count}] = {{")?;
+    add_source(text, bytes, meaning)?;
+    text.push_str("};\n")
+}
+
+fn add_rust(text: &mut String, bytes: &[u8], meaning: Meaning) -> Result<(), AllocError> {
+    let ((_, name), count) = (meaning.names(), bytes.len());
+    writeln!(text, "pub const {name}: [u8; {count}] = [")?;
+    add_source(text, bytes, meaning)?;
+    text.push_str("];\n")
 }
 
 /// Appends lines of sixteen bytes.
@@ -118,17 +125,21 @@ fn add_source(text: &mut String, bytes: &[u8], meaning: Meaning) -> Result<(), A
     let mut pages = Pages::new(*text.allocator());
     let placed = items_of(*text.allocator(), bytes)?;
     for entry in placed.items.iter() {
-        add_numbers(text, entry.bytes)?;
-        text.push_str(" // ")?;
-        add_item(text, &entry.item, pages.page())?;
-        text.push_str("\n")?;
+        add_source_line(text, entry, &pages)?;
         pages.pass(&entry.item)?;
     }
-    if !placed.rest.is_empty() {
-        add_numbers(text, placed.rest)?;
-        text.push_str("\n")?;
+    if placed.rest.is_empty() {
+        return Ok(());
     }
-    Ok(())
+    add_numbers(text, placed.rest)?;
+    text.push_str("\n")
+}
+
+fn add_source_line(text: &mut String, entry: &PlacedItem, pages: &Pages) -> Result<(), AllocError> {
+    add_numbers(text, entry.bytes)?;
+    text.push_str(" // ")?;
+    add_item(text, &entry.item, pages.page())?;
+    text.push_str("\n")
 }
 
 fn add_numbers(text: &mut String, bytes: &[u8]) -> Result<(), AllocError> {

@@ -11,6 +11,16 @@ use hidreport::hid::{ItemType, MainItem};
 use std::alloc::{AllocError, Global};
 use std::fmt::Write;
 
+/// A descriptor's lines so far.
+#[derive(Drop)]
+struct Decoding<'a> {
+    text: String,
+    pages: Pages,
+    depth: usize,
+    /// The fault, until it is told.
+    fault: Option<&'a ParserError>,
+}
+
 /// A line for each item: its offset, its bytes, and its words, two spaces deeper for each collection
 /// that is open. A fault has a line of its own below its item, or at the end.
 pub fn decoded(
@@ -19,32 +29,57 @@ pub fn decoded(
     fault: Option<&ParserError>,
     settings: &Settings,
 ) -> Result<String> {
-    let is_json = settings.is_json;
-    let mut text = String::new(alloc);
-    let mut pages = Pages::new(alloc);
-    let mut depth = 0usize;
-    let mut told = fault;
     let placed = items_of(alloc, bytes)?;
+    let mut decoding = Decoding {
+        text: String::new(alloc),
+        pages: Pages::new(alloc),
+        depth: 0,
+        fault,
+    };
     for entry in placed.items.iter() {
+        decoding.add(entry, settings)?;
+    }
+    decoding.add_fault(settings.is_json)?;
+    Ok(decoding.text)
+}
+
+impl<'a> Decoding<'a> {
+    /// Appends the line of an item, and that of its fault.
+    fn add(&mut self, entry: &PlacedItem, settings: &Settings) -> Result<()> {
         if matches!(entry.item, ItemType::Main(MainItem::EndCollection)) {
-            depth = depth.saturating_sub(1);
+            self.depth = self.depth.saturating_sub(1);
         }
-        if is_json {
-            add_item_json(&mut text, entry, depth, &pages)?;
-        } else {
-            add_line(&mut text, entry, depth, &pages, settings.is_coloured)?;
-        }
+        self.add_item(entry, settings)?;
         if matches!(entry.item, ItemType::Main(MainItem::Collection(_))) {
-            depth = depth.saturating_add(1);
+            self.depth = self.depth.saturating_add(1);
         }
-        pages.pass(&entry.item)?;
-        if offset_of(told) == Some(entry.offset) {
-            add_fault(&mut text, told, is_json)?;
-            told = None;
+        self.pages.pass(&entry.item)?;
+        if offset_of(self.fault) == Some(entry.offset) {
+            self.add_fault(settings.is_json)?;
+        }
+        Ok(())
+    }
+
+    fn add_item(&mut self, entry: &PlacedItem, settings: &Settings) -> Result<()> {
+        let (text, depth, pages) = (&mut self.text, self.depth, &self.pages);
+        if settings.is_json {
+            add_item_json(text, entry, depth, pages)?;
+        } else {
+            add_line(text, entry, depth, pages, settings.is_coloured)?;
+        }
+        Ok(())
+    }
+
+    /// Appends the line of the fault, if it isn't told yet.
+    fn add_fault(&mut self, is_json: bool) -> Result<()> {
+        match self.fault {
+            Some(fault) => {
+                self.fault = None;
+                add_fault(&mut self.text, fault, is_json)
+            }
+            None => Ok(()),
         }
     }
-    add_fault(&mut text, told, is_json)?;
-    Ok(text)
 }
 
 /// Appends the line of an item.
@@ -89,10 +124,7 @@ pub fn offset_of(fault: Option<&ParserError>) -> Option<usize> {
 }
 
 /// Appends the line of a fault.
-fn add_fault(text: &mut String, fault: Option<&ParserError>, is_json: bool) -> Result<()> {
-    let Some(fault) = fault else {
-        return Ok(());
-    };
+fn add_fault(text: &mut String, fault: &ParserError, is_json: bool) -> Result<()> {
     let offset = offset_of(Some(fault));
     let remark = remark_of(fault);
     if is_json {
@@ -100,11 +132,9 @@ fn add_fault(text: &mut String, fault: Option<&ParserError>, is_json: bool) -> R
         return Ok(());
     }
     match offset {
-        Some(offset) => write!(text, "{offset:>5}! ")?,
-        None => text.push_str("     ! ")?,
+        Some(offset) => writeln!(text, "{offset:>5}! {remark}")?,
+        None => writeln!(text, "     ! {remark}")?,
     }
-    text.push_str(remark)?;
-    text.push_str("\n")?;
     Ok(())
 }
 

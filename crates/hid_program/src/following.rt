@@ -1,13 +1,13 @@
 //! `hid record`: a stream, followed to its end.
 use crate::convert::{Meaning, Target};
 use crate::ending::Ending;
-use crate::input::Given;
 use crate::line::Lines;
 use crate::record::{PIECE, Shown, Stream, kind_named};
 use crate::running::{show, write};
 use crate::settings::Settings;
 use anyhow::{Context, Result};
 use clap::ArgMatches;
+use hid_input::Given;
 use hidreport::ReportDescriptor;
 use std::fs;
 use std::io::Read;
@@ -23,26 +23,45 @@ pub fn record<R: AllocGlobal + Clock + Files + Input + Print + Eprint>(
     matches: &ArgMatches,
 ) -> Result<Ending> {
     let name = matches.get_str("STREAM").unwrap_or("-");
+    let shown = shown_as(settings, matches.get_flag("raw"));
+    if shown == Shown::Raw {
+        begin_recording(rt, given)?;
+    }
     let lines = Lines::new(rt.alloc(), descriptor, matches.get_flag("changes"))?;
-    let shown = if matches.get_flag("raw") {
+    let mut stream = Stream::new(rt.alloc(), lines, kind_named(settings.form, name), shown);
+    if name == "-" {
+        return follow(rt, rt.reader(), &mut stream);
+    }
+    follow_file(rt, name, &mut stream).context(format_args!("{name}"))
+}
+
+/// How the words say that reports are written.
+fn shown_as(settings: &Settings, is_raw: bool) -> Shown {
+    if is_raw {
         Shown::Raw
     } else if settings.is_json {
         Shown::Json
     } else {
         Shown::Line
-    };
-    if shown == Shown::Raw {
-        show(rt, "D: 0\n")?;
-        write(rt, &given.bytes, Target::Recording, Meaning::Descriptor)?;
-        show(rt, "N: unknown\nI: 3 0000 0000\n")?;
     }
-    let mut stream = Stream::new(rt.alloc(), lines, kind_named(settings.form, name), shown);
-    if name == "-" {
-        follow(rt, rt.reader(), &mut stream)
-    } else {
-        let file = fs::open(rt, name).context(format_args!("{name}"))?;
-        follow(rt, file, &mut stream).context(format_args!("{name}"))
-    }
+}
+
+/// Shows the lines of a recording that stand before its reports.
+fn begin_recording<R: AllocGlobal + Print>(rt: &R, given: &Given) -> Result<()> {
+    show(rt, "D: 0\n")?;
+    write(rt, &given.bytes, Target::Recording, Meaning::Descriptor)?;
+    show(rt, "N: unknown\nI: 3 0000 0000\n")?;
+    Ok(())
+}
+
+/// Shows what a file gives.
+fn follow_file<R: AllocGlobal + Clock + Files + Print + Eprint>(
+    rt: &R,
+    name: &str,
+    stream: &mut Stream,
+) -> Result<Ending> {
+    let file = fs::open(rt, name)?;
+    follow(rt, file, stream)
 }
 
 /// Shows what a reader gives, up to its end.

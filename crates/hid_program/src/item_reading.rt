@@ -22,20 +22,32 @@ pub fn bytes_of_words(
         Some((name, rest)) => (name, rest.strip_suffix(")")),
         None => (words, None),
     };
-    for (own, header, content) in ITEMS {
-        if own == name {
-            let data = match (content, told) {
-                (Content::None, None) => Some(Data { number: 0, size: 0 }),
-                (Content::None, Some(_)) | (_, None) => None,
-                (content, Some(told)) => data_of(content, told, page),
-            };
-            return match data {
-                Some(data) => Ok(Some(spelled(alloc, header, data)?)),
-                None => Ok(None),
-            };
+    let Some((header, content)) = item_named(name) else {
+        return Ok(None);
+    };
+    match data_told(content, told, page) {
+        Some(data) => Ok(Some(spelled(alloc, header, data)?)),
+        None => Ok(None),
+    }
+}
+
+/// The header without a size, and the content, of the item with this name.
+fn item_named(name: &str) -> Option<(u8, Content)> {
+    for (own, header, content) in &ITEMS {
+        if *own == name {
+            return Some((*header, *content));
         }
     }
-    Ok(None)
+    None
+}
+
+/// The data of an item, which stands in parentheses where it has some.
+fn data_told(content: Content, told: Option<&str>, page: UsagePage) -> Option<Data> {
+    match told {
+        Some(told) => data_of(content, told, page),
+        None if content == Content::None => Some(Data { number: 0, size: 0 }),
+        None => None,
+    }
 }
 
 /// An item's bytes: its header with its size, and its data, lowest byte first.

@@ -31,20 +31,7 @@ impl<'a> Lines<'a> {
     ) -> Result<Lines<'a>, AllocError> {
         let mut reports = Vec::new(alloc);
         for report in descriptor.input_reports() {
-            let mut names = Vec::new(alloc);
-            let mut id = String::new(alloc);
-            if let Some(number) = report.report_id() {
-                write!(id, "{number}: ")?;
-            }
-            for field in report.fields() {
-                names.push(name_of(alloc, field)?)?;
-            }
-            reports.push(Named {
-                report,
-                names,
-                id,
-                last: None,
-            })?;
+            reports.push(Named::new(alloc, report)?)?;
         }
         Ok(Lines {
             reports,
@@ -105,7 +92,34 @@ fn name_of(alloc: Global, field: &Field) -> Result<String, AllocError> {
     Ok(name)
 }
 
+/// What the fields of a report are called.
+fn names_of(alloc: Global, report: &RDescReport) -> Result<Vec<String>, AllocError> {
+    let mut names = Vec::new(alloc);
+    for field in report.fields() {
+        names.push(name_of(alloc, field)?)?;
+    }
+    Ok(names)
+}
+
+/// What stands before the values of a report.
+fn front_of(alloc: Global, report: &RDescReport) -> Result<String, AllocError> {
+    match report.report_id() {
+        Some(number) => format!(in alloc; "{number}: "),
+        None => Ok(String::new(alloc)),
+    }
+}
+
 impl<'a> Named<'a> {
+    /// A report of which no bytes have come.
+    fn new(alloc: Global, report: &'a RDescReport) -> Result<Named<'a>, AllocError> {
+        Ok(Named {
+            report,
+            names: names_of(alloc, report)?,
+            id: front_of(alloc, report)?,
+            last: None,
+        })
+    }
+
     /// Appends the line of a report.
     fn add(
         &mut self,
@@ -122,11 +136,12 @@ impl<'a> Named<'a> {
             self.last.as_deref(),
             bytes,
         )?;
-        if !only_changes || start < text.len() {
-            text.push_str("\n")?;
+        if !only_changes {
+            return text.push_str("\n");
         }
-        if only_changes {
-            self.last = Some(Vec::from_slice(*text.allocator(), bytes)?);
+        self.last = Some(Vec::from_slice(*text.allocator(), bytes)?);
+        if start < text.len() {
+            text.push_str("\n")?;
         }
         Ok(())
     }
@@ -150,14 +165,26 @@ fn add_fields(
         let is_first = text.len() == start;
         let gap = if is_first { id } else { " " };
         let is_next = !is_first && before == Some(name.as_str());
-        match field {
-            Field::Variable(field) => add_variable(text, field, name, bytes, gap, is_next)?,
-            Field::Array(field) => add_array(text, field, name, bytes, gap)?,
-            Field::Constant(_) => {}
-        }
+        add_field(text, field, name, bytes, gap, is_next)?;
         before = Some(name.as_str());
     }
     Ok(())
+}
+
+/// Appends the values of a field.
+fn add_field(
+    text: &mut String,
+    field: &Field,
+    name: &String,
+    bytes: &[u8],
+    gap: &str,
+    is_next: bool,
+) -> Result<(), AllocError> {
+    match field {
+        Field::Variable(field) => add_variable(text, field, name, bytes, gap, is_next),
+        Field::Array(field) => add_array(text, field, name, bytes, gap),
+        Field::Constant(_) => Ok(()),
+    }
 }
 
 /// Whether a field's bits are as they were.

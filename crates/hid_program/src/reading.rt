@@ -1,9 +1,9 @@
 //! Descriptors and reports that a command's words name.
-use crate::input::{Form, Given, bytes_named, descriptor_path, input_of};
 use crate::naming::add_bytes;
 use crate::settings::Settings;
 use anyhow::{Context, Result, ensure};
-use hidreport::{Mend, ReportDescriptor, repair};
+use hid_input::{Form, Given, bytes_named, descriptor_path, input_of};
+use hidreport::{Change, Mend, ReportDescriptor, repair};
 use std::mem;
 use std::rt::Files;
 
@@ -15,12 +15,8 @@ pub fn descriptor_named<R: AllocGlobal + Files + Input + Eprint>(
     name: &str,
 ) -> Result<Given> {
     let path = descriptor_path(rt.alloc(), name)?;
-    let bytes = bytes_named(rt, &path)?;
-    let mut given = input_of(rt.alloc(), bytes, settings.form)?;
-    if settings.form.is_none() && given.form != Form::Bytes {
-        let form = given.form.name();
-        eprintln!(rt; "hid: {name}: read as {form}")?;
-    }
+    let mut given = given_named(rt, settings, &path)?;
+    tell_form(rt, settings, name, given.form)?;
     ensure!(
         !is_descriptor(rt, settings, &given.characters),
         "is hex text, and its characters are a descriptor, too: say --form hex or --form bytes"
@@ -29,6 +25,25 @@ pub fn descriptor_named<R: AllocGlobal + Files + Input + Eprint>(
         mend(rt, settings, name, &mut given)?;
     }
     Ok(given)
+}
+
+/// Reads what a file has.
+fn given_named<R: AllocGlobal + Files + Input>(
+    rt: &R,
+    settings: &Settings,
+    path: &str,
+) -> Result<Given> {
+    let bytes = bytes_named(rt, path)?;
+    input_of(rt.alloc(), bytes, settings.form)
+}
+
+/// Says which form was guessed.
+fn tell_form<R: Eprint>(rt: &R, settings: &Settings, name: &str, form: Form) -> Result<()> {
+    if settings.form.is_some() || form == Form::Bytes {
+        return Ok(());
+    }
+    let form = form.name();
+    Ok(eprintln!(rt; "hid: {name}: read as {form}")?)
 }
 
 /// Whether characters could be meant as a descriptor themselves.
@@ -46,20 +61,24 @@ fn mend<R: AllocGlobal + Eprint>(
 ) -> Result<()> {
     let repaired = repair(rt.alloc(), &given.bytes, settings.repair())?;
     for change in repaired.changes.iter() {
-        let mut stood = String::new(rt.alloc());
-        add_bytes(&mut stood, &change.stood)?;
-        let mut stands = String::new(rt.alloc());
-        add_bytes(&mut stands, &change.stands)?;
-        let offset = change.offset;
-        let why = why(change.mend);
-        if change.stands.is_empty() {
-            eprintln!(rt; "hid: {name}: offset {offset}: {stood} is left out: {why}")?;
-        } else {
-            eprintln!(rt; "hid: {name}: offset {offset}: {stood} is read as {stands}: {why}")?;
-        }
+        tell_change(rt, name, change)?;
     }
     given.bytes = repaired.bytes;
     Ok(())
+}
+
+/// Says what was changed at one place.
+fn tell_change<R: AllocGlobal + Eprint>(rt: &R, name: &str, change: &Change) -> Result<()> {
+    let (offset, why) = (change.offset, why(change.mend));
+    let mut text = String::new(rt.alloc());
+    add_bytes(&mut text, &change.stood)?;
+    if change.stands.is_empty() {
+        text.push_str(" is left out")?;
+    } else {
+        text.push_str(" is read as ")?;
+        add_bytes(&mut text, &change.stands)?;
+    }
+    Ok(eprintln!(rt; "hid: {name}: offset {offset}: {text}: {why}")?)
 }
 
 /// Why something was mended.
@@ -81,8 +100,7 @@ pub fn reports_named<R: AllocGlobal + Files + Input>(
     settings: &Settings,
     name: &str,
 ) -> Result<Given> {
-    let bytes = bytes_named(rt, name)?;
-    let mut given = input_of(rt.alloc(), bytes, settings.form)?;
+    let mut given = given_named(rt, settings, name)?;
     if given.form == Form::Bytes {
         given
             .reports

@@ -1,11 +1,9 @@
 //! `hid record`: the reports of a stream, each in a line as it comes.
-use crate::hex_text::bytes_of_hex;
-use crate::input::Form;
 use crate::json::add_values_json;
 use crate::line::Lines;
 use crate::naming::add_bytes;
-use crate::recording::report_line;
 use anyhow::{Result, bail};
+use hid_input::{Form, bytes_of_hex, report_line};
 use hidreport::Direction;
 use std::alloc::{AllocError, Global};
 use std::fmt::Write;
@@ -72,18 +70,22 @@ impl<'a> Stream<'a> {
     /// The lines of the reports that are whole with a further piece, which came at this time.
     pub fn add(&mut self, alloc: Global, piece: &[u8], time: Duration) -> Result<String> {
         self.time = time;
-        let mut text = String::new(alloc);
         let kind = match self.kind {
             Some(kind) => kind,
             None => kind_of(alloc, piece)?,
         };
         self.kind = Some(kind);
-        match kind {
-            Kind::Node => self.show(&mut text, None, piece)?,
-            Kind::Bytes => self.add_reports(&mut text, piece)?,
-            Kind::Text => self.add_lines(&mut text, piece)?,
-        }
+        let mut text = String::new(alloc);
+        self.add_piece(&mut text, kind, piece)?;
         Ok(text)
+    }
+
+    fn add_piece(&mut self, text: &mut String, kind: Kind, piece: &[u8]) -> Result<()> {
+        match kind {
+            Kind::Node => self.show(text, None, piece),
+            Kind::Bytes => self.add_reports(text, piece),
+            Kind::Text => self.add_lines(text, piece),
+        }
     }
 
     /// The line of what is left at the end.

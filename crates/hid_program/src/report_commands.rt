@@ -3,7 +3,6 @@ use crate::convert::Meaning;
 use crate::direction::{direction_named, report_of, word_of};
 use crate::ending::Ending;
 use crate::fields::add_title;
-use crate::input::{Form, Given};
 use crate::json::add_values_json;
 use crate::reading::reports_named;
 use crate::running::{show, target_of, write};
@@ -12,6 +11,7 @@ use crate::settings::Settings;
 use crate::values::{add_down, add_values};
 use anyhow::{Context, Result, bail, ensure};
 use clap::ArgMatches;
+use hid_input::{Form, Given};
 use hidreport::{Direction, RDescReport, Report, ReportDescriptor, ReportId};
 use std::rt::Files;
 
@@ -21,24 +21,33 @@ pub fn set<R: AllocGlobal + Print + Eprint>(
     descriptor: &ReportDescriptor,
     matches: &ArgMatches,
 ) -> Result<Ending> {
-    let direction = direction_of(matches);
-    let id = match matches.get_str("ID") {
-        None | Some("-") => None,
-        Some(id) => match id.parse::<u8>() {
-            Ok(id) => Some(ReportId::from(id)),
-            Err(_wrong) => bail!("{id} is no report id"),
-        },
-    };
-    let Some(report) = descriptor.report(direction, id) else {
+    let Some(report) = descriptor.report(direction_of(matches), id_of(matches)?) else {
         bail!("there is no such report");
     };
     let none: &[&str] = &[];
     let words = matches.get_strs("NAME=NUMBER").unwrap_or(none);
     let written = filled(rt.alloc(), report, words)?;
-    for note in written.notes.as_str().lines() {
+    tell_notes(rt, written.notes.as_str())?;
+    write(rt, &written.bytes, target_of(matches), Meaning::Report)
+}
+
+/// Says each line of a text on standard error.
+fn tell_notes<R: Eprint>(rt: &R, notes: &str) -> Result<()> {
+    for note in notes.lines() {
         eprintln!(rt; "hid: {note}")?;
     }
-    write(rt, &written.bytes, target_of(matches), Meaning::Report)
+    Ok(())
+}
+
+/// The report's id that the words say; none where reports have none.
+fn id_of(matches: &ArgMatches) -> Result<Option<ReportId>> {
+    match matches.get_str("ID") {
+        None | Some("-") => Ok(None),
+        Some(id) => match id.parse::<u8>() {
+            Ok(id) => Ok(Some(ReportId::from(id))),
+            Err(_wrong) => bail!("{id} is no report id"),
+        },
+    }
 }
 
 /// The direction that the words say.
@@ -64,10 +73,7 @@ pub fn values<R: AllocGlobal + Files + Input + Print + Eprint>(
             given.form != Form::Hex && !given.reports.is_empty(),
             "no report is named"
         );
-        for report in given.reports.iter() {
-            show_report(rt, settings, descriptor, report, matches)?;
-        }
-        return Ok(Ending::Done);
+        return show_reports(rt, settings, descriptor, given, matches);
     }
     for name in names {
         let given = reports_named(rt, settings, name).context(format_args!("{name}"))?;
@@ -75,9 +81,21 @@ pub fn values<R: AllocGlobal + Files + Input + Print + Eprint>(
             !is_report(descriptor, direction_of(matches), &given.characters),
             "{name}: is hex text, and its characters are a report, too: say --form hex or bytes"
         );
-        for report in given.reports.iter() {
-            show_report(rt, settings, descriptor, report, matches).context(format_args!("{name}"))?;
-        }
+        show_reports(rt, settings, descriptor, &given, matches).context(format_args!("{name}"))?;
+    }
+    Ok(Ending::Done)
+}
+
+/// Shows the values of the reports that were read.
+fn show_reports<R: AllocGlobal + Print + Eprint>(
+    rt: &R,
+    settings: &Settings,
+    descriptor: &ReportDescriptor,
+    given: &Given,
+    matches: &ArgMatches,
+) -> Result<Ending> {
+    for report in given.reports.iter() {
+        show_report(rt, settings, descriptor, report, matches)?;
     }
     Ok(Ending::Done)
 }
@@ -107,17 +125,37 @@ fn show_report<R: AllocGlobal + Print + Eprint>(
     };
     tell_size(rt, report, bytes)?;
     let mut text = String::new(rt.alloc());
-    if matches.get_flag("down") {
-        add_down(&mut text, report, bytes)?;
-    } else if settings.is_json {
-        add_values_json(&mut text, direction, report, bytes)?;
-    } else {
-        add_title(&mut text, direction, report)?;
-        text.push_str("\n")?;
-        add_values(&mut text, report, bytes)?;
-    }
+    let is_down = matches.get_flag("down");
+    add_report(
+        &mut text,
+        settings.is_json,
+        is_down,
+        direction,
+        report,
+        bytes,
+    )?;
     show(rt, text.as_str())?;
     Ok(())
+}
+
+/// Appends the values of a report, or only what is down.
+fn add_report(
+    text: &mut String,
+    is_json: bool,
+    is_down: bool,
+    direction: Direction,
+    report: &RDescReport,
+    bytes: &[u8],
+) -> Result<()> {
+    if is_down {
+        return Ok(add_down(text, report, bytes)?);
+    }
+    if is_json {
+        return Ok(add_values_json(text, direction, report, bytes)?);
+    }
+    add_title(text, direction, report)?;
+    text.push_str("\n")?;
+    Ok(add_values(text, report, bytes)?)
 }
 
 /// Says on standard error where a report has more bytes or fewer than it should.

@@ -1,14 +1,13 @@
 //! `hid`: its commands, and what they write.
-use crate::check::findings;
+use crate::check::{Finding, add_finding, findings};
 use crate::command_line::command_line;
 use crate::compile::compile_text;
 use crate::convert::{Meaning, Target, converted};
 use crate::decode::decoded;
-use crate::diff::{differences, differing};
+use crate::diff::{Difference, differences, differing};
 use crate::ending::Ending;
 use crate::fields::listed;
 use crate::following::record;
-use crate::input::{Given, bytes_named};
 use crate::json::{add_remark, differing_json, listed_json};
 use crate::map::drawn;
 use crate::reading::descriptor_named;
@@ -17,10 +16,11 @@ use crate::settings::Settings;
 use crate::svg::drawn_as_svg;
 use anyhow::{Context, Result, bail};
 use clap::ArgMatches;
+use hid_input::{Given, bytes_named};
 use hidreport::{ParserError, ReportDescriptor};
-use std::fmt::Write;
+use std::alloc::Global;
 use std::io;
-use std::io::Write as IoWrite;
+use std::io::Write;
 use std::rt::{Clock, Files};
 
 /// Does what words ask for, the program's name first; says on standard error why it can't.
@@ -83,25 +83,50 @@ fn carried_out<R: AllocGlobal + Clock + Files + Input + Print + Eprint>(
         "decode" => decode(rt, settings, &given),
         "convert" => convert(rt, &given, matches),
         "check" => check(rt, settings, &given),
-        _ => {
-            let parsed = ReportDescriptor::try_from_with(rt.alloc(), &given.bytes, settings.parse)?;
-            match name {
-                "fields" if settings.is_json => {
-                    show(rt, listed_json(rt.alloc(), &parsed)?.as_str())
-                }
-                "fields" => show(rt, listed(rt.alloc(), &parsed)?.as_str()),
-                "values" => values(rt, settings, &parsed, &given, matches),
-                "set" => set(rt, &parsed, matches),
-                "map" if matches.get_flag("svg") => {
-                    show(rt, drawn_as_svg(rt.alloc(), &parsed)?.as_str())
-                }
-                "map" => show(rt, drawn(rt.alloc(), &parsed)?.as_str()),
-                "diff" => diff(rt, settings, &parsed, matches),
-                "record" => record(rt, settings, &parsed, &given, matches),
-                _ => bail!("{name} is no command"),
-            }
-        }
+        _ => parsed_first(rt, settings, name, &given, matches),
     }
+}
+
+/// Does what a command asks for that takes a descriptor's reports.
+fn parsed_first<R: AllocGlobal + Clock + Files + Input + Print + Eprint>(
+    rt: &R,
+    settings: &Settings,
+    name: &str,
+    given: &Given,
+    matches: &ArgMatches,
+) -> Result<Ending> {
+    let parsed = ReportDescriptor::try_from_with(rt.alloc(), &given.bytes, settings.parse)?;
+    match name {
+        "fields" => fields(rt, settings, &parsed),
+        "values" => values(rt, settings, &parsed, given, matches),
+        "set" => set(rt, &parsed, matches),
+        "map" => map(rt, &parsed, matches),
+        "diff" => diff(rt, settings, &parsed, matches),
+        "record" => record(rt, settings, &parsed, given, matches),
+        _ => bail!("{name} is no command"),
+    }
+}
+
+fn fields<R: AllocGlobal + Print>(
+    rt: &R,
+    settings: &Settings,
+    descriptor: &ReportDescriptor,
+) -> Result<Ending> {
+    if settings.is_json {
+        return show(rt, listed_json(rt.alloc(), descriptor)?.as_str());
+    }
+    show(rt, listed(rt.alloc(), descriptor)?.as_str())
+}
+
+fn map<R: AllocGlobal + Print>(
+    rt: &R,
+    descriptor: &ReportDescriptor,
+    matches: &ArgMatches,
+) -> Result<Ending> {
+    if matches.get_flag("svg") {
+        return show(rt, drawn_as_svg(rt.alloc(), descriptor)?.as_str());
+    }
+    show(rt, drawn(rt.alloc(), descriptor)?.as_str())
 }
 
 /// Writes a text.
@@ -161,10 +186,16 @@ fn compile<R: AllocGlobal + Clock + Files + Input + Print + Eprint>(
         bail!("isn't text");
     };
     let compiled = compile_text(rt.alloc(), text)?;
-    for note in compiled.notes.as_str().lines() {
+    tell_notes(rt, name, compiled.notes.as_str())?;
+    write(rt, &compiled.bytes, target_of(matches), Meaning::Descriptor)
+}
+
+/// Says each line of a text on standard error, behind a name.
+fn tell_notes<R: Eprint>(rt: &R, name: &str, notes: &str) -> Result<()> {
+    for note in notes.lines() {
         eprintln!(rt; "hid: {name}: {note}")?;
     }
-    write(rt, &compiled.bytes, target_of(matches), Meaning::Descriptor)
+    Ok(())
 }
 
 /// Shows what is odd in a descriptor; something odd is refused.
@@ -174,24 +205,30 @@ fn check<R: AllocGlobal + Print>(rt: &R, settings: &Settings, given: &Given) -> 
         bail!("out of memory");
     }
     let findings = findings(rt.alloc(), &given.bytes, &parsed)?;
-    let mut text = String::new(rt.alloc());
-    for finding in findings.iter() {
-        let remark = &finding.remark;
-        if settings.is_json {
-            add_remark(&mut text, "odd", finding.offset, remark)?;
+    show(rt, told(rt.alloc(), &findings, settings.is_json)?.as_str())?;
+    Ok(refused_unless(findings.is_empty()))
+}
+
+/// What is odd, in words or as JSON.
+fn told(alloc: Global, findings: &[Finding], is_json: bool) -> Result<String> {
+    let mut text = String::new(alloc);
+    for finding in findings {
+        if is_json {
+            add_remark(&mut text, "odd", finding.offset, &finding.remark)?;
         } else {
-            match finding.offset {
-                Some(offset) => writeln!(text, "{offset:>5}: {remark}")?,
-                None => writeln!(text, "       {remark}")?,
-            }
+            add_finding(&mut text, finding)?;
         }
     }
-    show(rt, text.as_str())?;
-    Ok(if text.is_empty() {
+    Ok(text)
+}
+
+/// A command that looks for something ends well where there is nothing.
+fn refused_unless(is_nothing: bool) -> Ending {
+    if is_nothing {
         Ending::Done
     } else {
         Ending::Refused
-    })
+    }
 }
 
 /// Shows the fields in which another descriptor differs; a difference is refused.
@@ -207,14 +244,17 @@ fn diff<R: AllocGlobal + Clock + Files + Input + Print + Eprint>(
         format_args!("{name}"),
     )?;
     let found = differences(rt.alloc(), first, &second)?;
+    show_differing(rt, settings, &found)?;
+    Ok(refused_unless(found.is_empty()))
+}
+
+fn show_differing<R: AllocGlobal + Print>(
+    rt: &R,
+    settings: &Settings,
+    found: &[Difference],
+) -> Result<Ending> {
     if settings.is_json {
-        show(rt, differing_json(rt.alloc(), &found)?.as_str())?;
-    } else {
-        show(rt, differing(rt.alloc(), &found)?.as_str())?;
+        return show(rt, differing_json(rt.alloc(), found)?.as_str());
     }
-    Ok(if found.is_empty() {
-        Ending::Done
-    } else {
-        Ending::Refused
-    })
+    show(rt, differing(rt.alloc(), found)?.as_str())
 }

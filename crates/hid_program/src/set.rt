@@ -17,16 +17,30 @@ pub struct Written {
 /// A report in which each of these names has its number, and all else is 0. A usage that stands for
 /// a value of an array is put into the next element where its number isn't 0.
 pub fn filled(alloc: Global, report: &RDescReport, words: &[&str]) -> Result<Written> {
-    let mut bytes = report.blank(alloc)?;
-    let mut notes = String::new(alloc);
     let mut used = vec![in alloc; 0usize; report.fields().len()]?;
+    let mut written = Written {
+        bytes: report.blank(alloc)?,
+        notes: String::new(alloc),
+    };
+    fill(alloc, report, &mut written, &mut used, words)?;
+    Ok(written)
+}
+
+/// Writes the number of each name.
+fn fill(
+    alloc: Global,
+    report: &RDescReport,
+    written: &mut Written,
+    used: &mut [usize],
+    words: &[&str],
+) -> Result<()> {
     for word in words {
-        let field = put(alloc, report, &mut bytes, &mut used, word).context(format_args!(
+        let field = put(alloc, report, &mut written.bytes, used, word).context(format_args!(
             "{word}"
         ))?;
-        add_note(&mut notes, field, word)?;
+        add_note(&mut written.notes, field, word)?;
     }
-    Ok(Written { bytes, notes })
+    Ok(())
 }
 
 /// Writes the number of one name, and answers its field.

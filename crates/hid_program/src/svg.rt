@@ -3,7 +3,7 @@ use crate::direction::DIRECTIONS;
 use crate::fields::add_title;
 use crate::map::{bytes_of, shortened};
 use crate::rows::{Row, rows_of};
-use hidreport::ReportDescriptor;
+use hidreport::{Direction, RDescReport, ReportDescriptor};
 use std::alloc::{AllocError, Global};
 use std::fmt::Write;
 
@@ -20,20 +20,8 @@ pub fn drawn_as_svg(alloc: Global, descriptor: &ReportDescriptor) -> Result<Stri
     let mut top = 0usize;
     for direction in DIRECTIONS {
         for report in descriptor.reports(direction) {
-            let mut title = String::new(alloc);
-            add_title(&mut title, direction, report)?;
-            add_text(&mut body, 4, top, "start", &title)?;
-            for bit in 0..8usize {
-                let middle = LEFT + BIT / 2 + BIT * bit;
-                let number = format!(in alloc; "{}", 7 - bit)?;
-                add_text(&mut body, middle, top, "middle", &number)?;
-            }
-            top = top.saturating_add(ROW);
-            for row in rows_of(alloc, report)?.iter() {
-                add_row(&mut body, row, top)?;
-                top = top.saturating_add(ROW);
-            }
-            top = top.saturating_add(ROW / 2);
+            add_head(&mut body, direction, report, top)?;
+            top = add_rows(&mut body, report, top.saturating_add(ROW))?;
         }
     }
     let width = LEFT + BIT * 8 + 4;
@@ -41,6 +29,39 @@ pub fn drawn_as_svg(alloc: Global, descriptor: &ReportDescriptor) -> Result<Stri
         "<svg xmlns=\"http://www.w3.org/2000/svg\" width=\"{width}\" height=\"{top}\" \
         font-family=\"sans-serif\" font-size=\"12\">\n{body}</svg>\n"
     )
+}
+
+/// Appends what a report is called, and the numbers of the bits.
+fn add_head(
+    body: &mut String,
+    direction: Direction,
+    report: &RDescReport,
+    top: usize,
+) -> Result<(), AllocError> {
+    let mut title = String::new(*body.allocator());
+    add_title(&mut title, direction, report)?;
+    add_text(body, 4, top, "start", &title)?;
+    for bit in 0..8usize {
+        add_number(body, bit, top)?;
+    }
+    Ok(())
+}
+
+/// Appends the number of the bit at a place from the left.
+fn add_number(body: &mut String, place: usize, top: usize) -> Result<(), AllocError> {
+    let middle = LEFT + BIT / 2 + BIT * place;
+    let number = format!(in *body.allocator(); "{}", 7 - place)?;
+    add_text(body, middle, top, "middle", &number)
+}
+
+/// Appends the rows of a report, and answers where the next report begins.
+fn add_rows(body: &mut String, report: &RDescReport, top: usize) -> Result<usize, AllocError> {
+    let mut top = top;
+    for row in rows_of(*body.allocator(), report)?.iter() {
+        add_row(body, row, top)?;
+        top = top.saturating_add(ROW);
+    }
+    Ok(top.saturating_add(ROW / 2))
 }
 
 /// Appends a row of cells, its bytes before it.

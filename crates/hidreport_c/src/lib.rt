@@ -15,8 +15,6 @@ mod part;
 mod repair;
 mod report;
 mod status;
-#[cfg(test)]
-mod tests;
 mod usages;
 mod value;
 mod version;

@@ -72,16 +72,20 @@ fn changes_its_own(
     let mut owners = 0usize;
     for field in fields {
         owners = owners.saturating_add(has_bit(field.bits(), bit) as usize);
-        let is_right = match field {
-            Field::Variable(field) => has_changed_rightly(field, before, after, bit),
-            Field::Array(field) => have_changed_rightly(field, before, after, bit)?,
-            Field::Constant(_) => true,
-        };
-        if !is_right {
+        if !is_right(field, before, after, bit)? {
             return Ok(false);
         }
     }
     Ok(owners == 1)
+}
+
+/// Whether of a field's values just the one changes that the bit is part of.
+fn is_right(field: &Field, before: &[u8], after: &[u8], bit: usize) -> Result<bool, AllocError> {
+    match field {
+        Field::Variable(field) => Ok(has_changed_rightly(field, before, after, bit)),
+        Field::Array(field) => have_changed_rightly(field, before, after, bit),
+        Field::Constant(_) => Ok(true),
+    }
 }
 
 fn has_bit(bits: &Range<usize>, bit: usize) -> bool {
@@ -115,15 +119,27 @@ fn have_changed_rightly(
     let (Some(old), Some(new)) = (elements_of(field, before)?, elements_of(field, after)?) else {
         return Ok(width > 32);
     };
-    let mut first = field.bits.start;
-    for (old, new) in old.iter().zip(&new) {
+    let is_whole = old.len() == count && new.len() == count;
+    Ok(is_whole && differ_at(&old, &new, field.bits.start, width, bit))
+}
+
+/// Whether of values side by side just the one differs that has the bit.
+fn differ_at(
+    old: &[FieldValue],
+    new: &[FieldValue],
+    start: usize,
+    width: usize,
+    bit: usize,
+) -> bool {
+    let mut first = start;
+    for (old, new) in old.iter().zip(new) {
         let end = first.saturating_add(width);
         if (i64::from(old) != i64::from(new)) != has_bit(&(first..end), bit) {
-            return Ok(false);
+            return false;
         }
         first = end;
     }
-    Ok(old.len() == count && new.len() == count)
+    true
 }
 
 /// The values of all elements, where they can be read.

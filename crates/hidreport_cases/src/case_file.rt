@@ -31,18 +31,28 @@ pub fn ask_file(
     for case in &cases_of(alloc, text)? {
         tally.count(kind_of(case.question).0);
         let got = answer_to(alloc, tally, &mut asked, case.question)?;
-        if got.as_str() != case.wanted.as_str() || got.starts_with(MALFORMED) {
-            tally.count_differing();
-            let line = case.line;
-            let question = case.question;
-            let wanted = case.wanted.as_str();
-            write!(
-                differing,
-                "{name}:{line}: {question}\nwanted:\n{wanted}got:\n{got}\n"
-            )?;
-        }
+        add_differing(&mut differing, tally, name, case, got.as_str())?;
     }
     Ok(differing)
+}
+
+/// Counts and appends a question that was answered otherwise.
+fn add_differing(
+    differing: &mut String,
+    tally: &mut Tally,
+    name: &str,
+    case: &Case,
+    got: &str,
+) -> Result<(), AllocError> {
+    if got == case.wanted.as_str() && !got.starts_with(MALFORMED) {
+        return Ok(());
+    }
+    tally.count_differing();
+    let (line, question, wanted) = (case.line, case.question, case.wanted.as_str());
+    writeln!(
+        differing,
+        "{name}:{line}: {question}\nwanted:\n{wanted}got:\n{got}"
+    )
 }
 
 /// The questions of a text, in order. What stands before the first one is a question that can't be

@@ -28,10 +28,21 @@ pub fn add_changed(
     let (words, bytes) = parts_of(words)?;
     let (number, words) = number_and_words(words)?;
     let parts = parts_in(words)?;
+    let field = asked.field(number)?;
     let bytes = bytes_of(alloc, bytes)?;
-    match asked.field(number)? {
-        Field::Variable(field) => add_value(text, &with_bits(field, parts)?, &bytes)?,
-        Field::Array(field) => add_some(text, &with_elements(field, parts)?, &bytes)?,
+    add_reading(text, field, parts, &bytes)
+}
+
+/// Appends what a field reads once its parts are these.
+fn add_reading(
+    text: &mut String,
+    field: &Field,
+    parts: Parts,
+    bytes: &[u8],
+) -> Result<(), Malformed> {
+    match field {
+        Field::Variable(field) => add_value(text, &with_bits(field, parts)?, bytes)?,
+        Field::Array(field) => add_some(text, &with_elements(field, parts)?, bytes)?,
         Field::Constant(_) => return Err(Malformed::Field),
     }
     text.push_str("\n")?;
@@ -97,15 +108,20 @@ pub fn add_low_bits(
     words: &str,
 ) -> Result<(), Malformed> {
     let (number, bytes) = parts_of(words)?;
-    let bytes = bytes_of(alloc, bytes)?;
     let Ok(number) = u32::try_from(number_of(number)?) else {
         return Err(Malformed::Number);
     };
-    match asked.field(number)? {
-        Field::Variable(field) => add_low_bits_of(text, field.extract(&bytes)),
+    let field = asked.field(number)?;
+    let bytes = bytes_of(alloc, bytes)?;
+    add_low_bits_of_field(text, field, &bytes)
+}
+
+fn add_low_bits_of_field(text: &mut String, field: &Field, bytes: &[u8]) -> Result<(), Malformed> {
+    match field {
+        Field::Variable(field) => add_low_bits_of(text, field.extract(bytes)),
         Field::Array(field) => {
             for index in 0..usize::from(field.report_count) {
-                add_low_bits_of(text, field.extract_one(&bytes, index))?;
+                add_low_bits_of(text, field.extract_one(bytes, index))?;
             }
             Ok(())
         }

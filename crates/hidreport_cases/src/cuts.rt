@@ -71,24 +71,38 @@ fn rest_of<'a>(front: &Front, cut: &'a [u8]) -> &'a [u8] {
 
 /// Whether a cut, longer by a byte than the one before, may be refused so.
 fn is_allowed(alloc: Global, front: &Front, cut: &[u8], refusal: &str) -> Result<bool, AllocError> {
-    let item = rest_of(front, cut);
-    let place = front.end;
     if front.is_broken {
         return Ok(refusal == front.refusal.as_str());
     }
+    let item = rest_of(front, cut);
     if item.len() != size_of_item(item) {
-        let expected = format!(in alloc; "refused at {place}: Insufficient data\n")?;
-        return Ok(refusal == expected.as_str());
+        return is_cut_short_at(alloc, front.end, refusal);
     }
-    let at_item = format!(in alloc; "refused at {place}: ")?;
-    let is_for_item = refusal.starts_with(at_item.as_str());
-    Ok(if AnyItem::try_from(alloc, item).is_err() {
-        is_for_item
-    } else if front.refusal.is_empty() {
-        refusal.is_empty() || is_for_item || refusal == "refused: out of bounds\n"
-    } else {
-        refusal == front.refusal.as_str()
-    })
+    if !is_item(alloc, item) {
+        return is_at(alloc, front.end, refusal);
+    }
+    if front.refusal.is_empty() {
+        let is_of_no_item = refusal.is_empty() || refusal == "refused: out of bounds\n";
+        return Ok(is_of_no_item || is_at(alloc, front.end, refusal)?);
+    }
+    Ok(refusal == front.refusal.as_str())
+}
+
+/// Whether a refusal says that the item at this place has too little data.
+fn is_cut_short_at(alloc: Global, place: usize, refusal: &str) -> Result<bool, AllocError> {
+    let expected = format!(in alloc; "refused at {place}: Insufficient data\n")?;
+    Ok(refusal == expected.as_str())
+}
+
+/// Whether a refusal is that of the item at this place.
+fn is_at(alloc: Global, place: usize, refusal: &str) -> Result<bool, AllocError> {
+    let front = format!(in alloc; "refused at {place}: ")?;
+    Ok(refusal.starts_with(front.as_str()))
+}
+
+/// Whether the bytes begin with an item of the standard.
+fn is_item(alloc: Global, bytes: &[u8]) -> bool {
+    AnyItem::try_from(alloc, bytes).is_ok()
 }
 
 /// The whole items of a cut, which is longer by a byte than the one before.
@@ -99,7 +113,7 @@ fn front_behind(alloc: Global, front: Front, cut: &[u8], refusal: String) -> Fro
     }
     Front {
         end: cut.len(),
-        is_broken: AnyItem::try_from(alloc, item).is_err(),
+        is_broken: !is_item(alloc, item),
         refusal,
     }
 }

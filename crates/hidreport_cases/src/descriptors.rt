@@ -136,17 +136,19 @@ pub fn add_refusal(text: &mut String, error: &ParserError) -> Result<(), AllocEr
 pub fn add_many(alloc: Global, text: &mut String, way: Way, words: &str) -> Result<(), Malformed> {
     let bytes = bytes_of(alloc, words)?;
     match read(alloc, way, &bytes) {
-        Ok(descriptor) => {
-            if has_no_reports(&descriptor) {
-                text.push_str("no reports\n")?;
-            }
-            add_count(text, "input", descriptor.input_reports())?;
-            add_count(text, "output", descriptor.output_reports())?;
-            add_count(text, "feature", descriptor.feature_reports())?;
-        }
+        Ok(descriptor) => add_counts(text, &descriptor)?,
         Err(error) => add_refusal(text, &error)?,
     }
     Ok(())
+}
+
+fn add_counts(text: &mut String, descriptor: &ReportDescriptor) -> Result<(), AllocError> {
+    if has_no_reports(descriptor) {
+        return text.push_str("no reports\n");
+    }
+    add_count(text, "input", descriptor.input_reports())?;
+    add_count(text, "output", descriptor.output_reports())?;
+    add_count(text, "feature", descriptor.feature_reports())
 }
 
 fn add_count(

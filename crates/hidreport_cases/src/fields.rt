@@ -34,8 +34,11 @@ fn add_variable(text: &mut String, field: &VariableField) -> Result<(), AllocErr
     write!(text, "variable {first}..{end} {usage:08x}")?;
     add_sign(text, field.is_signed())?;
     add_logical(text, field.logical_minimum, field.logical_maximum)?;
-    add_physical(text, field.physical_minimum, field.physical_maximum)?;
-    add_unit(text, field.unit, field.unit_exponent)?;
+    add_measures(
+        text,
+        (field.physical_minimum, field.physical_maximum),
+        (field.unit, field.unit_exponent),
+    )?;
     add_attributes(text, field)
 }
 
@@ -44,13 +47,14 @@ fn add_array(text: &mut String, field: &ArrayField) -> Result<(), AllocError> {
     let end = field.bits.end;
     let count = field.report_count;
     write!(text, "array {first}..{end} count {count} (")?;
-    add_usages(text, field.usages())?;
-    text.push_str(")")?;
     add_range(text, field)?;
     add_sign(text, field.is_signed())?;
     add_logical(text, field.logical_minimum, field.logical_maximum)?;
-    add_physical(text, field.physical_minimum, field.physical_maximum)?;
-    add_unit(text, field.unit, field.unit_exponent)?;
+    add_measures(
+        text,
+        (field.physical_minimum, field.physical_maximum),
+        (field.unit, field.unit_exponent),
+    )?;
     add_attributes(text, field)
 }
 
@@ -63,6 +67,8 @@ fn add_constant(text: &mut String, field: &ConstantField) -> Result<(), AllocErr
 }
 
 fn add_range(text: &mut String, field: &ArrayField) -> Result<(), AllocError> {
+    add_usages(text, field.usages())?;
+    text.push_str(")")?;
     if field.is_usage_range() {
         text.push_str(" range")?;
     }
@@ -86,6 +92,15 @@ fn add_logical(
     maximum: LogicalMaximum,
 ) -> Result<(), AllocError> {
     write!(text, " {minimum}..{maximum}")
+}
+
+fn add_measures(
+    text: &mut String,
+    physical: (Option<PhysicalMinimum>, Option<PhysicalMaximum>),
+    unit: (Option<Unit>, Option<UnitExponent>),
+) -> Result<(), AllocError> {
+    add_physical(text, physical.0, physical.1)?;
+    add_unit(text, unit.0, unit.1)
 }
 
 fn add_physical(

@@ -20,29 +20,53 @@ pub fn add_inserted(
     let (numbers, bytes) = parts_of(behind)?;
     let (number, words) = number_and_words(words)?;
     let parts = parts_in(words)?;
+    let field = asked.field(number)?;
     let numbers = numbers_of(alloc, numbers)?;
-    let before = bytes_of(alloc, bytes)?;
-    let mut bytes = Vec::from_slice(alloc, &before)?;
-    match asked.field(number)? {
+    let bytes = bytes_of(alloc, bytes)?;
+    match field {
         Field::Variable(field) => {
-            let field = with_bits(field, parts)?;
-            let value = numbers.first().copied().ok_or(Malformed::Number)?;
-            let answer = field.insert(&mut bytes, value);
-            add_outcome(text, answer, &before, &bytes)?;
-            add_reading(text, answer, &field, &bytes, value)?;
+            add_with_value(alloc, text, &with_bits(field, parts)?, &bytes, &numbers)
         }
         Field::Array(field) => {
-            let field = with_elements(field, parts)?;
-            let answer = field.insert(&mut bytes, &numbers);
-            add_outcome(text, answer, &before, &bytes)?;
-            for (index, value) in numbers.iter().enumerate() {
-                add_element_reading(text, answer, &field, &bytes, (index, *value))?;
-            }
+            add_with_values(alloc, text, &with_elements(field, parts)?, &bytes, &numbers)?;
+            Ok(())
         }
-        Field::Constant(_) => return Err(Malformed::Field),
+        Field::Constant(_) => Err(Malformed::Field),
     }
+}
+
+/// Appends a report's bytes once a variable field has the number.
+fn add_with_value(
+    alloc: Global,
+    text: &mut String,
+    field: &VariableField,
+    before: &[u8],
+    numbers: &[i64],
+) -> Result<(), Malformed> {
+    let Some(value) = numbers.first() else {
+        return Err(Malformed::Number);
+    };
+    let mut bytes = Vec::from_slice(alloc, before)?;
+    let answer = field.insert(&mut bytes, *value);
+    add_outcome(text, answer, before, &bytes)?;
+    add_reading(text, answer, field, &bytes, *value)?;
     text.push_str("\n")?;
     Ok(())
+}
+
+/// The same of an array that has all the numbers.
+fn add_with_values(
+    alloc: Global,
+    text: &mut String,
+    field: &ArrayField,
+    before: &[u8],
+    numbers: &[i64],
+) -> Result<(), AllocError> {
+    let mut bytes = Vec::from_slice(alloc, before)?;
+    let answer = field.insert(&mut bytes, numbers);
+    add_outcome(text, answer, before, &bytes)?;
+    add_readings(text, answer, field, &bytes, numbers)?;
+    text.push_str("\n")
 }
 
 /// Answers `insert-one FIELD FIRST..END COUNT MINIMUM / INDEX NUMBER / BYTES`: the bytes once this
@@ -58,18 +82,28 @@ pub fn add_inserted_one(
     let (number, words) = number_and_words(words)?;
     let parts = parts_in(words)?;
     let (index, value) = first_of(element)?;
-    let (index, value) = (number_of(index)?, wide_of(value)?);
-    let before = bytes_of(alloc, bytes)?;
-    let mut bytes = Vec::from_slice(alloc, &before)?;
+    let place = (number_of(index)?, wide_of(value)?);
     let Field::Array(field) = asked.field(number)? else {
         return Err(Malformed::Field);
     };
-    let field = with_elements(field, parts)?;
-    let answer = field.insert_one(&mut bytes, index, value);
-    add_outcome(text, answer, &before, &bytes)?;
-    add_element_reading(text, answer, &field, &bytes, (index, value))?;
-    text.push_str("\n")?;
+    let bytes = bytes_of(alloc, bytes)?;
+    add_with_element(alloc, text, &with_elements(field, parts)?, &bytes, place)?;
     Ok(())
+}
+
+/// Appends a report's bytes once an element of an array has the number.
+fn add_with_element(
+    alloc: Global,
+    text: &mut String,
+    field: &ArrayField,
+    before: &[u8],
+    (index, value): (usize, i64),
+) -> Result<(), AllocError> {
+    let mut bytes = Vec::from_slice(alloc, before)?;
+    let answer = field.insert_one(&mut bytes, index, value);
+    add_outcome(text, answer, before, &bytes)?;
+    add_element_reading(text, answer, field, &bytes, (index, value))?;
+    text.push_str("\n")
 }
 
 /// Appends the new bytes, or the refusal, and the bytes where they have changed nevertheless.
@@ -125,6 +159,20 @@ fn add_element_reading(
 ) -> Result<(), AllocError> {
     if answer.is_ok() && field.extract_one(bytes, index).ok().map(i64::from) != Some(value) {
         text.push_str(" and reads otherwise")?;
+    }
+    Ok(())
+}
+
+/// The same of all elements.
+fn add_readings(
+    text: &mut String,
+    answer: Result<(), InsertError>,
+    field: &ArrayField,
+    bytes: &[u8],
+    numbers: &[i64],
+) -> Result<(), AllocError> {
+    for (index, value) in numbers.iter().enumerate() {
+        add_element_reading(text, answer, field, bytes, (index, *value))?;
     }
     Ok(())
 }

@@ -1,7 +1,7 @@
 //! The parts of short and long items.
 use crate::items::{add_item_refusal, add_name};
 use crate::kinds::{add_bytes, add_flag};
-use hidreport::hid::{AnyItem, Item, ItemData, LongItem, ShortItem};
+use hidreport::hid::{AnyItem, HidError, Item, ItemData, LongItem, ShortItem};
 use std::alloc::{AllocError, Global};
 use std::fmt::Write;
 
@@ -29,15 +29,20 @@ fn add_data(alloc: Global, text: &mut String, bytes: &ItemData<'_>) -> Result<()
     text.push_str(" data ")?;
     add_bytes(text, bytes.as_slice())?;
     text.push_str(" ")?;
-    match bytes.to_u32(alloc) {
-        Ok(number) => write!(text, "{number}")?,
-        Err(error) => add_item_refusal(text, &error)?,
-    }
+    add_number(text, bytes.to_u32(alloc))?;
     text.push_str(" ")?;
-    match bytes.to_u8(alloc) {
-        Ok(number) => write!(text, "{number}")?,
-        Err(error) => add_item_refusal(text, &error)?,
+    add_number(text, bytes.to_u8(alloc).map(u32::from))?;
+    add_copy(alloc, text, bytes)
+}
+
+fn add_number(text: &mut String, answer: Result<u32, HidError>) -> Result<(), AllocError> {
+    match answer {
+        Ok(number) => write!(text, "{number}"),
+        Err(error) => add_item_refusal(text, &error),
     }
+}
+
+fn add_copy(alloc: Global, text: &mut String, bytes: &ItemData<'_>) -> Result<(), AllocError> {
     match bytes.to_vec(alloc) {
         Ok(copy) if copy.as_slice() == bytes.as_slice() => Ok(()),
         Ok(_other) => text.push_str(" other bytes"),

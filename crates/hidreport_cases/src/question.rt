@@ -20,7 +20,7 @@ use crate::tally::Tally;
 use crate::units::{add_exponent, add_unit, add_units, add_usage};
 use crate::usages::{add_chosen, add_usages_of};
 use crate::words::{bytes_of, first_of, number_of};
-use std::alloc::Global;
+use std::alloc::{AllocError, Global};
 
 /// A question's first word, and what stands behind it.
 pub fn kind_of(question: &str) -> (&str, &str) {
@@ -108,16 +108,24 @@ fn add_answer_of_bytes(
 ) -> Result<(), Malformed> {
     let bytes = bytes_of(alloc, words)?;
     match kind {
-        "list" => add_list(alloc, text, &bytes)?,
-        "rebuild" => add_rebuilt(alloc, text, &bytes)?,
-        "item" => add_item(alloc, text, &bytes)?,
-        "short-of" => add_short_of(alloc, text, &bytes)?,
-        "short" => add_short(alloc, text, &bytes)?,
-        "long" => add_long(alloc, text, &bytes)?,
-        "any" => add_any(alloc, text, &bytes)?,
-        _ => add_read_as(alloc, text, kind, &bytes)?,
+        "list" | "rebuild" | "item" | "short-of" | "short" | "long" | "any" => {
+            Ok(add_items(alloc, text, kind, &bytes)?)
+        }
+        _ => add_read_as(alloc, text, kind, &bytes),
     }
-    Ok(())
+}
+
+/// What bytes are as items.
+fn add_items(alloc: Global, text: &mut String, kind: &str, bytes: &[u8]) -> Result<(), AllocError> {
+    match kind {
+        "list" => add_list(alloc, text, bytes),
+        "rebuild" => add_rebuilt(alloc, text, bytes),
+        "item" => add_item(alloc, text, bytes),
+        "short-of" => add_short_of(alloc, text, bytes),
+        "short" => add_short(alloc, text, bytes),
+        "long" => add_long(alloc, text, bytes),
+        _ => add_any(alloc, text, bytes),
+    }
 }
 
 /// Appends all parts of a descriptor, which the questions behind it are about.

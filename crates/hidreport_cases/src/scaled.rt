@@ -1,7 +1,7 @@
 //! Values that are scaled.
 use crate::malformed::Malformed;
 use crate::words::{bytes_of, parts_of};
-use hidreport::{Field, Fraction, Report, ReportDescriptor};
+use hidreport::{Field, Fraction, Report, ReportDescriptor, VariableField};
 use std::alloc::{AllocError, Global};
 use std::fmt::Write;
 
@@ -13,19 +13,35 @@ pub fn add_scaled(alloc: Global, text: &mut String, words: &str) -> Result<(), M
     let Ok(descriptor) = ReportDescriptor::try_from(alloc, &bytes) else {
         return Err(Malformed::Field);
     };
-    let report = descriptor.input_reports().first().ok_or(Malformed::Field)?;
-    let Some(Field::Variable(field)) = report.fields().first() else {
-        return Err(Malformed::Field);
-    };
+    add_rows(text, first_field(&descriptor)?, numbers)
+}
+
+fn first_field(descriptor: &ReportDescriptor) -> Result<&VariableField, Malformed> {
+    match descriptor.input_reports() {
+        [report, ..] => match report.fields() {
+            [Field::Variable(field), ..] => Ok(field),
+            _ => Err(Malformed::Field),
+        },
+        [] => Err(Malformed::Field),
+    }
+}
+
+fn add_rows(text: &mut String, field: &VariableField, numbers: &str) -> Result<(), Malformed> {
     for word in numbers.split(" ") {
-        let value = word.parse::<i64>().map_err(|_wrong| Malformed::Number)?;
-        write!(text, "{value}: physical ")?;
-        add_fraction(text, field.physical_value(value))?;
-        text.push_str(" normalized ")?;
-        add_fraction(text, field.normalized(value))?;
-        text.push_str("\n")?;
+        let Ok(value) = word.parse::<i64>() else {
+            return Err(Malformed::Number);
+        };
+        add_row(text, field, value)?;
     }
     Ok(())
+}
+
+fn add_row(text: &mut String, field: &VariableField, value: i64) -> Result<(), AllocError> {
+    write!(text, "{value}: physical ")?;
+    add_fraction(text, field.physical_value(value))?;
+    text.push_str(" normalized ")?;
+    add_fraction(text, field.normalized(value))?;
+    text.push_str("\n")
 }
 
 fn add_fraction(text: &mut String, fraction: Option<Fraction>) -> Result<(), AllocError> {

@@ -13,23 +13,30 @@ pub fn add_unit(alloc: Global, text: &mut String, words: &str) -> Result<(), Mal
     let unit = Unit::from(word_of(words)?);
     let (system, number) = (u32::from(unit.system()), u32::from(unit));
     writeln!(text, "'{unit}' system {system} number {number:08x}")?;
+    add_places(text, unit)?;
+    text.push_str("\nunits:")?;
+    match unit.units(alloc)? {
+        Some(units) => add_each(text, &units)?,
+        None => text.push_str(" none")?,
+    }
+    text.push_str("\n")?;
+    add_styled(text, unit)?;
+    Ok(())
+}
+
+fn add_places(text: &mut String, unit: Unit) -> Result<(), AllocError> {
     add_named(text, "length ", unit.length())?;
     add_named(text, ", mass ", unit.mass())?;
     add_named(text, ", time ", unit.time())?;
     add_named(text, ", temperature ", unit.temperature())?;
     add_named(text, ", current ", unit.current())?;
-    add_named(text, ", luminosity ", unit.luminosity())?;
-    text.push_str("\nunits:")?;
-    match unit.units(alloc)? {
-        Some(units) => {
-            for one in &units {
-                add_named(text, " ", *one)?;
-            }
-        }
-        None => text.push_str(" none")?,
+    add_named(text, ", luminosity ", unit.luminosity())
+}
+
+fn add_each(text: &mut String, units: &[Units]) -> Result<(), AllocError> {
+    for one in units {
+        add_named(text, " ", *one)?;
     }
-    text.push_str("\n")?;
-    add_styled(text, unit)?;
     Ok(())
 }
 
@@ -104,13 +111,19 @@ pub fn add_usage(text: &mut String, words: &str) -> Result<(), Malformed> {
     let (page, id) = (usage.usage_page, usage.usage_id);
     let (number, again) = (u32::from(usage), u32::from(&usage));
     writeln!(text, "page {page} id {id} = {number:08x} {again:08x}")?;
-    for minimum in [UsageMinimum::from(usage), UsageMinimum::from(&usage)] {
-        let (page, id, number) = (minimum.usage_page(), minimum.usage_id(), u32::from(minimum));
-        writeln!(text, "minimum page {page} id {id} = {number:08x}")?;
-    }
-    for maximum in [UsageMaximum::from(usage), UsageMaximum::from(&usage)] {
-        let (page, id, number) = (maximum.usage_page(), maximum.usage_id(), u32::from(maximum));
-        writeln!(text, "maximum page {page} id {id} = {number:08x}")?;
-    }
+    add_minimum(text, UsageMinimum::from(usage))?;
+    add_minimum(text, UsageMinimum::from(&usage))?;
+    add_maximum(text, UsageMaximum::from(usage))?;
+    add_maximum(text, UsageMaximum::from(&usage))?;
     Ok(())
+}
+
+fn add_minimum(text: &mut String, minimum: UsageMinimum) -> Result<(), AllocError> {
+    let (page, id, number) = (minimum.usage_page(), minimum.usage_id(), u32::from(minimum));
+    writeln!(text, "minimum page {page} id {id} = {number:08x}")
+}
+
+fn add_maximum(text: &mut String, maximum: UsageMaximum) -> Result<(), AllocError> {
+    let (page, id, number) = (maximum.usage_page(), maximum.usage_id(), u32::from(maximum));
+    writeln!(text, "maximum page {page} id {id} = {number:08x}")
 }

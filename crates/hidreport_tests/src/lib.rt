@@ -1,6 +1,6 @@
-//! What no case can be written for: refused memory, readers and writers that fail, hashes and
-//! owners, builders, and callers that are generic. Licence: MIT (LICENSE); a port of the Rust crate
-//! `hidreport` 0.6.0.
+//! What no case is written for: refused memory, readers and writers that fail, hashes and owners,
+//! builders, callers that are generic, and the names of usages both ways. Licence: MIT (LICENSE); a
+//! port of the Rust crate `hidreport` 0.6.0.
 #![tactic(auto)]
 
 #[cfg(test)]
@@ -13,6 +13,8 @@ mod builder_states;
 mod descriptor_builder;
 #[cfg(test)]
 mod failing;
+#[cfg(test)]
+mod failing_ends;
 pub mod generic;
 #[cfg(test)]
 mod great;
@@ -21,6 +23,8 @@ mod memory;
 #[cfg(test)]
 mod mouse;
 #[cfg(test)]
+mod names;
+#[cfg(test)]
 mod owners;
 #[cfg(test)]
 mod printing;
@@ -28,5 +32,7 @@ mod printing;
 mod runs;
 #[cfg(test)]
 mod transfers;
+#[cfg(test)]
+mod whole_inputs;
 #[cfg(test)]
 mod written;

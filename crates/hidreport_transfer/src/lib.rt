@@ -3,12 +3,8 @@
 #![tactic(auto)]
 
 mod ends;
-#[cfg(test)]
-mod failing;
 mod fault;
 mod limited;
-#[cfg(test)]
-mod tests;
 mod transfer;
 
 pub use ends::{Failed, FromRead, Sink, Source, ToWrite};

@@ -17,6 +17,3 @@ pub use flag_words::FlagWords;
 pub use item_words::{collection_name, item_name, system_name};
 pub use page::{PageName, page_by_name, page_name};
 pub use usage::{UsageName, usage_by_name, usage_name, usage_on_page};
-
-#[cfg(test)]
-mod tests;

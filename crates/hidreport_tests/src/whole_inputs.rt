@@ -1,9 +1,8 @@
 //! Readers that fail, writers that fail, and long inputs.
-use crate::ends::{Failed, FromRead, Sink, Source, ToWrite};
-use crate::failing::{FailingSink, FailingSource, FlakyReader, FullWriter};
-use crate::fault::RunFault;
-use crate::limited::read_to_end_within;
-use crate::transfer::{read_to_end, write_all};
+use crate::failing_ends::{FailingSink, FailingSource, FlakyReader, FullWriter};
+use hidreport_transfer::{
+    Failed, FromRead, RunFault, Sink, Source, ToWrite, read_to_end, read_to_end_within, write_all,
+};
 use std::test::Fail;
 
 const WORDS: &[u8] = b"nineteen bytes long";

@@ -1,11 +1,11 @@
 //! Names from the HID Usage Tables and the standard's numbers, both ways.
-use crate::{
-    FlagWords, collection_name, item_name, page_by_name, page_name, system_name, usage_by_name,
-    usage_name, usage_on_page,
-};
 use hidreport::Usage;
 use hidreport_items::{CollectionItem, FeatureItem, InputItem, read_item};
 use hidreport_types::{UnitSystem, UsageId, UsagePage};
+use hidreport_usages::{
+    FlagWords, collection_name, item_name, page_by_name, page_name, system_name, usage_by_name,
+    usage_name, usage_on_page,
+};
 use std::alloc::{AllocError, Global};
 use std::fmt::Display;
 

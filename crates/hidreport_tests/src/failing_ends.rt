@@ -1,7 +1,7 @@
 //! Ends that fail when they are told to, for tests.
 ghost use Rattle.std.specs.Prelude.{◌≡◌, false};
 
-use crate::ends::{Failed, Sink, Source};
+use hidreport_transfer::{Failed, Sink, Source};
 use std::io;
 
 /// A source that gives at most three bytes a read, and fails after `good_reads` reads.
