@@ -49,8 +49,9 @@ fn add_head(
 
 /// Appends the number of the bit at a place from the left.
 fn add_number(body: &mut String, place: usize, top: usize) -> Result<(), AllocError> {
-    let middle = LEFT + BIT / 2 + BIT * place;
-    let number = format!(in *body.allocator(); "{}", 7 - place)?;
+    let middle = BIT.saturating_mul(place).saturating_add(LEFT + BIT / 2);
+    let bit = 7usize.saturating_sub(place);
+    let number = format!(in *body.allocator(); "{bit}")?;
     add_text(body, middle, top, "middle", &number)
 }
 
