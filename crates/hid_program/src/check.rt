@@ -1,8 +1,6 @@
 //! `hid check`: what is odd in a descriptor, and what the standard says.
 use crate::decode::{offset_of, remark_of};
-use crate::direction::DIRECTIONS;
-use crate::fields::add_title;
-use crate::items::{PlacedItem, items_of};
+use hid_text::{DIRECTIONS, PlacedItem, add_title, items_of};
 use hidreport::hid::{CollectionItem, GlobalItem, ItemType, LocalItem, MainDataItem, MainItem};
 use hidreport::{Direction, Field, ParserError, RDescReport, Report, ReportDescriptor};
 use std::alloc::{AllocError, Global};

@@ -1,11 +1,8 @@
 //! `hid decode`: the items of a descriptor in words.
-use crate::item_words::add_item;
-use crate::items::{PlacedItem, items_of};
 use crate::json::{add_item_json, add_remark};
-use crate::naming::add_bytes;
-use crate::pages::Pages;
 use crate::settings::Settings;
 use anyhow::Result;
+use hid_text::{Pages, PlacedItem, add_bytes, add_item, items_of};
 use hidreport::ParserError;
 use hidreport::hid::{ItemType, MainItem};
 use std::alloc::{AllocError, Global};

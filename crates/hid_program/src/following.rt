@@ -1,13 +1,12 @@
 //! `hid record`: a stream, followed to its end.
-use crate::convert::{Meaning, Target};
 use crate::ending::Ending;
-use crate::line::Lines;
 use crate::record::{PIECE, Shown, Stream, kind_named};
 use crate::running::{show, write};
 use crate::settings::Settings;
 use anyhow::{Context, Result};
 use clap::ArgMatches;
 use hid_input::Given;
+use hid_text::{Lines, Meaning, Target};
 use hidreport::ReportDescriptor;
 use std::fs;
 use std::io::Read;

@@ -1,12 +1,8 @@
 //! Answers as JSON, an object in each line.
-use crate::diff::{Difference, Side};
-use crate::direction::{DIRECTIONS, word_of};
-use crate::field_words::add_name;
-use crate::item_words::add_item;
-use crate::items::PlacedItem;
-use crate::naming::{add_bytes, add_usage};
-use crate::pages::Pages;
-use crate::values::chosen;
+use hid_text::{
+    DIRECTIONS, Difference, Pages, PlacedItem, Side, add_bytes, add_item, add_name, add_usage,
+    chosen, word_of,
+};
 use hidreport::{
     ArrayField, Direction, Field, RDescReport, Report, ReportDescriptor, VariableField,
 };

@@ -1,8 +1,8 @@
 //! Descriptors and reports that a command's words name.
-use crate::naming::add_bytes;
 use crate::settings::Settings;
 use anyhow::{Context, Result, ensure};
 use hid_input::{Form, Given, bytes_named, descriptor_path, input_of};
+use hid_text::add_bytes;
 use hidreport::{Change, Mend, ReportDescriptor, repair};
 use std::mem;
 use std::rt::Files;

@@ -1,22 +1,20 @@
 //! `hid`: its commands, and what they write.
 use crate::check::{Finding, add_finding, findings};
 use crate::command_line::command_line;
-use crate::compile::compile_text;
-use crate::convert::{Meaning, Target, converted};
 use crate::decode::decoded;
-use crate::diff::{Difference, differences, differing};
 use crate::ending::Ending;
-use crate::fields::listed;
 use crate::following::record;
 use crate::json::{add_remark, differing_json, listed_json};
-use crate::map::drawn;
 use crate::reading::descriptor_named;
 use crate::report_commands::{set, values};
 use crate::settings::Settings;
-use crate::svg::drawn_as_svg;
 use anyhow::{Context, Result, bail};
 use clap::ArgMatches;
 use hid_input::{Given, bytes_named};
+use hid_text::{
+    Difference, Meaning, Target, compile_text, converted, differences, differing, drawn,
+    drawn_as_svg, listed,
+};
 use hidreport::{ParserError, ReportDescriptor};
 use std::alloc::Global;
 use std::io;
