@@ -1,8 +1,8 @@
 #!/bin/bash
 # What `hid decode` writes is compiled to the same bytes: of each descriptor of the cases
-# (crates/hidreport_cases/data) and of bench/descriptors whose items can be read; then refusals for
-# which it takes more than a file. Beside the gate's runs in crates/hid_runs. Its argument is the
-# program; else it is the one that ./hid built.
+# (crates/hidreport_cases/data) and of bench/descriptors whose items can be read; then what no stored
+# run shows (checks/hid_runs.sh): a stream's times, and refusals for which it takes more than a file.
+# Its argument is the program; else it is the one that ./hid built.
 set -eu
 
 top=$(cd "$(dirname "$0")/.." && pwd)
@@ -41,6 +41,18 @@ done < "$scratch/descriptors"
     exit 1
 }
 echo "hid_texts: $compiled descriptors, decoded and compiled to the same bytes"
+
+# hid-recorder's lines of a stream, whose time is its own.
+raw=$(echo 05 | "$program" record --raw "$top/crates/hid/data/axis.bytes" - |
+    sed 's/^E: 000000\.[0-9]\{6\} /E: TIME /')
+[ "$raw" = 'D: 0
+R: 14 05 01 09 30 15 81 25 7f 75 08 95 01 81 02
+N: unknown
+I: 3 0000 0000
+E: TIME 1 05' ] || {
+    echo "hid_texts: a stream is recorded as $raw" >&2
+    exit 1
+}
 
 # What no stored run shows: an input that is too long, too little memory, a device that is full.
 refused() {

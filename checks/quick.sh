@@ -30,10 +30,17 @@ try_program() {
     diff "$scratch/$1.stdout" stdout >> "$scratch/$1.said"
 }
 
-# Tells in a line how a crate's tests or its program went, and where they went wrong all that was said.
+# Tells in a line how a crate's tests, its program or the stored runs of `hid` went, and where they
+# went wrong all that was said.
 try_one() {
     begun=$SECONDS
-    if [ -f "$top/crates/$1/src/main.rt" ]; then try_program "$1"; else try_tests "$1"; fi
+    if [ "$1" = hid ]; then
+        bash "$top/checks/hid_runs.sh" > "$scratch/$1.said" 2>&1
+    elif [ -f "$top/crates/$1/src/main.rt" ]; then
+        try_program "$1"
+    else
+        try_tests "$1"
+    fi
     ended=$?
     if [ "$ended" -eq 0 ]; then
         echo "$1: as it should be ($((SECONDS - begun)) s)"
@@ -51,7 +58,7 @@ done
 bash checks/static.sh || exit 1
 
 # What takes longest begins first.
-tried=(hidreport_cases hidreport_tests)
+tried=(hid hidreport_cases hidreport_tests)
 for folder in crates/*; do
     crate=${folder##*/}
     case " ${tried[*]} " in *" $crate "*) continue ;; esac

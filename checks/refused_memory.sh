@@ -1,7 +1,7 @@
 #!/bin/sh
-# Calls that take memory, over worked descriptors and items (crates/hidreport_tests/src/memory.rt), and runs of the program's commands
-# (crates/hidreport_tests/src/runs.rt): each of their allocations is refused in turn, and each answers as with ample memory, or want of
-# memory. There is a test for each allocation, which first makes as many others as bring it to the number that is refused in every test,
+# Calls that take memory, over worked descriptors and items (refused_memory/memory.source), and runs of the program's commands
+# (refused_memory/runs.source): each of their allocations is refused in turn, and each answers as with ample memory, or want of
+# memory; where all have it, as with ample memory. There is a test for each allocation, which first makes as many others as bring it to the number that is refused in every test,
 # so that all run at once.
 # Proves nothing, takes about two minutes, and leaves nothing behind. Its argument, if any, is the repository to look at.
 set -eu
@@ -12,10 +12,11 @@ need_rt refused_memory
 repository=${1:-$(dirname "$0")/..}
 make_probe refused_memory "$repository" hidreport_types hidreport_items hidreport_lists hidreport hidreport_transfer hidreport_program
 
-# More allocations than the calls make together.
-all=600
+# More allocations than the calls make together, and than the runs do.
+all=500
+of_runs=100
 
-# The tests of a module that has a function `count_refused`.
+# The tests of a module that has a function `count_refused`, and of how many allocations.
 write_refusals() {
     cat << SOURCE
 use crate::$1::count_refused;
@@ -47,7 +48,7 @@ fn fewer_than_all(rt: HostRuntime) -> Result<(), Fail> {
 }
 SOURCE
     n=1
-    while [ "$n" -lt "$all" ]; do
+    while [ "$n" -lt "$2" ]; do
         echo
         echo '#[test]'
         echo "fn refused_$n(rt: HostRuntime) -> Result<(), Fail> {"
@@ -57,20 +58,29 @@ SOURCE
     done
 }
 
-# What the tests of a module of refusals say: its name, and what its calls are.
+# What the tests of a module of refusals say: its name, what its calls are, and of how many allocations.
 judge() {
     echo "$said" | grep -q "^test $1::fewer_than_all \.\.\. ok" ||
-        echo "$said" | fail "the $2 make $all allocations or more, or don't compile"
+        echo "$said" | fail "the $2 make $3 allocations or more, or don't compile"
+    echo "$said" | grep -q "^test $1::refused_$(($3 - 1)) \.\.\. ok" ||
+        echo "$said" | fail "the $2 make $(($3 - 1)) allocations or more"
     failed=$(echo "$said" | grep -c "^test $1::.*\.\.\. FAILED") || true
     last=$(echo "$said" | sed -n "s/^test $1::refused_\([0-9]*\) \.\.\. FAILED.*/\1/p" | sort -n | tail -n 1)
     [ "$failed" -gt 0 ] || echo "$said" | fail "none of the $2 is refused memory"
     echo "refused memory, $2: $last allocations, $failed of them answered by want of memory, the others as where it is ample"
 }
 
-tests="$repository/crates/hidreport_tests/src"
-cp -r "$tests/memory.rt" "$tests/memory" "$tests/mouse.rt" "$tests/runs.rt" "$scratch/crates/probe/src"
-# Their own tests have memory enough, and would fail.
-sed -i '/^#\[test\]$/,$ d' "$scratch/crates/probe/src/memory.rt" "$scratch/crates/probe/src/runs.rt"
+# The sources of the calls and the runs: those that memory.source names are modules below it.
+sources="$(dirname "$0")/refused_memory"
+mkdir "$scratch/crates/probe/src/memory"
+for source in "$sources"/*.source; do
+    part=$(basename "$source" .source)
+    case $part in
+        memory | mouse | runs) ;;
+        *) part=memory/$part ;;
+    esac
+    cp "$source" "$scratch/crates/probe/src/$part.rt"
+done
 cat > "$probe" << SOURCE
 #![tactic(auto)]
 
@@ -85,13 +95,13 @@ mod refused_runs;
 #[cfg(test)]
 mod runs;
 SOURCE
-write_refusals memory > "$scratch/crates/probe/src/refused_calls.rt"
-write_refusals runs > "$scratch/crates/probe/src/refused_runs.rt"
+write_refusals memory "$all" > "$scratch/crates/probe/src/refused_calls.rt"
+write_refusals runs "$of_runs" > "$scratch/crates/probe/src/refused_runs.rt"
 said=$(cd "$scratch/crates/probe" && rt try --test --fail-alloc "$all" 2>&1) || true
 # Every test that fails wants memory, and nothing else.
 failed=$(echo "$said" | grep -c '^test .*\.\.\. FAILED') || true
 wanting=$(echo "$said" | grep -c 'error: "want of memory"') || true
 [ "$failed" -eq "$wanting" ] ||
     echo "$said" | fail 'a call answers neither as with ample memory nor want of memory'
-judge refused_calls calls
-judge refused_runs runs
+judge refused_calls calls "$all"
+judge refused_runs runs "$of_runs"

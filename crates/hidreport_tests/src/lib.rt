@@ -1,6 +1,6 @@
-//! What no case is written for: refused memory, readers and writers that fail, hashes and owners,
-//! builders, callers that are generic, and the names of usages both ways. Licence: MIT (LICENSE); a
-//! port of the Rust crate `hidreport` 0.6.0.
+//! What no case is written for: readers and writers that fail, hashes and owners, builders, callers
+//! that are generic, and the names of usages both ways; refused memory is asked by
+//! checks/refused_memory.sh. Licence: MIT (LICENSE); a port of the Rust crate `hidreport` 0.6.0.
 #![tactic(auto)]
 
 #[cfg(test)]
@@ -19,17 +19,11 @@ pub mod generic;
 #[cfg(test)]
 mod great;
 #[cfg(test)]
-mod memory;
-#[cfg(test)]
-mod mouse;
-#[cfg(test)]
 mod names;
 #[cfg(test)]
 mod owners;
 #[cfg(test)]
 mod printing;
-#[cfg(test)]
-mod runs;
 #[cfg(test)]
 mod transfers;
 #[cfg(test)]

@@ -3,146 +3,183 @@ use crate::failing_ends::{FailingSink, FailingSource, FlakyReader, FullWriter};
 use hidreport_transfer::{
     Failed, FromRead, RunFault, Sink, Source, ToWrite, read_to_end, read_to_end_within, write_all,
 };
-use std::test::Fail;
+use std::alloc::Global;
 
 const WORDS: &[u8] = b"nineteen bytes long";
 
-#[test]
-fn reads_all(rt: HostRuntime) -> Result<(), Fail> {
-    let mut source = FromRead::new(WORDS);
-    let bytes = read_to_end(rt.alloc(), &mut source)?;
-    assert_eq!(rt; bytes.as_slice(), WORDS);
-    assert_eq!(rt; read_to_end(rt.alloc(), &mut source)?.len(), 0);
+static MANY: [u8; 10000] = [7; 10000];
 
-    let many = vec![in rt.alloc(); 7u8; 10000]?;
-    let mut source = FromRead::new(many.as_slice());
-    let bytes = read_to_end(rt.alloc(), &mut source)?;
-    assert_eq!(rt; bytes.as_slice(), many.as_slice());
-    Ok(())
+/// Whether an input was read, and is these bytes.
+fn are_bytes(answer: Result<Vec<u8>, RunFault>, wanted: &[u8]) -> bool {
+    match answer {
+        Ok(bytes) => bytes.as_slice() == wanted,
+        Err(_fault) => false,
+    }
+}
+
+/// Whether reading an input ended so.
+fn is_fault(answer: Result<Vec<u8>, RunFault>, wanted: RunFault) -> bool {
+    match answer {
+        Ok(_bytes) => false,
+        Err(fault) => fault == wanted,
+    }
+}
+
+/// Whether bytes are read to their end, and nothing behind it.
+fn is_read_whole(alloc: Global, wanted: &[u8]) -> bool {
+    let mut source = FromRead::new(wanted);
+    are_bytes(read_to_end(alloc, &mut source), wanted)
+        && are_bytes(read_to_end(alloc, &mut source), b"")
+}
+
+#[test]
+fn reads_all(rt: HostRuntime) {
+    assert!(rt; is_read_whole(rt.alloc(), WORDS));
+    assert!(rt; is_read_whole(rt.alloc(), &MANY));
+}
+
+/// Whether a source that fails after so many reads fails then, and the next time.
+fn is_failed_read(alloc: Global, good_reads: usize) -> bool {
+    let mut source = FailingSource::new(FromRead::new(WORDS), good_reads);
+    is_fault(read_to_end(alloc, &mut source), RunFault::Read)
+        && is_fault(read_to_end(alloc, &mut source), RunFault::Read)
 }
 
 // Seven reads give all the bytes, three a read, and an eighth the end.
 #[test]
-fn failed_read_is_no_end(rt: HostRuntime) -> Result<(), Fail> {
+fn failed_read_is_no_end(rt: HostRuntime) {
     for good_reads in 0..8 {
-        let mut source = FailingSource::new(FromRead::new(WORDS), good_reads);
-        let answer = read_to_end(rt.alloc(), &mut source);
-        assert_eq!(rt; answer.err(), Some(RunFault::Read));
-        let again = read_to_end(rt.alloc(), &mut source);
-        assert_eq!(rt; again.err(), Some(RunFault::Read));
+        assert!(rt; is_failed_read(rt.alloc(), good_reads));
     }
     let mut source = FailingSource::new(FromRead::new(WORDS), 8);
-    let bytes = read_to_end(rt.alloc(), &mut source)?;
-    assert_eq!(rt; bytes.as_slice(), WORDS);
-    Ok(())
+    assert!(rt; are_bytes(read_to_end(rt.alloc(), &mut source), WORDS));
 }
 
 #[test]
-fn failed_reader_is_left_alone(rt: HostRuntime) -> Result<(), Fail> {
+fn failed_reader_is_left_alone(rt: HostRuntime) {
     let mut reader = FlakyReader {
         reads: 0,
         bad_read: 2,
     };
     let mut source = FromRead::new(&mut reader);
     let mut buffer = [0u8; 4];
-    assert_eq!(rt; source.read(&mut buffer), Ok(1));
-    assert_eq!(rt; source.read(&mut buffer), Err(Failed));
-    assert_eq!(rt; source.read(&mut buffer), Err(Failed));
-    assert_eq!(rt; reader.reads, 2);
-    Ok(())
+    let answers = [
+        source.read(&mut buffer),
+        source.read(&mut buffer),
+        source.read(&mut buffer),
+    ];
+    assert!(rt; answers == [Ok(1), Err(Failed), Err(Failed)] && reader.reads == 2);
+}
+
+/// Whether all is written, piece by piece.
+fn is_written_whole(alloc: Global) -> bool {
+    let mut written = Vec::new(alloc);
+    let mut sink = ToWrite::new(&mut written);
+    let answers = [
+        write_all(&mut sink, WORDS),
+        write_all(&mut sink, b""),
+        write_all(&mut sink, b"!"),
+    ];
+    answers == [Ok(()), Ok(()), Ok(())] && written.as_slice() == b"nineteen bytes long!".as_slice()
 }
 
 #[test]
-fn writes_all(rt: HostRuntime) -> Result<(), Fail> {
-    let mut written = Vec::new(rt.alloc());
-    let mut sink = ToWrite::new(&mut written);
-    assert_eq!(rt; write_all(&mut sink, WORDS), Ok(()));
-    assert_eq!(rt; write_all(&mut sink, b""), Ok(()));
-    assert_eq!(rt; write_all(&mut sink, b"!"), Ok(()));
-    assert_eq!(rt; written.as_slice(), b"nineteen bytes long!".as_slice());
-    Ok(())
+fn writes_all(rt: HostRuntime) {
+    assert!(rt; is_written_whole(rt.alloc()));
+}
+
+/// Whether a sink that fails after so many writes has taken just so many bytes, and fails again.
+fn is_beginning_written(alloc: Global, good_writes: usize, count: usize) -> bool {
+    let mut written = Vec::new(alloc);
+    let mut sink = FailingSink::new(ToWrite::new(&mut written), good_writes);
+    let answers = [write_all(&mut sink, WORDS), write_all(&mut sink, b"!")];
+    answers == [Err(RunFault::Write), Err(RunFault::Write)]
+        && Some(written.as_slice()) == WORDS.get(..count)
+}
+
+/// Whether a sink that takes halves has taken all after five writes.
+fn is_written_in_five(alloc: Global) -> bool {
+    let mut written = Vec::new(alloc);
+    let mut sink = FailingSink::new(ToWrite::new(&mut written), 5);
+    write_all(&mut sink, WORDS) == Ok(()) && written.as_slice() == WORDS
 }
 
 // Halves of what is left: 10, 5, 2, 1 and 1 bytes.
 #[test]
-fn failed_write_leaves_a_beginning(rt: HostRuntime) -> Result<(), Fail> {
-    for (good_writes, count) in [0, 10, 15, 17, 18].into_iter().enumerate() {
-        let mut written = Vec::new(rt.alloc());
-        let mut sink = FailingSink::new(ToWrite::new(&mut written), good_writes);
-        assert_eq!(rt; write_all(&mut sink, WORDS), Err(RunFault::Write));
-        assert_eq!(rt; write_all(&mut sink, b"!"), Err(RunFault::Write));
-        assert_eq!(rt; Some(written.as_slice()), WORDS.get(..count));
+fn failed_write_leaves_a_beginning(rt: HostRuntime) {
+    for (good_writes, count) in [(0, 0), (1, 10), (2, 15), (3, 17), (4, 18)] {
+        assert!(rt; is_beginning_written(rt.alloc(), good_writes, count));
     }
-    let mut written = Vec::new(rt.alloc());
-    let mut sink = FailingSink::new(ToWrite::new(&mut written), 5);
-    assert_eq!(rt; write_all(&mut sink, WORDS), Ok(()));
-    assert_eq!(rt; written.as_slice(), WORDS);
-    Ok(())
+    assert!(rt; is_written_in_five(rt.alloc()));
 }
 
 #[test]
-fn write_of_nothing_fails(rt: HostRuntime) -> Result<(), Fail> {
+fn write_of_nothing_fails(rt: HostRuntime) {
     let mut sink = ToWrite::new(FullWriter);
-    assert_eq!(rt; sink.write(b""), Ok(0));
-    assert_eq!(rt; sink.write(b"x"), Err(Failed));
-    assert_eq!(rt; sink.write(b""), Err(Failed));
-    Ok(())
+    let answers = [sink.write(b""), sink.write(b"x"), sink.write(b"")];
+    assert!(rt; answers == [Ok(0), Err(Failed), Err(Failed)]);
+}
+
+/// Whether bytes are read to their end within a limit, and nothing behind it.
+fn is_read_within(alloc: Global, wanted: &[u8], limit: usize) -> bool {
+    let mut source = FromRead::new(wanted);
+    are_bytes(read_to_end_within(alloc, &mut source, limit), wanted)
+        && are_bytes(read_to_end_within(alloc, &mut source, 0), b"")
 }
 
 #[test]
-fn reads_all_within_a_limit(rt: HostRuntime) -> Result<(), Fail> {
+fn reads_all_within_a_limit(rt: HostRuntime) {
     for limit in [19, 20, 5000, usize::MAX] {
-        let mut source = FromRead::new(WORDS);
-        let bytes = read_to_end_within(rt.alloc(), &mut source, limit)?;
-        assert_eq!(rt; bytes.as_slice(), WORDS);
-        assert_eq!(rt; read_to_end_within(rt.alloc(), &mut source, 0)?.len(), 0);
+        assert!(rt; is_read_within(rt.alloc(), WORDS, limit));
     }
-    let many = vec![in rt.alloc(); 7u8; 10000]?;
-    let mut source = FromRead::new(many.as_slice());
-    let bytes = read_to_end_within(rt.alloc(), &mut source, 10000)?;
-    assert_eq!(rt; bytes.as_slice(), many.as_slice());
-    Ok(())
+    assert!(rt; is_read_within(rt.alloc(), &MANY, 10000));
 }
 
-// Of nineteen bytes eighteen are read: "g" is left.
+/// Whether nineteen bytes are too long for a limit, and this is left of them.
+fn is_too_long(alloc: Global, limit: usize, left: &[u8]) -> bool {
+    let mut source = FromRead::new(WORDS);
+    is_fault(
+        read_to_end_within(alloc, &mut source, limit),
+        RunFault::TooLong,
+    ) && are_bytes(read_to_end(alloc, &mut source), left)
+}
+
+// Within 17 bytes eighteen are read: "g" is left.
 #[test]
-fn past_a_limit_nothing_is_read(rt: HostRuntime) -> Result<(), Fail> {
-    let mut source = FromRead::new(WORDS);
-    let answer = read_to_end_within(rt.alloc(), &mut source, 17);
-    assert_eq!(rt; answer.err(), Some(RunFault::TooLong));
-    assert_eq!(rt;
-        read_to_end(rt.alloc(), &mut source)?.as_slice(),
-        b"g".as_slice()
-    );
-    let mut source = FromRead::new(WORDS);
-    let answer = read_to_end_within(rt.alloc(), &mut source, 18);
-    assert_eq!(rt; answer.err(), Some(RunFault::TooLong));
-    Ok(())
+fn past_a_limit_nothing_is_read(rt: HostRuntime) {
+    assert!(rt; is_too_long(rt.alloc(), 17, b"g"));
+    assert!(rt; is_too_long(rt.alloc(), 18, b""));
+}
+
+/// Whether of a reader without end one byte more is read than a limit allows.
+fn is_left(alloc: Global, limit: usize) -> bool {
+    let mut reader = FlakyReader {
+        reads: 0,
+        bad_read: 0,
+    };
+    let mut source = FromRead::new(&mut reader);
+    let answer = read_to_end_within(alloc, &mut source, limit);
+    is_fault(answer, RunFault::TooLong) && reader.reads == limit.saturating_add(1)
 }
 
 #[test]
 fn an_endless_reader_is_left(rt: HostRuntime) {
     for limit in [0, 1, 4096, 5000] {
-        let mut reader = FlakyReader {
-            reads: 0,
-            bad_read: 0,
-        };
-        let mut source = FromRead::new(&mut reader);
-        let answer = read_to_end_within(rt.alloc(), &mut source, limit);
-        assert_eq!(rt; answer.err(), Some(RunFault::TooLong));
-        assert_eq!(rt; reader.reads, limit + 1);
+        assert!(rt; is_left(rt.alloc(), limit));
     }
 }
 
+/// Whether a source that fails after so many reads is told as failed within a limit.
+fn is_failed_read_within(alloc: Global, good_reads: usize) -> bool {
+    let mut source = FailingSource::new(FromRead::new(WORDS), good_reads);
+    is_fault(read_to_end_within(alloc, &mut source, 19), RunFault::Read)
+}
+
 #[test]
-fn failed_read_within_a_limit(rt: HostRuntime) -> Result<(), Fail> {
+fn failed_read_within_a_limit(rt: HostRuntime) {
     for good_reads in 0..8 {
-        let mut source = FailingSource::new(FromRead::new(WORDS), good_reads);
-        let answer = read_to_end_within(rt.alloc(), &mut source, 19);
-        assert_eq!(rt; answer.err(), Some(RunFault::Read));
+        assert!(rt; is_failed_read_within(rt.alloc(), good_reads));
     }
     let mut source = FailingSource::new(FromRead::new(WORDS), 8);
-    let bytes = read_to_end_within(rt.alloc(), &mut source, 19)?;
-    assert_eq!(rt; bytes.as_slice(), WORDS);
-    Ok(())
+    assert!(rt; are_bytes(read_to_end_within(rt.alloc(), &mut source, 19), WORDS));
 }
