@@ -4,6 +4,4 @@
 
 pub mod laws;
 pub mod plain;
-#[cfg(test)]
-mod tests;
 pub mod values;

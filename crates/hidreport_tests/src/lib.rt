@@ -10,6 +10,8 @@ mod builder;
 #[cfg(test)]
 mod builder_states;
 #[cfg(test)]
+mod callers;
+#[cfg(test)]
 mod descriptor_builder;
 #[cfg(test)]
 mod failing;
