@@ -3,7 +3,10 @@
 #![tactic(auto)]
 
 use anyhow::{Context, Result};
-use hidreport::hid::{CollectionItem, HidError, ItemBuilder, ItemType, ReportDescriptorBuilder};
+use hidreport::hid::{
+    CollectionItem, HidError, ItemBuilder, ItemType, ReportDescriptorBuilder,
+    ReportDescriptorBuilderC2,
+};
 use hidreport::{
     Field, LogicalMaximum, LogicalMinimum, RDescReport, Report, ReportCount, ReportDescriptor,
     ReportSize, UsageId, UsageMaximum, UsageMinimum, UsagePage,
@@ -89,14 +92,25 @@ fn print_field<R: Print>(rt: &R, field: &Field, bytes: &[u8]) -> Result<()> {
     Ok(())
 }
 
+/// A builder inside the mouse's two collections.
+type Inside = ReportDescriptorBuilder<ReportDescriptorBuilderC2>;
+
 /// Three buttons, padding up to a byte, and X and Y as a byte each.
 fn mouse(alloc: Global) -> Result<Vec<u8>, HidError> {
-    ReportDescriptorBuilder::new(alloc)
+    let pointer = ReportDescriptorBuilder::new(alloc)
         .usage_page(UsagePage::from(GENERIC_DESKTOP))?
         .usage_id(UsageId::from(0x02))?
         .open_collection(CollectionItem::Application)?
         .usage_id(UsageId::from(0x01))?
-        .open_collection(CollectionItem::Physical)?
+        .open_collection(CollectionItem::Physical)?;
+    axes(padding(buttons(pointer)?)?)?
+        .close_collection()?
+        .close_collection()?
+        .build()
+}
+
+fn buttons(builder: Inside) -> Result<Inside, HidError> {
+    builder
         .usage_page(UsagePage::from(BUTTONS))?
         .append(ItemType::from(UsageMinimum::from(1)))?
         .append(ItemType::from(UsageMaximum::from(3)))?
@@ -104,10 +118,18 @@ fn mouse(alloc: Global) -> Result<Vec<u8>, HidError> {
         .append(ItemType::from(LogicalMaximum::from(1)))?
         .append(ItemType::from(ReportCount::from(3)))?
         .append(ItemType::from(ReportSize::from(1)))?
-        .input(ItemBuilder::new().variable().absolute().input())?
+        .input(ItemBuilder::new().variable().absolute().input())
+}
+
+fn padding(builder: Inside) -> Result<Inside, HidError> {
+    builder
         .append(ItemType::from(ReportCount::from(1)))?
         .append(ItemType::from(ReportSize::from(5)))?
-        .input(ItemBuilder::new().constant().input())?
+        .input(ItemBuilder::new().constant().input())
+}
+
+fn axes(builder: Inside) -> Result<Inside, HidError> {
+    builder
         .usage_page(UsagePage::from(GENERIC_DESKTOP))?
         .usage_id(UsageId::from(0x30))?
         .usage_id(UsageId::from(0x31))?
@@ -115,8 +137,5 @@ fn mouse(alloc: Global) -> Result<Vec<u8>, HidError> {
         .append(ItemType::from(LogicalMaximum::from(127)))?
         .append(ItemType::from(ReportCount::from(2)))?
         .append(ItemType::from(ReportSize::from(8)))?
-        .input(ItemBuilder::new().variable().relative().input())?
-        .close_collection()?
-        .close_collection()?
-        .build()
+        .input(ItemBuilder::new().variable().relative().input())
 }

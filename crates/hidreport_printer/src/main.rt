@@ -71,12 +71,14 @@ fn print_reports<R: Print>(rt: &R, direction: &str, reports: &[RDescReport]) -> 
 }
 
 fn print_usages<R: Print>(rt: &R, usages: &[Usage]) -> Result<()> {
-    if let [first, _, _, _, .., last] = usages {
+    if usages.len() > 4
+        && let (Some(first), Some(last)) = (usages.first(), usages.last())
+    {
         print!(rt; " {:08x} .. {:08x}", u32::from(first), u32::from(last))?;
-    } else {
-        for usage in usages {
-            print!(rt; " {:08x}", u32::from(usage))?;
-        }
+        return Ok(());
+    }
+    for usage in usages {
+        print!(rt; " {:08x}", u32::from(usage))?;
     }
     Ok(())
 }
