@@ -1,7 +1,9 @@
 #!/bin/sh
 # Allocations, counted by refusing one of them: a list of a thousand items is made with at most 64,
 # and each call of those below, which are said to take no memory, takes none.
-# Proves nothing, takes about a minute, and leaves nothing behind.
+# There is a test for each allocation, which first makes as many others as bring it to the number that
+# is refused in every test, so that all run at once.
+# Proves nothing, takes about half a minute, and leaves nothing behind.
 # Its argument, if any, is the repository to look at.
 set -eu
 
@@ -11,8 +13,8 @@ need_rt item_allocations
 make_probe item_allocations "${1:-$(dirname "$0")/..}" \
     hidreport_types hidreport_items hidreport_lists hidreport
 
-# More allocations than the descriptor of the calls takes.
-all=64
+# More allocations than the descriptor of the calls takes, or a list of items may.
+all=65
 
 cat > "$probe" << 'SOURCE'
 #![tactic(auto)]
@@ -23,16 +25,6 @@ mod calls;
 mod items;
 #[cfg(test)]
 mod refusals;
-
-use hidreport_lists::ReportDescriptorItems;
-use std::test::Fail;
-
-#[test]
-fn a_list(rt: HostRuntime) -> Result<(), Fail> {
-    let items = ReportDescriptorItems::try_from(rt.alloc(), &[0xa4; 1000])?;
-    assert_eq!(rt; items.as_slice().len(), 1000);
-    Ok(())
-}
 SOURCE
 
 # Calls by their names, and whether each answers what it is to answer: of descriptors and fields.
@@ -282,6 +274,7 @@ SOURCE
 use crate::calls::{self, DESCRIPTOR};
 use crate::items;
 use hidreport::ReportDescriptor;
+use hidreport_lists::ReportDescriptorItems;
 use std::alloc::Global;
 use std::test::Fail;
 
@@ -306,7 +299,25 @@ fn refuse(alloc: Global, n: usize) -> Result<(), Fail> {
     }
     Ok(())
 }
+
+fn list(alloc: Global, n: usize) -> Result<(), Fail> {
+    if !are_made(alloc, ALL - n) {
+        return Err(Fail::from("another allocation is refused"));
+    }
+    let items = ReportDescriptorItems::try_from(alloc, &[0xa4; 1000])?;
+    if items.as_slice().len() != 1000 {
+        return Err(Fail::from("another list"));
+    }
+    Ok(())
+}
 SOURCE
+    for n in 1 2 4 8 16 32 65; do
+        echo
+        echo '#[test]'
+        echo "fn list_$n(rt: HostRuntime) -> Result<(), Fail> {"
+        echo "    list(rt.alloc(), $n)"
+        echo '}'
+    done
     n=1
     while [ "$n" -le "$all" ]; do
         echo
@@ -318,28 +329,20 @@ SOURCE
     done
 } > "$scratch/crates/probe/src/refusals.rt"
 
-# What the tests say where the allocation with this number is refused.
-answer_without() {
-    (cd "$scratch/crates/probe" && rt try --test --fail-alloc "$1" 2>&1) || true
-}
-
-said=$(answer_without 1)
-echo "$said" | grep -q '^test a_list \.\.\. FAILED' && echo "$said" | grep -q 'error: OutOfMemory' ||
+said=$(cd "$scratch/crates/probe" && rt try --test --fail-alloc "$all" 2>&1) || true
+echo "$said" | grep -q '^test refusals::list_1 \.\.\. FAILED' && echo "$said" | grep -q 'error: OutOfMemory' ||
     echo "$said" | fail 'the first allocation is not refused'
-
-said=$(answer_without "$all")
 echo "$said" | grep -q "^test refusals::refused_$all \.\.\. ok" ||
     echo "$said" | fail 'a call takes memory, or is answered otherwise'
 of_descriptor=$(echo "$said" | grep -c 'error: "want of memory"') || true
-failed=$(echo "$said" | grep -c '^test refusals::.* \.\.\. FAILED') || true
+failed=$(echo "$said" | grep -c '^test refusals::refused_.* \.\.\. FAILED') || true
 [ "$of_descriptor" -gt 0 ] && [ "$of_descriptor" -eq "$failed" ] ||
     echo "$said" | fail 'a call takes memory, or is answered otherwise'
 calls=$(grep -c '^        ("' "$scratch/crates/probe/src/calls.rt")
 calls=$((calls + $(grep -c '^        ("' "$scratch/crates/probe/src/items.rt")))
 
 for refused in 2 4 8 16 32 65; do
-    said=$(answer_without "$refused")
-    if echo "$said" | grep -q '^test a_list \.\.\. ok'; then
+    if echo "$said" | grep -q "^test refusals::list_$refused \.\.\. ok"; then
         echo "a list of a thousand items: fewer than $refused allocations; $calls calls: none"
         exit 0
     fi
