@@ -3,7 +3,7 @@
 #![tactic(auto)]
 
 use anyhow::{Context, Result};
-use hidreport::{ArrayField, Field, FieldValue, Report, ReportDescriptor};
+use hidreport::{ArrayField, Field, FieldValue, Report, ReportDescriptor, VariableField};
 use std::rt::{Env, Files};
 use std::{env, fs};
 
@@ -31,21 +31,28 @@ fn print_report<R: Print>(rt: &R, descriptor: &ReportDescriptor, bytes: &[u8]) -
     }
     for field in report.fields() {
         match field {
-            Field::Variable(field) => {
-                let usage = u32::from(field.usage);
-                print!(rt; " {usage:08x}={}", i64::from(field.extract(bytes)?))?;
-            }
-            Field::Array(field) => {
-                for value in field.extract(bytes)? {
-                    if let Some(usage) = chosen(field, value) {
-                        print!(rt; " {usage:08x}=1")?;
-                    }
-                }
-            }
+            Field::Variable(field) => print_value(rt, field, bytes)?,
+            Field::Array(field) => print_chosen(rt, field, bytes)?,
             Field::Constant(_) => {}
         }
     }
     println!(rt; "")?;
+    Ok(())
+}
+
+fn print_value<R: Print>(rt: &R, field: &VariableField, bytes: &[u8]) -> Result<()> {
+    let usage = u32::from(field.usage);
+    print!(rt; " {usage:08x}={}", i64::from(field.extract(bytes)?))?;
+    Ok(())
+}
+
+/// Prints the usages that the values of an array stand for.
+fn print_chosen<R: Print>(rt: &R, field: &ArrayField, bytes: &[u8]) -> Result<()> {
+    for value in field.extract(bytes)? {
+        if let Some(usage) = chosen(field, value) {
+            print!(rt; " {usage:08x}=1")?;
+        }
+    }
     Ok(())
 }
 

@@ -57,11 +57,19 @@ fn exchanged_usage(usage: u32) -> Option<u32> {
 /// The report's first field with one value of this usage.
 fn variable_of(report: &RDescReport, usage: u32) -> Option<&VariableField> {
     for field in report.fields() {
-        if let Field::Variable(field) = field
+        if let Some(field) = variable(field)
             && u32::from(field.usage) == usage
         {
             return Some(field);
         }
     }
     None
+}
+
+/// The field where it has one value.
+fn variable(field: &Field) -> Option<&VariableField> {
+    match field {
+        Field::Variable(field) => Some(field),
+        _ => None,
+    }
 }
