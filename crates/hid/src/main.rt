@@ -1,8 +1,21 @@
-//! The program `hid`: its words, its files, its output and its status.
+//! The program `hid`: report descriptors and reports as people read them. Its words, its files, its
+//! output and its status.
 //! Licence: MIT (LICENSE).
 #![tactic(auto)]
 
-use hid_program::run;
+mod check;
+mod command_line;
+mod decode;
+mod ending;
+mod following;
+mod json;
+mod reading;
+mod record;
+mod report_commands;
+mod running;
+mod settings;
+
+use running::run;
 use std::process::ExitCode;
 use std::{env, io};
 
