@@ -2,7 +2,9 @@
 //! words that ask for them.
 use crate::malformed::Malformed;
 use crate::words::{bytes_of, first_of, number_of};
-use hidreport_program::program::{Command, Fault, command_of, line_of, request_of, run, status_of};
+use hidreport_program::program::{
+    Command, Fault, Request, command_of, line_of, request_of, run, status_of,
+};
 use hidreport_transfer::{FromRead, RunFault, ToWrite};
 use std::alloc::{AllocError, Global};
 use std::fmt::Write;
@@ -11,41 +13,50 @@ use std::fmt::Write;
 /// `command values-within LIMIT DESCRIPTOR / REPORT`: the status, and each line that is written,
 /// behind a bar.
 pub fn add_command(alloc: Global, text: &mut String, words: &str) -> Result<(), Malformed> {
-    let (name, words) = first_of(words)?;
-    if name == "values-within" {
-        let (limit, words) = first_of(words)?;
-        return add_run(alloc, text, Command::ValuesWithin(number_of(limit)?), words);
-    }
-    if name == "values-globals-within" {
-        let (limit, words) = first_of(words)?;
-        return add_run(
-            alloc,
-            text,
-            Command::ValuesGlobalsWithin(number_of(limit)?),
-            words,
-        );
-    }
-    let command = match name {
-        "items" => Command::Items,
-        "values" => Command::Values,
-        "values-globals" => Command::ValuesGlobals,
-        "rebuild" => Command::Rebuild,
-        _ => return Err(Malformed::Name),
-    };
-    add_run(alloc, text, command, words)
+    let (command, words) = command_in(words)?;
+    let written = run_on(alloc, text, command, words)?;
+    Ok(add_lines(text, &written)?)
 }
 
-fn add_run(
+/// The command that the first words name, and the words behind it.
+fn command_in(words: &str) -> Result<(Command, &str), Malformed> {
+    let (name, rest) = first_of(words)?;
+    match name {
+        "items" => Ok((Command::Items, rest)),
+        "values" => Ok((Command::Values, rest)),
+        "values-globals" => Ok((Command::ValuesGlobals, rest)),
+        "rebuild" => Ok((Command::Rebuild, rest)),
+        _ => limited_command_in(name, rest),
+    }
+}
+
+/// The command of this name with its limit, and the words behind that.
+fn limited_command_in<'a>(name: &str, words: &'a str) -> Result<(Command, &'a str), Malformed> {
+    let (limit, rest) = first_of(words)?;
+    let limit = number_of(limit)?;
+    match name {
+        "values-within" => Ok((Command::ValuesWithin(limit), rest)),
+        "values-globals-within" => Ok((Command::ValuesGlobalsWithin(limit), rest)),
+        _ => Err(Malformed::Name),
+    }
+}
+
+/// Appends the status that a command ends with on these bytes. Gives what it writes.
+fn run_on(
     alloc: Global,
     text: &mut String,
     command: Command,
     words: &str,
-) -> Result<(), Malformed> {
+) -> Result<String, Malformed> {
     let (descriptor, report) = words.split_once(" / ").unwrap_or((words, "-"));
     let descriptor = bytes_of(alloc, descriptor)?;
     let report = bytes_of(alloc, report)?;
-    let written = written_by(alloc, text, command, &descriptor, &report)?;
-    for line in written.as_str().lines() {
+    written_by(alloc, text, command, &descriptor, &report)
+}
+
+/// Appends each line of a text behind a bar.
+fn add_lines(text: &mut String, written: &str) -> Result<(), AllocError> {
+    for line in written.lines() {
         text.push_str(if line.is_empty() { "|" } else { "| " })?;
         text.push_str(line)?;
         text.push_str("\n")?;
@@ -82,22 +93,31 @@ fn written_by(
 /// word.
 pub fn add_words(alloc: Global, text: &mut String, words: &str) -> Result<(), Malformed> {
     let words = owned(alloc, words)?;
-    match request_of(&words) {
+    Ok(add_answer(text, &words)?)
+}
+
+fn add_answer(text: &mut String, words: &[String]) -> Result<(), AllocError> {
+    let command = command_of(words);
+    match request_of(words) {
         Some(request) => {
-            let (command, file) = (request.command, request.file);
-            write!(text, "{command:?} of '{file}'")?;
-            if let Some(report) = request.report {
-                write!(text, " and '{report}'")?;
-            }
-            if command_of(&words) != Some(command) {
+            add_request(text, &request)?;
+            if command != Some(request.command) {
                 text.push_str(", another command by itself")?;
             }
         }
-        None if command_of(&words).is_none() => text.push_str("wrong words")?,
+        None if command.is_none() => text.push_str("wrong words")?,
         None => text.push_str("a command without files")?,
     }
-    text.push_str("\n")?;
-    Ok(())
+    text.push_str("\n")
+}
+
+fn add_request(text: &mut String, request: &Request) -> Result<(), AllocError> {
+    let (command, file) = (request.command, request.file);
+    write!(text, "{command:?} of '{file}'")?;
+    match request.report {
+        Some(report) => write!(text, " and '{report}'"),
+        None => Ok(()),
+    }
 }
 
 fn owned(alloc: Global, words: &str) -> Result<Vec<String>, AllocError> {

@@ -7,6 +7,13 @@ use hidreport::{Collection, Direction, Report, ReportDescriptor, ReportId};
 use std::alloc::AllocError;
 use std::fmt::Write;
 
+/// The directions with their names.
+static DIRECTIONS: [(&str, Direction); 3] = [
+    ("input", Direction::Input),
+    ("output", Direction::Output),
+    ("feature", Direction::Feature),
+];
+
 /// Answers `by-id ID ..`: for each id, `-` for none, the reports of the last descriptor that have
 /// it, each with its direction, its bits, and the usages of each field in brackets.
 pub fn add_by_id(text: &mut String, asked: &Asked, words: &str) -> Result<(), Malformed> {
@@ -14,15 +21,9 @@ pub fn add_by_id(text: &mut String, asked: &Asked, words: &str) -> Result<(), Ma
     for word in words.split(" ") {
         text.push_str(word)?;
         text.push_str(":")?;
-        add_report(text, descriptor, "input", Direction::Input, id_of(word)?)?;
-        add_report(text, descriptor, "output", Direction::Output, id_of(word)?)?;
-        add_report(
-            text,
-            descriptor,
-            "feature",
-            Direction::Feature,
-            id_of(word)?,
-        )?;
+        for (name, direction) in &DIRECTIONS {
+            add_report(text, descriptor, name, *direction, id_of(word)?)?;
+        }
         text.push_str("\n")?;
     }
     Ok(())
