@@ -36,7 +36,7 @@ gather() {
             esac
         done < "$file"
     done
-    [ "$number" -gt 0 ] || { echo 'hid_runs: no run is stored' && exit 1; }
+    [ "$number" -ge 115 ] || { echo "hid_runs: only $number runs are stored" && exit 1; }
 }
 
 # The names of the runs.
@@ -101,8 +101,8 @@ try_unproved() {
     (cd "$top/crates/hid" && rt try --seconds 170 --cases "$scratch/cases" "${files[@]}") \
         > "$scratch/said" 2>&1 || true
     for name in $(names); do
-        sed -n "/^== $name\$/,/^case=$name /p" "$scratch/said" | sed '1d; s/^case=.* status=\([0-9]*\) .*/= \1/' \
-            > "$scratch/got"
+        sed -n "/^== $name\$/,/^case=$name /p" "$scratch/said" |
+            sed '1d; s/^case=.* status=\([0-9]*\) .*/= \1/' > "$scratch/got"
         name="$scratch/runs/$name"
         {
             sed -n 's/^[|!] \{0,1\}//; /^= /!s/^Usage: hid/Usage: program/; /^= /!p' "$name.wanted"

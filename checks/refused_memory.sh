@@ -1,9 +1,11 @@
 #!/bin/sh
-# Calls that take memory, over worked descriptors and items (refused_memory/memory.source), and runs of the program's commands
-# (refused_memory/runs.source): each of their allocations is refused in turn, and each answers as with ample memory, or want of
-# memory; where all have it, as with ample memory. There is a test for each allocation, which first makes as many others as bring it to the number that is refused in every test,
-# so that all run at once.
-# Proves nothing, takes about two minutes, and leaves nothing behind. Its argument, if any, is the repository to look at.
+# Calls that take memory, over worked descriptors and items (refused_memory/memory.source), and runs
+# of the program's commands (refused_memory/runs.source): each of their allocations is refused in
+# turn, and each answers as with ample memory, or want of memory; where none is refused, as with ample
+# memory. There is a test for each allocation, which first makes as many others as bring it to the
+# number that is refused in every test, so that all run at once.
+# Proves nothing, takes about two minutes, and leaves nothing behind.
+# Its argument, if any, is the repository to look at.
 set -eu
 
 . "$(dirname "$0")/needs.sh"
