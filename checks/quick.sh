@@ -13,7 +13,7 @@ export top scratch
 
 # Runs a crate's tests.
 try_tests() {
-    (cd "$top/crates/$1" && rt try --test) > "$scratch/$1.said" 2>&1
+    (cd "$top/crates/$1" && rt try --test --seconds 170) > "$scratch/$1.said" 2>&1
 }
 
 # Runs a program on the words, data and input beside it, and compares what it prints.
