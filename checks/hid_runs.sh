@@ -98,7 +98,7 @@ try_unproved() {
     for file in "$data"/*; do
         files+=(--data "${file##*/}=$file")
     done
-    (cd "$top/crates/hid" && rt try --seconds 170 --cases "$scratch/cases" "${files[@]}") \
+    (cd "$top/crates/hid" && rt try --seconds 300 --cases "$scratch/cases" "${files[@]}") \
         > "$scratch/said" 2>&1 || true
     for name in $(names); do
         sed -n "/^== $name\$/,/^case=$name /p" "$scratch/said" |

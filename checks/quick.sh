@@ -13,7 +13,7 @@ export top scratch
 
 # Runs a crate's tests.
 try_tests() {
-    (cd "$top/crates/$1" && rt try --test --seconds 170) > "$scratch/$1.said" 2>&1
+    (cd "$top/crates/$1" && rt try --test --seconds 300) > "$scratch/$1.said" 2>&1
 }
 
 # Runs a program on the words, data and input beside it, and compares what it prints.
@@ -25,7 +25,7 @@ try_program() {
     for file in data/*; do
         [ ! -f "$file" ] || data+=(--data "${file#data/}=$file")
     done
-    rt try --seconds 170 "${data[@]}" -- "${words[@]}" \
+    rt try --seconds 300 "${data[@]}" -- "${words[@]}" \
         < "$input" > "$scratch/$1.stdout" 2> "$scratch/$1.said" || return 1
     diff "$scratch/$1.stdout" stdout >> "$scratch/$1.said"
 }
