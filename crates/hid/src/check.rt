@@ -1,6 +1,6 @@
 //! `hid check`: what is odd in a descriptor, and what the standard says.
 use crate::decode::{offset_of, remark_of};
-use hid_text::{DIRECTIONS, PlacedItem, add_title, items_of};
+use crate::text::{DIRECTIONS, PlacedItem, add_title, items_of};
 use hidreport::hid::{CollectionItem, GlobalItem, ItemType, LocalItem, MainDataItem, MainItem};
 use hidreport::{Direction, Field, ParserError, RDescReport, Report, ReportDescriptor};
 use std::alloc::{AllocError, Global};

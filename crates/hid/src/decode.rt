@@ -1,8 +1,8 @@
 //! `hid decode`: the items of a descriptor in words.
 use crate::json::{add_item_json, add_remark};
 use crate::settings::Settings;
+use crate::text::{Pages, PlacedItem, add_bytes, add_item, items_of};
 use anyhow::Result;
-use hid_text::{Pages, PlacedItem, add_bytes, add_item, items_of};
 use hidreport::ParserError;
 use hidreport::hid::{ItemType, MainItem};
 use std::alloc::{AllocError, Global};

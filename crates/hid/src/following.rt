@@ -1,12 +1,12 @@
 //! `hid record`: a stream, followed to its end.
 use crate::ending::Ending;
+use crate::forms::Given;
 use crate::record::{PIECE, Shown, Stream, kind_named};
 use crate::running::{show, write};
 use crate::settings::Settings;
+use crate::text::{Lines, Meaning, Target};
 use anyhow::{Context, Result};
 use clap::ArgMatches;
-use hid_input::Given;
-use hid_text::{Lines, Meaning, Target};
 use hidreport::ReportDescriptor;
 use std::fs;
 use std::io::Read;

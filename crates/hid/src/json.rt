@@ -1,5 +1,5 @@
 //! Answers as JSON, an object in each line.
-use hid_text::{
+use crate::text::{
     DIRECTIONS, Difference, Pages, PlacedItem, Side, add_bytes, add_item, add_name, add_usage,
     chosen, word_of,
 };

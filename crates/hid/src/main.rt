@@ -8,12 +8,14 @@ mod command_line;
 mod decode;
 mod ending;
 mod following;
+mod forms;
 mod json;
 mod reading;
 mod record;
 mod report_commands;
 mod running;
 mod settings;
+mod text;
 
 use running::run;
 use std::process::ExitCode;

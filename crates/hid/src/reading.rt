@@ -1,8 +1,8 @@
 //! Descriptors and reports that a command's words name.
+use crate::forms::{Form, Given, bytes_named, descriptor_path, input_of};
 use crate::settings::Settings;
+use crate::text::add_bytes;
 use anyhow::{Context, Result, ensure};
-use hid_input::{Form, Given, bytes_named, descriptor_path, input_of};
-use hid_text::add_bytes;
 use hidreport::{Change, Mend, ReportDescriptor, repair};
 use std::mem;
 use std::rt::Files;

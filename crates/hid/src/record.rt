@@ -1,8 +1,8 @@
 //! `hid record`: the reports of a stream, each in a line as it comes.
+use crate::forms::{Form, bytes_of_hex, report_line};
 use crate::json::add_values_json;
+use crate::text::{Lines, add_bytes};
 use anyhow::{Result, bail};
-use hid_input::{Form, bytes_of_hex, report_line};
-use hid_text::{Lines, add_bytes};
 use hidreport::Direction;
 use std::alloc::{AllocError, Global};
 use std::fmt::Write;

@@ -1,15 +1,15 @@
 //! `hid set` and `hid values`: reports by the words of a command line.
 use crate::ending::Ending;
+use crate::forms::{Form, Given};
 use crate::json::add_values_json;
 use crate::reading::reports_named;
 use crate::running::{show, target_of, write};
 use crate::settings::Settings;
-use anyhow::{Context, Result, bail, ensure};
-use clap::ArgMatches;
-use hid_input::{Form, Given};
-use hid_text::{
+use crate::text::{
     Meaning, add_down, add_title, add_values, direction_named, filled, report_of, word_of,
 };
+use anyhow::{Context, Result, bail, ensure};
+use clap::ArgMatches;
 use hidreport::{Direction, RDescReport, Report, ReportDescriptor, ReportId};
 use std::rt::Files;
 

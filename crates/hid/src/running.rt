@@ -4,17 +4,17 @@ use crate::command_line::command_line;
 use crate::decode::decoded;
 use crate::ending::Ending;
 use crate::following::record;
+use crate::forms::{Given, bytes_named};
 use crate::json::{add_remark, differing_json, listed_json};
 use crate::reading::descriptor_named;
 use crate::report_commands::{set, values};
 use crate::settings::Settings;
-use anyhow::{Context, Result, bail};
-use clap::ArgMatches;
-use hid_input::{Given, bytes_named};
-use hid_text::{
+use crate::text::{
     Difference, Meaning, Target, compile_text, converted, differences, differing, drawn,
     drawn_as_svg, listed,
 };
+use anyhow::{Context, Result, bail};
+use clap::ArgMatches;
 use hidreport::{ParserError, ReportDescriptor};
 use std::alloc::Global;
 use std::io;

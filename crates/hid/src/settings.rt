@@ -1,6 +1,6 @@
 //! What the options of all commands say.
+use crate::forms::Form;
 use clap::ArgMatches;
-use hid_input::Form;
 use hidreport::{ParseOptions, PushKeeps, RepairOptions};
 
 /// The options of all commands.

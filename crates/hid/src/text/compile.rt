@@ -1,9 +1,9 @@
 //! `hid compile`: a descriptor's bytes from the text that `hid decode` writes.
-use crate::item_reading::bytes_of_words;
-use crate::item_words::add_item;
-use crate::pages::Pages;
+use crate::forms::bytes_of_hex;
+use crate::text::item_reading::bytes_of_words;
+use crate::text::item_words::add_item;
+use crate::text::pages::Pages;
 use anyhow::{Context, Result, bail};
-use hid_input::bytes_of_hex;
 use hidreport::hid::ItemType;
 use hidreport::types::UsagePage;
 use hidreport_lists::front_item;

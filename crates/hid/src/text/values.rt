@@ -1,6 +1,6 @@
 //! `hid values`: the values of a report, by name.
-use crate::naming::{add_page, add_usage, add_usage_on_page};
-use crate::scaled::{add_fraction, physical};
+use crate::text::naming::{add_page, add_usage, add_usage_on_page};
+use crate::text::scaled::{add_fraction, physical};
 use hidreport::{ArrayField, Field, RDescReport, Report, Usage, VariableField};
 use std::alloc::AllocError;
 use std::fmt::Write;

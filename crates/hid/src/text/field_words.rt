@@ -1,5 +1,5 @@
 //! A field in words: its bits, its name, its bounds and its flags.
-use crate::naming::{add_usage, add_usages, measured};
+use crate::text::naming::{add_usage, add_usages, measured};
 use hidreport::{ArrayField, Field, FieldAttributes, Unit, UnitExponent, VariableField};
 use std::alloc::AllocError;
 use std::fmt::Write;

@@ -1,8 +1,8 @@
 //! `hid convert`: a descriptor's bytes as hex text, as source, or as a recording.
-use crate::item_words::add_item;
-use crate::items::{PlacedItem, items_of};
-use crate::naming::add_bytes;
-use crate::pages::Pages;
+use crate::text::item_words::add_item;
+use crate::text::items::{PlacedItem, items_of};
+use crate::text::naming::add_bytes;
+use crate::text::pages::Pages;
 use std::alloc::{AllocError, Global};
 use std::fmt::Write;
 

@@ -1,5 +1,5 @@
 //! An item in words, as `hid decode` writes it and `hid compile` reads it.
-use crate::naming::{
+use crate::text::naming::{
     add_collection_kind, add_page, add_usage, add_usage_on_page, measured, on_page,
 };
 use hidreport::Usage;

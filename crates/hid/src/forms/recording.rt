@@ -1,5 +1,5 @@
 //! Recordings of devices: the lines that hid-recorder writes, and those of usbhid-dump.
-use crate::hex_text::bytes_of_hex;
+use crate::forms::hex_text::bytes_of_hex;
 use std::alloc::{AllocError, Global};
 
 /// A descriptor and reports, as a recording has them.

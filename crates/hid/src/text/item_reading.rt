@@ -1,5 +1,5 @@
 //! An item's bytes from its words.
-use crate::item_table::{Content, FLAGS, ITEMS, KINDS};
+use crate::text::item_table::{Content, FLAGS, ITEMS, KINDS};
 use hidreport::types::UsagePage;
 use hidreport_usages::{page_by_name, usage_on_page};
 use std::alloc::{AllocError, Global};

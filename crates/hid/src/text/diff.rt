@@ -1,7 +1,7 @@
 //! `hid diff`: the fields in which two descriptors differ.
-use crate::direction::DIRECTIONS;
-use crate::field_words::add_field;
-use crate::fields::add_title;
+use crate::text::direction::DIRECTIONS;
+use crate::text::field_words::add_field;
+use crate::text::fields::add_title;
 use hidreport::{Direction, Field, RDescReport, Report, ReportDescriptor};
 use std::alloc::{AllocError, Global};
 

@@ -1,5 +1,5 @@
 //! `hid set`: the bytes of a report, from names and numbers.
-use crate::naming::{add_usage, add_usage_on_page};
+use crate::text::naming::{add_usage, add_usage_on_page};
 use anyhow::{Context, Result, bail};
 use hidreport::{ArrayField, Field, RDescReport, Report, Usage};
 use std::alloc::{AllocError, Global};

@@ -1,7 +1,7 @@
 //! `hid fields`: the reports of a descriptor with their fields, inside their collections.
-use crate::direction::{DIRECTIONS, title_of};
-use crate::field_words::add_field;
-use crate::naming::add_collection;
+use crate::text::direction::{DIRECTIONS, title_of};
+use crate::text::field_words::add_field;
+use crate::text::naming::add_collection;
 use hidreport::{Collection, Direction, Field, RDescReport, Report, ReportDescriptor};
 use std::alloc::{AllocError, Global};
 use std::fmt::Write;

@@ -1,8 +1,8 @@
 //! `hid map --svg`: the bits of each report as a picture.
-use crate::direction::DIRECTIONS;
-use crate::fields::add_title;
-use crate::map::{bytes_of, shortened};
-use crate::rows::{Row, rows_of};
+use crate::text::direction::DIRECTIONS;
+use crate::text::fields::add_title;
+use crate::text::map::{bytes_of, shortened};
+use crate::text::rows::{Row, rows_of};
 use hidreport::{Direction, RDescReport, ReportDescriptor};
 use std::alloc::{AllocError, Global};
 use std::fmt::Write;

@@ -1,5 +1,5 @@
 //! The bits of a report as rows of cells, a row for each byte.
-use crate::naming::{add_page, add_usage_on_page};
+use crate::text::naming::{add_page, add_usage_on_page};
 use hidreport::{Field, RDescReport, Report};
 use std::alloc::{AllocError, Global};
 

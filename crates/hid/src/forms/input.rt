@@ -1,6 +1,6 @@
 //! What is read: descriptors and reports, in the forms that people have them.
-use crate::hex_text::bytes_of_hex;
-use crate::recording::{Recording, dump_of, recording_of};
+use crate::forms::hex_text::bytes_of_hex;
+use crate::forms::recording::{Recording, dump_of, recording_of};
 use anyhow::{Result, bail, ensure};
 use std::alloc::{AllocError, Global};
 use std::fs;

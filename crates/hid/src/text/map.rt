@@ -1,7 +1,7 @@
 //! `hid map`: the bits of each report, a row for each byte, bit 7 on the left.
-use crate::direction::DIRECTIONS;
-use crate::fields::add_title;
-use crate::rows::{Cell, Row, rows_of};
+use crate::text::direction::DIRECTIONS;
+use crate::text::fields::add_title;
+use crate::text::rows::{Cell, Row, rows_of};
 use hidreport::ReportDescriptor;
 use std::alloc::{AllocError, Global};
 use std::fmt::Write;

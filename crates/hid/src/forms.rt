@@ -1,6 +1,4 @@
 //! What people have of descriptors and reports: bytes, hex text, and the lines of recorders.
-//! Licence: MIT (LICENSE).
-#![tactic(auto)]
 
 mod hex_text;
 mod input;

@@ -1,6 +1,6 @@
 //! A report's values in one line, by names that are made once.
-use crate::naming::{add_page, add_usage_on_page};
-use crate::values::chosen;
+use crate::text::naming::{add_page, add_usage_on_page};
+use crate::text::values::chosen;
 use hidreport::{ArrayField, Field, RDescReport, Report, ReportDescriptor, VariableField};
 use std::alloc::{AllocError, Global};
 use std::fmt::Write;

@@ -1,6 +1,4 @@
 //! What `hid` writes of items, fields and reports, and reads of their words.
-//! Licence: MIT (LICENSE).
-#![tactic(auto)]
 
 mod compile;
 mod convert;
