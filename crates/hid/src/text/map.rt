@@ -55,33 +55,24 @@ pub fn bytes_of(alloc: Global, row: &Row) -> Result<String, AllocError> {
     }
 }
 
-/// Appends a cell, its text in the middle, and cut where it is too long.
+/// Appends a cell, its text in the middle.
 fn add_cell(text: &mut String, cell: &Cell) -> Result<(), AllocError> {
     let width = cell.bits.saturating_mul(WIDTH + 1).saturating_sub(1);
     let shown = shortened(&cell.name, width);
-    let length = shown.chars().count();
-    let gap = width.saturating_sub(length);
+    let gap = width.saturating_sub(shown.len());
     add_spaces(text, gap / 2)?;
-    for letter in shown.chars().take(width) {
-        text.push(letter)?;
-    }
+    text.push_str(shown)?;
     add_spaces(text, gap - gap / 2)?;
     text.push_str("|")
 }
 
-/// A name without its first words, as many as it takes to be no longer than the width.
+/// A name that is no longer than the width: a longer one loses `Keyboard` before it, then its end.
 pub fn shortened(name: &str, width: usize) -> &str {
-    let mut shown = name;
-    for _ in 0..name.len() {
-        if shown.len() <= width {
-            break;
-        }
-        match shown.split_once(" ") {
-            Some((_first, rest)) => shown = rest,
-            None => break,
-        }
+    if name.len() <= width {
+        return name;
     }
-    shown
+    let shown = name.strip_prefix("Keyboard ").unwrap_or(name);
+    shown.get(..width).unwrap_or(shown)
 }
 
 fn add_spaces(text: &mut String, count: usize) -> Result<(), AllocError> {
