@@ -96,16 +96,16 @@ impl ReportDescriptor {
     /// The reports, read as the options say: by what a Push keeps, and under limits, if any.
     ///
     /// More bytes than `longest` are `BudgetExceeded` with this number as the offset, before they
-    /// are looked at. Else refused is what `try_from` refuses, with its messages and in its order, over what is in
-    /// force where a Push keeps this. Where there is a limit, a field counts 1, with the usages of
-    /// an array and, for each collection that the field carries, 1 and the usages of that; padding
-    /// counts 1 alone. So does what an item opens: 1 for a collection, and its usages. Before
-    /// anything of an item is listed, what it counts is known from the numbers in force; with the
-    /// first item that makes the sum pass the limit the answer is `BudgetExceeded` with that item's
-    /// offset, unless the first fault stands at that item or before it, or an item can't be read.
-    /// What is read counts at most the limit together (`bounded`), and is what is read without one
-    /// (`plain`). Without both `BudgetExceeded` never comes (`unlimited`), and
-    /// `MismatchingReportId` never does.
+    /// are looked at. Else refused is what `try_from` refuses, with its messages and in its order,
+    /// over what is in force where a Push keeps this. Where there is a limit, a field counts 1,
+    /// with the usages of an array and, for each collection that the field carries, 1 and the
+    /// usages of that; padding counts 1 alone. So does what an item opens: 1 for a collection, and
+    /// its usages. Before anything of an item is listed, what it counts is known from the numbers
+    /// in force; with the first item that makes the sum pass the limit the answer is
+    /// `BudgetExceeded` with that item's offset, unless the first fault stands at that item or
+    /// before it, or an item can't be read. What is read counts at most the limit together
+    /// (`bounded`), and is what is read without one (`plain`). Without both `BudgetExceeded` never
+    /// comes (`unlimited`), and `MismatchingReportId` never does.
     ///
     /// A segment changes nothing, where a Push keeps globals alone one without local items
     /// (`struck`). Items that aren't kept change nothing, and the rebuilt bytes mean the same
@@ -223,7 +223,7 @@ impl ReportDescriptor {
         self.reports.of(Direction::Feature)
     }
 
-    /// The reports of a direction: what `input_reports`, `output_reports` or `feature_reports` gives.
+    /// The reports of a direction: those of `input_reports`, `output_reports` or `feature_reports`.
     pub fn reports(&self, direction: Direction) -> &[RDescReport]
         ensures { result.now ≡ reports_of direction self.now }
     {
