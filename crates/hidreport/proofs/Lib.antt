@@ -1,3 +1,4 @@
+pub mod AlikeLemmas
 pub mod LocalsLemmas
 pub mod LookupLemmas
 pub mod FixedBitsLemmas
