@@ -106,7 +106,7 @@ fn carry_out<R: AllocGlobal + Clock + Env + Files + Input + Print + Eprint>(
     name: &str,
     matches: &ArgMatches,
 ) -> Result<Ending> {
-    let settings = Settings::of(matches, is_terminal && !has_no_colour(rt));
+    let settings = Settings::of(matches, is_coloured(rt, is_terminal));
     let command = match Command::of(rt.alloc(), name, matches) {
         Ok(command) => command,
         Err(error) => {
@@ -123,10 +123,19 @@ fn carry_out<R: AllocGlobal + Clock + Env + Files + Input + Print + Eprint>(
         .context(format_args!("{}", command.input()))
 }
 
-/// Whether the environment wants no colour.
-fn has_no_colour<R: AllocGlobal + Env>(rt: &R) -> bool {
-    match env::var(rt, "NO_COLOR") {
-        Ok(value) => !value.is_empty(),
+/// Whether names are shown in colour where no option says it: on a terminal, unless `NO_COLOR` is
+/// set, and elsewhere where `CLICOLOR_FORCE` is and isn't 0.
+fn is_coloured<R: AllocGlobal + Env>(rt: &R, is_terminal: bool) -> bool {
+    if is_set(rt, "NO_COLOR", "") {
+        return false;
+    }
+    is_terminal || is_set(rt, "CLICOLOR_FORCE", "0")
+}
+
+/// Whether a variable of the environment is set to something else than this.
+fn is_set<R: AllocGlobal + Env>(rt: &R, name: &str, off: &str) -> bool {
+    match env::var(rt, name) {
+        Ok(value) => !value.is_empty() && value.as_str() != off,
         Err(_unset) => false,
     }
 }
