@@ -1,0 +1,192 @@
+//! What an input holds: devices with their descriptors, and reports.
+use crate::input::form::Form;
+use anyhow::{Result, bail, ensure};
+use std::alloc::{AllocError, Global};
+
+/// The most devices of an input.
+const MOST_DEVICES: usize = 256;
+
+/// What an input holds, and the form that it has.
+#[derive(Drop)]
+pub struct Given {
+    /// The form.
+    pub form: Form,
+    /// The devices.
+    pub devices: Vec<Device>,
+    /// The reports, in the order of the input.
+    pub reports: Vec<GivenReport>,
+}
+
+/// A device of an input.
+#[derive(Drop)]
+pub struct Device {
+    /// Its number in the input: the input's own where it numbers them, else from 0.
+    pub number: usize,
+    /// What the input calls it.
+    pub name: Option<String>,
+    /// The bytes of its descriptor.
+    pub descriptor: Vec<u8>,
+    /// Whether the input has a descriptor of it.
+    pub is_described: bool,
+}
+
+/// A report of an input.
+#[derive(Drop)]
+pub struct GivenReport {
+    /// The number of its device.
+    pub device: usize,
+    /// Its device's address, of usbhid-dump's lines.
+    pub address: Option<String>,
+    /// When it came, as the input has it.
+    pub time: Option<String>,
+    /// Its bytes.
+    pub bytes: Vec<u8>,
+}
+
+impl Given {
+    /// The device that a report is of, which an input in this form has: the only one where that
+    /// form doesn't tell devices apart, else by its address or its number.
+    pub fn device_of(&self, form: Form, report: &GivenReport) -> Option<&Device> {
+        if !form.tells_devices() {
+            return match self.devices.as_slice() {
+                [device] => Some(device),
+                _ => None,
+            };
+        }
+        if let (Form::Dump, Some(address)) = (self.form, &report.address) {
+            return self
+                .devices
+                .iter()
+                .find(|it| it.is_called(address.as_str()));
+        }
+        self.devices.iter().find(|it| it.number == report.device)
+    }
+}
+
+impl Device {
+    /// Whether this is its name.
+    fn is_called(&self, name: &str) -> bool {
+        match &self.name {
+            Some(own) => own.as_str() == name,
+            None => false,
+        }
+    }
+}
+
+impl GivenReport {
+    /// A report of the first device, without a time.
+    pub fn new(bytes: Vec<u8>) -> GivenReport {
+        GivenReport {
+            device: 0,
+            address: None,
+            time: None,
+            bytes,
+        }
+    }
+}
+
+/// What the lines of an input have said so far.
+#[derive(Drop)]
+pub struct Found {
+    /// The devices.
+    pub devices: Vec<Device>,
+    /// The reports.
+    pub reports: Vec<GivenReport>,
+}
+
+impl Found {
+    /// Before the first line.
+    pub fn new(alloc: Global) -> Found {
+        Found {
+            devices: Vec::new(alloc),
+            reports: Vec::new(alloc),
+        }
+    }
+
+    /// Makes a device known.
+    pub fn add_device(&mut self, number: usize) -> Result<()> {
+        if self.devices.iter().any(|it| it.number == number) {
+            return Ok(());
+        }
+        ensure!(
+            self.devices.len() < MOST_DEVICES,
+            "more than {MOST_DEVICES} devices"
+        );
+        let alloc = *self.devices.allocator();
+        self.devices.push(Device {
+            number,
+            name: None,
+            descriptor: Vec::new(alloc),
+            is_described: false,
+        })?;
+        Ok(())
+    }
+
+    /// Takes a device's name.
+    pub fn set_name(&mut self, number: usize, name: &str) -> Result<()> {
+        self.add_device(number)?;
+        let alloc = *self.devices.allocator();
+        for device in self.devices.iter_mut() {
+            if device.number == number {
+                device.name = Some(String::from_str(alloc, name)?);
+            }
+        }
+        Ok(())
+    }
+
+    /// Takes a device's descriptor; one that it has already is taken again if it is the same.
+    pub fn add_descriptor(&mut self, number: usize, bytes: Vec<u8>) -> Result<()> {
+        self.add_device(number)?;
+        for device in self.devices.iter_mut() {
+            if device.number == number {
+                return describe(device, bytes);
+            }
+        }
+        Ok(())
+    }
+
+    /// The number of the device with this name, which is made known.
+    pub fn device_called(&mut self, name: &str) -> Result<usize> {
+        if let Some(device) = self.devices.iter().find(|it| it.is_called(name)) {
+            return Ok(device.number);
+        }
+        let number = self.devices.len();
+        self.set_name(number, name)?;
+        Ok(number)
+    }
+
+    /// Takes a report.
+    pub fn add_report(&mut self, report: GivenReport) -> Result<(), AllocError> {
+        self.reports.push(report)?;
+        Ok(())
+    }
+
+    /// Forgets the descriptors of the devices.
+    pub fn forget_descriptors(&mut self) {
+        for device in self.devices.iter_mut() {
+            device.descriptor.clear();
+            device.is_described = false;
+        }
+    }
+
+    /// All of it, in a form.
+    pub fn given(self, form: Form) -> Given {
+        let Found { devices, reports } = self;
+        Given {
+            form,
+            devices,
+            reports,
+        }
+    }
+}
+
+/// Takes a descriptor as a device's own.
+fn describe(device: &mut Device, bytes: Vec<u8>) -> Result<()> {
+    if device.is_described && device.descriptor.as_slice() != bytes.as_slice() {
+        let number = device.number;
+        bail!("device {number} has another descriptor already");
+    }
+    device.descriptor = bytes;
+    device.is_described = true;
+    Ok(())
+}
