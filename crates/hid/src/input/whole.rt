@@ -82,7 +82,8 @@ pub fn form_of_line(number: u64, line: &str) -> Result<Form> {
     match Form::of_line(line) {
         Some(form) => Ok(form),
         None => bail!(
-            "line {number}: text, but not hex, hid-recorder's, usbhid-dump's, C or Rust; say --form"
+            "line {number}: not hex, hid-recorder's, usbhid-dump's, C or Rust; as bytes: --form or \
+--report-form bytes"
         ),
     }
 }
