@@ -1,10 +1,11 @@
 #!/bin/bash
 # What C gets, by the header and by the Rust module: the questions of c/cases.txt are asked of the
 # static library by a C program and by a Rust one, whose answers have to be those that stand there.
-# Its argument is a folder that ./install filled; without one it fills one, which takes half a
-# minute behind a check of `hidreport_c`. With `behind-ci` it builds the library over what `rt ci`
-# has just proved (checks/c_library.sh), in two minutes. Where no C compiler is there, or no cargo, it
-# says so and leaves that part out.
+# Then the tests of the Rust module are run: its numbers, its refusals, and want of memory in either
+# of the two calls that a list takes. Its argument is a folder that ./install filled; without one it
+# fills one, which takes half a minute behind a check of `hidreport_c`. With `behind-ci` it builds
+# the library over what `rt ci` has just proved (checks/c_library.sh), in two minutes. Where no C
+# compiler is there, or no cargo, it says so and leaves that part out.
 set -eu
 
 top=$(cd "$(dirname "$0")/.." && pwd)
@@ -54,6 +55,12 @@ if cargo --version > /dev/null 2>&1; then
         cargo build --offline --quiet --example cases) ||
         { echo 'c_cases: the Rust module is not built'; exit 1; }
     ask 'a Rust program' "$scratch/rust/target/debug/examples/cases"
+    (cd "$scratch/rust" && HIDREPORT_LIB_DIR="$prefix/lib" cargo test --offline --quiet --lib) \
+        > "$scratch/said" 2>&1 || {
+        tail -n 20 "$scratch/said"
+        echo 'c_cases: a test of the Rust module fails'
+        exit 1
+    }
 else
     echo 'c_cases: no `cargo` that runs, so the Rust module is not asked'
 fi

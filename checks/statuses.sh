@@ -15,7 +15,7 @@ trap 'rm -rf "$scratch"' EXIT
 if [ $# -gt 0 ]; then
     program=$1
 else
-    "$top/hidreport" values "$mouse" "$report" > "$scratch/first" || {
+    "$top/hidreport" --prove && "$top/hidreport" values "$mouse" "$report" > "$scratch/first" || {
         echo 'statuses: ./hidreport shows no values' >&2
         exit 1
     }

@@ -1,14 +1,15 @@
 //! Prints the questions of its input with their answers, as c/cases.c does, by this module's
 //! functions.
-use hidreport_c::{collection_kind, field_kind, mends, reason, status};
-use hidreport_c::{Direction, Field, Options, Refusal, DEFAULT_LIMIT, NO_LIMIT};
-use hidreport_c::{PUSH_ALL, PUSH_GLOBALS};
+use hidreport_c::{CollectionKind, Direction, FieldKind, Mends, Push, Reason, Status};
+use hidreport_c::{Field, Options, Refusal, DEFAULT_LIMIT, NO_LIMIT};
 use std::io::BufRead;
 
 /// What the last questions gave, for the questions about it.
 #[derive(Default)]
 struct Asked {
     options: Options,
+    /// Options that can't be named in Rust were asked for.
+    is_unknown: bool,
     fields: Vec<Field>,
     usages: Vec<u32>,
 }
@@ -37,8 +38,9 @@ fn direction_of(word: &str) -> Option<Direction> {
     }
 }
 
-fn options_of(limit: &str, push: &str) -> Options {
-    Options {
+/// Other options than these can't be named in Rust.
+fn options_of(limit: &str, push: &str) -> Option<Options> {
+    Some(Options {
         limit: match limit {
             "default" => DEFAULT_LIMIT,
             "none" => NO_LIMIT,
@@ -46,20 +48,29 @@ fn options_of(limit: &str, push: &str) -> Options {
         },
         push: match push {
             "default" => Options::default().push,
-            "all" => PUSH_ALL,
-            "globals" => PUSH_GLOBALS,
-            _ => push.parse().expect("a number"),
+            "all" => Push::All,
+            "globals" => Push::Globals,
+            _ => Push::try_from(push.parse::<u32>().expect("a number")).ok()?,
         },
-    }
+    })
 }
 
-fn mends_of(word: &str) -> u32 {
-    match word {
-        "default" => mends::DEFAULT,
-        "cut-short" => mends::CUT_SHORT,
-        "unsigned-maxima" => mends::UNSIGNED_MAXIMA,
-        "both" => mends::CUT_SHORT + mends::UNSIGNED_MAXIMA,
-        _ => word.parse().expect("a number"),
+/// Nor other mends.
+fn mends_of(word: &str) -> Option<Mends> {
+    Some(match word {
+        "default" => Mends::default(),
+        "cut-short" => Mends { cut_short: true, unsigned_maxima: false },
+        "unsigned-maxima" => Mends { cut_short: false, unsigned_maxima: true },
+        "both" => Mends { cut_short: true, unsigned_maxima: true },
+        _ => Mends::try_from(word.parse::<u32>().expect("a number")).ok()?,
+    })
+}
+
+/// What C answers to what can't be named in Rust; texts and bytes have a line of their own.
+fn say_unknown(kind: &str) {
+    println!("  count 0 offset 0 unknown-option");
+    if matches!(kind, "message" | "repair" | "repair-message") {
+        println!("  ");
     }
 }
 
@@ -72,48 +83,50 @@ fn room_of(word: &str) -> usize {
 }
 
 fn reason_of(number: u32) -> &'static str {
-    match number {
-        reason::NO_DATA => "no data",
-        reason::UNKNOWN_MAIN_ITEM => "unknown main item",
-        reason::ENDED_LOCAL => "local of an unknown main item",
-        reason::NO_USAGE => "no usage",
-        reason::UNSIGNED_MAXIMUM => "unsigned maximum",
-        reason::CUT_SHORT => "cut short",
-        _ => "?",
+    match Reason::try_from(number) {
+        Ok(Reason::NoData) => "no data",
+        Ok(Reason::UnknownMainItem) => "unknown main item",
+        Ok(Reason::EndedLocal) => "local of an unknown main item",
+        Ok(Reason::NoUsage) => "no usage",
+        Ok(Reason::UnsignedMaximum) => "unsigned maximum",
+        Ok(Reason::CutShort) => "cut short",
+        Err(_) => "?",
     }
 }
 
-fn words_of(status: u32) -> &'static str {
+fn words_of(status: Status) -> &'static str {
     match status {
-        status::INVALID_DATA => "invalid-data",
-        status::OUT_OF_BOUNDS => "out-of-bounds",
-        status::MISMATCHING_REPORT_ID => "mismatching-report-id",
-        status::OUT_OF_MEMORY => "out-of-memory",
-        status::BUDGET_EXCEEDED => "budget-exceeded",
-        status::UNKNOWN_OPTION => "unknown-option",
-        _ => "?",
+        Status::InvalidData => "invalid-data",
+        Status::OutOfBounds => "out-of-bounds",
+        Status::MismatchingReportId => "mismatching-report-id",
+        Status::OutOfMemory => "out-of-memory",
+        Status::BudgetExceeded => "budget-exceeded",
+        Status::UnknownOption => "unknown-option",
     }
 }
 
 fn kind_of(kind: u32) -> &'static str {
-    match kind {
-        field_kind::VARIABLE => "variable",
-        field_kind::ARRAY => "array",
-        field_kind::CONSTANT => "constant",
-        _ => "?",
+    match FieldKind::try_from(kind) {
+        Ok(FieldKind::Variable) => "variable",
+        Ok(FieldKind::Array) => "array",
+        Ok(FieldKind::Constant) => "constant",
+        Err(_) => "?",
     }
 }
 
 fn collection_of(kind: u32) -> String {
-    String::from(match kind {
-        collection_kind::PHYSICAL => "physical",
-        collection_kind::APPLICATION => "application",
-        collection_kind::LOGICAL => "logical",
-        collection_kind::REPORT => "report",
-        collection_kind::NAMED_ARRAY => "named-array",
-        collection_kind::USAGE_SWITCH => "usage-switch",
-        collection_kind::USAGE_MODIFIER => "usage-modifier",
-        _ => return kind.to_string(),
+    String::from(match CollectionKind::try_from(kind) {
+        Ok(CollectionKind::Physical) => "physical",
+        Ok(CollectionKind::Application) => "application",
+        Ok(CollectionKind::Logical) => "logical",
+        Ok(CollectionKind::Report) => "report",
+        Ok(CollectionKind::NamedArray) => "named-array",
+        Ok(CollectionKind::UsageSwitch) => "usage-switch",
+        Ok(CollectionKind::UsageModifier) => "usage-modifier",
+        Ok(CollectionKind::Reserved(byte) | CollectionKind::VendorDefined(byte)) => {
+            return byte.to_string()
+        }
+        Err(_) => "?",
     })
 }
 
@@ -131,7 +144,7 @@ fn counted<T>(answer: Result<Vec<T>, Refusal>) -> Vec<T> {
     }
 }
 
-fn say(message: Result<String, u32>) {
+fn say(message: Result<String, Status>) {
     match message {
         Ok(text) => println!("  count {} offset 0 accepted\n  {text}", text.len()),
         Err(status) => println!("  count 0 offset 0 {}\n  ", words_of(status)),
@@ -263,7 +276,9 @@ impl Asked {
 
     /// Questions of a repair.
     fn ask_repair(&self, kind: &str, words: &[&str], descriptor: &[u8]) {
-        let (mends, room) = (mends_of(words[0]), room_of(words[1]));
+        let (Some(mends), room) = (mends_of(words[0]), room_of(words[1])) else {
+            return say_unknown(kind);
+        };
         if kind == "repair" {
             let bytes = counted(hidreport_c::repair(descriptor, self.options, mends));
             return print_bytes(&bytes[..room.min(bytes.len())]);
@@ -282,7 +297,11 @@ impl Asked {
         let descriptor = |from: usize| bytes_of(&words[from..].concat());
         match words[0] {
             "version" => version(),
-            "options" => self.options = options_of(words[1], words[2]),
+            "options" => match options_of(words[1], words[2]) {
+                Some(options) => (self.options, self.is_unknown) = (options, false),
+                None => self.is_unknown = true,
+            },
+            kind if self.is_unknown => say_unknown(kind),
             kind @ ("reports" | "describe" | "find") => {
                 self.ask_direction(kind, words[1], &descriptor(2), &report)
             }
@@ -296,16 +315,16 @@ impl Asked {
             }
             "rebuild" => print_bytes(&counted(hidreport_c::rebuild(&descriptor(1)))),
             kind @ ("repair" | "changes") => self.ask_repair(kind, &words[1..], &descriptor(3)),
-            "repair-message" => {
-                let mends = mends_of(words[1]);
-                say(hidreport_c::repair_message(&descriptor(2), self.options, mends))
-            }
+            "repair-message" => match mends_of(words[1]) {
+                Some(mends) => {
+                    say(hidreport_c::repair_message(&descriptor(2), self.options, mends))
+                }
+                None => say_unknown("repair-message"),
+            },
             "message" => say(hidreport_c::message(&descriptor(1), self.options)),
-            "refusal" => tell(hidreport_c::describe(
-                &descriptor(1),
-                self.options,
-                Direction::Input,
-            )),
+            "refusal" => {
+                tell(hidreport_c::describe(&descriptor(1), self.options, Direction::Input))
+            }
             "items-message" => say(hidreport_c::items_message(&descriptor(1))),
             other => panic!("no question: {other}"),
         }

@@ -1,46 +1,17 @@
 //! The static library `hidreport_c` from Rust: safe functions over the declarations of `sys`.
 //! Not the Rust crate `hidreport`, which is written in Rust; this one calls what was proved.
+mod numbers;
 mod repairing;
 mod sys;
 
-pub use repairing::{changes, mends, reason, repair, repair_message};
+pub use numbers::{
+    CollectionKind, Direction, FieldKind, Mends, Push, Reason, Status, UnknownNumber,
+};
+pub use repairing::{changes, repair, repair_message};
 pub use sys::{Change, Collection, Field, Item, Options, Report};
 
-/// The direction of a report.
-#[derive(Clone, Copy, Debug, PartialEq)]
-pub enum Direction {
-    Input = 0,
-    Output = 1,
-    Feature = 2,
-}
-
-/// Why there is no answer: `status` of a refusal.
-pub mod status {
-    pub const INVALID_DATA: u32 = 1;
-    pub const OUT_OF_BOUNDS: u32 = 2;
-    pub const MISMATCHING_REPORT_ID: u32 = 3;
-    pub const OUT_OF_MEMORY: u32 = 4;
-    pub const BUDGET_EXCEEDED: u32 = 5;
-    pub const UNKNOWN_OPTION: u32 = 6;
-}
-
-/// `kind` of a field.
-pub mod field_kind {
-    pub const VARIABLE: u32 = 0;
-    pub const ARRAY: u32 = 1;
-    pub const CONSTANT: u32 = 2;
-}
-
-/// `kind` of a collection; 0x07 to 0x7f are kept for later, 0x80 to 0xff are the vendor's.
-pub mod collection_kind {
-    pub const PHYSICAL: u32 = 0;
-    pub const APPLICATION: u32 = 1;
-    pub const LOGICAL: u32 = 2;
-    pub const REPORT: u32 = 3;
-    pub const NAMED_ARRAY: u32 = 4;
-    pub const USAGE_SWITCH: u32 = 5;
-    pub const USAGE_MODIFIER: u32 = 6;
-}
+use std::error::Error;
+use std::fmt;
 
 /// A limit for bytes that nobody vouches for.
 pub const DEFAULT_LIMIT: usize = 65_536;
@@ -48,62 +19,85 @@ pub const DEFAULT_LIMIT: usize = 65_536;
 /// No limit: a descriptor takes what memory it asks for.
 pub const NO_LIMIT: usize = usize::MAX;
 
-/// A Push keeps global and local items, as the Rust crate has it.
-pub const PUSH_ALL: u32 = 0;
-
-/// A Push keeps global items alone, as Linux has it.
-pub const PUSH_GLOBALS: u32 = 1;
-
 impl Default for Options {
     fn default() -> Options {
-        Options { limit: DEFAULT_LIMIT, push: PUSH_ALL }
+        Options { limit: DEFAULT_LIMIT, push: Push::All }
     }
 }
 
-/// Why a descriptor is refused: a number of `status`, the offset of the item, and a text where
-/// there is one.
-#[derive(Clone, Debug, PartialEq)]
+/// Why a descriptor is refused, the offset of the item, and a text where there is one.
+#[derive(Clone, Debug, PartialEq, Eq)]
 pub struct Refusal {
-    pub status: u32,
+    pub status: Status,
     pub offset: usize,
     pub message: String,
 }
 
-/// All that a call has, which is asked twice: how much there is, and then for all of it.
+impl fmt::Display for Refusal {
+    fn fmt(&self, f: &mut fmt::Formatter) -> fmt::Result {
+        let Refusal { status, offset, message } = self;
+        match (status, message.is_empty()) {
+            (Status::InvalidData | Status::BudgetExceeded, true) => {
+                write!(f, "{status} at offset {offset}")
+            }
+            (Status::InvalidData | Status::BudgetExceeded, false) => {
+                write!(f, "{message} at offset {offset}")
+            }
+            _ => write!(f, "{status}"),
+        }
+    }
+}
+
+impl Error for Refusal {}
+
+/// Why a call has no list: its status, and an offset.
+#[derive(Clone, Copy, Debug, PartialEq)]
+struct Unlisted {
+    status: Status,
+    offset: usize,
+}
+
+/// How many there are, or why there is no list.
+fn counted(answer: sys::Answer) -> Result<usize, Unlisted> {
+    let offset = answer.offset;
+    match Status::of_answer(answer.status) {
+        Ok(()) => Ok(answer.count),
+        Err(status) => Err(Unlisted { status, offset }),
+    }
+}
+
+/// All that a call has, which is asked twice: how much there is, and then for all of it. Either
+/// answer may be a refusal, since either takes memory.
 fn listed<T: Clone>(
     empty: T,
     call: impl Fn(*mut T, usize) -> sys::Answer,
-) -> Result<Vec<T>, sys::Answer> {
-    let answer = call(std::ptr::null_mut(), 0);
-    let mut list = vec![empty; answer.count];
-    let answer = call(list.as_mut_ptr(), list.len());
-    if answer.status == 0 {
-        Ok(list)
-    } else {
-        Err(answer)
-    }
+) -> Result<Vec<T>, Unlisted> {
+    let count = counted(call(std::ptr::null_mut(), 0))?;
+    let mut list = vec![empty; count];
+    counted(call(list.as_mut_ptr(), list.len()))?;
+    Ok(list)
 }
 
 // SAFETY of all calls below: pointers and lengths are those of slices and lists that live until
 // the call is over, and none that is written overlaps one that is read; no room is a length of 0.
 
-fn text_of(call: impl Fn(*mut u8, usize) -> sys::Answer) -> Result<String, u32> {
+fn text_of(call: impl Fn(*mut u8, usize) -> sys::Answer) -> Result<String, Status> {
     match listed(0, call) {
         Ok(text) => Ok(String::from_utf8_lossy(&text).into_owned()),
-        Err(answer) => Err(answer.status),
+        Err(unlisted) => Err(unlisted.status),
     }
 }
 
 /// What a descriptor is refused for, no text where it is accepted; the status where that can't be
 /// said.
-pub fn message(descriptor: &[u8], options: Options) -> Result<String, u32> {
+pub fn message(descriptor: &[u8], options: Options) -> Result<String, Status> {
     text_of(|text, room| unsafe {
         sys::hidreport_message(descriptor.as_ptr(), descriptor.len(), options, text, room)
     })
 }
 
 /// What `items` and `rebuild` refuse bytes for, as `message` says of the others.
-pub fn items_message(descriptor: &[u8]) -> Result<String, u32> {
+pub fn items_message(descriptor: &[u8]) -> Result<String, Status> {
     text_of(|text, room| unsafe {
         sys::hidreport_items_message(descriptor.as_ptr(), descriptor.len(), text, room)
     })
@@ -117,9 +111,9 @@ fn listed_in<T: Clone>(
     call: impl Fn(*const u8, usize, *mut T, usize) -> sys::Answer,
 ) -> Result<Vec<T>, Refusal> {
     let (bytes, length) = (descriptor.as_ptr(), descriptor.len());
-    listed(empty, |list, room| call(bytes, length, list, room)).map_err(|answer| Refusal {
-        status: answer.status,
-        offset: answer.offset,
+    listed(empty, |list, room| call(bytes, length, list, room)).map_err(|unlisted| Refusal {
+        status: unlisted.status,
+        offset: unlisted.offset,
         message: message(descriptor, options).unwrap_or_default(),
     })
 }
@@ -132,7 +126,7 @@ pub fn reports(
 ) -> Result<Vec<Report>, Refusal> {
     let empty = Report::default();
     listed_in(descriptor, options, empty, |bytes, length, list, room| unsafe {
-        sys::hidreport_reports(bytes, length, options, direction as u32, list, room)
+        sys::hidreport_reports(bytes, length, options, direction.into(), list, room)
     })
 }
 
@@ -144,7 +138,7 @@ pub fn describe(
 ) -> Result<Vec<Field>, Refusal> {
     let empty = Field::default();
     listed_in(descriptor, options, empty, |bytes, length, list, room| unsafe {
-        sys::hidreport_describe(bytes, length, options, direction as u32, list, room)
+        sys::hidreport_describe(bytes, length, options, direction.into(), list, room)
     })
 }
 
@@ -158,7 +152,7 @@ pub fn find(
     let (first, size) = (report.as_ptr(), report.len());
     let empty = Field::default();
     listed_in(descriptor, options, empty, |bytes, length, list, room| unsafe {
-        sys::hidreport_find(bytes, length, options, direction as u32, first, size, list, room)
+        sys::hidreport_find(bytes, length, options, direction.into(), first, size, list, room)
     })
 }
 
@@ -193,10 +187,10 @@ pub fn collection_usages(
     })
 }
 
-fn items_refusal(descriptor: &[u8], answer: sys::Answer) -> Refusal {
+fn items_refusal(descriptor: &[u8], unlisted: Unlisted) -> Refusal {
     Refusal {
-        status: answer.status,
-        offset: answer.offset,
+        status: unlisted.status,
+        offset: unlisted.offset,
         message: items_message(descriptor).unwrap_or_default(),
     }
 }
@@ -206,7 +200,7 @@ pub fn items(descriptor: &[u8]) -> Result<Vec<Item>, Refusal> {
     listed(Item::default(), |items, room| unsafe {
         sys::hidreport_items(descriptor.as_ptr(), descriptor.len(), items, room)
     })
-    .map_err(|answer| items_refusal(descriptor, answer))
+    .map_err(|unlisted| items_refusal(descriptor, unlisted))
 }
 
 /// A descriptor written anew, each item in its shortest spelling.
@@ -214,25 +208,21 @@ pub fn rebuild(descriptor: &[u8]) -> Result<Vec<u8>, Refusal> {
     listed(0, |bytes, room| unsafe {
         sys::hidreport_rebuild(descriptor.as_ptr(), descriptor.len(), bytes, room)
     })
-    .map_err(|answer| items_refusal(descriptor, answer))
+    .map_err(|unlisted| items_refusal(descriptor, unlisted))
 }
 
 /// One value of a field in a report, counted from 0; else the status of the refusal.
-pub fn value(field: &Field, report: &[u8], index: usize) -> Result<i64, u32> {
+pub fn value(field: &Field, report: &[u8], index: usize) -> Result<i64, Status> {
     let value = unsafe { sys::hidreport_value(field, report.as_ptr(), report.len(), index) };
-    if value.status == 0 {
-        Ok(value.number)
-    } else {
-        Err(value.status)
-    }
+    Status::of_answer(value.status).map(|()| value.number)
 }
 
 /// The values of a field in a report.
-pub fn values(field: &Field, report: &[u8]) -> Result<Vec<i64>, u32> {
+pub fn values(field: &Field, report: &[u8]) -> Result<Vec<i64>, Status> {
     listed(0, |values, room| unsafe {
         sys::hidreport_values(field, report.as_ptr(), report.len(), values, room)
     })
-    .map_err(|answer| answer.status)
+    .map_err(|unlisted| unlisted.status)
 }
 
 /// The usage that a value of an array stands for, of the usages that `usages` lists for the field.
@@ -265,24 +255,47 @@ mod tests {
         assert_eq!(usages, [0x0001_0030, 0x0001_0031]);
         let read: Vec<_> = fields.iter().map(|field| values(field, &report)).collect();
         assert_eq!(read, [Ok(vec![5]), Ok(vec![-5])]);
-        assert_eq!(values(&fields[1], &report[..1]), Err(2));
+        assert_eq!(values(&fields[1], &report[..1]), Err(Status::OutOfBounds));
+        assert_eq!(FieldKind::try_from(fields[0].kind), Ok(FieldKind::Variable));
         assert_eq!(input_fields(MOUSE, &[]), Ok(vec![]));
     }
 
     #[test]
     fn a_refusal_has_its_place_and_its_text() {
         let refusal = input_fields(b"\x75\x08\xb4", &[0]).unwrap_err();
-        assert_eq!((refusal.status, refusal.offset), (1, 2));
+        assert_eq!((refusal.status, refusal.offset), (Status::InvalidData, 2));
         assert_eq!(refusal.message, "Too many Pops, not enough Pushes");
         assert_eq!(input_fields(&[], &[0]).unwrap_err().message, "Empty report descriptor");
         assert_eq!(items(&[]).unwrap_err().message, "Insufficient data");
+        let told: Box<dyn Error> = Box::new(refusal);
+        assert_eq!(told.to_string(), "Too many Pops, not enough Pushes at offset 2");
+    }
+
+    /// A call whose first answer, whose second, or neither is a refusal for want of memory.
+    fn refusing(refused: usize) -> impl Fn(*mut u8, usize) -> sys::Answer {
+        let calls = std::cell::Cell::new(0);
+        move |_list, _room| {
+            calls.set(calls.get() + 1);
+            match calls.get() == refused {
+                true => sys::Answer { count: 0, offset: 0, status: 4 },
+                false => sys::Answer { count: 2, offset: 0, status: 0 },
+            }
+        }
+    }
+
+    #[test]
+    fn want_of_memory_in_either_call_is_told() {
+        let lacking = Err(Unlisted { status: Status::OutOfMemory, offset: 0 });
+        assert_eq!(listed(7, refusing(1)), lacking);
+        assert_eq!(listed(7, refusing(2)), lacking);
+        assert_eq!(listed(7, refusing(3)), Ok(vec![7, 7]));
     }
 
     #[test]
     fn a_limit_is_kept() {
-        let one = Options { limit: 1, push: PUSH_ALL };
+        let one = Options { limit: 1, push: Push::All };
         let refusal = describe(MOUSE, one, Direction::Input).unwrap_err();
-        assert_eq!((refusal.status, refusal.offset), (5, 14));
+        assert_eq!((refusal.status, refusal.offset), (Status::BudgetExceeded, 14));
         assert_eq!(refusal.message, "budget exceeded");
     }
 }

@@ -1,4 +1,6 @@
 //! `include/hidreport.h` in Rust.
+use crate::numbers::Push;
+
 #[repr(C)]
 #[derive(Clone, Copy, Debug, PartialEq)]
 pub struct Answer {
@@ -121,8 +123,8 @@ pub struct Usage {
 pub struct Options {
     /// The most that may be listed; `NO_LIMIT` is none.
     pub limit: usize,
-    /// What a Push keeps: `PUSH_ALL` or `PUSH_GLOBALS`.
-    pub push: u32,
+    /// What a Push keeps.
+    pub push: Push,
 }
 
 extern "C" {
