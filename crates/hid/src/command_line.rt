@@ -67,7 +67,7 @@ static OPTIONS: [Argument; 8] = [
     (
         "limit",
         Kind::Number,
-        "The most that a descriptor may list, 262144 where it isn't said",
+        "The most that a descriptor may list, 131072 where it isn't said",
     ),
     (
         "push",

@@ -10,7 +10,7 @@ pub const LONGEST_INPUT: u64 = 64 * 1024 * 1024;
 pub const LONGEST_LINE: usize = 1024 * 1024;
 
 /// The most that a descriptor may list, where nothing else is said.
-pub const LIMIT: usize = 262_144;
+pub const LIMIT: usize = 131_072;
 
 /// The options of all commands.
 #[derive(Clone, Copy, Debug)]

@@ -263,7 +263,7 @@ fn null_of(field: &VariableField) -> Option<i64> {
     }
     let low = i64::from(i32::from(field.logical_minimum));
     let high = i64::from(i32::from(field.logical_maximum));
-    let width = field.bits.end.saturating_sub(field.bits.start);
+    let width = field.bits.len();
     for number in [0, low - 1, high + 1] {
         if is_outside(field, number) && holds(width, field.is_signed(), number) {
             return Some(number);

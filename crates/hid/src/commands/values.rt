@@ -151,7 +151,7 @@ fn add_variable(text: &mut String, field: &VariableField, bytes: &[u8]) -> Resul
     match amount {
         Amount::Number(value) => add_number(text, field, value)?,
         _ => {
-            let width = field.bits.end.saturating_sub(field.bits.start);
+            let width = field.bits.len();
             write!(text, ": {width} bits, too many for a number")?;
         }
     }
@@ -249,7 +249,7 @@ fn add_keys(text: &mut String, field: &ArrayField, bytes: &[u8]) -> Result<(), A
 
 /// Whether a field that is on or off is on.
 fn is_down(field: &VariableField, bytes: &[u8]) -> bool {
-    let is_switch = field.bits.end.saturating_sub(field.bits.start) == 1;
+    let is_switch = field.bits.len() == 1;
     match amount_of(field, bytes) {
         Amount::Number(value) => is_switch && value != 0,
         _ => false,

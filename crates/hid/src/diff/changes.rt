@@ -51,7 +51,7 @@ fn name_of(alloc: Global, field: &Field) -> Result<String, AllocError> {
 }
 
 fn width_of(alloc: Global, field: &Field) -> Result<String, AllocError> {
-    let width = field.bits().end.saturating_sub(field.bits().start);
+    let width = field.bits().len();
     format!(in alloc; "{width} bits")
 }
 

@@ -227,7 +227,7 @@ fn add_variable(
         Amount::Number(value) => write!(text, "{value}"),
         Amount::Missing => text.push_str("?"),
         Amount::TooWide => {
-            let width = field.bits.end.saturating_sub(field.bits.start);
+            let width = field.bits.len();
             write!(text, "({width} bits)")
         }
     }

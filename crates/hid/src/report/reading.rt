@@ -22,7 +22,7 @@ pub fn amount_of(field: &VariableField, bytes: &[u8]) -> Amount {
     if let Ok(value) = field.extract(bytes) {
         return Amount::Number(i64::from(value));
     }
-    let width = field.bits.end.saturating_sub(field.bits.start);
+    let width = field.bits.len();
     if WIDEST < width && field.bits.end.div_ceil(8) <= bytes.len() {
         return Amount::TooWide;
     }
@@ -52,7 +52,7 @@ pub enum Choice {
 /// The bits of an element.
 pub fn element_width(field: &ArrayField) -> usize {
     let count = usize::from(field.report_count).max(1);
-    field.bits.end.saturating_sub(field.bits.start) / count
+    field.bits.len() / count
 }
 
 /// How many elements of an array can be read of these bytes.

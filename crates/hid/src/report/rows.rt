@@ -68,7 +68,7 @@ pub fn rows_of(
         rows.add_bytes(String::from_str(alloc, "report ID")?, 1)?;
     }
     for field in report.fields() {
-        let bits = field.bits().end.saturating_sub(field.bits().start);
+        let bits = field.bits().len();
         rows.add(field, bits)?;
     }
     rows.end()?;

@@ -37,20 +37,25 @@ impl Picture {
     /// Draws a report below those before it.
     pub fn add(&mut self, direction: Direction, report: &RDescReport) -> Result<(), AllocError> {
         add_head(&mut self.body, direction, report, self.height)?;
-        self.height = self.height.saturating_add(ROW);
+        self.go_down(ROW);
         let (rows, left_out) = rows_of(self.alloc, report, self.rows)?;
         for row in rows.iter() {
             add_row(&mut self.body, row, self.height)?;
-            self.height = self.height.saturating_add(ROW);
+            self.go_down(ROW);
         }
         self.rows = self.rows.saturating_sub(rows.len());
         if left_out != 0 {
             let said = format!(in self.alloc; "{left_out} more rows: --all shows them")?;
             add_text(&mut self.body, LEFT, self.height, "start", &said)?;
-            self.height = self.height.saturating_add(ROW);
+            self.go_down(ROW);
         }
-        self.height = self.height.saturating_add(ROW / 2);
+        self.go_down(ROW / 2);
         Ok(())
+    }
+
+    /// Goes on so many pixels further down.
+    fn go_down(&mut self, pixels: usize) {
+        self.height = self.height.saturating_add(pixels);
     }
 
     /// The picture.

@@ -37,8 +37,7 @@ pub fn add_field(text: &mut String, field: &Field, indent: usize) -> Result<(), 
 
 /// Appends how a field is read: its width, its bounds, its unit and its flags.
 pub fn add_how(text: &mut String, field: &Field) -> Result<(), AllocError> {
-    let (start, end) = (field.bits().start, field.bits().end);
-    let width = end.saturating_sub(start);
+    let width = field.bits().len();
     match field {
         Field::Variable(field) => add_variable(text, field, width),
         Field::Array(field) => add_array(text, field, width),

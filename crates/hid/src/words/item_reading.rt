@@ -37,10 +37,10 @@ fn item_named(name: &str) -> Option<(u8, ItemType)> {
 
 /// The item with this number as its data, in two bytes where it fits, else in four.
 fn with_number(prefix: u8, number: u32) -> Option<ItemType> {
-    match u16::try_from(number) {
-        Ok(short) if !is_signed(prefix) => read_item(prefix | 2, &short.to_le_bytes()).ok(),
-        _ => read_item(prefix | 3, &number.to_le_bytes()).ok(),
-    }
+    let four = number.to_le_bytes();
+    let is_short = number <= 0xffff && !is_signed(prefix);
+    let (size, count) = if is_short { (2, 2) } else { (3, 4) };
+    read_item(prefix | size, four.get(..count)?).ok()
 }
 
 /// Whether an item's data has a sign: bounds (Section 6.2.2.7).

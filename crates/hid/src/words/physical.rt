@@ -23,7 +23,7 @@ pub fn measured(alloc: Global, unit: Unit) -> Result<String, AllocError> {
 /// of a type that is no value. (A unit stands until another one does, so it often stands over
 /// switches that it isn't meant for.)
 fn is_amount(field: &VariableField) -> bool {
-    let width = field.bits.end.saturating_sub(field.bits.start);
+    let width = field.bits.len();
     width > 1 && holds_value(field.usage) != Some(false)
 }
 

@@ -1,7 +1,7 @@
 //! The lines of usbhid-dump: a head `BUS:ADDRESS:INTERFACE:DESCRIPTOR TIME`, or with `STREAM` for a
 //! report, and below it lines of bytes, up to an empty one or the next head.
+use crate::input::form::hex_text::bytes_of_hex;
 use crate::input::given::{Found, GivenReport};
-use crate::input::hex_text::bytes_of_hex;
 use anyhow::{Result, bail};
 use std::alloc::{AllocError, Global};
 use std::mem;

@@ -1,7 +1,7 @@
 //! The lines of hid-recorder: `D:` says which device those behind it are of, `R:` is its
 //! descriptor, `N:` its name, `P:` and `I:` say where and what it is, `E:` is a report.
+use crate::input::form::hex_text::bytes_of_hex;
 use crate::input::given::{Found, GivenReport};
-use crate::input::hex_text::bytes_of_hex;
 use anyhow::{Result, bail, ensure};
 use std::alloc::Global;
 

@@ -1,8 +1,8 @@
 //! Arrays of C and Rust, as `hid convert` writes them: a declaration with a list of numbers in
 //! braces or brackets, and remarks behind `//` or between `/*` and `*/`.
 use crate::input::form::Wanted;
+use crate::input::form::hex_text::without_prefix;
 use crate::input::given::{Found, GivenReport};
-use crate::input::hex_text::without_prefix;
 use anyhow::{Result, bail, ensure};
 use std::alloc::{AllocError, Global};
 use std::mem;
