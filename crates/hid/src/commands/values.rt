@@ -10,7 +10,7 @@ use crate::report::{
 use crate::settings::Settings;
 use crate::value_object::add_value_objects;
 use crate::words::{add_measured, add_page, add_usage, add_usage_on_page, measured_value, word_of};
-use anyhow::{Context, Result, bail, ensure};
+use anyhow::{Context, Result, anyhow, bail, ensure};
 use hidreport::{
     ArrayField, Direction, Field, RDescReport, Report, ReportDescriptor, VariableField,
 };
@@ -68,15 +68,18 @@ impl<'a> Values<'a> {
         for device in given.devices.iter() {
             known.push(parsed(rt.alloc(), settings, &device.descriptor)?)?;
         }
-        for (index, report) in reports.reports.iter().enumerate() {
+        for (report, number) in reports.reports.iter().zip(1usize..) {
             let place = place_of(given, reports.form, report);
-            let Some(descriptor) = place.and_then(|place| known.get(place)) else {
-                bail!(
-                    "report {} is of a device without a descriptor",
-                    index.saturating_add(1)
-                );
+            let shown = match place.and_then(|place| known.get(place)) {
+                Some(descriptor) => {
+                    self.add_report(rt, settings, descriptor, &report.bytes, &mut text, number)
+                }
+                None => Err(anyhow!("is of a device without a descriptor")),
             };
-            self.add_report(rt, settings, descriptor, &report.bytes, &mut text, index)?;
+            if shown.is_err() {
+                flush(rt, &mut text)?;
+            }
+            shown.context(format_args!("report {number}"))?;
             flush_piece(rt, &mut text)?;
         }
         flush(rt, &mut text)
@@ -90,7 +93,7 @@ impl<'a> Values<'a> {
         descriptor: &ReportDescriptor,
         bytes: &[u8],
         text: &mut String,
-        index: usize,
+        number: usize,
     ) -> Result<()> {
         let direction = self.direction;
         let Some(report) = report_of(descriptor, direction, bytes) else {
@@ -103,7 +106,7 @@ impl<'a> Values<'a> {
         };
         tell_size(rt, report, bytes)?;
         if self.is_down {
-            if index != 0 {
+            if number != 1 {
                 text.push_str("\n")?;
             }
             return Ok(add_down(text, report, bytes)?);
