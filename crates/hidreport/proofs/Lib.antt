@@ -1,4 +1,5 @@
 pub mod AlikeLemmas
+pub mod UnchosenLemmas
 pub mod RepairAgainLemmas
 pub mod LocalsLemmas
 pub mod LookupLemmas

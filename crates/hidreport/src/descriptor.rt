@@ -264,8 +264,19 @@ impl ReportDescriptor {
         find_with_id(reports, Some(id))
     }
 
-    /// The report of a direction that a report's bytes are of.
-    fn find_report(&self, direction: Direction, bytes: &[u8]) -> Option<&RDescReport>
+    /// The report of a direction that a report's bytes are of (Section 5.6), as `find_input_report`
+    /// says.
+    pub fn find_report(&self, direction: Direction, bytes: &[u8]) -> Option<&RDescReport>
+        ensures found { option_copied result
+            ≡ find_report (reports_of direction self.now) bytes.now }
+        ensures own { IsTiled self.now → IfSome (option_copied result) (λ report.
+            Each (λ (field : FieldRecord). reads field bytes.now ≢ Err Mismatch) report.fields) }
+    {
+        self.report_of(direction, bytes)
+    }
+
+    /// The same, by the lookup alone.
+    fn report_of(&self, direction: Direction, bytes: &[u8]) -> Option<&RDescReport>
         ensures { option_copied result ≡ find_report (reports_of direction self.now) bytes.now }
     {
         let id = *bytes.first()?;
@@ -286,7 +297,7 @@ impl ReportDescriptor {
         ensures own { IsTiled self.now → IfSome (option_copied result) (λ report.
             Each (λ (field : FieldRecord). reads field bytes.now ≢ Err Mismatch) report.fields) }
     {
-        self.find_report(Direction::Input, bytes)
+        self.report_of(Direction::Input, bytes)
     }
 
     /// The output report that a report's bytes are of, as `find_input_report` says.
@@ -295,7 +306,7 @@ impl ReportDescriptor {
         ensures own { IsTiled self.now → IfSome (option_copied result) (λ report.
             Each (λ (field : FieldRecord). reads field bytes.now ≢ Err Mismatch) report.fields) }
     {
-        self.find_report(Direction::Output, bytes)
+        self.report_of(Direction::Output, bytes)
     }
 
     /// The feature report that a report's bytes are of, as `find_input_report` says.
@@ -304,6 +315,6 @@ impl ReportDescriptor {
         ensures own { IsTiled self.now → IfSome (option_copied result) (λ report.
             Each (λ (field : FieldRecord). reads field bytes.now ≢ Err Mismatch) report.fields) }
     {
-        self.find_report(Direction::Feature, bytes)
+        self.report_of(Direction::Feature, bytes)
     }
 }

@@ -6,4 +6,4 @@ use Rattle.hidreport.proofs.descriptor.ReportDescriptor.find_input_report.Goals 
 pub returns-clause-own : goal.returns-clause-own
 returns-clause-own c = λ tiled.
     subst (λ (o : Option ReportRecord). IfSome o (AllOwn c.args.bytes.now))
-    (sym c.find_report.ensures) (input-own c.args.self.now c.args.bytes.now tiled)
+    (sym c.report_of.ensures) (input-own c.args.self.now c.args.bytes.now tiled)
