@@ -15,6 +15,7 @@ ghost use Rattle.hidreport.specs.Records.{FieldRecord};
 ghost use Rattle.hidreport.specs.Segments.{HasNoPush};
 ghost use Rattle.hidreport.specs.Tiling.{Each, IsTiled};
 ghost use Rattle.hidreport.specs.Weight.{descriptor_weight};
+ghost use Rattle.hidreport.specs.Working.{AllWork};
 ghost use Rattle.hidreport.specs.declared.parser.push_keeps.PushKeeps.TheVariants as push_keeps;
 
 use crate::field::data_item::Direction;
@@ -271,6 +272,7 @@ impl ReportDescriptor {
             ≡ find_report (reports_of direction self.now) bytes.now }
         ensures own { IsTiled self.now → IfSome (option_copied result) (λ report.
             Each (λ (field : FieldRecord). reads field bytes.now ≢ Err Mismatch) report.fields) }
+        ensures works { IsTiled self.now → IfSome (option_copied result) (AllWork bytes.now) }
     {
         self.report_of(direction, bytes)
     }
@@ -291,11 +293,15 @@ impl ReportDescriptor {
     /// else the one with the first byte as its id. `None` where there is none, or no bytes.
     ///
     /// No field of the report answers `MismatchingReportId` on these bytes, for a descriptor that
-    /// was read or is empty (`own`, by `tiled` of the calls that read it and of `empty`).
+    /// was read or is empty (`own`, by `tiled` of the calls that read it and of `empty`). Where there
+    /// are as many bytes as the report has, each field whose values have at most 32 bits is read, and
+    /// takes as many values as it has, where each fits (`works`): `extract`, `extract_one`, `insert`
+    /// and `insert_one` never refuse then, want of memory apart.
     pub fn find_input_report(&self, bytes: &[u8]) -> Option<&RDescReport>
         ensures found { option_copied result ≡ find_report self.now.input bytes.now }
         ensures own { IsTiled self.now → IfSome (option_copied result) (λ report.
             Each (λ (field : FieldRecord). reads field bytes.now ≢ Err Mismatch) report.fields) }
+        ensures works { IsTiled self.now → IfSome (option_copied result) (AllWork bytes.now) }
     {
         self.report_of(Direction::Input, bytes)
     }
@@ -305,6 +311,7 @@ impl ReportDescriptor {
         ensures found { option_copied result ≡ find_report self.now.output bytes.now }
         ensures own { IsTiled self.now → IfSome (option_copied result) (λ report.
             Each (λ (field : FieldRecord). reads field bytes.now ≢ Err Mismatch) report.fields) }
+        ensures works { IsTiled self.now → IfSome (option_copied result) (AllWork bytes.now) }
     {
         self.report_of(Direction::Output, bytes)
     }
@@ -314,6 +321,7 @@ impl ReportDescriptor {
         ensures found { option_copied result ≡ find_report self.now.feature bytes.now }
         ensures own { IsTiled self.now → IfSome (option_copied result) (λ report.
             Each (λ (field : FieldRecord). reads field bytes.now ≢ Err Mismatch) report.fields) }
+        ensures works { IsTiled self.now → IfSome (option_copied result) (AllWork bytes.now) }
     {
         self.report_of(Direction::Feature, bytes)
     }
