@@ -293,10 +293,10 @@ impl ReportDescriptor {
     /// else the one with the first byte as its id. `None` where there is none, or no bytes.
     ///
     /// No field of the report answers `MismatchingReportId` on these bytes, for a descriptor that
-    /// was read or is empty (`own`, by `tiled` of the calls that read it and of `empty`). Where there
-    /// are as many bytes as the report has, each field whose values have at most 32 bits is read, and
-    /// takes as many values as it has, where each fits (`works`): `extract`, `extract_one`, `insert`
-    /// and `insert_one` never refuse then, want of memory apart.
+    /// was read or is empty (`own`, by `tiled` of the calls that read it and of `empty`). Where
+    /// there are as many bytes as the report has, each field whose values have at most 32 bits is
+    /// read, and takes as many values as it has, where each fits (`works`): `extract`,
+    /// `extract_one`, `insert` and `insert_one` never refuse then, want of memory apart.
     pub fn find_input_report(&self, bytes: &[u8]) -> Option<&RDescReport>
         ensures found { option_copied result ≡ find_report self.now.input bytes.now }
         ensures own { IsTiled self.now → IfSome (option_copied result) (λ report.

@@ -402,8 +402,8 @@ impl ArrayField {
         }
     }
 
-    /// The least number that stands for no usage and that an element's bits hold, where none outside
-    /// the bounds does.
+    /// The least number that stands for no usage and that an element's bits hold, where none
+    /// outside the bounds does.
     fn least_unchosen(&self) -> Option<i64>
         ensures { ((number : ℤ) → is_null
             (element_width self.now.bits.start self.now.bits.end self.now.report_count)
