@@ -36,7 +36,7 @@ gather() {
             esac
         done < "$file"
     done
-    [ "$number" -ge 115 ] || { echo "hid_runs: only $number runs are stored" && exit 1; }
+    [ "$number" -ge 200 ] || { echo "hid_runs: only $number runs are stored" && exit 1; }
 }
 
 # The names of the runs.

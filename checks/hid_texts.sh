@@ -54,6 +54,14 @@ E: TIME 1 05' ] || {
     exit 1
 }
 
+# A map of 4,101 rows: the first 4,096, and all where that is asked for.
+rows='05 01 09 30 75 08 96 04 10 81 02 75 08 95 01 81 01'
+[ "$(echo "$rows" | "$program" map - 2> /dev/null | tail -n 1)" = '5 more rows: --all shows them' ] &&
+    [ "$(echo "$rows" | "$program" map --all - 2> /dev/null | wc -l)" -eq 4103 ] || {
+    echo 'hid_texts: a map of 4,101 rows has others' >&2
+    exit 1
+}
+
 # What no stored run shows: an input that is too long, too little memory, a device that is full.
 refused() {
     [ "$1" = "$2" ] || {

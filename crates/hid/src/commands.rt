@@ -15,7 +15,6 @@ mod values;
 
 use crate::input::Given;
 use crate::settings::Settings;
-use crate::words::DIRECTIONS;
 use anyhow::{Result, anyhow, bail};
 pub use check::Check;
 pub use compile::Compile;
@@ -23,7 +22,7 @@ pub use convert::Convert;
 pub use decode::Decode;
 pub use diff::Diff;
 pub use fields::Fields;
-use hidreport::{ParseOptions, ParserError, Report, ReportDescriptor, repair};
+use hidreport::{Direction, ParseOptions, ParserError, Report, ReportDescriptor, repair};
 pub use map::Map;
 pub use record::Record;
 pub use set::{Set, id_named};
@@ -76,7 +75,7 @@ fn all_parsed(alloc: Global, settings: &Settings, given: &Given) -> Result<Vec<R
 /// How many fields and usages of arrays a descriptor lists.
 fn listed_by(descriptor: &ReportDescriptor) -> usize {
     let mut listed = 0usize;
-    for direction in DIRECTIONS {
+    for direction in Direction::ALL {
         for report in descriptor.reports(direction) {
             for field in report.fields() {
                 listed = listed.saturating_add(field.usages().len().max(1));

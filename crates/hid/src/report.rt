@@ -28,19 +28,6 @@ pub fn add_title(
     }
 }
 
-/// The report of a direction that bytes are of.
-pub fn report_of<'a>(
-    descriptor: &'a ReportDescriptor,
-    direction: Direction,
-    bytes: &[u8],
-) -> Option<&'a RDescReport> {
-    match direction {
-        Direction::Input => descriptor.find_input_report(bytes),
-        Direction::Output => descriptor.find_output_report(bytes),
-        Direction::Feature => descriptor.find_feature_report(bytes),
-    }
-}
-
 /// Appends the reports of a direction, each by its id.
 pub fn add_reports(
     text: &mut String,

@@ -9,7 +9,7 @@ mod naming;
 mod physical;
 mod usage_list;
 
-pub use direction::{DIRECTIONS, direction_named, title_of, word_of};
+pub use direction::{direction_named, title_of, word_of};
 pub use field_words::{add_field, add_how, add_name};
 pub use flag_table::FlagTable;
 pub use item_reading::{item_of_words, number_of, plain_number};

@@ -7,7 +7,7 @@ use crate::input::descriptor_named;
 use crate::output::{add_json, flush, flush_piece};
 use crate::report::add_title;
 use crate::settings::Settings;
-use crate::words::{DIRECTIONS, add_field, add_name, add_page, word_of};
+use crate::words::{add_field, add_name, add_page, word_of};
 use anyhow::{Context, Result};
 use hidreport::{Direction, Field, RDescReport, Report, ReportDescriptor};
 use serde::Serialize;
@@ -100,7 +100,7 @@ fn show_difference<R: AllocGlobal + Print>(
         text: String::new(rt.alloc()),
         is_nothing: true,
     };
-    for direction in DIRECTIONS {
+    for direction in Direction::ALL {
         show_first(rt, &mut showing, direction, first, second)?;
         show_second(rt, &mut showing, direction, first, second)?;
     }

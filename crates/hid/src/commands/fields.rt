@@ -6,7 +6,7 @@ use crate::input::descriptor_named;
 use crate::output::{flush, flush_piece};
 use crate::report::add_title;
 use crate::settings::Settings;
-use crate::words::{DIRECTIONS, add_collection, add_field, add_spaces};
+use crate::words::{add_collection, add_field, add_spaces};
 use anyhow::Result;
 use hidreport::{Collection, Direction, Field, RDescReport, Report};
 use std::alloc::AllocError;
@@ -33,7 +33,7 @@ impl<'a> Fields<'a> {
         let given = descriptor_named(rt, settings, self.file)?;
         let descriptor = parsed(rt.alloc(), settings, descriptor_of(&given))?;
         let mut text = String::new(rt.alloc());
-        for direction in DIRECTIONS {
+        for direction in Direction::ALL {
             for report in descriptor.reports(direction) {
                 show_report(rt, settings, &mut text, direction, report)?;
             }

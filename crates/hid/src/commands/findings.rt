@@ -2,7 +2,6 @@
 use crate::commands::decode::{offset_of, remark_of};
 use crate::items::{ItemCursor, ItemState, PlacedItem};
 use crate::report::add_title;
-use crate::words::DIRECTIONS;
 use hidreport::hid::{CollectionItem, GlobalItem, ItemType, LocalItem, MainDataItem, MainItem};
 use hidreport::{Direction, Field, ParserError, RDescReport, Report, ReportDescriptor};
 use std::alloc::{AllocError, Global};
@@ -245,7 +244,7 @@ impl Watch {
 
     /// Notes the reports that are no whole number of bytes, and the fields that lie in too many.
     fn tell_sizes(&mut self, descriptor: &ReportDescriptor) -> Result<(), AllocError> {
-        for direction in DIRECTIONS {
+        for direction in Direction::ALL {
             for report in descriptor.reports(direction) {
                 self.tell_bits(direction, report)?;
                 self.tell_wide(direction, report)?;

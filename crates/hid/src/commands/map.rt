@@ -5,7 +5,7 @@ use crate::input::descriptor_named;
 use crate::output::{flush, flush_piece, show};
 use crate::report::{Cell, Picture, Row, add_title, rows_of};
 use crate::settings::Settings;
-use crate::words::{DIRECTIONS, add_spaces, shortened};
+use crate::words::{add_spaces, shortened};
 use anyhow::Result;
 use hidreport::{Direction, RDescReport, ReportDescriptor};
 use std::alloc::AllocError;
@@ -59,7 +59,7 @@ fn show_svg<R: AllocGlobal + Print>(
     most: usize,
 ) -> Result<()> {
     let mut picture = Picture::new(rt.alloc(), most);
-    for direction in DIRECTIONS {
+    for direction in Direction::ALL {
         for report in descriptor.reports(direction) {
             picture.add(direction, report)?;
         }
@@ -74,7 +74,7 @@ fn show_rows<R: AllocGlobal + Print>(
 ) -> Result<()> {
     let mut text = String::new(rt.alloc());
     let mut most = most;
-    for direction in DIRECTIONS {
+    for direction in Direction::ALL {
         for report in descriptor.reports(direction) {
             most = add_report(&mut text, direction, report, most)?;
             flush_piece(rt, &mut text)?;

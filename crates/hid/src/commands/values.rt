@@ -5,7 +5,7 @@ use crate::input::{Form, Given, GivenReport, descriptors_named, reports_named};
 use crate::output::{flush, flush_piece, show};
 use crate::report::{
     Amount, Choice, add_reports, add_title, amount_of, choice_of, element_width, is_outside,
-    readable, report_of, tell_size,
+    readable, tell_size,
 };
 use crate::settings::Settings;
 use crate::value_object::add_value_objects;
@@ -93,7 +93,7 @@ impl<'a> Values<'a> {
         number: usize,
     ) -> Result<()> {
         let direction = self.direction;
-        let Some(report) = report_of(descriptor, direction, bytes) else {
+        let Some(report) = descriptor.find_report(direction, bytes) else {
             let mut known = String::new(*text.allocator());
             add_reports(&mut known, descriptor, direction)?;
             bail!(

@@ -1,9 +1,6 @@
 //! The three directions of reports, by their names.
 use hidreport::Direction;
 
-/// All of them.
-pub const DIRECTIONS: [Direction; 3] = [Direction::Input, Direction::Output, Direction::Feature];
-
 /// The direction with this name.
 pub fn direction_named(name: &str) -> Option<Direction> {
     match name {
