@@ -21,7 +21,11 @@ use Rattle.hidreport_lists.specs.Entry.{Entry}
 use Rattle.hidreport_lists.specs.Itemising.{Itemises}
 use Rattle.hidreport_lists.specs.Rebuilt.{items_of, kept_entries, rebuilt_bytes, canonical_entries}
 use Rattle.hidreport_lists.proofs.CutLemmas.{itemise-items}
+use Rattle.std.proofs.Common.{flat_map}
+use Rattle.hidreport_items.specs.Writing.{item_bytes}
+use Rattle.hidreport_lists.proofs.BuiltLemmas.{spelled-kept}
 use Rattle.hidreport_lists.proofs.RespellingLemmas.{are_kept, itemises-again, respelled-items}
+use Rattle.hidreport_lists.specs.DescriptorBuilder.{AreSpelled}
 use Rattle.std.specs.Prelude.{◌*◌, ◌||◌, nat_lt, nat_le}
 use Rattle.hidreport.specs.Faults.{Counts, item_fault, data_fault, needed_usages_fault, usage_fault}
 use Rattle.hidreport.specs.Faults.{limit_fault, last_end, id_count}
@@ -480,3 +484,15 @@ parse-rebuilt reading bytes entries i some =
     parse-items reading (rebuilt_bytes entries) (canonical_entries 0 xs)
     (itemises-again xs (are_kept entries i.each) some)
     ∙ ap (λ l. at_offset (canonical_entries 0 xs) (meaning_by reading l)) (respelled-items xs 0)
+
+-- and so are the bytes that a builder writes
+pub parse-built : (keeping : PushKeeps) (items : List ItemType) → AreSpelled items
+    → flat_map item_bytes items ≢ []
+    → parse_by (reading_of keeping) (flat_map item_bytes items)
+    ≡ at_offset (canonical_entries 0 items) (meaning_by (reading_of keeping) items)
+parse-built keeping items spelled some =
+    let reading = reading_of keeping in
+    parse-items reading (flat_map item_bytes items) (canonical_entries 0 items)
+    (itemises-again items (spelled-kept items spelled) some)
+    ∙ ap (λ l. at_offset (canonical_entries 0 items) (meaning_by reading l))
+    (respelled-items items 0)

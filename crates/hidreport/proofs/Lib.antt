@@ -1,4 +1,5 @@
 pub mod AlikeLemmas
+pub mod SharedLemmas
 pub mod WorkLemmas
 pub mod UnchosenLemmas
 pub mod RepairAgainLemmas

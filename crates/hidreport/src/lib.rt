@@ -4,6 +4,7 @@
 
 mod descriptor;
 mod field;
+mod laws;
 mod parse_options;
 mod parser;
 mod repairing;
@@ -57,6 +58,7 @@ pub use field::variable_field::VariableField;
 pub use field::{Field, FieldId};
 pub use hid::CollectionItem as CollectionType;
 pub use hidreport_lists::{Mend, ParserError};
+pub use laws::{built_bytes_mean_their_items, shared_collections_are_a_common_front};
 pub use parse_options::ParseOptions;
 pub use parser::push_keeps::PushKeeps;
 pub use repairing::{Change, RepairOptions, Repaired, repair};

@@ -1,4 +1,4 @@
-ghost use Rattle.std.specs.Prelude.{◌≡◌, [], ◌∷◌, ◌++◌, flat_map};
+ghost use Rattle.std.specs.Prelude.{◌≡◌, [], ◌∷◌, ◌++◌, IfOk, flat_map};
 ghost use Rattle.std.specs.List.{list_all};
 ghost use Rattle.hidreport_items.specs.Answer.{Writes};
 ghost use Rattle.hidreport_items.specs.Writing.{item_bytes};
@@ -6,7 +6,8 @@ ghost use Rattle.hidreport_items.specs.declared.global.GlobalItem.TheVariants as
 ghost use Rattle.hidreport_items.specs.declared.item.ItemType.TheVariants as item;
 ghost use Rattle.hidreport_items.specs.declared.local.LocalItem.TheVariants as local;
 ghost use Rattle.hidreport_items.specs.declared.main_item.MainItem.TheVariants as main;
-ghost use Rattle.hidreport_lists.specs.DescriptorBuilder.{Builds, built, Holds, is_written};
+ghost use Rattle.hidreport_lists.specs.DescriptorBuilder.{AreSpelled, Builds, built, Holds};
+ghost use Rattle.hidreport_lists.specs.DescriptorBuilder.{WritesItems, is_written};
 
 use crate::descriptor_builder_rules::{MayBuild, MayClose, MayOpen, MayPop, MayPush};
 use crate::descriptor_builder_state::{
@@ -163,11 +164,15 @@ impl<S: ReportDescriptorBuilderState> ReportDescriptorBuilder<S> {
     ///
     /// `InsufficientData` comes just where an item is `ItemType::Long` or `ItemType::Reserved`,
     /// which have no bytes (Sections 6.2.2.3 and 6.2.2.2), else `OutOfMemory` where a growth is
-    /// refused. What the items mean isn't looked at.
+    /// refused. What the items mean isn't looked at. Where each item is kept (neither long nor of
+    /// a kind that the standard keeps for later) and some bytes spell it, what is written is just
+    /// these items, each in its shortest spelling (`items`).
     pub fn build(&self) -> Result<Vec<u8>, HidError>
     where
         S: MayBuild,
-        ensures { Builds result (built self.now) }
+        ensures exact { Builds result (built self.now) }
+        ensures items { AreSpelled self.now
+            → IfOk result (λ bytes. WritesItems self.now bytes.items) }
     {
         if !have_bytes(&self.items) {
             return Err(HidError::InsufficientData);

@@ -1,0 +1,5 @@
+use Rattle.hidreport.proofs.KeptItemsLemmas.{parse-built}
+use Rattle.hidreport.proofs.laws.built_bytes_mean_their_items.Goals as goal
+
+pub returns : goal.returns
+returns c = λ keeping items spelled some. parse-built keeping items spelled some
