@@ -2,8 +2,8 @@
 # Two short descriptors that ask for much are answered within seconds and 100 MB: one of 2^32 - 1
 # fields is refused for want of memory, and one of collections over 2^24 usages, in which no field
 # lies, has no reports. Within a limit of 65,536 files are answered in 64 MB and a second: those that
-# ask for much, 64 KB and 1 MB of one item, and ones without end. `items` and `rebuild` of 64 KB are,
-# too.
+# ask for much, 64 KB of one item, ones of more than 1 MiB, and ones without end. `items` and
+# `rebuild` of 64 KB are, too.
 # The argument, if any, is the program to look at; else the one that ./hidreport built.
 set -eu
 
@@ -54,7 +54,7 @@ again() {
 }
 
 head -c 65536 /dev/zero | tr '\0' '\244' > "$scratch/pushes"
-head -c 1048576 /dev/zero | tr '\0' '\244' > "$scratch/long"
+head -c 1048577 /dev/zero | tr '\0' '\244' > "$scratch/long"
 head -c 65536 /dev/zero > "$scratch/zeros"
 again usages 32768 '\011\060'
 again opened 32768 '\241\000'
@@ -85,14 +85,14 @@ for command in values-within values-globals-within; do
     answers 64000 1 'refused: invalid data at offset 0: Invalid data: Invalid item tag 0b000000' \
         "$command" 65536 zeros report
     for file in long /dev/zero; do
-        answers 64000 2 'fault: too long' "$command" 65536 "$file" report
-        answers 64000 2 'fault: too long' "$command" 65536 pushes "$file"
+        answers 64000 2 'fault: read' "$command" 65536 "$file" report
+        answers 64000 2 'fault: read' "$command" 65536 pushes "$file"
     done
 done
 answers 64000 1 'refused: invalid data at offset 0: Invalid data: Invalid item tag 0b000000' items zeros
 answers 64000 1 'refused: invalid data at offset 0: Invalid data: Invalid item tag 0b000000' rebuild zeros
 answers 64000 0 "$(awk 'BEGIN { while (n < 65536) print n++ " a4 Push" }')" items pushes
 timeout 10 cat /dev/zero > fifo 2> /dev/null &
-answers 64000 2 'fault: too long' values-globals-within 65536 fifo report
+answers 64000 2 'fault: read' values-globals-within 65536 fifo report
 wait
 echo "little memory: $answers answers"

@@ -137,10 +137,10 @@ shows 'items of a folder' 2 'fault: read' items folder
 shows 'wrong words before missing files' 2 "$usage" values missing missing missing
 shows 'a folder for a descriptor' 2 'fault: read' values folder "$report"
 shows 'a folder for a report' 2 'fault: read' values "$mouse" folder
-shows 'a descriptor without end, within a limit' 2 'fault: too long' values-within 65536 /dev/zero "$report"
-shows 'the same where a Push keeps globals' 2 'fault: too long' values-globals-within 65536 /dev/zero "$report"
-shows 'a report without end, within a limit' 2 'fault: too long' values-within 65536 "$mouse" /dev/zero
-shows 'the same where a Push keeps globals' 2 'fault: too long' values-globals-within 65536 "$mouse" /dev/zero
+shows 'a descriptor without end, within a limit' 2 'fault: read' values-within 65536 /dev/zero "$report"
+shows 'the same where a Push keeps globals' 2 'fault: read' values-globals-within 65536 /dev/zero "$report"
+shows 'a report without end, within a limit' 2 'fault: read' values-within 65536 "$mouse" /dev/zero
+shows 'the same where a Push keeps globals' 2 'fault: read' values-globals-within 65536 "$mouse" /dev/zero
 head -c 65536 /dev/zero | tr '\0' '\304' > reserved_items
 shows 'as many bytes as are read of a descriptor' 1 'refused: no report' values-within 0 reserved_items "$report"
 shows 'no file named -, though there is an input' 2 'fault: open' values "$mouse" -

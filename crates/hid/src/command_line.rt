@@ -1,4 +1,6 @@
 //! The words that `hid` knows.
+use crate::commands::TARGETS;
+use crate::input::FORM_WORDS;
 use clap::{Arg, ArgAction, Command};
 use std::alloc::{AllocError, Global};
 
@@ -17,8 +19,8 @@ enum Kind {
     /// An option without a value, for all commands.
     Setting,
 
-    /// The most that a descriptor may list.
-    Limit,
+    /// The most that a descriptor may list, or a device's number.
+    Number,
 
     /// What inputs hold.
     Form,
@@ -39,24 +41,34 @@ enum Kind {
 /// An argument's name, what may stand for it, and what it is for.
 type Argument = (&'static str, Kind, &'static str);
 
-static FORMS: [&str; 4] = ["bytes", "hex", "recorder", "dump"];
-
 static PUSHES: [&str; 2] = ["globals", "all"];
 
 static COLOURS: [&str; 3] = ["auto", "always", "never"];
 
 static DIRECTIONS: [&str; 3] = ["input", "output", "feature"];
 
-static TARGETS: [&str; 5] = ["hex", "c", "rust", "bytes", "recording"];
-
 /// The options of all commands.
-static OPTIONS: [Argument; 6] = [
+static OPTIONS: [Argument; 8] = [
     (
         "form",
         Kind::Form,
-        "What the inputs hold, where it isn't to be guessed",
+        "What the descriptor's input holds, where it isn't to be guessed",
     ),
-    ("limit", Kind::Limit, "The most that a descriptor may list"),
+    (
+        "report-form",
+        Kind::Form,
+        "What the reports' input holds, where it isn't to be guessed",
+    ),
+    (
+        "device",
+        Kind::Number,
+        "The device that is meant, of an input that has several",
+    ),
+    (
+        "limit",
+        Kind::Number,
+        "The most that a descriptor may list, 131072 where it isn't said",
+    ),
     (
         "push",
         Kind::Push,
@@ -114,7 +126,7 @@ static RECORD: [Argument; 4] = [
     ("raw", Kind::Flag, "Write hid-recorder's lines"),
 ];
 
-static SET: [Argument; 5] = [
+static SET: [Argument; 6] = [
     FILE,
     (
         "ID",
@@ -128,6 +140,11 @@ static SET: [Argument; 5] = [
     ),
     DIRECTION,
     TARGET,
+    (
+        "zero",
+        Kind::Flag,
+        "Set all bits to 0 that no name sets, and not to what stands for no value",
+    ),
 ];
 
 static CONVERT: [Argument; 2] = [FILE, TARGET];
@@ -137,7 +154,11 @@ static COMPILE: [Argument; 2] = [
     TARGET,
 ];
 
-static MAP: [Argument; 2] = [FILE, ("svg", Kind::Flag, "Write the picture as SVG")];
+static MAP: [Argument; 3] = [
+    FILE,
+    ("svg", Kind::Flag, "Write the picture as SVG"),
+    ("all", Kind::Flag, "Draw all rows, past the first 4,096"),
+];
 
 static DIFF: [Argument; 2] = [
     ("FILE", Kind::Word, "A descriptor"),
@@ -163,7 +184,7 @@ static COMMANDS: [(&str, &str); 10] = [
         "Writes the descriptor that a text of hid decode says",
     ),
     ("map", "Draws the bits of each report"),
-    ("diff", "Shows the fields in which two descriptors differ"),
+    ("diff", "Shows what differs between two descriptors"),
     (
         "check",
         "Shows what is odd in a descriptor, and what the standard says",
@@ -186,7 +207,7 @@ fn arguments_of(name: &str) -> &'static [Argument] {
 
 /// What stands below the help.
 const AFTER: &str = "FILE is a report descriptor: a file, - for the standard input, or a node such \
-as /dev/hidraw0.\nIt holds bytes, hex text, or the lines of hid-recorder or usbhid-dump.\nThe status \
+as /dev/hidraw0.\nIt holds bytes, hex text, C or Rust source, or the lines of hid-recorder or usbhid-dump.\nThe status \
 is 0, 1 where something is refused or can't be read, and 2 where the words are wrong.";
 
 /// `hid` with its commands.
@@ -227,13 +248,12 @@ fn argument_of<'a>(alloc: Global, argument: Argument) -> Arg<'a> {
         Kind::Words => arg.num_args(0..),
         Kind::Flag => arg.long(name).action(ArgAction::SetTrue),
         Kind::Setting => arg.long(name).action(ArgAction::SetTrue).global(true),
-        Kind::Limit => arg
+        Kind::Number => arg
             .long(name)
             .value_name("N")
             .value_parser(clap::value_parser!(usize))
-            .default_value("65536")
             .global(true),
-        Kind::Form => choice(arg, name, "FORM", &FORMS).global(true),
+        Kind::Form => choice(arg, name, "FORM", &FORM_WORDS).global(true),
         Kind::Push => choice(arg, name, "WHAT", &PUSHES)
             .default_value("globals")
             .global(true),

@@ -3,25 +3,139 @@
 //! Licence: MIT (LICENSE).
 #![tactic(auto)]
 
-mod check;
+mod command;
 mod command_line;
-mod decode;
+mod commands;
+mod diff;
 mod ending;
-mod following;
-mod forms;
-mod json;
-mod reading;
-mod record;
-mod report_commands;
-mod running;
+mod field_object;
+mod input;
+mod items;
+mod nearest;
+mod output;
+mod report;
 mod settings;
-mod text;
+mod value_object;
+mod wanted_usage;
+mod words;
 
-use running::run;
+use crate::command::Command;
+use crate::command_line::command_line;
+use crate::ending::Ending;
+use crate::output::escaped;
+use crate::settings::Settings;
+use anyhow::{Context, Result, bail};
+use clap::ArgMatches;
+use std::alloc::{AllocError, Global};
+use std::io::IsTerminal;
 use std::process::ExitCode;
+use std::rt::{Clock, Env, Files};
 use std::{env, io};
 
 fn main(rt: HostRuntime) -> io::Result<ExitCode> {
-    let words = env::args(&rt)?.collect::<Vec<String>>(rt.alloc())?;
-    Ok(ExitCode::from(run(&rt, &words).status()))
+    let is_terminal = rt.stdout().is_terminal();
+    Ok(ExitCode::from(run(&rt, is_terminal).status()))
+}
+
+/// Does what the program's words ask for; says on standard error why it can't.
+fn run<R: AllocGlobal + Clock + Env + Files + Input + Print + Eprint>(
+    rt: &R,
+    is_terminal: bool,
+) -> Ending {
+    match answer(rt, is_terminal) {
+        Ok(ending) => ending,
+        Err(error) => {
+            // Where the line can't be written either, the status still tells.
+            let _ = tell(rt, &error);
+            Ending::Refused
+        }
+    }
+}
+
+/// Says why something is refused; what stands in it may come from an input.
+fn tell<R: AllocGlobal + Eprint>(rt: &R, error: &anyhow::Error) -> Result<()> {
+    match said(rt.alloc(), error) {
+        Ok(said) => eprintln!(rt; "hid: {said}")?,
+        Err(_refused) => eprintln!(rt; "hid: memory allocation failed")?,
+    }
+    Ok(())
+}
+
+fn said(alloc: Global, error: &anyhow::Error) -> Result<String, AllocError> {
+    let said = format!(in alloc; "{error:#}")?;
+    escaped(alloc, &said)
+}
+
+/// The program's words, its name first.
+fn words_of<R: AllocGlobal + Env>(rt: &R) -> Result<Vec<String>> {
+    match env::args(rt) {
+        Ok(words) => Ok(words.collect::<Vec<String>>(rt.alloc())?),
+        Err(error) if error.kind() == io::ErrorKind::InvalidData => {
+            bail!("a word isn't UTF-8; a file with such a name is read as - (hid .. - < FILE)")
+        }
+        Err(error) => Err(error.into()),
+    }
+}
+
+fn answer<R: AllocGlobal + Clock + Env + Files + Input + Print + Eprint>(
+    rt: &R,
+    is_terminal: bool,
+) -> Result<Ending> {
+    let words = words_of(rt)?;
+    let command = command_line(rt.alloc())?;
+    match command.try_get_matches_from(&words) {
+        Ok(matches) => match matches.subcommand() {
+            Some((name, matches)) => carry_out(rt, is_terminal, name, matches),
+            None => Ok(Ending::Misused),
+        },
+        Err(error) => {
+            error.print(rt)?;
+            Ok(if error.exit_code() == 0 {
+                Ending::Done
+            } else {
+                Ending::Misused
+            })
+        }
+    }
+}
+
+/// Does what a command asks for.
+fn carry_out<R: AllocGlobal + Clock + Env + Files + Input + Print + Eprint>(
+    rt: &R,
+    is_terminal: bool,
+    name: &str,
+    matches: &ArgMatches,
+) -> Result<Ending> {
+    let settings = Settings::of(matches, is_coloured(rt, is_terminal));
+    let command = match Command::of(rt.alloc(), name, matches) {
+        Ok(command) => command,
+        Err(error) => {
+            tell(rt, &error)?;
+            return Ok(Ending::Misused);
+        }
+    };
+    if let Some(conflict) = command.conflict(&settings) {
+        eprintln!(rt; "hid: {conflict}")?;
+        return Ok(Ending::Misused);
+    }
+    command
+        .run(rt, &settings)
+        .context(format_args!("{}", command.input()))
+}
+
+/// Whether names are shown in colour where no option says it: on a terminal, unless `NO_COLOR` is
+/// set, and elsewhere where `CLICOLOR_FORCE` is and isn't 0.
+fn is_coloured<R: AllocGlobal + Env>(rt: &R, is_terminal: bool) -> bool {
+    if is_set(rt, "NO_COLOR", "") {
+        return false;
+    }
+    is_terminal || is_set(rt, "CLICOLOR_FORCE", "0")
+}
+
+/// Whether a variable of the environment is set to something else than this.
+fn is_set<R: AllocGlobal + Env>(rt: &R, name: &str, off: &str) -> bool {
+    match env::var(rt, name) {
+        Ok(value) => !value.is_empty() && value.as_str() != off,
+        Err(_unset) => false,
+    }
 }

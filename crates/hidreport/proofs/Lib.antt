@@ -1,3 +1,5 @@
+pub mod AlikeLemmas
+pub mod RepairAgainLemmas
 pub mod LocalsLemmas
 pub mod LookupLemmas
 pub mod FixedBitsLemmas

@@ -157,6 +157,13 @@ unless-first-plain None d k plain is = cc
 unless-first-plain (Some first) d k plain is =
     let same : first ≡ (k, PastBudget) = cc in plain (ap Some same)
 
+pub meaning-plain : (reading : PushReading) (items : List ItemType) (k : ℕ)
+    → meaning_by reading items ≢ Err (k, PastBudget)
+meaning-plain reading items k =
+    unless-first-plain (first_fault (reading items) items (enumerate_from 0 items))
+    (descriptor (reading items) items) k
+    (first-plain (reading items) items (enumerate_from 0 items) k)
+
 over-at : (entries : List Entry) (r : Result DescriptorRecord (ℕ × MeaningFault)) (offset : ℕ)
     → ((k : ℕ) → r ≢ Err (k, PastBudget)) → at_offset entries r ≢ Err (OverBudget offset)
 over-at entries (Ok d) offset plain is = cc
@@ -171,11 +178,8 @@ over-at entries (Err (k, PastBudget)) offset plain is = plain k refl
 over-items : (reading : PushReading) (r : Result (List Entry) (ℕ × GrammarFault)) (offset : ℕ)
     → parse_items reading r ≢ Err (OverBudget offset)
 over-items reading (Ok entries) offset is =
-    let items = items_of entries in
-    over-at entries (meaning_by reading items) offset
-    (λ k. unless-first-plain (first_fault (reading items) items (enumerate_from 0 items))
-    (descriptor (reading items) items) k
-    (first-plain (reading items) items (enumerate_from 0 items) k)) is
+    over-at entries (meaning_by reading (items_of entries)) offset
+    (meaning-plain reading (items_of entries)) is
 over-items reading (Err bad) offset is = cc
 
 pub never-over : (reading : PushReading) (bytes : List ℕ) (offset : ℕ)

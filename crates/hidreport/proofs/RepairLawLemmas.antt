@@ -1,20 +1,19 @@
 -- What a repair doesn't name stays as it stood.
 use Rattle.std.proofs.Common.{◌≡◌, ℕ, zero, suc, ◌+◌, ◌<◌, ◌≤◌, Bool, true, false, cond, List, []}
-use Rattle.std.proofs.Common.{◌∷◌, ◌++◌, length, take, drop, flat_map, filter_map, nat_lt, Option}
+use Rattle.std.proofs.Common.{◌∷◌, ◌++◌, length, take, drop, flat_map, nat_lt, Option}
 use Rattle.std.proofs.Common.{None, Some, Result, Ok, Err, IfOk, refl, sym, ap, ◌∙◌, subst, arith}
 use Rattle.std.proofs.Common.{◌&&◌, append-nil, length-take}
 use Rattle.std.proofs.Math.Seq.{drop-nil}
 use Rattle.std.proofs.lemmas.Grind.{common_steps}
 use Rattle.std.proofs.lemmas.List.{take-append-drop}
-use Rattle.std.proofs.Math.ListN.{drop_of_length-le}
 use Rattle.hidreport_items.specs.Answer.{GrammarFault, Insufficient}
 use Rattle.hidreport_items.specs.Spelling.{following_length, item_of, prefix}
 use Rattle.hidreport_items.specs.declared.item.ItemType.{ItemType}
-use Rattle.hidreport_lists.specs.Answer.{AnswersBy, OverBudget, Refusal}
+use Rattle.hidreport_lists.specs.Answer.{AnswersBy, Refusal}
 use Rattle.hidreport_lists.specs.Itemising.{as_refusal}
-use Rattle.hidreport_lists.specs.Mending.{PieceRecord, cut_short, ended, ends_unknown, front_piece}
-use Rattle.hidreport_lists.specs.Mending.{is_local, item_in, left_out, piece_by, pieces}
-use Rattle.hidreport_lists.specs.Mending.{pieces_from, standing_bytes, whole_piece, with_piece}
+use Rattle.hidreport_lists.specs.Mending.{PieceRecord, cut_short, ends_unknown, front_piece}
+use Rattle.hidreport_lists.specs.Mending.{is_local, item_in, left_out, piece_by}
+use Rattle.hidreport_lists.specs.Mending.{pieces_from, whole_piece, with_piece}
 use Rattle.hidreport_lists.specs.Mending.{without_ended, zero_piece}
 use Rattle.hidreport_lists.specs.Mending.{if_read as if_pieces}
 use Rattle.hidreport_lists.specs.declared.error.ParserError.{ParserError}
@@ -25,14 +24,13 @@ use Rattle.hidreport_lists.proofs.MendingLemmas.{all-inside}
 use Rattle.hidreport.specs.MeaningFault.{MeaningFault}
 use Rattle.hidreport.specs.Options.{parse_as, past_longest, unless_past}
 use Rattle.hidreport.specs.Records.{DescriptorRecord}
-use Rattle.hidreport.specs.Repair.{RepairedRecord, all_mended, behind, change_in, fault_at, if_read}
-use Rattle.hidreport.specs.Repair.{joined, mended, padded_by, repaired, repaired_of}
-use Rattle.hidreport.specs.Repair.{repaired_pieces, repaired_view, rewritten, rewritten_as}
-use Rattle.hidreport.specs.Repair.{then_mended, then_read, unless_fault, widened, widened_in}
+use Rattle.hidreport.specs.Repair.{RepairedRecord, all_mended, behind, fault_at, if_read}
+use Rattle.hidreport.specs.Repair.{joined, mended, repaired, repaired_of}
+use Rattle.hidreport.specs.Repair.{repaired_pieces, repaired_view, rewritten_as}
+use Rattle.hidreport.specs.Repair.{then_mended, then_read, unless_fault, widened}
 use Rattle.hidreport.specs.Repair.{with_mended}
 use Rattle.hidreport.specs.RepairLaws.{AreInPlace, IsRepairOf, StandsAsItStood}
 use Rattle.hidreport.specs.Tiling.{Each}
-use Rattle.hidreport.specs.declared.parse_options.ParseOptions.{ParseOptions}
 use Rattle.hidreport.specs.declared.repairing.change.Repaired.{Repaired}
 use Rattle.hidreport.specs.declared.repairing.repair_options.RepairOptions.{RepairOptions}
 

@@ -1,26 +1,28 @@
--- A report of another id is no refusal of a repair.
+-- Which refusals a repair never has: a report of another id, and without limits a budget.
 use Rattle.std.proofs.Common.{◌≡◌, ◌≢◌, ℕ, List, [], ◌∷◌, length, Option, None, Some, Result, Ok, Err}
-use Rattle.std.proofs.Common.{ap}
+use Rattle.std.proofs.Common.{ap, refl, ◌∙◌}
 use Rattle.hidreport_items.specs.Answer.{GrammarFault}
 use Rattle.hidreport_items.specs.declared.item.ItemType.{ItemType}
-use Rattle.hidreport_lists.specs.Answer.{AnswersBy, Mismatch, Refusal}
+use Rattle.hidreport_lists.specs.Answer.{AnswersBy, Mismatch, OverBudget, Refusal}
 use Rattle.hidreport_lists.specs.Itemising.{as_refusal}
 use Rattle.hidreport_lists.specs.Mending.{PieceRecord, pieces}
 use Rattle.hidreport_lists.specs.declared.error.ParserError.{ParserError}
 use Rattle.hidreport_lists.specs.declared.error.ParserError.TheVariants as errors
-use Rattle.hidreport.specs.Meaning.{refusal_at}
+use Rattle.hidreport.specs.Meaning.{PushReading, meaning_by, refusal_at}
 use Rattle.hidreport.specs.MeaningFault.{MeaningFault, MissingUsageMaximum, MissingUsagePage}
 use Rattle.hidreport.specs.MeaningFault.{MissingUsages, PastBounds, PastBudget, TooManyEnds}
 use Rattle.hidreport.specs.MeaningFault.{TooManyPops}
-use Rattle.hidreport.specs.Options.{parse_as, past_longest, unless_past}
+use Rattle.hidreport.specs.Options.{meaning_as, meaning_limited, parse_as, past_longest}
+use Rattle.hidreport.specs.Options.{reading_of, unless_past}
 use Rattle.hidreport.specs.Records.{DescriptorRecord}
 use Rattle.hidreport.specs.Repair.{RepairedRecord, all_mended, behind, fault_at, if_read, joined}
-use Rattle.hidreport.specs.Repair.{mended, repaired, repaired_of, repaired_pieces, repaired_view}
+use Rattle.hidreport.specs.Repair.{mended, named_fault, repaired, repaired_of, repaired_pieces, repaired_view}
 use Rattle.hidreport.specs.Repair.{then_mended, then_read, unless_fault, with_mended}
 use Rattle.hidreport.specs.declared.parse_options.ParseOptions.{ParseOptions}
 use Rattle.hidreport.specs.declared.repairing.change.Repaired.{Repaired}
 use Rattle.hidreport.specs.declared.repairing.repair_options.RepairOptions.{RepairOptions}
-use Rattle.hidreport.proofs.LongestLemmas.{as-never-mismatch}
+use Rattle.hidreport.proofs.LongestLemmas.{as-never-mismatch, as-never-over}
+use Rattle.hidreport.proofs.RefusalLemmas.{meaning-plain}
 
 no-mismatch-by : {A B : Type 0} (view : A → B) (r : Result A ParserError) (answer : Result B Refusal)
     → AnswersBy view r answer → answer ≢ Err Mismatch → r ≢ Err errors.MismatchingReportId
@@ -94,3 +96,104 @@ repair-no-mismatch options bytes answer a =
     (then_read options.parse (repaired_pieces options bytes))
     (then-other options.parse (repaired_pieces options bytes)
     (pieces-other options (pieces options.leave_out_cut_short bytes))))
+
+-- nor is a budget that is exceeded, where there is none
+no-budget-by : {A B : Type 0} (view : A → B) (r : Result A ParserError) (answer : Result B Refusal)
+    (offset : ℕ) → AnswersBy view r answer → answer ≢ Err (OverBudget offset)
+    → r ≢ Err (errors.BudgetExceeded offset)
+no-budget-by view (Ok x) answer offset a never is = cc
+no-budget-by view (Err (errors.InvalidData at message)) answer offset a never is = cc
+no-budget-by view (Err errors.OutOfBounds) answer offset a never is = cc
+no-budget-by view (Err errors.MismatchingReportId) answer offset a never is = cc
+no-budget-by view (Err errors.OutOfMemory) answer offset a never is = cc
+no-budget-by view (Err (errors.BudgetExceeded at)) answer offset a never is =
+    let same : at ≡ offset = cc in never (a ∙ ap (λ n. Err (OverBudget n)) same)
+
+named-plain : (r : Result DescriptorRecord (ℕ × MeaningFault))
+    → ((k : ℕ) → r ≢ Err (k, PastBudget)) → named_fault r ≢ Some PastBudget
+named-plain (Ok d) plain is = cc
+named-plain (Err (k, fault)) plain is =
+    let same : fault ≡ PastBudget = cc in plain k (ap (λ f. Err (k, f)) same)
+
+meaning-unlimited : (reading : PushReading) (limit : Option ℕ) (items : List ItemType)
+    → limit ≡ None → (k : ℕ) → meaning_limited reading limit items ≢ Err (k, PastBudget)
+meaning-unlimited reading None items none k is = meaning-plain reading items k is
+meaning-unlimited reading (Some limit) items none k is = cc
+
+fault-unlimited : (options : ParseOptions) (before : List ItemType) (p : PieceRecord)
+    → options.limit ≡ None → fault_at options before p ≢ Some PastBudget
+fault-unlimited options before p none = named-plain (meaning_as options (behind before p))
+    (meaning-unlimited (reading_of options.push_keeps) options.limit (behind before p) none)
+
+at-unlimited : (at offset : ℕ) (fault : MeaningFault) → fault ≢ PastBudget
+    → refusal_at at fault ≢ OverBudget offset
+at-unlimited at offset TooManyPops plain is = cc
+at-unlimited at offset TooManyEnds plain is = cc
+at-unlimited at offset MissingUsageMaximum plain is = cc
+at-unlimited at offset MissingUsagePage plain is = cc
+at-unlimited at offset MissingUsages plain is = cc
+at-unlimited at offset PastBounds plain is = cc
+at-unlimited at offset PastBudget plain is = plain refl
+
+unless-unlimited : (fault : Option MeaningFault) (at offset : ℕ)
+    (answer : Result (List PieceRecord) Refusal) → fault ≢ Some PastBudget
+    → answer ≢ Err (OverBudget offset) → unless_fault fault at answer ≢ Err (OverBudget offset)
+unless-unlimited None at offset answer plain never is = never is
+unless-unlimited (Some fault) at offset answer plain never is =
+    let same : refusal_at at fault ≡ OverBudget offset = cc in
+    at-unlimited at offset fault (λ e. plain (ap Some e)) same
+
+with-unlimited : (p : PieceRecord) (offset : ℕ) (answer : Result (List PieceRecord) Refusal)
+    → answer ≢ Err (OverBudget offset) → with_mended p answer ≢ Err (OverBudget offset)
+with-unlimited p offset (Ok ps) never is = cc
+with-unlimited p offset (Err refusal) never is =
+    let same : refusal ≡ OverBudget offset = cc in never (ap Err same)
+
+mended-unlimited : (options : RepairOptions) (before : List ItemType) (ps : List PieceRecord)
+    (offset : ℕ) → options.parse.limit ≡ None
+    → all_mended options before ps ≢ Err (OverBudget offset)
+mended-unlimited options before [] offset none is = cc
+mended-unlimited options before (p ∷ ps) offset none is =
+    let m = mended options before p in
+    let rest = all_mended options (behind before m) ps in
+    unless-unlimited (fault_at options.parse before m) p.offset offset (with_mended m rest)
+    (fault-unlimited options.parse before m none)
+    (with-unlimited m offset rest (mended-unlimited options (behind before m) ps offset none)) is
+
+pieces-unlimited : (options : RepairOptions) (r : Result (List PieceRecord) (ℕ × GrammarFault))
+    (offset : ℕ) → options.parse.limit ≡ None
+    → then_mended options (as_refusal r) ≢ Err (OverBudget offset)
+pieces-unlimited options (Ok ps) offset none is = mended-unlimited options [] ps offset none is
+pieces-unlimited options (Err fault) offset none is = cc
+
+read-unlimited : (r : RepairedRecord) (answer : Result DescriptorRecord Refusal) (offset : ℕ)
+    → answer ≢ Err (OverBudget offset) → if_read r answer ≢ Err (OverBudget offset)
+read-unlimited r (Ok d) offset never is = cc
+read-unlimited r (Err refusal) offset never is =
+    let same : refusal ≡ OverBudget offset = cc in never (ap Err same)
+
+then-unlimited : (options : ParseOptions) (ps : Result (List PieceRecord) Refusal) (offset : ℕ)
+    → options.limit ≡ None → options.longest ≡ None → ps ≢ Err (OverBudget offset)
+    → then_read options ps ≢ Err (OverBudget offset)
+then-unlimited options (Ok ps) offset none any never is =
+    read-unlimited (repaired_of ps) (parse_as options (joined ps)) offset
+    (as-never-over options (joined ps) offset none any) is
+then-unlimited options (Err refusal) offset none any never is =
+    let same : refusal ≡ OverBudget offset = cc in never (ap Err same)
+
+past-unlimited : (longest : Option ℕ) (size : ℕ) (answer : Result RepairedRecord Refusal)
+    (offset : ℕ) → longest ≡ None → answer ≢ Err (OverBudget offset)
+    → unless_past (past_longest longest size) answer ≢ Err (OverBudget offset)
+past-unlimited None size answer offset any never is = never is
+past-unlimited (Some longest) size answer offset any never is = cc
+
+pub repair-unlimited : (options : RepairOptions) (bytes : List ℕ)
+    (answer : Result Repaired ParserError) → AnswersBy repaired_view answer (repaired options bytes)
+    → options.parse.limit ≡ None → options.parse.longest ≡ None
+    → (offset : ℕ) → answer ≢ Err (errors.BudgetExceeded offset)
+repair-unlimited options bytes answer a none any offset =
+    no-budget-by repaired_view answer (repaired options bytes) offset a
+    (past-unlimited options.parse.longest (length bytes)
+    (then_read options.parse (repaired_pieces options bytes)) offset any
+    (then-unlimited options.parse (repaired_pieces options bytes) offset none any
+    (pieces-unlimited options (pieces options.leave_out_cut_short bytes) offset none)))

@@ -1,17 +1,19 @@
 -- Laws of a repair (Section 6.2.2): what stays as it stood, and where fields lie.
-use Rattle.std.specs.Prelude.{◌≡◌, ℕ, ◌+◌, List, [], ◌∷◌, length, map, filter_map, flat_map, None}
-use Rattle.std.specs.Prelude.{Option, Ok, option_map}
+use Rattle.std.specs.Prelude.{◌≡◌, ◌≢◌, ℕ, ◌+◌, List, [], ◌∷◌, length, map, filter_map, flat_map, None}
+use Rattle.std.specs.Prelude.{Option, Ok, false, option_map}
 use Rattle.hidreport_items.specs.Spelling.{item_of}
 use Rattle.hidreport_items.specs.declared.item.ItemType.{ItemType}
 use Rattle.hidreport_lists.specs.Entry.{Entry}
 use Rattle.hidreport_lists.specs.Itemising.{Itemises}
 use Rattle.hidreport_lists.specs.Mending.{PieceRecord, item_in, pieces, standing_bytes}
-use Rattle.hidreport_lists.specs.Rebuilt.{items_of}
+use Rattle.hidreport_lists.specs.Rebuilt.{items_of, rebuilt_bytes}
 use Rattle.hidreport.specs.Kinds.{Direction, data_of}
 use Rattle.hidreport.specs.Making.{extent, key}
-use Rattle.hidreport.specs.Options.{reading_of}
+use Rattle.hidreport.specs.Meaning.{parse_by}
+use Rattle.hidreport.specs.Options.{parse_as, reading_of}
 use Rattle.hidreport.specs.Places.{start}
-use Rattle.hidreport.specs.Repair.{RepairedRecord, change_in, joined}
+use Rattle.hidreport.specs.Records.{DescriptorRecord}
+use Rattle.hidreport.specs.Repair.{RepairedRecord, change_in, joined, repaired}
 use Rattle.hidreport.specs.Tiling.{Each}
 use Rattle.hidreport.specs.declared.parser.push_keeps.PushKeeps.{PushKeeps}
 use Rattle.hidreport.specs.declared.repairing.repair_options.RepairOptions.{RepairOptions}
@@ -58,3 +60,15 @@ pub record KeepsBits (options : RepairOptions) (bytes : List ℕ) (r : RepairedR
   pub entries : List Entry
   pub written : Itemises item_of r.bytes entries
   pub places : SamePlaces options.parse.push_keeps (filter_map item_in read) (items_of entries)
+
+-- repaired once more it stays as it is, without a change, unless maxima are asked for
+abbrev pub StaysRepaired : RepairOptions → RepairedRecord → Type 0
+StaysRepaired options r = repaired (record options { unsigned_maxima = false }) r.bytes
+    ≡ Ok (record { bytes = r.bytes; changes = [] })
+
+-- what is written anew of its items, where there is something, is read as it is read
+abbrev pub RebuildsAlike : RepairOptions → RepairedRecord → Type 0
+RebuildsAlike options r = (entries : List Entry) (d : DescriptorRecord)
+    → Itemises item_of r.bytes entries → rebuilt_bytes entries ≢ []
+    → parse_as options.parse r.bytes ≡ Ok d
+    → parse_by (reading_of options.parse.push_keeps) (rebuilt_bytes entries) ≡ Ok d

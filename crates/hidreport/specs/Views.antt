@@ -3,7 +3,7 @@ use Rattle.std.specs.Prelude.{ℕ, List, []}
 use Rattle.std.specs.Arc.{arc_slice_items}
 use Rattle.std.specs.declared.ops.Range.{Range}
 use Rattle.hidreport_items.specs.Flags.{Flags}
-use Rattle.hidreport.specs.Fields.{attributes_with}
+use Rattle.hidreport.specs.Fields.{Measures, attributes_with}
 use Rattle.hidreport.specs.Kinds.{Direction, Input, Output, Feature}
 use Rattle.hidreport.specs.Records.{CollectionRecord, FieldPlace, Attributes, FieldRecord}
 use Rattle.hidreport.specs.Records.{VariableRecord, ArrayRecord, ConstantRecord}
@@ -45,16 +45,20 @@ variable_place f = record {
       f.bits.end;
 }
 
+-- the numbers that it has from global items
+abbrev pub variable_measures : VariableField → Measures
+variable_measures f = record {
+  logical_minimum = f.logical_minimum;
+  logical_maximum = f.logical_maximum;
+  physical_minimum = f.physical_minimum;
+  physical_maximum = f.physical_maximum;
+  unit = f.unit;
+  unit_exponent = f.unit_exponent;
+}
+
 abbrev pub variable_attributes : VariableField → Attributes
 variable_attributes f = attributes_with (direction_of f.item.direction) (item_flags f.item)
-    (record {
-      logical_minimum = f.logical_minimum;
-      logical_maximum = f.logical_maximum;
-      physical_minimum = f.physical_minimum;
-      physical_maximum = f.physical_maximum;
-      unit = f.unit;
-      unit_exponent = f.unit_exponent;
-    }) (arc_slice_items f.collections)
+    (variable_measures f) (arc_slice_items f.collections)
 
 -- all parts of a variable field
 abbrev pub variable_record : VariableField → FieldRecord
@@ -69,15 +73,20 @@ array_place f = record {
       f.bits.end;
 }
 
-abbrev pub array_attributes : ArrayField → Attributes
-array_attributes f = attributes_with (direction_of f.item.direction) (item_flags f.item) (record {
+-- the numbers that it has from global items
+abbrev pub array_measures : ArrayField → Measures
+array_measures f = record {
   logical_minimum = f.logical_minimum;
   logical_maximum = f.logical_maximum;
   physical_minimum = f.physical_minimum;
   physical_maximum = f.physical_maximum;
   unit = f.unit;
   unit_exponent = f.unit_exponent;
-}) (arc_slice_items f.collections)
+}
+
+abbrev pub array_attributes : ArrayField → Attributes
+array_attributes f = attributes_with (direction_of f.item.direction) (item_flags f.item)
+    (array_measures f) (arc_slice_items f.collections)
 
 -- all parts of an array field
 abbrev pub array_record : ArrayField → FieldRecord

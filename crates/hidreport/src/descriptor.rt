@@ -1,5 +1,5 @@
 ghost use Rattle.std.specs.Prelude.{◌≡◌, ◌≢◌, ◌≤◌, ℕ, [], None, Some, Err, Ok, IfOk, IfSome, List};
-ghost use Rattle.std.specs.Prelude.{option_copied};
+ghost use Rattle.std.specs.Prelude.{◌↔◌, IsTrue, option_copied};
 ghost use Rattle.hidreport_items.specs.Spelling.{item_of};
 ghost use Rattle.hidreport_lists.specs.Answer.{Answers, Mismatch};
 ghost use Rattle.hidreport_lists.specs.Entry.{Entry};
@@ -200,6 +200,14 @@ impl ReportDescriptor {
             longest: None,
         };
         ReportDescriptor::try_from_with(alloc, bytes, options)
+    }
+
+    /// Whether another descriptor is the same in all parts: whether it announces the same reports
+    /// in each direction, with equal fields in them. It takes no memory.
+    pub fn is_alike(&self, other: &ReportDescriptor) -> bool
+        ensures { IsTrue result ↔ (self.now ≡ other.now) }
+    {
+        self.reports.is_alike(&other.reports)
     }
 
     /// The reports that the device sends.

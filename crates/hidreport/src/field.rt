@@ -1,8 +1,9 @@
 //! What a field of a report is.
-ghost use Rattle.std.specs.Prelude.{◌≡◌, IfOk};
+ghost use Rattle.std.specs.Prelude.{◌≡◌, ◌↔◌, IfOk, IsTrue, map};
 ghost use Rattle.hidreport.specs.Records.{own_id, usages_in};
 ghost use Rattle.hidreport.specs.Views.{field_bits, field_collections, field_id, field_record};
 
+mod alike;
 pub(crate) mod array_field;
 pub(crate) mod collection;
 pub(crate) mod constant_field;
@@ -10,6 +11,7 @@ pub(crate) mod data_item;
 pub(crate) mod field_attributes;
 pub(crate) mod fraction;
 pub(crate) mod insert_error;
+pub(crate) mod measures;
 pub(crate) mod usage;
 pub(crate) mod usage_range;
 pub(crate) mod value;
@@ -136,6 +138,43 @@ impl Field {
             Field::Array(field) => field.usages(),
             Field::Constant(_) => &[],
         }
+    }
+
+    /// Whether another field is the same in all parts: its kind, number, report id and bits, its
+    /// usages and whether they are a range, its count, bounds, unit and flags, and its collections
+    /// with their ids, kinds and usages. It takes no memory.
+    pub fn is_alike(&self, other: &Field) -> bool
+        ensures { IsTrue result ↔ (field_record self.now ≡ field_record other.now) }
+    {
+        match self {
+            Field::Variable(field) => match other {
+                Field::Variable(other) => field.is_alike(other),
+                _ => false,
+            },
+            Field::Array(field) => match other {
+                Field::Array(other) => field.is_alike(other),
+                _ => false,
+            },
+            Field::Constant(field) => match other {
+                Field::Constant(other) => field.is_alike(other),
+                _ => false,
+            },
+        }
+    }
+
+    /// Whether two lists have fields that are alike, in the same order.
+    pub(crate) fn are_alike(left: &[Field], right: &[Field]) -> bool
+        ensures { IsTrue result ↔ (map field_record left.now ≡ map field_record right.now) }
+    {
+        if left.len() != right.len() {
+            return false;
+        }
+        for index in 0..left.len() {
+            if !left[index].is_alike(&right[index]) {
+                return false;
+            }
+        }
+        true
     }
 
     /// The same field once more, as the `clone` of its kind says.

@@ -18,7 +18,6 @@ mod journal;
 mod layout;
 mod local_usages;
 mod locals;
-mod measures;
 mod open_collection;
 mod open_collections;
 pub(crate) mod push_keeps;

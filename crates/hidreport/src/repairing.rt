@@ -1,9 +1,10 @@
 //! Descriptors that hosts accept, made such as are read.
-ghost use Rattle.std.specs.Prelude.{◌≡◌, ◌≢◌, [], false, Err, IfOk, IsOk, Ok};
+ghost use Rattle.std.specs.Prelude.{◌≡◌, ◌≢◌, ℕ, [], false, Err, IfOk, IsOk, None, Ok};
 ghost use Rattle.hidreport_lists.specs.Answer.{AnswersBy};
 ghost use Rattle.hidreport.specs.Options.{parse_as};
 ghost use Rattle.hidreport.specs.Repair.{repaired, repaired_view};
-ghost use Rattle.hidreport.specs.RepairLaws.{IsRepairOf, KeepsBits};
+ghost use Rattle.hidreport.specs.RepairLaws.{IsRepairOf, KeepsBits, RebuildsAlike};
+ghost use Rattle.hidreport.specs.RepairLaws.{StaysRepaired};
 
 mod change;
 mod mending;
@@ -31,10 +32,13 @@ use std::alloc::Global;
 /// `BudgetExceeded` and `OutOfMemory` come as they do there; nothing at all, or nothing that stays,
 /// is `InvalidData` at 0, `Empty report descriptor`.
 ///
-/// What is written is read (`accepted`); what no change names stands as it stood, in order
-/// (`kept`); each field lies in the bits of its report where the items that hid-core reads put it
-/// (`bits`); and a descriptor that is read stays as it is, without a change, unless maxima are asked
-/// for (`untouched`). `MismatchingReportId` never comes (`own_bytes`).
+/// What is written is read by these options (`accepted`); what no change names stands as it stood,
+/// in order (`kept`); each field lies in the bits of its report where the items that hid-core reads
+/// put it (`bits`); and a descriptor that is read stays as it is, without a change, unless maxima
+/// are asked for (`untouched`). So a second repair changes nothing, unless it asks for maxima
+/// (`again`), and what `hid::rebuild` writes of the repair is read as the repair is (`rebuilt`).
+/// `MismatchingReportId` never comes (`own_bytes`), nor without a limit `BudgetExceeded`
+/// (`unlimited`).
 pub fn repair(alloc: Global, bytes: &[u8], options: RepairOptions) -> Result<Repaired, ParserError>
     ensures exact { AnswersBy repaired_view result (repaired options bytes.now) }
     ensures untouched { options.unsigned_maxima ≡ false → IsOk (parse_as options.parse bytes.now)
@@ -42,7 +46,11 @@ pub fn repair(alloc: Global, bytes: &[u8], options: RepairOptions) -> Result<Rep
     ensures kept { IfOk result (λ repaired. IsRepairOf bytes.now (repaired_view repaired)) }
     ensures bits { IfOk result (λ repaired. KeepsBits options bytes.now (repaired_view repaired)) }
     ensures accepted { IfOk result (λ repaired. IsOk (parse_as options.parse repaired.bytes.items)) }
+    ensures again { IfOk result (λ repaired. StaysRepaired options (repaired_view repaired)) }
+    ensures rebuilt { IfOk result (λ repaired. RebuildsAlike options (repaired_view repaired)) }
     ensures own_bytes { result ≢ Err ParserError.MismatchingReportId }
+    ensures unlimited { options.parse.limit ≡ None → options.parse.longest ≡ None
+        → (offset : ℕ) → result ≢ Err (ParserError.BudgetExceeded offset) }
 {
     repaired_bytes(alloc, bytes, options)
 }

@@ -1,4 +1,4 @@
-ghost use Rattle.std.specs.Prelude.{◌≡◌, ◌+◌, ◌/◌, ℕ, List, Option, map, IfOk};
+ghost use Rattle.std.specs.Prelude.{◌≡◌, ◌+◌, ◌/◌, ◌↔◌, ℕ, List, Option, map, IfOk, IsTrue};
 ghost use Rattle.hidreport_items.specs.Spelling.{AreBytes};
 ghost use Rattle.hidreport.specs.Blank.{blank_bytes, with_first};
 ghost use Rattle.hidreport.specs.Records.{FieldRecord};
@@ -98,6 +98,33 @@ impl Model for RDescReport {
       size = r.size;
       fields = map field_record r.fields.items;
     } };
+}
+
+impl RDescReport {
+    /// Whether another report is the same in all parts: its id, its size and its fields. It takes
+    /// no memory.
+    pub fn is_alike(&self, other: &RDescReport) -> bool
+        ensures { IsTrue result ↔ (self.now ≡ other.now) }
+    {
+        self.id == other.id
+            && self.size == other.size
+            && Field::are_alike(self.fields.as_slice(), other.fields.as_slice())
+    }
+
+    /// Whether two lists have reports that are alike, in the same order.
+    pub(crate) fn are_alike(left: &[RDescReport], right: &[RDescReport]) -> bool
+        ensures { IsTrue result ↔ (left.now ≡ right.now) }
+    {
+        if left.len() != right.len() {
+            return false;
+        }
+        for index in 0..left.len() {
+            if !left[index].is_alike(&right[index]) {
+                return false;
+            }
+        }
+        true
+    }
 }
 
 impl Report for RDescReport {

@@ -3,6 +3,7 @@
 //! MIT (LICENSE); a port of the Rust crate `hidreport` 0.6.0.
 #![tactic(auto)]
 
+mod alike;
 mod asked;
 mod bits;
 mod case_file;

@@ -1,4 +1,5 @@
 //! Questions by their kinds.
+use crate::alike::add_is_alike;
 use crate::asked::Asked;
 use crate::bits::add_flips;
 use crate::changed::{add_changed, add_low_bits};
@@ -86,6 +87,7 @@ fn add_answer_without_field(
             add_many(alloc, text, Way::Within(number_of(limit)?), words)
         }
         "repair" => add_repaired(alloc, text, words),
+        "alike" => add_is_alike(alloc, text, words),
         "scaled" => add_scaled(alloc, text, words),
         "made" => add_made(alloc, text, words),
         "kind" => add_kind_of(text, words),

@@ -2,7 +2,7 @@
 use std::fmt;
 
 /// The kinds, by the first words of their questions.
-static KINDS: [&str; 42] = [
+static KINDS: [&str; 43] = [
     "parse",
     "parse-globals",
     "parse-within",
@@ -37,6 +37,7 @@ static KINDS: [&str; 42] = [
     "kind",
     "rebuild",
     "repair",
+    "alike",
     "scaled",
     "unit",
     "units",
@@ -51,7 +52,7 @@ static KINDS: [&str; 42] = [
 #[derive(Drop)]
 pub struct Tally {
     /// How many questions of each kind, in the order of `KINDS`.
-    asked: [usize; 42],
+    asked: [usize; 43],
     /// How many had another answer, or couldn't be asked.
     differing: usize,
     /// How many cut descriptors were asked besides.
@@ -63,7 +64,7 @@ pub struct Tally {
 impl Tally {
     pub fn new() -> Tally {
         Tally {
-            asked: [0; 42],
+            asked: [0; 43],
             differing: 0,
             cuts: 0,
             flips: 0,

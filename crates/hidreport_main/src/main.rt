@@ -5,10 +5,14 @@
 use hidreport_program::program::{
     Command, Fault, Outcome, Request, line_of, request_of, run, status_of,
 };
-use hidreport_transfer::{FromRead, RunFault, ToWrite};
+use hidreport_transfer::{Bounded, FromRead, RunFault, ToWrite};
 use std::process::ExitCode;
 use std::rt::{Env, Files};
 use std::{env, fs, io};
+
+/// The most bytes that a command with a limit reads of a file: an endless one is a fault. A device
+/// tells the length of its descriptor in 16 bits (USB HID 1.11, 6.2.1), so no device's is longer.
+const MOST_BYTES: usize = 1 << 20;
 
 fn main(rt: HostRuntime) -> ExitCode {
     let answer = answer(&rt);
@@ -64,8 +68,13 @@ where
     D: io::Read + Drop,
     P: io::Read + Drop,
 {
-    let mut descriptor = FromRead::new(descriptor);
-    let mut report = FromRead::new(report);
+    let most = if command.has_limit() {
+        MOST_BYTES
+    } else {
+        usize::MAX
+    };
+    let mut descriptor = Bounded::new(FromRead::new(descriptor), most);
+    let mut report = Bounded::new(FromRead::new(report), most);
     let mut out = ToWrite::new(io::writer(rt));
     run(rt.alloc(), command, &mut descriptor, &mut report, &mut out).map_err(Fault::Run)
 }

@@ -40,16 +40,14 @@ reads_report ValuesGlobals = true
 reads_report (ValuesGlobalsWithin limit) = true
 reads_report Rebuild = false
 
--- The greatest number of bytes that a command reads of each of its files, where it has a limit.
--- A device announces the length of its report descriptor in 16 bits (6.2.1), and that of a report
--- is asked for in 16 bits (7.2.1).
-abbrev pub input_limit : Command → Option ℕ
-input_limit Items = None
-input_limit Values = None
-input_limit (ValuesWithin limit) = Some 65536
-input_limit ValuesGlobals = None
-input_limit (ValuesGlobalsWithin limit) = Some 65536
-input_limit Rebuild = None
+-- the command has a limit of what may be listed
+abbrev pub has_limit : Command → Bool
+has_limit Items = false
+has_limit Values = false
+has_limit (ValuesWithin limit) = true
+has_limit ValuesGlobals = false
+has_limit (ValuesGlobalsWithin limit) = true
+has_limit Rebuild = false
 
 -- the index of the word that names the descriptor's file; a report's is next
 abbrev pub file_index : Command → ℕ

@@ -2,7 +2,7 @@
 use Rattle.std.specs.Prelude.{ℕ, List, Result, Ok, Err, codes}
 use Rattle.hidreport_program.specs.declared.program.ending.Outcome.{Outcome}
 use Rattle.hidreport_program.specs.declared.program.ending.Outcome.TheVariants.{Done, Refused}
-use Rattle.hidreport_transfer.specs.declared.fault.RunFault.TheVariants.{Read, TooLong, Write}
+use Rattle.hidreport_transfer.specs.declared.fault.RunFault.TheVariants.{Read, Write}
 use Rattle.hidreport_transfer.specs.declared.fault.RunFault.TheVariants.{OutOfMemory}
 use Rattle.hidreport_program.specs.declared.program.faults.Fault.{Fault}
 use Rattle.hidreport_program.specs.declared.program.faults.Fault.TheVariants.{Arguments, Open, Run}
@@ -19,6 +19,5 @@ fault_line Arguments =
     codes "usage: hidreport items FILE | values FILE REPORT | values-within LIMIT FILE REPORT | values-globals FILE REPORT | values-globals-within LIMIT FILE REPORT | rebuild FILE"
 fault_line Open = codes "fault: open"
 fault_line (Run Read) = codes "fault: read"
-fault_line (Run TooLong) = codes "fault: too long"
 fault_line (Run Write) = codes "fault: write"
 fault_line (Run OutOfMemory) = codes "fault: memory"

@@ -1,11 +1,10 @@
 -- How far a run came, by its answer.
-use Rattle.std.specs.Prelude.{◌≡◌, ◌<◌, ◌≤◌, ℕ, List, length, take, Option, Some, None, Result, Ok, Err}
+use Rattle.std.specs.Prelude.{◌≡◌, ◌<◌, ℕ, List, length, take, Option, Some, None, Result, Ok, Err}
 use Rattle.std.specs.Io.KnownBytes.{Appends}
 use Rattle.hidreport_program.specs.declared.program.ending.Outcome.{Outcome}
 use Rattle.hidreport_transfer.specs.declared.fault.RunFault.{RunFault}
-use Rattle.hidreport_transfer.specs.declared.fault.RunFault.TheVariants.{Read, TooLong, Write}
+use Rattle.hidreport_transfer.specs.declared.fault.RunFault.TheVariants.{Read, Write}
 use Rattle.hidreport_transfer.specs.declared.fault.RunFault.TheVariants.{OutOfMemory}
-use Rattle.hidreport_transfer.specs.Taken.{TakesAtMost, TakesOneMore}
 use Rattle.hidreport_program.specs.Output.{Output}
 
 -- both inputs were read and the text was begun
@@ -13,7 +12,6 @@ abbrev pub BeganWriting : Result Outcome RunFault → Type 0
 BeganWriting (Ok outcome) = Unit {0}
 BeganWriting (Err Write) = Unit {0}
 BeganWriting (Err Read) = ⊥
-BeganWriting (Err TooLong) = ⊥
 BeganWriting (Err OutOfMemory) = ⊥
 
 -- a beginning of the text, but not all of it, came after the bytes that were taken before
@@ -26,20 +24,4 @@ abbrev pub Wrote : Result Outcome RunFault → Output → Option (List ℕ) → 
 Wrote (Ok outcome) output old new = (outcome ≡ output.outcome) × Appends old new output.text
 Wrote (Err Write) output old new = WroteBeginning old new output.text
 Wrote (Err Read) output old new = Unit {0}
-Wrote (Err TooLong) output old new = Unit {0}
 Wrote (Err OutOfMemory) output old new = Unit {0}
-
--- no longer than a limit, where there is one
-abbrev pub IsWithin : Option ℕ → List ℕ → Type 0
-IsWithin None bytes = Unit {0}
-IsWithin (Some limit) bytes = length bytes ≤ limit
-
--- there is a limit, and one byte past it was read of an input, and none behind that
-abbrev pub ReadsOneMore : Option ℕ → Option (List ℕ) → Option (List ℕ) → Type 0
-ReadsOneMore None old new = ⊥
-ReadsOneMore (Some limit) old new = TakesOneMore limit old new
-
--- no more than one byte past a limit was read of an input, where there is a limit
-abbrev pub ReadsAtMost : Option ℕ → Option (List ℕ) → Option (List ℕ) → Type 0
-ReadsAtMost None old new = Unit {0}
-ReadsAtMost (Some limit) old new = TakesAtMost limit old new

@@ -3,8 +3,8 @@ use hidreport::Usage;
 use hidreport_items::{CollectionItem, FeatureItem, InputItem, read_item};
 use hidreport_types::{UnitSystem, UsageId, UsagePage};
 use hidreport_usages::{
-    FlagWords, collection_name, item_name, page_by_name, page_name, system_name, usage_by_name,
-    usage_name, usage_on_page,
+    FlagWords, collection_name, holds_value, item_name, page_by_name, page_name, system_name,
+    usage_by_name, usage_name, usage_on_page,
 };
 use std::alloc::{AllocError, Global};
 use std::fmt::Display;
@@ -78,6 +78,56 @@ static UNNAMED: [(u16, u16); 10] = [
     (0x81, 0x00),
     (0x92, 0x01),
     (0xfeff, 0x01),
+];
+
+/// Usages that hold values, by the types of the HID Usage Tables: LC, DV, SV, and MC/DV.
+static VALUES: [(u16, u16); 14] = [
+    (0x01, 0x30),
+    (0x01, 0x39),
+    (0x01, 0x40),
+    (0x01, 0x48),
+    (0x01, 0x94),
+    (0x0c, 0xe0),
+    (0x0c, 0x0238),
+    (0x0d, 0x30),
+    (0x0d, 0x51),
+    (0x0d, 0x55),
+    (0x0d, 0x56),
+    (0x20, 0x0434),
+    (0x20, 0x0453),
+    (0x20, 0x04d1),
+];
+
+/// Usages that hold none: collections, switches, flags, selectors and named arrays.
+static NO_VALUES: [(u16, u16); 18] = [
+    (0x01, 0x02),
+    (0x01, 0x06),
+    (0x01, 0x3a),
+    (0x01, 0x81),
+    (0x01, 0x8a),
+    (0x01, 0x90),
+    (0x09, 0x00),
+    (0x09, 0x01),
+    (0x09, 0xffff),
+    (0x0c, 0x01),
+    (0x0c, 0xb0),
+    (0x0c, 0xe9),
+    (0x0d, 0x20),
+    (0x0d, 0x32),
+    (0x0d, 0x42),
+    (0x0d, 0x59),
+    (0x20, 0x0201),
+    (0x20, 0x0954),
+];
+
+/// Usages of which no type is known: reserved ones, and those of other pages.
+static UNTYPED: [(u16, u16); 6] = [
+    (0x01, 0x03),
+    (0x01, 0x2f),
+    (0x07, 0x04),
+    (0x08, 0xffff),
+    (0x0a, 0x00),
+    (0xff00, 0x01),
 ];
 
 /// Texts that name no usage: names are taken letter for letter, and numbers in one spelling.
@@ -249,6 +299,24 @@ fn is_page(alloc: Global, page: u16, text: &str) -> bool {
         }
         None => false,
     }
+}
+
+/// Whether all of these hold values, or none does, or no type is known.
+fn are_held(usages: &[(u16, u16)], held: Option<bool>) -> bool {
+    for (page, id) in usages {
+        let usage = Usage::from_page_and_id(UsagePage::from(*page), UsageId::from(*id));
+        if holds_value(usage) != held {
+            return false;
+        }
+    }
+    true
+}
+
+#[test]
+fn usages_hold_values_by_their_types(rt: HostRuntime) {
+    assert!(rt; are_held(&VALUES, Some(true)));
+    assert!(rt; are_held(&NO_VALUES, Some(false)));
+    assert!(rt; are_held(&UNTYPED, None));
 }
 
 #[test]

@@ -147,10 +147,9 @@ fn a_fault_past_five_thousand_bytes(rt: HostRuntime) -> Result<(), AllocError> {
     Ok(())
 }
 
-static FAULTS: [(Fault, &str); 5] = [
+static FAULTS: [(Fault, &str); 4] = [
     (Fault::Open, "fault: open"),
     (Fault::Run(RunFault::Read), "fault: read"),
-    (Fault::Run(RunFault::TooLong), "fault: too long"),
     (Fault::Run(RunFault::Write), "fault: write"),
     (Fault::Run(RunFault::OutOfMemory), "fault: memory"),
 ];

@@ -1,7 +1,7 @@
 //! Readers that fail, writers that fail, and long inputs.
 use crate::failing_ends::{FailingSink, FailingSource, FlakyReader, FullWriter};
 use hidreport_transfer::{
-    Failed, FromRead, RunFault, Sink, Source, ToWrite, read_to_end, read_to_end_within, write_all,
+    Bounded, Failed, FromRead, RunFault, Sink, Source, ToWrite, read_to_end, write_all,
 };
 use std::alloc::Global;
 
@@ -120,66 +120,65 @@ fn write_of_nothing_fails(rt: HostRuntime) {
     assert!(rt; answers == [Ok(0), Err(Failed), Err(Failed)]);
 }
 
-/// Whether bytes are read to their end within a limit, and nothing behind it.
-fn is_read_within(alloc: Global, wanted: &[u8], limit: usize) -> bool {
-    let mut source = FromRead::new(wanted);
-    are_bytes(read_to_end_within(alloc, &mut source, limit), wanted)
-        && are_bytes(read_to_end_within(alloc, &mut source, 0), b"")
+/// Whether bytes are read to their end, where this many may be read.
+fn is_read_within(alloc: Global, wanted: &[u8], most: usize) -> bool {
+    let mut source = Bounded::new(FromRead::new(wanted), most);
+    are_bytes(read_to_end(alloc, &mut source), wanted)
+        && are_bytes(read_to_end(alloc, &mut source), b"")
 }
 
 #[test]
-fn reads_all_within_a_limit(rt: HostRuntime) {
-    for limit in [19, 20, 5000, usize::MAX] {
-        assert!(rt; is_read_within(rt.alloc(), WORDS, limit));
+fn reads_all_within_a_bound(rt: HostRuntime) {
+    for most in [19, 20, 5000, usize::MAX] {
+        assert!(rt; is_read_within(rt.alloc(), WORDS, most));
     }
     assert!(rt; is_read_within(rt.alloc(), &MANY, 10000));
 }
 
-/// Whether nineteen bytes are too long for a limit, and this is left of them.
-fn is_too_long(alloc: Global, limit: usize, left: &[u8]) -> bool {
-    let mut source = FromRead::new(WORDS);
-    is_fault(
-        read_to_end_within(alloc, &mut source, limit),
-        RunFault::TooLong,
-    ) && are_bytes(read_to_end(alloc, &mut source), left)
+/// Whether nineteen bytes are more than may be read, and stay so.
+fn is_failed_past(alloc: Global, most: usize) -> bool {
+    let mut source = Bounded::new(FromRead::new(WORDS), most);
+    is_fault(read_to_end(alloc, &mut source), RunFault::Read)
+        && is_fault(read_to_end(alloc, &mut source), RunFault::Read)
 }
 
-// Within 17 bytes eighteen are read: "g" is left.
 #[test]
-fn past_a_limit_nothing_is_read(rt: HostRuntime) {
-    assert!(rt; is_too_long(rt.alloc(), 17, b"g"));
-    assert!(rt; is_too_long(rt.alloc(), 18, b""));
+fn past_a_bound_a_source_fails(rt: HostRuntime) {
+    for most in [0, 1, 17, 18] {
+        assert!(rt; is_failed_past(rt.alloc(), most));
+    }
 }
 
-/// Whether of a reader without end one byte more is read than a limit allows.
-fn is_left(alloc: Global, limit: usize) -> bool {
+/// Whether of a reader without end one byte more is read than may be.
+fn is_left(alloc: Global, most: usize) -> bool {
     let mut reader = FlakyReader {
         reads: 0,
         bad_read: 0,
     };
-    let mut source = FromRead::new(&mut reader);
-    let answer = read_to_end_within(alloc, &mut source, limit);
-    is_fault(answer, RunFault::TooLong) && reader.reads == limit.saturating_add(1)
+    let mut source = Bounded::new(FromRead::new(&mut reader), most);
+    let answer = read_to_end(alloc, &mut source);
+    is_fault(answer, RunFault::Read) && reader.reads == most.saturating_add(1)
 }
 
 #[test]
 fn an_endless_reader_is_left(rt: HostRuntime) {
-    for limit in [0, 1, 4096, 5000] {
-        assert!(rt; is_left(rt.alloc(), limit));
+    for most in [0, 1, 4096, 5000] {
+        assert!(rt; is_left(rt.alloc(), most));
     }
 }
 
-/// Whether a source that fails after so many reads is told as failed within a limit.
+/// Whether a source that fails after so many reads is told as failed within a bound.
 fn is_failed_read_within(alloc: Global, good_reads: usize) -> bool {
-    let mut source = FailingSource::new(FromRead::new(WORDS), good_reads);
-    is_fault(read_to_end_within(alloc, &mut source, 19), RunFault::Read)
+    let inside = FailingSource::new(FromRead::new(WORDS), good_reads);
+    let mut source = Bounded::new(inside, 19);
+    is_fault(read_to_end(alloc, &mut source), RunFault::Read)
 }
 
 #[test]
-fn failed_read_within_a_limit(rt: HostRuntime) {
+fn failed_read_within_a_bound(rt: HostRuntime) {
     for good_reads in 0..8 {
         assert!(rt; is_failed_read_within(rt.alloc(), good_reads));
     }
-    let mut source = FailingSource::new(FromRead::new(WORDS), 8);
-    assert!(rt; are_bytes(read_to_end_within(rt.alloc(), &mut source, 19), WORDS));
+    let mut source = Bounded::new(FailingSource::new(FromRead::new(WORDS), 8), 19);
+    assert!(rt; are_bytes(read_to_end(rt.alloc(), &mut source), WORDS));
 }

@@ -5,8 +5,6 @@
 pub enum RunFault {
     /// A reader failed.
     Read,
-    /// A reader has more bytes than may be read of it.
-    TooLong,
     /// The writer failed.
     Write,
     /// Memory ran out.

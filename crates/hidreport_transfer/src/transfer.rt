@@ -9,7 +9,7 @@ use std::alloc::Global;
 
 /// How many bytes a read asks for at most: a descriptor that Linux takes is no longer, so that one
 /// read has all of it.
-pub(crate) const CHUNK: usize = 4096;
+const CHUNK: usize = 4096;
 
 /// The bytes that `source` has left, read to its end.
 ///
@@ -19,7 +19,6 @@ pub fn read_to_end<S: Source>(alloc: Global, source: &mut S) -> Result<Vec<u8>, 
     ensures end { OnOk result (IsAtEnd (S.left source.new)) }
     ensures failed { IsErrOf result RunFault.Read ↔ IsTrue (S.has_failed source.new) }
     ensures no_write { ¬ IsErrOf result RunFault.Write }
-    ensures no_limit { ¬ IsErrOf result RunFault.TooLong }
 {
     let mut bytes = Vec::new(alloc);
     let mut buffer = [0u8; CHUNK];

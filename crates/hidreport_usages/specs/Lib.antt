@@ -8,3 +8,4 @@ pub mod Packed
 pub mod PageRows
 pub mod Rows
 pub mod UsageRows
+pub mod UsageTypes

@@ -1,11 +1,17 @@
 //! The forms that bytes are written down in, and what reads the lines of each. A form more has a
 //! file of its own, and a row in each list here.
-use crate::input::dump::{DumpLines, is_head};
+mod dump;
+mod hex_text;
+mod recorder;
+mod source;
+
+use crate::input::form::dump::{DumpLines, is_head};
+use crate::input::form::hex_text::{HexLines, is_hex_line};
+use crate::input::form::recorder::{RecorderLines, is_recorder_line};
+use crate::input::form::source::{SourceLines, is_source_line};
 use crate::input::given::Found;
-use crate::input::hex_text::{HexLines, is_hex_line};
-use crate::input::recorder::{RecorderLines, is_recorder_line};
-use crate::input::source::{SourceLines, is_source_line};
 use anyhow::Result;
+pub use hex_text::{bytes_of_hex, is_blank};
 use std::alloc::Global;
 
 /// How bytes are written down.

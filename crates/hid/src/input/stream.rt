@@ -1,7 +1,6 @@
 //! The reports of a stream, of which pieces come one after the other.
-use crate::input::form::{Form, FormLines, Wanted};
+use crate::input::form::{Form, FormLines, Wanted, is_blank};
 use crate::input::given::{Found, GivenReport};
-use crate::input::hex_text::is_blank;
 use crate::input::named::tell_form;
 use crate::input::whole::{form_of_line, text_of};
 use crate::settings::LONGEST_LINE;

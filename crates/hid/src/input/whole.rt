@@ -1,7 +1,6 @@
 //! A whole input, in the form that is named or the one that it has.
-use crate::input::form::{Form, FormLines, Wanted};
+use crate::input::form::{Form, FormLines, Wanted, is_blank};
 use crate::input::given::{Found, Given, GivenReport};
-use crate::input::hex_text::is_blank;
 use anyhow::{Context, Result, bail, ensure};
 use std::alloc::Global;
 

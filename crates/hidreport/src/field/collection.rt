@@ -1,10 +1,10 @@
-ghost use Rattle.std.specs.Prelude.{◌≡◌, nat_eq, IfOk};
+ghost use Rattle.std.specs.Prelude.{◌≡◌, ◌↔◌, nat_eq, IfOk, IsTrue};
 ghost use Rattle.std.specs.Cmp.Rules.{comparing, hashing};
 ghost use Rattle.std.specs.Hash as fed;
 ghost use Rattle.std.specs.Ordering.{on};
 ghost use Rattle.std.proofs.Common.{rules};
 
-use crate::field::usage::Usage;
+use crate::field::usage::{Usage, are_same};
 use hidreport_items::CollectionItem;
 use std::alloc::AllocError;
 use std::hash::{Hash, Hasher};
@@ -186,6 +186,31 @@ impl Collection {
             right = right.split_at(1).1;
         }
         count
+    }
+
+    /// Whether another collection is the same in all parts: its id, its kind and its usages. It
+    /// takes no memory. `==` compares ids alone.
+    pub fn is_alike(&self, other: &Collection) -> bool
+        ensures { IsTrue result ↔ (self.now ≡ other.now) }
+    {
+        self.id() == other.id()
+            && self.collection_type() == other.collection_type()
+            && are_same(self.usages(), other.usages())
+    }
+
+    /// Whether two lists have collections that are alike, in the same order.
+    pub(crate) fn are_alike(left: &[Collection], right: &[Collection]) -> bool
+        ensures { IsTrue result ↔ (left.now ≡ right.now) }
+    {
+        if left.len() != right.len() {
+            return false;
+        }
+        for index in 0..left.len() {
+            if !left[index].is_alike(&right[index]) {
+                return false;
+            }
+        }
+        true
     }
 
     /// The same collection once more; both share the list of usages. It takes no memory; an

@@ -1,4 +1,4 @@
-ghost use Rattle.std.specs.Prelude.{◌≡◌, false};
+ghost use Rattle.std.specs.Prelude.{◌≡◌, ◌↔◌, false, IsTrue};
 ghost use Rattle.hidreport_items.specs.declared.item.ItemType.TheVariants as item;
 ghost use Rattle.hidreport_items.specs.declared.main_item.MainItem.TheVariants as main;
 ghost use Rattle.hidreport.specs.Fields.{field_count, volatile_in};
@@ -65,6 +65,43 @@ impl DataItem {
             Direction::Input => None,
             Direction::Output | Direction::Feature => Some(self.is_volatile),
         }
+    }
+
+    /// Whether the fields of another item have the same flags.
+    pub(crate) fn is_alike(&self, other: &DataItem) -> bool
+        ensures { IsTrue result ↔ ((self.now.is_relative ≡ other.now.is_relative)
+            × (self.now.wraps ≡ other.now.wraps)
+            × (self.now.is_nonlinear ≡ other.now.is_nonlinear)
+            × (self.now.has_no_preferred_state ≡ other.now.has_no_preferred_state)
+            × (self.now.has_null_state ≡ other.now.has_null_state)
+            × (self.now.is_buffered_bytes ≡ other.now.is_buffered_bytes)
+            × (volatile_in (direction_of self.now.direction) self.now.is_volatile
+            ≡ volatile_in (direction_of other.now.direction) other.now.is_volatile)) }
+    {
+        self.counts_as(other) && self.rests_as(other) && self.volatile() == other.volatile()
+    }
+
+    /// Whether values of another item are counted alike.
+    fn counts_as(&self, other: &DataItem) -> bool
+        ensures { IsTrue result ↔ ((self.now.is_relative ≡ other.now.is_relative)
+            × (self.now.wraps ≡ other.now.wraps)
+            × (self.now.is_nonlinear ≡ other.now.is_nonlinear)) }
+    {
+        self.is_relative == other.is_relative
+            && self.wraps == other.wraps
+            && self.is_nonlinear == other.is_nonlinear
+    }
+
+    /// Whether another item has the same states, and is a stream of bytes where this is one.
+    fn rests_as(&self, other: &DataItem) -> bool
+        ensures { IsTrue result ↔
+            ((self.now.has_no_preferred_state ≡ other.now.has_no_preferred_state)
+            × (self.now.has_null_state ≡ other.now.has_null_state)
+            × (self.now.is_buffered_bytes ≡ other.now.is_buffered_bytes)) }
+    {
+        self.has_no_preferred_state == other.has_no_preferred_state
+            && self.has_null_state == other.has_null_state
+            && self.is_buffered_bytes == other.is_buffered_bytes
     }
 
     /// How many fields the item makes where `count` elements are announced: one for padding and

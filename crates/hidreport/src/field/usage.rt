@@ -1,4 +1,4 @@
-ghost use Rattle.std.specs.Prelude.{◌≡◌};
+ghost use Rattle.std.specs.Prelude.{◌≡◌, ◌↔◌, IsTrue};
 ghost use Rattle.hidreport.specs.UsageNumber.{usage_number, numbered_usage};
 
 use hidreport_types::{UsageId, UsageMaximum, UsageMinimum, UsagePage};
@@ -25,6 +25,13 @@ impl Usage {
             usage_id,
         }
     }
+}
+
+/// Whether two lists hold the same usages in the same order.
+pub(crate) fn are_same(left: &[Usage], right: &[Usage]) -> bool
+    ensures { IsTrue result ↔ (left.now ≡ right.now) }
+{
+    left == right
 }
 
 impl From<u32> for Usage {

@@ -1,5 +1,5 @@
+use crate::field::measures::Measures;
 use crate::parser::extent::Extent;
-use crate::parser::measures::Measures;
 use hidreport_items::GlobalItem;
 use hidreport_types::{
     LogicalMaximum, LogicalMinimum, PhysicalMaximum, PhysicalMinimum, ReportCount, ReportId,

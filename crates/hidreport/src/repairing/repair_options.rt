@@ -3,9 +3,10 @@ ghost use Rattle.std.specs.Prelude.{◌≡◌, false, None};
 ghost use Rattle.hidreport.specs.declared.parser.push_keeps.PushKeeps.TheVariants as push_keeps;
 
 use crate::parse_options::ParseOptions;
+use crate::parser::push_keeps::PushKeeps;
 
 /// What `repair` mends, and how what it writes is read. The default mends what Linux's hid-core
-/// reads without asking.
+/// reads without asking, and reads as it does: a Push keeps globals alone.
 #[derive(Clone, Copy, Debug, PartialEq, Eq)]
 pub struct RepairOptions {
     /// How the repaired descriptor is read.
@@ -22,14 +23,18 @@ pub struct RepairOptions {
 
 impl Default for RepairOptions {
     ghost is_default = { λ options. options ≡ record {
-      parse = record { push_keeps = push_keeps.All; limit = None; longest = None };
+      parse = record { push_keeps = push_keeps.Globals; limit = None; longest = None };
       leave_out_cut_short = false;
       unsigned_maxima = false;
     } };
 
     fn default() -> RepairOptions {
         RepairOptions {
-            parse: ParseOptions::default(),
+            parse: ParseOptions {
+                push_keeps: PushKeeps::Globals,
+                limit: None,
+                longest: None,
+            },
             leave_out_cut_short: false,
             unsigned_maxima: false,
         }

@@ -29,7 +29,7 @@ impl Model for Reports {
 }
 
 impl Reports {
-    ghost use Rattle.std.specs.Prelude.{◌≡◌, []};
+    ghost use Rattle.std.specs.Prelude.{◌≡◌, ◌↔◌, [], IsTrue};
     ghost use Rattle.hidreport.specs.Parser.Machine.{reports_in};
     ghost use Rattle.hidreport.specs.Views.{direction_of};
 
@@ -42,6 +42,15 @@ impl Reports {
             output: Vec::new(alloc),
             feature: Vec::new(alloc),
         }
+    }
+
+    /// Whether others are the same in all parts.
+    pub(crate) fn is_alike(&self, other: &Reports) -> bool
+        ensures { IsTrue result ↔ (self.now ≡ other.now) }
+    {
+        RDescReport::are_alike(self.input.as_slice(), other.input.as_slice())
+            && RDescReport::are_alike(self.output.as_slice(), other.output.as_slice())
+            && RDescReport::are_alike(self.feature.as_slice(), other.feature.as_slice())
     }
 
     /// Those of a direction.

@@ -1,13 +1,8 @@
 //! The commands, and the words that ask for them.
 ghost use Rattle.std.specs.Prelude.{◌≡◌, IfSome, IsNone, map, string_bytes};
-ghost use Rattle.hidreport_program.specs.Command.{AsksFor, input_limit, reads_report};
+ghost use Rattle.hidreport_program.specs.Command.{AsksFor, has_limit, reads_report};
 
 use super::limits::limit_of;
-
-/// The most bytes that a command with a limit reads of a file. A device announces the length of its
-/// report descriptor in 16 bits (USB HID 1.11, 6.2.1), and that of a report is asked for in 16 bits
-/// (7.2.1).
-const INPUT_LIMIT: usize = 65_536;
 
 /// What the program is asked to do.
 #[derive(Debug, Clone, Copy, PartialEq)]
@@ -16,8 +11,7 @@ pub enum Command {
     Items,
     /// The fields of a report, with their values.
     Values,
-    /// The same, unless listing the descriptor's fields passes this limit, or a file is longer than
-    /// 65,536 bytes.
+    /// The same, unless listing the descriptor's fields passes this limit.
     ValuesWithin(usize),
     /// The same as `Values`, of a descriptor whose Pushes keep globals alone.
     ValuesGlobals,
@@ -41,14 +35,13 @@ impl Command {
         }
     }
 
-    /// The most bytes that it reads of each of its files: 65,536 where it has a limit, and else any
-    /// number.
-    pub fn input_limit(self) -> Option<usize>
-        ensures { result ≡ input_limit self }
+    /// Whether it has a limit of what may be listed.
+    pub fn has_limit(self) -> bool
+        ensures { result ≡ has_limit self }
     {
         match self {
-            Command::ValuesWithin(_) | Command::ValuesGlobalsWithin(_) => Some(INPUT_LIMIT),
-            Command::Items | Command::Values | Command::ValuesGlobals | Command::Rebuild => None,
+            Command::ValuesWithin(_) | Command::ValuesGlobalsWithin(_) => true,
+            Command::Items | Command::Values | Command::ValuesGlobals | Command::Rebuild => false,
         }
     }
 }

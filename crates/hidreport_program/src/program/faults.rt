@@ -37,7 +37,6 @@ pub fn line_of(fault: Fault) -> &'static str
         }
         Fault::Open => "fault: open",
         Fault::Run(RunFault::Read) => "fault: read",
-        Fault::Run(RunFault::TooLong) => "fault: too long",
         Fault::Run(RunFault::Write) => "fault: write",
         Fault::Run(RunFault::OutOfMemory) => "fault: memory",
     }

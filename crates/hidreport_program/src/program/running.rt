@@ -1,25 +1,23 @@
 //! A run of the program: its inputs are read, and then its text is written.
-ghost use Rattle.std.specs.Prelude.{◌≡◌, ◌↔◌, ◌⊎◌, false, IfOk, IfSome, IsErrOf, IsTrue, OnOk};
+ghost use Rattle.std.specs.Prelude.{◌≡◌, ◌⊎◌, false, IfSome, IsErrOf, IsTrue, OnOk};
 ghost use Rattle.std.specs.Io.KnownBytes.{IsAtEnd};
-ghost use Rattle.hidreport_program.specs.Command.{input_limit, reads_report, report_given};
+ghost use Rattle.hidreport_program.specs.Command.{reads_report, report_given};
 ghost use Rattle.hidreport_program.specs.Output.{output};
-ghost use Rattle.hidreport_program.specs.Run.{BeganWriting, IsWithin, ReadsAtMost, ReadsOneMore};
-ghost use Rattle.hidreport_program.specs.Run.{Wrote};
+ghost use Rattle.hidreport_program.specs.Run.{BeganWriting, Wrote};
 
 use super::commands::Command;
 use super::ending::Outcome;
 use super::output::text_of;
-use hidreport_transfer::{RunFault, Sink, Source, read_to_end, read_to_end_within, write_all};
+use hidreport_transfer::{RunFault, Sink, Source, read_to_end, write_all};
 use std::alloc::Global;
 
 /// Reads a descriptor to its end, then a report where `command` reads one, and writes what the
 /// command says of them. A report that isn't read is left as it is.
 ///
 /// Answers `Done` after the command's text, and `Refused` after a line that says why there is
-/// none. Refuses with `Read` where a reader has failed, with `TooLong` where one has more bytes
-/// than the command reads (`Command::input_limit`), and with `OutOfMemory` where memory ran out:
-/// nothing is written then. Refuses with `Write` where the writer has failed: a beginning of the
-/// text is written then.
+/// none. Refuses with `Read` where a reader has failed, and with `OutOfMemory` where memory ran
+/// out: nothing is written then. Refuses with `Write` where the writer has failed: a beginning of
+/// the text is written then. How much is read at most is the readers' (`Bounded`).
 pub fn run<D: Source, R: Source, K: Sink>(
     alloc: Global,
     command: Command,
@@ -36,19 +34,6 @@ pub fn run<D: Source, R: Source, K: Sink>(
     ensures report_unread { reads_report command ≡ false → report.new ≡ report.old }
     // A report is read only after a whole descriptor.
     ensures order { IsTrue (D.has_failed descriptor.new) → report.new ≡ report.old }
-    ensures descriptor_within { BeganWriting result
-        → IfSome (D.left descriptor.old) (IsWithin (input_limit command)) }
-    ensures report_within { IsTrue (reads_report command) → BeganWriting result
-        → IfSome (R.left report.old) (IsWithin (input_limit command)) }
-    ensures too_long { IsErrOf result RunFault.TooLong
-        → (ReadsOneMore (input_limit command) (D.left descriptor.old) (D.left descriptor.new)
-        × (report.new ≡ report.old)) ⊎ (IsTrue (reads_report command)
-        × ReadsOneMore (input_limit command) (R.left report.old) (R.left report.new)) }
-    // Where there is a limit, no answer is given by reading on.
-    ensures descriptor_bounded { ReadsAtMost (input_limit command) (D.left descriptor.old)
-        (D.left descriptor.new) }
-    ensures report_bounded { ReadsAtMost (input_limit command) (R.left report.old)
-        (R.left report.new) }
     ensures read_fault { IsErrOf result RunFault.Read → IsTrue (D.has_failed descriptor.new)
         ⊎ (IsTrue (reads_report command) × IsTrue (R.has_failed report.new)) }
     ensures write_fault { IsErrOf result RunFault.Write → IsTrue (K.has_failed out.new) }
@@ -59,38 +44,14 @@ pub fn run<D: Source, R: Source, K: Sink>(
         IfSome (report_given command (R.left report.old)) (λ bytes.
         Wrote result (output command description bytes) (K.taken out.old) (K.taken out.new))) }
 {
-    let limit = command.input_limit();
-    let description = read_whole(alloc, descriptor, limit)?;
+    let description = read_to_end(alloc, descriptor)?;
     let mut bytes = Vec::new(alloc);
     if command.reads_report() {
-        bytes = read_whole(alloc, report, limit)?;
+        bytes = read_to_end(alloc, report)?;
     }
     let Ok(written) = text_of(alloc, command, &description, &bytes) else {
         return Err(RunFault::OutOfMemory);
     };
     write_all(out, written.text.as_bytes())?;
     Ok(written.outcome)
-}
-
-/// The bytes that `source` has left, read to its end, where they are no more than a limit allows.
-///
-/// Refuses as `read_to_end` and `read_to_end_within`.
-fn read_whole<S: Source>(
-    alloc: Global,
-    source: &mut S,
-    limit: Option<usize>,
-) -> Result<Vec<u8>, RunFault>
-    ensures all { IfOk result (λ bytes. IfSome (S.left source.old) (λ left. bytes.items ≡ left)) }
-    ensures end { OnOk result (IsAtEnd (S.left source.new)) }
-    ensures within { IfOk result (λ bytes. IsWithin limit bytes.items) }
-    ensures past { IsErrOf result RunFault.TooLong
-        → ReadsOneMore limit (S.left source.old) (S.left source.new) }
-    ensures bounded { ReadsAtMost limit (S.left source.old) (S.left source.new) }
-    ensures failed { IsErrOf result RunFault.Read ↔ IsTrue (S.has_failed source.new) }
-    ensures no_write { ¬ IsErrOf result RunFault.Write }
-{
-    match limit {
-        Some(limit) => read_to_end_within(alloc, source, limit),
-        None => read_to_end(alloc, source),
-    }
 }

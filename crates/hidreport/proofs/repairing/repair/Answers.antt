@@ -3,9 +3,10 @@ use Rattle.hidreport_lists.proofs.CutLemmas.{are_bytes}
 use Rattle.hidreport_lists.specs.Answer.{AnswersBy}
 use Rattle.hidreport.specs.Options.{parse_as}
 use Rattle.hidreport.specs.Repair.{repaired_view}
+use Rattle.hidreport.proofs.RepairAgainLemmas.{answer-rebuilds, answer-stays}
 use Rattle.hidreport.proofs.RepairBitsLemmas.{repair-keeps-bits}
 use Rattle.hidreport.proofs.RepairLawLemmas.{repair-so}
-use Rattle.hidreport.proofs.RepairRefusalLemmas.{repair-no-mismatch}
+use Rattle.hidreport.proofs.RepairRefusalLemmas.{repair-no-mismatch, repair-unlimited}
 use Rattle.hidreport.proofs.UntouchedLemmas.{accepts-answer, untouched-ok}
 use Rattle.hidreport.proofs.repairing.repair.Goals as goal
 
@@ -33,3 +34,14 @@ returns-clause-bits c = repair-keeps-bits c.args.options c.args.bytes.now c.repa
 pub returns-clause-own_bytes : goal.returns-clause-own_bytes
 returns-clause-own_bytes c = repair-no-mismatch c.args.options c.args.bytes.now
     c.repaired_bytes.result c.repaired_bytes.ensures
+
+pub returns-clause-again : goal.returns-clause-again
+returns-clause-again c = answer-stays c.args.options c.args.bytes.now c.repaired_bytes.result
+    c.repaired_bytes.ensures (returns-clause-bits c)
+
+pub returns-clause-rebuilt : goal.returns-clause-rebuilt
+returns-clause-rebuilt c = answer-rebuilds c.args.options c.repaired_bytes.result
+
+pub returns-clause-unlimited : goal.returns-clause-unlimited
+returns-clause-unlimited c = λ none any offset. repair-unlimited c.args.options c.args.bytes.now
+    c.repaired_bytes.result c.repaired_bytes.ensures none any offset

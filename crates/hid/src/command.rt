@@ -1,0 +1,189 @@
+//! What the words of a command line ask for.
+use crate::commands::{
+    Check, Compile, Convert, Decode, Diff, Fields, Map, Record, Set, Target, Values, id_named,
+};
+use crate::ending::Ending;
+use crate::settings::Settings;
+use crate::words::direction_named;
+use anyhow::{Result, bail};
+use clap::ArgMatches;
+use hidreport::Direction;
+use std::alloc::{AllocError, Global};
+use std::rt::{Clock, Files};
+
+/// A command with its words.
+#[derive(Debug, Drop)]
+pub enum Command<'a> {
+    /// Shows the items of a descriptor.
+    Decode(Decode<'a>),
+    /// Shows the fields of a descriptor.
+    Fields(Fields<'a>),
+    /// Shows the values of reports.
+    Values(Values<'a>),
+    /// Shows the reports of a stream.
+    Record(Record<'a>),
+    /// Writes the bytes of a report.
+    Set(Set<'a>),
+    /// Writes a descriptor in another form.
+    Convert(Convert<'a>),
+    /// Writes the descriptor that a text says.
+    Compile(Compile<'a>),
+    /// Draws the bits of each report.
+    Map(Map<'a>),
+    /// Shows what differs between two descriptors.
+    Diff(Diff<'a>),
+    /// Shows what is odd in a descriptor.
+    Check(Check<'a>),
+}
+
+impl<'a> Command<'a> {
+    /// The command with this name, and its words.
+    pub fn of(alloc: Global, name: &str, matches: &ArgMatches<'a>) -> Result<Command<'a>> {
+        let file = matches.get_str("FILE").unwrap_or("-");
+        Ok(match name {
+            "decode" => Command::Decode(Decode { file }),
+            "fields" => Command::Fields(Fields { file }),
+            "check" => Command::Check(Check { file }),
+            "values" => Command::Values(values_of(alloc, file, matches)?),
+            "record" => Command::Record(record_of(file, matches)),
+            "set" => Command::Set(set_of(alloc, file, matches)?),
+            "convert" => {
+                let target = target_of(matches);
+                Command::Convert(Convert { file, target })
+            }
+            "compile" => {
+                let (text, target) = (matches.get_str("TEXT").unwrap_or("-"), target_of(matches));
+                Command::Compile(Compile { text, target })
+            }
+            "map" => Command::Map(map_of(file, matches)),
+            "diff" => {
+                let other = matches.get_str("OTHER").unwrap_or("-");
+                Command::Diff(Diff { file, other })
+            }
+            _ => bail!("{name} is no command"),
+        })
+    }
+
+    /// The name of the input that a refusal is said of.
+    pub fn input(&self) -> &'a str {
+        match self {
+            Command::Decode(command) => command.file,
+            Command::Fields(command) => command.file,
+            Command::Values(command) => command.file,
+            Command::Record(command) => command.file,
+            Command::Set(command) => command.file,
+            Command::Convert(command) => command.file,
+            Command::Compile(command) => command.text,
+            Command::Map(command) => command.file,
+            Command::Diff(command) => command.file,
+            Command::Check(command) => command.file,
+        }
+    }
+
+    /// Why these options can't be met together, where they can't.
+    pub fn conflict(&self, settings: &Settings) -> Option<&'static str> {
+        match self {
+            Command::Values(command) if command.is_down && settings.is_json => {
+                Some("--down and --json can't both be met")
+            }
+            Command::Record(command) if command.is_raw && settings.is_json => {
+                Some("--raw and --json can't both be met")
+            }
+            Command::Record(command) if command.is_raw && command.only_changes => {
+                Some("--raw and --changes can't both be met")
+            }
+            Command::Record(command) if command.only_changes && settings.is_json => {
+                Some("--changes and --json can't both be met")
+            }
+            Command::Set(_) | Command::Convert(_) | Command::Compile(_) | Command::Map(_)
+                if settings.is_json => { Some("this command has no JSON") }
+            _ => None,
+        }
+    }
+
+    /// Does what is asked for.
+    pub fn run<R: AllocGlobal + Clock + Files + Input + Print + Eprint>(
+        &self,
+        rt: &R,
+        settings: &Settings,
+    ) -> Result<Ending> {
+        match self {
+            Command::Decode(command) => command.run(rt, settings),
+            Command::Fields(command) => command.run(rt, settings),
+            Command::Values(command) => command.run(rt, settings),
+            Command::Record(command) => command.run(rt, settings),
+            Command::Set(command) => command.run(rt, settings),
+            Command::Convert(command) => command.run(rt, settings),
+            Command::Compile(command) => command.run(rt, settings),
+            Command::Map(command) => command.run(rt, settings),
+            Command::Diff(command) => command.run(rt, settings),
+            Command::Check(command) => command.run(rt, settings),
+        }
+    }
+}
+
+fn values_of<'a>(
+    alloc: Global,
+    file: &'a str,
+    matches: &ArgMatches<'a>,
+) -> Result<Values<'a>, AllocError> {
+    Ok(Values {
+        file,
+        reports: words_of(alloc, "REPORT", matches)?,
+        direction: direction_of(matches),
+        is_down: matches.get_flag("down"),
+    })
+}
+
+/// The words of an argument that may have several.
+fn words_of<'a>(
+    alloc: Global,
+    name: &str,
+    matches: &ArgMatches<'a>,
+) -> Result<Vec<&'a str>, AllocError> {
+    match matches.get_strs(name) {
+        Some(words) => Vec::from_slice(alloc, words),
+        None => Ok(Vec::new(alloc)),
+    }
+}
+
+fn record_of<'a>(file: &'a str, matches: &ArgMatches<'a>) -> Record<'a> {
+    Record {
+        file,
+        stream: matches.get_str("STREAM").unwrap_or("-"),
+        only_changes: matches.get_flag("changes"),
+        is_raw: matches.get_flag("raw"),
+    }
+}
+
+fn set_of<'a>(alloc: Global, file: &'a str, matches: &ArgMatches<'a>) -> Result<Set<'a>> {
+    Ok(Set {
+        file,
+        id: id_named(matches.get_str("ID").unwrap_or("-"))?,
+        words: words_of(alloc, "NAME=NUMBER", matches)?,
+        direction: direction_of(matches),
+        target: target_of(matches),
+        is_zero: matches.get_flag("zero"),
+    })
+}
+
+fn map_of<'a>(file: &'a str, matches: &ArgMatches<'a>) -> Map<'a> {
+    Map {
+        file,
+        is_svg: matches.get_flag("svg"),
+        shows_all: matches.get_flag("all"),
+    }
+}
+
+/// What the words say that bytes are written as.
+fn target_of(matches: &ArgMatches) -> Target {
+    Target::named(matches.get_str("to"))
+}
+
+/// The direction that the words say.
+fn direction_of(matches: &ArgMatches) -> Direction {
+    match matches.get_str("direction").and_then(direction_named) {
+        Some(direction) => direction,
+        None => Direction::Input,
+    }
+}

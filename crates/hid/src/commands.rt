@@ -1,0 +1,92 @@
+//! The commands, one a file: each has a struct of its words, which is run.
+
+mod check;
+mod compile;
+mod convert;
+mod decode;
+mod diff;
+mod fields;
+mod findings;
+mod map;
+mod record;
+mod set;
+mod target;
+mod values;
+
+use crate::input::Given;
+use crate::settings::Settings;
+use anyhow::{Result, anyhow};
+pub use check::Check;
+pub use compile::Compile;
+pub use convert::Convert;
+pub use decode::Decode;
+pub use diff::Diff;
+pub use fields::Fields;
+use hidreport::{ParseOptions, ParserError, ReportDescriptor, repair};
+pub use map::Map;
+pub use record::Record;
+pub use set::{Set, id_named};
+use std::alloc::Global;
+pub use target::{TARGETS, Target};
+pub use values::Values;
+
+/// How often a limit is doubled to find one that is enough.
+const MOST_DOUBLED: usize = 4;
+
+/// The bytes of the only descriptor of an input.
+fn descriptor_of(given: &Given) -> &[u8] {
+    let none: &[u8] = &[];
+    match given.devices.first() {
+        Some(device) => device.descriptor.as_slice(),
+        None => none,
+    }
+}
+
+/// The descriptor, parsed; a refusal that an option mends or that a greater limit avoids says so.
+fn parsed(alloc: Global, settings: &Settings, bytes: &[u8]) -> Result<ReportDescriptor> {
+    match ReportDescriptor::try_from_with(alloc, bytes, settings.parse) {
+        Ok(descriptor) => Ok(descriptor),
+        Err(fault) => Err(with_advice(alloc, settings, bytes, fault)),
+    }
+}
+
+/// Why a descriptor is refused, and what helps.
+fn with_advice(
+    alloc: Global,
+    settings: &Settings,
+    bytes: &[u8],
+    fault: ParserError,
+) -> anyhow::Error {
+    match fault {
+        ParserError::BudgetExceeded { .. } => match enough(alloc, settings, bytes) {
+            Some(limit) => anyhow!("{fault}: --limit {limit} is enough"),
+            None => fault.into(),
+        },
+        ParserError::InvalidData { .. } if !settings.is_lenient => {
+            match repair(alloc, bytes, settings.repair()) {
+                Ok(_repaired) => anyhow!("{fault}: --lenient mends it"),
+                Err(_fault) => fault.into(),
+            }
+        }
+        fault => fault.into(),
+    }
+}
+
+/// A limit under which a descriptor is read, up to a power of two.
+fn enough(alloc: Global, settings: &Settings, bytes: &[u8]) -> Option<usize> {
+    let mut limit = settings.parse.limit?.max(bytes.len()).max(1);
+    for _ in 0..MOST_DOUBLED {
+        limit = limit.checked_mul(2)?;
+        let options = ParseOptions {
+            limit: Some(limit),
+            longest: None,
+            ..settings.parse
+        };
+        match ReportDescriptor::try_from_with(alloc, bytes, options) {
+            Err(ParserError::BudgetExceeded { .. }) => {}
+            Ok(_descriptor) => return Some(limit),
+            Err(_fault) => return None,
+        }
+    }
+    None
+}

@@ -1,0 +1,75 @@
+//! `hid check`: what is odd in a descriptor.
+use crate::commands::descriptor_of;
+use crate::commands::findings::{Finding, findings};
+use crate::ending::Ending;
+use crate::input::descriptor_named;
+use crate::output::{add_json, flush, flush_piece};
+use crate::settings::Settings;
+use anyhow::{Result, bail};
+use hidreport::{ParserError, ReportDescriptor};
+use serde::Serialize;
+use std::fmt::Write;
+use std::rt::Files;
+
+/// Shows what is odd in a descriptor.
+#[derive(Clone, Copy, Debug)]
+pub struct Check<'a> {
+    /// The descriptor's input.
+    pub file: &'a str,
+}
+
+/// Something odd, as JSON.
+#[derive(Drop, Serialize)]
+struct OddObject<'a> {
+    offset: Option<usize>,
+    odd: &'a str,
+}
+
+impl<'a> Check<'a> {
+    /// Shows each finding; something odd is refused.
+    pub fn run<R: AllocGlobal + Files + Input + Print + Eprint>(
+        &self,
+        rt: &R,
+        settings: &Settings,
+    ) -> Result<Ending> {
+        let given = descriptor_named(rt, settings, self.file)?;
+        let bytes = descriptor_of(&given);
+        let parsed = ReportDescriptor::try_from_with(rt.alloc(), bytes, settings.parse);
+        if settings.longest() < bytes.len() {
+            bail!(
+                "longer than {} bytes: say --limit {}",
+                settings.longest(),
+                bytes.len()
+            );
+        }
+        if let Err(ParserError::OutOfMemory) = parsed {
+            bail!("out of memory");
+        }
+        let findings = findings(rt.alloc(), bytes, &parsed)?;
+        let mut text = String::new(rt.alloc());
+        for finding in findings.iter() {
+            add_finding(&mut text, settings, finding)?;
+            flush_piece(rt, &mut text)?;
+        }
+        flush(rt, &mut text)?;
+        Ok(if findings.is_empty() {
+            Ending::Done
+        } else {
+            Ending::Refused
+        })
+    }
+}
+
+/// Appends the line of a finding.
+fn add_finding(text: &mut String, settings: &Settings, finding: &Finding) -> Result<()> {
+    let odd = finding.remark.as_str();
+    let offset = finding.offset;
+    if settings.is_json {
+        return add_json(text, &OddObject { offset, odd });
+    }
+    match offset {
+        Some(offset) => writeln!(text, "{offset:>5}: {odd}")?,
+        None => writeln!(text, "       {odd}")?,
+    }
+    Ok(())
+}

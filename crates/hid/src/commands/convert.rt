@@ -1,0 +1,35 @@
+//! `hid convert`: a descriptor's bytes in another form.
+use crate::commands::descriptor_of;
+use crate::commands::target::Target;
+use crate::ending::Ending;
+use crate::input::descriptor_named;
+use crate::settings::Settings;
+use anyhow::{Result, bail};
+use std::rt::Files;
+
+/// Writes a descriptor in another form.
+#[derive(Clone, Copy, Debug)]
+pub struct Convert<'a> {
+    /// The descriptor's input.
+    pub file: &'a str,
+    /// What its bytes are written as.
+    pub target: Target,
+}
+
+impl<'a> Convert<'a> {
+    /// Writes the bytes.
+    pub fn run<R: AllocGlobal + Files + Input + Print + Eprint>(
+        &self,
+        rt: &R,
+        settings: &Settings,
+    ) -> Result<Ending> {
+        let given = descriptor_named(rt, settings, self.file)?;
+        let bytes = descriptor_of(&given);
+        let longest = settings.longest();
+        if longest < bytes.len() {
+            bail!("longer than {longest} bytes: say --limit {}", bytes.len());
+        }
+        self.target.write_descriptor(rt, bytes)?;
+        Ok(Ending::Done)
+    }
+}

@@ -1,0 +1,366 @@
+//! `hid diff`: what differs between two descriptors.
+use crate::commands::{descriptor_of, parsed};
+use crate::diff::{Changed, ReportDiff, id_alone_changed};
+use crate::ending::Ending;
+use crate::field_object::{FieldObject, object_of};
+use crate::input::descriptor_named;
+use crate::output::{add_json, flush, flush_piece};
+use crate::report::add_title;
+use crate::settings::Settings;
+use crate::words::{DIRECTIONS, add_field, add_name, add_page, word_of};
+use anyhow::{Context, Result};
+use hidreport::{Direction, Field, RDescReport, Report, ReportDescriptor};
+use serde::Serialize;
+use std::alloc::{AllocError, Global};
+use std::fmt::Write;
+use std::rt::Files;
+
+/// Shows what differs between two descriptors.
+#[derive(Clone, Copy, Debug)]
+pub struct Diff<'a> {
+    /// The first descriptor's input.
+    pub file: &'a str,
+    /// The second's.
+    pub other: &'a str,
+}
+
+/// A field that differs, as JSON.
+#[derive(Drop, Serialize)]
+struct ChangedObject<'a> {
+    change: &'static str,
+    first: Option<FieldObject>,
+    second: Option<FieldObject>,
+    #[serde(skip_serializing_if = "Option::is_none")]
+    parts: Option<&'a str>,
+}
+
+/// A report whose id alone differs, or numbers that do, as JSON.
+#[derive(Drop, Serialize)]
+struct IdObject {
+    change: &'static str,
+    direction: Option<&'static str>,
+    first: Option<u8>,
+    second: Option<u8>,
+}
+
+/// What is shown so far.
+#[derive(Drop)]
+struct Showing<'a> {
+    settings: &'a Settings,
+    text: String,
+    is_nothing: bool,
+}
+
+/// Fields behind each other that differ alike.
+#[derive(Clone, Copy)]
+struct Run<'a> {
+    changed: &'a Changed<'a>,
+    last: &'a Changed<'a>,
+    count: usize,
+}
+
+impl<'a> Diff<'a> {
+    /// Shows the difference; there is none exactly where the two read the same.
+    pub fn run<R: AllocGlobal + Files + Input + Print + Eprint>(
+        &self,
+        rt: &R,
+        settings: &Settings,
+    ) -> Result<Ending> {
+        let given = descriptor_named(rt, settings, self.file)?;
+        let first = parsed(rt.alloc(), settings, descriptor_of(&given))?;
+        let given = descriptor_named(rt, settings, self.other).context(format_args!(
+            "{}",
+            self.other
+        ))?;
+        let second = parsed(rt.alloc(), settings, descriptor_of(&given)).context(format_args!(
+            "{}",
+            self.other
+        ))?;
+        if first.is_alike(&second) {
+            return Ok(Ending::Done);
+        }
+        let mut showing = Showing {
+            settings,
+            text: String::new(rt.alloc()),
+            is_nothing: true,
+        };
+        for direction in DIRECTIONS {
+            show_direction(rt, &mut showing, direction, &first, &second)?;
+        }
+        showing.end()?;
+        flush(rt, &mut showing.text)?;
+        Ok(Ending::Refused)
+    }
+}
+
+/// Shows what differs between the reports of a direction: those with the same id are compared.
+fn show_direction<R: AllocGlobal + Print>(
+    rt: &R,
+    showing: &mut Showing,
+    direction: Direction,
+    first: &ReportDescriptor,
+    second: &ReportDescriptor,
+) -> Result<()> {
+    let none: &[Field] = &[];
+    for report in first.reports(direction) {
+        let id = *report.report_id();
+        if let Some(other) = second.report(direction, id) {
+            showing.add_report(
+                rt.alloc(),
+                direction,
+                report,
+                report.fields(),
+                other.fields(),
+            )?;
+        } else if let Some(other) = renamed(rt.alloc(), direction, report, first, second)? {
+            showing.add_id(direction, report, other)?;
+        } else {
+            showing.add_report(rt.alloc(), direction, report, report.fields(), none)?;
+        }
+        flush_piece(rt, &mut showing.text)?;
+    }
+    for report in second.reports(direction) {
+        let is_known = first.report(direction, *report.report_id()).is_some();
+        if !is_known && renamed(rt.alloc(), direction, report, second, first)?.is_none() {
+            showing.add_report(rt.alloc(), direction, report, none, report.fields())?;
+        }
+        flush_piece(rt, &mut showing.text)?;
+    }
+    Ok(())
+}
+
+/// The report of another descriptor that is this one with another id, where that is the only such
+/// report on both sides.
+fn renamed<'b>(
+    alloc: Global,
+    direction: Direction,
+    report: &RDescReport,
+    own: &ReportDescriptor,
+    other: &'b ReportDescriptor,
+) -> Result<Option<&'b RDescReport>, AllocError> {
+    let mut found = None;
+    for candidate in other.reports(direction) {
+        let is_lone = own.report(direction, *candidate.report_id()).is_none();
+        if is_lone && id_alone_changed(alloc, report, candidate)? {
+            if found.is_some() {
+                return Ok(None);
+            }
+            found = Some(candidate);
+        }
+    }
+    let Some(candidate) = found else {
+        return Ok(None);
+    };
+    for rival in own.reports(direction) {
+        let is_lone = other.report(direction, *rival.report_id()).is_none();
+        let is_other = rival.report_id() != report.report_id();
+        if is_lone && is_other && id_alone_changed(alloc, rival, candidate)? {
+            return Ok(None);
+        }
+    }
+    Ok(found)
+}
+
+impl<'a> Showing<'a> {
+    /// Adds a report whose id alone changed.
+    fn add_id(
+        &mut self,
+        direction: Direction,
+        report: &RDescReport,
+        other: &RDescReport,
+    ) -> Result<()> {
+        self.is_nothing = false;
+        if self.settings.is_json {
+            return add_json(
+                &mut self.text,
+                &IdObject {
+                    change: "report id",
+                    direction: Some(word_of(direction)),
+                    first: report.report_id().map(u8::from),
+                    second: other.report_id().map(u8::from),
+                },
+            );
+        }
+        add_title(&mut self.text, direction, report)?;
+        self.text.push_str(": now ")?;
+        add_title(&mut self.text, direction, other)?;
+        self.text.push_str(", with the same fields\n")?;
+        Ok(())
+    }
+
+    /// Adds the fields in which two reports differ, below the report's name.
+    fn add_report(
+        &mut self,
+        alloc: Global,
+        direction: Direction,
+        report: &RDescReport,
+        first: &[Field],
+        second: &[Field],
+    ) -> Result<()> {
+        let diff = ReportDiff::new(alloc, first, second)?;
+        if diff.fields.is_empty() {
+            return Ok(());
+        }
+        self.is_nothing = false;
+        if self.settings.is_json {
+            return add_objects(&mut self.text, direction, report, &diff.fields);
+        }
+        add_title(&mut self.text, direction, report)?;
+        self.text.push_str("\n")?;
+        Ok(add_runs(&mut self.text, &diff.fields)?)
+    }
+
+    /// Adds what is left where no field differs: the numbers of fields or collections.
+    fn end(&mut self) -> Result<()> {
+        if !self.is_nothing {
+            return Ok(());
+        }
+        if self.settings.is_json {
+            return add_json(
+                &mut self.text,
+                &IdObject {
+                    change: "numbers of fields or collections",
+                    direction: None,
+                    first: None,
+                    second: None,
+                },
+            );
+        }
+        self.text
+            .push_str("fields or collections have other numbers\n")?;
+        Ok(())
+    }
+}
+
+/// Appends an object for each field that differs.
+fn add_objects(
+    text: &mut String,
+    direction: Direction,
+    report: &RDescReport,
+    fields: &[Changed],
+) -> Result<()> {
+    for changed in fields {
+        let change = match (changed.first, changed.second) {
+            (Some(_first), Some(_second)) => "changed",
+            (Some(_first), None) => "removed",
+            _ => "added",
+        };
+        let object = ChangedObject {
+            change,
+            first: field_object(*text.allocator(), direction, report, changed.first)?,
+            second: field_object(*text.allocator(), direction, report, changed.second)?,
+            parts: changed.parts.as_str().strip_prefix("; "),
+        };
+        add_json(text, &object)?;
+    }
+    Ok(())
+}
+
+fn field_object(
+    alloc: Global,
+    direction: Direction,
+    report: &RDescReport,
+    field: Option<&Field>,
+) -> Result<Option<FieldObject>, AllocError> {
+    match field {
+        Some(field) => Ok(Some(object_of(alloc, direction, report, field)?)),
+        None => Ok(None),
+    }
+}
+
+/// Appends a line for each field, one for those behind each other that differ alike.
+fn add_runs(text: &mut String, fields: &[Changed]) -> Result<(), AllocError> {
+    let mut run: Option<Run> = None;
+    for changed in fields {
+        run = match run {
+            Some(before) if are_alike(before.last, changed) => Some(Run {
+                changed: before.changed,
+                last: changed,
+                count: before.count.saturating_add(1),
+            }),
+            Some(before) => {
+                add_run(text, before)?;
+                Some(begun(changed))
+            }
+            None => Some(begun(changed)),
+        };
+    }
+    match run {
+        Some(run) => add_run(text, run),
+        None => Ok(()),
+    }
+}
+
+/// A run of one field.
+fn begun<'b>(changed: &'b Changed<'b>) -> Run<'b> {
+    Run {
+        changed,
+        last: changed,
+        count: 1,
+    }
+}
+
+/// Whether two fields differ from their pairs in the same parts, and by the same bits.
+fn are_alike(before: &Changed, changed: &Changed) -> bool {
+    match (moved_by(before), moved_by(changed)) {
+        (Some(own), Some(other)) => own == other && before.parts.as_str() == changed.parts.as_str(),
+        _ => false,
+    }
+}
+
+/// The bits by which the first bit and the end of a field lie later than they did.
+fn moved_by(changed: &Changed) -> Option<(i128, i128)> {
+    let (before, now) = (changed.first?.bits(), changed.second?.bits());
+    Some((
+        i128::from(now.start as u64) - i128::from(before.start as u64),
+        i128::from(now.end as u64) - i128::from(before.end as u64),
+    ))
+}
+
+/// Appends a line for fields that differ alike.
+fn add_run(text: &mut String, run: Run) -> Result<(), AllocError> {
+    let (changed, last) = (run.changed, run.last);
+    match (changed.first, changed.second, last.first, last.second) {
+        (Some(first), Some(second), Some(end), Some(end_now)) => {
+            text.push_str("  ")?;
+            add_short_name(text, first)?;
+            if run.count != 1 {
+                let count = run.count;
+                text.push_str(" to ")?;
+                add_short_name(text, end)?;
+                write!(text, " ({count} fields)")?;
+            }
+            let (from, to) = (first.bits().start, end.bits().end);
+            let (from_now, to_now) = (second.bits().start, end_now.bits().end);
+            write!(text, " {from}..{to}")?;
+            if (from, to) != (from_now, to_now) {
+                write!(text, ", now {from_now}..{to_now}")?;
+            }
+            text.push_str(&changed.parts)?;
+            text.push_str("\n")
+        }
+        (Some(first), _, _, _) => add_lone(text, "- ", first),
+        (None, Some(second), _, _) => add_lone(text, "+ ", second),
+        _ => Ok(()),
+    }
+}
+
+/// Appends what a field is called: an array by its page.
+fn add_short_name(text: &mut String, field: &Field) -> Result<(), AllocError> {
+    match field {
+        Field::Array(field) => {
+            if let Some(usage) = field.usages().first() {
+                add_page(text, usage.usage_page)?;
+            }
+            text.push_str(" array")
+        }
+        _ => add_name(text, field),
+    }
+}
+
+/// Appends a field that one descriptor alone has.
+fn add_lone(text: &mut String, mark: &str, field: &Field) -> Result<(), AllocError> {
+    text.push_str(mark)?;
+    add_field(text, field, 2)?;
+    text.push_str("\n")
+}

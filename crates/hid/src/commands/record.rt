@@ -1,0 +1,245 @@
+//! `hid record`: the reports of a stream, each in a line as it comes.
+use crate::commands::parsed;
+use crate::commands::values::place_of;
+use crate::ending::Ending;
+use crate::input::{Form, Given, GivenReport, Stream, descriptors_named, is_node};
+use crate::output::{add_bytes, flush};
+use crate::report::{Lines, tell_size};
+use crate::settings::Settings;
+use crate::value_object::add_value_objects;
+use anyhow::{Context, Result, bail};
+use hidreport::{Direction, ReportDescriptor};
+use std::alloc::{AllocError, Global};
+use std::fmt::Write;
+use std::fs;
+use std::io::Read;
+use std::rt::{Clock, Files};
+use std::time::{Duration, Instant};
+
+/// How many bytes are read at once.
+const PIECE: usize = 65_536;
+
+/// How a report is written.
+#[derive(Clone, Copy, Debug, PartialEq)]
+pub enum Shown {
+    /// Its values in a line.
+    Line,
+
+    /// An object of JSON for each field.
+    Json,
+
+    /// A line of hid-recorder.
+    Raw,
+}
+
+/// Shows the reports of a stream.
+#[derive(Clone, Copy, Debug)]
+pub struct Record<'a> {
+    /// The descriptor's input.
+    pub file: &'a str,
+    /// The stream: a node, a pipe, a file, or `-`.
+    pub stream: &'a str,
+    /// Whether what is as it was is left out.
+    pub only_changes: bool,
+    /// Whether hid-recorder's lines are written.
+    pub is_raw: bool,
+}
+
+/// What is shown so far.
+#[derive(Drop)]
+struct Recording<'a> {
+    given: &'a Given,
+    lines: Vec<Lines<'a>>,
+    shown: Shown,
+    unknown: u64,
+    /// The device of the last report.
+    device: usize,
+    text: String,
+}
+
+impl<'a> Record<'a> {
+    /// Shows each report as it comes, up to the end of the stream.
+    pub fn run<R: AllocGlobal + Clock + Files + Input + Print + Eprint>(
+        &self,
+        rt: &R,
+        settings: &Settings,
+    ) -> Result<Ending> {
+        let given = descriptors_named(rt, settings, self.file)?;
+        let mut known = Vec::new(rt.alloc());
+        for device in given.devices.iter() {
+            known.push(parsed(rt.alloc(), settings, &device.descriptor)?)?;
+        }
+        let mut recording = self.recording(rt, settings, &given, &known)?;
+        let stream = Stream::new(rt.alloc(), settings.report_form, is_node(self.stream));
+        if self.stream == "-" {
+            return follow(rt, rt.reader(), self.stream, &known, stream, &mut recording);
+        }
+        let file = fs::open(rt, self.stream).context(format_args!("{}", self.stream))?;
+        follow(rt, file, self.stream, &known, stream, &mut recording).context(format_args!(
+            "{}",
+            self.stream
+        ))
+    }
+
+    /// What is shown before the first report.
+    fn recording<'b, R: AllocGlobal>(
+        &self,
+        rt: &R,
+        settings: &Settings,
+        given: &'b Given,
+        known: &'b [ReportDescriptor],
+    ) -> Result<Recording<'b>> {
+        let mut lines = Vec::new(rt.alloc());
+        for descriptor in known {
+            lines.push(Lines::new(rt.alloc(), descriptor, self.only_changes)?)?;
+        }
+        let shown = if self.is_raw {
+            Shown::Raw
+        } else if settings.is_json {
+            Shown::Json
+        } else {
+            Shown::Line
+        };
+        let mut text = String::new(rt.alloc());
+        if shown == Shown::Raw {
+            add_heads(&mut text, given)?;
+        }
+        Ok(Recording {
+            given,
+            lines,
+            shown,
+            unknown: 0,
+            device: 0,
+            text,
+        })
+    }
+}
+
+/// Appends hid-recorder's lines that stand before the reports, for each device.
+fn add_heads(text: &mut String, given: &Given) -> Result<(), AllocError> {
+    for device in given.devices.iter() {
+        let (number, count) = (device.number, device.descriptor.len());
+        write!(text, "D: {number}\nR: {count} ")?;
+        add_bytes(text, &device.descriptor)?;
+        text.push_str("\nN: unknown\nI: 3 0000 0000\n")?;
+    }
+    Ok(())
+}
+
+/// Shows what a reader gives, up to its end.
+fn follow<R: AllocGlobal + Clock + Print + Eprint, I: Read + Drop>(
+    rt: &R,
+    reader: I,
+    name: &str,
+    known: &[ReportDescriptor],
+    stream: Stream,
+    recording: &mut Recording,
+) -> Result<Ending> {
+    let (mut reader, mut stream) = (reader, stream);
+    let Some(descriptor) = known.first() else {
+        bail!("has no descriptor");
+    };
+    let begun = Instant::now(rt)?;
+    let mut piece = vec![in rt.alloc(); 0u8; PIECE]?;
+    for _ in 0..u64::MAX {
+        let count = reader.read(&mut piece)?;
+        let Some(read) = piece.get(..count) else {
+            break;
+        };
+        if read.is_empty() {
+            break;
+        }
+        let reports = stream.add(descriptor, read)?;
+        stream.tell_form(rt, name)?;
+        recording.show_all(rt, stream.form(), &reports, begun.elapsed(rt)?)?;
+        stream.refused()?;
+    }
+    let reports = stream.end(descriptor)?;
+    stream.tell_form(rt, name)?;
+    recording.show_all(rt, stream.form(), &reports, begun.elapsed(rt)?)?;
+    stream.refused()?;
+    recording.end(rt, stream.left())
+}
+
+impl<'a> Recording<'a> {
+    /// Shows reports that came at this time.
+    fn show_all<R: AllocGlobal + Print + Eprint>(
+        &mut self,
+        rt: &R,
+        form: Option<Form>,
+        reports: &[GivenReport],
+        time: Duration,
+    ) -> Result<()> {
+        let form = form.unwrap_or(Form::Bytes);
+        for report in reports {
+            if !self.show(rt, form, report, time)? {
+                self.unknown = self.unknown.saturating_add(1);
+            }
+        }
+        flush(rt, &mut self.text)
+    }
+
+    /// Shows a report, and answers whether a descriptor has it.
+    fn show<R: AllocGlobal + Print + Eprint>(
+        &mut self,
+        rt: &R,
+        form: Form,
+        report: &GivenReport,
+        time: Duration,
+    ) -> Result<bool> {
+        let place = place_of(self.given, form, report);
+        let Some(lines) = place.and_then(|place| self.lines.get_mut(place)) else {
+            return Ok(false);
+        };
+        if self.shown == Shown::Raw {
+            self.add_raw(report, time)?;
+            return Ok(true);
+        }
+        let Some(own) = lines.report_of(&report.bytes) else {
+            return Ok(false);
+        };
+        tell_size(rt, own, &report.bytes)?;
+        if self.shown == Shown::Line {
+            return Ok(lines.add(&mut self.text, &report.bytes)?);
+        }
+        let time = report.time.as_deref();
+        add_value_objects(&mut self.text, Direction::Input, own, &report.bytes, time)?;
+        Ok(true)
+    }
+
+    /// Appends a line of hid-recorder, behind one that names its device where that is another.
+    fn add_raw(&mut self, report: &GivenReport, time: Duration) -> Result<(), AllocError> {
+        let (text, device) = (&mut self.text, report.device);
+        if self.device != device {
+            self.device = device;
+            writeln!(text, "D: {device}")?;
+        }
+        match &report.time {
+            Some(time) => write!(text, "E: {time} ")?,
+            None => {
+                let (seconds, micros) = (time.as_secs(), time.subsec_micros());
+                write!(text, "E: {seconds:06}.{micros:06} ")?;
+            }
+        }
+        let count = report.bytes.len();
+        write!(text, "{count} ")?;
+        add_bytes(text, &report.bytes)?;
+        text.push_str("\n")
+    }
+
+    /// Says what wasn't shown.
+    fn end<R: Eprint>(&self, rt: &R, left: usize) -> Result<Ending> {
+        let unknown = self.unknown;
+        if left != 0 {
+            eprintln!(rt; "hid: the last {left} bytes are no whole report")?;
+        }
+        if unknown != 0 {
+            eprintln!(rt; "hid: {unknown} reports aren't of this descriptor")?;
+        }
+        Ok(if left == 0 && unknown == 0 {
+            Ending::Done
+        } else {
+            Ending::Refused
+        })
+    }
+}

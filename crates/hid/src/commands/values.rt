@@ -1,0 +1,260 @@
+//! `hid values`: the values of reports, by name.
+use crate::commands::parsed;
+use crate::ending::Ending;
+use crate::input::{Form, Given, GivenReport, descriptors_named, reports_named};
+use crate::output::{flush, flush_piece, show};
+use crate::report::{
+    Amount, Choice, add_reports, add_title, amount_of, choice_of, element_width, is_outside,
+    readable, report_of, tell_size,
+};
+use crate::settings::Settings;
+use crate::value_object::add_value_objects;
+use crate::words::{add_measured, add_page, add_usage, add_usage_on_page, measured_value, word_of};
+use anyhow::{Context, Result, anyhow, bail, ensure};
+use hidreport::{
+    ArrayField, Direction, Field, RDescReport, Report, ReportDescriptor, VariableField,
+};
+use std::alloc::AllocError;
+use std::fmt::Write;
+use std::rt::Files;
+
+/// Shows the values of reports.
+#[derive(Debug, Drop)]
+pub struct Values<'a> {
+    /// The descriptor's input.
+    pub file: &'a str,
+    /// The reports' inputs; none where the descriptor's has them.
+    pub reports: Vec<&'a str>,
+    /// Which way the reports go.
+    pub direction: Direction,
+    /// Whether only keys and buttons that are down are shown.
+    pub is_down: bool,
+}
+
+impl<'a> Values<'a> {
+    /// Shows the values of all reports.
+    pub fn run<R: AllocGlobal + Files + Input + Print + Eprint>(
+        &self,
+        rt: &R,
+        settings: &Settings,
+    ) -> Result<Ending> {
+        let given = descriptors_named(rt, settings, self.file)?;
+        if self.reports.is_empty() {
+            ensure!(!given.reports.is_empty(), "no report");
+            self.show_all(rt, settings, &given, &given)?;
+            return Ok(Ending::Done);
+        }
+        for (index, name) in self.reports.iter().enumerate() {
+            if self.is_down && index != 0 {
+                show(rt, "\n")?;
+            }
+            let reports = reports_named(rt, settings, name).context(format_args!("{name}"))?;
+            self.show_all(rt, settings, &given, &reports)
+                .context(format_args!("{name}"))?;
+        }
+        Ok(Ending::Done)
+    }
+
+    /// Shows the reports of an input, each device's by its own descriptor.
+    fn show_all<R: AllocGlobal + Print + Eprint>(
+        &self,
+        rt: &R,
+        settings: &Settings,
+        given: &Given,
+        reports: &Given,
+    ) -> Result<()> {
+        let mut text = String::new(rt.alloc());
+        let mut known = Vec::new(rt.alloc());
+        for device in given.devices.iter() {
+            known.push(parsed(rt.alloc(), settings, &device.descriptor)?)?;
+        }
+        for (report, number) in reports.reports.iter().zip(1usize..) {
+            let place = place_of(given, reports.form, report);
+            let shown = match place.and_then(|place| known.get(place)) {
+                Some(descriptor) => {
+                    self.add_report(rt, settings, descriptor, &report.bytes, &mut text, number)
+                }
+                None => Err(anyhow!("is of a device without a descriptor")),
+            };
+            if shown.is_err() {
+                flush(rt, &mut text)?;
+            }
+            shown.context(format_args!("report {number}"))?;
+            flush_piece(rt, &mut text)?;
+        }
+        flush(rt, &mut text)
+    }
+
+    /// Appends what is shown of a report.
+    fn add_report<R: Eprint>(
+        &self,
+        rt: &R,
+        settings: &Settings,
+        descriptor: &ReportDescriptor,
+        bytes: &[u8],
+        text: &mut String,
+        number: usize,
+    ) -> Result<()> {
+        let direction = self.direction;
+        let Some(report) = report_of(descriptor, direction, bytes) else {
+            let mut known = String::new(*text.allocator());
+            add_reports(&mut known, descriptor, direction)?;
+            bail!(
+                "the bytes are of no {} report of this descriptor: it has {known}",
+                word_of(direction)
+            );
+        };
+        tell_size(rt, report, bytes)?;
+        if self.is_down {
+            if number != 1 {
+                text.push_str("\n")?;
+            }
+            return Ok(add_down(text, report, bytes)?);
+        }
+        if settings.is_json {
+            return add_value_objects(text, direction, report, bytes, None);
+        }
+        add_title(text, direction, report)?;
+        text.push_str("\n")?;
+        Ok(add_values(text, report, bytes)?)
+    }
+}
+
+/// Where the device of a report, whose input has this form, stands among those of the descriptor's.
+pub fn place_of(given: &Given, form: Form, report: &GivenReport) -> Option<usize> {
+    let device = given.device_of(form, report)?;
+    given
+        .devices
+        .iter()
+        .position(|own| own.number == device.number)
+}
+
+/// Appends a line for each field of a report that has a value; bytes that are missing have none.
+fn add_values(text: &mut String, report: &RDescReport, bytes: &[u8]) -> Result<(), AllocError> {
+    for field in report.fields() {
+        if bytes.len() <= field.bits().start / 8 {
+            return Ok(());
+        }
+        match field {
+            Field::Variable(field) => add_variable(text, field, bytes)?,
+            Field::Array(field) => add_array(text, field, bytes)?,
+            Field::Constant(_) => {}
+        }
+    }
+    Ok(())
+}
+
+fn add_variable(text: &mut String, field: &VariableField, bytes: &[u8]) -> Result<(), AllocError> {
+    let amount = amount_of(field, bytes);
+    if amount == Amount::Missing {
+        return Ok(());
+    }
+    text.push_str("  ")?;
+    add_usage(text, field.usage)?;
+    match amount {
+        Amount::Number(value) => add_number(text, field, value)?,
+        _ => {
+            let width = field.bits.len();
+            write!(text, ": {width} bits, too many for a number")?;
+        }
+    }
+    text.push_str("\n")
+}
+
+/// Appends a value with its bounds, and what it stands for in its unit where it lies within them.
+fn add_number(text: &mut String, field: &VariableField, value: i64) -> Result<(), AllocError> {
+    let (low, high) = (field.logical_minimum, field.logical_maximum);
+    if is_outside(field, value) {
+        return write!(text, ": {value} (outside of {low} to {high})");
+    }
+    write!(text, ": {value} ({low} to {high})")?;
+    match measured_value(field, value) {
+        Some(fraction) => {
+            text.push_str(" = ")?;
+            add_measured(text, fraction, field.unit)
+        }
+        None => Ok(()),
+    }
+}
+
+/// Appends the usages that an array's values stand for, and values that stand for none, in one line.
+fn add_array(text: &mut String, field: &ArrayField, bytes: &[u8]) -> Result<(), AllocError> {
+    text.push_str("  ")?;
+    match field.usages().first() {
+        Some(first) => add_page(text, first.usage_page)?,
+        None => text.push_str("array")?,
+    }
+    let width = element_width(field);
+    if 32 < width {
+        return writeln!(text, ": elements of {width} bits, too many for a number");
+    }
+    text.push_str(":")?;
+    let mut gap = " ";
+    for index in 0..readable(field, bytes) {
+        if add_choice(text, field, bytes, index, gap)? {
+            gap = ", ";
+        }
+    }
+    text.push_str(if gap == " " { " none\n" } else { "\n" })
+}
+
+/// Appends what an element stands for, and answers whether it stands for something.
+fn add_choice(
+    text: &mut String,
+    field: &ArrayField,
+    bytes: &[u8],
+    index: usize,
+    gap: &str,
+) -> Result<bool, AllocError> {
+    match choice_of(field, bytes, index) {
+        Some((_value, Choice::Usage(usage))) => {
+            text.push_str(gap)?;
+            add_usage_on_page(text, usage)?;
+            Ok(true)
+        }
+        Some((value, Choice::Unlisted)) => {
+            write!(text, "{gap}value {value}, which no usage has")?;
+            Ok(true)
+        }
+        _ => Ok(false),
+    }
+}
+
+/// Appends a line with the name of each button and key that is down in a report.
+fn add_down(text: &mut String, report: &RDescReport, bytes: &[u8]) -> Result<(), AllocError> {
+    for field in report.fields() {
+        if bytes.len() <= field.bits().start / 8 {
+            return Ok(());
+        }
+        match field {
+            Field::Variable(field) => {
+                if is_down(field, bytes) {
+                    add_usage_on_page(text, field.usage)?;
+                    text.push_str("\n")?;
+                }
+            }
+            Field::Array(field) => add_keys(text, field, bytes)?,
+            Field::Constant(_) => {}
+        }
+    }
+    Ok(())
+}
+
+/// Appends a line with the name of each key of an array that is down.
+fn add_keys(text: &mut String, field: &ArrayField, bytes: &[u8]) -> Result<(), AllocError> {
+    for index in 0..readable(field, bytes) {
+        if add_choice(text, field, bytes, index, "")? {
+            text.push_str("\n")?;
+        }
+    }
+    Ok(())
+}
+
+/// Whether a field that is on or off is on.
+fn is_down(field: &VariableField, bytes: &[u8]) -> bool {
+    let is_switch = field.bits.len() == 1;
+    match amount_of(field, bytes) {
+        Amount::Number(value) => is_switch && value != 0,
+        _ => false,
+    }
+}

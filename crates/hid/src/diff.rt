@@ -1,0 +1,7 @@
+//! What differs between two descriptors: reports and fields that are paired, and their parts.
+
+mod changes;
+mod pairing;
+mod report_diff;
+
+pub use report_diff::{Changed, ReportDiff, id_alone_changed};

@@ -1,0 +1,148 @@
+//! The items of a descriptor where they stand, and what is in force at each.
+use hidreport::hid::{GlobalItem, ItemType, MainItem};
+use hidreport::types::UsagePage;
+use hidreport_items::ItemFault;
+use hidreport_lists::front_item;
+use std::alloc::{AllocError, Global};
+
+/// An item where it stands.
+#[derive(Debug, Drop)]
+pub struct PlacedItem<'a> {
+    /// How many bytes stand before it.
+    pub offset: usize,
+    /// Its bytes.
+    pub bytes: &'a [u8],
+    /// The item.
+    pub item: ItemType,
+}
+
+/// A descriptor's bytes, of which items are read from the front.
+#[derive(Clone, Copy, Debug)]
+pub struct ItemCursor<'a> {
+    offset: usize,
+    rest: &'a [u8],
+}
+
+impl<'a> ItemCursor<'a> {
+    /// Before the first item.
+    pub fn new(bytes: &'a [u8]) -> ItemCursor<'a> {
+        ItemCursor {
+            offset: 0,
+            rest: bytes,
+        }
+    }
+
+    /// How many bytes stand before what is left.
+    pub fn offset(&self) -> usize {
+        self.offset
+    }
+
+    /// The bytes that are left.
+    pub fn rest(&self) -> &'a [u8] {
+        self.rest
+    }
+
+    /// The next item; none behind the last and where the bytes that are left begin with none.
+    pub fn next_item(&mut self) -> Option<PlacedItem<'a>> {
+        match front_item(self.rest) {
+            Ok(front) => {
+                let (bytes, rest) = self.rest.split_at(front.size);
+                let offset = self.offset;
+                self.offset = offset.saturating_add(front.size);
+                self.rest = rest;
+                Some(PlacedItem {
+                    offset,
+                    bytes,
+                    item: front.item,
+                })
+            }
+            Err(_fault) => None,
+        }
+    }
+}
+
+/// The globals in force that are shown or looked at.
+#[derive(Clone, Copy, Debug)]
+pub struct Globals {
+    /// The usage page.
+    pub page: UsagePage,
+    /// The logical minimum.
+    pub minimum: i32,
+    /// The logical maximum.
+    pub maximum: i32,
+    /// Where the logical maximum stands.
+    pub maximum_offset: usize,
+    /// The bits of a field.
+    pub size: usize,
+    /// The number of fields.
+    pub count: usize,
+}
+
+/// What is in force at an item: globals, open collections and Pushes.
+#[derive(Drop)]
+pub struct ItemState {
+    /// The globals.
+    pub globals: Globals,
+    /// Where each open collection stands, outermost first.
+    pub open: Vec<usize>,
+    /// Where each Push stands that waits for its Pop, and what it keeps.
+    pub pushed: Vec<(usize, Globals)>,
+}
+
+impl ItemState {
+    /// Before the first item.
+    pub fn new(alloc: Global) -> ItemState {
+        ItemState {
+            globals: Globals {
+                page: UsagePage::from(0),
+                minimum: 0,
+                maximum: 0,
+                maximum_offset: 0,
+                size: 0,
+                count: 0,
+            },
+            open: Vec::new(alloc),
+            pushed: Vec::new(alloc),
+        }
+    }
+
+    /// The usage page in force.
+    pub fn page(&self) -> UsagePage {
+        self.globals.page
+    }
+
+    /// Goes over an item.
+    pub fn pass(&mut self, entry: &PlacedItem) -> Result<(), AllocError> {
+        match entry.item {
+            ItemType::Main(MainItem::Collection(_)) => Ok(self.open.push(entry.offset)?),
+            ItemType::Main(MainItem::EndCollection) => {
+                let _ = self.open.pop();
+                Ok(())
+            }
+            ItemType::Global(item) => self.pass_global(entry.offset, &item),
+            _ => Ok(()),
+        }
+    }
+
+    fn pass_global(&mut self, offset: usize, item: &GlobalItem) -> Result<(), AllocError> {
+        let globals = &mut self.globals;
+        match item {
+            GlobalItem::UsagePage(page) => globals.page = *page,
+            GlobalItem::LogicalMinimum(number) => globals.minimum = i32::from(number),
+            GlobalItem::LogicalMaximum(number) => {
+                globals.maximum = i32::from(number);
+                globals.maximum_offset = offset;
+            }
+            GlobalItem::ReportSize(number) => globals.size = usize::from(number),
+            GlobalItem::ReportCount(number) => globals.count = usize::from(number),
+            GlobalItem::Push => self.pushed.push((offset, self.globals))?,
+            GlobalItem::Pop => {
+                if let Some((_offset, globals)) = self.pushed.pop() {
+                    self.globals = globals;
+                }
+            }
+            _ => {}
+        }
+        Ok(())
+    }
+}

@@ -1,0 +1,88 @@
+//! A field in words: its bits, its name, its bounds and its flags.
+use crate::words::naming::add_usage;
+use crate::words::physical::add_physical_bounds;
+use crate::words::usage_list::add_usages;
+use hidreport::{ArrayField, Field, FieldAttributes, VariableField};
+use std::alloc::AllocError;
+use std::fmt::Write;
+
+/// How far behind its indentation a field's name begins.
+const NAME: usize = 12;
+
+/// Appends what a field is for: its usages, or that it is padding.
+pub fn add_name(text: &mut String, field: &Field) -> Result<(), AllocError> {
+    add_wrapped_name(text, field, None)
+}
+
+fn add_wrapped_name(
+    text: &mut String,
+    field: &Field,
+    indent: Option<usize>,
+) -> Result<(), AllocError> {
+    match field {
+        Field::Variable(field) => add_usage(text, field.usage),
+        Field::Array(field) => add_usages(text, field, indent),
+        Field::Constant(_) => text.push_str("padding"),
+    }
+}
+
+/// Appends a field's bits, its name, and how it is read; a long list goes on in lines that begin
+/// with so many spaces and as many as stand before the name.
+pub fn add_field(text: &mut String, field: &Field, indent: usize) -> Result<(), AllocError> {
+    let (start, end) = (field.bits().start, field.bits().end);
+    write!(text, "{start:>4}..{end:<4} ")?;
+    add_wrapped_name(text, field, Some(indent.saturating_add(NAME)))?;
+    add_how(text, field)
+}
+
+/// Appends how a field is read: its width, its bounds, its unit and its flags.
+pub fn add_how(text: &mut String, field: &Field) -> Result<(), AllocError> {
+    let width = field.bits().len();
+    match field {
+        Field::Variable(field) => add_variable(text, field, width),
+        Field::Array(field) => add_array(text, field, width),
+        Field::Constant(_) => write!(text, ", {width} bit{}", plural(width)),
+    }
+}
+
+fn plural(count: usize) -> &'static str {
+    if count == 1 { "" } else { "s" }
+}
+
+fn add_variable(text: &mut String, field: &VariableField, width: usize) -> Result<(), AllocError> {
+    let (low, high) = (field.logical_minimum, field.logical_maximum);
+    write!(text, ", {width} bit{}, {low} to {high}", plural(width))?;
+    add_physical_bounds(text, field)?;
+    add_flags(text, field)
+}
+
+fn add_array(text: &mut String, field: &ArrayField, width: usize) -> Result<(), AllocError> {
+    let count = field.report_count;
+    let width = width / usize::from(count).max(1);
+    let (low, high) = (field.logical_minimum, field.logical_maximum);
+    write!(
+        text,
+        ", {count} of {width} bit{}, {low} to {high}",
+        plural(width)
+    )?;
+    add_flags(text, field)
+}
+
+/// Appends the flags that aren't as they are in most fields.
+fn add_flags<F: FieldAttributes>(text: &mut String, field: &F) -> Result<(), AllocError> {
+    let flags = [
+        (field.is_relative(), "relative"),
+        (field.wraps(), "wraps"),
+        (field.is_nonlinear(), "nonlinear"),
+        (field.has_no_preferred_state(), "no preferred state"),
+        (field.has_null_state(), "null state"),
+        (field.is_volatile() == Some(true), "volatile"),
+        (field.is_buffered_bytes(), "buffered bytes"),
+    ];
+    for (is_set, name) in flags {
+        if is_set {
+            write!(text, ", {name}")?;
+        }
+    }
+    Ok(())
+}
