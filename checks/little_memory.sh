@@ -1,8 +1,8 @@
 #!/bin/sh
 # Two short descriptors that ask for much are answered within seconds and 100 MB: one of 2^32 - 1
 # fields is refused for want of memory, and one of collections over 2^24 usages, in which no field
-# lies, has no reports. Within a limit of 65,536 files are answered in 64 MB and a second: those that
-# ask for much, 64 KB of one item, ones of more than 1 MiB, and ones without end. `items` and
+# lies, has no reports. Within a limit of 65,536 files are answered in 64 MB and a second: those
+# that ask for much, 64 KB of one item, ones of more than 1 MiB, and ones without end. `items` and
 # `rebuild` of 64 KB are, too.
 # The argument, if any, is the program to look at; else the one that ./hidreport built.
 set -eu

@@ -101,7 +101,7 @@ def mend(raw, words):
         raise Refused(f"refused at {options['longest']}: budget")
     items = cut(raw, "cut-short" in words)
     drop_locals(items)
-    state = State("globals" not in words)
+    state = State("all" in words)
     limit = int(options["within"]) if "within" in options else None
     for item in items:
         if item[2] is not None:
@@ -291,6 +291,14 @@ def tell(words, digits, raw):
     return "read"
 
 
+def outcome(words, raw):
+    """The answer, for a comparison."""
+    try:
+        return mend(raw, words.split())
+    except Refused as refused:
+        return str(refused)
+
+
 def bytes_of(text):
     out = b""
     for word in text.split():
@@ -319,6 +327,8 @@ def print_refused():
     print("# compare/repairs.py wrote this file.\n")
     counts = Counter()
     for raw, refusal in refused_descriptors():
+        if outcome("all", raw) != outcome("as-usual", raw):
+            tell("all", raw.hex(), raw)
         counts[refusal, tell("as-usual", raw.hex(), raw) == "read"] += 1
     return counts
 

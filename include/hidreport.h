@@ -106,11 +106,17 @@ struct hidreport_options {
 /* No limit: a descriptor takes what memory it asks for, up to all that there is. */
 #define HIDREPORT_NO_LIMIT SIZE_MAX
 
+/* `..._REPAIR_DEFAULTS` are for a repair, and for reading what it writes: a Push keeps what Linux
+ * keeps. */
 #ifdef __cplusplus
 #define HIDREPORT_DEFAULTS (hidreport_options{HIDREPORT_DEFAULT_LIMIT, HIDREPORT_PUSH_ALL})
+#define HIDREPORT_REPAIR_DEFAULTS \
+    (hidreport_options{HIDREPORT_DEFAULT_LIMIT, HIDREPORT_PUSH_GLOBALS})
 #else
 #define HIDREPORT_DEFAULTS \
     ((struct hidreport_options){HIDREPORT_DEFAULT_LIMIT, HIDREPORT_PUSH_ALL})
+#define HIDREPORT_REPAIR_DEFAULTS \
+    ((struct hidreport_options){HIDREPORT_DEFAULT_LIMIT, HIDREPORT_PUSH_GLOBALS})
 #endif
 
 struct hidreport_answer {

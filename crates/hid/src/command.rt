@@ -12,7 +12,7 @@ use std::alloc::{AllocError, Global};
 use std::rt::{Clock, Files};
 
 /// A command with its words.
-#[derive(Debug, Drop)]
+#[derive(Drop)]
 pub enum Command<'a> {
     /// Shows the items of a descriptor.
     Decode(Decode<'a>),

@@ -15,14 +15,15 @@ mod values;
 
 use crate::input::Given;
 use crate::settings::Settings;
-use anyhow::{Result, anyhow};
+use crate::words::DIRECTIONS;
+use anyhow::{Result, anyhow, bail};
 pub use check::Check;
 pub use compile::Compile;
 pub use convert::Convert;
 pub use decode::Decode;
 pub use diff::Diff;
 pub use fields::Fields;
-use hidreport::{ParseOptions, ParserError, ReportDescriptor, repair};
+use hidreport::{ParseOptions, ParserError, Report, ReportDescriptor, repair};
 pub use map::Map;
 pub use record::Record;
 pub use set::{Set, id_named};
@@ -42,12 +43,47 @@ fn descriptor_of(given: &Given) -> &[u8] {
     }
 }
 
+/// Refuses a descriptor of more bytes than are read.
+fn check_length(settings: &Settings, bytes: &[u8]) -> Result<()> {
+    let (longest, length) = (settings.longest(), bytes.len());
+    if longest < length {
+        bail!("longer than {longest} bytes: say --limit {length}");
+    }
+    Ok(())
+}
+
 /// The descriptor, parsed; a refusal that an option mends or that a greater limit avoids says so.
 fn parsed(alloc: Global, settings: &Settings, bytes: &[u8]) -> Result<ReportDescriptor> {
     match ReportDescriptor::try_from_with(alloc, bytes, settings.parse) {
         Ok(descriptor) => Ok(descriptor),
         Err(fault) => Err(with_advice(alloc, settings, bytes, fault)),
     }
+}
+
+/// The descriptors of all devices, parsed, which share what may be listed.
+fn all_parsed(alloc: Global, settings: &Settings, given: &Given) -> Result<Vec<ReportDescriptor>> {
+    let mut left = *settings;
+    let mut known = Vec::new(alloc);
+    for device in given.devices.iter() {
+        let descriptor = parsed(alloc, &left, &device.descriptor)?;
+        let listed = listed_by(&descriptor);
+        left.parse.limit = left.parse.limit.map(|limit| limit.saturating_sub(listed));
+        known.push(descriptor)?;
+    }
+    Ok(known)
+}
+
+/// How many fields and usages of arrays a descriptor lists.
+fn listed_by(descriptor: &ReportDescriptor) -> usize {
+    let mut listed = 0usize;
+    for direction in DIRECTIONS {
+        for report in descriptor.reports(direction) {
+            for field in report.fields() {
+                listed = listed.saturating_add(field.usages().len().max(1));
+            }
+        }
+    }
+    listed
 }
 
 /// Why a descriptor is refused, and what helps.

@@ -1,7 +1,7 @@
 //! How the program ends.
 
 /// How a command ended, and so the program's status.
-#[derive(Clone, Copy, Debug, PartialEq)]
+#[derive(Clone, Copy, PartialEq)]
 pub enum Ending {
     /// All that was asked for is written: 0.
     Done,

@@ -6,7 +6,7 @@ use hidreport_lists::front_item;
 use std::alloc::{AllocError, Global};
 
 /// An item where it stands.
-#[derive(Debug, Drop)]
+#[derive(Drop)]
 pub struct PlacedItem<'a> {
     /// How many bytes stand before it.
     pub offset: usize,
@@ -17,7 +17,7 @@ pub struct PlacedItem<'a> {
 }
 
 /// A descriptor's bytes, of which items are read from the front.
-#[derive(Clone, Copy, Debug)]
+#[derive(Clone, Copy)]
 pub struct ItemCursor<'a> {
     offset: usize,
     rest: &'a [u8],
@@ -62,7 +62,7 @@ impl<'a> ItemCursor<'a> {
 }
 
 /// The globals in force that are shown or looked at.
-#[derive(Clone, Copy, Debug)]
+#[derive(Clone, Copy)]
 pub struct Globals {
     /// The usage page.
     pub page: UsagePage,

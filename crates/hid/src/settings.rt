@@ -13,7 +13,7 @@ pub const LONGEST_LINE: usize = 1024 * 1024;
 pub const LIMIT: usize = 131_072;
 
 /// The options of all commands.
-#[derive(Clone, Copy, Debug)]
+#[derive(Clone, Copy)]
 pub struct Settings {
     /// What the descriptor's input holds, where it was said.
     pub form: Option<Form>,

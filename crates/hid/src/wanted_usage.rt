@@ -7,7 +7,7 @@ use std::alloc::{AllocError, Global};
 
 /// A word that names usages: a name in any case, with its page before it or without, a number
 /// behind `0x` as it is shown for a usage without a name, or the eight digits of page and id.
-#[derive(Clone, Copy, Debug)]
+#[derive(Clone, Copy)]
 pub struct WantedUsage<'a> {
     name: &'a str,
     /// The usage by its eight digits, or by its page's name and its own, as a number.

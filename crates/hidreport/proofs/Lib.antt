@@ -1,4 +1,6 @@
 pub mod AlikeLemmas
+pub mod WorkLemmas
+pub mod UnchosenLemmas
 pub mod RepairAgainLemmas
 pub mod LocalsLemmas
 pub mod LookupLemmas

@@ -5,7 +5,9 @@ use Rattle.std.proofs.Common.{refl, sym, ap, ◌∙◌, arith}
 use Rattle.std.specs.Prelude.{◌==◌, find}
 use Rattle.std.proofs.lemmas.Grind.{common_steps}
 use Rattle.hidreport_lists.specs.Answer.{Refusal, Bounds, Mismatch}
-use Rattle.hidreport.specs.Lookup.{find_by, find_report}
+use Rattle.hidreport.specs.Lookup.{find_by, find_report, reports_of}
+use Rattle.hidreport.specs.declared.field.data_item.Direction.{Direction as ItemDirection}
+use Rattle.hidreport.specs.declared.field.data_item.Direction.TheVariants as directions
 use Rattle.hidreport.specs.Making.{same_key}
 use Rattle.hidreport.specs.Reading.{ValueRecord, before_values, element, each_value, is_signed}
 use Rattle.hidreport.specs.Reading.{one_value, read_bits, reads, values_of, with_id}
@@ -62,11 +64,11 @@ reads-own f b bytes (inr some) e =
     values-own f (b ∷ bytes) (sym (ap (λ id. with_id id (b ∷ bytes) (values_of f (b ∷ bytes))) some
     ∙ ap (λ c. cond c (values_of f (b ∷ bytes)) (Err Mismatch)) same) ∙ e)
 
-of-none : (f : FieldRecord) (id : Option ℕ) → id ≡ None → IsOf id f → own_id f ≡ None
+pub of-none : (f : FieldRecord) (id : Option ℕ) → id ≡ None → IsOf id f → own_id f ≡ None
 of-none f id none (inl e) = e
 of-none f id none (inr e) = e ∙ none
 
-of-some : (f : FieldRecord) (id : Option ℕ) (b : ℕ) → id ≡ Some b → IsOf id f → (own_id f ≡ None)
+pub of-some : (f : FieldRecord) (id : Option ℕ) (b : ℕ) → id ≡ Some b → IsOf id f → (own_id f ≡ None)
     ⊎ (own_id f ≡ Some b)
 of-some f id b some (inl e) = inl e
 of-some f id b some (inr e) = inr (e ∙ some)
@@ -107,11 +109,11 @@ found-own (r ∷ rs) (b ∷ bytes) filled = first-by r.id b bytes r rs refl fill
 
 -- those of one direction
 
-each-front : {A : Type 0} (P : A → Type 0) (xs ys : List A) → Each P (xs ++ ys) → Each P xs
+pub each-front : {A : Type 0} (P : A → Type 0) (xs ys : List A) → Each P (xs ++ ys) → Each P xs
 each-front P [] ys e = tt
 each-front P (x ∷ xs) ys e = (e.0, each-front P xs ys e.1)
 
-each-back : {A : Type 0} (P : A → Type 0) (xs ys : List A) → Each P (xs ++ ys) → Each P ys
+pub each-back : {A : Type 0} (P : A → Type 0) (xs ys : List A) → Each P (xs ++ ys) → Each P ys
 each-back P [] ys e = e
 each-back P (x ∷ xs) ys e = each-back P xs ys e.1
 
@@ -131,3 +133,10 @@ pub feature-own : (d : DescriptorRecord) (bytes : List ℕ) → IsTiled d
 feature-own d bytes t = found-own d.feature bytes
     (each-back IsFilled d.output d.feature
     (each-back IsFilled d.input (d.output ++ d.feature) t.filled))
+
+-- those of any direction
+pub own-of : (way : ItemDirection) (d : DescriptorRecord) (bytes : List ℕ) → IsTiled d
+    → IfSome (find_report (reports_of way d) bytes) (AllOwn bytes)
+own-of directions.Input d bytes t = input-own d bytes t
+own-of directions.Output d bytes t = output-own d bytes t
+own-of directions.Feature d bytes t = feature-own d bytes t

@@ -1,13 +1,13 @@
 -- What is read of a repair: repaired again it stays, and written anew it is read alike.
-use Rattle.std.proofs.Common.{◌≡◌, ◌≢◌, ℕ, ◌∙◌, List, [], length, Option, None, Some, Result, Ok, Err}
-use Rattle.std.proofs.Common.{◌∷◌, ◌<◌, IfOk, ap, false, arith, refl, subst, sym}
+use Rattle.std.proofs.Common.{◌≡◌, ℕ, ◌∙◌, List, [], length, Option, None, Some, Result, Ok, Err}
+use Rattle.std.proofs.Common.{◌∷◌, ◌<◌, IfOk, false, arith, refl, subst, sym}
 use Rattle.std.proofs.lemmas.List.Elements.{All-append}
 use Rattle.hidreport_items.specs.Spelling.{AreBytes, item_of}
 use Rattle.hidreport_items.specs.declared.item.ItemType.{ItemType}
-use Rattle.hidreport_lists.specs.Answer.{AnswersBy, Refusal}
+use Rattle.hidreport_lists.specs.Answer.{AnswersBy}
 use Rattle.hidreport_lists.specs.Entry.{Entry}
-use Rattle.hidreport_lists.specs.Itemising.{AreRead, Itemises, Reads, all_bytes}
-use Rattle.hidreport_lists.specs.Rebuilt.{canonical_entries, items_of, kept_entries, rebuilt_bytes}
+use Rattle.hidreport_lists.specs.Itemising.{AreRead, Reads, all_bytes}
+use Rattle.hidreport_lists.specs.Rebuilt.{canonical_entries, items_of, kept_entries}
 use Rattle.hidreport_lists.specs.declared.error.ParserError.{ParserError}
 use Rattle.hidreport.specs.Meaning.{at_offset, meaning_by, parse_by}
 use Rattle.hidreport.specs.MeaningFault.{MeaningFault}

@@ -19,6 +19,7 @@ use Rattle.hidreport_lists.specs.Mending.{if_read as if_pieces}
 use Rattle.hidreport_lists.specs.declared.error.ParserError.{ParserError}
 use Rattle.hidreport_lists.specs.declared.mending.Mend.{Mend}
 use Rattle.hidreport_lists.specs.declared.mending.Mend.TheVariants as mend
+use Rattle.hidreport_items.proofs.FollowingLemmas.{following-cut}
 use Rattle.hidreport_lists.proofs.ItemLemmas.{enough}
 use Rattle.hidreport_lists.proofs.MendingLemmas.{all-inside}
 use Rattle.hidreport.specs.MeaningFault.{MeaningFault}
@@ -29,7 +30,8 @@ use Rattle.hidreport.specs.Repair.{joined, mended, repaired, repaired_of}
 use Rattle.hidreport.specs.Repair.{repaired_pieces, repaired_view, rewritten_as}
 use Rattle.hidreport.specs.Repair.{then_mended, then_read, unless_fault, widened}
 use Rattle.hidreport.specs.Repair.{with_mended}
-use Rattle.hidreport.specs.RepairLaws.{AreInPlace, IsRepairOf, StandsAsItStood}
+use Rattle.hidreport.specs.RepairLaws.{AreInPlace, IsOneItem, IsRepairOf, StandsAsItStood}
+use Rattle.hidreport.specs.RepairLaws.{StoodAsOne}
 use Rattle.hidreport.specs.Tiling.{Each}
 use Rattle.hidreport.specs.declared.repairing.change.Repaired.{Repaired}
 use Rattle.hidreport.specs.declared.repairing.repair_options.RepairOptions.{RepairOptions}
@@ -39,6 +41,7 @@ record Laid (offset : ℕ) (bytes : List ℕ) (ps : List PieceRecord) : Type 0 w
   whole : flat_map (λ (p : PieceRecord). p.stood) ps ≡ bytes
   places : AreInPlace offset ps
   same : Each StandsAsItStood ps
+  one : Each StoodAsOne ps
 
 -- a whole piece is where it stood, and as it stood where nothing is mended
 zero-same : (offset : ℕ) (stood : List ℕ) (header : ℕ) (r : Result ItemType GrammarFault)
@@ -57,16 +60,17 @@ by-same offset h bs (Err fault) =
 
 -- a piece before those that are laid behind it
 laid-more : (offset behind : ℕ) (p : PieceRecord) (rest : List ℕ) (ps : List PieceRecord)
-    → p.offset ≡ offset → StandsAsItStood p → behind ≡ offset + length p.stood
+    → p.offset ≡ offset → StandsAsItStood p → StoodAsOne p → behind ≡ offset + length p.stood
     → Laid behind rest ps → Laid offset (p.stood ++ rest) (p ∷ ps)
-laid-more offset behind p rest ps at same is laid = record {
+laid-more offset behind p rest ps at same one is laid = record {
   whole = ap (λ l. p.stood ++ l) laid.whole;
   places = (at, subst (λ n. AreInPlace n ps) is laid.places);
   same = (same, laid.same);
+  one = (one, laid.one);
 }
 
 laid-none : (offset : ℕ) → Laid offset [] []
-laid-none offset = record { whole = refl; places = tt; same = tt }
+laid-none offset = record { whole = refl; places = tt; same = tt; one = tt }
 
 -- by whether the item is cut short
 laid-front : (b leave_out : Bool) (offset h : ℕ) (bs : List ℕ) (p : PieceRecord)
@@ -88,10 +92,14 @@ laid-front false leave_out offset h bs p ps long e rest laid =
     let size : length p.stood ≡ suc n = ap length stood ∙ ap suc taken in
     let whole : p.stood ++ drop n bs ≡ h ∷ bs = ap (λ l. l ++ drop n bs) stood
     ∙ ap (λ l. h ∷ l) (take-append-drop n bs) in
+    let same_length : following_length h (take n bs) ≡ n =
+    following-cut h n bs (omega arith) in
+    let fits : IsOneItem (h ∷ take n bs) = omega (arith, taken, same_length) in
     subst (λ l. Laid offset l (p ∷ ps)) whole
     (laid-more offset (offset + 1 + n) p (drop n bs) ps
     (ap (λ (q : PieceRecord). q.offset) is ∙ so.0)
-    (subst StandsAsItStood (sym is) so.2) (omega (arith, size)) laid)
+    (subst StandsAsItStood (sym is) so.2) (subst IsOneItem (sym stood) fits)
+    (omega (arith, size)) laid)
 laid-front true true offset h bs p ps short e rest laid =
     let n = following_length h bs in
     let less : length bs < n = grind (arith, common_steps, short) in
@@ -109,6 +117,7 @@ laid-front true true offset h bs p ps short e rest laid =
       whole = append-nil (h ∷ bs);
       places = (refl, tt);
       same = ((λ m. cc), tt);
+      one = (inside, tt);
     }))
 laid-front true false offset h bs p ps short e rest laid =
     let found : front_piece false offset (h ∷ bs) ≡ Err Insufficient =
@@ -213,12 +222,20 @@ same-kept (p ∷ ps) (q ∷ qs) keep same =
 same-kept [] (q ∷ qs) keep same = absurd keep
 same-kept (p ∷ ps) [] keep same = absurd keep
 
+one-kept : (ps qs : List PieceRecord) → AllKeep ps qs → Each StoodAsOne ps → Each StoodAsOne qs
+one-kept [] [] keep one = tt
+one-kept (p ∷ ps) (q ∷ qs) keep one =
+    (subst IsOneItem (sym keep.0.stood) one.0, one-kept ps qs keep.1 one.1)
+one-kept [] (q ∷ qs) keep one = absurd keep
+one-kept (p ∷ ps) [] keep one = absurd keep
+
 laid-kept : (offset : ℕ) (bytes : List ℕ) (ps qs : List PieceRecord) → AllKeep ps qs
     → Laid offset bytes ps → Laid offset bytes qs
 laid-kept offset bytes ps qs keep laid = record {
   whole = whole-kept ps qs keep ∙ laid.whole;
   places = places-kept offset ps qs keep laid.places;
   same = same-kept ps qs keep laid.same;
+  one = one-kept ps qs keep laid.one;
 }
 
 ended-keep : (ps : List PieceRecord) → AllKeep ps (without_ended ps)
@@ -285,6 +302,7 @@ repair-by options bytes (Ok ps) r found e =
           written = ap (λ (x : RepairedRecord). x.bytes) is;
           changes = ap (λ (x : RepairedRecord). x.changes) is;
           same = laid.same;
+          one = laid.one;
         }
 
 past-repair : (past : Option ℕ) (options : RepairOptions) (bytes : List ℕ) (r : RepairedRecord)

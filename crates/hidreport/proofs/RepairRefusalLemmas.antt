@@ -8,7 +8,7 @@ use Rattle.hidreport_lists.specs.Itemising.{as_refusal}
 use Rattle.hidreport_lists.specs.Mending.{PieceRecord, pieces}
 use Rattle.hidreport_lists.specs.declared.error.ParserError.{ParserError}
 use Rattle.hidreport_lists.specs.declared.error.ParserError.TheVariants as errors
-use Rattle.hidreport.specs.Meaning.{PushReading, meaning_by, refusal_at}
+use Rattle.hidreport.specs.Meaning.{PushReading, refusal_at}
 use Rattle.hidreport.specs.MeaningFault.{MeaningFault, MissingUsageMaximum, MissingUsagePage}
 use Rattle.hidreport.specs.MeaningFault.{MissingUsages, PastBounds, PastBudget, TooManyEnds}
 use Rattle.hidreport.specs.MeaningFault.{TooManyPops}

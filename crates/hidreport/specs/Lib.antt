@@ -33,6 +33,7 @@ pub mod UsageRange
 pub mod Visibility
 pub mod Views
 pub mod Weight
+pub mod Working
 pub mod WritingValues
 pub mod WritingLaws
 -- what public clauses cite of the crates below, so that a user names this one alone

@@ -1,7 +1,7 @@
 -- Laws of a repair (Section 6.2.2): what stays as it stood, and where fields lie.
-use Rattle.std.specs.Prelude.{◌≡◌, ◌≢◌, ℕ, ◌+◌, List, [], ◌∷◌, length, map, filter_map, flat_map, None}
+use Rattle.std.specs.Prelude.{◌≡◌, ◌≢◌, ◌≤◌, ℕ, ◌+◌, List, [], ◌∷◌, length, map, filter_map, flat_map, None}
 use Rattle.std.specs.Prelude.{Option, Ok, false, option_map}
-use Rattle.hidreport_items.specs.Spelling.{item_of}
+use Rattle.hidreport_items.specs.Spelling.{following_length, item_of}
 use Rattle.hidreport_items.specs.declared.item.ItemType.{ItemType}
 use Rattle.hidreport_lists.specs.Entry.{Entry}
 use Rattle.hidreport_lists.specs.Itemising.{Itemises}
@@ -27,8 +27,16 @@ AreInPlace offset (p ∷ ps) = (p.offset ≡ offset) × AreInPlace (offset + len
 abbrev pub StandsAsItStood : PieceRecord → Type 0
 StandsAsItStood p = p.mend ≡ None → standing_bytes p.stands ≡ p.stood
 
--- The bytes are pieces, and so are the repaired ones, in the same order. Those that no change names
--- are as they were.
+-- the bytes are no more than one item: a header, and at most what follows it
+abbrev pub IsOneItem : List ℕ → Type 0
+IsOneItem [] = ⊥
+IsOneItem (h ∷ bs) = length bs ≤ following_length h bs
+
+abbrev pub StoodAsOne : PieceRecord → Type 0
+StoodAsOne p = IsOneItem p.stood
+
+-- The bytes are pieces, and so are the repaired ones, in the same order. Each is one item's, so a
+-- change is. Those that no change names are as they were.
 pub record IsRepairOf (bytes : List ℕ) (r : RepairedRecord) : Type 0 where
   pub pieces : List PieceRecord
   pub whole : flat_map (λ p. p.stood) pieces ≡ bytes
@@ -36,6 +44,7 @@ pub record IsRepairOf (bytes : List ℕ) (r : RepairedRecord) : Type 0 where
   pub written : joined pieces ≡ r.bytes
   pub changes : filter_map change_in pieces ≡ r.changes
   pub same : Each StandsAsItStood pieces
+  pub one : Each StoodAsOne pieces
 
 -- the direction of a data item
 abbrev pub direction_of : ItemType → Option Direction

@@ -1,6 +1,7 @@
 -- The number that stands for a usage of an array, and one that stands for none (Section 6.2.2.5).
 use Rattle.std.specs.Prelude.{◌≡◌, ◌≢◌, ◌≤ℤ◌, ◌+ℤ◌, ◌-ℤ◌, ℕ, ℤ, pos, int_lt, nat_lt, nat_le, ◌&&◌}
-use Rattle.std.specs.Prelude.{◌||◌, if◌then◌else◌, Bool, List, Option, None, Some}
+use Rattle.std.specs.Prelude.{◌||◌, if◌then◌else◌, Bool, true, false, List, Option, None, Some}
+use Rattle.std.specs.Prelude.{MatchOption, is_none}
 use Rattle.hidreport.specs.Choosing.{usage_chosen}
 use Rattle.hidreport.specs.WritingValues.{fits}
 use Rattle.hidreport.specs.declared.field.usage.Usage.{Usage}
@@ -19,6 +20,21 @@ is_null width is_signed minimum maximum number =
     (nat_lt 0 width && nat_le width 32)
     && ((int_lt number minimum || int_lt maximum number) && fits width is_signed number)
 
+-- the number stands for no usage, and so many bits hold it
+abbrev pub is_unchosen : List Usage → ℕ → Bool → ℤ → ℤ → ℤ → Bool
+is_unchosen usages width is_signed minimum maximum number =
+    (nat_lt 0 width && nat_le width 32)
+    && (is_none (usage_chosen usages minimum maximum number) && fits width is_signed number)
+
+-- the least such number; none where there is none
+abbrev pub IsLeastUnchosen : List Usage → ℕ → Bool → ℤ → ℤ → Option ℤ → Type 0
+IsLeastUnchosen usages width is_signed minimum maximum (Some number) =
+    (is_unchosen usages width is_signed minimum maximum number ≡ true)
+    × ((other : ℤ) → is_unchosen usages width is_signed minimum maximum other ≡ true
+    → number ≤ℤ other)
+IsLeastUnchosen usages width is_signed minimum maximum None =
+    (other : ℤ) → is_unchosen usages width is_signed minimum maximum other ≡ false
+
 -- the first of 0, the number below the minimum and the one above the maximum that is such a number
 abbrev pub null_number : ℕ → Bool → ℤ → ℤ → Option ℤ
 null_number width is_signed minimum maximum =
@@ -27,3 +43,10 @@ null_number width is_signed minimum maximum =
     else (if null (minimum -ℤ pos 1) then Some (minimum -ℤ pos 1)
     else (if null (maximum +ℤ pos 1) then Some (maximum +ℤ pos 1)
     else None))
+
+-- one outside the bounds where there is one, else the least within them that has no usage
+abbrev pub IsNullNumber : List Usage → ℕ → Bool → ℤ → ℤ → Option ℤ → Type 0
+IsNullNumber usages width is_signed minimum maximum null =
+    MatchOption (null_number width is_signed minimum maximum)
+    (IsLeastUnchosen usages width is_signed minimum maximum null)
+    (λ number. null ≡ Some number)

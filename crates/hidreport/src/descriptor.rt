@@ -15,6 +15,7 @@ ghost use Rattle.hidreport.specs.Records.{FieldRecord};
 ghost use Rattle.hidreport.specs.Segments.{HasNoPush};
 ghost use Rattle.hidreport.specs.Tiling.{Each, IsTiled};
 ghost use Rattle.hidreport.specs.Weight.{descriptor_weight};
+ghost use Rattle.hidreport.specs.Working.{AllWork};
 ghost use Rattle.hidreport.specs.declared.parser.push_keeps.PushKeeps.TheVariants as push_keeps;
 
 use crate::field::data_item::Direction;
@@ -264,8 +265,20 @@ impl ReportDescriptor {
         find_with_id(reports, Some(id))
     }
 
-    /// The report of a direction that a report's bytes are of.
-    fn find_report(&self, direction: Direction, bytes: &[u8]) -> Option<&RDescReport>
+    /// The report of a direction that a report's bytes are of (Section 5.6), as `find_input_report`
+    /// says.
+    pub fn find_report(&self, direction: Direction, bytes: &[u8]) -> Option<&RDescReport>
+        ensures found { option_copied result
+            ≡ find_report (reports_of direction self.now) bytes.now }
+        ensures own { IsTiled self.now → IfSome (option_copied result) (λ report.
+            Each (λ (field : FieldRecord). reads field bytes.now ≢ Err Mismatch) report.fields) }
+        ensures works { IsTiled self.now → IfSome (option_copied result) (AllWork bytes.now) }
+    {
+        self.report_of(direction, bytes)
+    }
+
+    /// The same, by the lookup alone.
+    fn report_of(&self, direction: Direction, bytes: &[u8]) -> Option<&RDescReport>
         ensures { option_copied result ≡ find_report (reports_of direction self.now) bytes.now }
     {
         let id = *bytes.first()?;
@@ -280,13 +293,17 @@ impl ReportDescriptor {
     /// else the one with the first byte as its id. `None` where there is none, or no bytes.
     ///
     /// No field of the report answers `MismatchingReportId` on these bytes, for a descriptor that
-    /// was read or is empty (`own`, by `tiled` of the calls that read it and of `empty`).
+    /// was read or is empty (`own`, by `tiled` of the calls that read it and of `empty`). Where
+    /// there are as many bytes as the report has, each field whose values have at most 32 bits is
+    /// read, and takes as many values as it has, where each fits (`works`): `extract`,
+    /// `extract_one`, `insert` and `insert_one` never refuse then, want of memory apart.
     pub fn find_input_report(&self, bytes: &[u8]) -> Option<&RDescReport>
         ensures found { option_copied result ≡ find_report self.now.input bytes.now }
         ensures own { IsTiled self.now → IfSome (option_copied result) (λ report.
             Each (λ (field : FieldRecord). reads field bytes.now ≢ Err Mismatch) report.fields) }
+        ensures works { IsTiled self.now → IfSome (option_copied result) (AllWork bytes.now) }
     {
-        self.find_report(Direction::Input, bytes)
+        self.report_of(Direction::Input, bytes)
     }
 
     /// The output report that a report's bytes are of, as `find_input_report` says.
@@ -294,8 +311,9 @@ impl ReportDescriptor {
         ensures found { option_copied result ≡ find_report self.now.output bytes.now }
         ensures own { IsTiled self.now → IfSome (option_copied result) (λ report.
             Each (λ (field : FieldRecord). reads field bytes.now ≢ Err Mismatch) report.fields) }
+        ensures works { IsTiled self.now → IfSome (option_copied result) (AllWork bytes.now) }
     {
-        self.find_report(Direction::Output, bytes)
+        self.report_of(Direction::Output, bytes)
     }
 
     /// The feature report that a report's bytes are of, as `find_input_report` says.
@@ -303,7 +321,8 @@ impl ReportDescriptor {
         ensures found { option_copied result ≡ find_report self.now.feature bytes.now }
         ensures own { IsTiled self.now → IfSome (option_copied result) (λ report.
             Each (λ (field : FieldRecord). reads field bytes.now ≢ Err Mismatch) report.fields) }
+        ensures works { IsTiled self.now → IfSome (option_copied result) (AllWork bytes.now) }
     {
-        self.find_report(Direction::Feature, bytes)
+        self.report_of(Direction::Feature, bytes)
     }
 }

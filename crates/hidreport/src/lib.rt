@@ -26,10 +26,11 @@ pub mod hid {
         IBBuffered, IBConstant, IBData, IBLinear, IBNoNull, IBNoPreferred, IBNoWrap, IBNonLinear,
         IBNonVolatile, IBNull, IBPreferred, IBRelative, IBSAbs, IBSArr, IBSBit, IBSData, IBSLin,
         IBSNull, IBSPref, IBSVol, IBSWrap, IBState, IBUndefined, IBUnsaid, IBVariable, IBVolatile,
-        IBWrap, InputItem, ItemBuilder, ItemType, LocalItem, MainDataItem, MainItem, OutputItem,
+        IBWrap, InputItem, ItemBuilder, ItemFault, ItemType, LocalItem, MainDataItem, MainItem,
+        OutputItem,
     };
     pub use hidreport_lists::{
-        AnyItem, Item, ItemData, LongItem, MayBuild, MayClose, MayOpen, MayPop, MayPush,
+        AnyItem, FrontItem, Item, ItemData, LongItem, MayBuild, MayClose, MayOpen, MayPop, MayPush,
         ReportDescriptorBuilder, ReportDescriptorBuilderC1, ReportDescriptorBuilderC1Push,
         ReportDescriptorBuilderC2, ReportDescriptorBuilderC2Push, ReportDescriptorBuilderC3,
         ReportDescriptorBuilderC3Push, ReportDescriptorBuilderC4, ReportDescriptorBuilderC4Push,
@@ -37,7 +38,7 @@ pub mod hid {
         ReportDescriptorBuilderC6Push, ReportDescriptorBuilderC7, ReportDescriptorBuilderC7Push,
         ReportDescriptorBuilderC8, ReportDescriptorBuilderC8Push, ReportDescriptorBuilderState,
         ReportDescriptorBuilderToplevel, ReportDescriptorBuilderToplevelPush, ReportDescriptorItem,
-        ReportDescriptorItems, ShortItem, rebuild,
+        ReportDescriptorItems, ShortItem, front_item, rebuild,
     };
 }
 

@@ -8,7 +8,7 @@ use std::alloc::{AllocError, Global};
 use std::fmt::Write;
 
 /// Answers `repair WORD .. / BYTES`: the repaired bytes, and a line for each change, or the
-/// refusal. A word is `as-usual`, `globals`, `cut-short`, `unsigned`, `within=NUMBER` or
+/// refusal. A word is `as-usual`, `all`, `globals`, `cut-short`, `unsigned`, `within=NUMBER` or
 /// `longest=NUMBER`.
 pub fn add_repaired(alloc: Global, text: &mut String, words: &str) -> Result<(), Malformed> {
     let (words, bytes) = parts_of(words)?;
@@ -36,6 +36,7 @@ fn options_of(words: &str) -> Result<RepairOptions, Malformed> {
             Some(_) => return Err(Malformed::Name),
             None => match word {
                 "as-usual" => {}
+                "all" => options.parse.push_keeps = PushKeeps::All,
                 "globals" => options.parse.push_keeps = PushKeeps::Globals,
                 "cut-short" => options.leave_out_cut_short = true,
                 "unsigned" => options.unsigned_maxima = true,

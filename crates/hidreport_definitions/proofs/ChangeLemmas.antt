@@ -9,7 +9,8 @@ use Rattle.std.proofs.Math.Seq.{take-append_seam}
 use Rattle.hidreport_lists.specs.declared.mending.Mend.{Mend}
 use Rattle.hidreport.specs.Mending.{PieceRecord}
 use Rattle.hidreport.specs.Repair.{ChangeRecord, RepairedRecord, change_in, change_of, joined}
-use Rattle.hidreport.specs.RepairLaws.{AreInPlace, IsRepairOf, StandsAsItStood}
+use Rattle.hidreport.specs.RepairLaws.{AreInPlace, IsOneItem, IsRepairOf, StandsAsItStood}
+use Rattle.hidreport.specs.RepairLaws.{StoodAsOne}
 use Rattle.hidreport.specs.Tiling.{Each}
 
 -- the bytes from an offset on, with these changes made
@@ -129,3 +130,26 @@ repair-made bytes r is =
     (subst (λ l. AreMade 0 (stood_in is.pieces) l r.changes) is.written
     (subst (AreMade 0 (stood_in is.pieces) (joined is.pieces)) is.changes
     (all-made 0 is.pieces is.places is.same)))
+
+-- and each of them is of one item
+one-each : (ps : List PieceRecord) → Each StoodAsOne ps
+    → Each (λ (c : ChangeRecord). IsOneItem c.stood) (changes_in ps)
+one-each [] one = tt
+one-each (p ∷ ps) one = by-mend p.mend refl (one-each ps one.1)
+  where
+    by-mend : (m : Option Mend) → p.mend ≡ m
+        → Each (λ (c : ChangeRecord). IsOneItem c.stood) (changes_in ps)
+        → Each (λ (c : ChangeRecord). IsOneItem c.stood) (changes_in (p ∷ ps))
+    by-mend None e rest =
+        let named : changes_in (p ∷ ps) ≡ changes_in ps =
+        ap (λ m. cons_option (option_map (λ why. change_of why p) m) (changes_in ps)) e in
+        subst (λ l. Each (λ (c : ChangeRecord). IsOneItem c.stood) l) (sym named) rest
+    by-mend (Some why) e rest =
+        let named : changes_in (p ∷ ps) ≡ change_of why p ∷ changes_in ps =
+        ap (λ m. cons_option (option_map (λ why. change_of why p) m) (changes_in ps)) e in
+        subst (λ l. Each (λ (c : ChangeRecord). IsOneItem c.stood) l) (sym named) (one.0, rest)
+
+pub repair-one : (bytes : List ℕ) (r : RepairedRecord) → IsRepairOf bytes r
+    → Each (λ (c : ChangeRecord). IsOneItem c.stood) r.changes
+repair-one bytes r is = subst (λ l. Each (λ (c : ChangeRecord). IsOneItem c.stood) l) is.changes
+    (one-each is.pieces is.one)

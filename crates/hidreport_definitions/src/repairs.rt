@@ -28,7 +28,8 @@ pub fn bytes_that_no_change_names_stay()
         (padded_at 0 (codes "81 02") (codes "81 03") ∷ [])) → ⊥ }
 {}
 
-/// A change names what stood at its offset, and what is written there; changes come in order.
+/// A change names what stood at its offset, one item, and what is written there; changes come in
+/// order.
 pub fn a_change_is_what_it_says()
     ensures other_bytes { IsRepairOf (hex (codes "81 02"))
         (repaired_to (codes "81 03") (padded_at 0 (codes "81 00") (codes "81 03") ∷ [])) → ⊥ }
@@ -37,6 +38,8 @@ pub fn a_change_is_what_it_says()
         → ⊥ }
     ensures not_written { IsRepairOf (hex (codes "81 02"))
         (repaired_to (codes "81 02") (padded_at 0 (codes "81 02") (codes "81 03") ∷ [])) → ⊥ }
+    ensures all_at_once { IsRepairOf (hex (codes "05 01 81 02")) (repaired_to (codes "05 01 81 03")
+        (padded_at 0 (codes "05 01 81 02") (codes "05 01 81 03") ∷ [])) → ⊥ }
     ensures reversed { IsRepairOf (hex (codes "81 02 91 02")) (repaired_to (codes "81 03 91 03")
         (padded_at 2 (codes "91 02") (codes "91 03") ∷ padded_at 0 (codes "81 02") (codes "81 03")
         ∷ [])) → ⊥ }

@@ -1,7 +1,7 @@
 //! Items as Linux's hid-core reads them where bytes can't be read as items (Section 6.2.2).
 ghost use Rattle.std.specs.Prelude.{◌≡◌, Err, IfErr, IfOk, Ok};
 ghost use Rattle.hidreport_items.specs.ItemFaults.{told_fault};
-ghost use Rattle.hidreport_lists.specs.Answer.{AnswersBy};
+ghost use Rattle.hidreport_lists.specs.Answer.{AnswersBy, IsOfItems};
 ghost use Rattle.hidreport_lists.specs.Itemising.{as_refusal};
 ghost use Rattle.hidreport_lists.specs.Mending.{front_piece, left_out, pieces, whole_piece};
 ghost use Rattle.hidreport_lists.specs.Mending.{without_ended};
@@ -80,8 +80,9 @@ pub fn pieces<'a>(
     bytes: &'a [u8],
     leave_out_cut_short: bool,
 ) -> Result<Vec<Piece<'a>>, ParserError>
-    ensures { AnswersBy (λ pieces. pieces.items) result
+    ensures exact { AnswersBy (λ pieces. pieces.items) result
         (as_refusal (pieces leave_out_cut_short bytes.now)) }
+    ensures named { IfErr result IsOfItems }
 {
     let mut pieces = Vec::new(alloc);
     let mut offset = 0;

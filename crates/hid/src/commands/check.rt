@@ -1,6 +1,6 @@
 //! `hid check`: what is odd in a descriptor.
-use crate::commands::descriptor_of;
 use crate::commands::findings::{Finding, findings};
+use crate::commands::{check_length, descriptor_of};
 use crate::ending::Ending;
 use crate::input::descriptor_named;
 use crate::output::{add_json, flush, flush_piece};
@@ -8,11 +8,12 @@ use crate::settings::Settings;
 use anyhow::{Result, bail};
 use hidreport::{ParserError, ReportDescriptor};
 use serde::Serialize;
+use std::alloc::Global;
 use std::fmt::Write;
 use std::rt::Files;
 
 /// Shows what is odd in a descriptor.
-#[derive(Clone, Copy, Debug)]
+#[derive(Clone, Copy)]
 pub struct Check<'a> {
     /// The descriptor's input.
     pub file: &'a str,
@@ -34,30 +35,37 @@ impl<'a> Check<'a> {
     ) -> Result<Ending> {
         let given = descriptor_named(rt, settings, self.file)?;
         let bytes = descriptor_of(&given);
-        let parsed = ReportDescriptor::try_from_with(rt.alloc(), bytes, settings.parse);
-        if settings.longest() < bytes.len() {
-            bail!(
-                "longer than {} bytes: say --limit {}",
-                settings.longest(),
-                bytes.len()
-            );
-        }
-        if let Err(ParserError::OutOfMemory) = parsed {
-            bail!("out of memory");
-        }
-        let findings = findings(rt.alloc(), bytes, &parsed)?;
-        let mut text = String::new(rt.alloc());
-        for finding in findings.iter() {
-            add_finding(&mut text, settings, finding)?;
-            flush_piece(rt, &mut text)?;
-        }
-        flush(rt, &mut text)?;
-        Ok(if findings.is_empty() {
-            Ending::Done
-        } else {
-            Ending::Refused
-        })
+        check_length(settings, bytes)?;
+        let findings = checked(rt.alloc(), settings, bytes)?;
+        show_findings(rt, settings, &findings)
     }
+}
+
+/// What is odd in a descriptor.
+fn checked(alloc: Global, settings: &Settings, bytes: &[u8]) -> Result<Vec<Finding>> {
+    let parsed = ReportDescriptor::try_from_with(alloc, bytes, settings.parse);
+    if let Err(ParserError::OutOfMemory) = parsed {
+        bail!("out of memory");
+    }
+    Ok(findings(alloc, bytes, &parsed)?)
+}
+
+fn show_findings<R: AllocGlobal + Print>(
+    rt: &R,
+    settings: &Settings,
+    findings: &[Finding],
+) -> Result<Ending> {
+    let mut text = String::new(rt.alloc());
+    for finding in findings {
+        add_finding(&mut text, settings, finding)?;
+        flush_piece(rt, &mut text)?;
+    }
+    flush(rt, &mut text)?;
+    Ok(if findings.is_empty() {
+        Ending::Done
+    } else {
+        Ending::Refused
+    })
 }
 
 /// Appends the line of a finding.

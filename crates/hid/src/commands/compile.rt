@@ -1,4 +1,5 @@
 //! `hid compile`: a descriptor's bytes from the text that `hid decode` writes.
+use crate::commands::check_length;
 use crate::commands::target::Target;
 use crate::ending::Ending;
 use crate::input::{bytes_of_hex, text_named};
@@ -12,7 +13,7 @@ use std::alloc::{AllocError, Global};
 use std::rt::Files;
 
 /// Writes the descriptor that a text says.
-#[derive(Clone, Copy, Debug)]
+#[derive(Clone, Copy)]
 pub struct Compile<'a> {
     /// The text's input.
     pub text: &'a str,
@@ -44,28 +45,30 @@ impl<'a> Compile<'a> {
         settings: &Settings,
     ) -> Result<Ending> {
         let text = text_named(rt, self.text)?;
-        let mut compiled = Compiled {
-            alloc: rt.alloc(),
-            bytes: Vec::new(rt.alloc()),
-            state: ItemState::new(rt.alloc()),
-            flags: FlagTable::new(rt.alloc())?,
-        };
-        for (index, line) in text.as_str().lines().enumerate() {
-            let number = index.saturating_add(1);
-            compiled
-                .add_text(line)
-                .context(format_args!("line {number}"))?;
-        }
-        let longest = settings.longest();
-        if longest < compiled.bytes.len() {
-            bail!("more than {longest} bytes");
-        }
+        let compiled = Compiled::of(rt.alloc(), &text)?;
+        check_length(settings, &compiled.bytes)?;
         self.target.write_descriptor(rt, &compiled.bytes)?;
         Ok(Ending::Done)
     }
 }
 
 impl Compiled {
+    /// What all lines of a text say.
+    fn of(alloc: Global, text: &str) -> Result<Compiled> {
+        let mut compiled = Compiled {
+            alloc,
+            bytes: Vec::new(alloc),
+            state: ItemState::new(alloc),
+            flags: FlagTable::new(alloc)?,
+        };
+        for (line, number) in text.lines().zip(1usize..) {
+            compiled
+                .add_text(line)
+                .context(format_args!("line {number}"))?;
+        }
+        Ok(compiled)
+    }
+
     /// Takes a line of text. One that is empty, a remark behind `//` and the line of a fault say
     /// nothing.
     fn add_text(&mut self, text: &str) -> Result<()> {

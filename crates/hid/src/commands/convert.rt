@@ -1,14 +1,14 @@
 //! `hid convert`: a descriptor's bytes in another form.
-use crate::commands::descriptor_of;
 use crate::commands::target::Target;
+use crate::commands::{check_length, descriptor_of};
 use crate::ending::Ending;
 use crate::input::descriptor_named;
 use crate::settings::Settings;
-use anyhow::{Result, bail};
+use anyhow::Result;
 use std::rt::Files;
 
 /// Writes a descriptor in another form.
-#[derive(Clone, Copy, Debug)]
+#[derive(Clone, Copy)]
 pub struct Convert<'a> {
     /// The descriptor's input.
     pub file: &'a str,
@@ -25,10 +25,7 @@ impl<'a> Convert<'a> {
     ) -> Result<Ending> {
         let given = descriptor_named(rt, settings, self.file)?;
         let bytes = descriptor_of(&given);
-        let longest = settings.longest();
-        if longest < bytes.len() {
-            bail!("longer than {longest} bytes: say --limit {}", bytes.len());
-        }
+        check_length(settings, bytes)?;
         self.target.write_descriptor(rt, bytes)?;
         Ok(Ending::Done)
     }

@@ -22,7 +22,7 @@ const DEEPEST: usize = 16;
 const IN_A_LINE: usize = 16;
 
 /// Shows the items of a descriptor.
-#[derive(Clone, Copy, Debug)]
+#[derive(Clone, Copy)]
 pub struct Decode<'a> {
     /// The descriptor's input.
     pub file: &'a str,

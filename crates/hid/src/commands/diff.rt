@@ -16,7 +16,7 @@ use std::fmt::Write;
 use std::rt::Files;
 
 /// Shows what differs between two descriptors.
-#[derive(Clone, Copy, Debug)]
+#[derive(Clone, Copy)]
 pub struct Diff<'a> {
     /// The first descriptor's input.
     pub file: &'a str,
@@ -66,35 +66,93 @@ impl<'a> Diff<'a> {
         rt: &R,
         settings: &Settings,
     ) -> Result<Ending> {
-        let given = descriptor_named(rt, settings, self.file)?;
-        let first = parsed(rt.alloc(), settings, descriptor_of(&given))?;
-        let given = descriptor_named(rt, settings, self.other).context(format_args!(
-            "{}",
-            self.other
-        ))?;
-        let second = parsed(rt.alloc(), settings, descriptor_of(&given)).context(format_args!(
+        let first = descriptor_by(rt, settings, self.file)?;
+        let second = descriptor_by(rt, settings, self.other).context(format_args!(
             "{}",
             self.other
         ))?;
         if first.is_alike(&second) {
             return Ok(Ending::Done);
         }
-        let mut showing = Showing {
-            settings,
-            text: String::new(rt.alloc()),
-            is_nothing: true,
-        };
-        for direction in DIRECTIONS {
-            show_direction(rt, &mut showing, direction, &first, &second)?;
-        }
-        showing.end()?;
-        flush(rt, &mut showing.text)?;
+        show_difference(rt, settings, &first, &second)?;
         Ok(Ending::Refused)
     }
 }
 
-/// Shows what differs between the reports of a direction: those with the same id are compared.
-fn show_direction<R: AllocGlobal + Print>(
+/// The descriptor of an input.
+fn descriptor_by<R: AllocGlobal + Files + Input + Eprint>(
+    rt: &R,
+    settings: &Settings,
+    name: &str,
+) -> Result<ReportDescriptor> {
+    let given = descriptor_named(rt, settings, name)?;
+    parsed(rt.alloc(), settings, descriptor_of(&given))
+}
+
+fn show_difference<R: AllocGlobal + Print>(
+    rt: &R,
+    settings: &Settings,
+    first: &ReportDescriptor,
+    second: &ReportDescriptor,
+) -> Result<()> {
+    let mut showing = Showing {
+        settings,
+        text: String::new(rt.alloc()),
+        is_nothing: true,
+    };
+    for direction in DIRECTIONS {
+        show_first(rt, &mut showing, direction, first, second)?;
+        show_second(rt, &mut showing, direction, first, second)?;
+    }
+    showing.end()?;
+    flush(rt, &mut showing.text)
+}
+
+/// Shows what the first descriptor's reports of a direction have else: those with the same id are
+/// compared.
+fn show_first<R: AllocGlobal + Print>(
+    rt: &R,
+    showing: &mut Showing,
+    direction: Direction,
+    first: &ReportDescriptor,
+    second: &ReportDescriptor,
+) -> Result<()> {
+    for report in first.reports(direction) {
+        match second.report(direction, *report.report_id()) {
+            Some(other) => {
+                showing.add_report(
+                    rt.alloc(),
+                    direction,
+                    report,
+                    report.fields(),
+                    other.fields(),
+                )?;
+            }
+            None => show_lone(rt.alloc(), showing, direction, report, first, second)?,
+        }
+        flush_piece(rt, &mut showing.text)?;
+    }
+    Ok(())
+}
+
+/// Shows a report of the first descriptor whose id the second doesn't have.
+fn show_lone(
+    alloc: Global,
+    showing: &mut Showing,
+    direction: Direction,
+    report: &RDescReport,
+    first: &ReportDescriptor,
+    second: &ReportDescriptor,
+) -> Result<()> {
+    let none: &[Field] = &[];
+    match renamed(alloc, direction, report, first, second)? {
+        Some(other) => showing.add_id(direction, report, other),
+        None => showing.add_report(alloc, direction, report, report.fields(), none),
+    }
+}
+
+/// Shows the second descriptor's reports of a direction that the first doesn't have.
+fn show_second<R: AllocGlobal + Print>(
     rt: &R,
     showing: &mut Showing,
     direction: Direction,
@@ -102,23 +160,6 @@ fn show_direction<R: AllocGlobal + Print>(
     second: &ReportDescriptor,
 ) -> Result<()> {
     let none: &[Field] = &[];
-    for report in first.reports(direction) {
-        let id = *report.report_id();
-        if let Some(other) = second.report(direction, id) {
-            showing.add_report(
-                rt.alloc(),
-                direction,
-                report,
-                report.fields(),
-                other.fields(),
-            )?;
-        } else if let Some(other) = renamed(rt.alloc(), direction, report, first, second)? {
-            showing.add_id(direction, report, other)?;
-        } else {
-            showing.add_report(rt.alloc(), direction, report, report.fields(), none)?;
-        }
-        flush_piece(rt, &mut showing.text)?;
-    }
     for report in second.reports(direction) {
         let is_known = first.report(direction, *report.report_id()).is_some();
         if !is_known && renamed(rt.alloc(), direction, report, second, first)?.is_none() {
@@ -129,8 +170,8 @@ fn show_direction<R: AllocGlobal + Print>(
     Ok(())
 }
 
-/// The report of another descriptor that is this one with another id, where that is the only such
-/// report on both sides.
+/// The report of another descriptor that is this one with another id: of those whose ids one
+/// descriptor alone has, the one in the same place.
 fn renamed<'b>(
     alloc: Global,
     direction: Direction,
@@ -138,27 +179,31 @@ fn renamed<'b>(
     own: &ReportDescriptor,
     other: &'b ReportDescriptor,
 ) -> Result<Option<&'b RDescReport>, AllocError> {
-    let mut found = None;
+    let mut before = lone_before(direction, report, own, other);
     for candidate in other.reports(direction) {
-        let is_lone = own.report(direction, *candidate.report_id()).is_none();
-        if is_lone && id_alone_changed(alloc, report, candidate)? {
-            if found.is_some() {
-                return Ok(None);
+        if own.report(direction, *candidate.report_id()).is_none() {
+            if before == 0 {
+                let is_same = id_alone_changed(alloc, report, candidate)?;
+                return Ok(if is_same { Some(candidate) } else { None });
             }
-            found = Some(candidate);
+            before -= 1;
         }
     }
-    let Some(candidate) = found else {
-        return Ok(None);
-    };
-    for rival in own.reports(direction) {
-        let is_lone = other.report(direction, *rival.report_id()).is_none();
-        let is_other = rival.report_id() != report.report_id();
-        if is_lone && is_other && id_alone_changed(alloc, rival, candidate)? {
-            return Ok(None);
-        }
-    }
-    Ok(found)
+    Ok(None)
+}
+
+/// How many reports stand before this one whose ids the other descriptor doesn't have.
+fn lone_before(
+    direction: Direction,
+    report: &RDescReport,
+    own: &ReportDescriptor,
+    other: &ReportDescriptor,
+) -> usize {
+    own.reports(direction)
+        .iter()
+        .take_while(|it| it.report_id() != report.report_id())
+        .filter(|it| other.report(direction, *it.report_id()).is_none())
+        .count()
 }
 
 impl<'a> Showing<'a> {

@@ -17,7 +17,7 @@ use std::rt::Files;
 const DEEPEST: usize = 16;
 
 /// Shows the reports of a descriptor with their fields.
-#[derive(Clone, Copy, Debug)]
+#[derive(Clone, Copy)]
 pub struct Fields<'a> {
     /// The descriptor's input.
     pub file: &'a str,

@@ -20,7 +20,7 @@ const WIDTH: usize = 10;
 const MOST_ROWS: usize = 4_096;
 
 /// Draws the bits of each report.
-#[derive(Clone, Copy, Debug)]
+#[derive(Clone, Copy)]
 pub struct Map<'a> {
     /// The descriptor's input.
     pub file: &'a str,

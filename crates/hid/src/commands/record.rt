@@ -1,5 +1,5 @@
 //! `hid record`: the reports of a stream, each in a line as it comes.
-use crate::commands::parsed;
+use crate::commands::all_parsed;
 use crate::commands::values::place_of;
 use crate::ending::Ending;
 use crate::input::{Form, Given, GivenReport, Stream, descriptors_named, is_node};
@@ -20,7 +20,7 @@ use std::time::{Duration, Instant};
 const PIECE: usize = 65_536;
 
 /// How a report is written.
-#[derive(Clone, Copy, Debug, PartialEq)]
+#[derive(Clone, Copy, PartialEq)]
 pub enum Shown {
     /// Its values in a line.
     Line,
@@ -33,7 +33,7 @@ pub enum Shown {
 }
 
 /// Shows the reports of a stream.
-#[derive(Clone, Copy, Debug)]
+#[derive(Clone, Copy)]
 pub struct Record<'a> {
     /// The descriptor's input.
     pub file: &'a str,
@@ -65,10 +65,7 @@ impl<'a> Record<'a> {
         settings: &Settings,
     ) -> Result<Ending> {
         let given = descriptors_named(rt, settings, self.file)?;
-        let mut known = Vec::new(rt.alloc());
-        for device in given.devices.iter() {
-            known.push(parsed(rt.alloc(), settings, &device.descriptor)?)?;
-        }
+        let known = all_parsed(rt.alloc(), settings, &given)?;
         let mut recording = self.recording(rt, settings, &given, &known)?;
         let stream = Stream::new(rt.alloc(), settings.report_form, is_node(self.stream));
         if self.stream == "-" {

@@ -9,16 +9,16 @@ use crate::report::{Choice, add_reports, choice_of, is_outside};
 use crate::settings::Settings;
 use crate::wanted_usage::WantedUsage;
 use crate::words::{add_usage, plain_number, word_of};
-use anyhow::{Context, Result, bail};
+use anyhow::{Context, Result, anyhow, bail};
 use hidreport::{
-    ArrayField, Direction, Field, FieldAttributes, RDescReport, Report, ReportId, Usage,
-    VariableField,
+    ArrayField, Direction, Field, FieldAttributes, RDescReport, Report, ReportDescriptor, ReportId,
+    Usage, VariableField,
 };
 use std::alloc::Global;
 use std::rt::Files;
 
 /// Writes the bytes of a report.
-#[derive(Debug, Drop)]
+#[derive(Drop)]
 pub struct Set<'a> {
     /// The descriptor's input.
     pub file: &'a str,
@@ -45,7 +45,7 @@ struct Written<'a> {
 }
 
 /// A name with a number, as `X#2=5`.
-#[derive(Clone, Copy, Debug)]
+#[derive(Clone, Copy)]
 struct Assignment<'a> {
     name: &'a str,
     /// How many fields of this name stand before the one that is meant.
@@ -74,10 +74,19 @@ impl<'a> Set<'a> {
         let given = descriptor_named(rt, settings, self.file)?;
         let descriptor = parsed(rt.alloc(), settings, descriptor_of(&given))?;
         let Some(report) = descriptor.report(self.direction, self.id) else {
-            let mut known = String::new(rt.alloc());
-            add_reports(&mut known, &descriptor, self.direction)?;
-            bail!("no such {} report: it has {known}", word_of(self.direction));
+            return Err(no_report(rt.alloc(), &descriptor, self.direction));
         };
+        self.write(rt, settings, report)?;
+        Ok(Ending::Done)
+    }
+
+    /// Writes the bytes of a report.
+    fn write<R: AllocGlobal + Print + Eprint>(
+        &self,
+        rt: &R,
+        settings: &Settings,
+        report: &RDescReport,
+    ) -> Result<()> {
         check_size(report, settings)?;
         let mut written = Written::new(rt.alloc(), report, self.is_zero)?;
         for word in self.words.iter() {
@@ -85,8 +94,7 @@ impl<'a> Set<'a> {
                 .context(format_args!("{word}"))?;
         }
         written.tell_pressed(rt)?;
-        self.target.write_report(rt, &written.bytes)?;
-        Ok(Ending::Done)
+        self.target.write_report(rt, &written.bytes)
     }
 
     /// Puts the number of one name into the report; says where it is outside of the bounds.
@@ -109,6 +117,15 @@ impl<'a> Set<'a> {
             }
             _ => Ok(()),
         }
+    }
+}
+
+/// Why there is no report with an id.
+fn no_report(alloc: Global, descriptor: &ReportDescriptor, direction: Direction) -> anyhow::Error {
+    let mut known = String::new(alloc);
+    match add_reports(&mut known, descriptor, direction) {
+        Ok(()) => anyhow!("no such {} report: it has {known}", word_of(direction)),
+        Err(refused) => refused.into(),
     }
 }
 

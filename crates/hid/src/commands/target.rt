@@ -12,7 +12,7 @@ use std::io::Write;
 pub static TARGETS: [&str; 5] = ["hex", "c", "rust", "bytes", "recording"];
 
 /// What bytes are written as.
-#[derive(Clone, Copy, Debug, PartialEq)]
+#[derive(Clone, Copy, PartialEq)]
 pub enum Target {
     /// Hexadecimal digits, a descriptor's sixteen bytes in a line, a report's in one.
     Hex,

@@ -1,5 +1,5 @@
 //! `hid values`: the values of reports, by name.
-use crate::commands::parsed;
+use crate::commands::all_parsed;
 use crate::ending::Ending;
 use crate::input::{Form, Given, GivenReport, descriptors_named, reports_named};
 use crate::output::{flush, flush_piece, show};
@@ -19,7 +19,7 @@ use std::fmt::Write;
 use std::rt::Files;
 
 /// Shows the values of reports.
-#[derive(Debug, Drop)]
+#[derive(Drop)]
 pub struct Values<'a> {
     /// The descriptor's input.
     pub file: &'a str,
@@ -64,10 +64,7 @@ impl<'a> Values<'a> {
         reports: &Given,
     ) -> Result<()> {
         let mut text = String::new(rt.alloc());
-        let mut known = Vec::new(rt.alloc());
-        for device in given.devices.iter() {
-            known.push(parsed(rt.alloc(), settings, &device.descriptor)?)?;
-        }
+        let known = all_parsed(rt.alloc(), settings, given)?;
         for (report, number) in reports.reports.iter().zip(1usize..) {
             let place = place_of(given, reports.form, report);
             let shown = match place.and_then(|place| known.get(place)) {

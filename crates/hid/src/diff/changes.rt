@@ -4,224 +4,265 @@ use hidreport::types::{
     LogicalMaximum, LogicalMinimum, PhysicalMaximum, PhysicalMinimum, Unit, UnitExponent,
 };
 use hidreport::{ArrayField, Collection, Field, FieldAttributes, VariableField};
-use std::alloc::{AllocError, Global};
+use std::alloc::AllocError;
 use std::fmt::Write;
+
+/// How many flags a field has.
+const FLAGS: usize = 7;
+
+/// The words of the flags, and what stands for one that isn't set.
+static FLAG_WORDS: [(&str, &str); FLAGS] = [
+    ("relative", "absolute"),
+    ("wraps", "no wrap"),
+    ("nonlinear", "linear"),
+    ("no preferred state", "preferred state"),
+    ("null state", "no null state"),
+    ("volatile", "not volatile"),
+    ("buffered bytes", "bit field"),
+];
+
+/// Numbers that a field has beside its usages.
+#[derive(Clone, Copy)]
+struct Numbers {
+    logical: (i32, i32),
+    physical: (Option<i32>, Option<i32>),
+    unit: Option<u32>,
+    exponent: Option<i32>,
+    flags: [bool; FLAGS],
+}
 
 /// Appends each part in which two fields differ but for their ids, as it is in the first and in the
 /// second.
 pub fn add_changes(text: &mut String, first: &Field, second: &Field) -> Result<(), AllocError> {
     match (first, second) {
-        (Field::Variable(first), Field::Variable(second)) => add_variable(text, first, second)?,
-        (Field::Array(first), Field::Array(second)) => add_array(text, first, second)?,
+        (Field::Variable(first), Field::Variable(second)) => {
+            add_numbers(text, variable_numbers(first), variable_numbers(second))?;
+        }
+        (Field::Array(first), Field::Array(second)) => {
+            add_elements(text, first, second)?;
+            add_numbers(text, array_numbers(first), array_numbers(second))?;
+        }
         _ => {}
     }
-    add_common(text, first, second)
+    add_width(text, first.bits().len(), second.bits().len())?;
+    add_usages(text, first, second)?;
+    add_collections(text, first.collections(), second.collections())
 }
 
 /// Appends the report id that two fields ask for, where it differs.
 pub fn add_id_change(text: &mut String, first: &Field, second: &Field) -> Result<(), AllocError> {
-    let alloc = *text.allocator();
-    add_part(text, &id_of(alloc, first)?, &id_of(alloc, second)?)
-}
-
-/// Appends a part, where it differs.
-fn add_part(text: &mut String, before: &String, now: &String) -> Result<(), AllocError> {
-    if before.as_str() == now.as_str() {
+    let (before, now) = (
+        first.report_id().map(u8::from),
+        second.report_id().map(u8::from),
+    );
+    if before == now {
         return Ok(());
     }
-    write!(text, "; {before}, now {now}")
+    text.push_str("; asks for ")?;
+    add_id(text, before)?;
+    text.push_str(", now for ")?;
+    add_id(text, now)
 }
 
-/// Appends what any two fields differ in: usages, width, collections.
-fn add_common(text: &mut String, first: &Field, second: &Field) -> Result<(), AllocError> {
-    let alloc = *text.allocator();
-    add_part(text, &name_of(alloc, first)?, &name_of(alloc, second)?)?;
-    add_part(text, &width_of(alloc, first)?, &width_of(alloc, second)?)?;
-    add_part(
-        text,
-        &collections_of(alloc, first.collections())?,
-        &collections_of(alloc, second.collections())?,
-    )
-}
-
-fn name_of(alloc: Global, field: &Field) -> Result<String, AllocError> {
-    let mut name = String::new(alloc);
-    add_name(&mut name, field)?;
-    Ok(name)
-}
-
-fn width_of(alloc: Global, field: &Field) -> Result<String, AllocError> {
-    let width = field.bits().len();
-    format!(in alloc; "{width} bits")
-}
-
-fn id_of(alloc: Global, field: &Field) -> Result<String, AllocError> {
-    match field.report_id() {
-        Some(id) => format!(in alloc; "id {id} asked for"),
-        None => String::from_str(alloc, "no id asked for"),
+fn add_id(text: &mut String, id: Option<u8>) -> Result<(), AllocError> {
+    match id {
+        Some(id) => write!(text, "report {id}"),
+        None => text.push_str("no report"),
     }
 }
 
-fn collections_of(alloc: Global, collections: &[Collection]) -> Result<String, AllocError> {
-    let mut text = String::from_str(alloc, "in ")?;
+fn add_width(text: &mut String, before: usize, now: usize) -> Result<(), AllocError> {
+    if before == now {
+        return Ok(());
+    }
+    write!(text, "; {before} bits, now {now} bits")
+}
+
+fn add_usages(text: &mut String, first: &Field, second: &Field) -> Result<(), AllocError> {
+    if first.usages() == second.usages() {
+        return Ok(());
+    }
+    text.push_str("; ")?;
+    add_name(text, first)?;
+    text.push_str(", now ")?;
+    add_name(text, second)
+}
+
+/// Appends an array's number of values, and whether its usages are a range or a list.
+fn add_elements(
+    text: &mut String,
+    first: &ArrayField,
+    second: &ArrayField,
+) -> Result<(), AllocError> {
+    let (before, now) = (
+        usize::from(first.report_count),
+        usize::from(second.report_count),
+    );
+    if before != now {
+        write!(text, "; {before} values, now {now}")?;
+    }
+    match (first.is_usage_range(), second.is_usage_range()) {
+        (true, false) => text.push_str("; a range of usages, now a list"),
+        (false, true) => text.push_str("; a list of usages, now a range"),
+        _ => Ok(()),
+    }
+}
+
+fn add_collections(
+    text: &mut String,
+    before: &[Collection],
+    now: &[Collection],
+) -> Result<(), AllocError> {
+    if are_same(before, now) {
+        return Ok(());
+    }
+    text.push_str("; in ")?;
+    add_path(text, before)?;
+    text.push_str(", now in ")?;
+    add_path(text, now)
+}
+
+/// Whether collections have the same kinds and usages.
+fn are_same(before: &[Collection], now: &[Collection]) -> bool {
+    before.len() == now.len()
+        && before
+            .iter()
+            .zip(now.iter())
+            .all(|(own, other)| is_same(own, other))
+}
+
+fn is_same(own: &Collection, other: &Collection) -> bool {
+    own.collection_type() == other.collection_type() && own.usages() == other.usages()
+}
+
+fn add_path(text: &mut String, collections: &[Collection]) -> Result<(), AllocError> {
     if collections.is_empty() {
-        text.push_str("no collection")?;
+        return text.push_str("no collection");
     }
     let mut gap = "";
     for collection in collections {
         text.push_str(gap)?;
-        add_collection(&mut text, collection)?;
+        add_collection(text, collection)?;
         gap = " > ";
     }
-    Ok(text)
+    Ok(())
 }
 
-fn add_variable(
-    text: &mut String,
-    first: &VariableField,
-    second: &VariableField,
-) -> Result<(), AllocError> {
-    let alloc = *text.allocator();
-    let before = Bounds {
-        logical: (first.logical_minimum, first.logical_maximum),
-        physical: (first.physical_minimum, first.physical_maximum),
-        unit: (first.unit, first.unit_exponent),
-    };
-    let now = Bounds {
-        logical: (second.logical_minimum, second.logical_maximum),
-        physical: (second.physical_minimum, second.physical_maximum),
-        unit: (second.unit, second.unit_exponent),
-    };
-    add_bounds(text, before, now)?;
-    add_part(text, &flags_of(alloc, first)?, &flags_of(alloc, second)?)
-}
-
-fn add_array(text: &mut String, first: &ArrayField, second: &ArrayField) -> Result<(), AllocError> {
-    let alloc = *text.allocator();
-    add_part(
-        text,
-        &elements_of(alloc, first)?,
-        &elements_of(alloc, second)?,
-    )?;
-    let before = Bounds {
-        logical: (first.logical_minimum, first.logical_maximum),
-        physical: (first.physical_minimum, first.physical_maximum),
-        unit: (first.unit, first.unit_exponent),
-    };
-    let now = Bounds {
-        logical: (second.logical_minimum, second.logical_maximum),
-        physical: (second.physical_minimum, second.physical_maximum),
-        unit: (second.unit, second.unit_exponent),
-    };
-    add_bounds(text, before, now)?;
-    add_part(text, &flags_of(alloc, first)?, &flags_of(alloc, second)?)
-}
-
-/// The bounds of a field and their unit.
-#[derive(Clone, Copy)]
-struct Bounds {
-    logical: (LogicalMinimum, LogicalMaximum),
-    physical: (Option<PhysicalMinimum>, Option<PhysicalMaximum>),
-    unit: (Option<Unit>, Option<UnitExponent>),
-}
-
-/// Appends the bounds that differ, and the unit where it does.
-fn add_bounds(text: &mut String, before: Bounds, now: Bounds) -> Result<(), AllocError> {
-    let alloc = *text.allocator();
-    add_part(
-        text,
-        &bounds_of(alloc, before.logical)?,
-        &bounds_of(alloc, now.logical)?,
-    )?;
-    add_part(
-        text,
-        &physical_of(alloc, before.physical)?,
-        &physical_of(alloc, now.physical)?,
-    )?;
-    add_part(
-        text,
-        &unit_of(alloc, before.unit)?,
-        &unit_of(alloc, now.unit)?,
+fn variable_numbers(field: &VariableField) -> Numbers {
+    numbers_of(
+        (field.logical_minimum, field.logical_maximum),
+        (field.physical_minimum, field.physical_maximum),
+        (field.unit, field.unit_exponent),
+        flags_of(field),
     )
 }
 
-/// An array's elements, and whether its usages are a range or a list.
-fn elements_of(alloc: Global, field: &ArrayField) -> Result<String, AllocError> {
-    let count = field.report_count;
-    let list = if field.is_usage_range() {
-        "a range"
-    } else {
-        "a list"
-    };
-    format!(in alloc; "{count} values of {list}")
+fn array_numbers(field: &ArrayField) -> Numbers {
+    numbers_of(
+        (field.logical_minimum, field.logical_maximum),
+        (field.physical_minimum, field.physical_maximum),
+        (field.unit, field.unit_exponent),
+        flags_of(field),
+    )
 }
 
-fn bounds_of(
-    alloc: Global,
-    bounds: (LogicalMinimum, LogicalMaximum),
-) -> Result<String, AllocError> {
-    let (low, high) = bounds;
-    format!(in alloc; "{low} to {high}")
-}
-
-fn physical_of(
-    alloc: Global,
-    bounds: (Option<PhysicalMinimum>, Option<PhysicalMaximum>),
-) -> Result<String, AllocError> {
-    match bounds {
-        (Some(low), Some(high)) => format!(in alloc; "physical {low} to {high}"),
-        _ => String::from_str(alloc, "physical bounds unset"),
-    }
-}
-
-/// A unit and its exponent as numbers, since not every unit has words.
-fn unit_of(
-    alloc: Global,
+fn numbers_of(
+    logical: (LogicalMinimum, LogicalMaximum),
+    physical: (Option<PhysicalMinimum>, Option<PhysicalMaximum>),
     unit: (Option<Unit>, Option<UnitExponent>),
-) -> Result<String, AllocError> {
-    let (unit, exponent) = unit;
-    let mut text = String::from_str(alloc, "unit ")?;
-    match unit.map(u32::from) {
-        Some(unit) => write!(text, "0x{unit:x}")?,
-        None => text.push_str("unset")?,
+    flags: [bool; FLAGS],
+) -> Numbers {
+    Numbers {
+        logical: (i32::from(logical.0), i32::from(logical.1)),
+        physical: (physical.0.map(i32::from), physical.1.map(i32::from)),
+        unit: unit.0.map(u32::from),
+        exponent: unit.1.map(i32::from),
+        flags,
     }
-    let Some(exponent) = exponent else {
-        text.push_str(", exponent unset")?;
-        return Ok(text);
-    };
-    let (power, number) = (exponent.exponent(), i32::from(exponent));
-    write!(text, ", exponent {power}")?;
-    if i32::from(power) != number {
-        write!(text, " by {number}")?;
-    }
-    Ok(text)
 }
 
-/// All flags, each by the word for its state.
-fn flags_of<F: FieldAttributes>(alloc: Global, field: &F) -> Result<String, AllocError> {
-    let mut text = String::new(alloc);
-    add_flag(&mut text, field.is_relative(), "relative", "absolute")?;
-    add_flag(&mut text, field.wraps(), "wraps", "")?;
-    add_flag(&mut text, field.is_nonlinear(), "nonlinear", "")?;
-    add_flag(
-        &mut text,
+fn flags_of<F: FieldAttributes>(field: &F) -> [bool; FLAGS] {
+    [
+        field.is_relative(),
+        field.wraps(),
+        field.is_nonlinear(),
         field.has_no_preferred_state(),
-        "no preferred state",
-        "",
-    )?;
-    add_flag(&mut text, field.has_null_state(), "null state", "")?;
-    add_flag(&mut text, field.is_volatile() == Some(true), "volatile", "")?;
-    add_flag(&mut text, field.is_buffered_bytes(), "buffered bytes", "")?;
-    Ok(text)
+        field.has_null_state(),
+        field.is_volatile() == Some(true),
+        field.is_buffered_bytes(),
+    ]
 }
 
-fn add_flag(text: &mut String, is_set: bool, set: &str, unset: &str) -> Result<(), AllocError> {
-    let word = if is_set { set } else { unset };
-    if word.is_empty() {
-        return Ok(());
+/// Appends the numbers that differ.
+fn add_numbers(text: &mut String, before: Numbers, now: Numbers) -> Result<(), AllocError> {
+    let ((low, high), (low_now, high_now)) = (before.logical, now.logical);
+    if (low, high) != (low_now, high_now) {
+        write!(text, "; {low} to {high}, now {low_now} to {high_now}")?;
     }
-    if !text.is_empty() {
-        text.push_str(", ")?;
+    if before.physical != now.physical {
+        text.push_str("; physical ")?;
+        add_physical(text, before.physical)?;
+        text.push_str(", now ")?;
+        add_physical(text, now.physical)?;
     }
-    text.push_str(word)
+    add_units(text, before, now)?;
+    add_flags(text, &before.flags, &now.flags)
+}
+
+fn add_physical(text: &mut String, bounds: (Option<i32>, Option<i32>)) -> Result<(), AllocError> {
+    match bounds {
+        (Some(low), Some(high)) => write!(text, "{low} to {high}"),
+        _ => text.push_str("unset"),
+    }
+}
+
+/// Appends a unit and its exponent as numbers, since not every unit has words.
+fn add_units(text: &mut String, before: Numbers, now: Numbers) -> Result<(), AllocError> {
+    if before.unit != now.unit {
+        text.push_str("; unit ")?;
+        add_unit(text, before.unit)?;
+        text.push_str(", now ")?;
+        add_unit(text, now.unit)?;
+    }
+    if before.exponent != now.exponent {
+        text.push_str("; unit exponent ")?;
+        add_exponent(text, before.exponent)?;
+        text.push_str(", now ")?;
+        add_exponent(text, now.exponent)?;
+    }
+    Ok(())
+}
+
+fn add_unit(text: &mut String, unit: Option<u32>) -> Result<(), AllocError> {
+    match unit {
+        Some(unit) => write!(text, "0x{unit:x}"),
+        None => text.push_str("unset"),
+    }
+}
+
+/// Appends an exponent, and the number that is written for it where that is another.
+fn add_exponent(text: &mut String, exponent: Option<i32>) -> Result<(), AllocError> {
+    let Some(number) = exponent else {
+        return text.push_str("unset");
+    };
+    let power = UnitExponent::from(number).exponent();
+    if i32::from(power) == number {
+        return write!(text, "{power}");
+    }
+    write!(text, "{power} by {number}")
+}
+
+/// Appends the flags that differ, by the words of what they are now.
+fn add_flags(
+    text: &mut String,
+    before: &[bool; FLAGS],
+    now: &[bool; FLAGS],
+) -> Result<(), AllocError> {
+    for ((before, now), words) in before.iter().zip(now.iter()).zip(FLAG_WORDS.iter()) {
+        if *before != *now {
+            let word = if *now { words.0 } else { words.1 };
+            write!(text, "; now {word}")?;
+        }
+    }
+    Ok(())
 }

@@ -4,7 +4,7 @@ use std::alloc::{AllocError, Global};
 
 /// A field's place in its report, behind a number for what it is for and how many before it have
 /// the same one.
-#[derive(Clone, Copy, Debug, PartialEq, Eq, PartialOrd, Ord)]
+#[derive(Clone, Copy, PartialEq, Eq, PartialOrd, Ord)]
 struct Keyed {
     key: u64,
     rank: usize,
@@ -12,7 +12,7 @@ struct Keyed {
 }
 
 /// For each field of two reports the place of the other's that it is paired with.
-#[derive(Debug, Drop)]
+#[derive(Drop)]
 pub struct Pairing {
     /// Those of the first report's fields.
     pub first: Vec<Option<usize>>,

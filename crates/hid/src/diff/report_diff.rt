@@ -5,7 +5,7 @@ use hidreport::{Field, RDescReport, Report};
 use std::alloc::{AllocError, Global};
 
 /// A field of one report or of both.
-#[derive(Debug, Drop)]
+#[derive(Drop)]
 pub struct Changed<'a> {
     /// The first report's field.
     pub first: Option<&'a Field>,
@@ -17,7 +17,7 @@ pub struct Changed<'a> {
 
 /// The fields in which two reports differ, in the order of the first, with those that the second
 /// alone has where they lie.
-#[derive(Debug, Drop)]
+#[derive(Drop)]
 pub struct ReportDiff<'a> {
     alloc: Global,
     /// The fields.

@@ -15,7 +15,7 @@ pub use hex_text::{bytes_of_hex, is_blank};
 use std::alloc::Global;
 
 /// How bytes are written down.
-#[derive(Clone, Copy, Debug, PartialEq)]
+#[derive(Clone, Copy, PartialEq)]
 pub enum Form {
     /// As they are.
     Bytes,
@@ -82,7 +82,7 @@ impl Form {
 }
 
 /// What an input's bytes are for.
-#[derive(Clone, Copy, Debug, PartialEq)]
+#[derive(Clone, Copy, PartialEq)]
 pub enum Wanted {
     /// Descriptors, and the reports that stand beside them.
     Descriptors,

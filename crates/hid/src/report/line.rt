@@ -159,6 +159,9 @@ fn add_fields(
     let start = text.len();
     let mut before = None;
     for (field, name) in report.fields().iter().zip(names.iter()) {
+        if bytes.len() <= field.bits().start / 8 {
+            break;
+        }
         if is_as_before(field, last, bytes) {
             continue;
         }

@@ -5,7 +5,7 @@ use hidreport::{ArrayField, Usage, VariableField};
 const WIDEST: usize = 32;
 
 /// What the bytes say of a field with one value.
-#[derive(Clone, Copy, Debug, PartialEq)]
+#[derive(Clone, Copy, PartialEq)]
 pub enum Amount {
     /// Its value.
     Number(i64),
@@ -37,7 +37,7 @@ pub fn is_outside(field: &VariableField, value: i64) -> bool {
 }
 
 /// What an element of an array stands for.
-#[derive(Clone, Copy, Debug, PartialEq)]
+#[derive(Clone, Copy, PartialEq)]
 pub enum Choice {
     /// A usage.
     Usage(Usage),

@@ -4,7 +4,7 @@ use hidreport::{Field, RDescReport, Report};
 use std::alloc::{AllocError, Global};
 
 /// Bits of one byte that belong together.
-#[derive(Debug, Drop)]
+#[derive(Drop)]
 pub struct Cell {
     /// What they are of, or no text.
     pub name: String,
@@ -13,7 +13,7 @@ pub struct Cell {
 }
 
 /// The cells of a byte, bit 7 first, or of several bytes that lie in one field.
-#[derive(Debug, Drop)]
+#[derive(Drop)]
 pub struct Row {
     /// The first byte.
     pub first: usize,
@@ -36,7 +36,7 @@ impl Row {
 }
 
 /// The rows so far.
-#[derive(Debug, Drop)]
+#[derive(Drop)]
 struct Rows {
     alloc: Global,
     rows: Vec<Row>,

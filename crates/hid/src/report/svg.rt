@@ -14,7 +14,7 @@ const ROW: usize = 24;
 const LEFT: usize = 72;
 
 /// The pictures of reports, below each other.
-#[derive(Debug, Drop)]
+#[derive(Drop)]
 pub struct Picture {
     alloc: Global,
     body: String,

@@ -9,14 +9,14 @@ use std::fmt::Write;
 const FEATURE: u8 = 0xb2;
 
 /// A word, and the flag that it says is set; 0 where it says that one isn't.
-#[derive(Debug, Drop)]
+#[derive(Drop)]
 struct FlagWord {
     word: String,
     flag: u16,
 }
 
 /// The words of all flags.
-#[derive(Debug, Drop)]
+#[derive(Drop)]
 pub struct FlagTable {
     words: Vec<FlagWord>,
 }

@@ -6,7 +6,8 @@ ghost use Rattle.hidreport.specs.Choosing.{usage_chosen, value_number};
 ghost use Rattle.hidreport.specs.Reading.{element_of, element_width, reads, reads_element};
 ghost use Rattle.hidreport.specs.Reading.{values_of};
 ghost use Rattle.hidreport.specs.Records.{is_of_range, usages_in};
-ghost use Rattle.hidreport.specs.Standing.{IsLeastFor, is_null, null_number};
+ghost use Rattle.hidreport.specs.Standing.{IsLeastFor, IsLeastUnchosen, IsNullNumber};
+ghost use Rattle.hidreport.specs.Standing.{is_null, is_unchosen, null_number};
 ghost use Rattle.hidreport.specs.Tiling.{HasRange};
 ghost use Rattle.hidreport.specs.UsageRange.{range_of, HasExactly};
 ghost use Rattle.hidreport_items.specs.Spelling.{AreBytes};
@@ -24,7 +25,7 @@ use crate::field::usage::Usage;
 use crate::field::usage_range::UsageRange;
 use crate::field::value::{FieldValue, are_readable, check_id, read_bits};
 use crate::field::written_bits::{
-    all_fit, begins_in_id, check_place, check_written_id, fits, put_bits, put_values,
+    all_fit, begins_in_id, check_place, check_written_id, fits, least_held, put_bits, put_values,
 };
 use hidreport_lists::ParserError;
 use hidreport_types::{
@@ -147,30 +148,30 @@ impl ArrayField {
         Some(minimum + index as i64)
     }
 
-    /// A value that stands for no usage: one outside the logical bounds that an element's bits
-    /// hold (Section 6.2.2.5). It is 0 where that is one, else the number below the logical
-    /// minimum, else the one above the logical maximum. `None` where the bits hold no such value
+    /// A value that stands for no usage, and that an element's bits hold (Section 6.2.2.5).
+    ///
+    /// It is one outside the logical bounds where there is one: 0 if that is, else the number below
+    /// the logical minimum, else the one above the logical maximum. Else it is the least number
+    /// within them that has no usage at its index. `None` where the bits hold no such value
     /// (`none`), and where an element has no bits or more than 32. It takes no memory.
     pub fn null_value(&self) -> Option<i64>
-        ensures first { result ≡ null_number
+        ensures null { IsNullNumber (usages_in (array_record self.now))
             (element_width self.now.bits.start self.now.bits.end self.now.report_count)
             (int_lt self.now.logical_minimum (pos 0))
-            self.now.logical_minimum self.now.logical_maximum }
-        ensures none { IsNone result → (number : ℤ) → is_null
+            self.now.logical_minimum self.now.logical_maximum result }
+        ensures stands { IfSome result (λ number. is_unchosen (usages_in (array_record self.now))
+            (element_width self.now.bits.start self.now.bits.end self.now.report_count)
+            (int_lt self.now.logical_minimum (pos 0))
+            self.now.logical_minimum self.now.logical_maximum number ≡ true) }
+        ensures none { IsNone result → (number : ℤ) → is_unchosen
+            (usages_in (array_record self.now))
             (element_width self.now.bits.start self.now.bits.end self.now.report_count)
             (int_lt self.now.logical_minimum (pos 0))
             self.now.logical_minimum self.now.logical_maximum number ≡ false }
     {
-        let below = i64::from(i32::from(self.logical_minimum)) - 1;
-        let above = i64::from(i32::from(self.logical_maximum)) + 1;
-        if self.is_null(0) {
-            Some(0)
-        } else if self.is_null(below) {
-            Some(below)
-        } else if self.is_null(above) {
-            Some(above)
-        } else {
-            None
+        match self.outer_null() {
+            Some(number) => Some(number),
+            None => self.least_unchosen(),
         }
     }
 
@@ -373,6 +374,68 @@ impl ArrayField {
             return false;
         }
         self.is_outside(number) && fits(width, self.is_signed(), number)
+    }
+
+    /// The first of 0, the number below the logical minimum and the one above the logical maximum
+    /// that lies outside the bounds and that an element's bits hold; none where there is no number
+    /// outside that they hold.
+    fn outer_null(&self) -> Option<i64>
+        ensures first { result ≡ null_number
+            (element_width self.now.bits.start self.now.bits.end self.now.report_count)
+            (int_lt self.now.logical_minimum (pos 0))
+            self.now.logical_minimum self.now.logical_maximum }
+        ensures none { IsNone result → (number : ℤ) → is_null
+            (element_width self.now.bits.start self.now.bits.end self.now.report_count)
+            (int_lt self.now.logical_minimum (pos 0))
+            self.now.logical_minimum self.now.logical_maximum number ≡ false }
+    {
+        let below = i64::from(i32::from(self.logical_minimum)) - 1;
+        let above = i64::from(i32::from(self.logical_maximum)) + 1;
+        if self.is_null(0) {
+            Some(0)
+        } else if self.is_null(below) {
+            Some(below)
+        } else if self.is_null(above) {
+            Some(above)
+        } else {
+            None
+        }
+    }
+
+    /// The least number that stands for no usage and that an element's bits hold, where none
+    /// outside the bounds does.
+    fn least_unchosen(&self) -> Option<i64>
+        ensures { ((number : ℤ) → is_null
+            (element_width self.now.bits.start self.now.bits.end self.now.report_count)
+            (int_lt self.now.logical_minimum (pos 0))
+            self.now.logical_minimum self.now.logical_maximum number ≡ false)
+            → IsLeastUnchosen (usages_in (array_record self.now))
+            (element_width self.now.bits.start self.now.bits.end self.now.report_count)
+            (int_lt self.now.logical_minimum (pos 0))
+            self.now.logical_minimum self.now.logical_maximum result }
+    {
+        let width = self.element_width();
+        if width == 0 || 32 < width {
+            return None;
+        }
+        let minimum = i64::from(i32::from(self.logical_minimum));
+        let maximum = i64::from(i32::from(self.logical_maximum));
+        if maximum < minimum {
+            return None;
+        }
+        let count = self.usages.len();
+        if (maximum - minimum).unsigned_abs() < count as u64 {
+            return None;
+        }
+        let is_signed = self.is_signed();
+        let number = (minimum + count as i64).max(least_held(width, is_signed));
+        if maximum < number {
+            return None;
+        }
+        if !fits(width, is_signed, number) {
+            return None;
+        }
+        Some(number)
     }
 
     /// The values of all elements, whatever the report's id.

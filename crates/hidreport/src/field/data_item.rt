@@ -20,6 +20,11 @@ pub enum Direction {
     Feature,
 }
 
+impl Direction {
+    /// All three, in the order in which `ReportDescriptor` has their reports.
+    pub const ALL: [Direction; 3] = [Direction::Input, Direction::Output, Direction::Feature];
+}
+
 /// A main item that has fields: its direction and its flags (Sections 6.2.2.4 and 6.2.2.5).
 #[derive(Clone, Copy, Debug)]
 pub(crate) struct DataItem {

@@ -1,6 +1,6 @@
 //! Bits of a report's bytes, written as they are read.
 ghost use Rattle.std.specs.Prelude.{◌≡◌, ◌≢◌, Ok, [], ◌∷◌, ◌+◌, ◌*◌, ◌<◌, ◌≤◌, ◌/◌, ◌%◌, ◌^◌, ℕ};
-ghost use Rattle.std.specs.Prelude.{length, slice_index};
+ghost use Rattle.std.specs.Prelude.{◌≤ℤ◌, ℤ, length, slice_index, true};
 ghost use Rattle.std.specs.Int.{bit_at};
 ghost use Rattle.std.specs.List.{list_all};
 ghost use Rattle.hidreport_items.specs.Spelling.{AreBytes};
@@ -65,6 +65,16 @@ pub(crate) fn fits(width: usize, is_signed: bool, number: i64) -> bool
     } else {
         0 <= number && number < 1 << width
     }
+}
+
+/// The least number that so many bits hold, signed or not.
+pub(crate) fn least_held(width: usize, is_signed: bool) -> i64
+    requires some { 0 < width }
+    requires narrow { width ≤ 32 }
+    ensures held { fits width is_signed result ≡ true }
+    ensures least { (number : ℤ) → fits width is_signed number ≡ true → result ≤ℤ number }
+{
+    if is_signed { -(1 << (width - 1)) } else { 0 }
 }
 
 /// Whether so many bits hold each of these numbers, signed or not.

@@ -7,7 +7,7 @@ use std::alloc::{AllocError, Global};
 use std::mem;
 
 /// What stands below a head.
-#[derive(Clone, Copy, Debug, PartialEq)]
+#[derive(Clone, Copy, PartialEq)]
 enum Below {
     /// Nothing that was named.
     Nothing,

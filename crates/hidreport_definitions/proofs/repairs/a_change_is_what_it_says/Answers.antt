@@ -1,5 +1,5 @@
-use Rattle.std.proofs.Common.{◌≡◌, ℕ, List, [], ◌∷◌}
-use Rattle.hidreport_definitions.proofs.ChangeLemmas.{repair-made}
+use Rattle.std.proofs.Common.{◌≡◌, ◌≤◌, ℕ, List, [], ◌∷◌, arith}
+use Rattle.hidreport_definitions.proofs.ChangeLemmas.{repair-made, repair-one}
 use Rattle.hidreport_definitions.proofs.repairs.a_change_is_what_it_says.Goals as goal
 
 abbrev then : ℕ → ℕ → List ℕ → List ℕ
@@ -21,3 +21,7 @@ pub returns-clause-reversed : goal.returns-clause-reversed
 returns-clause-reversed c = λ is.
     let same : then 0x81 3 (then 0x91 3 []) ≡ then 0x81 2 (then 0x91 3 (then 0x81 3 [])) =
     (repair-made _ _ is).written in cc
+
+pub returns-clause-all_at_once : goal.returns-clause-all_at_once
+returns-clause-all_at_once c = λ is.
+    let few : 3 ≤ 1 = (repair-one _ _ is).0 in absurd (omega (arith, few))

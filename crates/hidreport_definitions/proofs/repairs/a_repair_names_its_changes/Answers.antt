@@ -1,4 +1,4 @@
-use Rattle.std.proofs.Common.{ℕ, [], ◌∷◌, None, Some, refl}
+use Rattle.std.proofs.Common.{ℕ, [], ◌∷◌, None, Some, lit≤, refl}
 use Rattle.hidreport_lists.specs.declared.mending.Mend.TheVariants as mend
 use Rattle.hidreport.specs.GlobalItem.TheVariants as global
 use Rattle.hidreport.specs.ItemType.{ItemType}
@@ -28,6 +28,7 @@ returns-clause-none c = record {
   written = refl;
   changes = refl;
   same = (λ e. refl, tt);
+  one = (lit≤ tt, tt);
 }
 
 pub returns-clause-one : goal.returns-clause-one
@@ -38,6 +39,7 @@ returns-clause-one c = record {
   written = refl;
   changes = refl;
   same = (λ e. cc, tt);
+  one = (lit≤ tt, tt);
 }
 
 pub returns-clause-between : goal.returns-clause-between
@@ -50,6 +52,7 @@ returns-clause-between c = record {
   written = refl;
   changes = refl;
   same = (λ e. refl, (λ e. refl, (λ e. refl, (λ e. cc, (λ e. refl, (λ e. refl, tt))))));
+  one = (lit≤ tt, (lit≤ tt, (lit≤ tt, (lit≤ tt, (lit≤ tt, (lit≤ tt, tt))))));
 }
 
 pub returns-clause-left_out : goal.returns-clause-left_out
@@ -61,4 +64,5 @@ returns-clause-left_out c = record {
   written = refl;
   changes = refl;
   same = (λ e. refl, (λ e. cc, (λ e. refl, tt)));
+  one = (lit≤ tt, (lit≤ tt, (lit≤ tt, tt)));
 }

@@ -3,7 +3,7 @@ use Rattle.std.specs.Int.{w64}
 use Rattle.std.proofs.lemmas.Int.{ints}
 use Rattle.hidreport.specs.Reading.{element_width}
 use Rattle.hidreport.proofs.NullLemmas.{null-all, null-none, null-third}
-use Rattle.hidreport.proofs.field.array_field.ArrayField.null_value.Goals as goal
+use Rattle.hidreport.proofs.field.array_field.ArrayField.outer_null.Goals as goal
 
 pub returns-then-is_null-3-clause-first : goal.returns-then-is_null-3-clause-first
 returns-then-is_null-3-clause-first c =

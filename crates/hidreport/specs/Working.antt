@@ -1,0 +1,29 @@
+-- What works for a report that is found and as many bytes as it has (Sections 5.6 and 5.8).
+use Rattle.std.specs.Prelude.{◌≡◌, ◌*◌, ◌<◌, ◌≤◌, ℕ, ℤ, true, List, length, IsOk}
+use Rattle.std.specs.List.{list_all}
+use Rattle.hidreport.specs.Reading.{reads as read, reads_element}
+use Rattle.hidreport.specs.Records.{FieldRecord, ReportRecord, element_count}
+use Rattle.hidreport.specs.Tiling.{Each}
+use Rattle.hidreport.specs.WritingValues.{fits, has_sign, value_count, value_width, written}
+use Rattle.hidreport.specs.WritingValues.{written_element}
+
+-- its values have at most 32 bits each
+abbrev pub IsNarrow : FieldRecord → Type 0
+IsNarrow field = value_width field ≤ 32
+
+-- such a field is read, and as many values as it has, each of which fits, are written; so is each of
+-- its elements
+pub record FieldWorks (bytes : List ℕ) (field : FieldRecord) : Type 0 where
+  pub reads : IsNarrow field → IsOk (read field bytes)
+  pub writes : IsNarrow field → (numbers : List ℤ) → length numbers ≡ value_count field
+      → list_all (fits (value_width field) (has_sign field)) numbers ≡ true
+      → IsOk (written field numbers bytes)
+  pub reads_one : IsNarrow field → (index : ℕ) → index < element_count field
+      → IsOk (reads_element field bytes index)
+  pub writes_one : IsNarrow field → (index : ℕ) (number : ℤ) → index < element_count field
+      → fits (value_width field) (has_sign field) number ≡ true
+      → IsOk (written_element field index number bytes)
+
+-- all of its fields do, where there are as many bytes as it has
+abbrev pub AllWork : List ℕ → ReportRecord → Type 0
+AllWork bytes report = report.size ≤ 8 * length bytes → Each (FieldWorks bytes) report.fields
