@@ -147,6 +147,9 @@ function read_ours(digits,    i, line, text, own, at) {
                 fault_at = line + 0
             continue
         }
+        # Behind a fault stand the bytes that are no item.
+        if (fault_at >= 0 && line + 0 >= fault_at && line ~ /^ *[0-9]+:( [0-9a-f][0-9a-f])+$/)
+            continue
         if (!match(line, /^ *[0-9]+: ([0-9a-f][0-9a-f] )+/)) {
             complain(title ": this is no item: " line)
             continue

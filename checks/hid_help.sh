@@ -1,7 +1,8 @@
 #!/bin/bash
 # The texts that ./hid shows where no program stands (share/help): its help, that of each command, its
-# version, and what it says of a word that is no command. Each is compared with what the program says;
-# `--write` writes them by it. The last argument is the program; else it is the one that ./hid built.
+# version, and what it says of a command alone and of a word that is none. Each is compared with what
+# the program says; `--write` writes them by it. The last argument is the program; else it is the one
+# that ./hid built.
 set -euo pipefail
 
 top=$(cd "$(dirname "$0")/.." && pwd)
@@ -42,6 +43,7 @@ say 0 output --version > "$scratch/texts/version"
 say 2 errors WORD > "$scratch/texts/wrong"
 for command in $(commands); do
     say 0 output "$command" --help > "$scratch/texts/of_$command"
+    say 2 errors "$command" > "$scratch/texts/alone_$command"
 done
 
 # Other words for the same.

@@ -17,6 +17,7 @@ import re
 import subprocess
 import sys
 import tempfile
+import time
 from collections import Counter
 from fractions import Fraction
 
@@ -621,6 +622,7 @@ def changed_ones(all_digits, parsed):
 
 def main():
     global scratch, spoilt_kind
+    begun = time.monotonic()
     words = sys.argv[1:]
     if words[:1] == ["--spoil"]:
         spoilt_kind, words = words[1], words[2:]
@@ -646,7 +648,7 @@ def main():
         sys.exit(f"hid_questions: only {asked} questions were asked")
     print(
         f"hid_questions: {asked} questions of {len(answers.asked)} kinds about {len(all_digits)} "
-        "descriptors, answered alike"
+        f"descriptors, answered alike, in {time.monotonic() - begun:.0f} s"
     )
 
 

@@ -43,7 +43,7 @@ done < "$scratch/descriptors"
 echo "hid_texts: $compiled descriptors, decoded and compiled to the same bytes"
 
 # hid-recorder's lines of a stream, whose time is its own.
-raw=$(echo 05 | "$program" record --raw "$top/crates/hid/data/axis.bytes" - |
+raw=$(echo 05 | "$program" record --raw "$top/crates/hid/data/axis.bytes" - 2> /dev/null |
     sed 's/^E: 000000\.[0-9]\{6\} /E: TIME /')
 [ "$raw" = 'D: 0
 R: 14 05 01 09 30 15 81 25 7f 75 08 95 01 81 02
@@ -74,6 +74,27 @@ refused "$(head -c 67108864 /dev/zero | "$program" decode --form bytes - 2>&1)" 
 refused "$(
     ulimit -v 65536
     yes ab | tr -d '\n' | tr ab '\005\001' | head -c 8388608 | "$program" decode --form bytes - 2>&1
-)" 'hid: -: memory allocation failed'
+)" 'hid: -: budget exceeded at offset 65536'
+case $(ulimit -v 32768 && head -c 60000000 /dev/zero | tr '\0' '\n' | "$program" compile - 2>&1) in
+    'hid: -: '*memory*) ;;
+    *) refused 'too little memory' 'said with its input' ;;
+esac
 refused "$(echo 0501 | "$program" convert --form hex - 2>&1 > /dev/full)" \
     'hid: -: No space left on device (os error 28)'
+
+# A stream in pieces that end within a line, within a character or behind an empty line is what it is
+# whole: its form, too.
+streamed() {
+    local wanted=$1
+    shift
+    refused "$(
+        for piece; do
+            printf '%b' "$piece"
+            sleep 0.1
+        done | "$program" record "$top/crates/hid/data/axis.bytes" - 2>&1 | tail -n +2
+    )" "$(printf '%b' "$wanted")"
+}
+streamed 'hid: -: read as hex text\nX=5\nX=6' '0' '5\n06\n'
+streamed 'hid: -: read as hex text\nX=5\nX=6' '\n' '# \0342\0202' '\0254\n05' '\n06'
+streamed 'hid: -: read as bytes\nX=35\nX=10\nX=1' '#' '\n' '\0001'
+streamed 'hid: -: read as bytes\nX=-30\nX=-126\nX=10' '\0342' '\0202' '\n'
