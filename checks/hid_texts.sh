@@ -98,3 +98,11 @@ streamed 'hid: -: read as hex text\nX=5\nX=6' '0' '5\n06\n'
 streamed 'hid: -: read as hex text\nX=5\nX=6' '\n' '# \0342\0202' '\0254\n05' '\n06'
 streamed 'hid: -: read as bytes\nX=35\nX=10\nX=1' '#' '\n' '\0001'
 streamed 'hid: -: read as bytes\nX=-30\nX=-126\nX=10' '\0342' '\0202' '\n'
+
+# Colour where the environment forces it, and none where it wants none; a name that isn't UTF-8.
+coloured() {
+    env "$@" "$program" decode "$top/crates/hid/data/axis.bytes" 2> /dev/null | grep -c "$(printf '\033')" || true
+}
+refused "$(coloured CLICOLOR_FORCE=1)-$(coloured CLICOLOR_FORCE=0)-$(coloured CLICOLOR_FORCE=1 NO_COLOR=1)" '7-0-0'
+refused "$("$program" decode "$(printf 'a\351.hex')" 2>&1)" \
+    "hid: a word isn't UTF-8; a file with such a name is read as - (hid .. - < FILE)"
