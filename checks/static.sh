@@ -44,6 +44,8 @@ mapfile -t sources < <(find crates \( -name '*.rt' -path '*/src/*' -o -name '*.a
     -not -path '*/out/*')
 if command -v rattle > /dev/null; then
     rattle fmt --check "${sources[@]}" > /dev/null 2>&1 || fault 'a source is not as rt fmt writes it'
+else
+    fault "no \`rattle\` on the path, so nothing is known of the sources' layout"
 fi
 
 # Cases: each file of them is asked.
