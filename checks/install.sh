@@ -1,0 +1,199 @@
+#!/bin/bash
+# What ./install puts into an empty folder: just the files that its head tells of, each compared with
+# what it is made of; of a part alone its own; the same where it was put before. In a copy of what it
+# reads, with stand-ins for `rt`, for the archives and for the programs that the launchers prove; so
+# it takes a second. Leaves nothing behind.
+set -euo pipefail
+
+top=$(cd "$(dirname "$0")/.." && pwd)
+command -v ar > /dev/null || {
+    echo 'install: no `ar` on the path, so ./install is not tried'
+    exit 0
+}
+scratch=$(mktemp -d)
+trap 'rm -rf "$scratch"' EXIT
+copy="$scratch/copy"
+answers=0
+
+mkdir -p "$copy/checks" "$copy/c" "$copy/crates/hidreport_c" "$scratch/bin" "$scratch/kit/c" "$scratch/rust"
+cp "$top/install" "$copy"
+cp "$top/checks/needs.sh" "$copy/checks"
+cp -R "$top/include" "$top/share" "$copy"
+(cd "$top/c/rust" && find . -type f -not -path './target/*' -not -name Cargo.lock -print0 |
+    xargs -0 cp --parents -t "$scratch/rust")
+# What cargo leaves, and a version that isn't the header's: neither is installed.
+cp -R "$scratch/rust" "$copy/c/rust"
+mkdir "$copy/c/rust/target"
+touch "$copy/c/rust/target/made" "$copy/c/rust/Cargo.lock"
+sed -i 's/^version = .*/version = "0.0.0"/' "$copy/c/rust/Cargo.toml"
+
+# An archive with one member, whose name and words are given.
+archive() {
+    echo "$3" > "$scratch/$2"
+    rm -f "$1"
+    (cd "$scratch" && ar rc "$1" "$2")
+}
+archive "$scratch/kit/c/liblibc_c.a" memory.o 'what the toolchain has for memory'
+archive "$scratch/library.a" library.o 'the library'
+archive "$scratch/given.a" given.o 'a library that was built before'
+
+cat > "$scratch/bin/rt" << STUB
+#!/bin/bash
+case \$* in
+    doc) echo "$scratch/kit/START-HERE.md" ;;
+    lib)
+        echo "\${PWD##*/}" >> "$scratch/built"
+        [ ! -e "$scratch/fails" ] || { echo 'what rt said of it'; exit 1; }
+        mkdir -p out && cp "$scratch/library.a" out/libhidreport_c.a
+        ;;
+    *) exit 3 ;;
+esac
+STUB
+for program in hid:hid hidreport:hidreport_main; do
+    cat > "$copy/${program%:*}" << STUB
+#!/bin/bash
+[ "\$*" = --prove ] && [ ! -e "$scratch/fails" ] || exit 1
+mkdir -p "$copy/crates/${program#*:}/out"
+echo 'the program ${program%:*}' > "$copy/crates/${program#*:}/out/${program#*:}"
+chmod +x "$copy/crates/${program#*:}/out/${program#*:}"
+STUB
+done
+chmod +x "$scratch/bin/rt" "$copy/hid" "$copy/hidreport"
+
+wrong() {
+    echo "install: $1" >&2
+    cat "$scratch/out" >&2
+    exit 1
+}
+
+# A call of ./install in the copy, from the scratch folder; the status that is wanted, and what it says last.
+call() {
+    local wanted=$1 says=$2 status=0
+    shift 2
+    : > "$scratch/built"
+    (cd "$scratch" && PATH="$scratch/bin:$PATH" "$copy/install" "$@") > "$scratch/out" 2>&1 || status=$?
+    [ "$status" -eq "$wanted" ] || wrong "./install $*: status $status in place of $wanted"
+    [ "$(tail -n 1 "$scratch/out")" = "$says" ] || wrong "./install $*: doesn't say '$says'"
+    answers=$((answers + 1))
+}
+
+# The files that are wanted, made by other means: the tree's own, but for those that are built.
+number() {
+    awk -v name="HIDREPORT_VERSION_$1" '$1 == "#define" && $2 == name { print $3 }' "$top/include/hidreport.h"
+}
+version="$(number MAJOR).$(number MINOR).$(number PATCH)-$(number STAGE)"
+last="install: hidreport $version is in $scratch"
+wanted_c() {
+    mkdir -p "$1/include" "$1/lib/pkgconfig" "$1/share/hidreport"
+    cp "$top/include/hidreport.h" "$1/include"
+    cp -R "$scratch/rust" "$1/share/hidreport/rust"
+    (cd "$scratch" && for member in "$2.o" memory.o; do echo "$member" && cat "$member"; done) \
+        > "$1/lib/libhidreport.a"
+    cat > "$1/lib/pkgconfig/hidreport.pc" << END
+prefix=\${pcfiledir}/../..
+
+Name: hidreport
+Description: HID report descriptors read, and values taken from reports
+Version: $version
+Cflags: -I\${prefix}/include
+Libs: -L\${prefix}/lib -lhidreport
+END
+}
+wanted_programs() {
+    mkdir -p "$1/bin" "$1/share/man/man1" "$1/share/bash-completion/completions"
+    for program in hid hidreport; do
+        echo "the program $program" > "$1/bin/$program"
+        chmod +x "$1/bin/$program"
+        cp "$top/share/man/man1/$program.1" "$1/share/man/man1"
+        cp "$top/share/bash-completion/completions/$program" "$1/share/bash-completion/completions"
+    done
+}
+
+# The members of an archive, and what each holds.
+members() {
+    ar t "$1" | LC_ALL=C sort | while IFS= read -r member; do
+        echo "$member"
+        ar p "$1" "$member"
+    done
+}
+
+# What is in a folder is what is in another: names, contents and who may run it. Of the archive its
+# members, and what they hold, are compared.
+is_whole() {
+    local prefix=$1 wanted=$2
+    rm -rf "$scratch/shown"
+    cp -R "$prefix" "$scratch/shown"
+    if [ -e "$prefix/lib/libhidreport.a" ]; then
+        members "$prefix/lib/libhidreport.a" > "$scratch/shown/lib/libhidreport.a"
+    fi
+    diff -r "$wanted" "$scratch/shown" >> "$scratch/out" || wrong "$prefix has other files"
+    diff <(cd "$wanted" && find . -perm -u+x | LC_ALL=C sort) \
+        <(cd "$scratch/shown" && find . -perm -u+x | LC_ALL=C sort) >> "$scratch/out" ||
+        wrong "$prefix has other files that can be run"
+    answers=$((answers + $(find "$wanted" -type f | wc -l)))
+}
+
+wanted_c "$scratch/of_c" library
+wanted_c "$scratch/of_given" given
+wanted_programs "$scratch/of_programs"
+cp -R "$scratch/of_c" "$scratch/whole"
+cp -R "$scratch/of_programs/." "$scratch/whole"
+
+call 0 "$last/a prefix" 'a prefix'
+is_whole "$scratch/a prefix" "$scratch/whole"
+[ "$(cat "$scratch/built")" = hidreport_c ] || wrong 'another crate was built'
+call 0 "$last/c" "$scratch/c" c
+is_whole "$scratch/c" "$scratch/of_c"
+call 0 "$last/programs" programs programs
+is_whole "$scratch/programs" "$scratch/of_programs"
+[ ! -s "$scratch/built" ] || wrong 'the library was built for the programs'
+export HIDREPORT_ARCHIVE="$scratch/given.a"
+call 0 "$last/given" given c
+unset HIDREPORT_ARCHIVE
+is_whole "$scratch/given" "$scratch/of_given"
+[ ! -s "$scratch/built" ] || wrong 'a library was built beside the one that was given'
+
+# Over what an older one put: the folder of the Rust module is its own.
+echo old | tee "$scratch/a prefix/share/hidreport/rust/src/old.rs" "$scratch/a prefix/bin/hid" \
+    > "$scratch/a prefix/lib/pkgconfig/hidreport.pc"
+call 0 "$last/a prefix" 'a prefix'
+is_whole "$scratch/a prefix" "$scratch/whole"
+
+# What its head and docs/C.md tell of is there, and nothing else.
+told() {
+    grep -oE '(bin|include|lib|share)(/[a-z0-9_.-]+)+[a-z0-9]' | LC_ALL=C sort -u
+}
+head=$(sed -n '/^set -eu/q; s/^# //p' "$top/install" | told)
+while IFS= read -r file; do
+    while [ "$file" != . ] && ! grep -qxF "$file" <<< "$head"; do
+        file=$(dirname "$file")
+    done
+    [ "$file" != . ] || wrong 'a file is installed that the head of ./install tells nothing of'
+    echo "$file"
+done < <(cd "$scratch/whole" && find . -type f -printf '%P\n') | LC_ALL=C sort -u > "$scratch/installed"
+diff "$scratch/installed" - <<< "$head" >> "$scratch/out" || wrong 'the head of ./install tells of other files'
+of_c=$(sed -n '/^PREFIX then has/,/^$/p' "$top/docs/C.md" | told)
+[ "$of_c" = "$(grep -E '^(include|lib|share/hidreport)/?' <<< "$head")" ] || wrong 'docs/C.md tells of other files'
+of_programs=$(tr '\n' ' ' < "$top/docs/HID.md" | grep -oE '`./install PREFIX programs` [^.]*\.' | told)
+[ "$of_programs" = "$(grep -E '^(bin|share/(man|bash-))' <<< "$head")" ] || wrong 'docs/HID.md tells of other files'
+answers=$((answers + 3))
+
+# The same version everywhere.
+for file in README.md CHANGELOG.md c/rust/Cargo.toml share/help/version share/man/man1/hid.1 share/man/man1/hidreport.1; do
+    grep -qE "(^|[ \"])${version//./\\.}([ \",]|$)" "$top/$file" || wrong "$file has no version $version"
+    answers=$((answers + 1))
+done
+
+# Refusals, which leave nothing.
+usage='usage: ./install PREFIX [c | programs]'
+call 2 "$usage"
+call 2 "$usage" none all
+call 2 "$usage" none c programs
+call 2 "$usage" none ''
+call 2 "install: the folder $scratch/out/none can't be written" "$scratch/out/none"
+: > "$scratch/fails"
+call 1 'install: the library was not built' none
+grep -qxF 'what rt said of it' "$scratch/out" || wrong 'what rt said is not shown'
+call 1 '' none programs
+[ -z "$(find "$scratch/none" -type f 2> /dev/null)" ] || wrong 'a refused call leaves files'
+echo "install: $answers answers"
