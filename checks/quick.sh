@@ -55,7 +55,7 @@ export -f try_tests try_program try_one
 for crate in crates/*; do
     (cd "$crate" && rt fmt) > /dev/null || exit 1
 done
-bash checks/static.sh || exit 1
+bash checks/static.sh && bash checks/hid_options.sh || exit 1
 
 # What takes longest begins first.
 tried=(hid hidreport_cases hidreport_tests)
