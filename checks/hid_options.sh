@@ -1,8 +1,8 @@
 #!/bin/bash
-# The options of `hid`: those that share/help tells of each command (checks/hid_help.sh holds it to the
-# program), those of its page of man, and those that bash completes are the same, with their values;
-# so are its commands with their arguments. docs/HID.md names no other option. Then the commands of
-# `hidreport`, by its usage. It needs no program.
+# The options of `hid`: those that share/help tells of each command (checks/hid_help.sh holds it to
+# the program), those of its page of man, and those that bash completes are the same, with their
+# values; so are its commands with their arguments. docs/HID.md names no other option. Then the
+# commands of `hidreport`, by its usage. It needs no program.
 set -euo pipefail
 
 top=$(cd "$(dirname "$0")/.." && pwd)
@@ -121,7 +121,8 @@ for command in $commands; do
         "$(grep -vxF -e -V -e --version <<< "$of_all")" "$(grep -xF -e "$of_all" <<< "$of_it")"
     own=$(grep -vxF -e "$of_all" <<< "$of_it" || true)
     same "hid.1 of $command" "$(names <<< "$own")" "$(entry COMMANDS "$command" | options || true)"
-    same "what is completed behind hid $command" "$(names <<< "$of_it")" "$(completed hid "$command" -)"
+    same "what is completed behind hid $command" "$(names <<< "$of_it")" \
+        "$(completed hid "$command" -)"
     same "what is completed behind hid $command alone" "$(names <<< "$of_it"; echo a_file)" \
         "$(completed hid "$command" '')"
     while read -r option values; do
@@ -154,6 +155,7 @@ page=$(plain hidreport)
 usage=$(sed -n "s/^usage='usage: hidreport \(.*\)'$/\1/p" "$top/hidreport" | sed 's/ | /\n/g')
 same 'SYNOPSIS of hidreport.1' "$usage"$'\n--help' \
     "$(section SYNOPSIS | tr '\n' ' ' | sed 's/ \.br /\n/g; s/hidreport //g; s/ $//')"
-same 'what is completed behind hidreport' "$(names <<< "$usage"; echo --help)" "$(completed hidreport '')"
+same 'what is completed behind hidreport' "$(names <<< "$usage"; echo --help)" \
+    "$(completed hidreport '')"
 same 'what is completed behind hidreport values' a_file "$(completed hidreport values '')"
 echo "hid_options: $answers lists of options, commands and values are the same"

@@ -1,8 +1,8 @@
 #!/bin/bash
-# What ./install puts into an empty folder: just the files that its head tells of, each compared with
-# what it is made of; of a part alone its own; the same where it was put before. In a copy of what it
-# reads, with stand-ins for `rt`, for the archives and for the programs that the launchers prove; so
-# it takes a second. Leaves nothing behind.
+# What ./install puts into an empty folder: just the files that its head tells of, each compared
+# with what it is made of; of a part alone its own; the same where it was put before. In a copy of
+# what it reads, with stand-ins for `rt`, for the archives and for the programs that the launchers
+# prove; so it takes a second. Leaves nothing behind.
 set -euo pipefail
 
 top=$(cd "$(dirname "$0")/.." && pwd)
@@ -15,7 +15,8 @@ trap 'rm -rf "$scratch"' EXIT
 copy="$scratch/copy"
 answers=0
 
-mkdir -p "$copy/checks" "$copy/c" "$copy/crates/hidreport_c" "$scratch/bin" "$scratch/kit/c" "$scratch/rust"
+mkdir -p "$copy/checks" "$copy/c" "$copy/crates/hidreport_c"
+mkdir -p "$scratch/bin" "$scratch/kit/c" "$scratch/rust"
 cp "$top/install" "$copy"
 cp "$top/checks/needs.sh" "$copy/checks"
 cp -R "$top/include" "$top/share" "$copy"
@@ -66,12 +67,14 @@ wrong() {
     exit 1
 }
 
-# A call of ./install in the copy, from the scratch folder; the status that is wanted, and what it says last.
+# A call of ./install in the copy, from the scratch folder; the status that is wanted, and what it
+# says last.
 call() {
     local wanted=$1 says=$2 status=0
     shift 2
     : > "$scratch/built"
-    (cd "$scratch" && PATH="$scratch/bin:$PATH" "$copy/install" "$@") > "$scratch/out" 2>&1 || status=$?
+    (cd "$scratch" && PATH="$scratch/bin:$PATH" "$copy/install" "$@") > "$scratch/out" 2>&1 ||
+        status=$?
     [ "$status" -eq "$wanted" ] || wrong "./install $*: status $status in place of $wanted"
     [ "$(tail -n 1 "$scratch/out")" = "$says" ] || wrong "./install $*: doesn't say '$says'"
     answers=$((answers + 1))
@@ -79,7 +82,8 @@ call() {
 
 # The files that are wanted, made by other means: the tree's own, but for those that are built.
 number() {
-    awk -v name="HIDREPORT_VERSION_$1" '$1 == "#define" && $2 == name { print $3 }' "$top/include/hidreport.h"
+    awk -v name="HIDREPORT_VERSION_$1" '$1 == "#define" && $2 == name { print $3 }' \
+        "$top/include/hidreport.h"
 }
 version="$(number MAJOR).$(number MINOR).$(number PATCH)-$(number STAGE)"
 last="install: hidreport $version is in $scratch"
@@ -105,7 +109,8 @@ wanted_programs() {
         echo "the program $program" > "$1/bin/$program"
         chmod +x "$1/bin/$program"
         cp "$top/share/man/man1/$program.1" "$1/share/man/man1"
-        cp "$top/share/bash-completion/completions/$program" "$1/share/bash-completion/completions"
+        cp "$top/share/bash-completion/completions/$program" \
+            "$1/share/bash-completion/completions"
     done
 }
 
@@ -168,19 +173,25 @@ while IFS= read -r file; do
     while [ "$file" != . ] && ! grep -qxF "$file" <<< "$head"; do
         file=$(dirname "$file")
     done
-    [ "$file" != . ] || wrong 'a file is installed that the head of ./install tells nothing of'
+    [ "$file" != . ] || wrong 'the head of ./install tells nothing of a file that is installed'
     echo "$file"
-done < <(cd "$scratch/whole" && find . -type f -printf '%P\n') | LC_ALL=C sort -u > "$scratch/installed"
-diff "$scratch/installed" - <<< "$head" >> "$scratch/out" || wrong 'the head of ./install tells of other files'
+done < <(cd "$scratch/whole" && find . -type f -printf '%P\n') |
+    LC_ALL=C sort -u > "$scratch/installed"
+diff "$scratch/installed" - <<< "$head" >> "$scratch/out" ||
+    wrong 'the head of ./install tells of other files'
 of_c=$(sed -n '/^PREFIX then has/,/^$/p' "$top/docs/C.md" | told)
-[ "$of_c" = "$(grep -E '^(include|lib|share/hidreport)/?' <<< "$head")" ] || wrong 'docs/C.md tells of other files'
-of_programs=$(tr '\n' ' ' < "$top/docs/HID.md" | grep -oE '`./install PREFIX programs` [^.]*\.' | told)
-[ "$of_programs" = "$(grep -E '^(bin|share/(man|bash-))' <<< "$head")" ] || wrong 'docs/HID.md tells of other files'
+[ "$of_c" = "$(grep -E '^(include|lib|share/hidreport)/?' <<< "$head")" ] ||
+    wrong 'docs/C.md tells of other files'
+of_programs=$(tr '\n' ' ' < "$top/docs/HID.md" | grep -oE '`./install PREFIX programs` [^.]*\.')
+[ "$(told <<< "$of_programs")" = "$(grep -E '^(bin|share/(man|bash-))' <<< "$head")" ] ||
+    wrong 'docs/HID.md tells of other files'
 answers=$((answers + 3))
 
 # The same version everywhere.
-for file in README.md CHANGELOG.md c/rust/Cargo.toml share/help/version share/man/man1/hid.1 share/man/man1/hidreport.1; do
-    grep -qE "(^|[ \"])${version//./\\.}([ \",]|$)" "$top/$file" || wrong "$file has no version $version"
+for file in README.md CHANGELOG.md c/rust/Cargo.toml share/help/version share/man/man1/hid.1 \
+    share/man/man1/hidreport.1; do
+    grep -qE "(^|[ \"])${version//./\\.}([ \",]|$)" "$top/$file" ||
+        wrong "$file has no version $version"
     answers=$((answers + 1))
 done
 

@@ -1,10 +1,10 @@
 #!/bin/bash
 # samples.sh HID HIDREPORT: the samples of README.md and docs/, runs of the two programs: what each
-# writes is what stands below its line `$ ..`, down to the next or to the end of the block. A block may
-# begin with `$ cd FOLDER`; those of docs/HID.md lie in crates/hid/data. A remark behind a line says
-# bytes that are on its standard input. Of the other programs (`rt run`) what stands below is the
-# beginning of the output that is stored beside them, `..` standing for what is left out; `./values`
-# of docs/C.md writes what `hidreport values` does, without its first line and the kinds.
+# writes is what stands below its line `$ ..`, down to the next or to the end of the block. A block
+# may begin with `$ cd FOLDER`; those of docs/HID.md lie in crates/hid/data. A remark behind a line
+# says bytes that are on its standard input. Of the other programs (`rt run`) what stands below is
+# the beginning of the output that is stored beside them, `..` standing for what is left out;
+# `./values` of docs/C.md writes what `hidreport values` does, without its first line and the kinds.
 set -euo pipefail
 
 top=$(cd "$(dirname "$0")/.." && pwd)
@@ -35,8 +35,7 @@ wrong() {
     exit 1
 }
 
-# Parts a text's samples: of each NAME, with what stands below it, NAME.line and NAME.folder. One that
-# begins nowhere is none; a block that begins otherwise has no samples.
+# Parts a text's samples: of each NAME, with what stands below it, NAME.line and NAME.folder.
 gather() {
     awk -v to="$scratch/samples/" -v from="$2" -v text="${1##*/}" '
         /^```/ { within = !within; folder = from; file = ""; next }
@@ -52,8 +51,8 @@ gather() {
         file != "" { print > file }' "$1"
 }
 
-# Whether an output begins as a sample: ` .. ` and `..` at a line's end stand for a part of it that is
-# left out, a line `..` for lines.
+# Whether an output begins as a sample: ` .. ` and `..` at a line's end stand for a part of it that
+# is left out, a line `..` for lines.
 begins_as() {
     local output=$1 wanted=$2 line got skips=no
     while IFS= read -r line <&3; do
@@ -70,8 +69,8 @@ begins_as() {
     done 3< "$wanted" 4< "$output"
 }
 
-# A run of `hid` or `hidreport`: its standard input from the remark, its standard output as it is below,
-# where sed's commands have changed it.
+# A run of `hid` or `hidreport`: its standard input from the remark, its standard output as it is
+# below, where sed's commands have changed it.
 run() {
     local sample=$1 changes=${2-} line bytes='' words=() folder
     line=$(< "$sample.line")
@@ -84,7 +83,8 @@ run() {
             ;;
     esac
     eval "words=($line)"
-    (cd "$folder" && "${words[@]}" <<< "$bytes") > "$scratch/output" 2> "$scratch/errors" || [ $? -eq 1 ] ||
+    (cd "$folder" && "${words[@]}" <<< "$bytes") > "$scratch/output" 2> "$scratch/errors" ||
+        [ $? -eq 1 ] ||
         wrong "${sample##*/}: $line: $(cat "$scratch/errors")"
     sed "$changes" "$scratch/output" | diff "$sample" - > "$scratch/differing" || {
         cat "$scratch/differing" >&2
@@ -103,7 +103,8 @@ stored() {
     [ "$(sed 's/.*rt run//; s/^ -- //; s/ < stdin$//; s,data/,,g' <<< "$line")" = "${words% }" ] ||
         wrong "${sample##*/}: other words than those of ${crate##*/}/args"
     sed -i 's,^data/,,' "$sample"
-    begins_as "$crate/stdout" "$sample" || wrong "${sample##*/}: another beginning than that of ${crate##*/}/stdout"
+    begins_as "$crate/stdout" "$sample" ||
+        wrong "${sample##*/}: another beginning than that of ${crate##*/}/stdout"
 }
 
 mkdir "$scratch/samples"
