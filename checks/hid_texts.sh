@@ -1,8 +1,8 @@
 #!/bin/bash
-# What `hid decode` writes is compiled to the same bytes: of each descriptor of the cases
-# (crates/hidreport_cases/data) and of bench/descriptors whose items can be read; then what no stored
-# run shows (checks/hid_runs.sh): a stream's times, and refusals for which it takes more than a file.
-# Its argument is the program; else it is the one that ./hid built.
+# What `hid decode` writes is compiled to the same bytes: of each descriptor that the cases
+# (crates/hidreport_cases/data) ask about and of bench/descriptors, refused ones too; then what no
+# stored run shows (checks/hid_runs.sh): a stream's times, and refusals for which it takes more than
+# a file. Its argument is the program; else it is the one that ./hid built.
 set -eu
 
 top=$(cd "$(dirname "$0")/.." && pwd)
@@ -14,33 +14,70 @@ program=${1:-$top/crates/hid/out/hid}
 scratch=$(mktemp -d)
 trap 'rm -rf "$scratch"' EXIT
 
-# A descriptor in a line: its bytes, without what a case says beside them.
+# A descriptor in a line, and 1 where its case says that it is refused, 0 where it says what is
+# read, by a Push that keeps all; else -. Bytes that are written as a number of times are left out.
 {
-    sed -nE 's/^(parse|shape|repair|rebuild|list) ([0-9a-f][0-9a-f ]*)( .*)?$/\2/p' \
+    awk '
+        function asks(bytes, status) {
+            gsub(/ /, "", bytes)
+            if (bytes !~ /^([0-9a-f][0-9a-f])+$/) return
+            if (!(bytes in said) || said[bytes] == "-") said[bytes] = status
+        }
+        within { asks(within, /^  refused/ ? 1 : 0); within = "" }
+        /^(parse|shape) / { within = $0; sub(/^[a-z]* /, "", within) }
+        /^(parse-globals|list|rebuild|many) / { sub(/^[a-z-]* /, ""); asks($0, "-") }
+        /^(parse|many)-within / { sub(/^[a-z-]* [0-9]+ /, ""); asks($0, "-") }
+        /^(repair|alike) / {
+            sub(/^repair [^\/]*\/|^alike /, "")
+            split($0, both, "/")
+            for (it in both) asks(both[it], "-")
+        }
+        END { for (bytes in said) print bytes, said[bytes] }' \
         "$top"/crates/hidreport_cases/data/*.txt
     for file in "$top"/bench/descriptors/*.txt; do
-        sed 's/#.*//' "$file" | tr '\n' ' '
-        echo
+        echo "$(sed 's/#.*//' "$file" | tr -d ' \n')" 0
     done
-} | tr -d ' ' | LC_ALL=C sort -u | grep -E '^([0-9a-f]{2})+$' > "$scratch/descriptors"
+} | LC_ALL=C sort -u > "$scratch/descriptors"
 
-compiled=0
-while read -r digits; do
-    # A descriptor that is refused is shown up to its fault, with the status 1.
-    echo "$digits" | "$program" decode --form hex - > "$scratch/text" 2> "$scratch/errors" || continue
+# The text of a descriptor, and the status.
+decode() {
+    status=0
+    echo "$digits" | "$program" decode --form hex "$@" - > "$scratch/text" 2> "$scratch/errors" ||
+        status=$?
+    [ "$status" -le 1 ] || {
+        cat "$scratch/errors" >&2
+        exit 1
+    }
+}
+
+# Each has the status of its case, and comes back; by both readings where it has a Push.
+comes_back() {
+    local got
     got=$("$program" compile --to hex "$scratch/text" 2> "$scratch/errors" | tr -d ' \n')
     if [ "$got" != "$digits" ] || [ -s "$scratch/errors" ]; then
         echo "hid_texts: $digits is compiled to $got" >&2
         cat "$scratch/errors" >&2
         exit 1
     fi
-    compiled=$((compiled + 1))
+}
+refused=0
+while read -r digits wanted; do
+    decode --push all
+    [ "$wanted" = - ] || [ "$status" -eq "$wanted" ] || {
+        echo "hid_texts: $digits is decoded with the status $status" >&2
+        exit 1
+    }
+    refused=$((refused + status))
+    comes_back
+    case $digits in *a4*) decode && comes_back ;; esac
 done < "$scratch/descriptors"
-[ "$compiled" -ge 2000 ] || {
-    echo "hid_texts: only $compiled descriptors are compiled" >&2
+asked=$(wc -l < "$scratch/descriptors")
+known=$(grep -c '[01]$' "$scratch/descriptors")
+[ "$asked" -ge 2700 ] && [ "$known" -ge 2200 ] || {
+    echo "hid_texts: only $asked descriptors, $known of them with their status" >&2
     exit 1
 }
-echo "hid_texts: $compiled descriptors, decoded and compiled to the same bytes"
+echo "hid_texts: $asked descriptors, $refused refused, decoded and compiled to the same bytes"
 
 # hid-recorder's lines of a stream, whose time is its own.
 raw=$(echo 05 | "$program" record --raw "$top/crates/hid/data/axis.bytes" - 2> /dev/null |
