@@ -37,10 +37,19 @@ fn item_named(name: &str) -> Option<(u8, ItemType)> {
 
 /// The item with this number as its data, in two bytes where it fits, else in four.
 fn with_number(prefix: u8, number: u32) -> Option<ItemType> {
-    let four = number.to_le_bytes();
-    let is_short = number <= 0xffff && !is_signed(prefix);
-    let (size, count) = if is_short { (2, 2) } else { (3, 4) };
-    read_item(prefix | size, four.get(..count)?).ok()
+    let [low, next, third, high] = number.to_le_bytes();
+    if number <= 0xffff && !is_signed(prefix) {
+        return item_with(prefix | 2, &[low, next]);
+    }
+    item_with(prefix | 3, &[low, next, third, high])
+}
+
+/// The item with this header and data.
+fn item_with(header: u8, data: &[u8]) -> Option<ItemType> {
+    match read_item(header, data) {
+        Ok(item) => Some(item),
+        Err(_fault) => None,
+    }
 }
 
 /// Whether an item's data has a sign: bounds (Section 6.2.2.7).
