@@ -251,18 +251,31 @@ fn add_array(
     }
     let mut gap = "";
     for index in 0..readable(field, bytes) {
-        match choice_of(field, bytes, index) {
-            Some((_value, Choice::Usage(usage))) => {
-                text.push_str(gap)?;
-                add_usage_on_page(text, usage)?;
-                gap = ", ";
-            }
-            Some((value, Choice::Unlisted)) => {
-                write!(text, "{gap}value {value}")?;
-                gap = ", ";
-            }
-            _ => {}
+        if add_choice(text, field, bytes, index, gap)? {
+            gap = ", ";
         }
     }
     text.push_str("]")
+}
+
+/// Appends what an element stands for, and answers whether it stands for something.
+fn add_choice(
+    text: &mut String,
+    field: &ArrayField,
+    bytes: &[u8],
+    index: usize,
+    gap: &str,
+) -> Result<bool, AllocError> {
+    match choice_of(field, bytes, index) {
+        Some((_value, Choice::Usage(usage))) => {
+            text.push_str(gap)?;
+            add_usage_on_page(text, usage)?;
+            Ok(true)
+        }
+        Some((value, Choice::Unlisted)) => {
+            write!(text, "{gap}value {value}")?;
+            Ok(true)
+        }
+        _ => Ok(false),
+    }
 }

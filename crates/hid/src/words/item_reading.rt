@@ -8,31 +8,41 @@ use hidreport_usages::{collection_name, item_name, page_by_name, usage_on_page};
 /// The item that words may say where this usage page is in force; none where they say none. What
 /// the item says in words may be something else: its number may hold less than the words say.
 pub fn item_of_words(words: &str, page: UsagePage, flags: &FlagTable) -> Option<ItemType> {
-    let (name, told) = match words.split_once("(") {
-        Some((name, rest)) => (name.trim(), Some(rest.trim().strip_suffix(")")?.trim())),
-        None => (words.trim(), None),
-    };
-    let (prefix, item) = item_named(name)?;
+    let (name, told) = parts_of(words)?;
+    let prefix = prefix_named(name)?;
     match told {
-        Some(told) => {
-            let number = number_told(&item, told, page, flags)?;
-            with_number(prefix, number)
-        }
-        None => read_item(prefix, &[]).ok(),
+        Some(told) => with_number(prefix, number_of_words(prefix, told, page, flags)?),
+        None => item_with(prefix, &[]),
     }
 }
 
-/// The header without a size of the items with this name, and one of them.
-fn item_named(name: &str) -> Option<(u8, ItemType)> {
+/// An item's name, and what stands in its parentheses.
+fn parts_of(words: &str) -> Option<(&str, Option<&str>)> {
+    match words.split_once("(") {
+        Some((name, rest)) => Some((name.trim(), Some(rest.trim().strip_suffix(")")?.trim()))),
+        None => Some((words.trim(), None)),
+    }
+}
+
+/// The header without a size of the items with this name.
+fn prefix_named(name: &str) -> Option<u8> {
     for tag in 0..64u8 {
         let prefix = tag * 4;
         if let Ok(item) = read_item(prefix | 1, &[0]) {
             if item_name(&item).eq_ignore_ascii_case(name) {
-                return Some((prefix, item));
+                return Some(prefix);
             }
         }
     }
     None
+}
+
+/// The number that stands in the parentheses of the items with this header.
+fn number_of_words(prefix: u8, told: &str, page: UsagePage, flags: &FlagTable) -> Option<u32> {
+    match read_item(prefix | 1, &[0]) {
+        Ok(item) => number_told(&item, told, page, flags),
+        Err(_fault) => None,
+    }
 }
 
 /// The item with this number as its data, in two bytes where it fits, else in four.
