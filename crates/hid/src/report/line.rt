@@ -247,8 +247,13 @@ fn add_array(
     write!(text, "{gap}{name}=[")?;
     let width = element_width(field);
     if 32 < width {
-        write!(text, "({width} bits)")?;
+        return write!(text, "({width} bits)]");
     }
+    add_choices(text, field, bytes)
+}
+
+/// Appends what the elements of an array stand for, up to a bracket.
+fn add_choices(text: &mut String, field: &ArrayField, bytes: &[u8]) -> Result<(), AllocError> {
     let mut gap = "";
     for index in 0..readable(field, bytes) {
         if add_choice(text, field, bytes, index, gap)? {
