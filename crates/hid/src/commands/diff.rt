@@ -120,15 +120,9 @@ fn show_first<R: AllocGlobal + Print>(
     for report in first.reports(direction) {
         match second.report(direction, *report.report_id()) {
             Some(other) => {
-                showing.add_report(
-                    rt.alloc(),
-                    direction,
-                    report,
-                    report.fields(),
-                    other.fields(),
-                )?;
+                showing.add_report(rt, direction, report, report.fields(), other.fields())?;
             }
-            None => show_lone(rt.alloc(), showing, direction, report, first, second)?,
+            None => show_lone(rt, showing, direction, report, first, second)?,
         }
         flush_piece(rt, &mut showing.text)?;
     }
@@ -136,8 +130,8 @@ fn show_first<R: AllocGlobal + Print>(
 }
 
 /// Shows a report of the first descriptor whose id the second doesn't have.
-fn show_lone(
-    alloc: Global,
+fn show_lone<R: AllocGlobal + Print>(
+    rt: &R,
     showing: &mut Showing,
     direction: Direction,
     report: &RDescReport,
@@ -145,9 +139,9 @@ fn show_lone(
     second: &ReportDescriptor,
 ) -> Result<()> {
     let none: &[Field] = &[];
-    match renamed(alloc, direction, report, first, second)? {
+    match renamed(rt.alloc(), direction, report, first, second)? {
         Some(other) => showing.add_id(direction, report, other),
-        None => showing.add_report(alloc, direction, report, report.fields(), none),
+        None => showing.add_report(rt, direction, report, report.fields(), none),
     }
 }
 
@@ -163,7 +157,7 @@ fn show_second<R: AllocGlobal + Print>(
     for report in second.reports(direction) {
         let is_known = first.report(direction, *report.report_id()).is_some();
         if !is_known && renamed(rt.alloc(), direction, report, second, first)?.is_none() {
-            showing.add_report(rt.alloc(), direction, report, none, report.fields())?;
+            showing.add_report(rt, direction, report, none, report.fields())?;
         }
         flush_piece(rt, &mut showing.text)?;
     }
@@ -234,21 +228,21 @@ impl<'a> Showing<'a> {
     }
 
     /// Adds the fields in which two reports differ, below the report's name.
-    fn add_report(
+    fn add_report<R: AllocGlobal + Print>(
         &mut self,
-        alloc: Global,
+        rt: &R,
         direction: Direction,
         report: &RDescReport,
         first: &[Field],
         second: &[Field],
     ) -> Result<()> {
-        let diff = ReportDiff::new(alloc, first, second)?;
+        let diff = ReportDiff::new(rt.alloc(), first, second)?;
         if diff.fields.is_empty() {
             return Ok(());
         }
         self.is_nothing = false;
         if self.settings.is_json {
-            return add_objects(&mut self.text, direction, report, &diff.fields);
+            return show_objects(rt, &mut self.text, direction, report, &diff.fields);
         }
         add_title(&mut self.text, direction, report)?;
         self.text.push_str("\n")?;
@@ -277,28 +271,40 @@ impl<'a> Showing<'a> {
     }
 }
 
-/// Appends an object for each field that differs.
-fn add_objects(
+/// Shows an object for each field that differs.
+fn show_objects<R: Print>(
+    rt: &R,
     text: &mut String,
     direction: Direction,
     report: &RDescReport,
     fields: &[Changed],
 ) -> Result<()> {
     for changed in fields {
-        let change = match (changed.first, changed.second) {
-            (Some(_first), Some(_second)) => "changed",
-            (Some(_first), None) => "removed",
-            _ => "added",
-        };
-        let object = ChangedObject {
-            change,
-            first: field_object(*text.allocator(), direction, report, changed.first)?,
-            second: field_object(*text.allocator(), direction, report, changed.second)?,
-            parts: changed.parts.as_str().strip_prefix("; "),
-        };
-        add_json(text, &object)?;
+        add_object(text, direction, report, changed)?;
+        flush_piece(rt, text)?;
     }
     Ok(())
+}
+
+/// Appends the object of a field that differs.
+fn add_object(
+    text: &mut String,
+    direction: Direction,
+    report: &RDescReport,
+    changed: &Changed,
+) -> Result<()> {
+    let change = match (changed.first, changed.second) {
+        (Some(_first), Some(_second)) => "changed",
+        (Some(_first), None) => "removed",
+        _ => "added",
+    };
+    let object = ChangedObject {
+        change,
+        first: field_object(*text.allocator(), direction, report, changed.first)?,
+        second: field_object(*text.allocator(), direction, report, changed.second)?,
+        parts: changed.parts.as_str().strip_prefix("; "),
+    };
+    add_json(text, &object)
 }
 
 fn field_object(
