@@ -247,22 +247,40 @@ fn add_array(
     write!(text, "{gap}{name}=[")?;
     let width = element_width(field);
     if 32 < width {
-        write!(text, "({width} bits)")?;
+        return write!(text, "({width} bits)]");
     }
+    add_choices(text, field, bytes)
+}
+
+/// Appends what the elements of an array stand for, up to a bracket.
+fn add_choices(text: &mut String, field: &ArrayField, bytes: &[u8]) -> Result<(), AllocError> {
     let mut gap = "";
     for index in 0..readable(field, bytes) {
-        match choice_of(field, bytes, index) {
-            Some((_value, Choice::Usage(usage))) => {
-                text.push_str(gap)?;
-                add_usage_on_page(text, usage)?;
-                gap = ", ";
-            }
-            Some((value, Choice::Unlisted)) => {
-                write!(text, "{gap}value {value}")?;
-                gap = ", ";
-            }
-            _ => {}
+        if add_choice(text, field, bytes, index, gap)? {
+            gap = ", ";
         }
     }
     text.push_str("]")
+}
+
+/// Appends what an element stands for, and answers whether it stands for something.
+fn add_choice(
+    text: &mut String,
+    field: &ArrayField,
+    bytes: &[u8],
+    index: usize,
+    gap: &str,
+) -> Result<bool, AllocError> {
+    match choice_of(field, bytes, index) {
+        Some((_value, Choice::Usage(usage))) => {
+            text.push_str(gap)?;
+            add_usage_on_page(text, usage)?;
+            Ok(true)
+        }
+        Some((value, Choice::Unlisted)) => {
+            write!(text, "{gap}value {value}")?;
+            Ok(true)
+        }
+        _ => Ok(false),
+    }
 }

@@ -8,39 +8,58 @@ use hidreport_usages::{collection_name, item_name, page_by_name, usage_on_page};
 /// The item that words may say where this usage page is in force; none where they say none. What
 /// the item says in words may be something else: its number may hold less than the words say.
 pub fn item_of_words(words: &str, page: UsagePage, flags: &FlagTable) -> Option<ItemType> {
-    let (name, told) = match words.split_once("(") {
-        Some((name, rest)) => (name.trim(), Some(rest.trim().strip_suffix(")")?.trim())),
-        None => (words.trim(), None),
-    };
-    let (prefix, item) = item_named(name)?;
+    let (name, told) = parts_of(words)?;
+    let prefix = prefix_named(name)?;
     match told {
-        Some(told) => {
-            let number = number_told(&item, told, page, flags)?;
-            with_number(prefix, number)
-        }
-        None => read_item(prefix, &[]).ok(),
+        Some(told) => with_number(prefix, number_of_words(prefix, told, page, flags)?),
+        None => item_with(prefix, &[]),
     }
 }
 
-/// The header without a size of the items with this name, and one of them.
-fn item_named(name: &str) -> Option<(u8, ItemType)> {
+/// An item's name, and what stands in its parentheses.
+fn parts_of(words: &str) -> Option<(&str, Option<&str>)> {
+    match words.split_once("(") {
+        Some((name, rest)) => Some((name.trim(), Some(rest.trim().strip_suffix(")")?.trim()))),
+        None => Some((words.trim(), None)),
+    }
+}
+
+/// The header without a size of the items with this name.
+fn prefix_named(name: &str) -> Option<u8> {
     for tag in 0..64u8 {
         let prefix = tag * 4;
         if let Ok(item) = read_item(prefix | 1, &[0]) {
             if item_name(&item).eq_ignore_ascii_case(name) {
-                return Some((prefix, item));
+                return Some(prefix);
             }
         }
     }
     None
 }
 
+/// The number that stands in the parentheses of the items with this header.
+fn number_of_words(prefix: u8, told: &str, page: UsagePage, flags: &FlagTable) -> Option<u32> {
+    match read_item(prefix | 1, &[0]) {
+        Ok(item) => number_told(&item, told, page, flags),
+        Err(_fault) => None,
+    }
+}
+
 /// The item with this number as its data, in two bytes where it fits, else in four.
 fn with_number(prefix: u8, number: u32) -> Option<ItemType> {
-    let four = number.to_le_bytes();
-    let is_short = number <= 0xffff && !is_signed(prefix);
-    let (size, count) = if is_short { (2, 2) } else { (3, 4) };
-    read_item(prefix | size, four.get(..count)?).ok()
+    let [low, next, third, high] = number.to_le_bytes();
+    if number <= 0xffff && !is_signed(prefix) {
+        return item_with(prefix | 2, &[low, next]);
+    }
+    item_with(prefix | 3, &[low, next, third, high])
+}
+
+/// The item with this header and data.
+fn item_with(header: u8, data: &[u8]) -> Option<ItemType> {
+    match read_item(header, data) {
+        Ok(item) => Some(item),
+        Err(_fault) => None,
+    }
 }
 
 /// Whether an item's data has a sign: bounds (Section 6.2.2.7).
