@@ -44,10 +44,10 @@ ask() {
 }
 
 cc -std=c11 -Wall -Wextra -Werror -O2 -I"$prefix/include" -o "$scratch/cases" "$top/c/cases.c" \
-    -L"$prefix/lib" -lhidreport
+    "$prefix/lib/libhidreport.a"
 ask 'a C program' "$scratch/cases"
 cc -std=c11 -Wall -Wextra -Werror -O2 -I"$prefix/include" -o "$scratch/hostile" \
-    "$top/c/hostile.c" -L"$prefix/lib" -lhidreport
+    "$top/c/hostile.c" "$prefix/lib/libhidreport.a"
 (ulimit -v 64000 && "$scratch/hostile")
 if cargo --version > /dev/null 2>&1; then
     cp -r "$prefix/share/hidreport/rust" "$scratch/rust"

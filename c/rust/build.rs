@@ -1,4 +1,4 @@
-//! Links the static library `hidreport`, which `./install PREFIX` puts beside this package: into
+//! Links the static library `hidreport`, which `make install` puts beside this package: into
 //! PREFIX/lib, three folders up. HIDREPORT_LIB_DIR names another folder that has libhidreport.a.
 use std::env;
 use std::path::{Path, PathBuf};
@@ -14,7 +14,7 @@ fn main() {
     println!("cargo:rerun-if-changed={}", archive.display());
     if !archive.is_file() {
         eprintln!(
-            "{} isn't there: run ./install PREFIX, or set HIDREPORT_LIB_DIR",
+            "{} isn't there: run make install, or set HIDREPORT_LIB_DIR",
             archive.display()
         );
         std::process::exit(1);

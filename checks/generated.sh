@@ -1,0 +1,242 @@
+#!/bin/bash
+# generated/ is the library for C as assembly, for users who have no toolchain (docs/C.md).
+#   generated.sh [TREE]          checks it; the proofs are those that TREE keeps, or this tree
+#   generated.sh --write [TREE]  makes it anew; without TREE it proves what isn't proved
+#   generated.sh --fresh         says where it was made from other sources than these
+# By the toolchain that generated/SOURCES notes each file is, byte for byte, what the proofs build:
+# a minute where the checks of hidreport_c are kept too (in out/, or in the folder HIDREPORT_KEPT),
+# else three. By any other, and by none, answers decide: with no `rt` on the path the archive that
+# `make` builds answers c/cases.txt and hostile descriptors. What was made from other sources is
+# stale: one line says so, and it is a fault only where the version is another. A spoilt byte and a
+# name too many are tried each time, and have to be refused.
+set -eu
+
+top=$(cd "$(dirname "$0")/.." && pwd)
+cd "$top"
+crates=(hidreport_types hidreport_items hidreport_lists hidreport hidreport_c)
+processors=(x86_64 aarch64)
+files=(heap.c "${processors[@]/%/-linux/hidreport.s}")
+scratch=$(mktemp -d)
+trap 'rm -rf "$scratch"' EXIT
+
+say() {
+    echo "generated: $1"
+}
+
+wrong() {
+    say "$1" >&2
+    exit 1
+}
+
+# A line of generated/SOURCES.
+noted() {
+    sed -n "s/^$1: //p" generated/SOURCES
+}
+
+# A sum over the code of the library's crates below a folder. (Definitions and proofs make no code.)
+sum_of() {
+    (cd "$1/crates" && find "${crates[@]/%//src}" -name '*.rt' -type f | LC_ALL=C sort |
+        xargs -d '\n' sha256sum | sha256sum | cut -d ' ' -f 1)
+}
+
+version_of_header() {
+    sed -n 's/^#define HIDREPORT_VERSION_[A-Z]* \([0-9][0-9]*\)$/\1/p' include/hidreport.h |
+        paste -sd . | sed 's/\.\([0-9]*\)$/-\1/'
+}
+
+# Is it made from these sources? Where the version is another besides, that is a fault.
+is_fresh() {
+    [ "$(sum_of "$top")" != "$(noted sources)" ] || return 0
+    local line
+    line="stale: made from the sources of $(noted version), which have changed since"
+    [ "$(version_of_header)" = "$(noted version)" ] || wrong "$line, as the version has"
+    say "$line"
+    return 1
+}
+
+# The files that the proofs of a tree give, into the scratch folder.
+build() {
+    local processor kept=$1/crates/hidreport_c/out/incremental
+    [ -d "$1/crates/hidreport/out/rlib" ] ||
+        wrong "no proofs in $1/crates; \`rt lib\` in crates/hidreport_c makes them"
+    if [ -z "${HIDREPORT_KEPT:-}" ]; then
+        HIDREPORT_KEPT=$scratch/kept
+        [ ! -d "$kept" ] || cp -a "$kept" "$HIDREPORT_KEPT"
+    fi
+    export HIDREPORT_PROVED=$1 HIDREPORT_KEPT
+    for processor in "${processors[@]}"; do
+        mkdir -p "$scratch/built/$processor-linux"
+        bash checks/c_library.sh "$scratch/archive.a" "$processor-unknown-linux-gnu" \
+            "$scratch/built/$processor-linux/hidreport.s" > "$scratch/said" 2>&1 || {
+            tail -n 20 "$scratch/said" >&2
+            wrong "nothing was built for $processor"
+        }
+    done
+}
+
+write() {
+    . checks/needs.sh
+    need_rt generated
+    if [ "$1" = "$top" ]; then
+        (cd crates/hidreport_c && rt lib) > "$scratch/said" 2>&1 || {
+            tail -n 20 "$scratch/said" >&2
+            wrong 'the library is not proved'
+        }
+        HIDREPORT_KEPT="$top/crates/hidreport_c/out/incremental"
+    fi
+    [ "$(sum_of "$1")" = "$(sum_of "$top")" ] || wrong "$1 has other sources"
+    build "$1"
+    cp -r "$scratch/built/." generated/
+    {
+        echo 'From what, and by what, checks/generated.sh --write made this folder; then its sums.'
+        echo "version: $(version_of_header)"
+        echo "toolchain: $(rt version)"
+        echo "sources: $(sum_of "$top")"
+        (cd generated && sha256sum "${files[@]}")
+    } > generated/SOURCES
+    say "made from the sources of $(noted version)"
+}
+
+# Has each file in a folder the sum that is noted?
+has_its_sums() {
+    (cd "$1" && grep -E '^[0-9a-f]{64}  ' "$top/generated/SOURCES" | sha256sum --check --quiet) \
+        > /dev/null 2>&1
+}
+
+# Is it what the proofs build?
+compare() {
+    local file
+    build "$1"
+    for file in "${files[@]}"; do
+        [ "$file" = heap.c ] || cmp "generated/$file" "$scratch/built/$file" ||
+            wrong "generated/$file isn't what the proofs build"
+    done
+    say 'each file is byte for byte what the proofs build'
+}
+
+# The header's functions, and the names that a library shows.
+functions() {
+    sed -n 's/^[a-z].*[ *]\(hidreport_[a-z_]*\)(.*/\1/p' include/hidreport.h | LC_ALL=C sort
+}
+
+shown_by() {
+    nm --defined-only "$@" | sed -n 's/^[0-9a-f]* [A-Z] //p' | LC_ALL=C sort
+}
+
+# The shared library shows these alone, the static one the three of heap.c besides.
+shows_the_header() {
+    local archive
+    archive=$(shown_by -g "$1/libhidreport.a" | grep -vx 'rattle_\(re\|de\)\?alloc')
+    [ "$archive" = "$(functions)" ] &&
+        [ "$(shown_by -D "$1/libhidreport.so")" = "$(functions)" ]
+}
+
+# The path without `rt`: a folder that has it is another, with links to all else.
+hide_rt() {
+    local folder path=
+    for folder in ${PATH//:/ }; do
+        if [ -e "$folder/rt" ]; then
+            mkdir -p "$scratch/path$folder"
+            ln -sf "$folder"/* "$scratch/path$folder/"
+            rm "$scratch/path$folder/rt"
+            folder=$scratch/path$folder
+        fi
+        path=$path:$folder
+    done
+    PATH=${path#:}
+    ! command -v rt > /dev/null || wrong '`rt` is still on the path'
+}
+
+# What a user has: no more of the tree than these files.
+copy() {
+    mkdir -p "$1/crates"
+    cp -r Makefile generated include c checks "$1/"
+    rm -rf "$1/c/rust/target"
+    (cd crates && cp -r --parents "${crates[@]/%//src}" "$1/crates/")
+}
+
+# The answers from C and Rust on this processor.
+ask_here() {
+    make -C "$1" check install PREFIX="$scratch/prefix" > "$scratch/said" 2>&1 || {
+        tail -n 20 "$scratch/said" >&2
+        wrong 'make fails'
+    }
+    shows_the_header "$1/build" || wrong 'a library shows other names than the header'
+    bash "$1/checks/c_cases.sh" "$scratch/prefix" > "$scratch/said" 2>&1 || {
+        cat "$scratch/said" >&2
+        wrong 'the archive answers otherwise'
+    }
+    cat "$scratch/said"
+}
+
+# The answers from C on the other processor, where a program of it can be run.
+ask_there() {
+    local gcc=aarch64-linux-gnu-gcc qemu
+    qemu=$(command -v qemu-aarch64 || command -v qemu-aarch64-static || true)
+    if [ -n "$qemu" ] && command -v "$gcc" > /dev/null; then
+        make -C "$1" check BUILD="$1/there" CC="$gcc" AR=aarch64-linux-gnu-ar \
+            RUN="$qemu -L ${QEMU_LD_PREFIX:-/usr/aarch64-linux-gnu}" > "$scratch/said" 2>&1 || {
+            tail -n 20 "$scratch/said" >&2
+            wrong 'aarch64 answers otherwise'
+        }
+        say 'on aarch64, by qemu, both libraries give the wanted answers'
+        return
+    fi
+    local text=$1/generated/aarch64-linux/hidreport.s
+    if command -v aarch64-linux-gnu-as > /dev/null; then
+        aarch64-linux-gnu-as -o "$1/there.o" "$text" || wrong 'aarch64 is not assembled'
+    elif clang --target=aarch64-linux-gnu -c -o "$1/there.o" "$text" 2> /dev/null; then
+        :
+    else
+        say 'no assembler for aarch64, so that text is only compared'
+        return
+    fi
+    say "no \`$gcc\` or no \`qemu-aarch64\`, so for aarch64 it is assembled and not asked"
+}
+
+# What is spoilt has to be refused: one byte of a text, and one more name in a library.
+spoil() {
+    local text=$1/generated/x86_64-linux/hidreport.s
+    has_its_sums "$1/generated" || wrong 'a file has another sum than the one that is noted'
+    sed -i '0,/\.p2align\t4/s//.p2align\t5/' "$text"
+    ! has_its_sums "$1/generated" || wrong 'a spoilt byte is not seen'
+    printf '.text\n.globl hidreport_more\nhidreport_more: ret\n' >> "$text"
+    make -C "$1" > /dev/null 2>&1 || wrong 'with one more name make fails'
+    ! shows_the_header "$1/build" || wrong 'a name too many is not seen'
+    say 'a spoilt byte and a name too many are seen'
+}
+
+tree() {
+    (cd "${1:-$top}" && pwd)
+}
+
+case ${1-} in
+    --fresh)
+        is_fresh || true
+        exit 0
+        ;;
+    --write)
+        shift
+        write "$(tree "$@")"
+        ;;
+esac
+has_its_sums generated || wrong 'a file has another sum than the one that is noted'
+is_fresh || exit 0
+if ! command -v rt > /dev/null; then
+    say 'no `rt` on the path, so answers alone decide'
+elif [ "$(rt version)" != "$(noted toolchain)" ]; then
+    say "made by $(noted toolchain), so by $(rt version) answers alone decide"
+else
+    tree=$(tree "$@")
+    [ "$(sum_of "$tree")" = "$(noted sources)" ] || wrong "$tree has other sources"
+    compare "$tree"
+fi
+if ! command -v cc > /dev/null || ! command -v make > /dev/null; then
+    say 'no `cc` or no `make` on the path, so nothing is asked'
+    exit 0
+fi
+hide_rt
+copy "$scratch/tree"
+ask_here "$scratch/tree"
+ask_there "$scratch/tree"
+[ "$(uname -m)" != x86_64 ] || spoil "$scratch/tree"
