@@ -14,6 +14,7 @@ import multiprocessing
 import os
 import random
 import re
+import resource
 import subprocess
 import sys
 import tempfile
@@ -103,13 +104,24 @@ def descriptors():
 # The library.
 
 
+def limit_memory():
+    """At most 4 GB for a program: what is listed without a limit may be more than there is."""
+    resource.setrlimit(resource.RLIMIT_AS, (4 << 30, 4 << 30))
+
+
 def ask_file(job):
     """The library's answers to the questions of one file."""
     number, questions = job
     name = f"q{number}"
     with open(f"{scratch}/{name}", "w", encoding="utf-8") as file:
         file.write("\n".join(questions) + "\n")
-    asked = subprocess.run([programs["cases"], name], cwd=scratch, capture_output=True, check=False)
+    asked = subprocess.run(
+        [programs["cases"], name],
+        cwd=scratch,
+        capture_output=True,
+        check=False,
+        preexec_fn=limit_memory,
+    )
     os.remove(f"{scratch}/{name}")
     if b"OutOfMemory" in asked.stderr:
         # The library has no limit here: what it would list is more than there is memory.
