@@ -20,7 +20,7 @@ use Rattle.hidreport.specs.Fields.{fields_of}
 use Rattle.hidreport.specs.ItemState.{first_of}
 use Rattle.hidreport.specs.Kinds.{Indexed, Direction, Input, Output, Feature, data_of, goes}
 use Rattle.hidreport.specs.Making.{extent, same_key}
-use Rattle.hidreport.specs.Meaning.{PushReading, at_offset, meaning_by, parse_by, parse_items}
+use Rattle.hidreport.specs.Meaning.{InForce, at_offset, meaning_by, parse_by, parse_items}
 use Rattle.hidreport.specs.MeaningFault.{MeaningFault, PastBudget}
 use Rattle.hidreport.specs.Options.{parse_limited, reading_of}
 use Rattle.hidreport.specs.Parser.Budget.{past_fault, walk_within, weight_in, weight_made_in}
@@ -30,7 +30,7 @@ use Rattle.hidreport.specs.Parser.Machine.{next_reports, first_state, reports_in
 use Rattle.hidreport.specs.Parser.Machine.{unless_fault}
 use Rattle.hidreport.specs.Places.{bits_of}
 use Rattle.hidreport.specs.Records.{DescriptorRecord, FieldRecord, ReportRecord}
-use Rattle.hidreport.specs.declared.parser.push_keeps.PushKeeps.{PushKeeps}
+use Rattle.hidreport.specs.declared.parse_options.ParseOptions.{ParseOptions}
 use Rattle.hidreport.specs.Weight.{descriptor_weight, field_weight, first_past, report_weight}
 use Rattle.hidreport.proofs.BudgetWalkLemmas.{walk-within}
 
@@ -176,23 +176,23 @@ found-ok : (entries : List Entry) (r : Result DescriptorRecord (ℕ × MeaningFa
 found-ok entries (Ok announced) d e = let same : announced ≡ d = cc in ap Ok same
 found-ok entries (Err first) d e = cc
 
-bounded-items : (keeping : PushKeeps) (limit : ℕ) (r : Result (List Entry) (ℕ × GrammarFault))
-    (d : DescriptorRecord) → parse_items_within (reading_of keeping) limit r ≡ Ok d
+bounded-items : (options : ParseOptions) (limit : ℕ) (r : Result (List Entry) (ℕ × GrammarFault))
+    (d : DescriptorRecord) → parse_items_within (reading_of options) limit r ≡ Ok d
     → descriptor_weight d ≤ limit
-bounded-items keeping limit (Ok entries) d e =
-    let bound = bounded-from (first_state keeping) 0 limit (items_of entries) d
-    (walk-within keeping limit (items_of entries)
-    ∙ found-ok entries (meaning_within_by (reading_of keeping) limit (items_of entries)) d e) in
-    let none : descriptor_weight (first_state keeping).descriptor ≡ 0 = omega arith in
+bounded-items options limit (Ok entries) d e =
+    let bound = bounded-from (first_state options) 0 limit (items_of entries) d
+    (walk-within options limit (items_of entries)
+    ∙ found-ok entries (meaning_within_by (reading_of options) limit (items_of entries)) d e) in
+    let none : descriptor_weight (first_state options).descriptor ≡ 0 = omega arith in
     omega (arith, bound, none)
-bounded-items keeping limit (Err fault) d e = cc
+bounded-items options limit (Err fault) d e = cc
 
 -- the reports of a descriptor that is read under a limit
-pub within-bounded : (keeping : PushKeeps) (limit : ℕ) (bytes : List ℕ) (d : DescriptorRecord)
-    → parse_within_by (reading_of keeping) limit bytes ≡ Ok d → descriptor_weight d ≤ limit
-within-bounded keeping limit [] d e = cc
-within-bounded keeping limit (b ∷ bs) d e =
-    bounded-items keeping limit (itemise item_of (b ∷ bs)) d e
+pub within-bounded : (options : ParseOptions) (limit : ℕ) (bytes : List ℕ) (d : DescriptorRecord)
+    → parse_within_by (reading_of options) limit bytes ≡ Ok d → descriptor_weight d ≤ limit
+within-bounded options limit [] d e = cc
+within-bounded options limit (b ∷ bs) d e =
+    bounded-items options limit (itemise item_of (b ∷ bs)) d e
 
 -- they are what the plain parse announces
 
@@ -206,7 +206,7 @@ plain-of : (o : Option Indexed) (r : Result DescriptorRecord (ℕ × MeaningFaul
 plain-of None r d e = e
 plain-of (Some p) r d e = stack-by (is_faulty_by p.0 r) r (p.0, PastBudget) d e
 
-plain-items : (reading : PushReading) (limit : ℕ) (r : Result (List Entry) (ℕ × GrammarFault))
+plain-items : (reading : InForce) (limit : ℕ) (r : Result (List Entry) (ℕ × GrammarFault))
     (d : DescriptorRecord) → parse_items_within reading limit r ≡ Ok d
     → parse_items reading r ≡ Ok d
 plain-items reading limit (Ok entries) d e =
@@ -216,7 +216,7 @@ plain-items reading limit (Ok entries) d e =
     (found-ok entries (meaning_within_by reading limit (items_of entries)) d e))
 plain-items reading limit (Err fault) d e = cc
 
-pub within-plain : (reading : PushReading) (limit : ℕ) (bytes : List ℕ) (d : DescriptorRecord)
+pub within-plain : (reading : InForce) (limit : ℕ) (bytes : List ℕ) (d : DescriptorRecord)
     → parse_within_by reading limit bytes ≡ Ok d → parse_by reading bytes ≡ Ok d
 within-plain reading limit [] d e = cc
 within-plain reading limit (b ∷ bs) d e =
@@ -224,14 +224,14 @@ within-plain reading limit (b ∷ bs) d e =
 
 -- so what is read as it was asked for is the plain parse's, and within the limit
 
-pub limited-plain : (reading : PushReading) (limit : Option ℕ) (bytes : List ℕ)
+pub limited-plain : (reading : InForce) (limit : Option ℕ) (bytes : List ℕ)
     (d : DescriptorRecord) → parse_limited reading limit bytes ≡ Ok d
     → parse_by reading bytes ≡ Ok d
 limited-plain reading None bytes d e = e
 limited-plain reading (Some limit) bytes d e = within-plain reading limit bytes d e
 
-pub limited-bounded : (keeping : PushKeeps) (limit : Option ℕ) (bytes : List ℕ)
-    (d : DescriptorRecord) → parse_limited (reading_of keeping) limit bytes ≡ Ok d
+pub limited-bounded : (options : ParseOptions) (limit : Option ℕ) (bytes : List ℕ)
+    (d : DescriptorRecord) → parse_limited (reading_of options) limit bytes ≡ Ok d
     → IfSome limit (λ n. descriptor_weight d ≤ n)
-limited-bounded keeping None bytes d e = tt
-limited-bounded keeping (Some limit) bytes d e = within-bounded keeping limit bytes d e
+limited-bounded options None bytes d e = tt
+limited-bounded options (Some limit) bytes d e = within-bounded options limit bytes d e

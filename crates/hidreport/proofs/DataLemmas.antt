@@ -8,7 +8,6 @@ use Rattle.std.proofs.lemmas.Bool.Decides.{nat_tests}
 use Rattle.std.proofs.lemmas.Grind.{common_steps}
 use Rattle.hidreport_items.specs.declared.global.GlobalItem.{GlobalItem}
 use Rattle.hidreport_items.specs.declared.global.GlobalItem.TheVariants as global
-use Rattle.hidreport_items.specs.declared.local.LocalItem.{LocalItem}
 use Rattle.hidreport_items.specs.declared.item.ItemType.TheVariants as item
 use Rattle.hidreport_items.specs.Flags.{Flags}
 use Rattle.hidreport.specs.Kinds.{Direction, Input, Output, Feature}
@@ -24,6 +23,7 @@ use Rattle.hidreport.specs.Making.{extent}
 use Rattle.hidreport.specs.Records.{CollectionRecord, DescriptorRecord, FieldRecord, ReportRecord}
 use Rattle.hidreport.specs.Parser.Usages.{HasUsages, usage_list}
 use Rattle.hidreport.specs.Usages.{UsageList, usages_of}
+use Rattle.hidreport.specs.declared.parser.paged_local.PagedLocal.{PagedLocal}
 use Rattle.hidreport.specs.declared.parser.usages.Usages.{Usages}
 use Rattle.hidreport.specs.declared.parser.extent.Extent.{Extent}
 
@@ -190,7 +190,7 @@ step-global h global.Push a b = absurd (a refl)
 step-global h global.Pop a b = absurd (b refl)
 step-global h g a b = quiet h (next_item_state h.item_state (item.Global g)) h.stack
 
-same-item_state : (f : ItemState) (locals : List LocalItem) → locals ≡ f.locals
+same-item_state : (f : ItemState) (locals : List PagedLocal) → locals ≡ f.locals
     → record f { locals = locals } ≡ f
 same-item_state f locals e = ap (λ l. record f { locals = l }) e
 

@@ -11,14 +11,15 @@ use Rattle.std.proofs.lemmas.List.Folds.{list_any-append}
 use Rattle.std.proofs.lemmas.List.Sums.{sum_by-append}
 use Rattle.hidreport_items.specs.declared.item.ItemType.{ItemType}
 use Rattle.hidreport_items.specs.declared.item.ItemType.TheVariants as item
-use Rattle.hidreport_items.specs.declared.local.LocalItem.{LocalItem}
-use Rattle.hidreport.specs.ItemState.{ItemState, last_value, unended_locals, first_of}
+use Rattle.hidreport.specs.ItemState.{ItemState, last_value, unended_locals, first_of, paged_local}
 use Rattle.hidreport.specs.Kinds.{Indexed, is_main, local_of, usage_page_of, logical_minimum_of}
 use Rattle.hidreport.specs.Kinds.{logical_maximum_of, physical_minimum_of, physical_maximum_of}
 use Rattle.hidreport.specs.Kinds.{unit_exponent_of, unit_of, report_size_of, report_id_of}
 use Rattle.hidreport.specs.Kinds.{report_count_of}
 use Rattle.hidreport.specs.Parser.Machine.{next_item_state}
 use Rattle.hidreport.specs.Visibility.{before}
+use Rattle.hidreport.specs.declared.parser.paged_local.PagedLocal.{PagedLocal}
+use Rattle.hidreport.specs.declared.parser.usages_by.UsagesBy.{UsagesBy}
 
 pub enumerate_from-append : {A : Type 0} (n : ℕ) (xs ys : List A)
     → enumerate_from n (xs ++ ys) ≡ enumerate_from n xs ++ enumerate_from (n + length xs) ys
@@ -124,15 +125,20 @@ is_ended-plain ps k x p plain =
 abbrev pub unended : List Indexed → List Indexed → List Indexed
 unended qs ps = filter (λ (p : Indexed). not (is_ended qs p)) ps
 
-one_local : (o : Option LocalItem)
-    → filter_map (λ (q : Option LocalItem). q) (o ∷ []) ≡ option_to_list o
+one_local : (o : Option PagedLocal)
+    → filter_map (λ (q : Option PagedLocal). q) (o ∷ []) ≡ option_to_list o
 one_local None = refl
 one_local (Some y) = refl
 
-unended_locals-plain : (ps : List Indexed) (k : ℕ) (x : ItemType) → AreBelow k ps
-    → is_main x ≡ false
-    → unended_locals (ps ++ (k, x) ∷ []) ≡ unended_locals ps ++ option_to_list (local_of x)
-unended_locals-plain ps k x below plain =
+-- a local item with its page
+abbrev paged : (ℕ → Option ℕ) → Indexed → Option PagedLocal
+paged page p = paged_local (page p.0) p.1
+
+unended_locals-plain : (page : ℕ → Option ℕ) (ps : List Indexed) (k : ℕ) (x : ItemType)
+    → AreBelow k ps → is_main x ≡ false
+    → unended_locals page (ps ++ (k, x) ∷ [])
+    ≡ unended_locals page ps ++ option_to_list (paged_local (page k) x)
+unended_locals-plain page ps k x below plain =
     let qs = ps ++ (k, x) ∷ [] in
     let same : unended qs ps ≡ unended ps ps =
     filter-same (λ (p : Indexed). not (is_ended qs p))
@@ -141,11 +147,11 @@ unended_locals-plain ps k x below plain =
     let last : unended qs ((k, x) ∷ []) ≡ (k, x) ∷ [] =
     ap (λ b. cond (not b) ((k, x) ∷ []) [])
     (is_ended-plain ps k x (k, x) plain ∙ not_behind k x ps below) in
-    ap (filter_map (λ (p : Indexed). local_of p.1))
+    ap (filter_map (paged page))
     (filter-append (λ (p : Indexed). not (is_ended qs p)) ps ((k, x) ∷ [])
     ∙ ap (λ l. l ++ unended qs ((k, x) ∷ [])) same ∙ ap (λ l. unended ps ps ++ l) last)
-    ∙ filter_map-append (λ (p : Indexed). local_of p.1) (unended ps ps) ((k, x) ∷ [])
-    ∙ ap (λ l. unended_locals ps ++ l) (one_local (local_of x))
+    ∙ filter_map-append (paged page) (unended ps ps) ((k, x) ∷ [])
+    ∙ ap (λ l. unended_locals page ps ++ l) (one_local (paged_local (page k) x))
 
 or_true : (b : Bool) → (b || true) ≡ true
 or_true true = refl
@@ -171,30 +177,30 @@ main_is_no_local (item.Local y) h = cc
 main_is_no_local item.Long h = cc
 main_is_no_local item.Reserved h = cc
 
-last_no_local : (b : Bool) (k : ℕ) (x : ItemType) → local_of x ≡ None
-    → filter_map (λ (p : Indexed). local_of p.1) (cond b ((k, x) ∷ []) []) ≡ []
-last_no_local true k x none = rw none refl
-last_no_local false k x none = refl
+last_no_local : (page : ℕ → Option ℕ) (b : Bool) (k : ℕ) (x : ItemType) → local_of x ≡ None
+    → filter_map (paged page) (cond b ((k, x) ∷ []) []) ≡ []
+last_no_local page true k x none = rw none refl
+last_no_local page false k x none = refl
 
-unended_locals-main : (ps : List Indexed) (k : ℕ) (x : ItemType) → AreBelow k ps → is_main x ≡ true
-    → unended_locals (ps ++ (k, x) ∷ []) ≡ []
-unended_locals-main ps k x below main =
+unended_locals-main : (page : ℕ → Option ℕ) (ps : List Indexed) (k : ℕ) (x : ItemType)
+    → AreBelow k ps → is_main x ≡ true → unended_locals page (ps ++ (k, x) ∷ []) ≡ []
+unended_locals-main page ps k x below main =
     let qs = ps ++ (k, x) ∷ [] in
-    ap (filter_map (λ (p : Indexed). local_of p.1))
+    ap (filter_map (paged page))
     (filter-append (λ (p : Indexed). not (is_ended qs p)) ps ((k, x) ∷ [])
     ∙ ap (λ l. l ++ unended qs ((k, x) ∷ [])) (ended-all ps ps k x below main))
-    ∙ last_no_local (not (is_ended qs (k, x))) k x (main_is_no_local x main)
+    ∙ last_no_local page (not (is_ended qs (k, x))) k x (main_is_no_local x main)
 
-pub unended_locals-next : (b : Bool) (ps : List Indexed) (k : ℕ) (x : ItemType) → AreBelow k ps
-    → is_main x ≡ b
-    → unended_locals (ps ++ (k, x) ∷ [])
-    ≡ (cond b [] (unended_locals ps ++ option_to_list (local_of x)))
-unended_locals-next true ps k x below main = unended_locals-main ps k x below main
-unended_locals-next false ps k x below main = unended_locals-plain ps k x below main
+pub unended_locals-next : (page : ℕ → Option ℕ) (b : Bool) (ps : List Indexed) (k : ℕ)
+    (x : ItemType) → AreBelow k ps → is_main x ≡ b
+    → unended_locals page (ps ++ (k, x) ∷ [])
+    ≡ (cond b [] (unended_locals page ps ++ option_to_list (paged_local (page k) x)))
+unended_locals-next page true ps k x below main = unended_locals-main page ps k x below main
+unended_locals-next page false ps k x below main = unended_locals-plain page ps k x below main
 
 -- what is in force behind these visible items
-abbrev pub item_states : List Indexed → ItemState
-item_states ps = record {
+abbrev pub item_states : UsagesBy → (ℕ → Option ℕ) → List Indexed → ItemState
+item_states by page ps = record {
   usage_page = last_value usage_page_of ps;
   logical_minimum = last_value logical_minimum_of ps;
   logical_maximum = last_value logical_maximum_of ps;
@@ -205,14 +211,16 @@ item_states ps = record {
   report_size = last_value report_size_of ps;
   report_id = last_value report_id_of ps;
   report_count = last_value report_count_of ps;
-  locals = unended_locals ps;
+  locals = unended_locals page ps;
+  usages_by = by;
 }
 
-pub item_states-next : (ps : List Indexed) (k : ℕ) (x : ItemType) → AreBelow k ps
-    → item_states (ps ++ (k, x) ∷ []) ≡ next_item_state (item_states ps) x
-item_states-next ps k x below =
+pub item_states-next : (by : UsagesBy) (page : ℕ → Option ℕ) (ps : List Indexed) (k : ℕ)
+    (x : ItemType) → AreBelow k ps → page k ≡ last_value usage_page_of ps
+    → item_states by page (ps ++ (k, x) ∷ []) ≡ next_item_state (item_states by page ps) x
+item_states-next by page ps k x below here =
     let p : Indexed = (k, x) in
-    let page = last_value-next usage_page_of ps p in
+    let page_next = last_value-next usage_page_of ps p in
     let low = last_value-next logical_minimum_of ps p in
     let high = last_value-next logical_maximum_of ps p in
     let plow = last_value-next physical_minimum_of ps p in
@@ -222,5 +230,7 @@ item_states-next ps k x below =
     let size = last_value-next report_size_of ps p in
     let id = last_value-next report_id_of ps p in
     let count = last_value-next report_count_of ps p in
-    let locals = unended_locals-next (is_main x) ps k x below refl in
+    let locals = unended_locals-next page (is_main x) ps k x below refl
+    ∙ ap (λ o. cond (is_main x) [] (unended_locals page ps ++ option_to_list (paged_local o x)))
+    here in
     cc

@@ -2,7 +2,7 @@
 -- the walk over the kept items. A reserved local item stands among the locals, so what is held is
 -- compared without these.
 use Rattle.std.proofs.Common.{◌≡◌, ◌≢◌, ℕ, ◌+◌, ◌-◌, Bool, true, false, cond, List, [], ◌∷◌, ◌++◌}
-use Rattle.std.proofs.Common.{length, take, map, filter, Option, None, Some, option_to_list, Result}
+use Rattle.std.proofs.Common.{length, take, map, filter, Option, None, option_to_list, Result}
 use Rattle.std.proofs.Common.{Err, refl, sym, ap, ◌∙◌, add-zero, append-nil, append_assoc, arith}
 use Rattle.std.proofs.lemmas.Grind.{common_steps}
 use Rattle.std.proofs.lemmas.List.{map-append, take-map, length-map}
@@ -21,7 +21,7 @@ use Rattle.hidreport_lists.specs.Entry.{Entry}
 use Rattle.hidreport_lists.specs.Itemising.{Itemises}
 use Rattle.hidreport_lists.specs.Rebuilt.{items_of, kept_entries, rebuilt_bytes, canonical_entries}
 use Rattle.hidreport_lists.proofs.CutLemmas.{itemise-items}
-use Rattle.std.proofs.Common.{flat_map}
+use Rattle.std.proofs.Common.{flat_map, sum_by, Some, Ok}
 use Rattle.hidreport_items.specs.Writing.{item_bytes}
 use Rattle.hidreport_lists.proofs.BuiltLemmas.{spelled-kept}
 use Rattle.hidreport_lists.proofs.RespellingLemmas.{are_kept, itemises-again, respelled-items}
@@ -32,15 +32,17 @@ use Rattle.hidreport.specs.Faults.{limit_fault, last_end, id_count}
 use Rattle.hidreport.specs.Places.{bits_of}
 use Rattle.hidreport.specs.Fields.{field_count, fields_made, fields_of, list_or_none, make_fields}
 use Rattle.hidreport.specs.Fields.{attributes}
-use Rattle.hidreport.specs.ItemState.{ItemState, first_of}
+use Rattle.hidreport.specs.ItemState.{ItemState, first_of, local_items, paged_local, with_page}
 use Rattle.hidreport.specs.Kinds.{Direction, Input, Output, Feature, data_of, is_main, is_pop}
-use Rattle.hidreport.specs.Kinds.{is_push, is_end_collection, collection_kind_of, local_of}
+use Rattle.hidreport.specs.Kinds.{is_push, is_end_collection, collection_kind_of}
 use Rattle.hidreport.specs.Making.{extent}
-use Rattle.hidreport.specs.Meaning.{PushReading, meaning_by, parse_by, parse_items, at_offset}
-use Rattle.hidreport.specs.Meaning.{offset_at, refusal_at}
+use Rattle.hidreport.specs.Budget.{parse_items_within}
+use Rattle.hidreport.specs.Laws.{parse_any}
+use Rattle.hidreport.specs.Meaning.{InForce, at_offset, offset_at, parse_items, refusal_at}
 use Rattle.hidreport.specs.MeaningFault.{MeaningFault}
 use Rattle.hidreport.specs.Records.{CollectionRecord, ReportRecord}
-use Rattle.hidreport.specs.Usages.{UsageList, usages_of, usages_by, last_local, single_usages}
+use Rattle.hidreport.specs.Usages.{UsageList, usages_of, usages_under, usages_with, last_local}
+use Rattle.hidreport.specs.Usages.{single_usages, standard_usages}
 use Rattle.hidreport.specs.Usages.{before_usages, on_page, range_usages, as_single, minimum_of}
 use Rattle.hidreport.specs.Usages.{maximum_of}
 use Rattle.hidreport.specs.Parser.Machine.{StateRecord, adds, after_pop, pushed_copy, added_to}
@@ -50,20 +52,25 @@ use Rattle.hidreport.specs.Parser.Machine.{last_item_state}
 use Rattle.hidreport.specs.Parser.Machine.{next_item_state, item_state_behind, next_stack}
 use Rattle.hidreport.specs.Parser.Machine.{next_state}
 use Rattle.hidreport.specs.Parser.Machine.{next_opened, next_reports, new_collection, first_state}
-use Rattle.hidreport.specs.Parser.Machine.{unless_fault, go_on, walk}
+use Rattle.hidreport.specs.Parser.Machine.{unless_fault, go_on}
+use Rattle.hidreport.specs.Parser.Budget.{is_past, left_behind, past_fault, stop_in, walk_within}
+use Rattle.hidreport.specs.Parser.Budget.{weight_in, weight_made_in, weight_opened_in}
+use Rattle.hidreport.specs.Weight.{field_weight}
 use Rattle.hidreport.specs.declared.parser.push_keeps.PushKeeps.{PushKeeps}
 use Rattle.hidreport.specs.declared.parser.push_keeps.PushKeeps.TheVariants as push_keeps
-use Rattle.hidreport.specs.Options.{reading_of}
-use Rattle.hidreport.proofs.ReadingLemmas.{walk-meaning}
+use Rattle.hidreport.specs.Options.{meaning_as, meaning_limited, parse_limited, reading_of}
+use Rattle.hidreport.specs.declared.parse_options.ParseOptions.{ParseOptions}
+use Rattle.hidreport.specs.declared.parser.paged_local.PagedLocal.{PagedLocal}
+use Rattle.hidreport.specs.declared.parser.usages_by.UsagesBy.{UsagesBy}
+use Rattle.hidreport.specs.declared.parser.usages_by.UsagesBy.TheVariants as usages_by
+use Rattle.hidreport.proofs.BudgetWalkLemmas.{meaning-walk}
+use Rattle.hidreport.proofs.HostUsageLemmas.{hosts-thin, is_kept_local, is_kept_paged, items-thin}
+use Rattle.hidreport.proofs.ParseLemmas.{nothing-spent, nothing-within}
 use Rattle.hidreport.specs.declared.parser.extent.Extent.{Extent}
-
--- the local item isn't of the reserved kind
-abbrev pub is_kept_local : LocalItem → Bool
-is_kept_local x = is_kept (item.Local x)
 
 -- the same in force, without reserved local items
 abbrev pub thin_item_state : ItemState → ItemState
-thin_item_state f = record f { locals = filter is_kept_local f.locals }
+thin_item_state f = record f { locals = filter is_kept_paged f.locals }
 
 abbrev pub thin : StateRecord → StateRecord
 thin h = record h { item_state = thin_item_state h.item_state; stack = map thin_item_state h.stack }
@@ -109,13 +116,27 @@ single-thin page (local.Usage own id ∷ xs) =
 single-thin page (local.UsageId id ∷ xs) = ap (on_page page id) (single-thin page xs)
 single-thin page (x ∷ xs) = single-thin page xs
 
-usages-by : (o : Option ℕ) (f : ItemState) → usages_by o (thin_item_state f) ≡ usages_by o f
-usages-by (Some low) f = ap (λ m. range_usages low m f.usage_page) (maximum-thin f.locals)
-usages-by None f = ap as_single (single-thin f.usage_page f.locals)
+usages-with : (low page : Option ℕ) (xs : List LocalItem)
+    → usages_with low page (filter is_kept_local xs) ≡ usages_with low page xs
+usages-with (Some low) page xs = ap (λ m. range_usages low m page) (maximum-thin xs)
+usages-with None page xs = ap as_single (single-thin page xs)
+
+standard-thin : (page : Option ℕ) (ls : List PagedLocal)
+    → standard_usages page (local_items (filter is_kept_paged ls))
+    ≡ standard_usages page (local_items ls)
+standard-thin page ls =
+    let xs = local_items ls in
+    ap (standard_usages page) (items-thin ls)
+    ∙ ap (λ o. usages_with o page (filter is_kept_local xs)) (minimum-thin xs)
+    ∙ usages-with (last_local minimum_of xs) page xs
+
+usages-by : (by : UsagesBy) (f : ItemState)
+    → usages_under by (thin_item_state f) ≡ usages_under by f
+usages-by usages_by.Standard f = standard-thin f.usage_page f.locals
+usages-by usages_by.Hosts f = ap Ok (hosts-thin f.usage_page f.locals)
 
 usages-thin : (f : ItemState) → usages_of (thin_item_state f) ≡ usages_of f
-usages-thin f = ap (λ o. usages_by o (thin_item_state f)) (minimum-thin f.locals)
-    ∙ usages-by (last_local minimum_of f.locals) f
+usages-thin f = usages-by f.usages_by f
 
 -- the same faults
 
@@ -197,23 +218,24 @@ reports-thin Feature h x = ap (λ l. cond (adds Feature h x)
 
 -- the same step, for an item that is kept
 
-list-thin : (xs : List LocalItem) (x : ItemType) → is_kept x ≡ true
-    → filter is_kept_local (xs ++ option_to_list (local_of x)) ≡ filter is_kept_local xs
-    ++ option_to_list (local_of x)
-list-thin xs (item.Local (local.Reserved n)) e = cc
-list-thin xs (item.Local y) e = filter-append is_kept_local xs (y ∷ [])
-list-thin xs x e = filter-append is_kept_local xs []
+list-thin : (page : Option ℕ) (xs : List PagedLocal) (x : ItemType) → is_kept x ≡ true
+    → filter is_kept_paged (xs ++ option_to_list (paged_local page x))
+    ≡ filter is_kept_paged xs ++ option_to_list (paged_local page x)
+list-thin page xs (item.Local (local.Reserved n)) e = cc
+list-thin page xs (item.Local y) e = filter-append is_kept_paged xs (with_page page y ∷ [])
+list-thin page xs x e = filter-append is_kept_paged xs []
 
-locals-by : (b : Bool) (xs : List LocalItem) (x : ItemType) → is_kept x ≡ true
-    → cond b [] (filter is_kept_local xs ++ option_to_list (local_of x)) ≡ filter is_kept_local
-    (cond b [] (xs ++ option_to_list (local_of x)))
-locals-by true xs x e = refl
-locals-by false xs x e = sym (list-thin xs x e)
+locals-by : (b : Bool) (page : Option ℕ) (xs : List PagedLocal) (x : ItemType)
+    → is_kept x ≡ true
+    → cond b [] (filter is_kept_paged xs ++ option_to_list (paged_local page x))
+    ≡ filter is_kept_paged (cond b [] (xs ++ option_to_list (paged_local page x)))
+locals-by true page xs x e = refl
+locals-by false page xs x e = sym (list-thin page xs x e)
 
 item_state-thin : (f : ItemState) (x : ItemType) → is_kept x ≡ true
     → next_item_state (thin_item_state f) x ≡ thin_item_state (next_item_state f x)
-item_state-thin f x e = ap (λ (l : List LocalItem). record (next_item_state f x) { locals = l })
-    (locals-by (is_main x) f.locals x e)
+item_state-thin f x e = ap (λ (l : List PagedLocal). record (next_item_state f x) { locals = l })
+    (locals-by (is_main x) f.usage_page f.locals x e)
 
 last-thin : (f : ItemState) (ts : List ItemState)
     → last_item_state (thin_item_state f) (map thin_item_state ts)
@@ -317,8 +339,8 @@ not-kept-fault h item.Long e = refl
 not-kept-fault h item.Reserved e = refl
 
 -- what is held with other locals, where nothing else changes
-idle-thin : (h : StateRecord) (locals : List LocalItem)
-    → filter is_kept_local locals ≡ filter is_kept_local h.item_state.locals
+idle-thin : (h : StateRecord) (locals : List PagedLocal)
+    → filter is_kept_paged locals ≡ filter is_kept_paged h.item_state.locals
     → thin (record {
       keeping = h.keeping;
       item_state = record h.item_state { locals = locals };
@@ -330,7 +352,7 @@ idle-thin : (h : StateRecord) (locals : List LocalItem)
           h.collections + 0;
     }) ≡ thin h
 idle-thin h locals e =
-    let made : List LocalItem → ℕ → List CollectionRecord → ℕ → StateRecord =
+    let made : List PagedLocal → ℕ → List CollectionRecord → ℕ → StateRecord =
     λ l n cs m. record {
       keeping = h.keeping;
       item_state = record h.item_state { locals = l };
@@ -343,12 +365,12 @@ idle-thin h locals e =
     }
     in
     ap (λ l. made l (h.fields + 0) (h.opened ++ []) (h.collections + 0)) e
-    ∙ ap (λ n. made (filter is_kept_local h.item_state.locals) n (h.opened ++ [])
+    ∙ ap (λ n. made (filter is_kept_paged h.item_state.locals) n (h.opened ++ [])
     (h.collections + 0))
     (add-zero h.fields)
-    ∙ ap (λ cs. made (filter is_kept_local h.item_state.locals) h.fields cs (h.collections + 0))
+    ∙ ap (λ cs. made (filter is_kept_paged h.item_state.locals) h.fields cs (h.collections + 0))
     (append-nil h.opened)
-    ∙ ap (λ m. made (filter is_kept_local h.item_state.locals) h.fields h.opened m)
+    ∙ ap (λ m. made (filter is_kept_paged h.item_state.locals) h.fields h.opened m)
     (add-zero h.collections)
 
 not-kept-thin : (h : StateRecord) (x : ItemType) → is_kept x ≡ false
@@ -356,18 +378,66 @@ not-kept-thin : (h : StateRecord) (x : ItemType) → is_kept x ≡ false
 not-kept-thin h (item.Main y) e = cc
 not-kept-thin h (item.Global global.Reserved) e =
     idle-thin h (h.item_state.locals ++ [])
-    (ap (filter is_kept_local) (append-nil h.item_state.locals))
+    (ap (filter is_kept_paged) (append-nil h.item_state.locals))
 not-kept-thin h (item.Global g) e = cc
 not-kept-thin h (item.Local (local.Reserved n)) e =
-    idle-thin h (h.item_state.locals ++ local.Reserved n ∷ [])
-    (filter-append is_kept_local h.item_state.locals (local.Reserved n ∷ [])
-    ∙ append-nil (filter is_kept_local h.item_state.locals))
+    let more : List PagedLocal = with_page h.item_state.usage_page (local.Reserved n) ∷ [] in
+    idle-thin h (h.item_state.locals ++ more)
+    (filter-append is_kept_paged h.item_state.locals more
+    ∙ append-nil (filter is_kept_paged h.item_state.locals))
 not-kept-thin h (item.Local y) e = cc
 not-kept-thin h item.Long e = idle-thin h (h.item_state.locals ++ [])
-    (ap (filter is_kept_local) (append-nil h.item_state.locals))
+    (ap (filter is_kept_paged) (append-nil h.item_state.locals))
 not-kept-thin h item.Reserved e =
     idle-thin h (h.item_state.locals ++ [])
-    (ap (filter is_kept_local) (append-nil h.item_state.locals))
+    (ap (filter is_kept_paged) (append-nil h.item_state.locals))
+
+-- the same weights
+
+made-weight : (o : Option (Direction × Flags)) (h : StateRecord)
+    → weight_made_in (thin h) o ≡ weight_made_in h o
+made-weight None h = refl
+made-weight (Some (Input, flags)) h = ap (sum_by field_weight)
+    (fields-thin h.item_state h.opened h.fields (start_in Input h) (Some (Input, flags))
+    (extent h.item_state))
+made-weight (Some (Output, flags)) h = ap (sum_by field_weight)
+    (fields-thin h.item_state h.opened h.fields (start_in Output h) (Some (Output, flags))
+    (extent h.item_state))
+made-weight (Some (Feature, flags)) h = ap (sum_by field_weight)
+    (fields-thin h.item_state h.opened h.fields (start_in Feature h) (Some (Feature, flags))
+    (extent h.item_state))
+
+opened-weight : (o : Option CollectionItem) (h : StateRecord)
+    → weight_opened_in (thin h) o ≡ weight_opened_in h o
+opened-weight None h = refl
+opened-weight (Some kind) h =
+    ap (λ u. 1 + length (list_or_none u).usages) (usages-thin h.item_state)
+
+weight-thin : (h : StateRecord) (x : ItemType) → weight_in (thin h) x ≡ weight_in h x
+weight-thin h x =
+    ap (λ n. n + weight_made_in (thin h) (data_of x)) (opened-weight (collection_kind_of x) h)
+    ∙ ap (λ n. weight_opened_in h (collection_kind_of x) + n) (made-weight (data_of x) h)
+
+stop-thin : (left : Option ℕ) (h : StateRecord) (x : ItemType)
+    → stop_in left (thin h) x ≡ stop_in left h x
+stop-thin left h x =
+    ap (λ o. first_of o (past_fault (is_past left (weight_in (thin h) x)))) (fault-thin h x)
+    ∙ ap (λ n. first_of (fault_in h x) (past_fault (is_past left n))) (weight-thin h x)
+
+-- an item that isn't kept weighs nothing
+not-kept-weight : (h : StateRecord) (x : ItemType) → is_kept x ≡ false → weight_in h x ≡ 0
+not-kept-weight h (item.Main y) e = cc
+not-kept-weight h (item.Global g) e = refl
+not-kept-weight h (item.Local y) e = refl
+not-kept-weight h item.Long e = refl
+not-kept-weight h item.Reserved e = refl
+
+not-kept-stop : (left : Option ℕ) (h : StateRecord) (x : ItemType) → is_kept x ≡ false
+    → stop_in left h x ≡ None
+not-kept-stop left h x e =
+    ap (λ o. first_of o (past_fault (is_past left (weight_in h x)))) (not-kept-fault h x e)
+    ∙ ap (λ n. past_fault (is_past left n)) (not-kept-weight h x e)
+    ∙ ap past_fault (nothing-within left)
 
 -- the walk over all items and that over the kept ones, faults at their own offsets
 
@@ -376,123 +446,152 @@ offset-behind : (front rest : List Entry) (e : Entry)
 offset-behind [] rest e = refl
 offset-behind (f ∷ front) rest e = offset-behind front rest e
 
-abbrev Walks : List Entry → List Entry → List Entry → StateRecord → Type 0
-Walks front some rest h =
-    at_offset (front ++ rest) (walk h (length front) (items_of rest)) ≡ at_offset
-    (some ++ kept_entries rest) (walk (thin h) (length some) (items_of (kept_entries rest)))
+abbrev Walks : Option ℕ → List Entry → List Entry → List Entry → StateRecord → Type 0
+Walks left front some rest h =
+    at_offset (front ++ rest) (walk_within left h (length front) (items_of rest)) ≡ at_offset
+    (some ++ kept_entries rest)
+    (walk_within left (thin h) (length some) (items_of (kept_entries rest)))
 
 -- the faults of an item at two places
-fault-by : (o : Option MeaningFault) (front some es fs : List Entry) (e : Entry) (h g : StateRecord)
-    → fault_in h e.item ≡ o → fault_in g e.item ≡ o
+fault-by : (o : Option MeaningFault) (left : Option ℕ) (front some es fs : List Entry) (e : Entry)
+    (h g : StateRecord) (m n : Option ℕ)
+    → stop_in left h e.item ≡ o → stop_in left g e.item ≡ o
+    → left_behind left (weight_in h e.item) ≡ m → left_behind left (weight_in g e.item) ≡ n
     → (o ≡ None → at_offset (front ++ e ∷ es)
-    (walk (next_state h e.item) (length front + 1) (items_of es))
-    ≡ at_offset (some ++ e ∷ fs) (walk (next_state g e.item) (length some + 1) (items_of fs)))
-    → at_offset (front ++ e ∷ es) (walk h (length front) (items_of (e ∷ es))) ≡ at_offset
-    (some ++ e ∷ fs) (walk g (length some) (items_of (e ∷ fs)))
-fault-by None front some es fs e h g p q later =
+    (walk_within m (next_state h e.item) (length front + 1) (items_of es))
+    ≡ at_offset (some ++ e ∷ fs)
+    (walk_within n (next_state g e.item) (length some + 1) (items_of fs)))
+    → at_offset (front ++ e ∷ es) (walk_within left h (length front) (items_of (e ∷ es)))
+    ≡ at_offset (some ++ e ∷ fs) (walk_within left g (length some) (items_of (e ∷ fs)))
+fault-by None left front some es fs e h g m n p q a b later =
     ap (λ o. at_offset (front ++ e ∷ es)
     (go_on (unless_fault o (next_state h e.item)) (length front)
-    (λ n. walk n (length front + 1) (items_of es)))) p
+    (λ next. walk_within (left_behind left (weight_in h e.item)) next (length front + 1)
+    (items_of es)))) p
+    ∙ ap (λ l. at_offset (front ++ e ∷ es)
+    (walk_within l (next_state h e.item) (length front + 1) (items_of es))) a
     ∙ later refl
     ∙ sym (ap (λ o. at_offset (some ++ e ∷ fs)
     (go_on (unless_fault o (next_state g e.item)) (length some)
-    (λ n. walk n (length some + 1) (items_of fs)))) q)
-fault-by (Some fault) front some es fs e h g p q later =
+    (λ next. walk_within (left_behind left (weight_in g e.item)) next (length some + 1)
+    (items_of fs)))) q
+    ∙ ap (λ l. at_offset (some ++ e ∷ fs)
+    (walk_within l (next_state g e.item) (length some + 1) (items_of fs))) b)
+fault-by (Some fault) left front some es fs e h g m n p q a b later =
     ap (λ o. at_offset (front ++ e ∷ es)
     (go_on (unless_fault o (next_state h e.item)) (length front)
-    (λ n. walk n (length front + 1) (items_of es)))) p
+    (λ next. walk_within (left_behind left (weight_in h e.item)) next (length front + 1)
+    (items_of es)))) p
     ∙ ap (λ n. Err (refusal_at n fault)) (offset-behind front es e ∙ sym (offset-behind some fs e))
     ∙ sym (ap (λ o. at_offset (some ++ e ∷ fs)
     (go_on (unless_fault o (next_state g e.item)) (length some)
-    (λ n. walk n (length some + 1) (items_of fs)))) q)
+    (λ next. walk_within (left_behind left (weight_in g e.item)) next (length some + 1)
+    (items_of fs)))) q)
 
 -- one entry further on a side
-further : (front es : List Entry) (e : Entry) (h : StateRecord)
-    → at_offset (front ++ e ∷ es) (walk h (length front + 1) (items_of es)) ≡ at_offset
-    ((front ++ e ∷ []) ++ es) (walk h (length (front ++ e ∷ [])) (items_of es))
-further front es e h =
+further : (left : Option ℕ) (front es : List Entry) (e : Entry) (h : StateRecord)
+    → at_offset (front ++ e ∷ es) (walk_within left h (length front + 1) (items_of es)) ≡ at_offset
+    ((front ++ e ∷ []) ++ es) (walk_within left h (length (front ++ e ∷ [])) (items_of es))
+further left front es e h =
     let size : length front + 1 ≡ length (front ++ e ∷ []) = grind (arith, common_steps) in
-    ap (λ l. at_offset l (walk h (length front + 1) (items_of es)))
+    ap (λ l. at_offset l (walk_within left h (length front + 1) (items_of es)))
     (sym (append_assoc front (e ∷ []) es))
-    ∙ ap (λ n. at_offset ((front ++ e ∷ []) ++ es) (walk h n (items_of es))) size
+    ∙ ap (λ n. at_offset ((front ++ e ∷ []) ++ es) (walk_within left h n (items_of es))) size
 
-walk-by : (b : Bool) (front some es : List Entry) (e : Entry) (h : StateRecord) → is_kept e.item ≡ b
-    → ((front some : List Entry) (h : StateRecord) → Walks front some es h)
-    → at_offset (front ++ e ∷ es) (walk h (length front) (items_of (e ∷ es)))
+walk-by : (b : Bool) (left : Option ℕ) (front some es : List Entry) (e : Entry) (h : StateRecord)
+    → is_kept e.item ≡ b
+    → ((left : Option ℕ) (front some : List Entry) (h : StateRecord)
+    → Walks left front some es h)
+    → at_offset (front ++ e ∷ es) (walk_within left h (length front) (items_of (e ∷ es)))
     ≡ at_offset (some ++ cond b (e ∷ kept_entries es) (kept_entries es))
-    (walk (thin h) (length some) (items_of (cond b (e ∷ kept_entries es) (kept_entries es))))
-walk-by true front some es e h is later =
-    fault-by (fault_in h e.item) front some es (kept_entries es) e h (thin h) refl
-    (fault-thin h e.item)
-    (λ faultless. further front es e (next_state h e.item)
-    ∙ later (front ++ e ∷ []) (some ++ e ∷ []) (next_state h e.item)
+    (walk_within left (thin h) (length some)
+    (items_of (cond b (e ∷ kept_entries es) (kept_entries es))))
+walk-by true left front some es e h is later =
+    let more = left_behind left (weight_in h e.item) in
+    fault-by (stop_in left h e.item) left front some es (kept_entries es) e h (thin h) more more
+    refl (stop-thin left h e.item) refl (ap (left_behind left) (weight-thin h e.item))
+    (λ faultless. further more front es e (next_state h e.item)
+    ∙ later more (front ++ e ∷ []) (some ++ e ∷ []) (next_state h e.item)
     ∙ ap (λ n. at_offset ((some ++ e ∷ []) ++ kept_entries es)
-    (walk n (length (some ++ e ∷ [])) (items_of (kept_entries es)))) (sym (next-thin h e.item is))
-    ∙ sym (further some (kept_entries es) e (next_state (thin h) e.item)))
-walk-by false front some es e h is later =
+    (walk_within more n (length (some ++ e ∷ [])) (items_of (kept_entries es))))
+    (sym (next-thin h e.item is))
+    ∙ sym (further more some (kept_entries es) e (next_state (thin h) e.item)))
+walk-by false left front some es e h is later =
     ap (λ o. at_offset (front ++ e ∷ es)
     (go_on (unless_fault o (next_state h e.item)) (length front)
-    (λ n. walk n (length front + 1) (items_of es)))) (not-kept-fault h e.item is)
-    ∙ further front es e (next_state h e.item)
-    ∙ later (front ++ e ∷ []) some (next_state h e.item)
+    (λ n. walk_within (left_behind left (weight_in h e.item)) n (length front + 1)
+    (items_of es)))) (not-kept-stop left h e.item is)
+    ∙ ap (λ w. at_offset (front ++ e ∷ es) (walk_within (left_behind left w)
+    (next_state h e.item) (length front + 1) (items_of es))) (not-kept-weight h e.item is)
+    ∙ ap (λ l. at_offset (front ++ e ∷ es) (walk_within l (next_state h e.item)
+    (length front + 1) (items_of es))) (nothing-spent left)
+    ∙ further left front es e (next_state h e.item)
+    ∙ later left (front ++ e ∷ []) some (next_state h e.item)
     ∙ ap (λ n. at_offset (some ++ kept_entries es)
-    (walk n (length some) (items_of (kept_entries es))))
+    (walk_within left n (length some) (items_of (kept_entries es))))
     (not-kept-thin h e.item is)
 
-walk-from : (front some rest : List Entry) (h : StateRecord) → Walks front some rest h
-walk-from front some [] h = refl
-walk-from front some (e ∷ es) h =
-    walk-by (is_kept e.item) front some es e h refl (λ f s n. walk-from f s es n)
+walk-from : (left : Option ℕ) (front some rest : List Entry) (h : StateRecord)
+    → Walks left front some rest h
+walk-from left front some [] h = refl
+walk-from left front some (e ∷ es) h =
+    walk-by (is_kept e.item) left front some es e h refl (λ l f s n. walk-from l f s es n)
 
 -- the walk over the kept items gives the same, faults at the offsets of their items
-pub walk-kept : (keeping : PushKeeps) (entries : List Entry)
-    → at_offset entries (walk (first_state keeping) 0 (items_of entries)) ≡ at_offset
-    (kept_entries entries) (walk (first_state keeping) 0 (items_of (kept_entries entries)))
-walk-kept keeping entries = walk-from [] [] entries (first_state keeping)
+meaning-kept : (options : ParseOptions) (entries : List Entry)
+    → at_offset entries (meaning_as options (items_of entries))
+    ≡ at_offset (kept_entries entries) (meaning_as options (items_of (kept_entries entries)))
+meaning-kept options entries =
+    ap (at_offset entries) (meaning-walk options (items_of entries))
+    ∙ walk-from options.limit [] [] entries (first_state options)
+    ∙ sym (ap (at_offset (kept_entries entries))
+    (meaning-walk options (items_of (kept_entries entries))))
 
-pub meaning-kept : (keeping : PushKeeps) (entries : List Entry)
-    → at_offset entries (meaning_by (reading_of keeping) (items_of entries)) ≡ at_offset
-    (kept_entries entries) (meaning_by (reading_of keeping) (items_of (kept_entries entries)))
-meaning-kept keeping entries =
-    ap (at_offset entries) (sym (walk-meaning keeping (items_of entries)))
-    ∙ walk-kept keeping entries
-    ∙ ap (at_offset (kept_entries entries)) (walk-meaning keeping (items_of (kept_entries entries)))
-
-parse-items : (reading : PushReading) (bytes : List ℕ) (entries : List Entry)
+-- the bytes that some entries itemise are read as these
+parse-by : (reading : InForce) (limit : Option ℕ) (bytes : List ℕ) (entries : List Entry)
     → Itemises item_of bytes entries
-    → parse_by reading bytes ≡ at_offset entries (meaning_by reading (items_of entries))
-parse-items reading [] entries i = absurd (i.some refl)
-parse-items reading (b ∷ bs) entries i =
+    → parse_limited reading limit bytes
+    ≡ at_offset entries (meaning_limited reading limit (items_of entries))
+parse-by reading None [] entries i = absurd (i.some refl)
+parse-by reading (Some limit) [] entries i = absurd (i.some refl)
+parse-by reading None (b ∷ bs) entries i =
     ap (parse_items reading) (itemise-items item_of (b ∷ bs) entries i)
+parse-by reading (Some limit) (b ∷ bs) entries i =
+    ap (parse_items_within reading limit) (itemise-items item_of (b ∷ bs) entries i)
+
+parse-items : (options : ParseOptions) (bytes : List ℕ) (entries : List Entry)
+    → Itemises item_of bytes entries
+    → parse_any options bytes ≡ at_offset entries (meaning_as options (items_of entries))
+parse-items options bytes entries i =
+    parse-by (reading_of options) options.limit bytes entries i
 
 -- the bytes of a descriptor are read as their kept items
-pub parse-kept : (keeping : PushKeeps) (bytes : List ℕ) (entries : List Entry)
+pub parse-kept : (options : ParseOptions) (bytes : List ℕ) (entries : List Entry)
     → Itemises item_of bytes entries
-    → parse_by (reading_of keeping) bytes ≡ at_offset (kept_entries entries)
-    (meaning_by (reading_of keeping) (items_of (kept_entries entries)))
-parse-kept keeping bytes entries i = parse-items (reading_of keeping) bytes entries i
-    ∙ meaning-kept keeping entries
+    → parse_any options bytes ≡ at_offset (kept_entries entries)
+    (meaning_as options (items_of (kept_entries entries)))
+parse-kept options bytes entries i =
+    parse-items options bytes entries i ∙ meaning-kept options entries
 
 -- and so are the bytes that are written for these
-pub parse-rebuilt : (reading : PushReading) (bytes : List ℕ) (entries : List Entry)
+pub parse-rebuilt : (options : ParseOptions) (bytes : List ℕ) (entries : List Entry)
     → Itemises item_of bytes entries → rebuilt_bytes entries ≢ []
-    → parse_by reading (rebuilt_bytes entries)
+    → parse_any options (rebuilt_bytes entries)
     ≡ at_offset (canonical_entries 0 (items_of (kept_entries entries)))
-    (meaning_by reading (items_of (kept_entries entries)))
-parse-rebuilt reading bytes entries i some =
+    (meaning_as options (items_of (kept_entries entries)))
+parse-rebuilt options bytes entries i some =
     let xs = items_of (kept_entries entries) in
-    parse-items reading (rebuilt_bytes entries) (canonical_entries 0 xs)
+    parse-items options (rebuilt_bytes entries) (canonical_entries 0 xs)
     (itemises-again xs (are_kept entries i.each) some)
-    ∙ ap (λ l. at_offset (canonical_entries 0 xs) (meaning_by reading l)) (respelled-items xs 0)
+    ∙ ap (λ l. at_offset (canonical_entries 0 xs) (meaning_as options l)) (respelled-items xs 0)
 
 -- and so are the bytes that a builder writes
-pub parse-built : (keeping : PushKeeps) (items : List ItemType) → AreSpelled items
+pub parse-built : (options : ParseOptions) (items : List ItemType) → AreSpelled items
     → flat_map item_bytes items ≢ []
-    → parse_by (reading_of keeping) (flat_map item_bytes items)
-    ≡ at_offset (canonical_entries 0 items) (meaning_by (reading_of keeping) items)
-parse-built keeping items spelled some =
-    let reading = reading_of keeping in
-    parse-items reading (flat_map item_bytes items) (canonical_entries 0 items)
+    → parse_any options (flat_map item_bytes items)
+    ≡ at_offset (canonical_entries 0 items) (meaning_as options items)
+parse-built options items spelled some =
+    parse-items options (flat_map item_bytes items) (canonical_entries 0 items)
     (itemises-again items (spelled-kept items spelled) some)
-    ∙ ap (λ l. at_offset (canonical_entries 0 items) (meaning_by reading l))
+    ∙ ap (λ l. at_offset (canonical_entries 0 items) (meaning_as options l))
     (respelled-items items 0)

@@ -7,10 +7,11 @@ use Rattle.std.proofs.lemmas.Grind.{common_steps}
 use Rattle.std.proofs.lemmas.List.{map-append, take-map}
 use Rattle.std.proofs.lemmas.List.Elements.{filter-append}
 use Rattle.hidreport_items.specs.declared.item.ItemType.{ItemType}
-use Rattle.hidreport.specs.ItemState.{ItemState, item_state}
-use Rattle.hidreport.specs.Kinds.{Indexed, is_push, is_pop}
+use Rattle.hidreport.specs.ItemState.{ItemState, global, item_state}
+use Rattle.hidreport.specs.Kinds.{Indexed, is_push, is_pop, usage_page_of}
 use Rattle.hidreport.specs.Parser.Machine.{next_item_state, last_item_state}
 use Rattle.hidreport.specs.Visibility.{before, level, stays_up, is_visible, visible}
+use Rattle.hidreport.specs.declared.parser.usages_by.UsagesBy.{UsagesBy}
 use Rattle.hidreport.proofs.DataLemmas.{last_item_state-end}
 use Rattle.hidreport.proofs.IndexedLemmas.{count_up, length-count_up, count_up-next, take-count_up}
 use Rattle.hidreport.proofs.IndexedLemmas.{filter-both, filter-same-below, and_last, and_true}
@@ -145,8 +146,9 @@ up_to-more items n ps p lt =
     ∙ ap (λ b. up_to items n ps ++ cond b (p ∷ []) []) above ∙ append-nil (up_to items n ps)
 
 -- what was in force at the level n
-abbrev pub item_state_at : List ItemType → ℕ → ℕ → ItemState
-item_state_at items k n = item_states (up_to items n (visible items k))
+abbrev pub item_state_at : UsagesBy → List ItemType → ℕ → ℕ → ItemState
+item_state_at by items k n =
+    item_states by (global usage_page_of items) (up_to items n (visible items k))
 
 map-count_up : (f g : ℕ → ItemState) (a n : ℕ) → ((i : ℕ) → i < a + n → f i ≡ g i)
     → map f (count_up a n) ≡ map g (count_up a n)
@@ -165,12 +167,13 @@ pub rests-nothing : (items : List ItemType) → Rests items 0
 rests-nothing items = record { low = tt; below = tt; balanced = omega arith }
 
 -- what the open Pushes keep
-abbrev pub stack : List ItemType → ℕ → List ItemState
-stack items k = map (item_state_at items k) (count_up 0 (level items k))
+abbrev pub stack : UsagesBy → List ItemType → ℕ → List ItemState
+stack by items k = map (item_state_at by items k) (count_up 0 (level items k))
 
-pub length-stack : (items : List ItemType) (k : ℕ) → length (stack items k) ≡ level items k
-length-stack items k =
-    let size : length (stack items k) ≡ length (count_up 0 (level items k)) =
+pub length-stack : (by : UsagesBy) (items : List ItemType) (k : ℕ)
+    → length (stack by items k) ≡ level items k
+length-stack by items k =
+    let size : length (stack by items k) ≡ length (count_up 0 (level items k)) =
     grind (arith, common_steps) in
     size ∙ length-count_up 0 (level items k)
 
@@ -196,21 +199,22 @@ below-later k [] below = tt
 below-later k (q ∷ ps) below = (omega (arith, below.0), below-later k ps below.1)
 
 -- what is in force behind such an item, and what it leaves of the levels below it
-record Risen (items : List ItemType) (k : ℕ) (x : ItemType) : Type 0 where
-  pub goes_on : item_state items (suc k) ≡ next_item_state (item_state items k) x
-  pub older : (n : ℕ) → n < level items k → item_state_at items (suc k) n ≡ item_state_at items k n
+record Risen (by : UsagesBy) (items : List ItemType) (k : ℕ) (x : ItemType) : Type 0 where
+  pub goes_on : item_state by items (suc k) ≡ next_item_state (item_state by items k) x
+  pub older : (n : ℕ) → n < level items k → item_state_at by items (suc k) n ≡ item_state_at by items k n
   pub rests : Rests items (suc k)
 
-risen : (items front rest : List ItemType) (x : ItemType) → items ≡ front ++ x ∷ rest
+risen : (by : UsagesBy) (items front rest : List ItemType) (x : ItemType) → items ≡ front ++ x ∷ rest
     → Rests items (length front) → level items (length front) ≤ level items (suc (length front))
     → count_by is_pop (take (suc (length front)) items) ≤ count_by is_push
-    (take (suc (length front)) items) → Risen items (length front) x
-risen items front rest x e r le balanced =
+    (take (suc (length front)) items) → Risen by items (length front) x
+risen by items front rest x e r le balanced =
     let k = length front in
     let all = risen-visible items front rest x e r le in
     record {
-      goes_on = ap item_states all ∙ item_states-next (visible items k) k x r.below;
-      older = λ n lt. ap item_states (ap (up_to items n) all
+      goes_on = ap (item_states by (global usage_page_of items)) all ∙ item_states-next by (global usage_page_of items)
+          (visible items k) k x r.below refl;
+      older = λ n lt. ap (item_states by (global usage_page_of items)) (ap (up_to items n) all
           ∙ up_to-more items n (visible items k) (k, x) lt);
       rests = record {
         low = subst (λ (l : List Indexed). AreLow items (level items (suc k)) l) (sym all)
@@ -223,41 +227,41 @@ risen items front rest x e r le balanced =
     }
 
 -- a step: what is in force, what is kept, and that it rests
-pub record Stepped (items : List ItemType) (k : ℕ) (f : ItemState)
+pub record Stepped (by : UsagesBy) (items : List ItemType) (k : ℕ) (f : ItemState)
     (saved : List ItemState) : Type 0 where
-  pub item_states_next : item_state items (suc k) ≡ f
-  pub stack_next : stack items (suc k) ≡ saved
+  pub item_states_next : item_state by items (suc k) ≡ f
+  pub stack_next : stack by items (suc k) ≡ saved
   pub rests_next : Rests items (suc k)
 
 -- an item that is neither Push nor Pop
-pub plain-step : (items front rest : List ItemType) (x : ItemType) → items ≡ front ++ x ∷ rest
+pub plain-step : (by : UsagesBy) (items front rest : List ItemType) (x : ItemType) → items ≡ front ++ x ∷ rest
     → Rests items (length front) → is_push x ≡ false → is_pop x ≡ false
-    → Stepped items (length front) (next_item_state (item_state items (length front)) x)
-    (stack items (length front))
-plain-step items front rest x e r no_push no_pop =
+    → Stepped by items (length front) (next_item_state (item_state by items (length front)) x)
+    (stack by items (length front))
+plain-step by items front rest x e r no_push no_pop =
     let k = length front in
     let pushes = count-next is_push items front rest x e
     ∙ ap (λ b. count_by is_push (take k items) + cond b 1 0) no_push in
     let pops = count-next is_pop items front rest x e
     ∙ ap (λ b. count_by is_pop (take k items) + cond b 1 0) no_pop in
     let same : level items (suc k) ≡ level items k = omega (arith, pushes, pops) in
-    let up = risen items front rest x e r (omega (arith, same))
+    let up = risen by items front rest x e r (omega (arith, same))
     (omega (arith, pushes, pops, r.balanced)) in
     record {
       item_states_next = up.goes_on;
-      stack_next = ap (λ n. map (item_state_at items (suc k)) (count_up 0 n)) same
-          ∙ map-count_up (item_state_at items (suc k)) (item_state_at items k) 0 (level items k)
+      stack_next = ap (λ n. map (item_state_at by items (suc k)) (count_up 0 n)) same
+          ∙ map-count_up (item_state_at by items (suc k)) (item_state_at by items k) 0 (level items k)
           (λ i lt. up.older i (omega (arith, lt)));
       rests_next = up.rests;
     }
 
 -- a Push
-pub push-step : (items front rest : List ItemType) (x : ItemType) → items ≡ front ++ x ∷ rest
+pub push-step : (by : UsagesBy) (items front rest : List ItemType) (x : ItemType) → items ≡ front ++ x ∷ rest
     → Rests items (length front) → is_push x ≡ true → is_pop x ≡ false
-    → next_item_state (item_state items (length front)) x ≡ item_state items (length front)
-    → Stepped items (length front) (next_item_state (item_state items (length front)) x)
-    (stack items (length front) ++ item_state items (length front) ∷ [])
-push-step items front rest x e r push no_pop unchanged =
+    → next_item_state (item_state by items (length front)) x ≡ item_state by items (length front)
+    → Stepped by items (length front) (next_item_state (item_state by items (length front)) x)
+    (stack by items (length front) ++ item_state by items (length front) ∷ [])
+push-step by items front rest x e r push no_pop unchanged =
     let k = length front in
     let pushes = count-next is_push items front rest x e
     ∙ ap (λ b. count_by is_push (take k items) + cond b 1 0) push in
@@ -265,36 +269,36 @@ push-step items front rest x e r push no_pop unchanged =
     ∙ ap (λ b. count_by is_pop (take k items) + cond b 1 0) no_pop in
     let higher : level items (suc k) ≡ suc (level items k) =
     omega (arith, pushes, pops, r.balanced) in
-    let up = risen items front rest x e r (omega (arith, higher))
+    let up = risen by items front rest x e r (omega (arith, higher))
     (omega (arith, pushes, pops, r.balanced)) in
     let all = risen-visible items front rest x e r (omega (arith, higher)) in
-    let own : item_state_at items (suc k) (level items k) ≡ item_state items k =
-    ap item_states (ap (up_to items (level items k)) all
+    let own : item_state_at by items (suc k) (level items k) ≡ item_state by items k =
+    ap (item_states by (global usage_page_of items)) (ap (up_to items (level items k)) all
     ∙ low-all items (level items k) (visible items k ++ (k, x) ∷ [])
     (low-more items (level items k) (visible items k) (k, x) r.low (omega arith)) ∙ sym all)
     ∙ up.goes_on ∙ unchanged in
     record {
       item_states_next = up.goes_on;
-      stack_next = ap (λ n. map (item_state_at items (suc k)) (count_up 0 n)) higher
-          ∙ ap (map (item_state_at items (suc k))) (count_up-next 0 (level items k))
-          ∙ map-append (item_state_at items (suc k)) (count_up 0 (level items k))
+      stack_next = ap (λ n. map (item_state_at by items (suc k)) (count_up 0 n)) higher
+          ∙ ap (map (item_state_at by items (suc k))) (count_up-next 0 (level items k))
+          ∙ map-append (item_state_at by items (suc k)) (count_up 0 (level items k))
           ((0 + level items k) ∷ [])
-          ∙ ap (λ l. l ++ item_state_at items (suc k) (0 + level items k) ∷ [])
-          (map-count_up (item_state_at items (suc k)) (item_state_at items k) 0 (level items k)
+          ∙ ap (λ l. l ++ item_state_at by items (suc k) (0 + level items k) ∷ [])
+          (map-count_up (item_state_at by items (suc k)) (item_state_at by items k) 0 (level items k)
           (λ i lt. up.older i (omega (arith, lt))))
-          ∙ ap (λ n. stack items k ++ item_state_at items (suc k) n ∷ []) (zero-add (level items k))
-          ∙ ap (λ (f : ItemState). stack items k ++ f ∷ []) own;
+          ∙ ap (λ n. stack by items k ++ item_state_at by items (suc k) n ∷ []) (zero-add (level items k))
+          ∙ ap (λ (f : ItemState). stack by items k ++ f ∷ []) own;
       rests_next = up.rests;
     }
 
 -- a Pop, where a Push is open
-pub pop-step : (items front rest : List ItemType) (x : ItemType) → items ≡ front ++ x ∷ rest
+pub pop-step : (by : UsagesBy) (items front rest : List ItemType) (x : ItemType) → items ≡ front ++ x ∷ rest
     → Rests items (length front) → is_push x ≡ false → is_pop x ≡ true
     → 0 < level items (length front)
     → (f : ItemState)
-    → Stepped items (length front) (last_item_state f (stack items (length front)))
-    (take (length (stack items (length front)) - 1) (stack items (length front)))
-pop-step items front rest x e r no_push pop deep f =
+    → Stepped by items (length front) (last_item_state f (stack by items (length front)))
+    (take (length (stack by items (length front)) - 1) (stack by items (length front)))
+pop-step by items front rest x e r no_push pop deep f =
     let k = length front in
     let pushes = count-next is_push items front rest x e
     ∙ ap (λ b. count_by is_push (take k items) + cond b 1 0) no_push in
@@ -309,30 +313,30 @@ pop-step items front rest x e r no_push pop deep f =
     ∙ ap (λ b. up_to items (level items (suc k)) (visible items k) ++ cond b ((k, x) ∷ []) [])
     hidden
     ∙ append-nil (up_to items (level items (suc k)) (visible items k)) in
-    let ended : stack items k ≡ map (item_state_at items k) (count_up 0 (level items (suc k)))
-    ++ item_state_at
+    let ended : stack by items k ≡ map (item_state_at by items k) (count_up 0 (level items (suc k)))
+    ++ item_state_at by
     items k (level items (suc k)) ∷ [] =
-    ap (λ n. map (item_state_at items k) (count_up 0 n)) more
-    ∙ ap (map (item_state_at items k)) (count_up-next 0 (level items (suc k)))
-    ∙ map-append (item_state_at items k) (count_up 0 (level items (suc k)))
+    ap (λ n. map (item_state_at by items k) (count_up 0 n)) more
+    ∙ ap (map (item_state_at by items k)) (count_up-next 0 (level items (suc k)))
+    ∙ map-append (item_state_at by items k) (count_up 0 (level items (suc k)))
     ((0 + level items (suc k)) ∷ [])
-    ∙ ap (λ n. map (item_state_at items k) (count_up 0 (level items (suc k)))
-    ++ item_state_at items k n ∷ [])
+    ∙ ap (λ n. map (item_state_at by items k) (count_up 0 (level items (suc k)))
+    ++ item_state_at by items k n ∷ [])
     (zero-add (level items (suc k))) in
-    let fewer : length (stack items k) - 1 ≡ level items (suc k) =
-    omega (arith, length-stack items k, more) in
+    let fewer : length (stack by items k) - 1 ≡ level items (suc k) =
+    omega (arith, length-stack by items k, more) in
     record {
-      item_states_next = ap item_states all
+      item_states_next = ap (item_states by (global usage_page_of items)) all
           ∙ sym (ap (last_item_state f) ended
-          ∙ last_item_state-end f (item_state_at items k (level items (suc k)))
-          (map (item_state_at items k) (count_up 0 (level items (suc k)))));
-      stack_next = map-count_up (item_state_at items (suc k)) (item_state_at items k) 0
+          ∙ last_item_state-end f (item_state_at by items k (level items (suc k)))
+          (map (item_state_at by items k) (count_up 0 (level items (suc k)))));
+      stack_next = map-count_up (item_state_at by items (suc k)) (item_state_at by items k) 0
           (level items (suc k))
-          (λ i lt. ap item_states (ap (up_to items i) all
+          (λ i lt. ap (item_states by (global usage_page_of items)) (ap (up_to items i) all
           ∙ up_to-twice items i (level items (suc k)) (visible items k) (omega (arith, lt))))
-          ∙ sym (ap (λ n. take n (stack items k)) fewer
-          ∙ take-map (item_state_at items k) (level items (suc k)) (count_up 0 (level items k))
-          ∙ ap (map (item_state_at items k)) (take-count_up (level items (suc k)) 0 (level items k)
+          ∙ sym (ap (λ n. take n (stack by items k)) fewer
+          ∙ take-map (item_state_at by items k) (level items (suc k)) (count_up 0 (level items k))
+          ∙ ap (map (item_state_at by items k)) (take-count_up (level items (suc k)) 0 (level items k)
           (omega (arith, more))));
       rests_next = record {
         low = subst (λ (l : List Indexed). AreLow items (level items (suc k)) l) (sym all)

@@ -7,6 +7,7 @@ pub mod LocalsLemmas
 pub mod LookupLemmas
 pub mod FixedBitsLemmas
 pub mod BitLemmas
+pub mod BlankLemmas
 pub mod WholeLemmas
 pub mod WordLemmas
 pub mod WrittenLemmas
@@ -18,6 +19,7 @@ pub mod IsElementLemmas
 pub mod IsWrittenLemmas
 pub mod ItemStateLemmas
 pub mod ReportLemmas
+pub mod HostUsageLemmas
 pub mod IndexedLemmas
 pub mod JournalLemmas
 pub mod KeptBitsLemmas
@@ -44,6 +46,7 @@ pub mod UsageFaultLemmas
 pub mod UntouchedLemmas
 pub mod ReportListLemmas
 pub mod FieldLemmas
+pub mod FieldLookupLemmas
 pub mod DataLemmas
 pub mod OwnReportsLemmas
 pub mod WeightLemmas
@@ -59,6 +62,7 @@ pub mod RepairBitsLemmas
 pub mod MendedPieceLemmas
 pub mod RangeLemmas
 pub mod ElementLemmas
+pub mod ScalingLemmas
 pub mod SegmentLemmas
 pub mod SpelledPieceLemmas
 pub mod StandingLemmas

@@ -10,7 +10,9 @@ use Rattle.std.specs.Prelude.{Bool, cond, count_by, filter_map, is_some}
 use Rattle.hidreport_items.specs.declared.local.LocalItem.{LocalItem}
 use Rattle.hidreport_items.specs.declared.local.LocalItem.TheVariants as local
 use Rattle.hidreport.specs.Fields.{usage_at}
-use Rattle.hidreport.specs.ItemState.{first_of}
+use Rattle.std.proofs.lemmas.List.{map-append}
+use Rattle.hidreport.specs.ItemState.{first_of, local_items}
+use Rattle.hidreport.specs.declared.parser.paged_local.PagedLocal.{PagedLocal}
 use Rattle.hidreport.specs.MeaningFault.{MissingUsagePage}
 use Rattle.hidreport.specs.Parser.Locals.{lacks_page, local_usage, usage_under, without_last}
 use Rattle.hidreport.specs.Usages.{before_usages, last_local, make_usage, single_usages}
@@ -107,17 +109,24 @@ cons-none : {B : Type 0} (o : Option B) → cons_option o [] ≡ option_to_list 
 cons-none None = refl
 cons-none (Some y) = refl
 
-filter_map-more : {B : Type 0} (f : LocalItem → Option B) (xs : List LocalItem) (x : LocalItem)
-    → filter_map f (xs ++ x ∷ []) ≡ filter_map f xs ++ option_to_list (f x)
-filter_map-more f xs x =
-    filter_map-append f xs (x ∷ []) ∙ ap (λ l. filter_map f xs ++ l) (cons-none (f x))
+items-more : (xs : List PagedLocal) (x : PagedLocal)
+    → local_items (xs ++ x ∷ []) ≡ local_items xs ++ x.item ∷ []
+items-more xs x = map-append (λ (l : PagedLocal). l.item) xs (x ∷ [])
 
-pub kind-added : {B : Type 0} (f : LocalItem → Option B) (old new : List LocalItem)
-    (x : LocalItem) (was is : List B) → new ≡ old ++ x ∷ [] → was ≡ filter_map f old
-    → is ≡ was ++ option_to_list (f x) → is ≡ filter_map f new
+filter_map-more : {B : Type 0} (f : LocalItem → Option B) (xs : List PagedLocal) (x : PagedLocal)
+    → filter_map f (local_items (xs ++ x ∷ []))
+    ≡ filter_map f (local_items xs) ++ option_to_list (f x.item)
+filter_map-more f xs x =
+    ap (filter_map f) (items-more xs x) ∙ filter_map-append f (local_items xs) (x.item ∷ [])
+    ∙ ap (λ l. filter_map f (local_items xs) ++ l) (cons-none (f x.item))
+
+pub kind-added : {B : Type 0} (f : LocalItem → Option B) (old new : List PagedLocal)
+    (x : PagedLocal) (was is : List B) → new ≡ old ++ x ∷ []
+    → was ≡ filter_map f (local_items old) → is ≡ was ++ option_to_list (f x.item)
+    → is ≡ filter_map f (local_items new)
 kind-added f old new x was is more held added =
-    added ∙ ap (λ l. l ++ option_to_list (f x)) held ∙ sym (filter_map-more f old x)
-    ∙ ap (filter_map f) (sym more)
+    added ∙ ap (λ l. l ++ option_to_list (f x.item)) held ∙ sym (filter_map-more f old x)
+    ∙ ap (λ ls. filter_map f (local_items ls)) (sym more)
 
 -- and behind one less
 all-but : {B : Type 0} (front : List B) (o : Option B)
@@ -129,10 +138,12 @@ all-but front (Some y) =
     (let e : length (front ++ y ∷ []) - 1 ≡ length front = omega (arith, size) in e)
     ∙ take-append_seam front (y ∷ [])
 
-pub kind-popped : {B : Type 0} (f : LocalItem → Option B) (old new : List LocalItem)
-    (x : LocalItem) (was is : List B) (is_so : Bool) → old ≡ new ++ x ∷ [] → was ≡ filter_map f old
-    → is_so ≡ is_some (f x) → is ≡ without_last is_so was → is ≡ filter_map f new
+pub kind-popped : {B : Type 0} (f : LocalItem → Option B) (old new : List PagedLocal)
+    (x : PagedLocal) (was is : List B) (is_so : Bool) → old ≡ new ++ x ∷ []
+    → was ≡ filter_map f (local_items old) → is_so ≡ is_some (f x.item)
+    → is ≡ without_last is_so was → is ≡ filter_map f (local_items new)
 kind-popped f old new x was is is_so less held one popped =
     popped ∙ ap (λ b. without_last b was) one
-    ∙ ap (without_last (is_some (f x))) (held ∙ ap (filter_map f) less ∙ filter_map-more f new x)
-    ∙ all-but (filter_map f new) (f x)
+    ∙ ap (without_last (is_some (f x.item)))
+    (held ∙ ap (λ ls. filter_map f (local_items ls)) less ∙ filter_map-more f new x)
+    ∙ all-but (filter_map f (local_items new)) (f x.item)

@@ -3,7 +3,7 @@ use Rattle.std.proofs.Common.{◌≡◌, ◌≢◌, ℕ, List, length, Option, N
 use Rattle.std.proofs.Common.{sym, IfOk}
 use Rattle.hidreport_lists.specs.Answer.{Answers, Mismatch, OverBudget, Refusal}
 use Rattle.hidreport_lists.specs.declared.error.ParserError.{ParserError}
-use Rattle.hidreport.specs.Meaning.{PushReading}
+use Rattle.hidreport.specs.Meaning.{InForce}
 use Rattle.hidreport.specs.Options.{parse_as, parse_limited, past_longest, reading_of, unless_past}
 use Rattle.hidreport.specs.Records.{DescriptorRecord}
 use Rattle.hidreport.specs.declared.parse_options.ParseOptions.{ParseOptions}
@@ -13,16 +13,16 @@ use Rattle.hidreport.proofs.RefusalLemmas.{never-mismatch, never-over}
 pub as-limited : (options : ParseOptions) (bytes : List ℕ)
     → None ≡ past_longest options.longest (length bytes)
     → parse_as options bytes
-    ≡ parse_limited (reading_of options.push_keeps) options.limit bytes
+    ≡ parse_limited (reading_of options) options.limit bytes
 as-limited options bytes none = ap (λ o. unless_past o
-    (parse_limited (reading_of options.push_keeps) options.limit bytes)) (sym none)
+    (parse_limited (reading_of options) options.limit bytes)) (sym none)
 
 -- what is past is the refusal
 pub as-past : (options : ParseOptions) (bytes : List ℕ) (offset : ℕ)
     → Some offset ≡ past_longest options.longest (length bytes)
     → parse_as options bytes ≡ Err (OverBudget offset)
 as-past options bytes offset past = ap (λ o. unless_past o
-    (parse_limited (reading_of options.push_keeps) options.limit bytes)) (sym past)
+    (parse_limited (reading_of options) options.limit bytes)) (sym past)
 
 past-mismatch : (past : Option ℕ) (answer : Result DescriptorRecord Refusal)
     → answer ≢ Err Mismatch → unless_past past answer ≢ Err Mismatch
@@ -32,10 +32,10 @@ past-mismatch (Some offset) answer never is = cc
 pub as-never-mismatch : (options : ParseOptions) (bytes : List ℕ)
     → parse_as options bytes ≢ Err Mismatch
 as-never-mismatch options bytes = past-mismatch (past_longest options.longest (length bytes))
-    (parse_limited (reading_of options.push_keeps) options.limit bytes)
-    (never-mismatch (reading_of options.push_keeps) options.limit bytes)
+    (parse_limited (reading_of options) options.limit bytes)
+    (never-mismatch (reading_of options) options.limit bytes)
 
-unlimited : (reading : PushReading) (limit longest : Option ℕ) (bytes : List ℕ) (offset : ℕ)
+unlimited : (reading : InForce) (limit longest : Option ℕ) (bytes : List ℕ) (offset : ℕ)
     → limit ≡ None → longest ≡ None
     → unless_past (past_longest longest (length bytes)) (parse_limited reading limit bytes)
     ≢ Err (OverBudget offset)
@@ -46,7 +46,7 @@ unlimited reading None (Some longest) bytes offset none any is = cc
 pub as-never-over : (options : ParseOptions) (bytes : List ℕ) (offset : ℕ)
     → options.limit ≡ None → options.longest ≡ None → parse_as options bytes ≢ Err (OverBudget offset)
 as-never-over options bytes offset none any =
-    unlimited (reading_of options.push_keeps) options.limit options.longest bytes offset none any
+    unlimited (reading_of options) options.limit options.longest bytes offset none any
 
 -- what holds of each answer that is reports holds of these
 pub found-ok : {P : DescriptorRecord → Type 0} {answer : Result DescriptorRecord Refusal}

@@ -11,7 +11,7 @@ use Rattle.hidreport_items.specs.declared.item.ItemType.TheVariants as item
 use Rattle.hidreport_lists.specs.Entry.{Entry}
 use Rattle.hidreport_lists.specs.Itemising.{itemise}
 use Rattle.hidreport_lists.specs.Rebuilt.{items_of}
-use Rattle.hidreport.specs.ItemState.{ItemState, item_state, item_state_globals_only}
+use Rattle.hidreport.specs.ItemState.{ItemState}
 use Rattle.hidreport.specs.Faults.{item_fault}
 use Rattle.hidreport.specs.Kinds.{Direction, Input, Output, Feature, data_of, is_push, is_pop}
 use Rattle.hidreport.specs.Meaning.{at_offset, meaning, meaning_globals_only, parse}
@@ -21,6 +21,7 @@ use Rattle.hidreport.specs.Parser.Machine.{StateRecord, after_pop, fault_in, go_
 use Rattle.hidreport.specs.Parser.Machine.{last_item_state}
 use Rattle.hidreport.specs.Parser.Machine.{next_item_state, next_state, first_state, start_for}
 use Rattle.hidreport.specs.Parser.Machine.{unless_fault, walk}
+use Rattle.hidreport.specs.Options.{default_options, globals_only_options, reading_of}
 use Rattle.hidreport.specs.Segments.{HasNoPush}
 use Rattle.hidreport.specs.declared.parser.push_keeps.PushKeeps.{PushKeeps}
 use Rattle.hidreport.specs.declared.parser.push_keeps.PushKeeps.TheVariants as push_keeps
@@ -128,15 +129,15 @@ same-walk h k (x ∷ xs) none no_push =
 meaning-same : (items : List ItemType) → HasNoPush items
     → meaning_globals_only items ≡ meaning items
 meaning-same items no_push =
-    sym (walk-meaning push_keeps.Globals items)
-    ∙ same-walk (first_state push_keeps.All) 0 items refl no_push
-    ∙ walk-meaning push_keeps.All items
+    sym (walk-meaning globals_only_options items)
+    ∙ same-walk (first_state default_options) 0 items refl no_push
+    ∙ walk-meaning default_options items
 
 -- the two readings of a descriptor's bytes agree
 pub parse-same : (bytes : List ℕ) (entries : List Entry) → itemise item_of bytes ≡ Ok entries
     → HasNoPush (items_of entries) → parse_globals_only bytes ≡ parse bytes
 parse-same [] entries e no_push = refl
 parse-same (b ∷ bs) entries e no_push =
-    ap (parse_items item_state_globals_only) e
+    ap (parse_items (reading_of globals_only_options)) e
     ∙ ap (at_offset entries) (meaning-same (items_of entries) no_push)
-    ∙ sym (ap (parse_items item_state) e)
+    ∙ sym (ap (parse_items (reading_of default_options)) e)

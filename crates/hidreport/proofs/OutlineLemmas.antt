@@ -16,12 +16,14 @@ use Rattle.hidreport.specs.Kinds.{Direction, Indexed, data_of, goes, is_pop, is_
 use Rattle.hidreport.specs.Kinds.{report_count_of, report_id_of, report_size_of}
 use Rattle.hidreport.specs.Making.{both_set, extent, first_report_id, key, makers, makers_of, makes}
 use Rattle.hidreport.specs.Making.{same_key}
-use Rattle.hidreport.specs.Options.{reading_of}
+use Rattle.hidreport.specs.Options.{reading_by, reading_of}
 use Rattle.hidreport.specs.Places.{bits_of, end_before, id_bits, start}
 use Rattle.hidreport.specs.RepairLaws.{SamePlaces, direction_of}
 use Rattle.hidreport.specs.Visibility.{before, is_visible, level, stays_up, visible}
 use Rattle.hidreport.specs.declared.parser.push_keeps.PushKeeps.{PushKeeps}
 use Rattle.hidreport.specs.declared.parser.push_keeps.PushKeeps.TheVariants as push_keeps
+use Rattle.hidreport.specs.declared.parser.usages_by.UsagesBy.{UsagesBy}
+use Rattle.hidreport.specs.declared.parse_options.ParseOptions.{ParseOptions}
 
 -- flags and maxima are blanked
 abbrev pub outline : ItemType → ItemType
@@ -193,94 +195,98 @@ record IsRead (f : ItemState) (items : List ItemType) (k : ℕ) : Type 0 where
   count : f.report_count ≡ in_force report_count_of items k
   id : f.report_id ≡ in_force report_id_of items k
 
-is-read : (keeps : PushKeeps) (items : List ItemType) (k : ℕ)
-    → IsRead (reading_of keeps items k) items k
-is-read push_keeps.All items k = record { size = refl; count = refl; id = refl }
-is-read push_keeps.Globals items k = record { size = refl; count = refl; id = refl }
+read-by : (keeps : PushKeeps) (by : UsagesBy) (items : List ItemType) (k : ℕ)
+    → IsRead (reading_by keeps by items k) items k
+read-by push_keeps.All by items k = record { size = refl; count = refl; id = refl }
+read-by push_keeps.Globals by items k = record { size = refl; count = refl; id = refl }
 
-extent-same : (keeps : PushKeeps) (items : List ItemType) (k : ℕ)
-    → extent (reading_of keeps (outlines items) k) ≡ extent (reading_of keeps items k)
-extent-same keeps items k =
-    let f = reading_of keeps (outlines items) k in
-    let g = reading_of keeps items k in
-    let now = is-read keeps (outlines items) k in
-    let was = is-read keeps items k in
+is-read : (options : ParseOptions) (items : List ItemType) (k : ℕ)
+    → IsRead (reading_of options items k) items k
+is-read options items k = read-by options.push_keeps options.usages items k
+
+extent-same : (options : ParseOptions) (items : List ItemType) (k : ℕ)
+    → extent (reading_of options (outlines items) k) ≡ extent (reading_of options items k)
+extent-same options items k =
+    let f = reading_of options (outlines items) k in
+    let g = reading_of options items k in
+    let now = is-read options (outlines items) k in
+    let was = is-read options items k in
     ap (λ o. both_set o f.report_count) (now.size
     ∙ force-same report_size_of (λ x. (alike x).size) items k ∙ sym was.size)
     ∙ ap (λ o. both_set g.report_size o) (now.count
     ∙ force-same report_count_of (λ x. (alike x).count) items k ∙ sym was.count)
 
-id-same : (keeps : PushKeeps) (items : List ItemType) (k : ℕ)
-    → (reading_of keeps (outlines items) k).report_id ≡ (reading_of keeps items k).report_id
-id-same keeps items k = (is-read keeps (outlines items) k).id
-    ∙ force-same report_id_of (λ x. (alike x).id) items k ∙ sym (is-read keeps items k).id
+id-same : (options : ParseOptions) (items : List ItemType) (k : ℕ)
+    → (reading_of options (outlines items) k).report_id ≡ (reading_of options items k).report_id
+id-same options items k = (is-read options (outlines items) k).id
+    ∙ force-same report_id_of (λ x. (alike x).id) items k ∙ sym (is-read options items k).id
 
 -- what makes fields, and where
 
-makes-same : (keeps : PushKeeps) (items : List ItemType) (d : Direction) (p : Indexed)
-    → makes (reading_of keeps (outlines items)) d (outlined p)
-    ≡ makes (reading_of keeps items) d p
-makes-same keeps items d p =
-    ap (λ b. b && is_some (extent (reading_of keeps (outlines items) p.0)))
+makes-same : (options : ParseOptions) (items : List ItemType) (d : Direction) (p : Indexed)
+    → makes (reading_of options (outlines items)) d (outlined p)
+    ≡ makes (reading_of options items) d p
+makes-same options items d p =
+    ap (λ b. b && is_some (extent (reading_of options (outlines items) p.0)))
     ((alike p.1).goes_too d)
-    ∙ ap (λ o. goes d (data_of p.1) && is_some o) (extent-same keeps items p.0)
+    ∙ ap (λ o. goes d (data_of p.1) && is_some o) (extent-same options items p.0)
 
-makers-same : (keeps : PushKeeps) (items : List ItemType) (d : Direction) (k : ℕ)
-    → makers (reading_of keeps (outlines items)) d (outlines items) k
-    ≡ map outlined (makers (reading_of keeps items) d items k)
-makers-same keeps items d k =
-    ap (filter (makes (reading_of keeps (outlines items)) d)) (before-same items k)
-    ∙ filter-same (makes (reading_of keeps (outlines items)) d) (makes (reading_of keeps items) d)
-    (makes-same keeps items d) (before items k)
+makers-same : (options : ParseOptions) (items : List ItemType) (d : Direction) (k : ℕ)
+    → makers (reading_of options (outlines items)) d (outlines items) k
+    ≡ map outlined (makers (reading_of options items) d items k)
+makers-same options items d k =
+    ap (filter (makes (reading_of options (outlines items)) d)) (before-same items k)
+    ∙ filter-same (makes (reading_of options (outlines items)) d) (makes (reading_of options items) d)
+    (makes-same options items d) (before items k)
 
-first-same : (keeps : PushKeeps) (items : List ItemType) (ps : List Indexed)
-    → first_report_id (reading_of keeps (outlines items)) (map outlined ps)
-    ≡ first_report_id (reading_of keeps items) ps
-first-same keeps items [] = refl
-first-same keeps items (p ∷ ps) = id-same keeps items p.0
+first-same : (options : ParseOptions) (items : List ItemType) (ps : List Indexed)
+    → first_report_id (reading_of options (outlines items)) (map outlined ps)
+    ≡ first_report_id (reading_of options items) ps
+first-same options items [] = refl
+first-same options items (p ∷ ps) = id-same options items p.0
 
-key-same : (keeps : PushKeeps) (items : List ItemType) (d : Direction) (k : ℕ)
-    → key (reading_of keeps (outlines items)) d (outlines items) k
-    ≡ key (reading_of keeps items) d items k
-key-same keeps items d k =
-    let now = reading_of keeps (outlines items) in
-    let was = reading_of keeps items in
+key-same : (options : ParseOptions) (items : List ItemType) (d : Direction) (k : ℕ)
+    → key (reading_of options (outlines items)) d (outlines items) k
+    ≡ key (reading_of options items) d items k
+key-same options items d k =
+    let now = reading_of options (outlines items) in
+    let was = reading_of options items in
     ap (λ o. first_of o (first_report_id now (makers now d (outlines items) k)))
-    (id-same keeps items k)
-    ∙ ap (λ l. first_of (was k).report_id (first_report_id now l)) (makers-same keeps items d k)
-    ∙ ap (first_of (was k).report_id) (first-same keeps items (makers was d items k))
+    (id-same options items k)
+    ∙ ap (λ l. first_of (was k).report_id (first_report_id now l)) (makers-same options items d k)
+    ∙ ap (first_of (was k).report_id) (first-same options items (makers was d items k))
 
-makers_of-same : (keeps : PushKeeps) (items : List ItemType) (d : Direction) (id : Option ℕ) (k : ℕ)
-    → makers_of (reading_of keeps (outlines items)) d id (outlines items) k
-    ≡ map outlined (makers_of (reading_of keeps items) d id items k)
-makers_of-same keeps items d id k =
-    let now = reading_of keeps (outlines items) in
-    let was = reading_of keeps items in
+makers_of-same : (options : ParseOptions) (items : List ItemType) (d : Direction) (id : Option ℕ) (k : ℕ)
+    → makers_of (reading_of options (outlines items)) d id (outlines items) k
+    ≡ map outlined (makers_of (reading_of options items) d id items k)
+makers_of-same options items d id k =
+    let now = reading_of options (outlines items) in
+    let was = reading_of options items in
     ap (filter (λ (p : Indexed). same_key (key now d (outlines items) p.0) id))
-    (makers-same keeps items d k)
+    (makers-same options items d k)
     ∙ filter-same (λ p. same_key (key now d (outlines items) p.0) id)
     (λ p. same_key (key was d items p.0) id)
-    (λ p. ap (λ o. same_key o id) (key-same keeps items d p.0)) (makers was d items k)
+    (λ p. ap (λ o. same_key o id) (key-same options items d p.0)) (makers was d items k)
 
-end-same : (keeps : PushKeeps) (items : List ItemType) (d : Direction) (id : Option ℕ) (k : ℕ)
-    → end_before (reading_of keeps (outlines items)) d id (outlines items) k
-    ≡ end_before (reading_of keeps items) d id items k
-end-same keeps items d id k =
-    let now = reading_of keeps (outlines items) in
-    let was = reading_of keeps items in
+end-same : (options : ParseOptions) (items : List ItemType) (d : Direction) (id : Option ℕ) (k : ℕ)
+    → end_before (reading_of options (outlines items)) d id (outlines items) k
+    ≡ end_before (reading_of options items) d id items k
+end-same options items d id k =
+    let now = reading_of options (outlines items) in
+    let was = reading_of options items in
     ap (λ l. id_bits id + sum_by (λ (p : Indexed). bits_of (extent (now p.0))) l)
-    (makers_of-same keeps items d id k)
+    (makers_of-same options items d id k)
     ∙ ap (λ n. id_bits id + n) (sum-same outlined (λ p. bits_of (extent (now p.0)))
-    (λ p. bits_of (extent (was p.0))) (λ p. ap bits_of (extent-same keeps items p.0))
+    (λ p. bits_of (extent (was p.0))) (λ p. ap bits_of (extent-same options items p.0))
     (makers_of was d id items k))
 
-start-same : (keeps : PushKeeps) (items : List ItemType) (d : Direction) (k : ℕ)
-    → start (reading_of keeps (outlines items)) d (outlines items) k
-    ≡ start (reading_of keeps items) d items k
-start-same keeps items d k =
-    ap (λ o. end_before (reading_of keeps (outlines items)) d o (outlines items) k)
-    (key-same keeps items d k)
-    ∙ end-same keeps items d (key (reading_of keeps items) d items k) k
+start-same : (options : ParseOptions) (items : List ItemType) (d : Direction) (k : ℕ)
+    → start (reading_of options (outlines items)) d (outlines items) k
+    ≡ start (reading_of options items) d items k
+start-same options items d k =
+    ap (λ o. end_before (reading_of options (outlines items)) d o (outlines items) k)
+    (key-same options items d k)
+    ∙ end-same options items d (key (reading_of options items) d items k) k
 
 directions-same : (items : List ItemType) → map direction_of (outlines items) ≡ map direction_of items
 directions-same [] = refl
@@ -289,14 +295,14 @@ directions-same (x ∷ xs) =
     ∙ ap (λ l. direction_of x ∷ l) (directions-same xs)
 
 -- items with the same outlines lie in the same places
-pub same-places : (keeps : PushKeeps) (items others : List ItemType)
-    → map outline items ≡ map outline others → SamePlaces keeps items others
-same-places keeps items others same = record {
+pub same-places : (options : ParseOptions) (items others : List ItemType)
+    → map outline items ≡ map outline others → SamePlaces options items others
+same-places options items others same = record {
   directions = sym (directions-same items) ∙ ap (map direction_of) same ∙ directions-same others;
-  extents = λ k. sym (extent-same keeps items k)
-      ∙ ap (λ l. extent (reading_of keeps l k)) same ∙ extent-same keeps others k;
-  reports = λ d k. sym (key-same keeps items d k)
-      ∙ ap (λ l. key (reading_of keeps l) d l k) same ∙ key-same keeps others d k;
-  starts = λ d k. sym (start-same keeps items d k)
-      ∙ ap (λ l. start (reading_of keeps l) d l k) same ∙ start-same keeps others d k;
+  extents = λ k. sym (extent-same options items k)
+      ∙ ap (λ l. extent (reading_of options l k)) same ∙ extent-same options others k;
+  reports = λ d k. sym (key-same options items d k)
+      ∙ ap (λ l. key (reading_of options l) d l k) same ∙ key-same options others d k;
+  starts = λ d k. sym (start-same options items d k)
+      ∙ ap (λ l. start (reading_of options l) d l k) same ∙ start-same options others d k;
 }

@@ -2,6 +2,8 @@
 use Rattle.std.proofs.Common.{◌≡◌, ◌≢◌, ℕ, suc, ◌+◌, false, List, [], ◌∷◌}
 use Rattle.std.proofs.Common.{map, Option, None, Some, IfSome, IsOk, Result, Ok, Err, refl}
 use Rattle.std.proofs.Common.{sym, ap, ◌∙◌, subst, arith}
+use Rattle.std.specs.Prelude.{◌-◌}
+use Rattle.std.proofs.lemmas.Bool.Decides.{nat_tests}
 use Rattle.hidreport_items.specs.Answer.{GrammarFault}
 use Rattle.hidreport_items.specs.Spelling.{item_of}
 use Rattle.hidreport_items.specs.declared.item.ItemType.{ItemType}
@@ -20,11 +22,14 @@ use Rattle.hidreport.specs.Parser.Budget.{walk_items, walk_within, weight_in}
 use Rattle.hidreport.specs.Parser.Machine.{StateRecord, fault_in, next_state, unless_fault, step}
 use Rattle.hidreport.specs.Parser.Machine.{go_on}
 use Rattle.hidreport.specs.Parser.Machine.{first_state}
-use Rattle.hidreport.specs.Meaning.{parse_by, parse_items, at_offset, offset_at, refusal_at}
+use Rattle.hidreport.specs.Laws.{parse_any}
+use Rattle.hidreport.specs.Meaning.{InForce, at_offset, empty_descriptor, offset_at, parse_items}
+use Rattle.hidreport.specs.Meaning.{refusal_at}
 use Rattle.hidreport.specs.Parser.Refusals.{IsFaultOf, IsRefusal, fault_named}
 use Rattle.hidreport.specs.declared.parser.fault.Fault.{Fault}
-use Rattle.hidreport.specs.declared.parser.push_keeps.PushKeeps.{PushKeeps}
+use Rattle.hidreport.specs.declared.parse_options.ParseOptions.{ParseOptions}
 use Rattle.hidreport.specs.Options.{parse_limited, reading_of}
+use Rattle.hidreport.specs.Records.{DescriptorRecord}
 use Rattle.hidreport.proofs.ReadingLemmas.{walk-meaning}
 use Rattle.hidreport.proofs.BudgetWalkLemmas.{walk-unlimited, walk-within}
 
@@ -34,6 +39,15 @@ items_of entries = map (λ (e : Entry). e.item) entries
 
 abbrev step_of : Result StateRecord MeaningFault → Result StateRecord MeaningFault
 step_of r = r
+
+-- what weighs nothing is within each limit, and spends nothing
+pub nothing-within : (left : Option ℕ) → is_past left 0 ≡ false
+nothing-within None = refl
+nothing-within (Some n) = grind (arith, nat_tests)
+
+pub nothing-spent : (left : Option ℕ) → left_behind left 0 ≡ left
+nothing-spent None = refl
+nothing-spent (Some n) = ap Some (let e : n - 0 ≡ n = omega arith in e)
 
 -- an item that stops the walk neither by a fault nor by its weight
 pub goes-on : (left : Option ℕ) (h next : StateRecord) (x : ItemType) (o : Option MeaningFault)
@@ -140,37 +154,55 @@ stopped e left h fault error (Ok entries) is grammar meaning memory =
     (λ f stops. meaning-fault e left h f (Ok entries) refl stops)
 
 -- the walk over bytes goes over their items, the first of which stands at 0
-pub walk-some : (keeping : PushKeeps) (limit : Option ℕ) (bytes : List ℕ) → bytes ≢ []
-    → walk_items limit (first_state keeping) (items_from item_of 0 0 bytes)
-    ≡ walk_bytes keeping limit bytes
-walk-some keeping limit [] some = absurd (some refl)
-walk-some keeping limit (b ∷ bs) some = refl
+pub walk-some : (options : ParseOptions) (bytes : List ℕ) → bytes ≢ []
+    → walk_items options.limit (first_state options) (items_from item_of 0 0 bytes)
+    ≡ walk_bytes options bytes
+walk-some options [] some = absurd (some refl)
+walk-some options (b ∷ bs) some = refl
 
 -- without a limit this is the parse by the reading
 
-plain-items : (keeping : PushKeeps) (r : Result (List Entry) (ℕ × GrammarFault))
-    → walk_items None (first_state keeping) r ≡ parse_items (reading_of keeping) r
-plain-items keeping (Ok entries) =
-    ap (at_offset entries) (walk-unlimited (first_state keeping) 0 (items_of entries)
-    ∙ walk-meaning keeping (items_of entries))
-plain-items keeping (Err fault) = refl
-
-pub plain-bytes : (keeping : PushKeeps) (bytes : List ℕ)
-    → walk_bytes keeping None bytes ≡ parse_by (reading_of keeping) bytes
-plain-bytes keeping [] = refl
-plain-bytes keeping (b ∷ bs) = plain-items keeping (itemise item_of (b ∷ bs))
+plain-items : (options : ParseOptions) (r : Result (List Entry) (ℕ × GrammarFault))
+    → walk_items None (first_state options) r ≡ parse_items (reading_of options) r
+plain-items options (Ok entries) =
+    ap (at_offset entries) (walk-unlimited (first_state options) 0 (items_of entries)
+    ∙ walk-meaning options (items_of entries))
+plain-items options (Err fault) = refl
 
 -- under a limit it is the parse under it
 
-limited-items : (keeping : PushKeeps) (limit : ℕ) (r : Result (List Entry) (ℕ × GrammarFault))
-    → walk_items (Some limit) (first_state keeping) r ≡ parse_items_within (reading_of keeping) limit r
-limited-items keeping limit (Ok entries) =
-    ap (at_offset entries) (walk-within keeping limit (items_of entries))
-limited-items keeping limit (Err fault) = refl
+limited-items : (options : ParseOptions) (limit : ℕ) (r : Result (List Entry) (ℕ × GrammarFault))
+    → walk_items (Some limit) (first_state options) r ≡ parse_items_within (reading_of options) limit r
+limited-items options limit (Ok entries) =
+    ap (at_offset entries) (walk-within options limit (items_of entries))
+limited-items options limit (Err fault) = refl
 
 -- by either it is the parse that was asked for
-pub bytes-as : (keeping : PushKeeps) (limit : Option ℕ) (bytes : List ℕ)
-    → walk_bytes keeping limit bytes ≡ parse_limited (reading_of keeping) limit bytes
-bytes-as keeping None bytes = plain-bytes keeping bytes
-bytes-as keeping (Some limit) [] = refl
-bytes-as keeping (Some limit) (b ∷ bs) = limited-items keeping limit (itemise item_of (b ∷ bs))
+
+abbrev limited_items : InForce → Option ℕ → Result (List Entry) (ℕ × GrammarFault)
+    → Result DescriptorRecord Refusal
+limited_items reading None = parse_items reading
+limited_items reading (Some limit) = parse_items_within reading limit
+
+items-as : (limit : Option ℕ) (options : ParseOptions)
+    (r : Result (List Entry) (ℕ × GrammarFault))
+    → walk_items limit (first_state options) r ≡ limited_items (reading_of options) limit r
+items-as None options r = plain-items options r
+items-as (Some limit) options r = limited-items options limit r
+
+some-as : (limit : Option ℕ) (reading : InForce) (b : ℕ) (bs : List ℕ)
+    → limited_items reading limit (itemise item_of (b ∷ bs))
+    ≡ parse_limited reading limit (b ∷ bs)
+some-as None reading b bs = refl
+some-as (Some limit) reading b bs = refl
+
+none-as : (limit : Option ℕ) (reading : InForce)
+    → Err (InvalidAt 0 empty_descriptor) ≡ parse_limited reading limit []
+none-as None reading = refl
+none-as (Some limit) reading = refl
+
+pub bytes-as : (options : ParseOptions) (bytes : List ℕ)
+    → walk_bytes options bytes ≡ parse_any options bytes
+bytes-as options [] = none-as options.limit (reading_of options)
+bytes-as options (b ∷ bs) = items-as options.limit options (itemise item_of (b ∷ bs))
+    ∙ some-as options.limit (reading_of options) b bs

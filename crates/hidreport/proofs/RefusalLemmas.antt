@@ -21,7 +21,7 @@ use Rattle.hidreport.specs.Faults.{limit_fault, needed_usages_fault, usage_fault
 use Rattle.hidreport.specs.ItemState.{ItemState, first_of}
 use Rattle.hidreport.specs.Kinds.{Indexed}
 use Rattle.hidreport.specs.Making.{extent}
-use Rattle.hidreport.specs.Meaning.{PushReading, at_offset, descriptor, fault_here, first_fault}
+use Rattle.hidreport.specs.Meaning.{InForce, at_offset, descriptor, fault_here, first_fault}
 use Rattle.hidreport.specs.Meaning.{meaning_by, parse_by, parse_items, unless_first}
 use Rattle.hidreport.specs.MeaningFault.{MeaningFault, TooManyPops, TooManyEnds}
 use Rattle.hidreport.specs.MeaningFault.{MissingUsageMaximum, MissingUsagePage, MissingUsages}
@@ -46,19 +46,19 @@ mismatch-at entries (Err (k, MissingUsages)) is = cc
 mismatch-at entries (Err (k, PastBounds)) is = cc
 mismatch-at entries (Err (k, PastBudget)) is = cc
 
-mismatch-items : (reading : PushReading) (r : Result (List Entry) (ℕ × GrammarFault))
+mismatch-items : (reading : InForce) (r : Result (List Entry) (ℕ × GrammarFault))
     → parse_items reading r ≢ Err Mismatch
 mismatch-items reading (Ok entries) is =
     mismatch-at entries (meaning_by reading (items_of entries)) is
 mismatch-items reading (Err bad) is = cc
 
-mismatch-within : (reading : PushReading) (limit : ℕ) (r : Result (List Entry) (ℕ × GrammarFault))
+mismatch-within : (reading : InForce) (limit : ℕ) (r : Result (List Entry) (ℕ × GrammarFault))
     → parse_items_within reading limit r ≢ Err Mismatch
 mismatch-within reading limit (Ok entries) is =
     mismatch-at entries (meaning_within_by reading limit (items_of entries)) is
 mismatch-within reading limit (Err bad) is = cc
 
-pub never-mismatch : (reading : PushReading) (limit : Option ℕ) (bytes : List ℕ)
+pub never-mismatch : (reading : InForce) (limit : Option ℕ) (bytes : List ℕ)
     → parse_limited reading limit bytes ≢ Err Mismatch
 never-mismatch reading None [] is = cc
 never-mismatch reading None (b ∷ bs) is =
@@ -157,7 +157,7 @@ unless-first-plain None d k plain is = cc
 unless-first-plain (Some first) d k plain is =
     let same : first ≡ (k, PastBudget) = cc in plain (ap Some same)
 
-pub meaning-plain : (reading : PushReading) (items : List ItemType) (k : ℕ)
+pub meaning-plain : (reading : InForce) (items : List ItemType) (k : ℕ)
     → meaning_by reading items ≢ Err (k, PastBudget)
 meaning-plain reading items k =
     unless-first-plain (first_fault (reading items) items (enumerate_from 0 items))
@@ -175,14 +175,14 @@ over-at entries (Err (k, MissingUsages)) offset plain is = cc
 over-at entries (Err (k, PastBounds)) offset plain is = cc
 over-at entries (Err (k, PastBudget)) offset plain is = plain k refl
 
-over-items : (reading : PushReading) (r : Result (List Entry) (ℕ × GrammarFault)) (offset : ℕ)
+over-items : (reading : InForce) (r : Result (List Entry) (ℕ × GrammarFault)) (offset : ℕ)
     → parse_items reading r ≢ Err (OverBudget offset)
 over-items reading (Ok entries) offset is =
     over-at entries (meaning_by reading (items_of entries)) offset
     (meaning-plain reading (items_of entries)) is
 over-items reading (Err bad) offset is = cc
 
-pub never-over : (reading : PushReading) (bytes : List ℕ) (offset : ℕ)
+pub never-over : (reading : InForce) (bytes : List ℕ) (offset : ℕ)
     → parse_by reading bytes ≢ Err (OverBudget offset)
 never-over reading [] offset is = cc
 never-over reading (b ∷ bs) offset is = over-items reading (itemise item_of (b ∷ bs)) offset is

@@ -42,10 +42,10 @@ stays-repaired options bytes r are e =
 -- what is read by options is read without limits
 read-plain : (past limit : Option ℕ) (options : ParseOptions) (bytes : List ℕ)
     (d : DescriptorRecord)
-    → unless_past past (parse_limited (reading_of options.push_keeps) limit bytes) ≡ Ok d
-    → parse_by (reading_of options.push_keeps) bytes ≡ Ok d
+    → unless_past past (parse_limited (reading_of options) limit bytes) ≡ Ok d
+    → parse_by (reading_of options) bytes ≡ Ok d
 read-plain None limit options bytes d e =
-    limited-plain (reading_of options.push_keeps) limit bytes d e
+    limited-plain (reading_of options) limit bytes d e
 read-plain (Some offset) limit options bytes d e = cc
 
 at-read : (entries others : List Entry) (r : Result DescriptorRecord (ℕ × MeaningFault))
@@ -56,12 +56,12 @@ at-read entries others (Err f) d e = cc
 -- and so are its items, written anew
 pub rebuilds-alike : (options : RepairOptions) (r : RepairedRecord) → RebuildsAlike options r
 rebuilds-alike options r entries d i some e =
-    let keeping = options.parse.push_keeps in
+    let plain : ParseOptions = record options.parse { limit = None } in
     let kept = items_of (kept_entries entries) in
-    parse-rebuilt (reading_of keeping) r.bytes entries i some
+    parse-rebuilt plain r.bytes entries i some
     ∙ at-read (kept_entries entries) (canonical_entries 0 kept)
-    (meaning_by (reading_of keeping) kept) d
-    (sym (parse-kept keeping r.bytes entries i)
+    (meaning_by (reading_of options.parse) kept) d
+    (sym (parse-kept plain r.bytes entries i)
     ∙ read-plain (past_longest options.parse.longest (length r.bytes)) options.parse.limit
     options.parse r.bytes d e)
 

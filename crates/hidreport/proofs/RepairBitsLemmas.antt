@@ -20,7 +20,7 @@ use Rattle.hidreport_lists.specs.declared.error.ParserError.{ParserError}
 use Rattle.hidreport_lists.specs.declared.mending.Mend.TheVariants as mend
 use Rattle.hidreport.specs.Faults.{Counts, id_count, item_fault}
 use Rattle.hidreport.specs.ItemState.{ItemState}
-use Rattle.hidreport.specs.Meaning.{PushReading}
+use Rattle.hidreport.specs.Meaning.{InForce}
 use Rattle.hidreport.specs.MeaningFault.{MeaningFault, TooManyEnds, TooManyPops}
 use Rattle.hidreport.specs.Options.{parse_as, parse_limited, past_longest, reading_of, unless_past}
 use Rattle.hidreport.specs.Parser.Budget.{is_past, left_behind, weight_in}
@@ -138,7 +138,7 @@ mends : (options : RepairOptions) (before : List ItemType) (left : Option ℕ) (
 mends options before left h p reached stands =
     let w = widened options before p in
     let first = widens options.unsigned_maxima
-    (reading_of options.parse.push_keeps before (length before)) p stands in
+    (reading_of options.parse before (length before)) p stands in
     let second = pads options.parse before left h w reached first.stands in
     record { outlines = second.outlines ∙ first.outlines; stands = second.stands }
 
@@ -220,7 +220,7 @@ all-mend options before left h (p ∷ ps) qs reached stand e =
         })
 
 -- nothing is no descriptor
-none-read : (past limit : Option ℕ) (reading : PushReading)
+none-read : (past limit : Option ℕ) (reading : InForce)
     → IsOk (unless_past past (parse_limited reading limit [])) → ⊥
 none-read None None reading ok = cc
 none-read None (Some limit) reading ok = cc
@@ -228,7 +228,7 @@ none-read (Some offset) limit reading ok = cc
 
 some-bytes : (options : ParseOptions) (bytes : List ℕ) → IsOk (parse_as options bytes) → bytes ≢ []
 some-bytes options bytes ok none = none-read (past_longest options.longest 0) options.limit
-    (reading_of options.push_keeps)
+    (reading_of options)
     (subst (λ l. IsOk (parse_as options l)) none ok)
 
 pieces-keep : (options : RepairOptions) (bytes : List ℕ) (ps qs : List PieceRecord)
@@ -236,7 +236,7 @@ pieces-keep : (options : RepairOptions) (bytes : List ℕ) (ps qs : List PieceRe
     → all_mended options [] ps ≡ Ok qs → joined qs ≡ r.bytes → r.bytes ≢ []
     → KeepsBits options bytes r
 pieces-keep options bytes ps qs r are cut mended_so is some =
-    let mend_all = all-mend options [] options.parse.limit (first_state options.parse.push_keeps)
+    let mend_all = all-mend options [] options.parse.limit (first_state options.parse)
     ps qs (reached-none options.parse)
     (pieces-stand options.leave_out_cut_short bytes ps are cut) mended_so in
     let written = written-pieces 0 qs mend_all.stand in
@@ -250,7 +250,7 @@ pieces-keep options bytes ps qs r are cut mended_so is some =
         each = written.each;
         offsets = written.offsets;
       };
-      places = same-places options.parse.push_keeps (filter_map item_in ps)
+      places = same-places options.parse (filter_map item_in ps)
           (items_of (entries_in 0 qs))
           (sym (ap (map outline) written.items_are ∙ mend_all.outlines));
     }

@@ -12,12 +12,12 @@ use Rattle.hidreport_lists.specs.Answer.{Refusal}
 use Rattle.hidreport_lists.specs.Mending.{PieceRecord, item_in, standing_bytes}
 use Rattle.hidreport_lists.specs.declared.mending.Mend.TheVariants as mend
 use Rattle.hidreport.specs.ItemState.{ItemState, first_of, item_state, item_state_globals_only}
-use Rattle.hidreport.specs.Meaning.{PushReading, refusal_at}
+use Rattle.hidreport.specs.Meaning.{InForce, refusal_at}
 use Rattle.hidreport.specs.MeaningFault.{MeaningFault}
-use Rattle.hidreport.specs.Options.{meaning_as, meaning_limited, reading_of}
+use Rattle.hidreport.specs.Options.{meaning_as, reading_by, reading_of}
 use Rattle.hidreport.specs.Parser.Budget.{is_past, left_behind, past_fault, stop_in, walk_within}
 use Rattle.hidreport.specs.Parser.Budget.{weight_in}
-use Rattle.hidreport.specs.Parser.Machine.{StateRecord, fault_held, fault_in, first_state, go_on}
+use Rattle.hidreport.specs.Parser.Machine.{StateRecord, fault_held, fault_in, first_state, go_on, start_by}
 use Rattle.hidreport.specs.Parser.Machine.{next_state, step, unless_fault}
 use Rattle.hidreport.specs.Parser.Mended.{mended_in, padded_in}
 use Rattle.hidreport.specs.Repair.{all_mended, behind, change_in, constant_bytes, fault_at}
@@ -27,27 +27,14 @@ use Rattle.hidreport.specs.Repair.{unless_fault as unless_refused}
 use Rattle.hidreport.specs.declared.parse_options.ParseOptions.{ParseOptions}
 use Rattle.hidreport.specs.declared.parser.push_keeps.PushKeeps.{PushKeeps}
 use Rattle.hidreport.specs.declared.parser.push_keeps.PushKeeps.TheVariants as push_keeps
+use Rattle.hidreport.specs.declared.parser.usages_by.UsagesBy.{UsagesBy}
 use Rattle.hidreport.specs.declared.repairing.repair_options.RepairOptions.{RepairOptions}
 use Rattle.hidreport.proofs.AllKeptLemmas.{all-follows}
-use Rattle.hidreport.proofs.BudgetWalkLemmas.{walk-unlimited, walk-within}
+use Rattle.hidreport.proofs.BudgetWalkLemmas.{meaning-walk}
 use Rattle.hidreport.proofs.GlobalsAloneLemmas.{globals-follows, stack_bare}
 use Rattle.hidreport.proofs.LevelLemmas.{stack}
 use Rattle.hidreport.proofs.ParseLemmas.{goes-on}
-use Rattle.hidreport.proofs.ReadingLemmas.{walk-meaning}
 use Rattle.hidreport.proofs.WalkLemmas.{Follows, Holds, holds-next, holds-nothing}
-
--- the meaning as it is asked for is what the walk gives
-pub meaning-walk : (options : ParseOptions) (items : List ItemType)
-    → meaning_as options items
-    ≡ walk_within options.limit (first_state options.push_keeps) 0 items
-meaning-walk options items = by-limit options.limit options.push_keeps items
-  where
-    by-limit : (limit : Option ℕ) (keeping : PushKeeps) (items : List ItemType)
-        → meaning_limited (reading_of keeping) limit items
-        ≡ walk_within limit (first_state keeping) 0 items
-    by-limit None keeping items =
-        sym (walk-unlimited (first_state keeping) 0 items ∙ walk-meaning keeping items)
-    by-limit (Some limit) keeping items = sym (walk-within keeping limit items)
 
 -- what is held behind these items, or the fault of one of them
 abbrev pub then_run : Result StateRecord MeaningFault
@@ -82,18 +69,18 @@ stepped-so None h next e = (refl, cc)
 stepped-so (Some f) h next e = cc
 
 -- what is held is what the definitions say
-run-holds : (keeping : PushKeeps) (state : ℕ → ItemState) (saved : ℕ → List ItemState)
-    (items front rest : List ItemType) (h g : StateRecord) → Follows keeping state saved items
+run-holds : (keeping : PushKeeps) (by : UsagesBy) (state : ℕ → ItemState) (saved : ℕ → List ItemState)
+    (items front rest : List ItemType) (h g : StateRecord) → Follows keeping by state saved items
     → h.keeping ≡ keeping → items ≡ front ++ rest → Holds state saved items (length front) h
     → run h rest ≡ Ok g → Holds state saved items (length items) g
-run-holds keeping state saved items front [] h g follows reads e held ran =
+run-holds keeping by state saved items front [] h g follows reads e held ran =
     let whole : items ≡ front = e ∙ append-nil front in
     let same : h ≡ g = cc in
     subst (λ s. Holds state saved items (length items) s) same
     (subst (λ n. Holds state saved items n h) (ap length (sym whole)) held)
-run-holds keeping state saved items front (x ∷ xs) h g follows reads e held ran =
+run-holds keeping by state saved items front (x ∷ xs) h g follows reads e held ran =
     by-step (step h x) refl ran
-    (λ n keeps held_next more. run-holds keeping state saved items (front ++ x ∷ []) xs n g
+    (λ n keeps held_next more. run-holds keeping by state saved items (front ++ x ∷ []) xs n g
     follows keeps (e ∙ sym (append_assoc front (x ∷ []) xs)) held_next more)
   where
     by-step : (r : Result StateRecord MeaningFault) → step h x ≡ r
@@ -105,39 +92,44 @@ run-holds keeping state saved items front (x ∷ xs) h g follows reads e held ra
     by-step (Ok n) stepped more rest =
         let so = stepped-so (fault_in h x) (next_state h x) n stepped in
         let size : length (front ++ x ∷ []) ≡ suc (length front) = grind (arith, common_steps) in
-        let next = holds-next keeping state saved items front xs h x follows reads e held so.0 in
+        let next = holds-next keeping by state saved items front xs h x follows reads e held so.0 in
         rest n (ap (λ (s : StateRecord). s.keeping) so.1 ∙ reads)
         (subst (λ s. Holds state saved items (length (front ++ x ∷ [])) s) (sym so.1)
         (subst (λ k. Holds state saved items k (next_state h x)) (sym size) next)) more
     by-step (Err f) stepped more rest = cc
 
-run-state : (keeping : PushKeeps) (reading : PushReading) (saved : ℕ → List ItemState)
-    (items : List ItemType) (g : StateRecord) → Follows keeping (reading items) saved items
-    → run (first_state keeping) items ≡ Ok g → g.item_state ≡ reading items (length items)
-run-state keeping reading saved items g follows ran =
-    (run-holds keeping (reading items) saved items [] items (first_state keeping) g follows refl
-    refl (holds-nothing keeping (reading items) saved items follows) ran).item_states
+run-state : (keeping : PushKeeps) (by : UsagesBy) (reading : InForce) (saved : ℕ → List ItemState)
+    (items : List ItemType) (g : StateRecord) → Follows keeping by (reading items) saved items
+    → run (start_by keeping by) items ≡ Ok g → g.item_state ≡ reading items (length items)
+run-state keeping by reading saved items g follows ran =
+    (run-holds keeping by (reading items) saved items [] items (start_by keeping by) g follows refl
+    refl (holds-nothing keeping by (reading items) saved items follows) ran).item_states
+
+kept-held : (keeping : PushKeeps) (by : UsagesBy) (items : List ItemType) (g : StateRecord)
+    → run (start_by keeping by) items ≡ Ok g
+    → g.item_state ≡ reading_by keeping by items (length items)
+kept-held push_keeps.All by items g ran =
+    run-state push_keeps.All by (item_state by) (stack by items) items g (all-follows by items) ran
+kept-held push_keeps.Globals by items g ran =
+    run-state push_keeps.Globals by (item_state_globals_only by) (stack_bare by items) items g
+    (globals-follows by items) ran
 
 -- what is in force behind the items, by the reading that is asked for
-pub state-held : (keeping : PushKeeps) (items : List ItemType) (g : StateRecord)
-    → run (first_state keeping) items ≡ Ok g
-    → g.item_state ≡ reading_of keeping items (length items)
-state-held push_keeps.All items g ran =
-    run-state push_keeps.All item_state (stack items) items g (all-follows items) ran
-state-held push_keeps.Globals items g ran =
-    run-state push_keeps.Globals item_state_globals_only (stack_bare items) items g
-    (globals-follows items) ran
+pub state-held : (options : ParseOptions) (items : List ItemType) (g : StateRecord)
+    → run (first_state options) items ≡ Ok g
+    → g.item_state ≡ reading_of options items (length items)
+state-held options items g ran = kept-held options.push_keeps options.usages items g ran
 
 -- this is held and left behind these items
 pub record Reached (options : ParseOptions) (before : List ItemType) (left : Option ℕ)
     (h : StateRecord) : Type 0 where
   pub walk : (xs : List ItemType)
-      → walk_within options.limit (first_state options.push_keeps) 0 (before ++ xs)
+      → walk_within options.limit (first_state options) 0 (before ++ xs)
       ≡ walk_within left h (length before) xs
-  pub ran : run (first_state options.push_keeps) before ≡ Ok h
+  pub ran : run (first_state options) before ≡ Ok h
 
 pub reached-none : (options : ParseOptions)
-    → Reached options [] options.limit (first_state options.push_keeps)
+    → Reached options [] options.limit (first_state options)
 reached-none options = record { walk = λ xs. refl; ran = refl }
 
 pub reached-more : (options : ParseOptions) (before : List ItemType) (left more : Option ℕ)
@@ -147,7 +139,7 @@ pub reached-more : (options : ParseOptions) (before : List ItemType) (left more 
 reached-more options before left more h next x reached stepped within is = record {
   walk = λ xs.
       let size : length before + 1 ≡ length (before ++ x ∷ []) = grind (arith, common_steps) in
-      ap (walk_within options.limit (first_state options.push_keeps) 0)
+      ap (walk_within options.limit (first_state options) 0)
       (append_assoc before (x ∷ []) xs)
       ∙ reached.walk (x ∷ xs)
       ∙ ap (λ r. go_on r (length before) (λ n. walk_within (left_behind left (weight_in h x)) n
@@ -155,7 +147,7 @@ reached-more options before left more h next x reached stepped within is = recor
       (goes-on left h next x (fault_in h x) refl stepped within)
       ∙ ap (λ l. walk_within l next (length before + 1) xs) (sym is)
       ∙ ap (λ k. walk_within more next k xs) size;
-  ran = run-more (first_state options.push_keeps) h next before x reached.ran stepped;
+  ran = run-more (first_state options) h next before x reached.ran stepped;
 }
 
 -- what stops the walk at an item that may be missing
@@ -214,7 +206,7 @@ pub mended-so : (options : RepairOptions) (before : List ItemType) (left : Optio
 mended-so options before left h p reached =
     let wide : widened_in options.unsigned_maxima h.item_state p ≡ widened options before p =
     ap (λ f. widened_in options.unsigned_maxima f p)
-    (state-held options.parse.push_keeps before h reached.ran) in
+    (state-held options.parse before h reached.ran) in
     let w = widened options before p in
     ap (padded_in h) wide
     ∙ padded-same (fault_held h (item_in w)) (fault_at options.parse before w) w

@@ -8,7 +8,7 @@ use Rattle.hidreport_lists.specs.Itemising.{as_refusal}
 use Rattle.hidreport_lists.specs.Mending.{PieceRecord, pieces}
 use Rattle.hidreport_lists.specs.declared.error.ParserError.{ParserError}
 use Rattle.hidreport_lists.specs.declared.error.ParserError.TheVariants as errors
-use Rattle.hidreport.specs.Meaning.{PushReading, refusal_at}
+use Rattle.hidreport.specs.Meaning.{InForce, refusal_at}
 use Rattle.hidreport.specs.MeaningFault.{MeaningFault, MissingUsageMaximum, MissingUsagePage}
 use Rattle.hidreport.specs.MeaningFault.{MissingUsages, PastBounds, PastBudget, TooManyEnds}
 use Rattle.hidreport.specs.MeaningFault.{TooManyPops}
@@ -115,7 +115,7 @@ named-plain (Ok d) plain is = cc
 named-plain (Err (k, fault)) plain is =
     let same : fault ≡ PastBudget = cc in plain k (ap (λ f. Err (k, f)) same)
 
-meaning-unlimited : (reading : PushReading) (limit : Option ℕ) (items : List ItemType)
+meaning-unlimited : (reading : InForce) (limit : Option ℕ) (items : List ItemType)
     → limit ≡ None → (k : ℕ) → meaning_limited reading limit items ≢ Err (k, PastBudget)
 meaning-unlimited reading None items none k is = meaning-plain reading items k is
 meaning-unlimited reading (Some limit) items none k is = cc
@@ -123,7 +123,7 @@ meaning-unlimited reading (Some limit) items none k is = cc
 fault-unlimited : (options : ParseOptions) (before : List ItemType) (p : PieceRecord)
     → options.limit ≡ None → fault_at options before p ≢ Some PastBudget
 fault-unlimited options before p none = named-plain (meaning_as options (behind before p))
-    (meaning-unlimited (reading_of options.push_keeps) options.limit (behind before p) none)
+    (meaning-unlimited (reading_of options) options.limit (behind before p) none)
 
 at-unlimited : (at offset : ℕ) (fault : MeaningFault) → fault ≢ PastBudget
     → refusal_at at fault ≢ OverBudget offset

@@ -2,7 +2,7 @@
 use Rattle.std.proofs.Common.{◌≡◌, ℕ, suc, ◌+◌, ◌-◌, ◌<◌, ◌≤◌, Bool, true, false, cond, nat_lt}
 use Rattle.std.proofs.Common.{List, [], ◌∷◌, ◌++◌, length, take, map, count_by, is_some, Option}
 use Rattle.std.proofs.Common.{None, Some, option_to_list, Result, Ok, Err, refl, sym, ap, ◌∙◌}
-use Rattle.std.proofs.Common.{subst, append-nil, append_assoc, arith}
+use Rattle.std.proofs.Common.{subst, append-nil, append_assoc, arith, option_map}
 use Rattle.std.specs.List.{list_any}
 use Rattle.std.proofs.Math.Seq.{take-append-add}
 use Rattle.std.proofs.lemmas.Grind.{common_steps}
@@ -11,17 +11,19 @@ use Rattle.hidreport_items.specs.declared.item.ItemType.{ItemType}
 use Rattle.hidreport_items.specs.declared.local.LocalItem.{LocalItem}
 use Rattle.hidreport_items.specs.declared.item.ItemType.TheVariants as item
 use Rattle.hidreport.specs.MeaningFault.{MeaningFault}
-use Rattle.hidreport.specs.ItemState.{ItemState}
+use Rattle.hidreport.specs.ItemState.{ItemState, with_page}
 use Rattle.hidreport.specs.Kinds.{is_main, is_push, is_pop, local_of}
 use Rattle.hidreport.specs.Parser.Machine.{StateRecord, after_pop, pushed_copy, fault_in, step}
 use Rattle.hidreport.specs.Parser.Machine.{go_on}
 use Rattle.hidreport.specs.Parser.Machine.{last_item_state, next_item_state, next_state}
 use Rattle.hidreport.specs.Parser.Machine.{first_state}
-use Rattle.hidreport.specs.Parser.Machine.{unless_fault, walk}
+use Rattle.hidreport.specs.Parser.Machine.{unless_fault}
+use Rattle.hidreport.specs.Parser.Budget.{is_past, left_behind, stop_in, walk_within, weight_in}
 use Rattle.hidreport_items.specs.Spelling.{item_of}
 use Rattle.hidreport_lists.specs.Entry.{Entry}
 use Rattle.hidreport_lists.specs.Itemising.{itemise}
-use Rattle.hidreport.specs.Meaning.{meaning_by, parse_by, parse_items, at_offset}
+use Rattle.hidreport.specs.Budget.{meaning_within_by, parse_items_within}
+use Rattle.hidreport.specs.Meaning.{InForce, meaning_by, parse_items, at_offset}
 use Rattle.hidreport.specs.Records.{DescriptorRecord}
 use Rattle.hidreport.specs.Segments.{IsMatched, with_segment, moved_fault}
 use Rattle.hidreport.specs.declared.parser.push_keeps.PushKeeps.{PushKeeps}
@@ -29,56 +31,78 @@ use Rattle.hidreport.specs.declared.parser.push_keeps.PushKeeps.TheVariants as p
 use Rattle.hidreport.proofs.DataLemmas.{quiet, step-push, step-pop, last_item_state-end}
 use Rattle.hidreport.proofs.DataLemmas.{all-but-last}
 use Rattle.hidreport.proofs.ReportLemmas.{or_cases}
-use Rattle.hidreport.specs.Laws.{Spares}
-use Rattle.hidreport.specs.Options.{reading_of}
-use Rattle.hidreport.proofs.ReadingLemmas.{walk-meaning}
+use Rattle.hidreport.specs.Laws.{Spares, parse_any}
+use Rattle.hidreport.specs.Options.{meaning_as, meaning_limited, parse_limited, reading_of}
+use Rattle.hidreport.specs.declared.parse_options.ParseOptions.{ParseOptions}
+use Rattle.hidreport.specs.declared.parser.paged_local.PagedLocal.{PagedLocal}
+use Rattle.hidreport.proofs.BudgetWalkLemmas.{meaning-walk}
+use Rattle.hidreport.proofs.ParseLemmas.{goes-on, nothing-spent, nothing-within}
 
 abbrev pub Answer : Type 0
 Answer = Result DescriptorRecord (ℕ × MeaningFault)
 
-step-ok : (h next : StateRecord) (k : ℕ) (x : ItemType) (xs : List ItemType) → step h x ≡ Ok next
-    → walk h k (x ∷ xs) ≡ walk next (k + 1) xs
-step-ok h next k x xs e = ap (λ r. go_on r k (λ n. walk n (k + 1) xs)) e
+-- what an item leads to, and what is left behind it
+abbrev goes : Option ℕ → StateRecord → ItemType → Result StateRecord MeaningFault
+goes left h x = unless_fault (stop_in left h x) (next_state h x)
 
-moved-by : (r : Result StateRecord MeaningFault) (h : StateRecord) (at n k : ℕ) (x : ItemType)
-    (xs : List ItemType) → step h x ≡ r → at ≤ k
-    → ((next : StateRecord) → moved_fault at n (walk next (k + 1) xs) ≡ walk next (k + 1 + n) xs)
-    → moved_fault at n (walk h k (x ∷ xs)) ≡ walk h (k + n) (x ∷ xs)
-moved-by (Ok next) h at n k x xs e le rest =
-    ap (λ r. moved_fault at n (go_on r k (λ m. walk m (k + 1) xs))) e ∙ rest next
-    ∙ ap (λ p. walk next p xs) (let p : k + 1 + n ≡ k + n + 1 = omega arith in p)
-    ∙ sym (ap (λ r. go_on r (k + n) (λ m. walk m (k + n + 1) xs)) e)
-moved-by (Err f) h at n k x xs e le rest =
+abbrev spent : Option ℕ → StateRecord → ItemType → Option ℕ
+spent left h x = left_behind left (weight_in h x)
+
+-- an item that weighs nothing and has no fault
+step-ok : (left : Option ℕ) (h next : StateRecord) (k : ℕ) (x : ItemType) (xs : List ItemType)
+    → step h x ≡ Ok next → weight_in h x ≡ 0
+    → walk_within left h k (x ∷ xs) ≡ walk_within left next (k + 1) xs
+step-ok left h next k x xs e light =
+    ap (λ r. go_on r k (λ n. walk_within (spent left h x) n (k + 1) xs))
+    (goes-on left h next x (fault_in h x) refl e
+    (ap (is_past left) light ∙ nothing-within left))
+    ∙ ap (λ l. walk_within l next (k + 1) xs) (ap (left_behind left) light ∙ nothing-spent left)
+
+moved-by : (r : Result StateRecord MeaningFault) (left : Option ℕ) (h : StateRecord) (at n k : ℕ)
+    (x : ItemType) (xs : List ItemType) → goes left h x ≡ r → at ≤ k
+    → ((next : StateRecord) → moved_fault at n (walk_within (spent left h x) next (k + 1) xs)
+    ≡ walk_within (spent left h x) next (k + 1 + n) xs)
+    → moved_fault at n (walk_within left h k (x ∷ xs)) ≡ walk_within left h (k + n) (x ∷ xs)
+moved-by (Ok next) left h at n k x xs e le rest =
+    let more = spent left h x in
+    ap (λ r. moved_fault at n (go_on r k (λ m. walk_within more m (k + 1) xs))) e ∙ rest next
+    ∙ ap (λ p. walk_within more next p xs) (let p : k + 1 + n ≡ k + n + 1 = omega arith in p)
+    ∙ sym (ap (λ r. go_on r (k + n) (λ m. walk_within more m (k + n + 1) xs)) e)
+moved-by (Err f) left h at n k x xs e le rest =
     let behind : nat_lt k at ≡ false = grind (arith, common_steps) in
-    ap (λ r. moved_fault at n (go_on r k (λ m. walk m (k + 1) xs))) e
+    let more = spent left h x in
+    ap (λ r. moved_fault at n (go_on r k (λ m. walk_within more m (k + 1) xs))) e
     ∙ ap (λ b. Err (cond b k (k + n), f)) behind
-    ∙ sym (ap (λ r. go_on r (k + n) (λ m. walk m (k + n + 1) xs)) e)
+    ∙ sym (ap (λ r. go_on r (k + n) (λ m. walk_within more m (k + n + 1) xs)) e)
 
 -- faults behind the place move with their items
-moved-behind : (h : StateRecord) (at n k : ℕ) (xs : List ItemType) → at ≤ k
-    → moved_fault at n (walk h k xs) ≡ walk h (k + n) xs
-moved-behind h at n k [] le = refl
-moved-behind h at n k (x ∷ xs) le =
-    moved-by (step h x) h at n k x xs refl le
-    (λ next. moved-behind next at n (k + 1) xs (omega (arith, le)))
+moved-behind : (left : Option ℕ) (h : StateRecord) (at n k : ℕ) (xs : List ItemType) → at ≤ k
+    → moved_fault at n (walk_within left h k xs) ≡ walk_within left h (k + n) xs
+moved-behind left h at n k [] le = refl
+moved-behind left h at n k (x ∷ xs) le =
+    moved-by (goes left h x) left h at n k x xs refl le
+    (λ next. moved-behind (spent left h x) next at n (k + 1) xs (omega (arith, le)))
 
-front-by : (r : Result StateRecord MeaningFault) (h : StateRecord) (n k : ℕ) (x : ItemType)
-    (xs more rest : List ItemType) → step h x ≡ r
-    → ((next : StateRecord) → step h x ≡ Ok next
-    → walk next (k + 1) (xs ++ more) ≡ moved_fault (k + 1 + length xs) n
-    (walk next (k + 1) (xs ++ rest)))
-    → walk h k (x ∷ (xs ++ more)) ≡ moved_fault (k + suc (length xs)) n
-    (walk h k (x ∷ (xs ++ rest)))
-front-by (Ok next) h n k x xs more rest e later =
-    step-ok h next k x (xs ++ more) e ∙ later next e
-    ∙ ap (λ p. moved_fault p n (walk next (k + 1) (xs ++ rest)))
+front-by : (r : Result StateRecord MeaningFault) (left : Option ℕ) (h : StateRecord) (n k : ℕ)
+    (x : ItemType) (xs more rest : List ItemType) → goes left h x ≡ r
+    → ((next : StateRecord) → goes left h x ≡ Ok next
+    → walk_within (spent left h x) next (k + 1) (xs ++ more) ≡ moved_fault (k + 1 + length xs) n
+    (walk_within (spent left h x) next (k + 1) (xs ++ rest)))
+    → walk_within left h k (x ∷ (xs ++ more)) ≡ moved_fault (k + suc (length xs)) n
+    (walk_within left h k (x ∷ (xs ++ rest)))
+front-by (Ok next) left h n k x xs more rest e later =
+    let l = spent left h x in
+    ap (λ r. go_on r k (λ m. walk_within l m (k + 1) (xs ++ more))) e ∙ later next e
+    ∙ ap (λ p. moved_fault p n (walk_within l next (k + 1) (xs ++ rest)))
     (let p : k + 1 + length xs ≡ k + suc (length xs) = omega arith in p)
-    ∙ ap (moved_fault (k + suc (length xs)) n) (sym (step-ok h next k x (xs ++ rest) e))
-front-by (Err f) h n k x xs more rest e later =
+    ∙ ap (moved_fault (k + suc (length xs)) n)
+    (sym (ap (λ r. go_on r k (λ m. walk_within l m (k + 1) (xs ++ rest))) e))
+front-by (Err f) left h n k x xs more rest e later =
     let before : nat_lt k (k + suc (length xs)) ≡ true = grind (arith, common_steps) in
-    ap (λ r. go_on r k (λ m. walk m (k + 1) (xs ++ more))) e
+    let l = spent left h x in
+    ap (λ r. go_on r k (λ m. walk_within l m (k + 1) (xs ++ more))) e
     ∙ sym (ap (λ r. moved_fault (k + suc (length xs)) n
-    (go_on r k (λ m. walk m (k + 1) (xs ++ rest)))) e
+    (go_on r k (λ m. walk_within l m (k + 1) (xs ++ rest)))) e
     ∙ ap (λ b. Err (cond b k (k + n), f)) before)
 
 -- what a Push keeps is the same behind every item
@@ -91,15 +115,17 @@ keeping-by (Some fault) h next x e = cc
 
 -- what changes nothing behind a front changes nothing behind more
 front-stack : (keeping : PushKeeps) (front more rest : List ItemType) (n : ℕ)
-    → ((h : StateRecord) (k : ℕ) → h.keeping ≡ keeping → walk h k more ≡ walk h (k + n) rest)
-    → (h : StateRecord) (k : ℕ) → h.keeping ≡ keeping
-    → walk h k (front ++ more) ≡ moved_fault (k + length front) n (walk h k (front ++ rest))
-front-stack keeping [] more rest n same h k is =
-    same h k is ∙ sym (moved-behind h (k + 0) n k rest (omega arith))
-front-stack keeping (x ∷ xs) more rest n same h k is =
-    front-by (step h x) h n k x xs more rest refl
-    (λ next e. front-stack keeping xs more rest n same next (k + 1)
-    (keeping-by (fault_in h x) h next x e ∙ is))
+    → ((left : Option ℕ) (h : StateRecord) (k : ℕ) → h.keeping ≡ keeping
+    → walk_within left h k more ≡ walk_within left h (k + n) rest)
+    → (left : Option ℕ) (h : StateRecord) (k : ℕ) → h.keeping ≡ keeping
+    → walk_within left h k (front ++ more)
+    ≡ moved_fault (k + length front) n (walk_within left h k (front ++ rest))
+front-stack keeping [] more rest n same left h k is =
+    same left h k is ∙ sym (moved-behind left h (k + 0) n k rest (omega arith))
+front-stack keeping (x ∷ xs) more rest n same left h k is =
+    front-by (goes left h x) left h n k x xs more rest refl
+    (λ next e. front-stack keeping xs more rest n same (spent left h x) next (k + 1)
+    (keeping-by (stop_in left h x) h next x e ∙ is))
 
 -- what is held inside a segment: other values in force, and more kept
 abbrev pub inside : StateRecord → ItemState → List ItemState → StateRecord
@@ -196,10 +222,23 @@ take-stack base ts some =
 length-less : (ts : List ItemState) → length (take (length ts - 1) ts) ≡ length ts - 1
 length-less ts = grind (arith, common_steps)
 
-same-locals : (ls : List LocalItem) (b : Bool) (o : Option LocalItem) → b ≡ false
-    → is_some o ≡ false → cond b [] (ls ++ option_to_list o) ≡ ls
-same-locals ls b None plain none = ap (λ c. cond c [] (ls ++ [])) plain ∙ append-nil ls
-same-locals ls b (Some x) plain none = cc
+same-locals : (page : Option ℕ) (ls : List PagedLocal) (b : Bool) (o : Option LocalItem)
+    → b ≡ false → is_some o ≡ false
+    → cond b [] (ls ++ option_to_list (option_map (with_page page) o)) ≡ ls
+same-locals page ls b None plain none = ap (λ c. cond c [] (ls ++ [])) plain ∙ append-nil ls
+same-locals page ls b (Some x) plain none = cc
+
+-- no item but a main item weighs
+light : (h : StateRecord) (x : ItemType) → is_main x ≡ false → weight_in h x ≡ 0
+light h (item.Main y) e = cc
+light h (item.Global g) e = refl
+light h (item.Local y) e = refl
+light h item.Long e = refl
+light h item.Reserved e = refl
+
+no-main : (x : ItemType) (xs : List ItemType) → list_any is_main (x ∷ xs) ≡ false
+    → is_main x ≡ false
+no-main x xs e = (or_cases (is_main x) (list_any is_main xs) e).0
 
 -- an item of a segment leaves what comes back
 returns-next : (keeping : PushKeeps) (f g : ItemState) (x : ItemType) (xs : List ItemType)
@@ -210,8 +249,8 @@ returns-next push_keeps.Globals f g x xs plain s r =
     let none : is_some (local_of x) ≡ false =
     (or_cases (is_some (local_of x)) (list_any (λ (y : ItemType). is_some (local_of y)) xs)
     s).0 in
-    ap (λ (l : List LocalItem). record g { locals = l })
-    (same-locals f.locals (is_main x) (local_of x) plain none) ∙ r
+    ap (λ (l : List PagedLocal). record g { locals = l })
+    (same-locals f.usage_page f.locals (is_main x) (local_of x) plain none) ∙ r
 
 -- so does a Pop inside it
 returns-back : (keeping : PushKeeps) (f g t : ItemState) → Returns keeping f g
@@ -223,17 +262,17 @@ returns-own : (keeping : PushKeeps) (f : ItemState) → Returns keeping f f
 returns-own push_keeps.All f = refl
 returns-own push_keeps.Globals f = refl
 
-abbrev pub InsideGoesOn : StateRecord → ℕ → List ItemType → List ItemType → Type 0
-InsideGoesOn h n xs rest = (f : ItemState) (ts : List ItemState) (k : ℕ) → length ts ≡ n
+abbrev pub InsideGoesOn : Option ℕ → StateRecord → ℕ → List ItemType → List ItemType → Type 0
+InsideGoesOn left h n xs rest = (f : ItemState) (ts : List ItemState) (k : ℕ) → length ts ≡ n
     → Closes h.keeping n xs → Returns h.keeping f h.item_state
-    → walk (inside h f ts) k (xs ++ (item.Global global.Pop ∷ rest)) ≡ walk h (k + length xs + 1)
+    → walk_within left (inside h f ts) k (xs ++ (item.Global global.Pop ∷ rest)) ≡ walk_within left h (k + length xs + 1)
     rest
 
-inside-end : (h : StateRecord) (f : ItemState) (ts : List ItemState) (k n : ℕ)
+inside-end : (left : Option ℕ) (h : StateRecord) (f : ItemState) (ts : List ItemState) (k n : ℕ)
     (rest : List ItemType)
     → length ts ≡ n → Closes h.keeping n [] → Returns h.keeping f h.item_state
-    → walk (inside h f ts) k (item.Global global.Pop ∷ rest) ≡ walk h (k + 0 + 1) rest
-inside-end h f ts k n rest size c back =
+    → walk_within left (inside h f ts) k (item.Global global.Pop ∷ rest) ≡ walk_within left h (k + 0 + 1) rest
+inside-end left h f ts k n rest size c back =
     let none : ts ≡ [] = none-left ts (omega (arith, size, c.closed)) in
     let own = pushed_copy h.keeping h.item_state in
     let base = h.stack ++ own ∷ [] in
@@ -251,18 +290,19 @@ inside-end h f ts k n rest size c back =
     ∙ ap (λ (g : ItemState). Ok (record h { item_state = g; stack = take (length base - 1) base }))
     back
     ∙ ap (λ (l : List ItemState). Ok (record h { stack = l })) (all-but-last own h.stack) in
-    ap (λ (g : StateRecord). walk g k (item.Global global.Pop ∷ rest)) alone
-    ∙ step-ok (record h { item_state = f; stack = base }) h k (item.Global global.Pop) rest popped
-    ∙ ap (λ p. walk h p rest) (let p : k + 1 ≡ k + 0 + 1 = omega arith in p)
+    ap (λ (g : StateRecord). walk_within left g k (item.Global global.Pop ∷ rest)) alone
+    ∙ step-ok left (record h { item_state = f; stack = base }) h k (item.Global global.Pop) rest
+    popped refl
+    ∙ ap (λ p. walk_within left h p rest) (let p : k + 1 ≡ k + 0 + 1 = omega arith in p)
 
-inside-by : (a b : Bool) (h : StateRecord) (f : ItemState) (ts : List ItemState) (k n : ℕ)
+inside-by : (a b : Bool) (left : Option ℕ) (h : StateRecord) (f : ItemState) (ts : List ItemState) (k n : ℕ)
     (x : ItemType)
     (xs rest : List ItemType) → is_push x ≡ a → is_pop x ≡ b → length ts ≡ n
     → Closes h.keeping n (x ∷ xs) → Returns h.keeping f h.item_state
-    → ((m : ℕ) → InsideGoesOn h m xs rest)
-    → walk (inside h f ts) k (x ∷ (xs ++ (item.Global global.Pop ∷ rest))) ≡ walk h
+    → ((m : ℕ) → InsideGoesOn left h m xs rest)
+    → walk_within left (inside h f ts) k (x ∷ (xs ++ (item.Global global.Pop ∷ rest))) ≡ walk_within left h
     (k + suc (length xs) + 1) rest
-inside-by true b h f ts k n x xs rest push pop size c back later =
+inside-by true b left h f ts k n x xs rest push pop size c back later =
     let own = pushed_copy h.keeping h.item_state in
     let base = h.stack ++ own ∷ [] in
     let no_pop : is_pop x ≡ false = ap is_pop (is-push x push) in
@@ -276,12 +316,12 @@ inside-by true b h f ts k n x xs rest push pop size c back later =
     let next : Closes h.keeping (suc n) xs =
     closes-next h.keeping n (suc n) x xs c (omega (arith, ap one_if push, ap one_if no_pop))
     in
-    step-ok (inside h f ts) (inside h f (ts ++ pushed_copy h.keeping f ∷ [])) k x
-    (xs ++ (item.Global global.Pop ∷ rest)) stepped
+    step-ok left (inside h f ts) (inside h f (ts ++ pushed_copy h.keeping f ∷ [])) k x
+    (xs ++ (item.Global global.Pop ∷ rest)) stepped (light (inside h f ts) x (no-main x xs c.idle))
     ∙ later (suc n) f (ts ++ pushed_copy h.keeping f ∷ []) (k + 1) longer next back
-    ∙ ap (λ p. walk h p rest)
+    ∙ ap (λ p. walk_within left h p rest)
     (let p : k + 1 + length xs + 1 ≡ k + suc (length xs) + 1 = omega arith in p)
-inside-by false true h f ts k n x xs rest push pop size c back later =
+inside-by false true left h f ts k n x xs rest push pop size c back later =
     let own = pushed_copy h.keeping h.item_state in
     let base = h.stack ++ own ∷ [] in
     let open_inside : 0 < n = omega (
@@ -305,34 +345,37 @@ inside-by false true h f ts k n x xs rest push pop size c back later =
     let next : Closes h.keeping (n - 1) xs =
     closes-next h.keeping n (n - 1) x xs c
     (omega (arith, ap one_if push, ap one_if pop, open_inside)) in
-    step-ok (inside h f ts) (inside h g fewer) k x (xs ++ (item.Global global.Pop ∷ rest)) stepped
+    step-ok left (inside h f ts) (inside h g fewer) k x (xs ++ (item.Global global.Pop ∷ rest))
+    stepped (light (inside h f ts) x (no-main x xs c.idle))
     ∙ later (n - 1) g fewer (k + 1) shorter next
     (returns-back h.keeping f h.item_state (last_item_state f (base ++ ts)) back)
-    ∙ ap (λ p. walk h p rest)
+    ∙ ap (λ p. walk_within left h p rest)
     (let p : k + 1 + length xs + 1 ≡ k + suc (length xs) + 1 = omega arith in p)
-inside-by false false h f ts k n x xs rest push pop size c back later =
+inside-by false false left h f ts k n x xs rest push pop size c back later =
     let plain : is_main x ≡ false = (or_cases (is_main x) (list_any is_main xs) c.idle).0 in
     let next : Closes h.keeping n xs =
     closes-next h.keeping n n x xs c (omega (arith, ap one_if push, ap one_if pop)) in
-    step-ok (inside h f ts) (inside h (next_item_state f x) ts) k x
+    step-ok left (inside h f ts) (inside h (next_item_state f x) ts) k x
     (xs ++ (item.Global global.Pop ∷ rest)) (plain-inside (inside h f ts) x plain push pop)
+    (light (inside h f ts) x plain)
     ∙ later n (next_item_state f x) ts (k + 1) size next
     (returns-next h.keeping f h.item_state x xs plain c.spares back)
-    ∙ ap (λ p. walk h p rest)
+    ∙ ap (λ p. walk_within left h p rest)
     (let p : k + 1 + length xs + 1 ≡ k + suc (length xs) + 1 = omega arith in p)
 
-inside-on : (h : StateRecord) (xs rest : List ItemType) (n : ℕ) → InsideGoesOn h n xs rest
-inside-on h [] rest n f ts k size c back = inside-end h f ts k n rest size c back
-inside-on h (x ∷ xs) rest n f ts k size c back =
-    inside-by (is_push x) (is_pop x) h f ts k n x xs rest refl refl size c back
-    (λ m. inside-on h xs rest m)
+inside-on : (left : Option ℕ) (h : StateRecord) (xs rest : List ItemType) (n : ℕ) → InsideGoesOn left h n xs rest
+inside-on left h [] rest n f ts k size c back = inside-end left h f ts k n rest size c back
+inside-on left h (x ∷ xs) rest n f ts k size c back =
+    inside-by (is_push x) (is_pop x) left h f ts k n x xs rest refl refl size c back
+    (λ m. inside-on left h xs rest m)
 
 -- a segment changes nothing
-segment-stack : (xs rest : List ItemType) → IsMatched xs → (h : StateRecord) (k : ℕ)
+segment-stack : (xs rest : List ItemType) → IsMatched xs → (left : Option ℕ) (h : StateRecord)
+    (k : ℕ)
     → Spares h.keeping xs
-    → walk h k (item.Global global.Push ∷ (xs ++ (item.Global global.Pop ∷ rest))) ≡ walk h
+    → walk_within left h k (item.Global global.Push ∷ (xs ++ (item.Global global.Pop ∷ rest))) ≡ walk_within left h
     (k + (length xs + 2)) rest
-segment-stack xs rest m h k spares =
+segment-stack xs rest m left h k spares =
     let own = pushed_copy h.keeping h.item_state in
     let base = h.stack ++ own ∷ [] in
     let stepped : step h (item.Global global.Push) ≡ Ok (inside h h.item_state []) =
@@ -345,36 +388,48 @@ segment-stack xs rest m h k spares =
       within = λ i. omega (arith, m.within i);
       closed = omega (arith, m.closed);
     } in
-    step-ok h (inside h h.item_state []) k (item.Global global.Push)
-    (xs ++ (item.Global global.Pop ∷ rest)) stepped
-    ∙ inside-on h xs rest 0 h.item_state [] (k + 1) refl c (returns-own h.keeping h.item_state)
-    ∙ ap (λ p. walk h p rest) (let p : k + 1 + length xs + 1 ≡ k + (length xs + 2) = omega arith in
+    step-ok left h (inside h h.item_state []) k (item.Global global.Push)
+    (xs ++ (item.Global global.Pop ∷ rest)) stepped refl
+    ∙ inside-on left h xs rest 0 h.item_state [] (k + 1) refl c (returns-own h.keeping h.item_state)
+    ∙ ap (λ p. walk_within left h p rest) (let p : k + 1 + length xs + 1 ≡ k + (length xs + 2) = omega arith in
     p)
 
 -- the meaning is that of the items around it
-pub meaning-struck : (keeping : PushKeeps) (front xs rest : List ItemType) → IsMatched xs
-    → Spares keeping xs
-    → meaning_by (reading_of keeping) (with_segment front xs rest) ≡ moved_fault (length front)
-    (length xs + 2) (meaning_by (reading_of keeping) (front ++ rest))
-meaning-struck keeping front xs rest m spares =
-    let held = first_state keeping in
-    sym (walk-meaning keeping (with_segment front xs rest))
-    ∙ front-stack keeping front (item.Global global.Push ∷ (xs ++ (item.Global global.Pop ∷ rest)))
-    rest (length xs + 2)
-    (λ h k e. segment-stack xs rest m h k (subst (λ r. Spares r xs) (sym e) spares)) held 0 refl
-    ∙ ap (λ p. moved_fault p (length xs + 2) (walk held 0 (front ++ rest)))
+pub meaning-struck : (options : ParseOptions) (front xs rest : List ItemType) → IsMatched xs
+    → Spares options.push_keeps xs
+    → meaning_as options (with_segment front xs rest)
+    ≡ moved_fault (length front) (length xs + 2) (meaning_as options (front ++ rest))
+meaning-struck options front xs rest m spares =
+    let held = first_state options in
+    let left = options.limit in
+    meaning-walk options (with_segment front xs rest)
+    ∙ front-stack options.push_keeps front
+    (item.Global global.Push ∷ (xs ++ (item.Global global.Pop ∷ rest))) rest (length xs + 2)
+    (λ l h k e. segment-stack xs rest m l h k (subst (λ r. Spares r xs) (sym e) spares)) left held
+    0 refl
+    ∙ ap (λ p. moved_fault p (length xs + 2) (walk_within left held 0 (front ++ rest)))
     (let p : 0 + length front ≡ length front = omega arith in p)
-    ∙ ap (moved_fault (length front) (length xs + 2)) (walk-meaning keeping (front ++ rest))
+    ∙ ap (moved_fault (length front) (length xs + 2)) (sym (meaning-walk options (front ++ rest)))
+
+struck-by : (reading : InForce) (limit : Option ℕ) (bytes : List ℕ) (entries : List Entry)
+    (items : List ItemType) → itemise item_of bytes ≡ Ok entries
+    → map (λ (e : Entry). e.item) entries ≡ items
+    → parse_limited reading limit bytes ≡ at_offset entries (meaning_limited reading limit items)
+struck-by reading limit [] entries items e is = cc
+struck-by reading None (b ∷ bs) entries items e is =
+    ap (parse_items reading) e
+    ∙ ap (λ (l : List ItemType). at_offset entries (meaning_by reading l)) is
+struck-by reading (Some limit) (b ∷ bs) entries items e is =
+    ap (parse_items_within reading limit) e
+    ∙ ap (λ (l : List ItemType). at_offset entries (meaning_within_by reading limit l)) is
 
 -- the same of a descriptor's bytes
-pub parse-struck : (keeping : PushKeeps) (bytes : List ℕ) (entries : List Entry)
+pub parse-struck : (options : ParseOptions) (bytes : List ℕ) (entries : List Entry)
     (front xs rest : List ItemType) → itemise item_of bytes ≡ Ok entries → IsMatched xs
-    → Spares keeping xs
+    → Spares options.push_keeps xs
     → map (λ (e : Entry). e.item) entries ≡ with_segment front xs rest
-    → parse_by (reading_of keeping) bytes ≡ at_offset entries
-    (moved_fault (length front) (length xs + 2) (meaning_by (reading_of keeping) (front ++ rest)))
-parse-struck keeping [] entries front xs rest e m spares is = cc
-parse-struck keeping (b ∷ bs) entries front xs rest e m spares is =
-    ap (parse_items (reading_of keeping)) e
-    ∙ ap (λ (l : List ItemType). at_offset entries (meaning_by (reading_of keeping) l)) is
-    ∙ ap (at_offset entries) (meaning-struck keeping front xs rest m spares)
+    → parse_any options bytes ≡ at_offset entries
+    (moved_fault (length front) (length xs + 2) (meaning_as options (front ++ rest)))
+parse-struck options bytes entries front xs rest e m spares is =
+    struck-by (reading_of options) options.limit bytes entries (with_segment front xs rest) e is
+    ∙ ap (at_offset entries) (meaning-struck options front xs rest m spares)

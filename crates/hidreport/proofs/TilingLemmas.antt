@@ -11,7 +11,7 @@ use Rattle.hidreport_items.specs.Flags.{Flags}
 use Rattle.hidreport.specs.Fields.{Beginning, beginning_at, each_from, field_count, list_or_none}
 use Rattle.hidreport.specs.Fields.{make_fields, make_place}
 use Rattle.hidreport.specs.Fields.{usage_at, variable_fields}
-use Rattle.hidreport.specs.ItemState.{ItemState, first_of}
+use Rattle.hidreport.specs.ItemState.{ItemState, first_of, local_items}
 use Rattle.hidreport.specs.Making.{both_set, extent, same_key}
 use Rattle.hidreport.specs.Parser.Machine.{added_to, first_id, size_in}
 use Rattle.hidreport.specs.Places.{id_bits}
@@ -22,7 +22,14 @@ use Rattle.hidreport.specs.Records.{place_of, collections_of}
 use Rattle.hidreport.specs.Tiling.{IsRangeOf, HaveOwnIds, IsOf}
 use Rattle.hidreport.specs.Records.{fields_in_all}
 use Rattle.hidreport.specs.Usages.{UsageList, as_single, last_local, maximum_of, minimum_of}
-use Rattle.hidreport.specs.Usages.{range_usages, single_usages, usages_by, usages_of}
+use Rattle.hidreport.specs.Usages.{range_usages, single_usages, usages_of, usages_under}
+use Rattle.hidreport.specs.Usages.{usages_with}
+use Rattle.hidreport_items.specs.declared.local.LocalItem.{LocalItem}
+use Rattle.std.specs.Prelude.{unwrap_or}
+use Rattle.hidreport.specs.HostUsages.{host_spans}
+use Rattle.hidreport.specs.declared.parser.usages_by.UsagesBy.{UsagesBy}
+use Rattle.hidreport.specs.declared.parser.usages_by.UsagesBy.TheVariants as usages_by
+use Rattle.hidreport.proofs.HostUsageLemmas.{spans-ranged}
 use Rattle.hidreport.specs.declared.field.usage.Usage.{Usage}
 use Rattle.hidreport.specs.MeaningFault.{MeaningFault}
 use Rattle.hidreport.proofs.OwnCollectionsLemmas.{AreOpened}
@@ -209,12 +216,18 @@ single-by : (r : Result (List Usage) MeaningFault) → IsRanged (list_or_none (a
 single-by (Ok us) = λ e. cc
 single-by (Err fault) = λ e. cc
 
-ranged-in : (low : Option ℕ) (f : ItemState) → IsRanged (list_or_none (usages_by low f))
-ranged-in (Some low) f = range-by low (last_local maximum_of f.locals) f.usage_page
-ranged-in None f = single-by (single_usages f.usage_page f.locals)
+ranged-in : (low page : Option ℕ) (xs : List LocalItem)
+    → IsRanged (list_or_none (usages_with low page xs))
+ranged-in (Some low) page xs = range-by low (last_local maximum_of xs) page
+ranged-in None page xs = single-by (single_usages page xs)
+
+ranged-under : (by : UsagesBy) (f : ItemState) → IsRanged (list_or_none (usages_under by f))
+ranged-under usages_by.Standard f =
+    ranged-in (last_local minimum_of (local_items f.locals)) f.usage_page (local_items f.locals)
+ranged-under usages_by.Hosts f = spans-ranged (host_spans (unwrap_or f.usage_page 0) f.locals)
 
 pub ranged : (f : ItemState) → IsRanged (list_or_none (usages_of f))
-ranged f = ranged-in (last_local minimum_of f.locals) f
+ranged f = ranged-under f.usages_by f
 
 set-by : (size count : ℕ) (b : Bool) (e : Extent) → (size == 0 || count == 0) ≡ b
     → cond b None (Some (record { size = size; count = count })) ≡ Some e → (0 < e.size)

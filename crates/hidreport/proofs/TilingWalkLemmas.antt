@@ -29,7 +29,7 @@ use Rattle.hidreport.specs.Records.{collections_of}
 use Rattle.hidreport.specs.Tiling.{IsOf, IsTiled}
 use Rattle.hidreport.specs.Records.{fields_in_all, reports_in_all}
 use Rattle.hidreport.specs.Usages.{usages_of}
-use Rattle.hidreport.specs.declared.parser.push_keeps.PushKeeps.{PushKeeps}
+use Rattle.hidreport.specs.declared.parse_options.ParseOptions.{ParseOptions}
 use Rattle.hidreport.specs.Options.{reading_of}
 use Rattle.hidreport.proofs.OwnCollectionsLemmas.{AreOpened, opened-append, opened-more, opened-new}
 use Rattle.hidreport.proofs.OwnCollectionsLemmas.{opened-take, own-collections}
@@ -373,11 +373,11 @@ tiled-from known h k (x ∷ xs) d keeps is =
 none-own : HaveOwnIds []
 none-own = record { once = λ id. omega arith; first = tt }
 
-keeps-nothing : (keeping : PushKeeps) → Keeps [] (first_state keeping)
-keeps-nothing keeping = record {
-  filled = λ d. elim d as (λ d. Each (IsGood []) (reports_in d (first_state keeping).descriptor))
+keeps-nothing : (options : ParseOptions) → Keeps [] (first_state options)
+keeps-nothing options = record {
+  filled = λ d. elim d as (λ d. Each (IsGood []) (reports_in d (first_state options).descriptor))
       [ Input ↦ tt | Output ↦ tt | Feature ↦ tt ];
-  own = λ d. elim d as (λ d. HaveOwnIds (reports_in d (first_state keeping).descriptor))
+  own = λ d. elim d as (λ d. HaveOwnIds (reports_in d (first_state options).descriptor))
       [ Input ↦ none-own | Output ↦ none-own | Feature ↦ none-own ];
   once = λ n. omega arith;
   unused = λ n le. refl;
@@ -386,27 +386,27 @@ keeps-nothing keeping = record {
 }
 
 -- whatever a Pop brings back
-pub walk-tiled : (keeping : PushKeeps) (items : List ItemType) (d : DescriptorRecord)
-    → walk (first_state keeping) 0 items ≡ Ok d → IsTiled d
-walk-tiled keeping items d is =
-    tiled-from [] (first_state keeping) 0 items d (keeps-nothing keeping) is
+pub walk-tiled : (options : ParseOptions) (items : List ItemType) (d : DescriptorRecord)
+    → walk (first_state options) 0 items ≡ Ok d → IsTiled d
+walk-tiled options items d is =
+    tiled-from [] (first_state options) 0 items d (keeps-nothing options) is
 
 found-ok : (entries : List Entry) (r : Result DescriptorRecord (ℕ × MeaningFault))
     (d : DescriptorRecord) → at_offset entries r ≡ Ok d → r ≡ Ok d
 found-ok entries (Ok announced) d e = let same : announced ≡ d = cc in ap Ok same
 found-ok entries (Err first) d e = cc
 
-tiled-items : (keeping : PushKeeps) (r : Result (List Entry) (ℕ × GrammarFault))
+tiled-items : (options : ParseOptions) (r : Result (List Entry) (ℕ × GrammarFault))
     (d : DescriptorRecord)
-    → parse_items (reading_of keeping) r ≡ Ok d → IsTiled d
-tiled-items keeping (Ok entries) d e =
+    → parse_items (reading_of options) r ≡ Ok d → IsTiled d
+tiled-items options (Ok entries) d e =
     let xs = items_of entries in
-    walk-tiled keeping xs d (walk-meaning keeping xs
-    ∙ found-ok entries (meaning_by (reading_of keeping) xs) d e)
-tiled-items keeping (Err fault) d e = cc
+    walk-tiled options xs d (walk-meaning options xs
+    ∙ found-ok entries (meaning_by (reading_of options) xs) d e)
+tiled-items options (Err fault) d e = cc
 
 -- the reports of a descriptor that is read
-pub parse-tiled : (keeping : PushKeeps) (bytes : List ℕ) (d : DescriptorRecord)
-    → parse_by (reading_of keeping) bytes ≡ Ok d → IsTiled d
-parse-tiled keeping [] d e = cc
-parse-tiled keeping (b ∷ bs) d e = tiled-items keeping (itemise item_of (b ∷ bs)) d e
+pub parse-tiled : (options : ParseOptions) (bytes : List ℕ) (d : DescriptorRecord)
+    → parse_by (reading_of options) bytes ≡ Ok d → IsTiled d
+parse-tiled options [] d e = cc
+parse-tiled options (b ∷ bs) d e = tiled-items options (itemise item_of (b ∷ bs)) d e

@@ -126,7 +126,7 @@ stays : (options : RepairOptions) (before : List ItemType) (left : Option ℕ) (
     → stop_in left h e.item ≡ None → piece_of e ≡ mended options before (piece_of e)
 stays options before left h e signed reached passes =
     let p = piece_of e in
-    let state = reading_of options.parse.push_keeps before (length before) in
+    let state = reading_of options.parse before (length before) in
     let wide : widened options before p ≡ p = ap (λ b. widened_in b state p) signed in
     let none : fault_at options.parse before p ≡ None =
     fault-stop options.parse before left h p reached ∙ passes in
@@ -185,7 +185,7 @@ offset-ok es (Err f) d e = cc
 repaired-items : (options : RepairOptions) (bytes : List ℕ) (es : List Entry)
     (d : DescriptorRecord) → AreBytes bytes → bytes ≢ [] → options.unsigned_maxima ≡ false
     → itemise item_of bytes ≡ Ok es
-    → walk_within options.parse.limit (first_state options.parse.push_keeps) 0 (items_of es)
+    → walk_within options.parse.limit (first_state options.parse) 0 (items_of es)
     ≡ Ok d
     → parse_as options.parse bytes ≡ Ok d
     → then_read options.parse (repaired_pieces options bytes)
@@ -198,7 +198,7 @@ repaired-items options bytes es d are some signed items walks parsed =
     ap if_pieces cut ∙ ap Ok (all-stay es) in
     let stand : repaired_pieces options bytes ≡ Ok (map piece_of es) =
     ap (λ r. then_mended options (as_refusal r)) read
-    ∙ all-stand options [] options.parse.limit (first_state options.parse.push_keeps) 0 es d signed
+    ∙ all-stand options [] options.parse.limit (first_state options.parse) 0 es d signed
     (reached-none options.parse) walks in
     let back : joined (map piece_of es) ≡ bytes =
     bytes-so es ∙ whole-so bytes es are some items in
@@ -212,7 +212,7 @@ repaired-items options bytes es d are some signed items walks parsed =
 by-itemise : (options : RepairOptions) (bytes : List ℕ) (r : Result (List Entry) (ℕ × GrammarFault))
     (d : DescriptorRecord) → AreBytes bytes → bytes ≢ [] → options.unsigned_maxima ≡ false
     → itemise item_of bytes ≡ r
-    → walk_items options.parse.limit (first_state options.parse.push_keeps) r ≡ Ok d
+    → walk_items options.parse.limit (first_state options.parse) r ≡ Ok d
     → parse_as options.parse bytes ≡ Ok d
     → then_read options.parse (repaired_pieces options bytes)
     ≡ Ok (record { bytes = bytes; changes = [] })
@@ -222,7 +222,7 @@ by-itemise options bytes (Ok es) d are some signed items walks parsed =
 
 by-bytes : (options : RepairOptions) (bytes : List ℕ) (d : DescriptorRecord) → AreBytes bytes
     → options.unsigned_maxima ≡ false
-    → walk_bytes options.parse.push_keeps options.parse.limit bytes ≡ Ok d
+    → walk_bytes options.parse bytes ≡ Ok d
     → parse_as options.parse bytes ≡ Ok d
     → then_read options.parse (repaired_pieces options bytes)
     ≡ Ok (record { bytes = bytes; changes = [] })
@@ -236,16 +236,16 @@ by-past : (past : Option ℕ) (options : RepairOptions) (bytes : List ℕ) (d : 
     → parse_as options.parse bytes ≡ Ok d
     → repaired options bytes ≡ Ok (record { bytes = bytes; changes = [] })
 by-past None options bytes d are signed within parsed =
-    let limited : parse_limited (reading_of options.parse.push_keeps) options.parse.limit bytes
+    let limited : parse_limited (reading_of options.parse) options.parse.limit bytes
     ≡ Ok d = sym (ap (λ o. unless_past o (parse_limited
-    (reading_of options.parse.push_keeps) options.parse.limit bytes)) within) ∙ parsed in
+    (reading_of options.parse) options.parse.limit bytes)) within) ∙ parsed in
     ap (λ o. unless_past o (then_read options.parse (repaired_pieces options bytes))) within
     ∙ by-bytes options bytes d are signed
-    (bytes-as options.parse.push_keeps options.parse.limit bytes ∙ limited) parsed
+    (bytes-as options.parse bytes ∙ limited) parsed
 by-past (Some offset) options bytes d are signed within parsed =
     let bad : parse_as options.parse bytes ≡ Err (OverBudget offset) =
     ap (λ o. unless_past o (parse_limited
-    (reading_of options.parse.push_keeps) options.parse.limit bytes)) within in cc
+    (reading_of options.parse) options.parse.limit bytes)) within in cc
 
 -- what is read stays as it is
 pub untouched : (options : RepairOptions) (bytes : List ℕ) (d : DescriptorRecord)

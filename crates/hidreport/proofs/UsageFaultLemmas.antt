@@ -4,15 +4,17 @@ use Rattle.std.proofs.Common.{Bool, true, false, refl}
 use Rattle.hidreport_items.specs.declared.local.LocalItem.{LocalItem}
 use Rattle.hidreport_items.specs.declared.local.LocalItem.TheVariants as local
 use Rattle.hidreport.specs.Faults.{limit_fault, usage_fault}
-use Rattle.hidreport.specs.ItemState.{ItemState, first_of}
+use Rattle.hidreport.specs.ItemState.{ItemState, first_of, local_items}
 use Rattle.hidreport.specs.MeaningFault.{MeaningFault, MissingUsageMaximum, MissingUsagePage}
 use Rattle.hidreport.specs.MeaningFault.{MissingUsages, PastBounds, PastBudget, TooManyEnds}
 use Rattle.hidreport.specs.MeaningFault.{TooManyPops}
 use Rattle.hidreport.specs.Repair.{is_missing_usages}
 use Rattle.hidreport.specs.Usages.{UsageList, as_single, before_usages, last_local, maximum_of}
-use Rattle.hidreport.specs.Usages.{minimum_of, on_page, range_usages, single_usages, usages_by}
-use Rattle.hidreport.specs.Usages.{usages_of}
+use Rattle.hidreport.specs.Usages.{minimum_of, on_page, range_usages, single_usages}
+use Rattle.hidreport.specs.Usages.{usages_of, usages_under, usages_with}
 use Rattle.hidreport.specs.declared.field.usage.Usage.{Usage}
+use Rattle.hidreport.specs.declared.parser.usages_by.UsagesBy.{UsagesBy}
+use Rattle.hidreport.specs.declared.parser.usages_by.UsagesBy.TheVariants as usages_by
 
 before-never : (g : MeaningFault) (u : Usage) (r : Result (List Usage) MeaningFault) → r ≢ Err g
     → before_usages u r ≢ Err g
@@ -49,17 +51,24 @@ range-never g maximum other low (Some high) None is =
     let same : MissingUsagePage ≡ g = cc in other same
 range-never g maximum other low (Some high) (Some page) is = cc
 
+standard-never : (g : MeaningFault) → MissingUsageMaximum ≢ g → MissingUsagePage ≢ g
+    → (low page : Option ℕ) (xs : List LocalItem) → usages_with low page xs ≢ Err g
+standard-never g maximum other (Some low) page xs =
+    range-never g maximum other low (last_local maximum_of xs) page
+standard-never g maximum other None page xs = as-single-never g (single_usages page xs)
+    (single-never g other page xs)
+
 by-never : (g : MeaningFault) → MissingUsageMaximum ≢ g → MissingUsagePage ≢ g
-    → (low : Option ℕ) (f : ItemState) → usages_by low f ≢ Err g
-by-never g maximum other (Some low) f =
-    range-never g maximum other low (last_local maximum_of f.locals) f.usage_page
-by-never g maximum other None f = as-single-never g (single_usages f.usage_page f.locals)
-    (single-never g other f.usage_page f.locals)
+    → (by : UsagesBy) (f : ItemState) → usages_under by f ≢ Err g
+by-never g maximum other usages_by.Standard f =
+    standard-never g maximum other (last_local minimum_of (local_items f.locals)) f.usage_page
+    (local_items f.locals)
+by-never g maximum other usages_by.Hosts f = λ is. cc
 
 -- no other fault is one of them
 pub usages-never : (g : MeaningFault) → MissingUsageMaximum ≢ g → MissingUsagePage ≢ g
     → (f : ItemState) → usages_of f ≢ Err g
-usages-never g maximum other f = by-never g maximum other (last_local minimum_of f.locals) f
+usages-never g maximum other f = by-never g maximum other f.usages_by f
 
 limit-other : (b : Bool) → is_missing_usages (limit_fault b) ≡ false
 limit-other true = refl

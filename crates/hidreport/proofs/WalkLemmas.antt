@@ -29,10 +29,10 @@ use Rattle.hidreport.specs.Parser.Machine.{reports_of, size_in, first_id, added_
 use Rattle.hidreport.specs.Parser.Machine.{key_in, start_in, start_for, counts_in, fault_in, adds}
 use Rattle.hidreport.specs.Parser.Machine.{next_item_state, last_item_state, next_reports}
 use Rattle.hidreport.specs.Parser.Machine.{next_opened}
-use Rattle.hidreport.specs.Parser.Machine.{new_collection, next_state, unless_fault, first_state}
+use Rattle.hidreport.specs.Parser.Machine.{new_collection, next_state, unless_fault, start_by}
 use Rattle.hidreport.specs.Parser.Machine.{go_on, walk}
 use Rattle.hidreport.specs.Making.{extent, key, makers, first_report_id}
-use Rattle.hidreport.specs.Meaning.{PushReading, meaning_by, unless_first, first_fault, fault_here}
+use Rattle.hidreport.specs.Meaning.{InForce, meaning_by, unless_first, first_fault, fault_here}
 use Rattle.hidreport.specs.Meaning.{reports, descriptor}
 use Rattle.hidreport.specs.MeaningFault.{MeaningFault, TooManyEnds, TooManyPops}
 use Rattle.hidreport.specs.OpenCollections.{depth, collections_before, open_at}
@@ -41,6 +41,7 @@ use Rattle.hidreport.specs.Records.{CollectionRecord, FieldRecord, ReportRecord,
 use Rattle.hidreport.specs.Usages.{usages_of}
 use Rattle.hidreport.specs.Visibility.{before, level}
 use Rattle.hidreport.specs.declared.parser.push_keeps.PushKeeps.{PushKeeps}
+use Rattle.hidreport.specs.declared.parser.usages_by.UsagesBy.{UsagesBy}
 use Rattle.hidreport.proofs.ItemStateLemmas.{before-next, count-next, first_of-none}
 use Rattle.hidreport.proofs.LevelLemmas.{Rests, rests-nothing}
 use Rattle.hidreport.proofs.OpenLemmas.{Stands, stands-nothing, open-length, plain-next}
@@ -66,10 +67,10 @@ pub record Steps (keeping : PushKeeps) (item_state : ℕ → ItemState) (stack :
 
 -- All that the walk asks of a reading of Push and Pop: what is in force before the first item and
 -- behind each one.
-pub record Follows (keeping : PushKeeps) (item_state : ℕ → ItemState) (stack : ℕ → List ItemState)
+pub record Follows (keeping : PushKeeps) (by : UsagesBy) (item_state : ℕ → ItemState) (stack : ℕ → List ItemState)
     (items : List ItemType) : Type 0 where
-  pub begins : no_item_state ≡ item_state 0
-  pub empty : (first_state keeping).stack ≡ stack 0
+  pub begins : no_item_state by ≡ item_state 0
+  pub empty : (start_by keeping by).stack ≡ stack 0
   pub leveled : (k : ℕ) → length (stack k) ≡ level items k
   pub goes_on : (front rest : List ItemType) (x : ItemType) → items ≡ front ++ x ∷ rest
       → Rests items (length front)
@@ -453,13 +454,13 @@ pop-deep h item.Long e faultless = cc
 pop-deep h item.Reserved e faultless = cc
 
 -- what is held goes on by one item
-pub holds-next : (keeping : PushKeeps) (item_state : ℕ → ItemState) (stack : ℕ → List ItemState)
+pub holds-next : (keeping : PushKeeps) (by : UsagesBy) (item_state : ℕ → ItemState) (stack : ℕ → List ItemState)
     (items front rest : List ItemType) (h : StateRecord) (x : ItemType)
-    → Follows keeping item_state stack items
+    → Follows keeping by item_state stack items
     → h.keeping ≡ keeping → items ≡ front ++ x ∷ rest
     → Holds item_state stack items (length front) h
     → fault_in h x ≡ None → Holds item_state stack items (suc (length front)) (next_state h x)
-holds-next keeping item_state stack items front rest h x follows reads e held faultless =
+holds-next keeping by item_state stack items front rest h x follows reads e held faultless =
     let k = length front in
     let opened = opened-by (collection_kind_of x)
     (is_end_collection x) item_state stack items front rest h x e
@@ -535,17 +536,17 @@ at-end item_state stack items h held =
     (reports item_state Feature items) (held.listed Input) (held.listed Output)
     (held.listed Feature)
 
-walk-from : (keeping : PushKeeps) (item_state : ℕ → ItemState) (stack : ℕ → List ItemState)
-    (items front rest : List ItemType) (h : StateRecord) → Follows keeping item_state stack items
+walk-from : (keeping : PushKeeps) (by : UsagesBy) (item_state : ℕ → ItemState) (stack : ℕ → List ItemState)
+    (items front rest : List ItemType) (h : StateRecord) → Follows keeping by item_state stack items
     → h.keeping ≡ keeping → items ≡ front ++ rest → Holds item_state stack items (length front) h
     → walk h (length front) rest ≡ unless_first
     (first_fault item_state items (enumerate_from (length front) rest))
     (descriptor item_state items)
-walk-from keeping item_state stack items front [] h follows reads e held =
+walk-from keeping by item_state stack items front [] h follows reads e held =
     let whole : items ≡ front = e ∙ append-nil front in
     ap Ok (at-end item_state stack items h
     (subst (λ n. Holds item_state stack items n h) (ap length (sym whole)) held))
-walk-from keeping item_state stack items front (x ∷ xs) h follows reads e held =
+walk-from keeping by item_state stack items front (x ∷ xs) h follows reads e held =
     let k = length front in
     let more : items ≡ (front ++ x ∷ []) ++ xs = e ∙ sym (append_assoc front (x ∷ []) xs) in
     let size : length (front ++ x ∷ []) ≡ suc k = grind (arith, common_steps) in
@@ -555,24 +556,24 @@ walk-from keeping item_state stack items front (x ∷ xs) h follows reads e held
     (λ faultless.
     let next : Holds item_state stack items (length (front ++ x ∷ [])) (next_state h x) =
     subst (λ n. Holds item_state stack items n (next_state h x)) (sym size)
-    (holds-next keeping item_state stack items front xs h x follows reads e held faultless) in
+    (holds-next keeping by item_state stack items front xs h x follows reads e held faultless) in
     subst (λ n. walk (next_state h x) n xs ≡ unless_first
     (first_fault item_state items (enumerate_from n xs)) (descriptor item_state items)) size_one
-    (walk-from keeping item_state stack items (front ++ x ∷ []) xs
+    (walk-from keeping by item_state stack items (front ++ x ∷ []) xs
     (next_state h x) follows reads more
     next))
 
-pub holds-nothing : (keeping : PushKeeps) (item_state : ℕ → ItemState) (stack : ℕ → List ItemState)
-    (items : List ItemType) → Follows keeping item_state stack items
-    → Holds item_state stack items 0 (first_state keeping)
-holds-nothing keeping item_state stack items follows = record {
+pub holds-nothing : (keeping : PushKeeps) (by : UsagesBy) (item_state : ℕ → ItemState) (stack : ℕ → List ItemState)
+    (items : List ItemType) → Follows keeping by item_state stack items
+    → Holds item_state stack items 0 (start_by keeping by)
+holds-nothing keeping by item_state stack items follows = record {
   item_states = follows.begins;
   rests = rests-nothing items;
   keeps = follows.empty;
-  listed = λ d. elim d as (λ d. reports_in d (first_state keeping).descriptor ≡ reports_before
+  listed = λ d. elim d as (λ d. reports_in d (start_by keeping by).descriptor ≡ reports_before
       item_state d items 0) [ Input ↦ refl | Output ↦ refl | Feature ↦ refl ];
   first = λ d. elim d as (λ d. first_report_id item_state (makers item_state d items 0) ≡ first_id
-      (reports_in d (first_state keeping).descriptor))
+      (reports_in d (start_by keeping by).descriptor))
       [ Input ↦ refl | Output ↦ refl | Feature ↦ refl ];
   numbered = refl;
   stands = stands-nothing items;
@@ -581,9 +582,9 @@ holds-nothing keeping item_state stack items follows = record {
 }
 
 -- the walk gives the meaning, by each reading that it follows
-pub walk-follows : (keeping : PushKeeps) (reading : PushReading) (stack : ℕ → List ItemState)
-    (items : List ItemType) → Follows keeping (reading items) stack items
-    → walk (first_state keeping) 0 items ≡ meaning_by reading items
-walk-follows keeping reading stack items follows =
-    walk-from keeping (reading items) stack items [] items (first_state keeping) follows refl refl
-    (holds-nothing keeping (reading items) stack items follows)
+pub walk-follows : (keeping : PushKeeps) (by : UsagesBy) (reading : InForce) (stack : ℕ → List ItemState)
+    (items : List ItemType) → Follows keeping by (reading items) stack items
+    → walk (start_by keeping by) 0 items ≡ meaning_by reading items
+walk-follows keeping by reading stack items follows =
+    walk-from keeping by (reading items) stack items [] items (start_by keeping by) follows refl refl
+    (holds-nothing keeping by (reading items) stack items follows)

@@ -29,7 +29,7 @@ bytes_of-are f small s zero = λ k d lt. absurd (omega (arith, lt))
 bytes_of-are f small s (suc m) =
     All-cons (λ b. b < 256) _ _ (number-small f small s 8) (bytes_of-are f small (s + 8) m)
 
-written-are : (field : FieldRecord) (numbers : List ℤ) (old new : List ℕ)
+pub written-are : (field : FieldRecord) (numbers : List ℤ) (old new : List ℕ)
     → written field numbers old ≡ Ok new → AreBytes new
 written-are field numbers old new h =
     subst (λ l. AreBytes l) (written-parts field numbers old new h).is

@@ -170,7 +170,7 @@ clear-of-id (Some n) None first (inl e) from = cc
 clear-of-id (Some n) None first (inr e) from = cc
 clear-of-id (Some n) (Some m) first is from = grind (arith, nat_tests, from)
 
-covers-up : (first end : ℕ) (fields : List FieldRecord) → Covers first fields end → first ≤ end
+pub covers-up : (first end : ℕ) (fields : List FieldRecord) → Covers first fields end → first ≤ end
 covers-up first end [] covers = omega (arith, covers)
 covers-up first end (f ∷ fields) covers =
     let rest = covers-up (place_of f).«end» end fields covers.2 in
@@ -181,7 +181,7 @@ one-fits : (f : FieldRecord) (number : ℤ) → fits (value_width f) (has_sign f
 one-fits f number fit = ap (λ t. t && true) fit
 
 -- the fields of a report
-fields-work : (id : Option ℕ) (b : ℕ) (bytes : List ℕ) (first end : ℕ) (fields : List FieldRecord)
+pub fields-work : (id : Option ℕ) (b : ℕ) (bytes : List ℕ) (first end : ℕ) (fields : List FieldRecord)
     → ((f : FieldRecord) → IsOf id f → (own_id f ≡ None) ⊎ (own_id f ≡ Some b))
     → id_bits id ≤ first → end ≤ 8 * length (b ∷ bytes) → Covers first fields end
     → Each HasNoRest fields → Each (IsOf id) fields → Each (FieldWorks (b ∷ bytes)) fields

@@ -63,7 +63,7 @@ bit-head b bs i lt =
     let within : i % 8 ≡ i = omega (arith, lt) in
     ap (λ n. slice_index (b ∷ bs) n / 2 ^ (i % 8) % 2) place ∙ ap (λ n. b / 2 ^ n % 2) within
 
-bit-tail : (b : ℕ) (bs : List ℕ) (i : ℕ) → bit (b ∷ bs) (8 + i) ≡ bit bs i
+pub bit-tail : (b : ℕ) (bs : List ℕ) (i : ℕ) → bit (b ∷ bs) (8 + i) ≡ bit bs i
 bit-tail b bs i =
     let place : (8 + i) / 8 ≡ suc (i / 8) = omega arith in
     let within : (8 + i) % 8 ≡ i % 8 = omega arith in

@@ -11,10 +11,11 @@ use Rattle.hidreport_lists.specs.Itemising.{itemise}
 use Rattle.hidreport_lists.specs.Messages.{grammar_message}
 use Rattle.hidreport.specs.ItemState.{item_state}
 use Rattle.hidreport.specs.Kinds.{Indexed}
-use Rattle.hidreport.specs.Meaning.{PushReading, at_offset, empty_descriptor, meaning_by}
+use Rattle.hidreport.specs.Meaning.{InForce, at_offset, empty_descriptor, meaning_by}
 use Rattle.hidreport.specs.MeaningFault.{MeaningFault, PastBudget}
 use Rattle.hidreport.specs.Records.{DescriptorRecord}
 use Rattle.hidreport.specs.Weight.{first_past}
+use Rattle.hidreport.specs.declared.parser.usages_by.UsagesBy.TheVariants as usages_by
 
 -- the first fault stands at index k or before it
 abbrev pub is_faulty_by : ℕ → Result DescriptorRecord (ℕ × MeaningFault) → Bool
@@ -28,13 +29,13 @@ unless_past None answer = answer
 unless_past (Some p) answer = if is_faulty_by p.0 answer then answer else Err (p.0, PastBudget)
 
 -- the reports, or the first item with a fault or past the limit
-abbrev pub meaning_within_by : PushReading → ℕ → List ItemType
+abbrev pub meaning_within_by : InForce → ℕ → List ItemType
     → Result DescriptorRecord (ℕ × MeaningFault)
 meaning_within_by reading limit items =
     unless_past (first_past (reading items) limit items) (meaning_by reading items)
 
 -- a grammar fault, or else the meaning of the items under the limit
-abbrev pub parse_items_within : PushReading → ℕ → Result (List Entry) (ℕ × GrammarFault)
+abbrev pub parse_items_within : InForce → ℕ → Result (List Entry) (ℕ × GrammarFault)
     → Result DescriptorRecord Refusal
 parse_items_within reading limit (Err fault) =
     Err (InvalidAt fault.0 (grammar_message fault.1))
@@ -43,11 +44,11 @@ parse_items_within reading limit (Ok entries) =
 
 -- the reports that the bytes of a descriptor announce, or their first fault, or the item that is
 -- past the limit
-abbrev pub parse_within_by : PushReading → ℕ → List ℕ → Result DescriptorRecord Refusal
+abbrev pub parse_within_by : InForce → ℕ → List ℕ → Result DescriptorRecord Refusal
 parse_within_by reading limit [] = Err (InvalidAt 0 empty_descriptor)
 parse_within_by reading limit (b ∷ bs) =
     parse_items_within reading limit (itemise item_of (b ∷ bs))
 
 -- the same where Push keeps globals and locals
 abbrev pub parse_within : ℕ → List ℕ → Result DescriptorRecord Refusal
-parse_within = parse_within_by item_state
+parse_within = parse_within_by (item_state usages_by.Standard)

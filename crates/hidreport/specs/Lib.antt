@@ -7,6 +7,7 @@ pub mod Budget
 pub mod Choosing
 pub mod Faults
 pub mod Fields
+pub mod HostUsages
 pub mod ItemState
 pub mod Kinds
 pub mod Laws
@@ -23,6 +24,7 @@ pub mod Records
 pub mod Repair
 pub mod RepairLaws
 pub mod Scaling
+pub mod ScalingLaws
 pub mod Segments
 pub mod SharedCollections
 pub mod Standing

@@ -1,9 +1,14 @@
--- Lookup (Section 5.6): the report that bytes are of, and the one with an id.
-use Rattle.std.specs.Prelude.{◌≡◌, true, ℕ, List, [], ◌∷◌, Option, None, Some, find, slice_get}
+-- Lookup (Section 5.6): the report that bytes are of, and the one with an id; the field with a
+-- number, and the first with a usage.
+use Rattle.std.specs.Prelude.{◌≡◌, ◌==◌, ◌&&◌, Bool, true, ℕ, List, [], ◌∷◌, Option, None, Some}
+use Rattle.std.specs.Prelude.{find, slice_get}
+use Rattle.std.specs.List.{list_any}
 use Rattle.hidreport.specs.Making.{same_key}
-use Rattle.hidreport.specs.Records.{DescriptorRecord, ReportRecord}
+use Rattle.hidreport.specs.Records.{DescriptorRecord, FieldRecord, ReportRecord, place_of}
+use Rattle.hidreport.specs.Records.{usages_in}
 use Rattle.hidreport.specs.declared.field.data_item.Direction.{Direction}
 use Rattle.hidreport.specs.declared.field.data_item.Direction.TheVariants as direction
+use Rattle.hidreport.specs.declared.field.usage.Usage.{Usage}
 
 -- where the first report has no id it is the answer, else that with the first byte as its id
 abbrev pub find_by : Option ℕ → List ReportRecord → ReportRecord → ℕ → Option ReportRecord
@@ -32,3 +37,18 @@ pub record IsOneWith (id : Option ℕ) (reports : List ReportRecord) (report : R
     pub index : ℕ
     pub there : slice_get reports index ≡ Some report
     pub wanted : same_key report.id id ≡ true
+
+-- the field with this number, if it is one of these
+abbrev pub field_with : ℕ → List FieldRecord → Option FieldRecord
+field_with number fields = find (λ f. (place_of f).id == number) fields
+
+abbrev pub same_usage : Usage → Usage → Bool
+same_usage u v = (v.usage_page == u.usage_page) && (v.usage_id == u.usage_id)
+
+-- one of the field's usages is this
+abbrev pub has_usage : Usage → FieldRecord → Bool
+has_usage usage field = list_any (same_usage usage) (usages_in field)
+
+-- the first of these fields that has the usage
+abbrev pub field_for : Usage → List FieldRecord → Option FieldRecord
+field_for usage fields = find (has_usage usage) fields

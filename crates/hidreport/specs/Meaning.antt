@@ -17,10 +17,11 @@ use Rattle.hidreport.specs.Making.{key, makers, makers_of, same_key}
 use Rattle.hidreport.specs.MeaningFault.{MeaningFault, PastBudget, text}
 use Rattle.hidreport.specs.Places.{end_before}
 use Rattle.hidreport.specs.Records.{ReportRecord, DescriptorRecord}
+use Rattle.hidreport.specs.declared.parser.usages_by.UsagesBy.TheVariants as usages_by
 
--- A reading of Push and Pop: what is in force at each index of a list of items.
-abbrev pub PushReading : Type 0
-PushReading = List ItemType → ℕ → ItemState
+-- A reading of Push and Pop, and of usages: what is in force at each index of a list of items.
+abbrev pub InForce : Type 0
+InForce = List ItemType → ℕ → ItemState
 
 -- the first of each kind, without those seen before
 abbrev pub firsts_after : List (Option ℕ) → List (Option ℕ) → List (Option ℕ)
@@ -71,17 +72,17 @@ unless_first None announced = Ok announced
 unless_first (Some first) announced = Err first
 
 -- the reports, or the first fault with its index in the list, where this is in force
-abbrev pub meaning_by : PushReading → List ItemType → Result DescriptorRecord (ℕ × MeaningFault)
+abbrev pub meaning_by : InForce → List ItemType → Result DescriptorRecord (ℕ × MeaningFault)
 meaning_by reading items = unless_first
     (first_fault (reading items) items (enumerate_from 0 items)) (descriptor (reading items) items)
 
 -- the same where Push keeps globals and locals
 abbrev pub meaning : List ItemType → Result DescriptorRecord (ℕ × MeaningFault)
-meaning = meaning_by item_state
+meaning = meaning_by (item_state usages_by.Standard)
 
 -- the same where Push keeps globals alone
 abbrev pub meaning_globals_only : List ItemType → Result DescriptorRecord (ℕ × MeaningFault)
-meaning_globals_only = meaning_by item_state_globals_only
+meaning_globals_only = meaning_by (item_state_globals_only usages_by.Standard)
 
 -- the offset of the entry at an index
 abbrev pub offset_at : List Entry → ℕ → ℕ
@@ -104,7 +105,7 @@ at_offset entries (Ok announced) = Ok announced
 at_offset entries (Err first) = Err (refusal_at (offset_at entries first.0) first.1)
 
 -- a grammar fault, or else the meaning of the items
-abbrev pub parse_items : PushReading → Result (List Entry) (ℕ × GrammarFault)
+abbrev pub parse_items : InForce → Result (List Entry) (ℕ × GrammarFault)
     → Result DescriptorRecord Refusal
 parse_items reading (Err fault) = Err (InvalidAt fault.0 (grammar_message fault.1))
 parse_items reading (Ok entries) =
@@ -114,14 +115,14 @@ abbrev pub empty_descriptor : List ℕ
 empty_descriptor = codes "Empty report descriptor"
 
 -- the reports that the bytes of a descriptor announce, or their first fault, grammar before meaning
-abbrev pub parse_by : PushReading → List ℕ → Result DescriptorRecord Refusal
+abbrev pub parse_by : InForce → List ℕ → Result DescriptorRecord Refusal
 parse_by reading [] = Err (InvalidAt 0 empty_descriptor)
 parse_by reading (b ∷ bs) = parse_items reading (itemise item_of (b ∷ bs))
 
 -- the same where Push keeps globals and locals
 abbrev pub parse : List ℕ → Result DescriptorRecord Refusal
-parse = parse_by item_state
+parse = parse_by (item_state usages_by.Standard)
 
 -- the same where Push keeps globals alone
 abbrev pub parse_globals_only : List ℕ → Result DescriptorRecord Refusal
-parse_globals_only = parse_by item_state_globals_only
+parse_globals_only = parse_by (item_state_globals_only usages_by.Standard)

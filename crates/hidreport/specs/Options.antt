@@ -4,32 +4,52 @@ use Rattle.hidreport_lists.specs.Answer.{OverBudget, Refusal}
 use Rattle.hidreport_items.specs.declared.item.ItemType.{ItemType}
 use Rattle.hidreport.specs.Budget.{meaning_within_by, parse_within_by}
 use Rattle.hidreport.specs.ItemState.{item_state, item_state_globals_only}
-use Rattle.hidreport.specs.Meaning.{PushReading, meaning_by, parse_by}
+use Rattle.hidreport.specs.Meaning.{InForce, meaning_by, parse_by}
 use Rattle.hidreport.specs.MeaningFault.{MeaningFault}
 use Rattle.hidreport.specs.Records.{DescriptorRecord}
 use Rattle.hidreport.specs.declared.parse_options.ParseOptions.{ParseOptions}
 use Rattle.hidreport.specs.declared.parser.push_keeps.PushKeeps.{PushKeeps}
 use Rattle.hidreport.specs.declared.parser.push_keeps.PushKeeps.TheVariants as push_keeps
+use Rattle.hidreport.specs.declared.parser.usages_by.UsagesBy.{UsagesBy}
+use Rattle.hidreport.specs.declared.parser.usages_by.UsagesBy.TheVariants as usages_by
 
--- what is in force where a Push keeps this (Section 6.2.2.7)
-abbrev pub reading_of : PushKeeps → PushReading
-reading_of push_keeps.All = item_state
-reading_of push_keeps.Globals = item_state_globals_only
+-- what is in force where a Push keeps this (Section 6.2.2.7) and usages are found so
+-- (Section 6.2.2.8)
+abbrev pub reading_by : PushKeeps → UsagesBy → InForce
+reading_by push_keeps.All by = item_state by
+reading_by push_keeps.Globals by = item_state_globals_only by
+
+-- what is in force by these options
+abbrev pub reading_of : ParseOptions → InForce
+reading_of options = reading_by options.push_keeps options.usages
+
+-- the options of the Rust crate's own call
+abbrev pub default_options : ParseOptions
+default_options = record {
+  push_keeps = push_keeps.All;
+  usages = usages_by.Standard;
+  limit = None;
+  longest = None;
+}
+
+-- the same where a Push keeps globals alone
+abbrev pub globals_only_options : ParseOptions
+globals_only_options = record default_options { push_keeps = push_keeps.Globals }
 
 -- the reports by a reading, under a limit, if any
-abbrev pub parse_limited : PushReading → Option ℕ → List ℕ → Result DescriptorRecord Refusal
+abbrev pub parse_limited : InForce → Option ℕ → List ℕ → Result DescriptorRecord Refusal
 parse_limited reading None = parse_by reading
 parse_limited reading (Some limit) = parse_within_by reading limit
 
 -- the meaning of items by a reading, under a limit, if any
-abbrev pub meaning_limited : PushReading → Option ℕ → List ItemType
+abbrev pub meaning_limited : InForce → Option ℕ → List ItemType
     → Result DescriptorRecord (ℕ × MeaningFault)
 meaning_limited reading None = meaning_by reading
 meaning_limited reading (Some limit) = meaning_within_by reading limit
 
 -- the meaning of items as it is asked for
 abbrev pub meaning_as : ParseOptions → List ItemType → Result DescriptorRecord (ℕ × MeaningFault)
-meaning_as options = meaning_limited (reading_of options.push_keeps) options.limit
+meaning_as options = meaning_limited (reading_of options) options.limit
 
 -- the most bytes that a descriptor may have, where it has more
 abbrev pub past_longest : Option ℕ → ℕ → Option ℕ
@@ -45,4 +65,4 @@ unless_past (Some offset) answer = Err (OverBudget offset)
 -- past the limit; of bytes that aren't too many
 abbrev pub parse_as : ParseOptions → List ℕ → Result DescriptorRecord Refusal
 parse_as options bytes = unless_past (past_longest options.longest (length bytes))
-    (parse_limited (reading_of options.push_keeps) options.limit bytes)
+    (parse_limited (reading_of options) options.limit bytes)

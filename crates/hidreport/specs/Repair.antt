@@ -93,7 +93,7 @@ fault_at options before p = named_fault (meaning_as options (behind before p))
 
 abbrev pub widened : RepairOptions → List ItemType → PieceRecord → PieceRecord
 widened options before p = widened_in options.unsigned_maxima
-    (reading_of options.parse.push_keeps before (length before)) p
+    (reading_of options.parse before (length before)) p
 
 -- what is made of a piece behind these items
 abbrev pub mended : RepairOptions → List ItemType → PieceRecord → PieceRecord

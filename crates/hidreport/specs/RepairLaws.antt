@@ -15,7 +15,7 @@ use Rattle.hidreport.specs.Places.{start}
 use Rattle.hidreport.specs.Records.{DescriptorRecord}
 use Rattle.hidreport.specs.Repair.{RepairedRecord, change_in, joined, repaired}
 use Rattle.hidreport.specs.Tiling.{Each}
-use Rattle.hidreport.specs.declared.parser.push_keeps.PushKeeps.{PushKeeps}
+use Rattle.hidreport.specs.declared.parse_options.ParseOptions.{ParseOptions}
 use Rattle.hidreport.specs.declared.repairing.repair_options.RepairOptions.{RepairOptions}
 
 -- each piece stood behind all bytes of those before it
@@ -52,13 +52,13 @@ direction_of x = option_map (λ p. p.0) (data_of x)
 
 -- The items at each index have the same direction, if any, and the same size and count in force;
 -- fields of a direction would begin there at the same bit of the same report.
-pub record SamePlaces (keeps : PushKeeps) (items others : List ItemType) : Type 0 where
+pub record SamePlaces (options : ParseOptions) (items others : List ItemType) : Type 0 where
   pub directions : map direction_of items ≡ map direction_of others
-  pub extents : (k : ℕ) → extent (reading_of keeps items k) ≡ extent (reading_of keeps others k)
+  pub extents : (k : ℕ) → extent (reading_of options items k) ≡ extent (reading_of options others k)
   pub reports : (d : Direction) (k : ℕ)
-      → key (reading_of keeps items) d items k ≡ key (reading_of keeps others) d others k
+      → key (reading_of options items) d items k ≡ key (reading_of options others) d others k
   pub starts : (d : Direction) (k : ℕ)
-      → start (reading_of keeps items) d items k ≡ start (reading_of keeps others) d others k
+      → start (reading_of options items) d items k ≡ start (reading_of options others) d others k
 
 -- Each field keeps its bits: the repaired bytes are items that lie where those lie which hid-core
 -- reads of the bytes.
@@ -68,7 +68,7 @@ pub record KeepsBits (options : RepairOptions) (bytes : List ℕ) (r : RepairedR
   pub reads : pieces options.leave_out_cut_short bytes ≡ Ok read
   pub entries : List Entry
   pub written : Itemises item_of r.bytes entries
-  pub places : SamePlaces options.parse.push_keeps (filter_map item_in read) (items_of entries)
+  pub places : SamePlaces options.parse (filter_map item_in read) (items_of entries)
 
 -- repaired once more it stays as it is, without a change, unless maxima are asked for
 abbrev pub StaysRepaired : RepairOptions → RepairedRecord → Type 0
@@ -80,4 +80,4 @@ abbrev pub RebuildsAlike : RepairOptions → RepairedRecord → Type 0
 RebuildsAlike options r = (entries : List Entry) (d : DescriptorRecord)
     → Itemises item_of r.bytes entries → rebuilt_bytes entries ≢ []
     → parse_as options.parse r.bytes ≡ Ok d
-    → parse_by (reading_of options.parse.push_keeps) (rebuilt_bytes entries) ≡ Ok d
+    → parse_by (reading_of options.parse) (rebuilt_bytes entries) ≡ Ok d

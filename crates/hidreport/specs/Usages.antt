@@ -1,11 +1,16 @@
 -- Usages of an item (Section 6.2.2.8): a range from a minimum to a maximum, or single usages.
 use Rattle.std.specs.Prelude.{ℕ, ◌+◌, ◌-◌, ◌%◌, zero, suc, Bool, true, false, List, [], ◌∷◌, Option}
-use Rattle.std.specs.Prelude.{None, Some, Result, Ok, Err}
+use Rattle.std.specs.Prelude.{None, Some, Result, Ok, Err, flat_map, unwrap_or}
 use Rattle.hidreport_items.specs.declared.local.LocalItem.{LocalItem}
 use Rattle.hidreport_items.specs.declared.local.LocalItem.TheVariants as local
-use Rattle.hidreport.specs.ItemState.{ItemState, first_of}
+use Rattle.hidreport.specs.HostUsages.{host_spans, is_lone, usages_in}
+use Rattle.hidreport.specs.ItemState.{ItemState, first_of, local_items}
 use Rattle.hidreport.specs.MeaningFault.{MeaningFault, MissingUsageMaximum, MissingUsagePage}
 use Rattle.hidreport.specs.declared.field.usage.Usage.{Usage}
+use Rattle.hidreport.specs.declared.parser.paged_local.PagedLocal.{PagedLocal}
+use Rattle.hidreport.specs.declared.parser.usage_span.UsageSpan.{UsageSpan}
+use Rattle.hidreport.specs.declared.parser.usages_by.UsagesBy.{UsagesBy}
+use Rattle.hidreport.specs.declared.parser.usages_by.UsagesBy.TheVariants as usages_by
 
 -- an item's usages, in order, and whether they are those of a range
 pub record UsageList : Type 0 where
@@ -63,10 +68,26 @@ as_single (Ok us) = Ok (record { usages = us; is_range = false })
 as_single (Err fault) = Err fault
 
 -- with a minimum in force the range, and else the single usages
-abbrev pub usages_by : Option ℕ → ItemState → Result UsageList MeaningFault
-usages_by (Some low) f = range_usages low (last_local maximum_of f.locals) f.usage_page
-usages_by None f = as_single (single_usages f.usage_page f.locals)
+abbrev pub usages_with : Option ℕ → Option ℕ → List LocalItem → Result UsageList MeaningFault
+usages_with (Some low) page xs = range_usages low (last_local maximum_of xs) page
+usages_with None page xs = as_single (single_usages page xs)
+
+-- by the letter of the standard: the page in force at the main item counts for all
+abbrev pub standard_usages : Option ℕ → List LocalItem → Result UsageList MeaningFault
+standard_usages page xs = usages_with (last_local minimum_of xs) page xs
+
+-- the usages of spans, one after the other
+abbrev pub usages_of_spans : List UsageSpan → UsageList
+usages_of_spans ss = record { usages = flat_map usages_in ss; is_range = is_lone ss }
+
+-- as hosts read them
+abbrev pub host_usages : Option ℕ → List PagedLocal → UsageList
+host_usages page ls = usages_of_spans (host_spans (unwrap_or page 0) ls)
+
+abbrev pub usages_under : UsagesBy → ItemState → Result UsageList MeaningFault
+usages_under usages_by.Standard f = standard_usages f.usage_page (local_items f.locals)
+usages_under usages_by.Hosts f = Ok (host_usages f.usage_page f.locals)
 
 -- the usages that what is in force gives an item, or their fault
 abbrev pub usages_of : ItemState → Result UsageList MeaningFault
-usages_of f = usages_by (last_local minimum_of f.locals) f
+usages_of f = usages_under f.usages_by f

@@ -1,9 +1,10 @@
 -- What works for a report that is found and as many bytes as it has (Sections 5.6 and 5.8).
-use Rattle.std.specs.Prelude.{◌≡◌, ◌*◌, ◌<◌, ◌≤◌, ℕ, ℤ, true, List, length, IsOk}
+use Rattle.std.specs.Prelude.{◌≡◌, ◌*◌, ◌<◌, ◌≤◌, ℕ, ℤ, true, List, [], ◌∷◌, length, IsOk}
 use Rattle.std.specs.List.{list_all}
 use Rattle.hidreport.specs.Reading.{reads as read, reads_element}
 use Rattle.hidreport.specs.Records.{FieldRecord, ReportRecord, element_count}
-use Rattle.hidreport.specs.Tiling.{Each}
+use Rattle.hidreport.specs.Tiling.{Each, IsFilled}
+use Rattle.hidreport.specs.WritingLaws.{written_all}
 use Rattle.hidreport.specs.WritingValues.{fits, has_sign, value_count, value_width, written}
 use Rattle.hidreport.specs.WritingValues.{written_element}
 
@@ -27,3 +28,16 @@ pub record FieldWorks (bytes : List ℕ) (field : FieldRecord) : Type 0 where
 -- all of its fields do, where there are as many bytes as it has
 abbrev pub AllWork : List ℕ → ReportRecord → Type 0
 AllWork bytes report = report.size ≤ 8 * length bytes → Each (FieldWorks bytes) report.fields
+
+-- as many numbers for each field as it has values, each of which fits
+abbrev pub FitAll : List FieldRecord → List (List ℤ) → Type 0
+FitAll [] [] = Unit {0}
+FitAll [] (numbers ∷ more) = ⊥
+FitAll (field ∷ fields) [] = ⊥
+FitAll (field ∷ fields) (numbers ∷ more) = (length numbers ≡ value_count field)
+    × (list_all (fits (value_width field) (has_sign field)) numbers ≡ true) × FitAll fields more
+
+-- a report whose fields' values have at most 32 bits takes any that fit, all of them in turn
+abbrev pub TakesAll : ReportRecord → List ℕ → Type 0
+TakesAll report bytes = IsFilled report → Each IsNarrow report.fields → (numbers : List (List ℤ))
+    → FitAll report.fields numbers → IsOk (written_all report.fields numbers bytes)

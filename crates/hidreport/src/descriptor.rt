@@ -6,17 +6,16 @@ ghost use Rattle.hidreport_lists.specs.Entry.{Entry};
 ghost use Rattle.hidreport_lists.specs.Itemising.{itemise};
 ghost use Rattle.hidreport_lists.specs.Rebuilt.{items_of};
 ghost use Rattle.hidreport.specs.Budget.{parse_within};
-ghost use Rattle.hidreport.specs.Laws.{KeptItemsMean, RebuiltBytesMean, SegmentsAreIdle};
+ghost use Rattle.hidreport.specs.Laws.{KeptItemsMean, RebuiltBytesMean, SegmentsAreIdle, parse_any};
 ghost use Rattle.hidreport.specs.Lookup.{find_report, report_with, reports_of};
 ghost use Rattle.hidreport.specs.Meaning.{parse, parse_by, parse_globals_only};
-ghost use Rattle.hidreport.specs.Options.{parse_as, parse_limited, reading_of};
+ghost use Rattle.hidreport.specs.Options.{default_options, globals_only_options, parse_as, reading_of};
 ghost use Rattle.hidreport.specs.Reading.{reads};
 ghost use Rattle.hidreport.specs.Records.{FieldRecord};
 ghost use Rattle.hidreport.specs.Segments.{HasNoPush};
 ghost use Rattle.hidreport.specs.Tiling.{Each, IsTiled};
 ghost use Rattle.hidreport.specs.Weight.{descriptor_weight};
 ghost use Rattle.hidreport.specs.Working.{AllWork};
-ghost use Rattle.hidreport.specs.declared.parser.push_keeps.PushKeeps.TheVariants as push_keeps;
 
 use crate::field::data_item::Direction;
 use crate::parse_options::ParseOptions;
@@ -85,32 +84,36 @@ impl ReportDescriptor {
     pub fn try_from(alloc: Global, bytes: &[u8]) -> Result<ReportDescriptor, ParserError>
         ensures exact { Answers result (parse bytes.now) }
         ensures tiled { IfOk result (λ descriptor. IsTiled descriptor) }
-        ensures struck { SegmentsAreIdle push_keeps.All bytes.now }
-        ensures kept { KeptItemsMean push_keeps.All bytes.now }
-        ensures rebuilt { RebuiltBytesMean push_keeps.All bytes.now }
+        ensures struck { SegmentsAreIdle default_options bytes.now }
+        ensures kept { KeptItemsMean default_options bytes.now }
+        ensures rebuilt { RebuiltBytesMean default_options bytes.now }
         ensures own_bytes { result ≢ Err ParserError.MismatchingReportId }
         ensures unlimited { (offset : ℕ) → result ≢ Err (ParserError.BudgetExceeded offset) }
     {
         ReportDescriptor::try_from_with(alloc, bytes, ParseOptions::default())
     }
 
-    /// The reports, read as the options say: by what a Push keeps, and under limits, if any.
+    /// The reports, read as the options say: by what a Push keeps, by which rule an item finds its
+    /// usages, and under limits, if any.
     ///
     /// More bytes than `longest` are `BudgetExceeded` with this number as the offset, before they
     /// are looked at. Else refused is what `try_from` refuses, with its messages and in its order,
-    /// over what is in force where a Push keeps this. Where there is a limit, a field counts 1,
-    /// with the usages of an array and, for each collection that the field carries, 1 and the
-    /// usages of that; padding counts 1 alone. So does what an item opens: 1 for a collection, and
-    /// its usages. Before anything of an item is listed, what it counts is known from the numbers
-    /// in force; with the first item that makes the sum pass the limit the answer is
-    /// `BudgetExceeded` with that item's offset, unless the first fault stands at that item or
-    /// before it, or an item can't be read. What is read counts at most the limit together
-    /// (`bounded`), and is what is read without one (`plain`). Without both `BudgetExceeded` never
-    /// comes (`unlimited`), and `MismatchingReportId` never does.
+    /// over what is in force where a Push keeps this; by `UsagesBy::Hosts` a usage needs no page
+    /// and a minimum no maximum. Where there is a limit, a field counts 1, with the usages of an
+    /// array and, for each collection that the field carries, 1 and the usages of that; padding
+    /// counts 1 alone. So does what an item opens: 1 for a collection, and its usages. Before
+    /// anything of an item is listed, what it counts is known from the numbers in force; with the
+    /// first item that makes the sum pass the limit the answer is `BudgetExceeded` with that item's
+    /// offset, unless the first fault stands at that item or before it, or an item can't be read.
+    /// What is read counts at most the limit together (`bounded`), and is what is read without one
+    /// (`plain`). Without both `BudgetExceeded` never comes (`unlimited`), and
+    /// `MismatchingReportId` never does.
     ///
     /// A segment changes nothing, where a Push keeps globals alone one without local items
     /// (`struck`). Items that aren't kept change nothing, and the rebuilt bytes mean the same
-    /// (`kept`, `rebuilt`). Fields tile their reports (`tiled`).
+    /// (`kept`, `rebuilt`). These three hold under a limit, too: its refusal comes at the same
+    /// item. They say nothing of `longest`, which what is left out may pass. Fields tile their
+    /// reports (`tiled`).
     pub fn try_from_with(
         alloc: Global,
         bytes: &[u8],
@@ -120,11 +123,11 @@ impl ReportDescriptor {
         ensures bounded { IfOk result (λ descriptor.
             IfSome options.limit (λ limit. descriptor_weight descriptor ≤ limit)) }
         ensures plain { IfOk result (λ descriptor.
-            parse_by (reading_of options.push_keeps) bytes.now ≡ Ok descriptor) }
+            parse_by (reading_of options) bytes.now ≡ Ok descriptor) }
         ensures tiled { IfOk result (λ descriptor. IsTiled descriptor) }
-        ensures struck { SegmentsAreIdle options.push_keeps bytes.now }
-        ensures kept { KeptItemsMean options.push_keeps bytes.now }
-        ensures rebuilt { RebuiltBytesMean options.push_keeps bytes.now }
+        ensures struck { SegmentsAreIdle options bytes.now }
+        ensures kept { KeptItemsMean options bytes.now }
+        ensures rebuilt { RebuiltBytesMean options bytes.now }
         ensures own_bytes { result ≢ Err ParserError.MismatchingReportId }
         ensures unlimited { options.limit ≡ None → options.longest ≡ None
             → (offset : ℕ) → result ≢ Err (ParserError.BudgetExceeded offset) }
@@ -132,19 +135,18 @@ impl ReportDescriptor {
         if let Some(offset) = options.past_longest(bytes.len()) {
             return Err(ParserError::BudgetExceeded { offset });
         }
-        ReportDescriptor::read(alloc, bytes, options.push_keeps, options.limit)
+        ReportDescriptor::read(alloc, bytes, options)
     }
 
     /// The same of bytes that aren't too many.
     fn read(
         alloc: Global,
         bytes: &[u8],
-        push_keeps: PushKeeps,
-        limit: Option<usize>,
+        options: ParseOptions,
     ) -> Result<ReportDescriptor, ParserError>
-        ensures { Answers result (parse_limited (reading_of push_keeps) limit bytes.now) }
+        ensures { Answers result (parse_any options bytes.now) }
     {
-        let reports = parser::parse(alloc, bytes, push_keeps, limit)?;
+        let reports = parser::parse(alloc, bytes, options)?;
         Ok(ReportDescriptor { reports })
     }
 
@@ -168,8 +170,7 @@ impl ReportDescriptor {
     {
         let options = ParseOptions {
             limit: Some(limit),
-            push_keeps: PushKeeps::All,
-            longest: None,
+            ..ParseOptions::default()
         };
         ReportDescriptor::try_from_with(alloc, bytes, options)
     }
@@ -189,16 +190,15 @@ impl ReportDescriptor {
         ensures agree { (entries : List Entry) → itemise item_of bytes.now ≡ Ok entries
             → HasNoPush (items_of entries) → parse_globals_only bytes.now ≡ parse bytes.now }
         ensures tiled { IfOk result (λ descriptor. IsTiled descriptor) }
-        ensures struck { SegmentsAreIdle push_keeps.Globals bytes.now }
-        ensures kept { KeptItemsMean push_keeps.Globals bytes.now }
-        ensures rebuilt { RebuiltBytesMean push_keeps.Globals bytes.now }
+        ensures struck { SegmentsAreIdle globals_only_options bytes.now }
+        ensures kept { KeptItemsMean globals_only_options bytes.now }
+        ensures rebuilt { RebuiltBytesMean globals_only_options bytes.now }
         ensures own_bytes { result ≢ Err ParserError.MismatchingReportId }
         ensures unlimited { (offset : ℕ) → result ≢ Err (ParserError.BudgetExceeded offset) }
     {
         let options = ParseOptions {
-            limit: None,
             push_keeps: PushKeeps::Globals,
-            longest: None,
+            ..ParseOptions::default()
         };
         ReportDescriptor::try_from_with(alloc, bytes, options)
     }

@@ -1,5 +1,6 @@
 //! What a field of a report is.
 ghost use Rattle.std.specs.Prelude.{◌≡◌, ◌↔◌, IfOk, IsTrue, map};
+ghost use Rattle.hidreport.specs.Lookup.{has_usage};
 ghost use Rattle.hidreport.specs.Records.{own_id, usages_in};
 ghost use Rattle.hidreport.specs.Views.{field_bits, field_collections, field_id, field_record};
 
@@ -138,6 +139,15 @@ impl Field {
             Field::Array(field) => field.usages(),
             Field::Constant(_) => &[],
         }
+    }
+
+    /// Whether a usage is one of the field's (Section 6.2.2.8): that of a variable field, or one that
+    /// an array chooses among. Padding has none.
+    pub fn has_usage(&self, usage: Usage) -> bool
+        ensures { result ≡ has_usage usage (field_record self.now) }
+    {
+        self.usages().iter().any(|own| own.usage_page == usage.usage_page
+            && own.usage_id == usage.usage_id)
     }
 
     /// Whether another field is the same in all parts: its kind, number, report id and bits, its

@@ -1,23 +1,30 @@
 //! Laws of the definitions that no single call shows.
-ghost use Rattle.std.specs.Prelude.{◌≡◌, ◌≢◌, [], List, Some, flat_map, map, slice_get, take};
+ghost use Rattle.std.specs.Prelude.{◌≡◌, ◌≢◌, ◌+◌, ◌/◌, ◌<◌, ◌≤◌, ℕ, [], List, Option, Some};
+ghost use Rattle.std.specs.Prelude.{flat_map, length, map, negsuc, pos, slice_get, take};
 ghost use Rattle.hidreport_items.specs.Writing.{item_bytes};
 ghost use Rattle.hidreport_items.specs.declared.item.ItemType.{ItemType};
 ghost use Rattle.hidreport_lists.specs.DescriptorBuilder.{AreSpelled};
 ghost use Rattle.hidreport_lists.specs.Rebuilt.{canonical_entries};
-ghost use Rattle.hidreport.specs.Meaning.{at_offset, meaning_by, parse_by};
-ghost use Rattle.hidreport.specs.Options.{reading_of};
-ghost use Rattle.hidreport.specs.Records.{CollectionRecord};
+ghost use Rattle.hidreport.specs.BitValue.{bit};
+ghost use Rattle.hidreport.specs.Blank.{blank_bytes};
+ghost use Rattle.hidreport.specs.Laws.{parse_any};
+ghost use Rattle.hidreport.specs.Meaning.{at_offset};
+ghost use Rattle.hidreport.specs.Options.{meaning_as};
+ghost use Rattle.hidreport.specs.Places.{id_bits};
+ghost use Rattle.hidreport.specs.Records.{Attributes, CollectionRecord};
+ghost use Rattle.hidreport.specs.Scaling.{normalized, physical_value};
+ghost use Rattle.hidreport.specs.ScalingLaws.{IsScale, bounds_meant};
 ghost use Rattle.hidreport.specs.SharedCollections.{shared};
-ghost use Rattle.hidreport.specs.declared.parser.push_keeps.PushKeeps.{PushKeeps};
+ghost use Rattle.hidreport.specs.declared.parse_options.ParseOptions.{ParseOptions};
 
 /// What a descriptor builder writes (`hid::ReportDescriptorBuilder::build`) is read as its items
 /// mean, a fault at its item's offset: of items each of which is kept and spelled by some bytes,
-/// and by each reading of Push (Section 6.2.2).
+/// by each reading and under each limit (Section 6.2.2).
 pub fn built_bytes_mean_their_items()
-    ensures { (keeping : PushKeeps) (items : List ItemType) → AreSpelled items
+    ensures { (options : ParseOptions) (items : List ItemType) → AreSpelled items
         → flat_map item_bytes items ≢ []
-        → parse_by (reading_of keeping) (flat_map item_bytes items)
-        ≡ at_offset (canonical_entries 0 items) (meaning_by (reading_of keeping) items) }
+        → parse_any options (flat_map item_bytes items)
+        ≡ at_offset (canonical_entries 0 items) (meaning_as options items) }
 {}
 
 /// What `Collection::shared` counts (Section 6.2.2.6): so many of the outermost collections are the
@@ -29,4 +36,24 @@ pub fn shared_collections_are_a_common_front()
     ensures apart { (before around : List CollectionRecord) (c d : CollectionRecord)
         → slice_get before (shared before around) ≡ Some c
         → slice_get around (shared before around) ≡ Some d → c.id ≢ d.id }
+{}
+
+/// What `VariableField::physical_value` and `normalized` give (Section 6.2.2.7): the logical bounds
+/// stand for the physical ones, or for -1 and 1; what lies between them is between these, a greater
+/// value never stands for less where the line rises nor for more where it falls, and no fraction
+/// has a denominator below 1.
+pub fn scaled_values_lie_on_a_line()
+    ensures physical { (a : Attributes) → IsScale a.logical_minimum a.logical_maximum
+        (bounds_meant a).0 (bounds_meant a).1 (physical_value a) }
+    ensures normal { (a : Attributes) → IsScale a.logical_minimum a.logical_maximum
+        (negsuc 0) (pos 1) (normalized a) }
+{}
+
+/// What `Report::blank` gives (Section 5.6): so many bytes as hold the report's bits, the id in
+/// front, and each bit behind it 0.
+pub fn blank_reports_have_their_id_alone()
+    ensures size { (id : Option ℕ) (size : ℕ) → length (blank_bytes id size) ≡ (size + 7) / 8 }
+    ensures id { (id size : ℕ) → 0 < size → slice_get (blank_bytes (Some id) size) 0 ≡ Some id }
+    ensures bits { (id : Option ℕ) (size n : ℕ) → id_bits id ≤ n
+        → bit (blank_bytes id size) n ≡ 0 }
 {}

@@ -58,9 +58,13 @@ pub use field::variable_field::VariableField;
 pub use field::{Field, FieldId};
 pub use hid::CollectionItem as CollectionType;
 pub use hidreport_lists::{Mend, ParserError};
-pub use laws::{built_bytes_mean_their_items, shared_collections_are_a_common_front};
+pub use laws::{
+    blank_reports_have_their_id_alone, built_bytes_mean_their_items, scaled_values_lie_on_a_line,
+    shared_collections_are_a_common_front,
+};
 pub use parse_options::ParseOptions;
 pub use parser::push_keeps::PushKeeps;
+pub use parser::usages_by::UsagesBy;
 pub use repairing::{Change, RepairOptions, Repaired, repair};
 pub use report::{RDescReport, Report};
 pub use types::{

@@ -1,16 +1,22 @@
 //! How a report descriptor is read.
 ghost use Rattle.std.specs.Prelude.{◌≡◌, None, Some};
-ghost use Rattle.hidreport.specs.Options.{past_longest};
+ghost use Rattle.hidreport.specs.Options.{default_options, past_longest};
 ghost use Rattle.hidreport.specs.declared.parser.push_keeps.PushKeeps.TheVariants as push_keeps;
+ghost use Rattle.hidreport.specs.declared.parser.usages_by.UsagesBy.TheVariants as usages_by;
 
 use crate::parser::push_keeps::PushKeeps;
+use crate::parser::usages_by::UsagesBy;
 
 /// How `ReportDescriptor::try_from_with` reads a descriptor. The default is what `try_from` does:
-/// a Push keeps local items, too, and nothing is limited.
+/// a Push keeps local items, too, usages are found by the letter of the standard, and nothing is
+/// limited.
 #[derive(Clone, Copy, Debug, PartialEq, Eq)]
 pub struct ParseOptions {
     /// What a Push keeps for its Pop.
     pub push_keeps: PushKeeps,
+
+    /// By which rule an item finds its usages.
+    pub usages: UsagesBy,
 
     /// The most that may be listed: fields, usages of arrays, collections around fields and their
     /// usages together, as `ReportDescriptor::try_from_within` counts. `None` is no limit.
@@ -22,12 +28,12 @@ pub struct ParseOptions {
 }
 
 impl Default for ParseOptions {
-    ghost is_default = { λ options. options
-        ≡ record { push_keeps = push_keeps.All; limit = None; longest = None } };
+    ghost is_default = { λ options. options ≡ default_options };
 
     fn default() -> ParseOptions {
         ParseOptions {
             push_keeps: PushKeeps::All,
+            usages: UsagesBy::Standard,
             limit: None,
             longest: None,
         }
@@ -40,12 +46,14 @@ impl ParseOptions {
     pub fn bounded() -> ParseOptions
         ensures { result ≡ record {
           push_keeps = push_keeps.All;
+          usages = usages_by.Standard;
           limit = Some 65536;
           longest = Some 65536;
         } }
     {
         ParseOptions {
             push_keeps: PushKeeps::All,
+            usages: UsagesBy::Standard,
             limit: Some(65_536),
             longest: Some(65_536),
         }

@@ -13,6 +13,7 @@ pub(crate) mod budget;
 mod extent;
 mod fault;
 mod globals;
+mod host_usages;
 mod item_state_table;
 mod journal;
 mod layout;
@@ -20,37 +21,39 @@ mod local_usages;
 mod locals;
 mod open_collection;
 mod open_collections;
+mod paged_local;
 pub(crate) mod push_keeps;
 mod report_list;
 mod report_lists;
 mod slot;
 pub(crate) mod state;
 mod usage_bounds;
+mod usage_span;
 mod usages;
+pub(crate) mod usages_by;
 
+use crate::parse_options::ParseOptions;
 use crate::report::reports::Reports;
 use budget::Budget;
 use fault::{Fault, invalid_data};
 use hidreport_lists::{ParserError, PlacedFault, check_items, front_item};
-use push_keeps::PushKeeps;
 use state::State;
 use std::alloc::Global;
 
-/// The reports that the bytes of a descriptor announce where a Push keeps this, and where listing
-/// them weighs no more than the limit, if any.
+/// The reports that the bytes of a descriptor announce by these options, however many bytes they
+/// are.
 pub(crate) fn parse(
     alloc: Global,
     bytes: &[u8],
-    keeping: PushKeeps,
-    limit: Option<usize>,
+    options: ParseOptions,
 ) -> Result<Reports, ParserError>
-    ensures { Answers result (walk_bytes keeping limit bytes.now) }
+    ensures { Answers result (walk_bytes options bytes.now) }
 {
     if bytes.is_empty() {
         return Err(empty_descriptor(alloc));
     }
-    let mut state = State::new(alloc, keeping);
-    let mut budget = Budget::new(limit);
+    let mut state = State::new(alloc, options);
+    let mut budget = Budget::new(options.limit);
     let mut offset = 0;
     let mut rest = bytes;
     while !rest.is_empty() {

@@ -1,13 +1,17 @@
-ghost use Rattle.std.specs.Prelude.{◌≡◌, ◌+◌, ◌/◌, ◌↔◌, ℕ, List, Option, map, IfOk, IsTrue};
+ghost use Rattle.std.specs.Prelude.{◌≡◌, ◌==◌, ◌+◌, ◌/◌, ◌↔◌, ℕ, List, Option, map, IfOk, IsTrue};
+ghost use Rattle.std.specs.Prelude.{find, option_copied, option_map};
 ghost use Rattle.hidreport_items.specs.Spelling.{AreBytes};
 ghost use Rattle.hidreport.specs.Blank.{blank_bytes, with_first};
-ghost use Rattle.hidreport.specs.Records.{FieldRecord};
+ghost use Rattle.hidreport.specs.Lookup.{field_for, field_with, has_usage};
+ghost use Rattle.hidreport.specs.Records.{FieldRecord, place_of};
 ghost use Rattle.hidreport.specs.Views.{field_record};
+ghost use Rattle.hidreport.specs.Working.{TakesAll};
 ghost use Rattle.hidreport.specs.WritingLaws.{IsWhole};
 
 pub(crate) mod reports;
 
-use crate::field::Field;
+use crate::field::usage::Usage;
+use crate::field::{Field, FieldId};
 use hidreport_types::ReportId;
 use std::alloc::{AllocError, Global};
 use std::marker::Model;
@@ -44,16 +48,41 @@ pub trait Report {
         self.size_in_bits().div_ceil(8)
     }
 
+    /// The field with this number, `None` where the report has none with it. Fields are numbered over
+    /// the whole descriptor.
+    fn field(&self, number: FieldId) -> Option<&Field>
+        ensures { option_map field_record (option_copied result)
+            ≡ field_with number (parts self.now) }
+    {
+        field_with_id(self.fields(), number)
+    }
+
+    /// The first field that has this usage, `None` where no field of the report has it
+    /// (Section 6.2.2.8). `Field::has_usage` asks it of each field.
+    fn field_for(&self, usage: Usage) -> Option<&Field>
+        ensures { option_map field_record (option_copied result)
+            ≡ field_for usage (parts self.now) }
+    {
+        field_with_usage(self.fields(), usage)
+    }
+
     /// The bytes of a report without values: as many as the report has, the first its id, where it
     /// has one, and all other bits 0 (Section 5.6). An `AllocError` comes where memory for them is
     /// refused.
     ///
     /// Once all its fields are written, it has just their values, and nothing but these and the
-    /// padding counts (`whole`).
+    /// padding counts (`whole`). Where the fields of a report that was read have at most 32 bits for
+    /// each value, all of them are written, in their order, with any values that fit (`takes`):
+    /// `insert` refuses none.
     fn blank(&self, alloc: Global) -> Result<Vec<u8>, AllocError>
         ensures blank { IfOk result (λ bytes.
             bytes.items ≡ blank_bytes (id self.now) (size self.now)) }
         ensures whole { IfOk result (λ bytes. IsWhole (record {
+          id = id self.now;
+          size = size self.now;
+          fields = parts self.now;
+        }) bytes.items) }
+        ensures takes { IfOk result (λ bytes. TakesAll (record {
           id = id self.now;
           size = size self.now;
           fields = parts self.now;
@@ -63,6 +92,28 @@ pub trait Report {
         put_id(self.report_id(), &mut bytes);
         Ok(bytes)
     }
+}
+
+/// The field with this number.
+fn field_with_id(fields: &[Field], id: FieldId) -> Option<&Field>
+    ensures { option_copied result
+        ≡ find (λ field. (place_of (field_record field)).id == id) fields.now }
+{
+    fields.iter().find(|field| has_id(field, id))
+}
+
+fn has_id(field: &Field, id: FieldId) -> bool
+    ensures { result ≡ ((place_of (field_record field.now)).id == id) }
+{
+    u32::from(field.id()) == u32::from(id)
+}
+
+/// The first field that has this usage.
+fn field_with_usage(fields: &[Field], usage: Usage) -> Option<&Field>
+    ensures { option_copied result
+        ≡ find (λ field. has_usage usage (field_record field)) fields.now }
+{
+    fields.iter().find(|field| field.has_usage(usage))
 }
 
 /// Puts an id in place of the first byte, if there is one.

@@ -1,9 +1,10 @@
 //! How C asks for a descriptor to be read.
 ghost use Rattle.std.specs.Prelude.{◌≡◌};
 ghost use Rattle.hidreport_c.specs.Options.{limit_of, longest_of, options_of, push_keeps_of};
+ghost use Rattle.hidreport_c.specs.Options.{usages_of};
 ghost use Rattle.hidreport_c.specs.Repair.{repair_options_of};
 
-use hidreport::{ParseOptions, PushKeeps, RepairOptions};
+use hidreport::{ParseOptions, PushKeeps, RepairOptions, UsagesBy};
 
 /// How a descriptor is read (`struct hidreport_options`).
 #[repr(C)]
@@ -15,16 +16,21 @@ pub struct HidreportOptions {
     /// What a Push keeps for its Pop (Section 6.2.2.7): 0 global and local items, 1 global items
     /// alone. Another number is refused with 6.
     pub push: u32,
+    /// By which rule usages are found (Section 6.2.2.8): 0 by the letter of the standard, 1 as
+    /// hosts read them. Another number is refused with 6.
+    pub usages: u32,
 }
 
 impl HidreportOptions {
-    /// The options as the library has them; none where `push` is no number of them.
+    /// The options as the library has them; none where `push` or `usages` is no number of
+    /// them.
     pub(crate) fn chosen(self) -> Option<ParseOptions>
         ensures { result ≡ options_of self }
     {
         let limit = limit_of(self.limit);
         Some(ParseOptions {
             push_keeps: push_keeps_of(self.push)?,
+            usages: usages_of(self.usages)?,
             limit,
             longest: longest_of(limit),
         })
@@ -53,6 +59,16 @@ fn push_keeps_of(push: u32) -> Option<PushKeeps>
     match push {
         0 => Some(PushKeeps::All),
         1 => Some(PushKeeps::Globals),
+        _ => None,
+    }
+}
+
+fn usages_of(usages: u32) -> Option<UsagesBy>
+    ensures { result ≡ usages_of usages }
+{
+    match usages {
+        0 => Some(UsagesBy::Standard),
+        1 => Some(UsagesBy::Hosts),
         _ => None,
     }
 }

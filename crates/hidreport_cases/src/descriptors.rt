@@ -2,7 +2,9 @@
 use crate::fields::add_field;
 use crate::malformed::Malformed;
 use crate::words::bytes_of;
-use hidreport::{Field, ParserError, RDescReport, Report, ReportDescriptor};
+use hidreport::{
+    Field, ParseOptions, ParserError, PushKeeps, RDescReport, Report, ReportDescriptor, UsagesBy,
+};
 use std::alloc::{AllocError, Global};
 use std::fmt::Write;
 
@@ -13,8 +15,12 @@ pub enum Way {
     All,
     /// A Push keeps globals alone.
     Globals,
+    /// As hosts do: a Push keeps globals alone, and usages are those that hosts read.
+    Hosts,
     /// As `All`, within a limit.
     Within(usize),
+    /// As `Hosts`, within a limit.
+    HostsWithin(usize),
 }
 
 /// Whether a text has the ids of fields and collections.
@@ -29,6 +35,19 @@ pub fn read(alloc: Global, way: Way, bytes: &[u8]) -> Result<ReportDescriptor, P
         Way::All => ReportDescriptor::try_from(alloc, bytes),
         Way::Globals => ReportDescriptor::try_from_globals_only(alloc, bytes),
         Way::Within(limit) => ReportDescriptor::try_from_within(alloc, bytes, limit),
+        Way::Hosts => ReportDescriptor::try_from_with(alloc, bytes, as_hosts(None)),
+        Way::HostsWithin(limit) => {
+            ReportDescriptor::try_from_with(alloc, bytes, as_hosts(Some(limit)))
+        }
+    }
+}
+
+fn as_hosts(limit: Option<usize>) -> ParseOptions {
+    ParseOptions {
+        push_keeps: PushKeeps::Globals,
+        usages: UsagesBy::Hosts,
+        limit,
+        longest: None,
     }
 }
 
@@ -66,7 +85,7 @@ fn add_directions(
     add_reports(alloc, text, ids, "feature", descriptor.feature_reports())
 }
 
-fn has_no_reports(descriptor: &ReportDescriptor) -> bool {
+pub fn has_no_reports(descriptor: &ReportDescriptor) -> bool {
     descriptor.input_reports().is_empty()
         && descriptor.output_reports().is_empty()
         && descriptor.feature_reports().is_empty()

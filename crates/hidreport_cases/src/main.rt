@@ -12,6 +12,7 @@ mod commands;
 mod cuts;
 mod descriptors;
 mod fields;
+mod host_usages;
 mod insertions;
 mod items;
 mod kinds;

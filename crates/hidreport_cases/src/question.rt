@@ -6,6 +6,7 @@ use crate::changed::{add_changed, add_low_bits};
 use crate::commands::{add_command, add_words};
 use crate::cuts::add_cuts;
 use crate::descriptors::{Ids, Way, add_descriptor, add_many, read};
+use crate::host_usages::add_host_usages;
 use crate::insertions::{add_blanks, add_inserted, add_inserted_one, add_standing};
 use crate::items::{add_item, add_list, add_short_of};
 use crate::lookups::{add_by_id, add_shared};
@@ -40,6 +41,7 @@ pub fn add_answer(
     match kind {
         "parse" => add_parsed(alloc, text, asked, Way::All, words),
         "parse-globals" => add_parsed(alloc, text, asked, Way::Globals, words),
+        "parse-hosts" => add_parsed(alloc, text, asked, Way::Hosts, words),
         "parse-within" => {
             let (limit, words) = first_of(words)?;
             add_parsed(alloc, text, asked, Way::Within(number_of(limit)?), words)
@@ -86,7 +88,12 @@ fn add_answer_without_field(
             let (limit, words) = first_of(words)?;
             add_many(alloc, text, Way::Within(number_of(limit)?), words)
         }
+        "many-hosts-within" => {
+            let (limit, words) = first_of(words)?;
+            add_many(alloc, text, Way::HostsWithin(number_of(limit)?), words)
+        }
         "repair" => add_repaired(alloc, text, words),
+        "host-usages" => add_host_usages(alloc, text, words),
         "alike" => add_is_alike(alloc, text, words),
         "scaled" => add_scaled(alloc, text, words),
         "made" => add_made(alloc, text, words),

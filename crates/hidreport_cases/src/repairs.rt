@@ -3,7 +3,7 @@ use crate::descriptors::add_refusal;
 use crate::kinds::add_bytes;
 use crate::malformed::Malformed;
 use crate::words::{bytes_of, number_of, parts_of};
-use hidreport::{Change, Mend, PushKeeps, RepairOptions, repair};
+use hidreport::{Change, Mend, PushKeeps, RepairOptions, UsagesBy, repair};
 use std::alloc::{AllocError, Global};
 use std::fmt::Write;
 
@@ -38,6 +38,8 @@ fn options_of(words: &str) -> Result<RepairOptions, Malformed> {
                 "as-usual" => {}
                 "all" => options.parse.push_keeps = PushKeeps::All,
                 "globals" => options.parse.push_keeps = PushKeeps::Globals,
+                "standard" => options.parse.usages = UsagesBy::Standard,
+                "hosts" => options.parse.usages = UsagesBy::Hosts,
                 "cut-short" => options.leave_out_cut_short = true,
                 "unsigned" => options.unsigned_maxima = true,
                 _ => return Err(Malformed::Name),

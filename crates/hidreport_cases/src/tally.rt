@@ -2,9 +2,10 @@
 use std::fmt;
 
 /// The kinds, by the first words of their questions.
-static KINDS: [&str; 43] = [
+static KINDS: [&str; 46] = [
     "parse",
     "parse-globals",
+    "parse-hosts",
     "parse-within",
     "shape",
     "read",
@@ -20,6 +21,7 @@ static KINDS: [&str; 43] = [
     "shared",
     "many",
     "many-within",
+    "many-hosts-within",
     "list",
     "item",
     "main",
@@ -37,6 +39,7 @@ static KINDS: [&str; 43] = [
     "kind",
     "rebuild",
     "repair",
+    "host-usages",
     "alike",
     "scaled",
     "unit",
@@ -52,7 +55,7 @@ static KINDS: [&str; 43] = [
 #[derive(Drop)]
 pub struct Tally {
     /// How many questions of each kind, in the order of `KINDS`.
-    asked: [usize; 43],
+    asked: [usize; 46],
     /// How many had another answer, or couldn't be asked.
     differing: usize,
     /// How many cut descriptors were asked besides.
@@ -64,7 +67,7 @@ pub struct Tally {
 impl Tally {
     pub fn new() -> Tally {
         Tally {
-            asked: [0; 43],
+            asked: [0; 46],
             differing: 0,
             cuts: 0,
             flips: 0,

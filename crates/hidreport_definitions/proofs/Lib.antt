@@ -1,2 +1,4 @@
+pub mod ByteLemmas
 pub mod ChangeLemmas
+pub mod MatchedLemmas
 pub mod RelationLemmas

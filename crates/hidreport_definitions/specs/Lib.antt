@@ -7,3 +7,4 @@ pub mod Repairs
 pub mod Summary
 pub mod Tiled
 pub mod Within
+pub mod Written

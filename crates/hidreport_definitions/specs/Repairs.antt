@@ -1,13 +1,13 @@
 -- Repaired descriptors, and lists of items, whose laws rows tell.
-use Rattle.std.specs.Prelude.{ℕ, false, List, [], ◌∷◌, None}
+use Rattle.std.specs.Prelude.{ℕ, false, List, [], ◌∷◌}
 use Rattle.hidreport_lists.specs.declared.mending.Mend.TheVariants as mend
 use Rattle.hidreport.specs.Flags.{flags_of}
 use Rattle.hidreport.specs.GlobalItem.TheVariants as global
 use Rattle.hidreport.specs.ItemType.{ItemType}
 use Rattle.hidreport.specs.ItemType.TheVariants as item
 use Rattle.hidreport.specs.MainItem.TheVariants as main
+use Rattle.hidreport.specs.Options.{default_options, globals_only_options}
 use Rattle.hidreport.specs.Repair.{ChangeRecord, RepairedRecord}
-use Rattle.hidreport.specs.declared.parser.push_keeps.PushKeeps.TheVariants as push_keeps
 use Rattle.hidreport.specs.declared.repairing.repair_options.RepairOptions.{RepairOptions}
 use Rattle.hidreport_definitions.specs.Hex.{hex}
 
@@ -28,7 +28,15 @@ left_out_at offset stood =
 -- what Linux's hid-core reads without asking
 abbrev pub as_hid_core : RepairOptions
 as_hid_core = record {
-  parse = record { push_keeps = push_keeps.All; limit = None; longest = None };
+  parse = default_options;
+  leave_out_cut_short = false;
+  unsigned_maxima = false;
+}
+
+-- the same where a Push keeps globals alone
+abbrev pub by_globals : RepairOptions
+by_globals = record {
+  parse = globals_only_options;
   leave_out_cut_short = false;
   unsigned_maxima = false;
 }

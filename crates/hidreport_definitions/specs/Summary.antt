@@ -1,13 +1,16 @@
 -- What a descriptor announces, in short, for the rows.
-use Rattle.std.specs.Prelude.{ℕ, ℤ, pos, true, false, List, [], ◌∷◌, map, flat_map, Option, None}
+use Rattle.std.specs.Prelude.{ℕ, ℤ, Bool, pos, true, false, List, [], ◌∷◌, map, flat_map, Option, None}
 use Rattle.std.specs.Prelude.{Some, option_map, Result, Ok, Err}
 use Rattle.hidreport.specs.Answer.{Refusal}
 use Rattle.hidreport.specs.Faults.{Counts}
 use Rattle.hidreport.specs.GlobalItem.TheVariants as global
-use Rattle.hidreport.specs.ItemState.{ItemState, item_state}
+use Rattle.hidreport.specs.ItemState.{ItemState}
 use Rattle.hidreport.specs.ItemType.TheVariants as item
 use Rattle.hidreport.specs.Lookup.{find_report}
 use Rattle.hidreport.specs.Meaning.{parse, parse_globals_only}
+use Rattle.hidreport.specs.Options.{default_options, globals_only_options, parse_as, reading_of}
+use Rattle.hidreport.specs.declared.parse_options.ParseOptions.{ParseOptions}
+use Rattle.hidreport.specs.declared.parser.usages_by.UsagesBy.TheVariants as usages_by
 use Rattle.hidreport.specs.Reading.{ValueRecord, reads}
 use Rattle.hidreport.specs.Records.{Attributes, CollectionRecord, FieldPlace, FieldRecord}
 use Rattle.hidreport.specs.Records.{VariableRecord, ArrayRecord, ConstantRecord, ReportRecord}
@@ -64,6 +67,18 @@ summary text = in_short (announced_by text)
 abbrev pub globals_summary : List ℕ → Result DescriptorSummary Refusal
 globals_summary text = in_short (parse_globals_only (hex text))
 
+-- the same in short, by these options
+abbrev pub summary_as : ParseOptions → List ℕ → Result DescriptorSummary Refusal
+summary_as options text = in_short (parse_as options (hex text))
+
+-- the options of a host
+abbrev pub host_options : ParseOptions
+host_options = record globals_only_options { usages = usages_by.Hosts }
+
+-- the same in short, as hosts read
+abbrev pub host_summary : List ℕ → Result DescriptorSummary Refusal
+host_summary = summary_as host_options
+
 -- input reports alone
 abbrev pub inputs : List ReportSummary → Result DescriptorSummary Refusal
 inputs reports = Ok (record { input = reports; output = []; feature = [] })
@@ -75,6 +90,15 @@ no_reports = Ok (record { input = []; output = []; feature = [] })
 abbrev pub input_reports : Result DescriptorRecord Refusal → List ReportRecord
 input_reports (Ok d) = d.input
 input_reports (Err refusal) = []
+
+abbrev pub is_range_of : FieldRecord → List Bool
+is_range_of (ArrayRecord place usages is_range count shared) = is_range ∷ []
+is_range_of field = []
+
+-- of each array of the input reports whether its usages are a range, as hosts read
+abbrev pub host_range : List ℕ → List Bool
+host_range text =
+    flat_map (λ r. flat_map is_range_of r.fields) (input_reports (parse_as host_options (hex text)))
 
 abbrev pub feature_reports : Result DescriptorRecord Refusal → List ReportRecord
 feature_reports (Ok d) = d.feature
@@ -187,7 +211,8 @@ only_counts fields collections = record
 
 -- in force are a size of one bit and a count of one
 abbrev pub one_bit : ItemState
-one_bit = item_state (item.Global (global.ReportSize 1) ∷ item.Global (global.ReportCount 1) ∷ []) 2
+one_bit = reading_of default_options
+    (item.Global (global.ReportSize 1) ∷ item.Global (global.ReportCount 1) ∷ []) 2
 
 -- the range of usages 4 to 7 of page 7
 abbrev pub four_keys : RangeRecord

@@ -1,9 +1,8 @@
 -- What a descriptor announces under a limit, in short, and what its fields weigh.
-use Rattle.std.specs.Prelude.{ℕ, Bool, true, false, List, None, Some, Result, Ok, Err}
+use Rattle.std.specs.Prelude.{ℕ, Bool, true, false, List, Some, Result, Ok, Err}
 use Rattle.hidreport.specs.Answer.{Refusal}
 use Rattle.hidreport.specs.Budget.{parse_within}
-use Rattle.hidreport.specs.Options.{parse_as}
-use Rattle.hidreport.specs.declared.parser.push_keeps.PushKeeps.TheVariants as push_keeps
+use Rattle.hidreport.specs.Options.{default_options, parse_as}
 use Rattle.hidreport.specs.Records.{DescriptorRecord}
 use Rattle.hidreport.specs.Weight.{descriptor_weight}
 use Rattle.hidreport_definitions.specs.Hex.{hex}
@@ -16,7 +15,7 @@ within limit text = in_short (parse_within limit (hex text))
 -- what at most so many bytes announce
 abbrev pub of_at_most : ℕ → List ℕ → Result DescriptorSummary Refusal
 of_at_most longest text = in_short (parse_as
-    (record { push_keeps = push_keeps.All; limit = None; longest = Some longest }) (hex text))
+    (record default_options { longest = Some longest }) (hex text))
 
 abbrev pub is_announced : Result DescriptorRecord Refusal → Bool
 is_announced (Ok d) = true

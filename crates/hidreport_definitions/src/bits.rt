@@ -1,9 +1,11 @@
 //! Which bits a field's values are read from, and which bytes have the same ones.
-ghost use Rattle.std.specs.Prelude.{◌≡◌, pos, codes, []};
+ghost use Rattle.std.specs.Prelude.{◌≡◌, ℕ, pos, codes, List, [], ◌∷◌, Ok};
 ghost use Rattle.hidreport.specs.Bits.{AgreeOn, FixesBits, covered_bits};
+ghost use Rattle.hidreport.specs.Reading.{ValueRecord, reads};
 ghost use Rattle.hidreport.specs.Records.{ConstantRecord};
 ghost use Rattle.hidreport_definitions.specs.Hex.{hex};
-ghost use Rattle.hidreport_definitions.specs.Summary.{array_at, place_at, variable_at};
+ghost use Rattle.hidreport_definitions.specs.Summary.{array_at, place_at, unsigned_value};
+ghost use Rattle.hidreport_definitions.specs.Summary.{variable_at};
 
 /// Bytes agree on the bits from 4 up to 12 where just these are the same: the bits right beside
 /// them don't count, the first and the last of them do.
@@ -38,13 +40,16 @@ pub fn bits_left_over_are_not_covered()
         (hex (codes "f1")) (hex (codes "d1")) → ⊥ }
 {}
 
-/// The law of fixed bits speaks of bytes that are read: of two that are both read as 5 the bits of
-/// the field are the same, and of two that are read as 5 and 4 they aren't.
+/// What the law of fixed bits says of bytes that are read as 5: those that are read as 5, too, have
+/// the same bits there, and those that have them are read as 5.
 pub fn values_fix_their_bits()
-    ensures equal { FixesBits (variable_at 0 8 (pos 0)) (hex (codes "05"))
-        → AgreeOn 0 8 (hex (codes "05")) (hex (codes "05 ff")) }
-    ensures different { FixesBits (variable_at 0 8 (pos 0)) (hex (codes "05"))
-        → AgreeOn 0 8 (hex (codes "05")) (hex (codes "04")) → ⊥ }
-    ensures elements { FixesBits (array_at 0 8 2 (pos 0)) (hex (codes "21"))
-        → AgreeOn 0 8 (hex (codes "21")) (hex (codes "12")) → ⊥ }
+    ensures read { reads (variable_at 0 8 (pos 0)) (hex (codes "05"))
+        ≡ Ok (unsigned_value 5 ∷ []) }
+    ensures equal { FixesBits (variable_at 0 8 (pos 0)) (hex (codes "05")) → (other : List ℕ)
+        → reads (variable_at 0 8 (pos 0)) other ≡ Ok (unsigned_value 5 ∷ [])
+        → AgreeOn 0 8 (hex (codes "05")) other }
+    ensures same { FixesBits (array_at 0 8 2 (pos 0)) (hex (codes "21")) → (other : List ℕ)
+        → (values : List ValueRecord) → reads (array_at 0 8 2 (pos 0)) other ≡ Ok values
+        → AgreeOn 0 8 (hex (codes "21")) other
+        → unsigned_value 1 ∷ unsigned_value 2 ∷ [] ≡ values }
 {}

@@ -3,8 +3,10 @@ ghost use Rattle.std.specs.Prelude.{◌≡◌, List, [], ◌∷◌, Option, None
 ghost use Rattle.hidreport.specs.Answer.{InvalidAt};
 ghost use Rattle.hidreport.specs.GlobalItem.TheVariants as global;
 ghost use Rattle.hidreport.specs.ItemType.TheVariants as item;
+ghost use Rattle.hidreport.specs.Laws.{Spares};
 ghost use Rattle.hidreport.specs.LocalItem.TheVariants as local;
 ghost use Rattle.hidreport.specs.Segments.{HasNoLocal, HasNoPush};
+ghost use Rattle.hidreport.specs.declared.parser.push_keeps.PushKeeps.TheVariants as push_keeps;
 ghost use Rattle.hidreport_definitions.specs.Summary.{Report, Variable, globals_summary, inputs};
 ghost use Rattle.hidreport_definitions.specs.Summary.{summary};
 
@@ -45,5 +47,17 @@ pub fn globals_come_back_by_both()
 pub fn items_may_have_no_local_and_no_push()
     ensures no_local { HasNoLocal (item.Global (global.ReportSize 16) ∷ item.Global global.Push
         ∷ item.Global global.Pop ∷ []) }
+    ensures a_local { HasNoLocal (item.Global (global.ReportSize 16) ∷ item.Local
+        (local.UsageId 9)
+        ∷ []) → ⊥ }
     ensures no_push { HasNoPush (item.Local (local.UsageId 9) ∷ item.Global global.Pop ∷ []) }
+    ensures a_push { HasNoPush (item.Local (local.UsageId 9) ∷ item.Global global.Push ∷ [])
+        → ⊥ }
+{}
+
+/// A segment may have a local item just where its Push keeps these, too.
+pub fn a_segment_may_have_locals_where_a_push_keeps_them()
+    ensures locals { Spares push_keeps.All (item.Local (local.UsageId 9) ∷ []) }
+    ensures none { Spares push_keeps.Globals (item.Global (global.ReportSize 16) ∷ []) }
+    ensures globals { Spares push_keeps.Globals (item.Local (local.UsageId 9) ∷ []) → ⊥ }
 {}

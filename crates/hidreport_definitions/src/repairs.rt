@@ -1,12 +1,15 @@
 //! Laws of a repair: repaired descriptors that keep them, and some that break them.
-ghost use Rattle.std.specs.Prelude.{negsuc, pos, List, [], ◌∷◌, codes};
+ghost use Rattle.std.specs.Prelude.{◌≡◌, negsuc, pos, List, [], ◌∷◌, codes};
 ghost use Rattle.hidreport.specs.GlobalItem.TheVariants as global;
+ghost use Rattle.hidreport.specs.ItemType.{ItemType};
 ghost use Rattle.hidreport.specs.ItemType.TheVariants as item;
+ghost use Rattle.hidreport.specs.Kinds.{Input};
+ghost use Rattle.hidreport.specs.Options.{default_options, globals_only_options, reading_of};
+ghost use Rattle.hidreport.specs.Places.{start};
 ghost use Rattle.hidreport.specs.RepairLaws.{IsRepairOf, KeepsBits, SamePlaces};
-ghost use Rattle.hidreport.specs.declared.parser.push_keeps.PushKeeps.TheVariants as push_keeps;
 ghost use Rattle.hidreport_definitions.specs.Hex.{hex};
-ghost use Rattle.hidreport_definitions.specs.Repairs.{as_hid_core, fields_by, input, left_out_at};
-ghost use Rattle.hidreport_definitions.specs.Repairs.{output, padded_at, repaired_to};
+ghost use Rattle.hidreport_definitions.specs.Repairs.{as_hid_core, by_globals, fields_by, input};
+ghost use Rattle.hidreport_definitions.specs.Repairs.{left_out_at, output, padded_at, repaired_to};
 
 /// Named changes, wherever they stand, and none at all.
 pub fn a_repair_names_its_changes()
@@ -47,27 +50,35 @@ pub fn a_change_is_what_it_says()
 
 /// Items lie in the same places whatever their flags and maxima are, by both readings of a Push.
 pub fn flags_and_maxima_move_no_field()
-    ensures flags { SamePlaces push_keeps.All (fields_by 8 1 (input 2) (input 2 ∷ []))
+    ensures flags { SamePlaces default_options (fields_by 8 1 (input 2) (input 2 ∷ []))
         (fields_by 8 1 (input 3) (input 2 ∷ [])) }
-    ensures maximum { SamePlaces push_keeps.Globals
+    ensures maximum { SamePlaces globals_only_options
         (item.Global (global.LogicalMaximum (negsuc 0)) ∷ fields_by 8 1 (input 2) [])
         (item.Global (global.LogicalMaximum (pos 255)) ∷ fields_by 8 1 (input 2) []) }
 {}
 
-/// Another direction, size, count or report id moves fields, also those of later items.
+/// Another direction, size, count or report id moves fields, also those of later items; so do as
+/// many bits in another number of fields, and what is another item alone.
 pub fn other_items_move_fields()
-    ensures direction { SamePlaces push_keeps.All (fields_by 8 1 (input 2) [])
+    ensures direction { SamePlaces default_options (fields_by 8 1 (input 2) [])
         (fields_by 8 1 (output 2) []) → ⊥ }
-    ensures size { SamePlaces push_keeps.All (fields_by 8 1 (input 2) [])
+    ensures size { SamePlaces default_options (fields_by 8 1 (input 2) [])
         (fields_by 16 1 (input 2) []) → ⊥ }
-    ensures count { SamePlaces push_keeps.Globals (fields_by 8 1 (input 2) [])
+    ensures count { SamePlaces globals_only_options (fields_by 8 1 (input 2) [])
         (fields_by 8 2 (input 2) []) → ⊥ }
-    ensures report { SamePlaces push_keeps.All
+    ensures report { SamePlaces default_options
         (item.Global (global.ReportId 1) ∷ fields_by 8 1 (input 2) [])
         (item.Global (global.ReportId 2) ∷ fields_by 8 1 (input 2) []) → ⊥ }
-    ensures later { SamePlaces push_keeps.All
+    ensures later { SamePlaces default_options
         (fields_by 8 1 (input 3) (fields_by 8 1 (input 2) []))
         (fields_by 4 1 (input 3) (fields_by 8 1 (input 2) [])) → ⊥ }
+    ensures as_many_bits { SamePlaces default_options (fields_by 8 2 (input 2) [])
+        (fields_by 16 1 (input 2) []) → ⊥ }
+    ensures no_fields { SamePlaces globals_only_options (input 2 ∷ []) (output 2 ∷ []) → ⊥ }
+    ensures fewer { SamePlaces default_options (input 2 ∷ []) [] → ⊥ }
+    ensures begins { (others : List ItemType)
+        → SamePlaces default_options (fields_by 8 1 (input 2) (input 2 ∷ [])) others
+        → start (reading_of default_options others) Input others 3 ≡ 8 }
 {}
 
 /// What becomes padding keeps its bits, and so do the fields behind it.
@@ -75,6 +86,27 @@ pub fn padding_keeps_its_bits()
     ensures { KeepsBits as_hid_core (hex (codes "05 01 75 08 95 01 81 02 09 30 81 02"))
         (repaired_to (codes "05 01 75 08 95 01 81 03 09 30 81 02")
         (padded_at 6 (codes "81 02") (codes "81 03") ∷ [])) }
+{}
+
+/// Padding behind a Pop lies where it lay, by each reading: the size that was set inside doesn't
+/// count there.
+pub fn padding_behind_a_pop_keeps_its_bits()
+    ensures locals { KeepsBits as_hid_core (hex (codes "75 08 95 01 a4 75 10 b4 81 02"))
+        (repaired_to (codes "75 08 95 01 a4 75 10 b4 81 03")
+        (padded_at 8 (codes "81 02") (codes "81 03") ∷ [])) }
+    ensures globals { KeepsBits by_globals (hex (codes "75 08 95 01 a4 75 10 b4 81 02"))
+        (repaired_to (codes "75 08 95 01 a4 75 10 b4 81 03")
+        (padded_at 8 (codes "81 02") (codes "81 03") ∷ [])) }
+{}
+
+/// A Pop that became a Push moves the fields behind it, by each reading.
+pub fn a_pop_that_is_lost_moves_fields()
+    ensures locals { KeepsBits as_hid_core (hex (codes "75 08 95 01 a4 75 10 b4 81 03"))
+        (repaired_to (codes "75 08 95 01 a4 75 10 a4 81 03")
+        (padded_at 7 (codes "b4") (codes "a4") ∷ [])) → ⊥ }
+    ensures globals { KeepsBits by_globals (hex (codes "75 08 95 01 a4 75 10 b4 81 03"))
+        (repaired_to (codes "75 08 95 01 a4 75 10 a4 81 03")
+        (padded_at 7 (codes "b4") (codes "a4") ∷ [])) → ⊥ }
 {}
 
 /// Bytes that hid-core doesn't read keep nothing, nothing is no descriptor, and another direction

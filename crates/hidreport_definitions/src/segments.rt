@@ -23,6 +23,12 @@ pub fn segments_can_be_unmatched()
     ensures main_item { IsMatched (item.Main main.EndCollection ∷ []) → ⊥ }
     ensures pop_first { IsMatched (item.Global global.Pop ∷ item.Global global.Push ∷ []) → ⊥ }
     ensures left_open { IsMatched (item.Global global.Push ∷ []) → ⊥ }
+    ensures later_main_item { IsMatched (item.Global global.Push ∷ item.Global global.Pop
+        ∷ item.Global (global.ReportSize 16) ∷ item.Main main.EndCollection ∷ []) → ⊥ }
+    ensures later_pop_first { IsMatched (item.Global global.Push ∷ item.Global global.Pop
+        ∷ item.Global global.Pop ∷ item.Global global.Push ∷ []) → ⊥ }
+    ensures later_left_open { IsMatched (item.Global global.Push ∷ item.Global global.Push
+        ∷ item.Global global.Pop ∷ []) → ⊥ }
 {}
 
 /// A segment is a Push, its items and a Pop, between other items; what stands behind it comes so

@@ -1,12 +1,11 @@
 //! Which usages the fields of an item have.
-ghost use Rattle.std.specs.Prelude.{◌≡◌, ◌↔◌, pos, Contains, List, [], ◌∷◌, Option, None, IsSome};
+ghost use Rattle.std.specs.Prelude.{◌≡◌, pos, List, [], ◌∷◌, Option, None};
 ghost use Rattle.std.specs.Prelude.{codes, true, false};
 ghost use Rattle.hidreport.specs.CollectionItem.TheVariants as kind;
 ghost use Rattle.hidreport.specs.Answer.{InvalidAt};
 ghost use Rattle.hidreport.specs.Records.{ArrayRecord};
-ghost use Rattle.hidreport.specs.declared.field.usage.Usage.{Usage};
 ghost use Rattle.hidreport.specs.Tiling.{IsRangeOf};
-ghost use Rattle.hidreport.specs.UsageRange.{HasExactly, usage_within};
+ghost use Rattle.hidreport.specs.UsageRange.{HasExactly};
 ghost use Rattle.hidreport.specs.Usages.{make_usage, range_from};
 ghost use Rattle.hidreport_definitions.specs.Summary.{Report, Variable, announced_by, inputs};
 ghost use Rattle.hidreport_definitions.specs.Summary.{no_reports, four_keys, place_at, summary};
@@ -128,9 +127,18 @@ pub fn fields_take_usages_in_order()
         ≡ inputs (Report None 8 (Variable 0 8 0x00010030 ∷ []) ∷ []) }
 {}
 
-/// The law of a range applied: the range from usage 4 to 7 has just the four usages that gave it.
+/// The law of a range: that from usage 4 to 7 has just the four usages that gave it. Of fewer
+/// nothing is asked.
 pub fn a_range_has_the_usages_that_gave_it()
     ensures gave { IsRangeOf (range_from 7 4 4) }
-    ensures exactly { HasExactly four_keys (range_from 7 4 4)
-        → (u : Usage) → IsSome (usage_within four_keys u) ↔ Contains (range_from 7 4 4) u }
+    ensures exactly { HasExactly four_keys (range_from 7 4 4) }
+    ensures fewer { HasExactly four_keys (range_from 8 4 3) }
+{}
+
+/// No four others are those of the range.
+pub fn a_range_has_no_other_usages()
+    ensures other_page { HasExactly four_keys (range_from 8 4 4) → ⊥ }
+    ensures other_ids { HasExactly four_keys (range_from 7 5 4) → ⊥ }
+    ensures one_twice { HasExactly four_keys
+        (make_usage 7 4 ∷ make_usage 7 5 ∷ make_usage 7 5 ∷ make_usage 7 7 ∷ []) → ⊥ }
 {}

@@ -6,7 +6,7 @@ use Rattle.hidreport.specs.Answer.{Refusal}
 use Rattle.hidreport.specs.Entry.{Entry}
 use Rattle.hidreport.specs.ItemAnswer.{GrammarFault}
 use Rattle.hidreport.specs.Itemising.{as_refusal, itemise}
-use Rattle.hidreport.specs.Meaning.{PushReading, at_offset, meaning_by, parse_by, parse_items}
+use Rattle.hidreport.specs.Meaning.{InForce, at_offset, meaning_by, parse_by, parse_items}
 use Rattle.hidreport.specs.MeaningFault.{MeaningFault}
 use Rattle.hidreport.specs.Rebuilt.{items_of, rebuild_answer, rebuilt_bytes}
 use Rattle.hidreport.specs.Records.{DescriptorRecord, FieldRecord, place_of}
@@ -44,7 +44,7 @@ pub one : (r : Result DescriptorRecord Refusal) (d e : DescriptorRecord) → r �
 one r d e p q = let same : Ok d ≡ r = sym p in cc
 
 -- bytes that are items mean what these do
-pub parse-items : (reading : PushReading) (bytes : List ℕ) (entries : List Entry)
+pub parse-items : (reading : InForce) (bytes : List ℕ) (entries : List Entry)
     (d : DescriptorRecord) → itemise item_of bytes ≡ Ok entries → parse_by reading bytes ≡ Ok d
     → at_offset entries (meaning_by reading (items_of entries)) ≡ Ok d
 parse-items reading [] entries d i p = cc

@@ -2,6 +2,9 @@
 //! Licence: MIT (LICENSE); a port of the Rust crate `hidreport` 0.6.0.
 #![tactic(auto)]
 
+pub mod fields;
 pub mod laws;
+pub mod limits;
 pub mod plain;
+pub mod rewriting;
 pub mod values;

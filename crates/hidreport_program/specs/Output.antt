@@ -24,6 +24,7 @@ use Rattle.hidreport_program.specs.declared.program.commands.Command.TheVariants
 use Rattle.hidreport_program.specs.declared.program.commands.Command.TheVariants.{Rebuild}
 use Rattle.hidreport_program.specs.declared.program.ending.Outcome.{Outcome}
 use Rattle.hidreport_program.specs.declared.program.ending.Outcome.TheVariants.{Done, Refused}
+use Rattle.hidreport.specs.declared.parser.usages_by.UsagesBy.TheVariants as usages_by
 
 -- a whole text, and whether it is the command's or a refusal
 pub record Output : Type 0 where
@@ -62,7 +63,7 @@ output (ValuesWithin limit) descriptor bytes =
     values_output (parse_within limit descriptor) bytes
 output ValuesGlobals descriptor bytes = values_output (parse_globals_only descriptor) bytes
 output (ValuesGlobalsWithin limit) descriptor bytes =
-    values_output (parse_within_by item_state_globals_only limit descriptor) bytes
+    values_output (parse_within_by (item_state_globals_only usages_by.Standard) limit descriptor) bytes
 output Rebuild descriptor bytes =
     rebuild_output (as_refusal (rebuild_answer (itemise item_of descriptor)))
 

@@ -1,7 +1,11 @@
 //! What a caller gets who names `hidreport` alone (`hidreport_example`).
-use hidreport::{ArrayField, Field, FieldValue, ParserError, Report, ReportDescriptor, ReportId};
+use hidreport::{
+    ArrayField, Field, FieldValue, ParserError, RDescReport, Report, ReportDescriptor, ReportId,
+    Usage,
+};
 use hidreport_example::{plain, values};
 use std::alloc::Global;
+use std::test::Fail;
 
 /// The axes of a mouse, a byte each.
 const TWO_AXES: &[u8] = b"\x05\x01\x15\x81\x25\x7f\x75\x08\x95\x02\x09\x30\x09\x31\x81\x02";
@@ -223,5 +227,37 @@ fn a_field_has_the_id_that_it_is_read_by(rt: HostRuntime) -> Result<(), ParserEr
     assert!(rt; has_id_of_value(&descriptor));
     let plain = ReportDescriptor::try_from(rt.alloc(), TWO_AXES)?;
     assert!(rt; has_no_id(&plain));
+    Ok(())
+}
+
+/// The first bit of a field, none where there is no field.
+fn first_bit(field: Option<&Field>) -> Option<usize> {
+    field.map(|field| field.bits().start)
+}
+
+/// Whether the first of two fields with X is the one that is found, an array by any of its usages,
+/// padding by none, and each field by its number.
+fn are_found(report: &RDescReport) -> bool {
+    first_bit(report.field_for(Usage::from(0x0001_0030))) == Some(0)
+        && first_bit(report.field_for(Usage::from(0x0007_0005))) == Some(16)
+        && report.field_for(Usage::from(0x0007_0030)).is_none()
+        && report.fields().iter().all(|field| {
+            first_bit(report.field(field.id())) == Some(field.bits().start)
+        })
+}
+
+#[test]
+fn fields_are_found_by_number_and_usage(rt: HostRuntime) -> Result<(), Fail> {
+    let bytes = b"\x05\x01\x75\x08\x95\x02\x09\x30\x81\x02\x05\x07\x19\x04\x29\x05\x81\x00\x81\x01";
+    let descriptor = ReportDescriptor::try_from(rt.alloc(), bytes)?;
+    let plain = ReportDescriptor::try_from(rt.alloc(), TWO_AXES)?;
+    match (descriptor.input_reports(), plain.input_reports()) {
+        ([report], [other]) => {
+            let last = report.fields().last();
+            assert!(rt; are_found(report));
+            assert!(rt; last.is_some_and(|field| other.field(field.id()).is_none()));
+        }
+        _ => panic!(rt; "no report"),
+    }
     Ok(())
 }

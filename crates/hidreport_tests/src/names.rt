@@ -11,7 +11,7 @@ use std::fmt::Display;
 
 /// Usages with the names that the HID Usage Tables give them, and for the five numbered pages the
 /// edges of their rules.
-static USAGES: [(u16, u16, &str); 52] = [
+static USAGES: [(u16, u16, &str); 56] = [
     (0x01, 0x01, "Pointer"),
     (0x01, 0x02, "Mouse"),
     (0x01, 0x06, "Keyboard"),
@@ -53,6 +53,10 @@ static USAGES: [(u16, u16, &str); 52] = [
     (0x10, 0x20ac, "U+20AC"),
     (0x14, 0x25, "Clear Display"),
     (0x20, 0x73, "Motion: Accelerometer 3D"),
+    (0x20, 0x0910, "VT_F16E0"),
+    (0x20, 0x091f, "VT_F16EF"),
+    (0x20, 0x0920, "VT_F32E0"),
+    (0x20, 0x092f, "VT_F32EF"),
     (0x80, 0x02, "EDID Information"),
     (0x81, 0x01, "Enum 1"),
     (0x82, 0xd4, "Stereo Mode"),
@@ -67,7 +71,7 @@ static USAGES: [(u16, u16, &str); 52] = [
 ];
 
 /// Usages that have no name: reserved ones, and those of pages that are kept for later.
-static UNNAMED: [(u16, u16); 10] = [
+static UNNAMED: [(u16, u16); 11] = [
     (0x00, 0x30),
     (0x01, 0x00),
     (0x01, 0x03),
@@ -75,6 +79,7 @@ static UNNAMED: [(u16, u16); 10] = [
     (0x07, 0x03e8),
     (0x0a, 0x00),
     (0x13, 0x01),
+    (0x20, 0x1452),
     (0x81, 0x00),
     (0x92, 0x01),
     (0xfeff, 0x01),

@@ -3,7 +3,7 @@
 use crate::usage_type::TypedUsages;
 
 #[rattlefmt::skip]
-pub(crate) static TYPED_USAGES: [TypedUsages; 177] = [
+pub(crate) static TYPED_USAGES: [TypedUsages; 176] = [
     TypedUsages { first: 0x010001, last: 0x010002, holds_value: false },
     TypedUsages { first: 0x010004, last: 0x010013, holds_value: false },
     TypedUsages { first: 0x010030, last: 0x010039, holds_value: true },
@@ -172,8 +172,7 @@ pub(crate) static TYPED_USAGES: [TypedUsages; 177] = [
     TypedUsages { first: 0x2008d0, last: 0x2008d4, holds_value: false },
     TypedUsages { first: 0x2008e0, last: 0x2008e2, holds_value: false },
     TypedUsages { first: 0x2008f0, last: 0x2008f5, holds_value: false },
-    TypedUsages { first: 0x200900, last: 0x20090f, holds_value: false },
-    TypedUsages { first: 0x200930, last: 0x200937, holds_value: false },
+    TypedUsages { first: 0x200900, last: 0x200937, holds_value: false },
     TypedUsages { first: 0x200940, last: 0x20095e, holds_value: false },
     TypedUsages { first: 0x200960, last: 0x200962, holds_value: false },
     TypedUsages { first: 0x200970, last: 0x200985, holds_value: false },

@@ -22,7 +22,7 @@ use Rattle.hidreport.specs.Parser.Machine.{unless_fault}
 use Rattle.hidreport.specs.Records.{DescriptorRecord}
 use Rattle.hidreport.specs.Usages.{usages_of}
 use Rattle.hidreport.specs.Weight.{field_weight}
-use Rattle.hidreport.specs.declared.parser.push_keeps.PushKeeps.{PushKeeps}
+use Rattle.hidreport.specs.declared.parse_options.ParseOptions.{ParseOptions}
 
 -- the collection that an item opens
 abbrev pub weight_opened_in : StateRecord → Option CollectionItem → ℕ
@@ -72,10 +72,10 @@ walk_items left h (Ok entries) =
     at_offset entries (walk_within left h 0 (map (λ e. e.item) entries))
 
 -- the same of a descriptor's bytes
-abbrev pub walk_bytes : PushKeeps → Option ℕ → List ℕ → Result DescriptorRecord Refusal
-walk_bytes keeping limit [] = Err (InvalidAt 0 empty_descriptor)
-walk_bytes keeping limit (b ∷ bs) =
-    walk_items limit (first_state keeping) (itemise item_of (b ∷ bs))
+abbrev pub walk_bytes : ParseOptions → List ℕ → Result DescriptorRecord Refusal
+walk_bytes options [] = Err (InvalidAt 0 empty_descriptor)
+walk_bytes options (b ∷ bs) =
+    walk_items options.limit (first_state options) (itemise item_of (b ∷ bs))
 
 -- how much each of an item's fields weighs, with so many usages and the collections around it
 abbrev pub weight_of_each : Flags → ℕ → ℕ → ℕ

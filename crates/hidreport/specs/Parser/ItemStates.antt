@@ -1,9 +1,10 @@
 -- What the parser keeps in force.
 use Rattle.std.specs.Prelude.{List}
-use Rattle.hidreport_items.specs.declared.local.LocalItem.{LocalItem}
 use Rattle.hidreport.specs.ItemState.{ItemState}
 use Rattle.hidreport.specs.declared.parser.globals.Globals.{Globals}
+use Rattle.hidreport.specs.declared.parser.paged_local.PagedLocal.{PagedLocal}
 use Rattle.hidreport.specs.declared.parser.push_keeps.PushKeeps.{PushKeeps}
+use Rattle.hidreport.specs.declared.parser.usages_by.UsagesBy.{UsagesBy}
 
 -- what a Push keeps, what is in force now, and what each open Push keeps, outermost first
 pub record ItemStates : Type 0 where
@@ -12,8 +13,8 @@ pub record ItemStates : Type 0 where
   pub stack : List ItemState
 
 -- the globals and these locals as what is in force
-abbrev pub item_state_of : Globals → List LocalItem → ItemState
-item_state_of g locals = record {
+abbrev pub item_state_of : UsagesBy → Globals → List PagedLocal → ItemState
+item_state_of by g locals = record {
   usage_page = g.usage_page;
   logical_minimum = g.logical_minimum;
   logical_maximum = g.logical_maximum;
@@ -25,4 +26,5 @@ item_state_of g locals = record {
   report_id = g.report_id;
   report_count = g.report_count;
   locals = locals;
+  usages_by = by;
 }

@@ -1,12 +1,13 @@
 -- The journal of what changed inside open Pushes, as the parser holds it, newest change first.
 use Rattle.std.specs.Prelude.{ℕ, ◌≤◌, List, [], ◌∷◌, length, take}
-use Rattle.hidreport_items.specs.declared.local.LocalItem.{LocalItem}
 use Rattle.hidreport.specs.ItemState.{ItemState}
 use Rattle.hidreport.specs.Parser.ItemStates.{item_state_of}
 use Rattle.hidreport.specs.Parser.Machine.{pushed_copy}
 use Rattle.hidreport.specs.declared.parser.globals.Globals.{Globals}
+use Rattle.hidreport.specs.declared.parser.paged_local.PagedLocal.{PagedLocal}
 use Rattle.hidreport.specs.declared.parser.push_keeps.PushKeeps.{PushKeeps}
 use Rattle.hidreport.specs.declared.parser.push_keeps.PushKeeps.TheVariants as push_keeps
+use Rattle.hidreport.specs.declared.parser.usages_by.UsagesBy.{UsagesBy}
 use Rattle.hidreport.specs.declared.parser.journal.Change.{Change}
 use Rattle.hidreport.specs.declared.parser.journal.Change.TheVariants as changes
 
@@ -15,7 +16,7 @@ use Rattle.hidreport.specs.declared.parser.journal.Change.TheVariants as changes
 pub data ChangeRecord : Type 0 where
   Opened : ℕ → ChangeRecord
   WasGlobals : Globals → ChangeRecord
-  WasLocals : List LocalItem → ChangeRecord
+  WasLocals : List PagedLocal → ChangeRecord
 
 abbrev pub change_of : Change → ChangeRecord
 change_of (changes.Push count) = Opened count
@@ -29,23 +30,25 @@ with_change change (c ∷ cs) = change ∷ c ∷ cs
 
 -- what each open Push keeps, innermost first: of what was in force there, from these globals and
 -- locals back
-abbrev pub undone_stack : PushKeeps → List ChangeRecord → Globals → List LocalItem → List ItemState
-undone_stack keeping [] globals locals = []
-undone_stack keeping (Opened count ∷ cs) globals locals =
-    pushed_copy keeping (item_state_of globals (take count locals))
-    ∷ undone_stack keeping cs globals
-    (take count locals)
-undone_stack keeping (WasGlobals old ∷ cs) globals locals = undone_stack keeping cs old locals
-undone_stack keeping (WasLocals old ∷ cs) globals locals = undone_stack keeping cs globals old
+abbrev pub undone_stack : PushKeeps → UsagesBy → List ChangeRecord → Globals → List PagedLocal
+    → List ItemState
+undone_stack keeping by [] globals locals = []
+undone_stack keeping by (Opened count ∷ cs) globals locals =
+    pushed_copy keeping (item_state_of by globals (take count locals))
+    ∷ undone_stack keeping by cs globals (take count locals)
+undone_stack keeping by (WasGlobals old ∷ cs) globals locals =
+    undone_stack keeping by cs old locals
+undone_stack keeping by (WasLocals old ∷ cs) globals locals =
+    undone_stack keeping by cs globals old
 
 -- no Push counted more locals than there are
-abbrev pub IsCounted : List ChangeRecord → List LocalItem → Type 0
+abbrev pub IsCounted : List ChangeRecord → List PagedLocal → Type 0
 IsCounted [] locals = Unit {0}
 IsCounted (Opened count ∷ cs) locals = (count ≤ length locals) × IsCounted cs (take count locals)
 IsCounted (WasGlobals old ∷ cs) locals = IsCounted cs locals
 IsCounted (WasLocals old ∷ cs) locals = IsCounted cs old
 
 -- the same, where Pushes keep locals
-abbrev pub Fits : PushKeeps → List ChangeRecord → List LocalItem → Type 0
+abbrev pub Fits : PushKeeps → List ChangeRecord → List PagedLocal → Type 0
 Fits push_keeps.All cs locals = IsCounted cs locals
 Fits push_keeps.Globals cs locals = Unit {0}

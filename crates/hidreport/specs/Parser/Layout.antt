@@ -9,6 +9,7 @@ use Rattle.hidreport.specs.Fields.{usage_at, attributes_with}
 use Rattle.hidreport.specs.Records.{Attributes, CollectionRecord, FieldRecord, VariableRecord}
 use Rattle.hidreport.specs.Usages.{UsageList}
 use Rattle.hidreport.specs.Views.{direction_of, item_flags}
+use Rattle.hidreport.specs.declared.field.usage.Usage.{Usage}
 use Rattle.hidreport.specs.declared.parser.layout.Layout.{Layout}
 use Rattle.hidreport.specs.declared.parser.extent.Extent.{Extent}
 
@@ -34,11 +35,14 @@ extent_of l = record { size = l.size; count = l.count }
 abbrev pub laid_out : Layout → UsageList → List FieldRecord
 laid_out l us = make_fields (beginning_of l) (extent_of l) (item_flags l.item) us (shared_of l)
 
--- field number c of a variable item
+-- field number c of a variable item, with this usage
+abbrev pub variable_with : Layout → Usage → ℕ → FieldRecord
+variable_with l usage c = VariableRecord
+    (make_place (beginning_at (beginning_of l) (extent_of l) c) l.size) usage (shared_of l)
+
+-- the same with its usage of these
 abbrev pub variable_of : Layout → UsageList → ℕ → FieldRecord
-variable_of l us c = VariableRecord
-    (make_place (beginning_at (beginning_of l) (extent_of l) c) l.size)
-    (usage_at us.usages c) (shared_of l)
+variable_of l us c = variable_with l (usage_at us.usages c) c
 
 -- the fields have ids, their bits can be counted, and there are usages for them
 pub record IsPossible (l : Layout) (us : UsageList) : Type 0 where

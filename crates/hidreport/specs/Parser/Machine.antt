@@ -5,27 +5,29 @@ use Rattle.std.specs.Prelude.{Some, option_to_list, Result, Ok, Err}
 use Rattle.hidreport_items.specs.Flags.{Flags}
 use Rattle.hidreport_items.specs.declared.main_item.CollectionItem.{CollectionItem}
 use Rattle.hidreport_items.specs.declared.item.ItemType.{ItemType}
-use Rattle.hidreport_items.specs.declared.local.LocalItem.{LocalItem}
 use Rattle.hidreport.specs.Faults.{Counts, item_fault}
 use Rattle.hidreport.specs.Fields.{fields_of, fields_made, list_or_none}
-use Rattle.hidreport.specs.ItemState.{ItemState, first_of}
+use Rattle.hidreport.specs.ItemState.{ItemState, first_of, paged_local}
 use Rattle.hidreport.specs.Making.{extent, same_key}
 use Rattle.hidreport.specs.Meaning.{firsts_after}
 use Rattle.hidreport.specs.MeaningFault.{MeaningFault}
 use Rattle.hidreport.specs.Places.{id_bits, bits_of}
 use Rattle.hidreport.specs.Records.{CollectionRecord, FieldRecord, ReportRecord, DescriptorRecord}
 use Rattle.hidreport.specs.Usages.{usages_of}
+use Rattle.hidreport.specs.declared.parse_options.ParseOptions.{ParseOptions}
+use Rattle.hidreport.specs.declared.parser.paged_local.PagedLocal.{PagedLocal}
+use Rattle.hidreport.specs.declared.parser.usages_by.UsagesBy.{UsagesBy}
 use Rattle.hidreport.specs.declared.parser.push_keeps.PushKeeps.{PushKeeps}
 use Rattle.hidreport.specs.declared.parser.push_keeps.PushKeeps.TheVariants as push_keeps
 use Rattle.hidreport.specs.Kinds.{Indexed, Direction, Input, Output, Feature, data_of, goes}
 use Rattle.hidreport.specs.Kinds.{is_main, is_push, is_pop, is_end_collection, collection_kind_of}
-use Rattle.hidreport.specs.Kinds.{local_of, usage_page_of, logical_minimum_of, logical_maximum_of}
+use Rattle.hidreport.specs.Kinds.{usage_page_of, logical_minimum_of, logical_maximum_of}
 use Rattle.hidreport.specs.Kinds.{physical_minimum_of, physical_maximum_of, unit_exponent_of}
 use Rattle.hidreport.specs.Kinds.{unit_of, report_size_of, report_id_of, report_count_of}
 
--- a main item ends the locals, a local item is added to them
-abbrev pub next_locals : List LocalItem → ItemType → List LocalItem
-next_locals xs x = if is_main x then [] else xs ++ option_to_list (local_of x)
+-- a main item ends the locals, a local item is added to them, with the page in force
+abbrev pub next_locals : Option ℕ → List PagedLocal → ItemType → List PagedLocal
+next_locals page xs x = if is_main x then [] else xs ++ option_to_list (paged_local page x)
 
 -- what is in force behind one more item
 abbrev pub next_item_state : ItemState → ItemType → ItemState
@@ -40,7 +42,8 @@ next_item_state f x = record {
   report_size = first_of (report_size_of x) f.report_size;
   report_id = first_of (report_id_of x) f.report_id;
   report_count = first_of (report_count_of x) f.report_count;
-  locals = next_locals f.locals x;
+  locals = next_locals f.usage_page f.locals x;
+  usages_by = f.usages_by;
 }
 
 -- the report with this id that these items make, each adding bits and fields to the report of its
@@ -216,8 +219,8 @@ abbrev pub step : StateRecord → ItemType → Result StateRecord MeaningFault
 step h x = unless_fault (fault_in h x) (next_state h x)
 
 -- before the first item nothing is in force
-abbrev pub no_item_state : ItemState
-no_item_state = record {
+abbrev pub no_item_state : UsagesBy → ItemState
+no_item_state by = record {
   usage_page = None;
   logical_minimum = None;
   logical_maximum = None;
@@ -229,19 +232,23 @@ no_item_state = record {
   report_id = None;
   report_count = None;
   locals = [];
+  usages_by = by;
 }
 
 -- nor is anything kept, made or open
-abbrev pub first_state : PushKeeps → StateRecord
-first_state keeping = record {
+abbrev pub start_by : PushKeeps → UsagesBy → StateRecord
+start_by keeping by = record {
   keeping = keeping;
-  item_state = no_item_state;
+  item_state = no_item_state by;
   stack = [];
   descriptor = record { input = []; output = []; feature = [] };
   fields = 0;
   opened = [];
   collections = 0;
 }
+
+abbrev pub first_state : ParseOptions → StateRecord
+first_state options = start_by options.push_keeps options.usages
 
 abbrev pub go_on : Result StateRecord MeaningFault → ℕ
     → (StateRecord → Result DescriptorRecord (ℕ × MeaningFault))

@@ -74,6 +74,6 @@ pub(crate) fn weight_of_each(item: &DataItem, usages: &Usages, around: u128) -> 
     } else if item.is_variable {
         1 + around
     } else {
-        1 + (usages.count() as u128 + around)
+        1 + (usages.count() + around)
     }
 }

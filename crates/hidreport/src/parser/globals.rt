@@ -25,14 +25,15 @@ impl Globals {
     ghost use Rattle.std.specs.Prelude.{◌≡◌, List, []};
     ghost use Rattle.hidreport.specs.Fields.{measures, physical_bound};
     ghost use Rattle.hidreport.specs.Making.{both_set};
-    ghost use Rattle.hidreport_items.specs.declared.local.LocalItem.{LocalItem};
     ghost use Rattle.hidreport_items.specs.declared.item.ItemType.TheVariants as items;
     ghost use Rattle.hidreport.specs.Parser.ItemStates.{item_state_of};
     ghost use Rattle.hidreport.specs.Parser.Machine.{next_item_state, no_item_state};
+    ghost use Rattle.hidreport.specs.declared.parser.paged_local.PagedLocal.{PagedLocal};
+    ghost use Rattle.hidreport.specs.declared.parser.usages_by.UsagesBy.{UsagesBy};
 
     /// Nothing is set.
     pub(crate) fn new() -> Globals
-        ensures { item_state_of result [] ≡ no_item_state }
+        ensures { (by : UsagesBy) → item_state_of by result [] ≡ no_item_state by }
     {
         Globals {
             usage_page: None,
@@ -50,8 +51,8 @@ impl Globals {
 
     /// Sets the item's value; a Push, a Pop and a reserved item have none.
     pub(crate) fn set(&mut self, item: GlobalItem)
-        ensures { (locals : List LocalItem) → item_state_of self.new locals
-            ≡ record (next_item_state (item_state_of self.old locals) (items.Global item)) {
+        ensures { (by : UsagesBy) (locals : List PagedLocal) → item_state_of by self.new locals
+            ≡ record (next_item_state (item_state_of by self.old locals) (items.Global item)) {
               locals = locals;
             } }
     {
@@ -86,7 +87,7 @@ impl Globals {
     /// What fields with data have of them; logical bounds that aren't set are 0.
     #[inline(always)]
     pub(crate) fn measures(&self) -> Measures
-        ensures { result ≡ measures (item_state_of self.now []) }
+        ensures { (by : UsagesBy) → result ≡ measures (item_state_of by self.now []) }
     {
         Measures {
             logical_minimum: self.logical_minimum.unwrap_or(LogicalMinimum::from(0)),

@@ -1,7 +1,9 @@
 use crate::parser::globals::Globals;
 use crate::parser::journal::{Change, Journal};
 use crate::parser::locals::Locals;
+use crate::parser::paged_local::PagedLocal;
 use crate::parser::push_keeps::PushKeeps;
+use crate::parser::usages_by::UsagesBy;
 use hidreport_items::{GlobalItem, LocalItem};
 use std::alloc::{AllocError, Global};
 use std::marker::Model;
@@ -12,6 +14,7 @@ use std::marker::Model;
 #[derive(Drop)]
 pub(crate) struct ItemStateTable {
     keeping: PushKeeps,
+    usages_by: UsagesBy,
     globals: Globals,
     locals: Locals,
     journal: Journal,
@@ -26,8 +29,8 @@ impl Model for ItemStateTable {
 
     ghost view = { λ f. record {
       keeping = f.keeping;
-      now = item_state_of f.globals f.locals;
-      stack = reverse (undone_stack f.keeping f.journal f.globals f.locals);
+      now = item_state_of f.usages_by f.globals f.locals;
+      stack = reverse (undone_stack f.keeping f.usages_by f.journal f.globals f.locals);
     } };
 
     ghost invariant = { λ f. Fits f.keeping f.journal f.locals };
@@ -42,11 +45,13 @@ impl ItemStateTable {
     ghost use Rattle.hidreport.specs.Parser.Machine.{next_item_state, no_item_state};
 
     /// Before the first item.
-    pub(crate) fn new(alloc: Global, keeping: PushKeeps) -> ItemStateTable
-        ensures { result ≡ record { keeping = keeping; now = no_item_state; stack = [] } }
+    pub(crate) fn new(alloc: Global, keeping: PushKeeps, usages_by: UsagesBy) -> ItemStateTable
+        ensures { result
+            ≡ record { keeping = keeping; now = no_item_state usages_by; stack = [] } }
     {
         ItemStateTable {
             keeping,
+            usages_by,
             globals: Globals::new(),
             locals: Locals::new(alloc),
             journal: Journal::new(alloc),
@@ -55,9 +60,17 @@ impl ItemStateTable {
 
     /// The values of global items.
     pub(crate) fn globals(&self) -> &Globals
-        ensures { item_state_of result.now self.now.now.locals ≡ self.now.now }
+        ensures { item_state_of self.now.now.usages_by result.now self.now.now.locals
+            ≡ self.now.now }
     {
         &self.globals
+    }
+
+    /// By which rule usages are found.
+    pub(crate) fn usages_by(&self) -> UsagesBy
+        ensures { result ≡ self.now.now.usages_by }
+    {
+        self.usages_by
     }
 
     /// The local items.
@@ -84,7 +97,8 @@ impl ItemStateTable {
           now = next_item_state self.old.now (items.Local item);
         }) }
     {
-        self.locals.add(item)?;
+        let page = self.globals.usage_page;
+        self.locals.add(PagedLocal { page, item })?;
         Ok(())
     }
 

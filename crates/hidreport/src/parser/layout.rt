@@ -1,4 +1,6 @@
 //! Where the fields of a data item lie, and what they share (Sections 6.2.2.4 and 6.2.2.5).
+ghost use Rattle.std.specs.Prelude.{◌≡◌, ◌<◌, length};
+ghost use Rattle.hidreport.specs.Fields.{usage_at};
 ghost use Rattle.hidreport.specs.Views.{item_flags};
 
 use crate::field::array_field::ArrayField;
@@ -6,6 +8,7 @@ use crate::field::collection::Collection;
 use crate::field::constant_field::ConstantField;
 use crate::field::data_item::DataItem;
 use crate::field::measures::Measures;
+use crate::field::usage::Usage;
 use crate::field::variable_field::VariableField;
 use crate::field::{Field, FieldId};
 use crate::parser::usages::Usages;
@@ -34,10 +37,10 @@ pub(crate) struct Layout {
 impl Layout {
     ghost use Rattle.std.specs.Arc.{arc_slice_items};
     ghost use Rattle.std.specs.Prelude.{◌≡◌, ◌+◌, ◌++◌, ◌*◌, ◌<◌, ◌≤◌, ◌^◌, []};
-    ghost use Rattle.std.specs.Prelude.{Some, length, IfOk, OnOk, map};
+    ghost use Rattle.std.specs.Prelude.{false, Some, length, IfOk, OnOk, map};
     ghost use Rattle.hidreport.specs.Fields.{each_from, field_count, make_place};
     ghost use Rattle.hidreport.specs.Parser.Layout.{IsPossible, beginning_of, laid_out, shared_list};
-    ghost use Rattle.hidreport.specs.Parser.Layout.{shared_of, variable_of};
+    ghost use Rattle.hidreport.specs.Parser.Layout.{shared_of, variable_of, variable_with};
     ghost use Rattle.hidreport.specs.Parser.Usages.{usage_list};
     ghost use Rattle.hidreport.specs.Records.{ArrayRecord, ConstantRecord};
     ghost use Rattle.hidreport.specs.Views.{field_record};
@@ -68,7 +71,7 @@ impl Layout {
         if self.item.is_constant {
             fields.push(self.constant_field())?;
         } else if self.item.is_variable {
-            self.add_variable_fields(alloc, usages, fields)?;
+            self.add_elements(alloc, usages, fields)?;
         } else {
             fields.push(self.array_field(alloc, usages)?)?;
         }
@@ -89,6 +92,48 @@ impl Layout {
         })
     }
 
+    /// Adds the fields of a variable item. Of many spans its usages are listed first, as many as it
+    /// has fields, since each field would go over the spans.
+    fn add_elements(
+        &self,
+        alloc: Global,
+        usages: &Usages,
+        fields: &mut Vec<Field>,
+    ) -> Result<(), AllocError>
+        requires ids { self.now.first_id + self.now.count ≤ 2 ^ 32 }
+        requires bits { self.now.first_bit + self.now.size * self.now.count < 2 ^ 64 }
+        requires usages { 0 < length (usage_list usages.now).usages }
+        ensures { OnOk result (map field_record fields.new.items ≡ map field_record fields.old.items
+            ++ each_from (variable_of self.now (usage_list usages.now)) 0 self.now.count) }
+    {
+        match usages.first_of_many(alloc, self.count.max(1))? {
+            Some(listed) => self.add_listed_fields(alloc, listed.as_slice(), fields),
+            None => self.add_variable_fields(alloc, usages, fields),
+        }
+    }
+
+    /// Adds the fields of a variable item with these usages.
+    fn add_listed_fields(
+        &self,
+        alloc: Global,
+        usages: &[Usage],
+        fields: &mut Vec<Field>,
+    ) -> Result<(), AllocError>
+        requires ids { self.now.first_id + self.now.count ≤ 2 ^ 32 }
+        requires bits { self.now.first_bit + self.now.size * self.now.count < 2 ^ 64 }
+        requires usages { 0 < length usages.now }
+        ensures { OnOk result (map field_record fields.new.items ≡ map field_record fields.old.items
+            ++ each_from (variable_of self.now (record { usages = usages.now; is_range = false }))
+            0 self.now.count) }
+    {
+        fields.reserve(self.count)?;
+        for c in 0..self.count {
+            let collections = self.shared_collections(alloc)?;
+            fields.push_reserved(self.variable_field(collections, usage_at(usages, c), c));
+        }
+        Ok(())
+    }
+
     /// Adds the fields of a variable item, for which the room is asked at once.
     fn add_variable_fields(
         &self,
@@ -105,25 +150,24 @@ impl Layout {
         fields.reserve(self.count)?;
         for c in 0..self.count {
             let collections = self.shared_collections(alloc)?;
-            fields.push_reserved(self.variable_field(collections, usages, c));
+            fields.push_reserved(self.variable_field(collections, usages.at(c), c));
         }
         Ok(())
     }
 
-    /// Field number `c` of a variable item, in these collections.
-    fn variable_field(&self, collections: ArcSlice<Collection>, usages: &Usages, c: usize) -> Field
+    /// Field number `c` of a variable item, in these collections and with this usage.
+    fn variable_field(&self, collections: ArcSlice<Collection>, usage: Usage, c: usize) -> Field
         requires ids { self.now.first_id + c < 2 ^ 32 }
         requires bits { self.now.first_bit + self.now.size * (c + 1) < 2 ^ 64 }
-        requires usages { 0 < length (usage_list usages.now).usages }
         requires collections { arc_slice_items collections ≡ shared_list self.now.collections }
-        ensures { field_record result ≡ variable_of self.now (usage_list usages.now) c }
+        ensures { field_record result ≡ variable_with self.now usage c }
     {
         let measures = &self.measures;
         Field::Variable(VariableField {
             id: FieldId::new((self.first_id + c as u64) as u32),
             report_id: self.report_id,
             bits: self.bits(c),
-            usage: usages.at(c),
+            usage,
             logical_minimum: measures.logical_minimum,
             logical_maximum: measures.logical_maximum,
             physical_minimum: measures.physical_minimum,
@@ -193,4 +237,12 @@ impl Layout {
     {
         self.first_bit..self.first_bit + self.size * self.count
     }
+}
+
+/// Usage number `c` of a list, or the last one where there are fewer.
+fn usage_at(usages: &[Usage], c: usize) -> Usage
+    requires { 0 < length usages.now }
+    ensures { result ≡ usage_at usages.now c }
+{
+    usages[c.min(usages.len() - 1)]
 }

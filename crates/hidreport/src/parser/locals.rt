@@ -4,6 +4,7 @@ ghost use Rattle.hidreport.specs.Parser.Locals.{local_usage, without_last};
 ghost use Rattle.hidreport.specs.Usages.{maximum_of, minimum_of};
 
 use crate::parser::local_usages::{LocalUsage, LocalUsages};
+use crate::parser::paged_local::PagedLocal;
 use hidreport_items::LocalItem;
 use hidreport_types::{UsageMaximum, UsageMinimum};
 use std::alloc::{AllocError, Global};
@@ -14,7 +15,7 @@ use std::mem;
 /// held by themselves, too, so that an item finds its usages without going over all local items.
 #[derive(Drop)]
 pub(crate) struct Locals {
-    items: Vec<LocalItem>,
+    items: Vec<PagedLocal>,
     usages: LocalUsages,
     minima: Vec<UsageMinimum>,
     maxima: Vec<UsageMaximum>,
@@ -22,21 +23,23 @@ pub(crate) struct Locals {
 
 impl Model for Locals {
     ghost use Rattle.std.specs.Prelude.{◌≡◌, List, filter_map};
-    ghost use Rattle.hidreport_items.specs.declared.local.LocalItem.{LocalItem};
+    ghost use Rattle.hidreport.specs.ItemState.{local_items};
     ghost use Rattle.hidreport.specs.Parser.Locals.{local_usage};
     ghost use Rattle.hidreport.specs.Usages.{maximum_of, minimum_of};
+    ghost use Rattle.hidreport.specs.declared.parser.paged_local.PagedLocal.{PagedLocal};
 
-    ghost Value = { List LocalItem };
+    ghost Value = { List PagedLocal };
 
     ghost view = { λ l. l.items.items };
 
-    ghost invariant = { λ l. (l.usages ≡ filter_map local_usage l.items.items)
-        × (l.minima.items ≡ filter_map minimum_of l.items.items)
-        × (l.maxima.items ≡ filter_map maximum_of l.items.items) };
+    ghost invariant = { λ l. (l.usages ≡ filter_map local_usage (local_items l.items.items))
+        × (l.minima.items ≡ filter_map minimum_of (local_items l.items.items))
+        × (l.maxima.items ≡ filter_map maximum_of (local_items l.items.items)) };
 }
 
 impl Locals {
     ghost use Rattle.std.specs.Prelude.{◌≡◌, ◌-◌, [], ◌∷◌, ◌++◌, length, take, OnErr, OnOk, filter_map};
+    ghost use Rattle.hidreport.specs.ItemState.{local_items};
     ghost use Rattle.hidreport.specs.Parser.Locals.{local_usage};
     ghost use Rattle.hidreport.specs.Usages.{last_local, maximum_of, minimum_of};
 
@@ -59,43 +62,50 @@ impl Locals {
         self.items.len()
     }
 
+    /// All of them.
+    pub(crate) fn as_slice(&self) -> &[PagedLocal]
+        ensures { result.now ≡ self.now }
+    {
+        &self.items
+    }
+
     /// Those that are single usages.
     pub(crate) fn usages(&self) -> &LocalUsages
-        ensures { result.now ≡ filter_map local_usage self.now }
+        ensures { result.now ≡ filter_map local_usage (local_items self.now) }
     {
         &self.usages
     }
 
     /// The last minimum.
     pub(crate) fn minimum(&self) -> Option<UsageMinimum>
-        ensures { result ≡ last_local minimum_of self.now }
+        ensures { result ≡ last_local minimum_of (local_items self.now) }
     {
         self.minima.last().copied()
     }
 
     /// The last maximum.
     pub(crate) fn maximum(&self) -> Option<UsageMaximum>
-        ensures { result ≡ last_local maximum_of self.now }
+        ensures { result ≡ last_local maximum_of (local_items self.now) }
     {
         self.maxima.last().copied()
     }
 
     /// Adds one.
-    pub(crate) fn add(&mut self, item: LocalItem) -> Result<(), AllocError>
-        ensures ok { OnOk result (self.new ≡ self.old ++ item ∷ []) }
+    pub(crate) fn add(&mut self, local: PagedLocal) -> Result<(), AllocError>
+        ensures ok { OnOk result (self.new ≡ self.old ++ local ∷ []) }
         ensures err { OnErr result (self.new ≡ self.old) }
     {
         self.items.reserve(1)?;
-        if let Some(usage) = local_usage(&item) {
+        if let Some(usage) = local_usage(&local.item) {
             self.usages.push(usage)?;
         }
-        if let Some(minimum) = minimum_of(&item) {
+        if let Some(minimum) = minimum_of(&local.item) {
             self.minima.push(minimum)?;
         }
-        if let Some(maximum) = maximum_of(&item) {
+        if let Some(maximum) = maximum_of(&local.item) {
             self.maxima.push(maximum)?;
         }
-        self.items.push_reserved(item);
+        self.items.push_reserved(local);
         Ok(())
     }
 
@@ -103,12 +113,12 @@ impl Locals {
     fn pop(&mut self)
         ensures { self.new ≡ take (length self.old - 1) self.old }
     {
-        let Some(item) = self.items.pop() else {
+        let Some(local) = self.items.pop() else {
             return;
         };
-        self.usages.pop_if(local_usage(&item).is_some());
-        pop_if(&mut self.minima, minimum_of(&item).is_some());
-        pop_if(&mut self.maxima, maximum_of(&item).is_some());
+        self.usages.pop_if(local_usage(&local.item).is_some());
+        pop_if(&mut self.minima, minimum_of(&local.item).is_some());
+        pop_if(&mut self.maxima, maximum_of(&local.item).is_some());
     }
 
     /// Keeps so many, the first ones.

@@ -62,7 +62,10 @@ impl OpenCollection {
             Usages::Single(page, [usage]) => {
                 OpenUsages::Listed(CollectionUsages::One(usage.under(*page)))
             }
-            Usages::Single(_, _) => {
+            Usages::Spans([span]) if span.first == span.last => {
+                OpenUsages::Listed(CollectionUsages::One(span.usage(span.first)))
+            }
+            Usages::Single(_, _) | Usages::Spans(_) => {
                 OpenUsages::Listed(CollectionUsages::List(ArcSlice::from_vec(usages.list(alloc)?)?))
             }
         };

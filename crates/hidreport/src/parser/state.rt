@@ -1,21 +1,22 @@
 ghost use Rattle.std.specs.Prelude.{◌≡◌, ◌≢◌, ◌+◌, ◌*◌, ◌<◌, ◌≤◌, ◌^◌, None, IfOk, IfErr};
 ghost use Rattle.std.specs.Prelude.{OnOk};
 ghost use Rattle.hidreport.specs.Parser.Refusals.{IsFaultOf, fault_named};
-ghost use Rattle.hidreport.specs.Parser.Usages.{HasUsages, usages_fault};
+ghost use Rattle.hidreport.specs.Parser.Usages.{HasUsages, spans_in, usages_fault};
 ghost use Rattle.hidreport.specs.Views.{item_flags};
 
 use crate::field::data_item::DataItem;
+use crate::parse_options::ParseOptions;
 use crate::parser::budget::{Budget, weight_of_each};
 use crate::parser::fault::Fault;
 use crate::parser::item_state_table::ItemStateTable;
 use crate::parser::layout::Layout;
 use crate::parser::open_collections::OpenCollections;
-use crate::parser::push_keeps::PushKeeps;
 use crate::parser::report_lists::ReportLists;
-use crate::parser::usages::{Usages, usages_of};
+use crate::parser::usage_span::UsageSpan;
+use crate::parser::usages::{Usages, spans_in, usages_of};
 use crate::report::reports::Reports;
 use hidreport_items::{CollectionItem, GlobalItem, ItemType, MainItem};
-use std::alloc::Global;
+use std::alloc::{AllocError, Global};
 use std::marker::Model;
 
 /// How many collections have an id.
@@ -50,7 +51,7 @@ impl Model for State {
 }
 
 impl State {
-    ghost use Rattle.std.specs.Prelude.{◌≡◌, ◌+◌, false, None, Ok, Some, IfErr, OnOk};
+    ghost use Rattle.std.specs.Prelude.{◌≡◌, ◌+◌, false, None, Ok, Some, IfErr, IfOk, OnOk};
     ghost use Rattle.hidreport.specs.Repair.{is_meant_unsigned, is_missing_usages};
     ghost use Rattle.hidreport.specs.Parser.Budget.{is_past, left_behind, stop_in, weight_in};
     ghost use Rattle.hidreport.specs.Parser.Machine.{fault_in, first_state, next_opened, next_state, step};
@@ -58,11 +59,11 @@ impl State {
     ghost use Rattle.hidreport.specs.Parser.DataItem.{as_item, collection, end_collection};
 
     /// Before the first item.
-    pub(crate) fn new(alloc: Global, keeping: PushKeeps) -> State
-        ensures { result ≡ first_state keeping }
+    pub(crate) fn new(alloc: Global, options: ParseOptions) -> State
+        ensures { result ≡ first_state options }
     {
         State {
-            item_states: ItemStateTable::new(alloc, keeping),
+            item_states: ItemStateTable::new(alloc, options.push_keeps, options.usages),
             reports: ReportLists::new(alloc),
             field_count: 0,
             collections: OpenCollections::new(alloc),
@@ -91,32 +92,34 @@ impl State {
     }
 
     /// Whether an item is a data item that would make fields with data, and there are no usages.
-    pub(crate) fn lacks_usages(&self, item: &ItemType) -> bool
-        ensures { result ≡ is_missing_usages (fault_in self.now item.now) }
+    pub(crate) fn lacks_usages(&self, alloc: Global, item: &ItemType) -> Result<bool, AllocError>
+        ensures { IfOk result (λ lacks. lacks ≡ is_missing_usages (fault_in self.now item.now)) }
     {
         let ItemType::Main(item) = item else {
-            return false;
+            return Ok(false);
         };
         let item = match item {
             MainItem::Input(item) => DataItem::from(*item),
             MainItem::Output(item) => DataItem::from(*item),
             MainItem::Feature(item) => DataItem::from(*item),
-            MainItem::Collection(_) => return false,
-            MainItem::EndCollection => return false,
+            MainItem::Collection(_) => return Ok(false),
+            MainItem::EndCollection => return Ok(false),
         };
-        self.data_lacks_usages(&item)
+        self.data_lacks_usages(alloc, &item)
     }
 
     /// The same of a data item.
-    fn data_lacks_usages(&self, item: &DataItem) -> bool
-        ensures { result ≡ is_missing_usages (fault_in self.now (as_item item.now)) }
+    fn data_lacks_usages(&self, alloc: Global, item: &DataItem) -> Result<bool, AllocError>
+        ensures { IfOk result (λ lacks.
+            lacks ≡ is_missing_usages (fault_in self.now (as_item item.now))) }
     {
         if self.item_states.globals().extent().is_none() {
-            return false;
+            return Ok(false);
         }
-        match needed_usages(item, &self.item_states) {
-            Ok(_) => false,
-            Err(fault) => fault.is_missing_usages(),
+        let spans = spans_in(alloc, &self.item_states)?;
+        match needed_usages(item, &self.item_states, spans.as_slice()) {
+            Ok(_) => Ok(false),
+            Err(fault) => Ok(fault.is_missing_usages()),
         }
     }
 
@@ -198,7 +201,8 @@ impl State {
         let Some(extent) = globals.extent() else {
             return Ok(());
         };
-        let usages = match needed_usages(item, &self.item_states) {
+        let spans = spans_in(alloc, &self.item_states)?;
+        let usages = match needed_usages(item, &self.item_states, spans.as_slice()) {
             Ok(usages) => usages,
             Err(fault) => return Err(fault),
         };
@@ -248,14 +252,15 @@ impl State {
         ensures err { IfErr result (λ e.
             IsFaultOf e (stop_in budget.old self.old (collection item))) }
     {
-        let usages = match usages_of(&self.item_states) {
+        let spans = spans_in(alloc, &self.item_states)?;
+        let usages = match usages_of(&self.item_states, spans.as_slice()) {
             Ok(usages) => usages,
             Err(fault) => return Err(fault),
         };
         if self.collections.count() >= COLLECTION_IDS {
             return Err(Fault::OutOfBounds);
         }
-        budget.spend(1, 1 + usages.count() as u128)?;
+        budget.spend(1, 1 + usages.count())?;
         self.collections.open(alloc, item, &usages)?;
         Ok(())
     }
@@ -284,7 +289,12 @@ impl State {
 }
 
 /// The usages of a data item, of which it needs some unless it is constant.
-fn needed_usages<'a>(item: &DataItem, item_states: &'a ItemStateTable) -> Result<Usages<'a>, Fault>
+fn needed_usages<'a>(
+    item: &DataItem,
+    item_states: &'a ItemStateTable,
+    spans: &'a [UsageSpan],
+) -> Result<Usages<'a>, Fault>
+    requires { spans.now ≡ spans_in item_states.now.now }
     ensures faultless { OnOk result (usages_fault (item_flags item.now) item_states.now.now ≡ None) }
     ensures usages { IfOk result (HasUsages (item_flags item.now) item_states.now.now) }
     ensures err { IfErr result (λ e.
@@ -294,7 +304,7 @@ fn needed_usages<'a>(item: &DataItem, item_states: &'a ItemStateTable) -> Result
     if item.is_constant {
         return Ok(Usages::none());
     }
-    let usages = match usages_of(item_states) {
+    let usages = match usages_of(item_states, spans) {
         Ok(usages) => usages,
         Err(fault) => return Err(fault),
     };

@@ -12,7 +12,7 @@ use crate::parser::state::State;
 use crate::repairing::repair_options::RepairOptions;
 use hidreport_items::{ItemBytes, read_item};
 use hidreport_lists::{Mend, ParserError, Piece};
-use std::alloc::Global;
+use std::alloc::{AllocError, Global};
 
 /// Mends each piece behind those before it.
 pub(crate) fn mend_all(
@@ -23,11 +23,11 @@ pub(crate) fn mend_all(
     ensures ok { OnOk result (all_mended options [] pieces.old ≡ Ok pieces.new) }
     ensures err { IfErr result (λ e. Refuses e (all_mended options [] pieces.old)) }
 {
-    let mut state = State::new(alloc, options.parse.push_keeps);
+    let mut state = State::new(alloc, options.parse);
     let mut budget = Budget::new(options.parse.limit);
     for piece in pieces.iter_mut() {
         let offset = piece.offset();
-        mend(&state, piece, options.unsigned_maxima);
+        mend(alloc, &state, piece, options.unsigned_maxima)?;
         let item = match piece.item() {
             Some(item) => item,
             None => continue,
@@ -40,13 +40,18 @@ pub(crate) fn mend_all(
 }
 
 /// Mends a piece where this is held.
-fn mend(state: &State, piece: &mut Piece, unsigned_maxima: bool)
-    ensures { piece.new ≡ mended_in unsigned_maxima state.now piece.old }
+fn mend(
+    alloc: Global,
+    state: &State,
+    piece: &mut Piece,
+    unsigned_maxima: bool,
+) -> Result<(), AllocError>
+    ensures { OnOk result (piece.new ≡ mended_in unsigned_maxima state.now piece.old) }
 {
     if unsigned_maxima {
         widen(state, piece);
     }
-    pad(state, piece);
+    pad(alloc, state, piece)
 }
 
 /// Writes a maximum that was meant unsigned so.
@@ -64,17 +69,19 @@ fn widen(state: &State, piece: &mut Piece)
 }
 
 /// Makes a data item that lacks usages padding.
-fn pad(state: &State, piece: &mut Piece)
-    ensures { piece.new ≡ padded_by (fault_held state.now (item_in piece.old)) piece.old }
+fn pad(alloc: Global, state: &State, piece: &mut Piece) -> Result<(), AllocError>
+    ensures { OnOk result
+        (piece.new ≡ padded_by (fault_held state.now (item_in piece.old)) piece.old) }
 {
     let lacks_usages = match piece.item() {
-        Some(item) => state.lacks_usages(&item),
+        Some(item) => state.lacks_usages(alloc, &item)?,
         None => false,
     };
     if lacks_usages {
         let bytes = constant_bytes(piece.bytes());
         rewrite(piece, Mend::NoUsage, bytes);
     }
+    Ok(())
 }
 
 /// Puts these bytes into a piece, where they are an item.

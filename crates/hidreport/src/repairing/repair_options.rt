@@ -1,12 +1,15 @@
 //! How a descriptor is repaired.
 ghost use Rattle.std.specs.Prelude.{◌≡◌, false, None};
 ghost use Rattle.hidreport.specs.declared.parser.push_keeps.PushKeeps.TheVariants as push_keeps;
+ghost use Rattle.hidreport.specs.declared.parser.usages_by.UsagesBy.TheVariants as usages_by;
 
 use crate::parse_options::ParseOptions;
 use crate::parser::push_keeps::PushKeeps;
+use crate::parser::usages_by::UsagesBy;
 
 /// What `repair` mends, and how what it writes is read. The default mends what Linux's hid-core
-/// reads without asking, and reads as it does: a Push keeps globals alone.
+/// reads without asking, and reads as it does: a Push keeps globals alone, and usages are those that
+/// hosts read.
 #[derive(Clone, Copy, Debug, PartialEq, Eq)]
 pub struct RepairOptions {
     /// How the repaired descriptor is read.
@@ -23,7 +26,12 @@ pub struct RepairOptions {
 
 impl Default for RepairOptions {
     ghost is_default = { λ options. options ≡ record {
-      parse = record { push_keeps = push_keeps.Globals; limit = None; longest = None };
+      parse = record {
+        push_keeps = push_keeps.Globals;
+        usages = usages_by.Hosts;
+        limit = None;
+        longest = None;
+      };
       leave_out_cut_short = false;
       unsigned_maxima = false;
     } };
@@ -32,6 +40,7 @@ impl Default for RepairOptions {
         RepairOptions {
             parse: ParseOptions {
                 push_keeps: PushKeeps::Globals,
+                usages: UsagesBy::Hosts,
                 limit: None,
                 longest: None,
             },

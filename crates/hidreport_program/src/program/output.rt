@@ -4,7 +4,8 @@ ghost use Rattle.hidreport_items.specs.Spelling.{item_of};
 ghost use Rattle.hidreport_lists.specs.Itemising.{as_refusal, itemise};
 ghost use Rattle.hidreport_lists.specs.Rebuilt.{rebuild_answer};
 ghost use Rattle.hidreport.specs.Lookup.{find_report};
-ghost use Rattle.hidreport.specs.Options.{parse_limited, reading_of};
+ghost use Rattle.hidreport.specs.Options.{parse_limited, reading_by};
+ghost use Rattle.hidreport.specs.declared.parser.usages_by.UsagesBy.TheVariants as usages_by;
 ghost use Rattle.hidreport_program.specs.Lines.{refusal_line};
 ghost use Rattle.hidreport_program.specs.Output.{output, found_output, items_output};
 ghost use Rattle.hidreport_program.specs.Output.{rebuild_output, refusal_of, values_output};
@@ -15,7 +16,7 @@ use super::fields::add_report;
 use super::items::add_items;
 use super::numbers::add_bytes;
 use hidreport::hid::{ReportDescriptorItems, rebuild};
-use hidreport::{ParseOptions, ParserError, PushKeeps, ReportDescriptor};
+use hidreport::{ParseOptions, ParserError, PushKeeps, ReportDescriptor, UsagesBy};
 use std::alloc::{AllocError, Global};
 
 /// A whole text, and whether it is the command's or a refusal.
@@ -104,12 +105,13 @@ fn values(
     report: &[u8],
 ) -> Result<Written, AllocError>
     ensures text { IfOk result (λ w. string_bytes w.text ≡ (values_output
-        (parse_limited (reading_of push_keeps) limit descriptor.now) report.now).text) }
+        (parse_limited (reading_by push_keeps usages_by.Standard) limit descriptor.now) report.now).text) }
     ensures outcome { IfOk result (λ w. w.outcome ≡ (values_output
-        (parse_limited (reading_of push_keeps) limit descriptor.now) report.now).outcome) }
+        (parse_limited (reading_by push_keeps usages_by.Standard) limit descriptor.now) report.now).outcome) }
 {
     let options = ParseOptions {
         push_keeps,
+        usages: UsagesBy::Standard,
         limit,
         longest: None,
     };

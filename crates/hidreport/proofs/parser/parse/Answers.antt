@@ -23,7 +23,7 @@ returns-in-Err c =
     (arith, c.is_empty-in-loop-rest.ensures, c.loop-rest-test.true) in
     let fault = told_fault c.in-Err.fault in
     refuses-invalid c.refusal.result c.loop-rest.offset (grammar_message fault) _ c.refusal.ensures
-    (sym (c.loop-rest.invariant.walk ∙ walk-some c.args.keeping c.args.limit c.args.bytes.now some)
+    (sym (c.loop-rest.invariant.walk ∙ walk-some c.args.options c.args.bytes.now some)
     ∙ ap (walk_items c.loop-rest.budget c.loop-rest.state)
     (items_from-fault c.loop-rest.offset c.loop-rest.rest.now fault more c.in-Err.ensures.fault))
 
@@ -46,7 +46,7 @@ returns-in-Err-take c =
     (items_from item_of (c.loop-rest.offset + front.size) 0 l))) c.split_at.ensures.back
     ∙ ap (walk_items c.loop-rest.budget c.loop-rest.state) (sym first)
     ∙ c.loop-rest.invariant.walk
-    ∙ walk-some c.args.keeping c.args.limit c.args.bytes.now some)
+    ∙ walk-some c.args.options c.args.bytes.now some)
     (stopped entry c.loop-rest.budget c.loop-rest.state c.in-Err-take.fault
     c.refusal-in-Err-take.result behind c.in-Err-take.ensures.err
     c.refusal-in-Err-take.ensures.grammar c.refusal-in-Err-take.ensures.meaning

@@ -10,7 +10,7 @@ abbrev pub invariant-loop-rest : goal.invariant-loop-rest
 invariant-loop-rest l = record {
   place : l.offset + length l.rest ≡ length l.bytes;
   walk : walk_items l.budget l.state (items_from item_of l.offset 0 l.rest)
-      ≡ walk_items l.fn.limit (first_state l.fn.keeping) (items_from item_of 0 0 l.bytes);
+      ≡ walk_items l.fn.options.limit (first_state l.fn.options) (items_from item_of 0 0 l.bytes);
 }
 
 abbrev pub decreases-loop-rest : goal.decreases-loop-rest

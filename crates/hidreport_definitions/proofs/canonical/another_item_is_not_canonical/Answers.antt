@@ -1,4 +1,3 @@
-use Rattle.std.proofs.Common.{◌≡◌, ap, refl, arith, pos}
 use Rattle.hidreport_definitions.proofs.canonical.another_item_is_not_canonical.Goals as goal
 
 pub returns : goal.returns

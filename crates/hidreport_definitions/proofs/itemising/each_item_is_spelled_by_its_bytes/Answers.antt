@@ -1,4 +1,3 @@
-use Rattle.std.proofs.Common.{refl}
 use Rattle.hidreport_definitions.proofs.itemising.each_item_is_spelled_by_its_bytes.Goals as goal
 
 pub returns-clause-any : goal.returns-clause-any

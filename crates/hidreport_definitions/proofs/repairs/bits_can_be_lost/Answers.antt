@@ -7,12 +7,11 @@ use Rattle.hidreport.specs.ItemType.{ItemType}
 use Rattle.hidreport.specs.Kinds.{Direction, Input, Output}
 use Rattle.hidreport.specs.Making.{extent}
 use Rattle.hidreport.specs.Mending.{PieceRecord, item_in}
-use Rattle.hidreport.specs.Options.{reading_of}
+use Rattle.hidreport.specs.Options.{default_options, reading_of}
 use Rattle.hidreport.specs.Places.{bits_of}
 use Rattle.hidreport.specs.Rebuilt.{items_of}
 use Rattle.hidreport.specs.RepairLaws.{direction_of}
 use Rattle.hidreport.specs.Spelling.{item_of}
-use Rattle.hidreport.specs.declared.parser.push_keeps.PushKeeps.TheVariants as push_keeps
 use Rattle.hidreport_definitions.proofs.repairs.bits_can_be_lost.Goals as goal
 
 abbrev cut_short : Result (List PieceRecord) (ℕ × GrammarFault)
@@ -29,7 +28,7 @@ of_entries (Err fault) = []
 
 -- the bits that the item at 2 would add
 abbrev bits_in : List ItemType → ℕ
-bits_in items = bits_of (extent (reading_of push_keeps.All items 2))
+bits_in items = bits_of (extent (reading_of default_options items 2))
 
 abbrev bits_of_pieces : Result (List PieceRecord) (ℕ × GrammarFault) → ℕ
 bits_of_pieces (Ok ps) = bits_in (filter_map item_in ps)

@@ -1,5 +1,6 @@
 use Rattle.std.proofs.Common.{◌<◌, ℕ, [], ◌∷◌, None, refl, arith}
 use Rattle.std.proofs.lemmas.List.Elements.{All-cons, All-nil}
+use Rattle.hidreport.specs.Options.{default_options}
 use Rattle.hidreport.specs.Entry.{Entry}
 use Rattle.hidreport.specs.GlobalItem.TheVariants as global
 use Rattle.hidreport.specs.ItemType.{ItemType}
@@ -7,7 +8,6 @@ use Rattle.hidreport.specs.ItemType.TheVariants as item
 use Rattle.hidreport.specs.LocalItem.TheVariants as local
 use Rattle.hidreport.specs.Mending.{PieceRecord, holding}
 use Rattle.hidreport.specs.Spelling.{AreBytes}
-use Rattle.hidreport.specs.declared.parser.push_keeps.PushKeeps.TheVariants as push_keeps
 use Rattle.hidreport.proofs.OutlineLemmas.{same-places}
 use Rattle.hidreport_definitions.specs.Repairs.{input}
 use Rattle.hidreport_definitions.proofs.repairs.padding_keeps_its_bits.Goals as goal
@@ -59,5 +59,5 @@ returns c = record {
     );
     offsets = (refl, (refl, (refl, (refl, (refl, (refl, tt))))));
   };
-  places = same-places push_keeps.All _ _ refl;
+  places = same-places default_options _ _ refl;
 }

@@ -1,7 +1,6 @@
 use Rattle.std.proofs.Common.{◌≡◌, ◌≢◌, ◌∙◌, [], length, ap, arith, sym}
 use Rattle.hidreport.specs.Itemising.{itemise}
-use Rattle.hidreport.specs.ItemState.{item_state}
-use Rattle.hidreport.specs.Meaning.{meaning_by, parse}
+use Rattle.hidreport.specs.Meaning.{meaning, parse}
 use Rattle.hidreport.specs.Rebuilt.{canonical_entries, items_of, kept_entries, rebuilt_bytes}
 use Rattle.hidreport.specs.Spelling.{item_of}
 use Rattle.hidreport_example.proofs.LawLemmas.{means, one, rebuilt-of}
@@ -19,7 +18,7 @@ returns c =
     let first = sym (c.in_ok-first.ensures.kept entries c.in_ok-items.ensures.items)
     ∙ c.in_ok-first.ensures.exact in
     let again = c.in_ok-first.ensures.rebuilt entries c.in_ok-items.ensures.items some
-    ∙ means (meaning_by item_state (items_of kept)) kept (canonical_entries 0 (items_of kept))
+    ∙ means (meaning (items_of kept)) kept (canonical_entries 0 (items_of kept))
     c.in_ok-first.first first in
     one (parse (rebuilt_bytes entries)) c.in_ok-first.first c.in_ok-again.again again
     (ap parse (written ∙ sym c.deref.ensures.value) ∙ c.in_ok-again.ensures.exact)

@@ -1,4 +1,4 @@
-use Rattle.std.proofs.Common.{◌≡◌, ◌∙◌, List, Result, Ok, sym, ap}
+use Rattle.std.proofs.Common.{◌∙◌, List, Result, Ok, sym, ap}
 use Rattle.std.specs.Prelude.{ℤ}
 use Rattle.hidreport.specs.Answer.{Refusal}
 use Rattle.hidreport_example.specs.Numbers.{each_number}

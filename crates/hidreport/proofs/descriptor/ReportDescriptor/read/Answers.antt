@@ -13,14 +13,14 @@ returns-in_err-reports c =
     let p = err_from_is_err_and c.from_residual.result c.from_residual.ensures.1 in
     rw (p.1, p.2) (subst (λ (r : Result DescriptorRecord Refusal). Refuses
     c.in_err-reports.field-0.0 r)
-    (bytes-as c.args.push_keeps c.args.limit c.args.bytes.now)
+    (bytes-as c.args.options c.args.bytes.now)
     c.in_err-reports.ensures)
 
 pub returns : goal.returns
-returns c = sym (bytes-as c.args.push_keeps c.args.limit c.args.bytes.now)
+returns c = sym (bytes-as c.args.options c.args.bytes.now)
     ∙ c.in_ok-reports.ensures
 
 pub invariant_of-result : goal.invariant_of-result
-invariant_of-result c = parse-tiled c.args.push_keeps c.args.bytes.now c.in_ok-reports.reports
-    (limited-plain (reading_of c.args.push_keeps) c.args.limit c.args.bytes.now
+invariant_of-result c = parse-tiled c.args.options c.args.bytes.now c.in_ok-reports.reports
+    (limited-plain (reading_of c.args.options) c.args.options.limit c.args.bytes.now
     c.in_ok-reports.reports (returns c))

@@ -11,14 +11,14 @@ use Rattle.hidreport.proofs.TilingWalkLemmas.{parse-tiled}
 use Rattle.hidreport.proofs.descriptor.ReportDescriptor.try_from_with.Goals as goal
 
 pub returns-in-Some-clause-struck : goal.returns-in-Some-clause-struck
-returns-in-Some-clause-struck c = parse-struck c.args.options.push_keeps c.args.bytes.now
+returns-in-Some-clause-struck c = parse-struck c.args.options c.args.bytes.now
 
 pub returns-in-Some-clause-kept : goal.returns-in-Some-clause-kept
-returns-in-Some-clause-kept c = parse-kept c.args.options.push_keeps c.args.bytes.now
+returns-in-Some-clause-kept c = parse-kept c.args.options c.args.bytes.now
 
 pub returns-in-Some-clause-rebuilt : goal.returns-in-Some-clause-rebuilt
 returns-in-Some-clause-rebuilt c =
-    parse-rebuilt (reading_of c.args.options.push_keeps) c.args.bytes.now
+    parse-rebuilt c.args.options c.args.bytes.now
 
 pub returns-clause-exact : goal.returns-clause-exact
 returns-clause-exact c = subst (λ (r : Result DescriptorRecord Refusal). Answers c.read.result r)
@@ -27,25 +27,25 @@ returns-clause-exact c = subst (λ (r : Result DescriptorRecord Refusal). Answer
 
 pub returns-clause-bounded : goal.returns-clause-bounded
 returns-clause-bounded c = found-ok c.read.result (λ d e. limited-bounded
-    c.args.options.push_keeps c.args.options.limit c.args.bytes.now d e) c.read.ensures
+    c.args.options c.args.options.limit c.args.bytes.now d e) c.read.ensures
 
 pub returns-clause-plain : goal.returns-clause-plain
 returns-clause-plain c = found-ok c.read.result (λ d e. limited-plain
-    (reading_of c.args.options.push_keeps) c.args.options.limit c.args.bytes.now d e) c.read.ensures
+    (reading_of c.args.options) c.args.options.limit c.args.bytes.now d e) c.read.ensures
 
 pub returns-clause-tiled : goal.returns-clause-tiled
-returns-clause-tiled c = found-ok c.read.result (λ d e. parse-tiled c.args.options.push_keeps
-    c.args.bytes.now d (limited-plain (reading_of c.args.options.push_keeps)
+returns-clause-tiled c = found-ok c.read.result (λ d e. parse-tiled c.args.options
+    c.args.bytes.now d (limited-plain (reading_of c.args.options)
     c.args.options.limit c.args.bytes.now d e)) c.read.ensures
 
 pub returns-clause-struck : goal.returns-clause-struck
-returns-clause-struck c = parse-struck c.args.options.push_keeps c.args.bytes.now
+returns-clause-struck c = parse-struck c.args.options c.args.bytes.now
 
 pub returns-clause-kept : goal.returns-clause-kept
-returns-clause-kept c = parse-kept c.args.options.push_keeps c.args.bytes.now
+returns-clause-kept c = parse-kept c.args.options c.args.bytes.now
 
 pub returns-clause-rebuilt : goal.returns-clause-rebuilt
-returns-clause-rebuilt c = parse-rebuilt (reading_of c.args.options.push_keeps) c.args.bytes.now
+returns-clause-rebuilt c = parse-rebuilt c.args.options c.args.bytes.now
 
 pub returns-clause-own_bytes : goal.returns-clause-own_bytes
 returns-clause-own_bytes c = no-mismatch c.read.result (parse_as c.args.options c.args.bytes.now)

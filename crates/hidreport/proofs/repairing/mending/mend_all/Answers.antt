@@ -21,7 +21,7 @@ returns-in-Err-clause-err c =
     c.at.ensures.memory
     (λ f stops. done-not c.args.options c.args.pieces.now c.loop-piece.pieces
     c.loop-piece.piece-index c.loop-piece.budget c.loop-piece.state piece c.mend.new.piece
-    c.piece-item.result f c.loop-piece.invariant c.loop-piece-test.true refl c.mend.ensures
+    c.piece-item.result f c.loop-piece.invariant c.loop-piece-test.true refl c.in_ok-mend.ensures
     (ap (stop_held c.loop-piece.budget c.loop-piece.state) item ∙ stops)
     ∙ ap (λ n. Err (refusal_at n f)) (sym c.offset-offset.ensures))
 
@@ -34,7 +34,7 @@ loop-piece-preserved c =
     done-more c.args.options c.args.pieces.now c.loop-piece.pieces c.loop-piece.piece-index
     c.loop-piece.budget c.take.new.budget c.loop-piece.state c.take.new.self piece
     c.mend.new.piece c.piece-item.result c.loop-piece.invariant c.loop-piece-test.true refl
-    c.mend.ensures
+    c.in_ok-mend.ensures
     (ap (stop_held c.loop-piece.budget c.loop-piece.state) item
     ∙ taken-on c.loop-piece.budget c.loop-piece.state c.take.new.self c.in-Some.item
     c.in_default.ensures.ok c.in_default.ensures.within)
@@ -54,7 +54,7 @@ loop-piece-preserved-in-None c =
     done-more c.args.options c.args.pieces.now c.loop-piece.pieces c.loop-piece.piece-index
     c.loop-piece.budget c.loop-piece.budget c.loop-piece.state c.loop-piece.state piece
     c.mend.new.piece c.piece-item.result c.loop-piece.invariant c.loop-piece-test.true refl
-    c.mend.ensures (ap (stop_held c.loop-piece.budget c.loop-piece.state) item)
+    c.in_ok-mend.ensures (ap (stop_held c.loop-piece.budget c.loop-piece.state) item)
     (subst (λ xs. Reached c.args.options.parse xs c.loop-piece.budget c.loop-piece.state)
     (sym (ap (λ (o : Option ItemType). before ++ option_to_list o) item ∙ append-nil before))
     c.loop-piece.invariant.reached)

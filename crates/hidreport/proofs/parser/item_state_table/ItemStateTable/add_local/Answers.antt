@@ -1,34 +1,36 @@
 use Rattle.std.proofs.Common.{◌∷◌, ◌++◌, [], ◌∙◌, List, ap, sym, subst, reverse}
 use Rattle.hidreport_items.specs.declared.item.ItemType.TheVariants as items
-use Rattle.hidreport_items.specs.declared.local.LocalItem.{LocalItem}
 use Rattle.hidreport.specs.ItemState.{ItemState}
 use Rattle.hidreport.specs.Parser.ItemStates.{ItemStates, item_state_of}
 use Rattle.hidreport.specs.Parser.Journal.{Fits, undone_stack}
 use Rattle.hidreport.specs.Parser.Machine.{next_item_state}
+use Rattle.hidreport.specs.declared.parser.paged_local.PagedLocal.{PagedLocal}
 use Rattle.hidreport.proofs.JournalLemmas.{fits-added, undone-added}
 use Rattle.hidreport.proofs.parser.item_state_table.ItemStateTable.add_local.Goals as goal
 
 pub invariant_of-self-2 : goal.invariant_of-self-2
 invariant_of-self-2 c =
     let s = c.self.inside in
-    subst (λ (ls : List LocalItem). Fits s.keeping s.journal ls) (sym c.in_ok-add.ensures.ok)
-    (fits-added s.keeping s.journal s.locals (c.args.item ∷ []) c.self.invariant)
+    let local : PagedLocal = record { page = s.globals.usage_page; item = c.args.item } in
+    subst (λ (ls : List PagedLocal). Fits s.keeping s.journal ls) (sym c.in_ok-add.ensures.ok)
+    (fits-added s.keeping s.journal s.locals (local ∷ []) c.self.invariant)
 
 pub returns : goal.returns
 returns c =
     let s = c.self.inside in
-    ap (λ (ls : List LocalItem). record {
+    let local : PagedLocal = record { page = s.globals.usage_page; item = c.args.item } in
+    ap (λ (ls : List PagedLocal). record {
       keeping = s.keeping;
-      now = item_state_of s.globals ls;
+      now = item_state_of s.usages_by s.globals ls;
       stack =
-          reverse (undone_stack s.keeping s.journal s.globals ls);
+          reverse (undone_stack s.keeping s.usages_by s.journal s.globals ls);
     }) c.in_ok-add.ensures.ok
     ∙ ap (λ (l : List ItemState). record {
       keeping = s.keeping;
-      now = item_state_of s.globals (s.locals ++ c.args.item ∷ []);
+      now = item_state_of s.usages_by s.globals (s.locals ++ local ∷ []);
       stack =
           reverse l;
-    }) (undone-added s.keeping s.journal s.globals s.locals (c.args.item ∷ [])
+    }) (undone-added s.keeping s.usages_by s.journal s.globals s.locals (local ∷ [])
     c.self.invariant)
     ∙ ap (λ (f : ItemStates). record f { now = next_item_state f.now (items.Local c.args.item) })
     c.self.view_is

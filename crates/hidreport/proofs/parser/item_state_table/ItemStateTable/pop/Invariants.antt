@@ -6,9 +6,10 @@ use Rattle.hidreport.proofs.parser.item_state_table.ItemStateTable.pop.Given as 
 -- what was taken back so far changes nothing that is kept, and no locals that aren't
 abbrev pub invariant-loop-entry : goal.invariant-loop-entry
 invariant-loop-entry l =
-    (undone_stack l.self-inside.keeping l.self-inside.journal l.self-inside.globals
+    (undone_stack l.self-inside.keeping l.self-inside.usages_by l.self-inside.journal l.self-inside.globals
     l.self-inside.locals
-    ≡ undone_stack l.initial.self-inside.keeping l.initial.self-inside.journal
+    ≡ undone_stack l.initial.self-inside.keeping l.initial.self-inside.usages_by
+    l.initial.self-inside.journal
     l.initial.self-inside.globals l.initial.self-inside.locals)
     × Fits l.self-inside.keeping l.self-inside.journal l.self-inside.locals
     × (l.self-inside.keeping ≡ l.initial.self-inside.keeping)

@@ -2,7 +2,8 @@ use Rattle.std.proofs.Common.{◌≡◌, ◌++◌, ◌∙◌, ℕ, List, [], ◌
 use Rattle.std.proofs.Common.{append_assoc, append-nil, arith}
 use Rattle.std.proofs.lemmas.List.{map-append}
 use Rattle.hidreport.specs.Fields.{each_from}
-use Rattle.hidreport.specs.Parser.Layout.{variable_of}
+use Rattle.hidreport.specs.Parser.Layout.{variable_of, variable_with}
+use Rattle.hidreport.specs.declared.field.usage.Usage.{Usage}
 use Rattle.hidreport.specs.Records.{FieldRecord}
 use Rattle.hidreport.specs.Parser.Usages.{usage_list}
 use Rattle.hidreport.specs.Views.{field_record}
@@ -27,7 +28,8 @@ loop-c-preserved c =
     ∙ map-append field_record c.loop-c.fields.items (c.variable_field.result ∷ [])
     ∙ ap (λ (l : List FieldRecord). l ++ record_of ∷ []) c.loop-c.invariant.0
     ∙ append_assoc before (each_from made 0 k) (record_of ∷ [])
-    ∙ ap (λ (r : FieldRecord). before ++ (each_from made 0 k ++ r ∷ [])) c.variable_field.ensures
+    ∙ ap (λ (r : FieldRecord). before ++ (each_from made 0 k ++ r ∷ []))
+    (c.variable_field.ensures ∙ ap (λ (u : Usage). variable_with c.args.self.now u k) c.at.ensures)
     ∙ ap (λ (n : ℕ). before ++ (each_from made 0 k ++ made n ∷ [])) (sym (zero-add k))
     ∙ ap (λ (l : List FieldRecord). before ++ l)
     (sym (each_from-next made 0 k) ∙ ap (each_from made 0) (sym (add-one k))) in (

@@ -12,7 +12,8 @@ use Rattle.hidreport.proofs.parser.locals.Locals.add.Goals.{in_default-maximum_o
 
 pub invariant_of-self-2 : goal.invariant_of-self-2
 invariant_of-self-2 c =
-    let x = c.args.item in
+    let local = c.args.local in
+    let x = local.item in
     let s0 = c.self.inside in
     let s1 = c.match-local_usage.self-inside in
     let s2 = c.match-minimum_of.self-inside in
@@ -87,13 +88,13 @@ invariant_of-self-2 c =
           ∙ ap (λ o. s2.maxima.items ++ option_to_list o) (sym w.in_default-maximum_of.is ∙ c.maximum_of.ensures)
     ] in
     let more = c.push_reserved.ensures.items
-    ∙ ap (λ l. l ++ x ∷ []) (items3 ∙ items2 ∙ items1) in
+    ∙ ap (λ l. l ++ local ∷ []) (items3 ∙ items2 ∙ items1) in
     let old = s0.items.items in
     let new = c.push_reserved.new.self.items in (
-      kind-added local_usage old new x s0.usages s3.usages more c.self.invariant.0
+      kind-added local_usage old new local s0.usages s3.usages more c.self.invariant.0
           (usages3 ∙ usages2 ∙ usages1),
-      kind-added minimum_of old new x s0.minima.items s3.minima.items more c.self.invariant.1
+      kind-added minimum_of old new local s0.minima.items s3.minima.items more c.self.invariant.1
           (minima3 ∙ minima2 ∙ ap (λ l. l ++ option_to_list (minimum_of x)) minima1),
-      kind-added maximum_of old new x s0.maxima.items s3.maxima.items more c.self.invariant.2
+      kind-added maximum_of old new local s0.maxima.items s3.maxima.items more c.self.invariant.2
           (maxima3 ∙ ap (λ l. l ++ option_to_list (maximum_of x)) (maxima2 ∙ maxima1)),
     )

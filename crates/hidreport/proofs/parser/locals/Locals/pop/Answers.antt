@@ -8,7 +8,7 @@ use Rattle.hidreport.proofs.parser.locals.Locals.pop.Goals as goal
 pub invariant_of-self-2 : goal.invariant_of-self-2
 invariant_of-self-2 c =
     let s = c.self.inside in
-    let x = c.in-Some.item in
+    let x = c.in-Some.local in
     let old = s.items.items in
     let new = c.pop.new.self.items in
     let less : old ≡ new ++ x ∷ [] =

@@ -38,7 +38,8 @@ returns-clause-held c =
       opened = c.keep.new.self.list;
       collections = c.keep.new.self.count;
     } in
-    let g = item_state_of c.globals-globals.result.now s.item_states.now.locals in
+    let g = item_state_of s.item_states.now.usages_by c.globals-globals.result.now
+    s.item_states.now.locals in
     let key = c.slot_of-slot.ensures.key
     ∙ ap (λ (rs : List ReportRecord). first_of c.globals-globals.result.now.report_id
     (first_id rs)) c.of-reports.ensures in
@@ -70,13 +71,14 @@ returns-clause-held c =
     count
     c.globals-globals.ensures c.in_ok-shared_by.ensures.all (sym c.in-Some.ensures)
     c.in-Ok.ensures.usages key first c.in_ok-bits.ensures.fits.0
-    (ap with c.measures.ensures) c.in_ok-add.ensures c.field_count-field_count.ensures)
+    (ap with (c.measures.ensures s.item_states.now.usages_by)) c.in_ok-add.ensures c.field_count-field_count.ensures)
 
 pub returns-clause-within : goal.returns-clause-within
 returns-clause-within c =
     let s = c.self.inside in
     let x = c.args.item.now in
-    let g = item_state_of c.globals-globals.result.now s.item_states.now.locals in
+    let g = item_state_of s.item_states.now.usages_by c.globals-globals.result.now
+    s.item_states.now.locals in
     let weighs = data-weighs _ c.args.self.now g (direction_of x.direction) (item_flags x)
     c.in-Some.extent c.in-Ok.usages
     c.field_count.result c.weight_of_each-each.result c.weight.result c.self.view_is
@@ -88,7 +90,8 @@ pub returns-clause-left : goal.returns-clause-left
 returns-clause-left c =
     let s = c.self.inside in
     let x = c.args.item.now in
-    let g = item_state_of c.globals-globals.result.now s.item_states.now.locals in
+    let g = item_state_of s.item_states.now.usages_by c.globals-globals.result.now
+    s.item_states.now.locals in
     let weighs = data-weighs _ c.args.self.now g (direction_of x.direction) (item_flags x)
     c.in-Some.extent c.in-Ok.usages
     c.field_count.result c.weight_of_each-each.result c.weight.result c.self.view_is
@@ -100,7 +103,8 @@ pub returns-in_err-spend-clause-err : goal.returns-in_err-spend-clause-err
 returns-in_err-spend-clause-err c =
     let s = c.self.inside in
     let x = c.args.item.now in
-    let g = item_state_of c.globals-globals.result.now s.item_states.now.locals in
+    let g = item_state_of s.item_states.now.usages_by c.globals-globals.result.now
+    s.item_states.now.locals in
     let key = c.slot_of-slot.ensures.key
     ∙ ap (λ (rs : List ReportRecord). first_of c.globals-globals.result.now.report_id
     (first_id rs)) c.of-reports.ensures in

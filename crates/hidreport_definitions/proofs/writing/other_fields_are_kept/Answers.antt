@@ -1,0 +1,37 @@
+use Rattle.std.proofs.Common.{◌≢◌, ℕ, [], ◌∷◌, None, Some, inl, inr, refl, arith}
+use Rattle.std.specs.Prelude.{pos}
+use Rattle.hidreport.specs.Tiling.{IsFilled}
+use Rattle.hidreport_definitions.specs.Summary.{of_report, variable_at}
+use Rattle.hidreport_definitions.specs.Tiled.{byte_field, report_with}
+use Rattle.hidreport_definitions.proofs.writing.other_fields_are_kept.Goals as goal
+
+plain : IsFilled (report_with None 16 (variable_at 0 8 (pos 0) ∷ variable_at 8 16 (pos 0) ∷ []))
+plain = record {
+  some = λ e. cc;
+  covers = (refl, omega arith, (refl, omega arith, refl));
+  elements = (tt, (tt, tt));
+  own = (inl refl, (inl refl, tt));
+  ranges = (tt, (tt, tt));
+}
+
+with_id : IsFilled (report_with (Some 7) 24
+    (byte_field 7 0 ∷ of_report 7 (variable_at 16 24 (pos 0)) ∷ []))
+with_id = record {
+  some = λ e. cc;
+  covers = (refl, omega arith, (refl, omega arith, refl));
+  elements = (tt, (tt, tt));
+  own = (inr refl, (inr refl, tt));
+  ranges = (tt, (tt, tt));
+}
+
+zero-one : ◌≢◌ {A = ℕ} 0 1
+zero-one e = omega (arith, e)
+
+one-zero : ◌≢◌ {A = ℕ} 1 0
+one-zero e = omega (arith, e)
+
+pub returns : goal.returns
+returns c = record {
+  behind = λ old new law. law.apart _ 0 1 _ plain refl refl zero-one;
+  before = λ old new law. law.apart _ 1 0 _ with_id refl refl one-zero;
+}
