@@ -28,6 +28,9 @@ enum Kind {
     /// What a Push keeps.
     Push,
 
+    /// By which rule usages are found.
+    Usages,
+
     /// When names are in colour.
     Colour,
 
@@ -43,12 +46,14 @@ type Argument = (&'static str, Kind, &'static str);
 
 static PUSHES: [&str; 2] = ["globals", "all"];
 
+static USAGES: [&str; 2] = ["hosts", "standard"];
+
 static COLOURS: [&str; 3] = ["auto", "always", "never"];
 
 static DIRECTIONS: [&str; 3] = ["input", "output", "feature"];
 
 /// The options of all commands.
-static OPTIONS: [Argument; 8] = [
+static OPTIONS: [Argument; 9] = [
     (
         "form",
         Kind::Form,
@@ -73,6 +78,11 @@ static OPTIONS: [Argument; 8] = [
         "push",
         Kind::Push,
         "What a Push keeps: globals, as hosts read, or all",
+    ),
+    (
+        "usages",
+        Kind::Usages,
+        "How usages are found: as hosts read them, or by the standard's letter",
     ),
     (
         "lenient",
@@ -256,6 +266,9 @@ fn argument_of<'a>(alloc: Global, argument: Argument) -> Arg<'a> {
         Kind::Form => choice(arg, name, "FORM", &FORM_WORDS).global(true),
         Kind::Push => choice(arg, name, "WHAT", &PUSHES)
             .default_value("globals")
+            .global(true),
+        Kind::Usages => choice(arg, name, "RULE", &USAGES)
+            .default_value("hosts")
             .global(true),
         Kind::Colour => choice(arg, name, "WHEN", &COLOURS)
             .default_value("auto")

@@ -8,12 +8,14 @@ mod diff;
 mod fields;
 mod findings;
 mod map;
+mod moved_usages;
+mod other_usages;
 mod record;
 mod set;
 mod target;
 mod values;
 
-use crate::input::Given;
+use crate::input::{Given, descriptor_named};
 use crate::settings::Settings;
 use anyhow::{Result, anyhow, bail};
 pub use check::Check;
@@ -27,6 +29,7 @@ pub use map::Map;
 pub use record::Record;
 pub use set::{Set, id_named};
 use std::alloc::Global;
+use std::rt::Files;
 pub use target::{TARGETS, Target};
 pub use values::Values;
 
@@ -40,6 +43,16 @@ fn descriptor_of(given: &Given) -> &[u8] {
         Some(device) => device.descriptor.as_slice(),
         None => none,
     }
+}
+
+/// The descriptor of an input, parsed.
+fn descriptor_by<R: AllocGlobal + Files + Input + Eprint>(
+    rt: &R,
+    settings: &Settings,
+    name: &str,
+) -> Result<ReportDescriptor> {
+    let given = descriptor_named(rt, settings, name)?;
+    parsed(rt.alloc(), settings, descriptor_of(&given))
 }
 
 /// Refuses a descriptor of more bytes than are read.

@@ -3,5 +3,7 @@
 mod changes;
 mod pairing;
 mod report_diff;
+mod runs;
 
 pub use report_diff::{Changed, ReportDiff, id_alone_changed};
+pub use runs::add_runs;

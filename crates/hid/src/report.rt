@@ -1,5 +1,6 @@
 //! Reports: what they are called, what their bytes say, and their bits as rows.
 
+mod choices;
 mod line;
 mod reading;
 mod rows;
@@ -7,6 +8,7 @@ mod svg;
 
 use crate::words::title_of;
 use anyhow::Result;
+pub use choices::{add_choice, add_choices};
 use hidreport::{Direction, RDescReport, Report, ReportDescriptor};
 pub use line::Lines;
 pub use reading::{Amount, Choice, amount_of, choice_of, element_width, is_outside, readable};

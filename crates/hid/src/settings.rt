@@ -1,7 +1,7 @@
 //! What the options of all commands say.
 use crate::input::Form;
 use clap::ArgMatches;
-use hidreport::{ParseOptions, PushKeeps, RepairOptions};
+use hidreport::{ParseOptions, PushKeeps, RepairOptions, UsagesBy};
 
 /// The most bytes of a file that is read whole.
 pub const LONGEST_INPUT: u64 = 64 * 1024 * 1024;
@@ -36,6 +36,7 @@ impl Settings {
     pub fn of(matches: &ArgMatches, is_terminal: bool) -> Settings {
         let limit = matches.get_one::<usize>("limit").unwrap_or(LIMIT);
         let keeps_all = matches.get_str("push") == Some("all");
+        let by_standard = matches.get_str("usages") == Some("standard");
         Settings {
             form: matches.get_str("form").and_then(Form::named),
             report_form: matches.get_str("report-form").and_then(Form::named),
@@ -45,6 +46,11 @@ impl Settings {
                     PushKeeps::All
                 } else {
                     PushKeeps::Globals
+                },
+                usages: if by_standard {
+                    UsagesBy::Standard
+                } else {
+                    UsagesBy::Hosts
                 },
                 limit: Some(limit),
                 longest: longest(limit),

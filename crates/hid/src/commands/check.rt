@@ -47,7 +47,7 @@ fn checked(alloc: Global, settings: &Settings, bytes: &[u8]) -> Result<Vec<Findi
     if let Err(ParserError::OutOfMemory) = parsed {
         bail!("out of memory");
     }
-    Ok(findings(alloc, bytes, &parsed)?)
+    Ok(findings(alloc, settings, bytes, &parsed)?)
 }
 
 fn show_findings<R: AllocGlobal + Print>(

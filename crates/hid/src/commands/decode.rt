@@ -1,11 +1,12 @@
 //! `hid decode`: the items of a descriptor in words.
 use crate::commands::descriptor_of;
+use crate::commands::moved_usages::StoodUsages;
 use crate::ending::Ending;
 use crate::input::descriptor_named;
 use crate::items::{ItemCursor, ItemState, PlacedItem};
 use crate::output::{add_bytes, add_json, digits_of, flush, flush_piece};
 use crate::settings::Settings;
-use crate::words::{add_item, add_spaces, number_of};
+use crate::words::{add_depth, add_item, number_of};
 use anyhow::{Result, bail};
 use hidreport::hid::{ItemType, MainItem};
 use hidreport::{ParserError, ReportDescriptor};
@@ -14,9 +15,6 @@ use serde::Serialize;
 use std::alloc::AllocError;
 use std::fmt::Write;
 use std::rt::Files;
-
-/// How many collections deep a line is indented; behind that its depth is a number.
-const DEEPEST: usize = 16;
 
 /// How many bytes that are no item stand in a line.
 const IN_A_LINE: usize = 16;
@@ -44,6 +42,13 @@ struct ItemObject<'a> {
 struct FaultObject<'a> {
     offset: Option<usize>,
     fault: &'a str,
+}
+
+/// What is said of an item, as JSON.
+#[derive(Drop, Serialize)]
+struct RemarkObject<'a> {
+    offset: usize,
+    remark: &'a str,
 }
 
 /// Bytes that are no item, as JSON.
@@ -90,6 +95,7 @@ fn show_items<R: AllocGlobal + Print>(
 ) -> Result<()> {
     let mut text = String::new(rt.alloc());
     let mut state = ItemState::new(rt.alloc());
+    let mut stood = StoodUsages::new(rt.alloc(), settings.parse);
     let mut cursor = ItemCursor::new(bytes);
     let mut is_told = fault.is_none();
     for _ in 0..bytes.len() {
@@ -97,6 +103,10 @@ fn show_items<R: AllocGlobal + Print>(
             break;
         };
         add_entry(&mut text, settings, &entry, &state)?;
+        if let Some(remark) = stood.remark(rt.alloc(), &entry.item, state.page())? {
+            add_remark(&mut text, settings, entry.offset, remark.as_str())?;
+        }
+        stood.pass(&entry.item, state.page())?;
         state.pass(&entry)?;
         if !is_told && offset_of(fault) == Some(entry.offset) {
             add_fault(&mut text, settings, fault)?;
@@ -160,10 +170,7 @@ fn add_line(
     is_coloured: bool,
 ) -> Result<(), AllocError> {
     add_place(text, entry.offset, entry.bytes)?;
-    add_spaces(text, depth.min(DEEPEST) * 2)?;
-    if DEEPEST < depth {
-        write!(text, "{depth}> ")?;
-    }
+    add_depth(text, depth)?;
     if is_coloured {
         text.push_str(colour_of(&entry.item))?;
     }
@@ -212,6 +219,14 @@ pub fn offset_of(fault: Option<&ParserError>) -> Option<usize> {
         Some(ParserError::BudgetExceeded { offset }) => Some(*offset),
         _ => None,
     }
+}
+
+/// Appends what is said of an item, in a line that `hid compile` passes over as that of a fault.
+fn add_remark(text: &mut String, settings: &Settings, offset: usize, remark: &str) -> Result<()> {
+    if settings.is_json {
+        return add_json(text, &RemarkObject { offset, remark });
+    }
+    Ok(writeln!(text, "{offset:>5}! {remark}")?)
 }
 
 /// Appends the line of a fault.

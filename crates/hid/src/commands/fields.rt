@@ -1,20 +1,16 @@
 //! `hid fields`: the reports of a descriptor with their fields, inside their collections.
-use crate::commands::{descriptor_of, parsed};
+use crate::commands::descriptor_by;
 use crate::ending::Ending;
 use crate::field_object::add_field_object;
-use crate::input::descriptor_named;
 use crate::output::{flush, flush_piece};
 use crate::report::add_title;
 use crate::settings::Settings;
-use crate::words::{add_collection, add_field, add_spaces};
+use crate::words::{add_collection, add_depth, add_field, add_spaces, indent_of};
 use anyhow::Result;
 use hidreport::{Collection, Direction, Field, RDescReport, Report};
 use std::alloc::AllocError;
 use std::fmt::Write;
 use std::rt::Files;
-
-/// How many collections deep a field is indented; behind that its depth is a number.
-const DEEPEST: usize = 16;
 
 /// Shows the reports of a descriptor with their fields.
 #[derive(Clone, Copy)]
@@ -30,8 +26,7 @@ impl<'a> Fields<'a> {
         rt: &R,
         settings: &Settings,
     ) -> Result<Ending> {
-        let given = descriptor_named(rt, settings, self.file)?;
-        let descriptor = parsed(rt.alloc(), settings, descriptor_of(&given))?;
+        let descriptor = descriptor_by(rt, settings, self.file)?;
         let mut text = String::new(rt.alloc());
         for direction in Direction::ALL {
             for report in descriptor.reports(direction) {
@@ -111,18 +106,9 @@ fn add_opened(
 ) -> Result<(), AllocError> {
     let shared = Collection::shared(before, around);
     for (depth, collection) in around.iter().enumerate().skip(shared) {
-        let depth = depth.saturating_add(1);
-        add_spaces(text, indent_of(depth))?;
-        if DEEPEST < depth {
-            write!(text, "{depth}> ")?;
-        }
+        add_depth(text, depth.saturating_add(1))?;
         add_collection(text, collection)?;
         text.push_str("\n")?;
     }
     Ok(())
-}
-
-/// The spaces before what is so deep.
-fn indent_of(depth: usize) -> usize {
-    depth.min(DEEPEST) * 2
 }

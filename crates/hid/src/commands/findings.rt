@@ -1,7 +1,9 @@
 //! What is odd in a descriptor, and what the standard says.
 use crate::commands::decode::{offset_of, remark_of};
+use crate::commands::other_usages::tell_other_usages;
 use crate::items::{ItemCursor, ItemState, PlacedItem};
 use crate::report::add_title;
+use crate::settings::Settings;
 use hidreport::hid::{CollectionItem, GlobalItem, ItemType, LocalItem, MainDataItem, MainItem};
 use hidreport::{Direction, Field, ParserError, RDescReport, Report, ReportDescriptor};
 use std::alloc::{AllocError, Global};
@@ -30,13 +32,17 @@ struct Watch {
 /// All that is odd, in the order of the offsets; what is of no item comes last.
 pub fn findings(
     alloc: Global,
+    settings: &Settings,
     bytes: &[u8],
     parsed: &Result<ReportDescriptor, ParserError>,
 ) -> Result<Vec<Finding>, AllocError> {
     let mut watch = Watch::new(alloc);
     watch.pass_all(bytes)?;
     match parsed {
-        Ok(descriptor) => watch.tell_sizes(descriptor)?,
+        Ok(descriptor) => {
+            watch.tell_sizes(descriptor)?;
+            tell_other_usages(alloc, settings, bytes, descriptor, &mut watch.findings)?;
+        }
         Err(fault) => watch.tell_refusal(fault)?,
     }
     let mut findings = watch.findings;

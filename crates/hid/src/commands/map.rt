@@ -1,7 +1,6 @@
 //! `hid map`: the bits of each report, a row for each byte, bit 7 on the left.
-use crate::commands::{descriptor_of, parsed};
+use crate::commands::descriptor_by;
 use crate::ending::Ending;
-use crate::input::descriptor_named;
 use crate::output::{flush, flush_piece, show};
 use crate::report::{Cell, Picture, Row, add_title, rows_of};
 use crate::settings::Settings;
@@ -37,8 +36,7 @@ impl<'a> Map<'a> {
         rt: &R,
         settings: &Settings,
     ) -> Result<Ending> {
-        let given = descriptor_named(rt, settings, self.file)?;
-        let descriptor = parsed(rt.alloc(), settings, descriptor_of(&given))?;
+        let descriptor = descriptor_by(rt, settings, self.file)?;
         let most = if self.shows_all {
             usize::MAX
         } else {

@@ -9,7 +9,7 @@ use crate::settings::Settings;
 use crate::value_object::add_value_objects;
 use anyhow::{Context, Result, bail};
 use hidreport::{Direction, ReportDescriptor};
-use std::alloc::{AllocError, Global};
+use std::alloc::AllocError;
 use std::fmt::Write;
 use std::fs;
 use std::io::Read;
@@ -68,14 +68,23 @@ impl<'a> Record<'a> {
         let known = all_parsed(rt.alloc(), settings, &given)?;
         let mut recording = self.recording(rt, settings, &given, &known)?;
         let stream = Stream::new(rt.alloc(), settings.report_form, is_node(self.stream));
+        self.follow_named(rt, &known, stream, &mut recording)
+            .context(format_args!("{}", self.stream))
+    }
+
+    /// Shows what the stream's file or the standard input gives.
+    fn follow_named<R: AllocGlobal + Clock + Files + Input + Print + Eprint>(
+        &self,
+        rt: &R,
+        known: &[ReportDescriptor],
+        stream: Stream,
+        recording: &mut Recording,
+    ) -> Result<Ending> {
         if self.stream == "-" {
-            return follow(rt, rt.reader(), self.stream, &known, stream, &mut recording);
+            return follow(rt, rt.reader(), self.stream, known, stream, recording);
         }
-        let file = fs::open(rt, self.stream).context(format_args!("{}", self.stream))?;
-        follow(rt, file, self.stream, &known, stream, &mut recording).context(format_args!(
-            "{}",
-            self.stream
-        ))
+        let file = fs::open(rt, self.stream)?;
+        follow(rt, file, self.stream, known, stream, recording)
     }
 
     /// What is shown before the first report.

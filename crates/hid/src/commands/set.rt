@@ -1,8 +1,7 @@
 //! `hid set`: the bytes of a report, from names and numbers.
+use crate::commands::descriptor_by;
 use crate::commands::target::Target;
-use crate::commands::{descriptor_of, parsed};
 use crate::ending::Ending;
-use crate::input::descriptor_named;
 use crate::nearest::add_nearest;
 use crate::output::escaped;
 use crate::report::{Choice, add_reports, choice_of, is_outside};
@@ -71,8 +70,7 @@ impl<'a> Set<'a> {
         rt: &R,
         settings: &Settings,
     ) -> Result<Ending> {
-        let given = descriptor_named(rt, settings, self.file)?;
-        let descriptor = parsed(rt.alloc(), settings, descriptor_of(&given))?;
+        let descriptor = descriptor_by(rt, settings, self.file)?;
         let Some(report) = descriptor.report(self.direction, self.id) else {
             return Err(no_report(rt.alloc(), &descriptor, self.direction));
         };
@@ -142,25 +140,19 @@ fn check_size(report: &RDescReport, settings: &Settings) -> Result<()> {
 fn assignment_of(word: &str) -> Option<Assignment<'_>> {
     let (name, number) = word.rsplit_once("=")?;
     let number = number_of(number)?;
-    match name.rsplit_once("#") {
-        Some((own, place)) => match place.parse::<usize>() {
-            Ok(place) if 0 < place => Some(Assignment {
-                name: own,
-                before: place - 1,
-                number,
-            }),
-            _ => Some(Assignment {
-                name,
-                before: 0,
-                number,
-            }),
-        },
-        None => Some(Assignment {
-            name,
-            before: 0,
-            number,
-        }),
-    }
+    let (name, before) = placed_name(name).unwrap_or((name, 0));
+    Some(Assignment {
+        name,
+        before,
+        number,
+    })
+}
+
+/// A name before `#`, and how many fields of this name stand before the one with the number behind.
+fn placed_name(name: &str) -> Option<(&str, usize)> {
+    let (own, place) = name.rsplit_once("#")?;
+    let place = place.parse::<usize>().ok()?;
+    Some((own, place.checked_sub(1)?))
 }
 
 /// A number in decimal digits, or in hexadecimal ones behind `0x`.

@@ -4,12 +4,14 @@ use crate::ending::Ending;
 use crate::input::{Form, Given, GivenReport, descriptors_named, reports_named};
 use crate::output::{flush, flush_piece, show};
 use crate::report::{
-    Amount, Choice, add_reports, add_title, amount_of, choice_of, element_width, is_outside,
+    Amount, add_choice, add_choices, add_reports, add_title, amount_of, element_width, is_outside,
     readable, tell_size,
 };
 use crate::settings::Settings;
 use crate::value_object::add_value_objects;
-use crate::words::{add_measured, add_page, add_usage, add_usage_on_page, measured_value, word_of};
+use crate::words::{
+    add_array_name, add_measured, add_usage, add_usage_on_page, measured_value, word_of,
+};
 use anyhow::{Context, Result, anyhow, bail, ensure};
 use hidreport::{
     ArrayField, Direction, Field, RDescReport, Report, ReportDescriptor, VariableField,
@@ -17,6 +19,9 @@ use hidreport::{
 use std::alloc::AllocError;
 use std::fmt::Write;
 use std::rt::Files;
+
+/// What stands behind a value that no usage has.
+const UNLISTED: &str = ", which no usage has";
 
 /// Shows the values of reports.
 #[derive(Drop)]
@@ -177,44 +182,14 @@ fn add_number(text: &mut String, field: &VariableField, value: i64) -> Result<()
 /// Appends the usages that an array's values stand for, and values that stand for none, in one line.
 fn add_array(text: &mut String, field: &ArrayField, bytes: &[u8]) -> Result<(), AllocError> {
     text.push_str("  ")?;
-    match field.usages().first() {
-        Some(first) => add_page(text, first.usage_page)?,
-        None => text.push_str("array")?,
-    }
+    add_array_name(text, field)?;
     let width = element_width(field);
     if 32 < width {
         return writeln!(text, ": elements of {width} bits, too many for a number");
     }
     text.push_str(":")?;
-    let mut gap = " ";
-    for index in 0..readable(field, bytes) {
-        if add_choice(text, field, bytes, index, gap)? {
-            gap = ", ";
-        }
-    }
-    text.push_str(if gap == " " { " none\n" } else { "\n" })
-}
-
-/// Appends what an element stands for, and answers whether it stands for something.
-fn add_choice(
-    text: &mut String,
-    field: &ArrayField,
-    bytes: &[u8],
-    index: usize,
-    gap: &str,
-) -> Result<bool, AllocError> {
-    match choice_of(field, bytes, index) {
-        Some((_value, Choice::Usage(usage))) => {
-            text.push_str(gap)?;
-            add_usage_on_page(text, usage)?;
-            Ok(true)
-        }
-        Some((value, Choice::Unlisted)) => {
-            write!(text, "{gap}value {value}, which no usage has")?;
-            Ok(true)
-        }
-        _ => Ok(false),
-    }
+    let is_any = add_choices(text, field, bytes, " ", UNLISTED)?;
+    text.push_str(if is_any { "\n" } else { " none\n" })
 }
 
 /// Appends a line with the name of each button and key that is down in a report.
@@ -240,7 +215,7 @@ fn add_down(text: &mut String, report: &RDescReport, bytes: &[u8]) -> Result<(),
 /// Appends a line with the name of each key of an array that is down.
 fn add_keys(text: &mut String, field: &ArrayField, bytes: &[u8]) -> Result<(), AllocError> {
     for index in 0..readable(field, bytes) {
-        if add_choice(text, field, bytes, index, "")? {
+        if add_choice(text, field, bytes, index, "", UNLISTED)? {
             text.push_str("\n")?;
         }
     }

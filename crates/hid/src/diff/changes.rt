@@ -1,25 +1,11 @@
 //! The parts in which two fields differ, apart from where they lie.
-use crate::words::{add_collection, add_name};
+use crate::words::{FLAG_WORDS, FLAGS, add_collection, add_name, flags_of};
 use hidreport::types::{
     LogicalMaximum, LogicalMinimum, PhysicalMaximum, PhysicalMinimum, Unit, UnitExponent,
 };
-use hidreport::{ArrayField, Collection, Field, FieldAttributes, VariableField};
+use hidreport::{ArrayField, Collection, Field, VariableField};
 use std::alloc::AllocError;
 use std::fmt::Write;
-
-/// How many flags a field has.
-const FLAGS: usize = 7;
-
-/// The words of the flags, and what stands for one that isn't set.
-static FLAG_WORDS: [(&str, &str); FLAGS] = [
-    ("relative", "absolute"),
-    ("wraps", "no wrap"),
-    ("nonlinear", "linear"),
-    ("no preferred state", "preferred state"),
-    ("null state", "no null state"),
-    ("volatile", "not volatile"),
-    ("buffered bytes", "bit field"),
-];
 
 /// Numbers that a field has beside its usages.
 #[derive(Clone, Copy)]
@@ -179,18 +165,6 @@ fn numbers_of(
         exponent: unit.1.map(i32::from),
         flags,
     }
-}
-
-fn flags_of<F: FieldAttributes>(field: &F) -> [bool; FLAGS] {
-    [
-        field.is_relative(),
-        field.wraps(),
-        field.is_nonlinear(),
-        field.has_no_preferred_state(),
-        field.has_null_state(),
-        field.is_volatile() == Some(true),
-        field.is_buffered_bytes(),
-    ]
 }
 
 /// Appends the numbers that differ.

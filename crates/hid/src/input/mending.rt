@@ -1,11 +1,9 @@
 //! Descriptors that are mended before they are read.
 use crate::input::given::Given;
-use crate::output::escaped;
+use crate::output::{add_bytes, escaped};
 use crate::settings::Settings;
 use anyhow::Result;
 use hidreport::{Change, Mend, repair};
-use std::alloc::AllocError;
-use std::fmt::Write;
 
 /// Mends each descriptor, and says on standard error what was changed.
 pub fn mend<R: AllocGlobal + Eprint>(
@@ -37,16 +35,6 @@ fn tell_change<R: AllocGlobal + Eprint>(rt: &R, name: &str, change: &Change) -> 
         add_bytes(&mut text, &change.stands)?;
     }
     Ok(eprintln!(rt; "hid: {name}: offset {offset}: {text}: {why}")?)
-}
-
-/// Appends bytes as pairs of hexadecimal digits, with a space between them.
-fn add_bytes(text: &mut String, bytes: &[u8]) -> Result<(), AllocError> {
-    let mut gap = "";
-    for byte in bytes {
-        write!(text, "{gap}{byte:02x}")?;
-        gap = " ";
-    }
-    Ok(())
 }
 
 /// Why something was mended.

@@ -1,6 +1,7 @@
 //! A report's values in one line, by names that are made once.
-use crate::report::reading::{Amount, Choice, amount_of, choice_of, element_width, readable};
-use crate::words::{add_page, add_usage_on_page};
+use crate::report::choices::add_choices;
+use crate::report::reading::{Amount, amount_of, choice_of, element_width, readable};
+use crate::words::add_name_on_page;
 use hidreport::{ArrayField, Field, RDescReport, Report, ReportDescriptor, VariableField};
 use std::alloc::{AllocError, Global};
 use std::fmt::Write;
@@ -39,11 +40,6 @@ impl<'a> Lines<'a> {
         })
     }
 
-    /// How many bytes the report has that begins with these; none where no report does.
-    pub fn size_of(&self, bytes: &[u8]) -> Option<usize> {
-        Some(self.report_of(bytes)?.size_in_bytes())
-    }
-
     /// The report that these bytes are of.
     pub fn report_of(&self, bytes: &[u8]) -> Option<&RDescReport> {
         let first = *bytes.first()?;
@@ -78,25 +74,13 @@ fn is_of(report: &RDescReport, first: u8) -> bool {
     }
 }
 
-/// What a field is called in a line.
-fn name_of(alloc: Global, field: &Field) -> Result<String, AllocError> {
-    let mut name = String::new(alloc);
-    match field {
-        Field::Variable(field) => add_usage_on_page(&mut name, field.usage)?,
-        Field::Array(field) => match field.usages().first() {
-            Some(usage) => add_page(&mut name, usage.usage_page)?,
-            None => name.push_str("array")?,
-        },
-        Field::Constant(_) => {}
-    }
-    Ok(name)
-}
-
 /// What the fields of a report are called.
 fn names_of(alloc: Global, report: &RDescReport) -> Result<Vec<String>, AllocError> {
     let mut names = Vec::new(alloc);
     for field in report.fields() {
-        names.push(name_of(alloc, field)?)?;
+        let mut name = String::new(alloc);
+        add_name_on_page(&mut name, field)?;
+        names.push(name)?;
     }
     Ok(names)
 }
@@ -249,38 +233,6 @@ fn add_array(
     if 32 < width {
         return write!(text, "({width} bits)]");
     }
-    add_choices(text, field, bytes)
-}
-
-/// Appends what the elements of an array stand for, up to a bracket.
-fn add_choices(text: &mut String, field: &ArrayField, bytes: &[u8]) -> Result<(), AllocError> {
-    let mut gap = "";
-    for index in 0..readable(field, bytes) {
-        if add_choice(text, field, bytes, index, gap)? {
-            gap = ", ";
-        }
-    }
+    add_choices(text, field, bytes, "", "")?;
     text.push_str("]")
-}
-
-/// Appends what an element stands for, and answers whether it stands for something.
-fn add_choice(
-    text: &mut String,
-    field: &ArrayField,
-    bytes: &[u8],
-    index: usize,
-    gap: &str,
-) -> Result<bool, AllocError> {
-    match choice_of(field, bytes, index) {
-        Some((_value, Choice::Usage(usage))) => {
-            text.push_str(gap)?;
-            add_usage_on_page(text, usage)?;
-            Ok(true)
-        }
-        Some((value, Choice::Unlisted)) => {
-            write!(text, "{gap}value {value}")?;
-            Ok(true)
-        }
-        _ => Ok(false),
-    }
 }

@@ -1,5 +1,5 @@
 //! The bits of a report as rows of cells, a row for each byte.
-use crate::words::{add_page, add_usage_on_page};
+use crate::words::add_name_on_page;
 use hidreport::{Field, RDescReport, Report};
 use std::alloc::{AllocError, Global};
 
@@ -98,7 +98,7 @@ impl Rows {
     fn name_of(&self, field: &Field) -> Result<String, AllocError> {
         let mut name = String::new(self.alloc);
         if self.rows.len() < self.most {
-            add_cell_name(&mut name, field)?;
+            add_name_on_page(&mut name, field)?;
         }
         Ok(name)
     }
@@ -156,17 +156,5 @@ impl Rows {
         }
         let bits = 8usize.saturating_sub(self.bits);
         self.add_bits(String::new(self.alloc), bits)
-    }
-}
-
-/// Appends what stands in a field's cells.
-fn add_cell_name(name: &mut String, field: &Field) -> Result<(), AllocError> {
-    match field {
-        Field::Variable(field) => add_usage_on_page(name, field.usage),
-        Field::Array(field) => match field.usages().first() {
-            Some(usage) => add_page(name, usage.usage_page),
-            None => name.push_str("array"),
-        },
-        Field::Constant(_) => name.push_str("-"),
     }
 }

@@ -1,5 +1,6 @@
 //! A field in words: its bits, its name, its bounds and its flags.
-use crate::words::naming::add_usage;
+use crate::words::field_flags::{FLAG_WORDS, flags_of};
+use crate::words::naming::{add_page, add_usage, add_usage_on_page};
 use crate::words::physical::add_physical_bounds;
 use crate::words::usage_list::add_usages;
 use hidreport::{ArrayField, Field, FieldAttributes, VariableField};
@@ -12,6 +13,24 @@ const NAME: usize = 12;
 /// Appends what a field is for: its usages, or that it is padding.
 pub fn add_name(text: &mut String, field: &Field) -> Result<(), AllocError> {
     add_wrapped_name(text, field, None)
+}
+
+/// Appends what a field is called where there is little room: its usage without its page, an array's
+/// page.
+pub fn add_name_on_page(text: &mut String, field: &Field) -> Result<(), AllocError> {
+    match field {
+        Field::Variable(field) => add_usage_on_page(text, field.usage),
+        Field::Array(field) => add_array_name(text, field),
+        Field::Constant(_) => text.push_str("-"),
+    }
+}
+
+/// Appends an array's page.
+pub fn add_array_name(text: &mut String, field: &ArrayField) -> Result<(), AllocError> {
+    match field.usages().first() {
+        Some(usage) => add_page(text, usage.usage_page),
+        None => text.push_str("array"),
+    }
 }
 
 fn add_wrapped_name(
@@ -36,7 +55,7 @@ pub fn add_field(text: &mut String, field: &Field, indent: usize) -> Result<(), 
 }
 
 /// Appends how a field is read: its width, its bounds, its unit and its flags.
-pub fn add_how(text: &mut String, field: &Field) -> Result<(), AllocError> {
+fn add_how(text: &mut String, field: &Field) -> Result<(), AllocError> {
     let width = field.bits().len();
     match field {
         Field::Variable(field) => add_variable(text, field, width),
@@ -70,18 +89,11 @@ fn add_array(text: &mut String, field: &ArrayField, width: usize) -> Result<(), 
 
 /// Appends the flags that aren't as they are in most fields.
 fn add_flags<F: FieldAttributes>(text: &mut String, field: &F) -> Result<(), AllocError> {
-    let flags = [
-        (field.is_relative(), "relative"),
-        (field.wraps(), "wraps"),
-        (field.is_nonlinear(), "nonlinear"),
-        (field.has_no_preferred_state(), "no preferred state"),
-        (field.has_null_state(), "null state"),
-        (field.is_volatile() == Some(true), "volatile"),
-        (field.is_buffered_bytes(), "buffered bytes"),
-    ];
-    for (is_set, name) in flags {
-        if is_set {
-            write!(text, ", {name}")?;
+    let flags = flags_of(field);
+    for (is_set, words) in flags.iter().zip(FLAG_WORDS.iter()) {
+        if *is_set {
+            let word = words.0;
+            write!(text, ", {word}")?;
         }
     }
     Ok(())

@@ -1,4 +1,5 @@
 //! The usages of an array in words.
+use crate::words::depth::add_spaces;
 use crate::words::naming::{add_usage, add_usage_on_page};
 use hidreport::{ArrayField, Usage};
 use std::alloc::AllocError;
@@ -68,14 +69,6 @@ fn add_list(text: &mut String, usages: &[Usage], indent: Option<usize>) -> Resul
         }
         add_next(text, *usage, before)?;
         before = Some(u16::from(usage.usage_page));
-    }
-    Ok(())
-}
-
-/// Appends spaces.
-pub fn add_spaces(text: &mut String, count: usize) -> Result<(), AllocError> {
-    for _ in 0..count {
-        text.push_str(" ")?;
     }
     Ok(())
 }

@@ -1,0 +1,48 @@
+//! What the elements of an array stand for, in words.
+use crate::report::reading::{Choice, choice_of, readable};
+use crate::words::add_usage_on_page;
+use hidreport::ArrayField;
+use std::alloc::AllocError;
+use std::fmt::Write;
+
+/// Appends what the elements of an array stand for, the first behind `front`, and answers whether
+/// one stands for something. `unlisted` stands behind a value that no usage has.
+pub fn add_choices(
+    text: &mut String,
+    field: &ArrayField,
+    bytes: &[u8],
+    front: &str,
+    unlisted: &str,
+) -> Result<bool, AllocError> {
+    let (mut gap, mut is_any) = (front, false);
+    for index in 0..readable(field, bytes) {
+        if add_choice(text, field, bytes, index, gap, unlisted)? {
+            gap = ", ";
+            is_any = true;
+        }
+    }
+    Ok(is_any)
+}
+
+/// Appends what an element stands for, behind `gap`, and answers whether it stands for something.
+pub fn add_choice(
+    text: &mut String,
+    field: &ArrayField,
+    bytes: &[u8],
+    index: usize,
+    gap: &str,
+    unlisted: &str,
+) -> Result<bool, AllocError> {
+    match choice_of(field, bytes, index) {
+        Some((_value, Choice::Usage(usage))) => {
+            text.push_str(gap)?;
+            add_usage_on_page(text, usage)?;
+            Ok(true)
+        }
+        Some((value, Choice::Unlisted)) => {
+            write!(text, "{gap}value {value}{unlisted}")?;
+            Ok(true)
+        }
+        _ => Ok(false),
+    }
+}
