@@ -105,6 +105,14 @@ static void choose(const char *limit, const char *push)
                                                       : number_of(push);
 }
 
+static void choose_usages(const char *by, const char *none)
+{
+    (void)none;
+    options.usages = strcmp(by, "standard") == 0 ? HIDREPORT_USAGES_STANDARD
+                     : strcmp(by, "hosts") == 0  ? HIDREPORT_USAGES_HOSTS
+                                                 : number_of(by);
+}
+
 static void reports(const char *direction, const char *none)
 {
     static struct hidreport_report r[ROOM];
@@ -251,6 +259,7 @@ static const struct {
     void (*answer)(const char *first, const char *second);
 } kinds[] = {
     {"version", 0, version},         {"options", 2, choose},
+    {"usages-by", 1, choose_usages},
     {"reports", 1, reports},         {"describe", 1, describe},
     {"find", 1, find},               {"usages", 1, list_usages},
     {"collections", 1, collections}, {"collection-usages", 2, collection_usages},

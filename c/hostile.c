@@ -85,6 +85,25 @@ static void look_at_text(const struct row *row, const char *call, int is_refused
     wrong = 1;
 }
 
+/* 4,097 items where there is room for three: they are counted, and no more are written. */
+static void ask_with_little_room(void)
+{
+    static uint8_t bytes[4097];
+    struct hidreport_item items[4];
+
+    memset(bytes, 0xc4, sizeof bytes);
+    memset(items, 0xff, sizeof items);
+    struct hidreport_answer answer = hidreport_items(bytes, sizeof bytes, items, 3);
+    int is_right = answer.status == HIDREPORT_ACCEPTED && answer.count == sizeof bytes;
+    for (size_t i = 0; i < 3; i++)
+        is_right = is_right && items[i].offset == i && items[i].size == 1;
+    looked_at++;
+    if (is_right && items[3].offset == SIZE_MAX && items[3].size == SIZE_MAX)
+        return;
+    printf("hostile: 4,097 items with room for three: %zu\n", answer.count);
+    wrong = 1;
+}
+
 /* Each function that reads a descriptor; what it lists isn't asked for. A list of items has no
  * limit, and takes 56 bytes for each. */
 static void ask(const struct row *row, const uint8_t *bytes, size_t length)
@@ -138,6 +157,7 @@ int main(void)
             wrong = 1;
         }
     }
+    ask_with_little_room();
     printf("hostile: %u answers\n", looked_at);
     return wrong;
 }

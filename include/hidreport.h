@@ -43,7 +43,7 @@ enum hidreport_status {
     /* with the item at `offset` the descriptor lists more than the limit of the options, or with a
      * limit it has more than 65536 bytes, as given or repaired: then this is `offset` */
     HIDREPORT_BUDGET_EXCEEDED = 5,
-    /* `push` of the options is no enum hidreport_push, or `mends` no sum of enum hidreport_mends */
+    /* `push` or `usages` of the options is no number of its enum, or `mends` no sum of its own */
     HIDREPORT_UNKNOWN_OPTION = 6
 };
 
@@ -69,6 +69,12 @@ enum hidreport_collection_kind {
 enum hidreport_push {
     HIDREPORT_PUSH_ALL = 0,    /* global and local items, as the Rust crate has it */
     HIDREPORT_PUSH_GLOBALS = 1 /* global items alone, as Linux has it */
+};
+
+/* `usages`: by which rule an item finds its usages (Section 6.2.2.8) */
+enum hidreport_usages_by {
+    HIDREPORT_USAGES_STANDARD = 0, /* by the letter of the standard, as the Rust crate has it */
+    HIDREPORT_USAGES_HOSTS = 1     /* as hosts read them, by Linux's rules */
 };
 
 /* `mends`: what a repair mends besides, one of these or the sum */
@@ -97,7 +103,8 @@ struct hidreport_options {
      * collection around the field and for each usage of that; so does a collection, with 1 for each
      * of its usages. */
     size_t limit;
-    uint32_t push; /* enum hidreport_push */
+    uint32_t push;   /* enum hidreport_push */
+    uint32_t usages; /* enum hidreport_usages_by */
 };
 
 /* A limit of 65536: a few bytes can announce 2^32 fields. */
@@ -107,16 +114,19 @@ struct hidreport_options {
 #define HIDREPORT_NO_LIMIT SIZE_MAX
 
 /* `..._REPAIR_DEFAULTS` are for a repair, and for reading what it writes: a Push keeps what Linux
- * keeps. */
+ * keeps, and usages are those that Linux reads. */
 #ifdef __cplusplus
-#define HIDREPORT_DEFAULTS (hidreport_options{HIDREPORT_DEFAULT_LIMIT, HIDREPORT_PUSH_ALL})
-#define HIDREPORT_REPAIR_DEFAULTS \
-    (hidreport_options{HIDREPORT_DEFAULT_LIMIT, HIDREPORT_PUSH_GLOBALS})
-#else
 #define HIDREPORT_DEFAULTS \
-    ((struct hidreport_options){HIDREPORT_DEFAULT_LIMIT, HIDREPORT_PUSH_ALL})
+    (hidreport_options{HIDREPORT_DEFAULT_LIMIT, HIDREPORT_PUSH_ALL, HIDREPORT_USAGES_STANDARD})
 #define HIDREPORT_REPAIR_DEFAULTS \
-    ((struct hidreport_options){HIDREPORT_DEFAULT_LIMIT, HIDREPORT_PUSH_GLOBALS})
+    (hidreport_options{HIDREPORT_DEFAULT_LIMIT, HIDREPORT_PUSH_GLOBALS, HIDREPORT_USAGES_HOSTS})
+#else
+#define HIDREPORT_DEFAULTS                                                                    \
+    ((struct hidreport_options){HIDREPORT_DEFAULT_LIMIT, HIDREPORT_PUSH_ALL,                  \
+                                HIDREPORT_USAGES_STANDARD})
+#define HIDREPORT_REPAIR_DEFAULTS                                                             \
+    ((struct hidreport_options){HIDREPORT_DEFAULT_LIMIT, HIDREPORT_PUSH_GLOBALS,              \
+                                HIDREPORT_USAGES_HOSTS})
 #endif
 
 struct hidreport_answer {

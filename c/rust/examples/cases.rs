@@ -1,7 +1,7 @@
 //! Prints the questions of its input with their answers, as c/cases.c does, by this module's
 //! functions.
-use hidreport_c::{CollectionKind, Direction, FieldKind, Mends, Push, Reason, Status};
-use hidreport_c::{Field, Options, Refusal, DEFAULT_LIMIT, NO_LIMIT};
+use hidreport_c::{CollectionKind, Direction, FieldKind, Mends, Push, Reason, Status, UsagesBy};
+use hidreport_c::{Field, Options, Refusal, NO_LIMIT};
 use std::io::BufRead;
 
 /// What the last questions gave, for the questions about it.
@@ -42,7 +42,7 @@ fn direction_of(word: &str) -> Option<Direction> {
 fn options_of(limit: &str, push: &str) -> Option<Options> {
     Some(Options {
         limit: match limit {
-            "default" => DEFAULT_LIMIT,
+            "default" => Options::default().limit,
             "none" => NO_LIMIT,
             _ => limit.parse().expect("a limit"),
         },
@@ -52,7 +52,17 @@ fn options_of(limit: &str, push: &str) -> Option<Options> {
             "globals" => Push::Globals,
             _ => Push::try_from(push.parse::<u32>().expect("a number")).ok()?,
         },
+        usages: Options::default().usages,
     })
+}
+
+/// Nor another rule.
+fn usages_by(word: &str) -> Option<UsagesBy> {
+    match word {
+        "standard" => Some(UsagesBy::Standard),
+        "hosts" => Some(UsagesBy::Hosts),
+        _ => UsagesBy::try_from(word.parse::<u32>().expect("a number")).ok(),
+    }
 }
 
 /// Nor other mends.
@@ -299,6 +309,10 @@ impl Asked {
             "version" => version(),
             "options" => match options_of(words[1], words[2]) {
                 Some(options) => (self.options, self.is_unknown) = (options, false),
+                None => self.is_unknown = true,
+            },
+            "usages-by" => match usages_by(words[1]) {
+                Some(usages) => (self.options.usages, self.is_unknown) = (usages, false),
                 None => self.is_unknown = true,
             },
             kind if self.is_unknown => say_unknown(kind),

@@ -5,7 +5,7 @@ mod repairing;
 mod sys;
 
 pub use numbers::{
-    CollectionKind, Direction, FieldKind, Mends, Push, Reason, Status, UnknownNumber,
+    CollectionKind, Direction, FieldKind, Mends, Push, Reason, Status, UnknownNumber, UsagesBy,
 };
 pub use repairing::{changes, repair, repair_message};
 pub use sys::{Change, Collection, Field, Item, Options, Report};
@@ -21,7 +21,7 @@ pub const NO_LIMIT: usize = usize::MAX;
 
 impl Default for Options {
     fn default() -> Options {
-        Options { limit: DEFAULT_LIMIT, push: Push::All }
+        Options { limit: DEFAULT_LIMIT, push: Push::All, usages: UsagesBy::Standard }
     }
 }
 
@@ -293,7 +293,7 @@ mod tests {
 
     #[test]
     fn a_limit_is_kept() {
-        let one = Options { limit: 1, push: Push::All };
+        let one = Options { limit: 1, ..Options::default() };
         let refusal = describe(MOUSE, one, Direction::Input).unwrap_err();
         assert_eq!((refusal.status, refusal.offset), (Status::BudgetExceeded, 14));
         assert_eq!(refusal.message, "budget exceeded");

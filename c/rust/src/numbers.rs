@@ -114,6 +114,16 @@ numbers! {
 }
 
 numbers! {
+    /// By which rule an item finds its usages.
+    UsagesBy {
+        /// By the letter of the standard, as the Rust crate has it.
+        Standard = 0,
+        /// As hosts read them, by Linux's rules.
+        Hosts = 1,
+    }
+}
+
+numbers! {
     /// `reason` of a change: what stood there.
     Reason {
         /// An item without the data byte that it needs.
@@ -229,6 +239,7 @@ mod tests {
         both_ways::<Status>(&[1, 2, 3, 4, 5, 6]);
         both_ways::<FieldKind>(&[0, 1, 2]);
         both_ways::<Push>(&[0, 1]);
+        both_ways::<UsagesBy>(&[0, 1]);
         both_ways::<Reason>(&[0, 1, 2, 3, 4, 5]);
         both_ways::<CollectionKind>(&(0..256).collect::<Vec<u32>>());
         both_ways::<Mends>(&[0, 1, 2, 3]);

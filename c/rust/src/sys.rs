@@ -1,5 +1,5 @@
 //! `include/hidreport.h` in Rust.
-use crate::numbers::Push;
+use crate::numbers::{Push, UsagesBy};
 
 #[repr(C)]
 #[derive(Clone, Copy, Debug, PartialEq)]
@@ -125,6 +125,8 @@ pub struct Options {
     pub limit: usize,
     /// What a Push keeps.
     pub push: Push,
+    /// By which rule an item finds its usages.
+    pub usages: UsagesBy,
 }
 
 extern "C" {
