@@ -1,7 +1,8 @@
-# The library for C and Rust from generated/, by a C compiler alone (docs/C.md):
-#   make           builds it into build/, a static and a shared library
-#   make check     asks both of them the questions of c/cases.txt
-#   make install   puts it into PREFIX, below DESTDIR where that is given
+# The library for C and Rust from generated/, by a C compiler alone (docs/C.md), and on x86-64 the
+# programs `hid` and `hidreport`:
+#   make           builds them into build/: a static and a shared library, and the programs
+#   make check     asks both libraries the questions of c/cases.txt
+#   make install   puts all of it into PREFIX, below DESTDIR where that is given
 # CC says for which processor it compiles. RUN runs a program of another one, as qemu-aarch64.
 PREFIX = /usr/local
 CFLAGS = -O2
@@ -9,13 +10,15 @@ BUILD = build
 number = $(shell sed -n 's/^.define HIDREPORT_VERSION_$(1) //p' include/hidreport.h)
 version := $(call number,MAJOR).$(call number,MINOR).$(call number,PATCH)-$(call number,STAGE)
 processor := $(firstword $(subst -, ,$(shell $(CC) -dumpmachine)))
-text = generated/$(processor)-linux/hidreport.s
+made = generated/$(processor)-linux
+text = $(made)/hidreport.s
+programs = $(patsubst $(made)/%.o.gz,$(BUILD)/%,$(wildcard $(made)/*.o.gz))
 objects = $(BUILD)/hidreport.o $(BUILD)/heap.o
 shared = libhidreport.so.$(version)
 askers = $(BUILD)/ask_static $(BUILD)/ask_shared
 compile = $(CC) -std=c11 $(CPPFLAGS) $(CFLAGS) -Iinclude
 
-all: $(BUILD)/libhidreport.a $(BUILD)/libhidreport.so
+all: $(BUILD)/libhidreport.a $(BUILD)/libhidreport.so $(programs)
 	@bash checks/generated.sh --fresh
 
 $(BUILD)/hidreport.o: $(text)
@@ -32,6 +35,11 @@ $(BUILD)/$(shared): $(objects) c/hidreport.map
 	    -Wl,--version-script=c/hidreport.map -o $@ $(objects)
 $(BUILD)/libhidreport.so: $(BUILD)/$(shared)
 	ln -sf $(shared) $@
+$(BUILD)/hid $(BUILD)/hidreport: $(BUILD)/%: $(made)/%.o.gz generated/programs.c generated/heap.c
+	mkdir -p $(BUILD)
+	gzip -dc $< > $@.o
+	$(compile) $(LDFLAGS) -o $@ $@.o generated/programs.c generated/heap.c
+	rm -f $@.o
 $(BUILD)/ask_static: c/cases.c c/cases_words.h include/hidreport.h $(BUILD)/libhidreport.a
 	$(compile) $(LDFLAGS) -o $@ c/cases.c $(BUILD)/libhidreport.a
 $(BUILD)/ask_shared: c/cases.c c/cases_words.h include/hidreport.h $(BUILD)/libhidreport.so
@@ -48,16 +56,25 @@ check: all $(askers)
 
 into = $(DESTDIR)$(PREFIX)
 package = $(into)/share/hidreport/rust
-install: all
-	mkdir -p $(into)/include $(into)/lib/pkgconfig $(package)
-	cp include/hidreport.h $(into)/include/
-	cp $(BUILD)/libhidreport.a $(BUILD)/$(shared) $(into)/lib/
-	ln -sf $(shared) $(into)/lib/libhidreport.so
-	sed 's/VERSION/$(version)/' c/hidreport.pc > $(into)/lib/pkgconfig/hidreport.pc
-	cp -r c/rust/Cargo.toml c/rust/build.rs c/rust/src c/rust/examples $(package)/
-	sed -i 's/^version = .*/version = "$(version)"/' $(package)/Cargo.toml
+install: all install-library install-programs
+install-library: $(BUILD)/libhidreport.a $(BUILD)/libhidreport.so
+	mkdir -p "$(into)/include" "$(into)/lib/pkgconfig" "$(into)/share/man/man3"
+	rm -rf "$(package)"
+	mkdir -p "$(package)"
+	cp include/hidreport.h "$(into)/include/"
+	cp $(BUILD)/libhidreport.a $(BUILD)/$(shared) "$(into)/lib/"
+	ln -sf $(shared) "$(into)/lib/libhidreport.so"
+	awk -v version=$(version) -f c/man_page.awk include/hidreport.h \
+	    > "$(into)/share/man/man3/hidreport.3"
+	sed 's/VERSION/$(version)/' c/hidreport.pc > "$(into)/lib/pkgconfig/hidreport.pc"
+	cp -r c/rust/*.toml c/rust/build.rs c/rust/src c/rust/examples "$(package)/"
+	sed -i 's/^version = .*/version = "$(version)"/' "$(package)/Cargo.toml"
+install-programs: $(programs)
+	$(if $(programs),mkdir -p "$(into)/bin" "$(into)/share")
+	$(if $(programs),cp $(programs) "$(into)/bin/")
+	$(if $(programs),cp -r share/man share/bash-completion "$(into)/share/")
 
 clean:
 	rm -rf $(BUILD)
 
-.PHONY: all check install clean
+.PHONY: all check install install-library install-programs clean

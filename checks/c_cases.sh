@@ -1,6 +1,7 @@
 #!/bin/bash
 # What C gets, by the header and by the Rust module: the questions of c/cases.txt are asked of the
 # static library by a C program and by a Rust one, whose answers have to be those that stand there.
+# A program in C++ tries the header's defaults.
 # Then the tests of the Rust module are run: its numbers, its refusals, and want of memory in either
 # of the two calls that a list takes. Its argument is a folder that ./install filled; without one it
 # fills one, which takes half a minute behind a check of `hidreport_c`. With `behind-ci` it builds
@@ -49,6 +50,13 @@ ask 'a C program' "$scratch/cases"
 cc -std=c11 -Wall -Wextra -Werror -O2 -I"$prefix/include" -o "$scratch/hostile" \
     "$top/c/hostile.c" "$prefix/lib/libhidreport.a"
 (ulimit -v 64000 && "$scratch/hostile")
+if command -v c++ > /dev/null; then
+    c++ -std=c++11 -Wall -Wextra -Wpedantic -Werror -O2 -I"$prefix/include" \
+        -o "$scratch/defaults" "$top/c/defaults.cc" "$prefix/lib/libhidreport.a"
+    "$scratch/defaults"
+else
+    echo 'c_cases: no `c++` on the path, so the defaults are not tried from C++'
+fi
 if cargo --version > /dev/null 2>&1; then
     cp -r "$prefix/share/hidreport/rust" "$scratch/rust"
     (cd "$scratch/rust" && HIDREPORT_LIB_DIR="$prefix/lib" \

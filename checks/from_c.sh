@@ -40,6 +40,8 @@ else
     echo 'from_c: no `pkg-config` on the path, so its file is not tried'
     flags="-I$prefix/include -L$prefix/lib -lhidreport"
 fi
+# What is linked by these is the shared library.
+export LD_LIBRARY_PATH="$prefix/lib"
 
 # Sources stand alone: neither the header nor the library of this tree is on their paths.
 mkdir "$scratch/c"

@@ -1,5 +1,6 @@
 #!/bin/bash
-# generated/ is the library for C as assembly, for users who have no toolchain (docs/C.md).
+# generated/ is the library for C as assembly, and the programs as packed objects, for users who have
+# no toolchain (docs/C.md).
 #   generated.sh [TREE]          checks it; the proofs are those that TREE keeps, or this tree
 #   generated.sh --write [TREE]  makes it anew; without TREE it proves what isn't proved
 #   generated.sh --fresh         says where it was made from other sources than these
@@ -8,14 +9,17 @@
 # else three. By any other, and by none, answers decide: with no `rt` on the path the archive that
 # `make` builds answers c/cases.txt and hostile descriptors. What was made from other sources is
 # stale: one line says so, and it is a fault only where the version is another. A spoilt byte and a
-# name too many are tried each time, and have to be refused.
+# name too many are tried each time, and have to be refused. The programs are compared with the objects
+# that lie in out/ once they are proved, and make their stored runs.
 set -eu
 
 top=$(cd "$(dirname "$0")/.." && pwd)
 cd "$top"
 crates=(hidreport_types hidreport_items hidreport_lists hidreport hidreport_c)
 processors=(x86_64 aarch64)
-files=(heap.c "${processors[@]/%/-linux/hidreport.s}")
+programs=(hid hidreport)
+packed=("${programs[@]/#/x86_64-linux/}")
+files=(heap.c programs.c "${processors[@]/%/-linux/hidreport.s}" "${packed[@]/%/.o.gz}")
 scratch=$(mktemp -d)
 trap 'rm -rf "$scratch"' EXIT
 
@@ -44,14 +48,42 @@ version_of_header() {
         paste -sd . | sed 's/\.\([0-9]*\)$/-\1/'
 }
 
-# Is it made from these sources? Where the version is another besides, that is a fault.
+# Is a part made from the sources with this sum? Where the version is another besides, that is a fault.
 is_fresh() {
-    [ "$(sum_of "$top")" != "$(noted sources)" ] || return 0
-    local line
-    line="stale: made from the sources of $(noted version), which have changed since"
+    local part=$1 sum=$2 line
+    [ "$sum" != "$(noted "$part")" ] || return 0
+    line="stale ($part): made from those of $(noted version), which have changed since"
     [ "$(version_of_header)" = "$(noted version)" ] || wrong "$line, as the version has"
     say "$line"
     return 1
+}
+
+# Which parts are: the library and the programs.
+find_fresh() {
+    local program
+    fresh=()
+    ! is_fresh sources "$(sum_of "$top")" || fresh=(library)
+    for program in "${programs[@]}"; do
+        ! is_fresh "code of $program" "$("./$program" --code)" || fresh+=("$program")
+    done
+}
+
+# The crate of a program, and the object that lies there once it is proved.
+crate_of() {
+    case $1 in
+        hid) echo hid ;;
+        *) echo "$1_main" ;;
+    esac
+}
+
+object_of() {
+    echo "$1/crates/$(crate_of "$2")/out/$(crate_of "$2").o"
+}
+
+# Is the program that lies in a tree proved of the sources there?
+is_proved() {
+    [ "$("$1/$2" --sources)" = "$(cat "$1/crates/$(crate_of "$2")/out/built_from" 2> /dev/null)" ] &&
+        [ -r "$(object_of "$1" "$2")" ]
 }
 
 # The files that the proofs of a tree give, into the scratch folder.
@@ -75,6 +107,7 @@ build() {
 }
 
 write() {
+    local program
     . checks/needs.sh
     need_rt generated
     if [ "$1" = "$top" ]; then
@@ -83,15 +116,28 @@ write() {
             wrong 'the library is not proved'
         }
         HIDREPORT_KEPT="$top/crates/hidreport_c/out/incremental"
+        for program in "${programs[@]}"; do
+            "./$program" --prove
+        done
     fi
     [ "$(sum_of "$1")" = "$(sum_of "$top")" ] || wrong "$1 has other sources"
+    for program in "${programs[@]}"; do
+        [ "$("$1/$program" --code)" = "$("./$program" --code)" ] || wrong "$1 has other sources"
+        is_proved "$1" "$program" || wrong "$program isn't proved in $1"
+    done
     build "$1"
     cp -r "$scratch/built/." generated/
+    for program in "${programs[@]}"; do
+        gzip -9 -n -c "$(object_of "$1" "$program")" > "generated/x86_64-linux/$program.o.gz"
+    done
     {
         echo 'From what, and by what, checks/generated.sh --write made this folder; then its sums.'
         echo "version: $(version_of_header)"
         echo "toolchain: $(rt version)"
         echo "sources: $(sum_of "$top")"
+        for program in "${programs[@]}"; do
+            echo "code of $program: $("./$program" --code)"
+        done
         (cd generated && sha256sum "${files[@]}")
     } > generated/SOURCES
     say "made from the sources of $(noted version)"
@@ -106,12 +152,21 @@ has_its_sums() {
 # Is it what the proofs build?
 compare() {
     local file
+    [ "$(sum_of "$1")" = "$(noted sources)" ] || wrong "$1 has other sources"
     build "$1"
-    for file in "${files[@]}"; do
-        [ "$file" = heap.c ] || cmp "generated/$file" "$scratch/built/$file" ||
+    for file in "${processors[@]/%/-linux/hidreport.s}"; do
+        cmp "generated/$file" "$scratch/built/$file" ||
             wrong "generated/$file isn't what the proofs build"
     done
-    say 'each file is byte for byte what the proofs build'
+    say 'the library is byte for byte what the proofs build'
+}
+
+compare_program() {
+    [ "$("$1/$2" --code)" = "$(noted "code of $2")" ] || wrong "$1 has other sources"
+    is_proved "$1" "$2" || wrong "$2 isn't proved in $1"
+    gzip -dc "generated/x86_64-linux/$2.o.gz" | cmp - "$(object_of "$1" "$2")" ||
+        wrong "generated/x86_64-linux/$2.o.gz isn't what the proofs build"
+    say "$2 is byte for byte what the proofs build"
 }
 
 # The header's functions, and the names that a library shows.
@@ -150,9 +205,33 @@ hide_rt() {
 # What a user has: no more of the tree than these files.
 copy() {
     mkdir -p "$1/crates"
-    cp -r Makefile generated include c checks "$1/"
+    cp -r Makefile generated include c checks share crates.txt hid hidreport "$1/"
     rm -rf "$1/c/rust/target"
-    (cd crates && cp -r --parents "${crates[@]/%//src}" "$1/crates/")
+    (cd crates && cp -r --parents hid/data hidreport_main/data hidreport_main/stdout ./*/src "$1/crates/")
+}
+
+# A program of the copy: the first call of its launcher links it, within five seconds, as `make` does,
+# and it makes the stored runs.
+ask_program() {
+    local tree=$1 program=$2 linked
+    linked="$tree/crates/$(crate_of "$program")/out/linked/$program"
+    case $program in
+        hid) set -- fields "$tree/crates/hid/data/mouse.hex" ;;
+        *) set -- items "$tree/crates/hidreport_main/data/mouse.rdesc" ;;
+    esac
+    timeout 5 "$tree/$program" "$@" > "$scratch/said" 2> "$scratch/errors" ||
+        wrong "the first call of ./$program fails: $(tail -n 1 "$scratch/errors")"
+    grep -q "^$program: linked from generated/" "$scratch/errors" ||
+        wrong "./$program isn't linked from generated/"
+    cmp "$linked" "$tree/build/$program" || wrong "make links another $program"
+    case $program in
+        hid) bash "$tree/checks/hid_runs.sh" "$linked" ;;
+        *) sh "$tree/checks/statuses.sh" "$linked" ;;
+    esac > "$scratch/said" 2>&1 || {
+        tail -n 20 "$scratch/said" >&2
+        wrong "$program as it is linked goes otherwise"
+    }
+    say "./$program links what generated/ has, and that makes its stored runs"
 }
 
 # The answers from C and Rust on this processor.
@@ -212,7 +291,7 @@ tree() {
 
 case ${1-} in
     --fresh)
-        is_fresh || true
+        find_fresh
         exit 0
         ;;
     --write)
@@ -221,15 +300,20 @@ case ${1-} in
         ;;
 esac
 has_its_sums generated || wrong 'a file has another sum than the one that is noted'
-is_fresh || exit 0
+find_fresh
+[ ${#fresh[@]} -gt 0 ] || exit 0
 if ! command -v rt > /dev/null; then
     say 'no `rt` on the path, so answers alone decide'
 elif [ "$(rt version)" != "$(noted toolchain)" ]; then
     say "made by $(noted toolchain), so by $(rt version) answers alone decide"
 else
     tree=$(tree "$@")
-    [ "$(sum_of "$tree")" = "$(noted sources)" ] || wrong "$tree has other sources"
-    compare "$tree"
+    for part in "${fresh[@]}"; do
+        case $part in
+            library) compare "$tree" ;;
+            *) compare_program "$tree" "$part" ;;
+        esac
+    done
 fi
 if ! command -v cc > /dev/null || ! command -v make > /dev/null; then
     say 'no `cc` or no `make` on the path, so nothing is asked'
@@ -237,6 +321,16 @@ if ! command -v cc > /dev/null || ! command -v make > /dev/null; then
 fi
 hide_rt
 copy "$scratch/tree"
-ask_here "$scratch/tree"
-ask_there "$scratch/tree"
-[ "$(uname -m)" != x86_64 ] || spoil "$scratch/tree"
+make -C "$scratch/tree" > "$scratch/said" 2>&1 || {
+    tail -n 20 "$scratch/said" >&2
+    wrong 'make fails'
+}
+for part in "${fresh[@]}"; do
+    if [ "$part" = library ]; then
+        ask_here "$scratch/tree"
+        ask_there "$scratch/tree"
+    elif [ "$(uname -m)" = x86_64 ]; then
+        ask_program "$scratch/tree" "$part"
+    fi
+done
+[ "$(uname -m)-${fresh[0]}" != x86_64-library ] || spoil "$scratch/tree"

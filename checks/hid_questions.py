@@ -83,7 +83,7 @@ def descriptors():
     """The descriptors of the cases, of bench/descriptors and of `hid`, each once, as digits."""
     found = []
     folder = f"{TOP}/crates/hidreport_cases/data"
-    asked = re.compile(r"(?:parse|parse-globals|shape|rebuild|list|repair [^/]*/) ([0-9a-f ]+)$")
+    asked = re.compile(r"(?:parse|parse-globals|parse-hosts|host-usages|shape|rebuild|list|repair [^/]*/) ([0-9a-f ]+)$")
     for name in sorted(os.listdir(folder)):
         with open(f"{folder}/{name}", encoding="utf-8") as lines:
             for line in lines:
@@ -603,7 +603,7 @@ def with_readings(pool, all_digits, parsed):
         reports = reports_of(answer) or []
         fits = sum(field.get("count", 1) for it in reports for field in it["fields"]) < 2_000
         plan = list(chosen_reports(digits, reports)) if fits else []
-        block = [f"parse-globals {digits}"]
+        block = [f"parse-hosts {digits}"]
         for _at, given, arrays in plan:
             block.append(f"read {given}")
             block += [f"usage-of {field} / {given}" for field in arrays]
@@ -672,7 +672,7 @@ def main():
 
 def ask_all(pool, all_digits):
     answers = Answers()
-    blocks = [[f"parse-globals {it}", f"list {it}"] for it in all_digits]
+    blocks = [[f"parse-hosts {it}", f"list {it}"] for it in all_digits]
     first = list(ask_library(pool, blocks))
     parsed = [it[0] for it in first]
     fields = with_exponents(pool, parsed)
@@ -684,7 +684,7 @@ def ask_all(pool, all_digits):
     for part in pool.imap_unordered(ask_descriptor, jobs, 8):
         answers.add(part)
     changed = list(changed_ones(all_digits, parsed))
-    others = ask_library(pool, [[f"parse-globals {it[1]}"] for it in changed], together=1)
+    others = ask_library(pool, [[f"parse-hosts {it[1]}"] for it in changed], together=1)
     jobs = [(*it, other[0]) for it, other in zip(changed, others)]
     for part in pool.imap_unordered(ask_changed, jobs, 32):
         answers.add(part)

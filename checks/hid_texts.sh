@@ -15,7 +15,8 @@ scratch=$(mktemp -d)
 trap 'rm -rf "$scratch"' EXIT
 
 # A descriptor in a line, and 1 where its case says that it is refused, 0 where it says what is
-# read, by a Push that keeps all; else -. Bytes that are written as a number of times are left out.
+# read, by a Push that keeps all and the standard's usages; else -. Bytes that are written as a
+# number of times are left out.
 {
     awk '
         function asks(bytes, status) {
@@ -50,7 +51,7 @@ decode() {
     }
 }
 
-# Each has the status of its case, and comes back; by both readings where it has a Push.
+# Each has the status of its case, and comes back, as hosts read it, too.
 comes_back() {
     local got
     got=$("$program" compile --to hex "$scratch/text" 2> "$scratch/errors" | tr -d ' \n')
@@ -62,14 +63,15 @@ comes_back() {
 }
 refused=0
 while read -r digits wanted; do
-    decode --push all
+    decode --push all --usages standard
     [ "$wanted" = - ] || [ "$status" -eq "$wanted" ] || {
         echo "hid_texts: $digits is decoded with the status $status" >&2
         exit 1
     }
     refused=$((refused + status))
     comes_back
-    case $digits in *a4*) decode && comes_back ;; esac
+    decode
+    comes_back
 done < "$scratch/descriptors"
 asked=$(wc -l < "$scratch/descriptors")
 known=$(grep -c '[01]$' "$scratch/descriptors")
@@ -143,3 +145,6 @@ coloured() {
 refused "$(coloured CLICOLOR_FORCE=1)-$(coloured CLICOLOR_FORCE=0)-$(coloured CLICOLOR_FORCE=1 NO_COLOR=1)" '7-0-0'
 refused "$("$program" decode "$(printf 'a\351.hex')" 2>&1)" \
     "hid: a word isn't UTF-8; a file with such a name is read as - (hid .. - < FILE)"
+echo 75 08 > "$scratch/$(printf 'a\351.hex')"
+refused "$("$program" convert /dev/fd/7 7< "$scratch/$(printf 'a\351.hex')" 2>&1)" \
+    "$(printf 'hid: /dev/fd/7: read as hex text\n75 08')"

@@ -1,24 +1,28 @@
 #!/bin/bash
 # What ./install puts into an empty folder: just the files that its head tells of, each compared
 # with what it is made of; of a part alone its own; the same where it was put before. In a copy of
-# what it reads, with stand-ins for `rt`, for the archives and for the programs that the launchers
-# prove; so it takes a second. Leaves nothing behind.
+# what it reads, with stand-ins for `rt`, for the library and for the programs that the launchers
+# prove; and without `rt` from stand-ins in generated/. It takes seconds, and leaves nothing behind.
 set -euo pipefail
 
 top=$(cd "$(dirname "$0")/.." && pwd)
-command -v ar > /dev/null || {
-    echo 'install: no `ar` on the path, so ./install is not tried'
-    exit 0
-}
+for command in ar cc make; do
+    command -v "$command" > /dev/null || {
+        echo "install: no \`$command\` on the path, so ./install is not tried"
+        exit 0
+    }
+done
 scratch=$(mktemp -d)
 trap 'rm -rf "$scratch"' EXIT
 copy="$scratch/copy"
 answers=0
 
-mkdir -p "$copy/checks" "$copy/c" "$copy/crates/hidreport_c"
-mkdir -p "$scratch/bin" "$scratch/kit/c" "$scratch/rust"
-cp "$top/install" "$copy"
+made="$copy/generated/$(uname -m)-linux"
+mkdir -p "$copy/checks" "$copy/c" "$copy/crates/hidreport_c" "$made" "$scratch/bin" "$scratch/rust"
+cp "$top/install" "$top/Makefile" "$copy"
 cp "$top/checks/needs.sh" "$copy/checks"
+cp "$top"/c/hidreport.* "$top/c/man_page.awk" "$copy/c"
+cp "$top/generated/heap.c" "$top/generated/programs.c" "$copy/generated"
 cp -R "$top/include" "$top/share" "$copy"
 (cd "$top/c/rust" && find . -type f -not -path './target/*' -not -name Cargo.lock -print0 |
     xargs -0 cp --parents -t "$scratch/rust")
@@ -28,24 +32,34 @@ mkdir "$copy/c/rust/target"
 touch "$copy/c/rust/target/made" "$copy/c/rust/Cargo.lock"
 sed -i 's/^version = .*/version = "0.0.0"/' "$copy/c/rust/Cargo.toml"
 
-# An archive with one member, whose name and words are given.
-archive() {
-    echo "$3" > "$scratch/$2"
-    rm -f "$1"
-    (cd "$scratch" && ar rc "$1" "$2")
+# A library that has a mark, as cc makes it by the words behind that.
+library() {
+    echo "const char hidreport_mark[] = \"mark: $1\";" | cc -x c -fPIC "${@:2}" -
 }
-archive "$scratch/kit/c/liblibc_c.a" memory.o 'what the toolchain has for memory'
-archive "$scratch/library.a" library.o 'the library'
-archive "$scratch/given.a" given.o 'a library that was built before'
+
+# An archive of such an object.
+archive() {
+    library "$2" -c -o "$scratch/library.o"
+    rm -f "$1"
+    ar rc "$1" "$scratch/library.o"
+}
+library generated -S -o "$made/hidreport.s"
+archive "$scratch/proved.a" proved
+archive "$scratch/given.a" given
+for program in hid hidreport; do
+    echo "const char mark[] = \"mark: generated $program\"; int main(void) { return 0; }" |
+        cc -x c -c -o "$scratch/program.o" -
+    gzip -c "$scratch/program.o" > "$made/$program.o.gz"
+done
+echo '[ ! -e "${0%/*}/stale" ] || echo "generated: stale"' > "$copy/checks/generated.sh"
 
 cat > "$scratch/bin/rt" << STUB
 #!/bin/bash
 case \$* in
-    doc) echo "$scratch/kit/START-HERE.md" ;;
     lib)
         echo "\${PWD##*/}" >> "$scratch/built"
         [ ! -e "$scratch/fails" ] || { echo 'what rt said of it'; exit 1; }
-        mkdir -p out && cp "$scratch/library.a" out/libhidreport_c.a
+        mkdir -p out && cp "$scratch/proved.a" out/libhidreport_c.a
         ;;
     *) exit 3 ;;
 esac
@@ -55,7 +69,7 @@ for program in hid:hid hidreport:hidreport_main; do
 #!/bin/bash
 [ "\$*" = --prove ] && [ ! -e "$scratch/fails" ] || exit 1
 mkdir -p "$copy/crates/${program#*:}/out"
-echo 'the program ${program%:*}' > "$copy/crates/${program#*:}/out/${program#*:}"
+echo 'mark: proved ${program%:*}' > "$copy/crates/${program#*:}/out/${program#*:}"
 chmod +x "$copy/crates/${program#*:}/out/${program#*:}"
 STUB
 done
@@ -73,7 +87,8 @@ call() {
     local wanted=$1 says=$2 status=0
     shift 2
     : > "$scratch/built"
-    (cd "$scratch" && PATH="$scratch/bin:$PATH" "$copy/install" "$@") > "$scratch/out" 2>&1 ||
+    [ "$PATH" = "${nothing-}" ] || local PATH="$scratch/bin:$PATH"
+    (cd "$scratch" && "$copy/install" "$@") > "$scratch/out" 2>&1 ||
         status=$?
     [ "$status" -eq "$wanted" ] || wrong "./install $*: status $status in place of $wanted"
     [ "$(tail -n 1 "$scratch/out")" = "$says" ] || wrong "./install $*: doesn't say '$says'"
@@ -88,11 +103,12 @@ number() {
 version="$(number MAJOR).$(number MINOR).$(number PATCH)-$(number STAGE)"
 last="install: hidreport $version is in $scratch"
 wanted_c() {
-    mkdir -p "$1/include" "$1/lib/pkgconfig" "$1/share/hidreport"
+    mkdir -p "$1/include" "$1/lib/pkgconfig" "$1/share/hidreport" "$1/share/man/man3"
     cp "$top/include/hidreport.h" "$1/include"
     cp -R "$scratch/rust" "$1/share/hidreport/rust"
-    (cd "$scratch" && for member in "$2.o" memory.o; do echo "$member" && cat "$member"; done) \
-        > "$1/lib/libhidreport.a"
+    for file in libhidreport.a libhidreport.so libhidreport.so.$version; do
+        echo "mark: $2" > "$1/lib/$file"
+    done
     cat > "$1/lib/pkgconfig/hidreport.pc" << END
 prefix=\${pcfiledir}/../..
 
@@ -102,11 +118,13 @@ Version: $version
 Cflags: -I\${prefix}/include
 Libs: -L\${prefix}/lib -lhidreport
 END
+    awk -v version="$version" -f "$top/c/man_page.awk" "$top/include/hidreport.h" \
+        > "$1/share/man/man3/hidreport.3"
 }
 wanted_programs() {
     mkdir -p "$1/bin" "$1/share/man/man1" "$1/share/bash-completion/completions"
     for program in hid hidreport; do
-        echo "the program $program" > "$1/bin/$program"
+        echo "mark: $2 $program" > "$1/bin/$program"
         chmod +x "$1/bin/$program"
         cp "$top/share/man/man1/$program.1" "$1/share/man/man1"
         cp "$top/share/bash-completion/completions/$program" \
@@ -114,23 +132,19 @@ wanted_programs() {
     done
 }
 
-# The members of an archive, and what each holds.
-members() {
-    ar t "$1" | LC_ALL=C sort | while IFS= read -r member; do
-        echo "$member"
-        ar p "$1" "$member"
-    done
-}
-
-# What is in a folder is what is in another: names, contents and who may run it. Of the archive its
-# members, and what they hold, are compared.
+# What is in a folder is what is in another: names, contents and who may run it. Of what is built its
+# mark is compared.
 is_whole() {
-    local prefix=$1 wanted=$2
+    local prefix=$1 wanted=$2 file mark
     rm -rf "$scratch/shown"
-    cp -R "$prefix" "$scratch/shown"
-    if [ -e "$prefix/lib/libhidreport.a" ]; then
-        members "$prefix/lib/libhidreport.a" > "$scratch/shown/lib/libhidreport.a"
-    fi
+    cp -RL "$prefix" "$scratch/shown"
+    for file in "$scratch"/shown/lib/lib* "$scratch"/shown/bin/*; do
+        if [ -e "$file" ]; then
+            mark=$(grep -aoE 'mark: [a-z]+( hid(report)?)?' "$file" || true)
+            echo "$mark" > "$file"
+        fi
+    done
+    chmod -f -x "$scratch"/shown/lib/*.so* || true
     diff -r "$wanted" "$scratch/shown" >> "$scratch/out" || wrong "$prefix has other files"
     diff <(cd "$wanted" && find . -perm -u+x | LC_ALL=C sort) \
         <(cd "$scratch/shown" && find . -perm -u+x | LC_ALL=C sort) >> "$scratch/out" ||
@@ -138,9 +152,11 @@ is_whole() {
     answers=$((answers + $(find "$wanted" -type f | wc -l)))
 }
 
-wanted_c "$scratch/of_c" library
+wanted_c "$scratch/of_c" proved
 wanted_c "$scratch/of_given" given
-wanted_programs "$scratch/of_programs"
+wanted_programs "$scratch/of_programs" proved
+wanted_c "$scratch/of_generated" generated
+wanted_programs "$scratch/of_generated" generated
 cp -R "$scratch/of_c" "$scratch/whole"
 cp -R "$scratch/of_programs/." "$scratch/whole"
 
@@ -157,6 +173,24 @@ call 0 "$last/given" given c
 unset HIDREPORT_ARCHIVE
 is_whole "$scratch/given" "$scratch/of_given"
 [ ! -s "$scratch/built" ] || wrong 'a library was built beside the one that was given'
+
+# Without `rt` what generated/ has, unless that is stale.
+nothing=$scratch/nothing
+mkdir "$nothing"
+for folder in ${PATH//:/ }; do
+    ln -sf "$folder"/* "$nothing/" 2> /dev/null || true
+done
+rm -f "$nothing/rt"
+without_rt() {
+    (PATH=$nothing && call "$@")
+    answers=$((answers + 1))
+}
+without_rt 0 "$last/generated" generated
+is_whole "$scratch/generated" "$scratch/of_generated"
+touch "$copy/checks/stale"
+without_rt 1 'install: generated: stale' stale
+[ -z "$(find "$scratch/stale" -type f)" ] || wrong 'a stale library is installed'
+rm "$copy/checks/stale"
 
 # Over what an older one put: the folder of the Rust module is its own.
 echo old | tee "$scratch/a prefix/share/hidreport/rust/src/old.rs" "$scratch/a prefix/bin/hid" \
@@ -175,15 +209,15 @@ while IFS= read -r file; do
     done
     [ "$file" != . ] || wrong 'the head of ./install tells nothing of a file that is installed'
     echo "$file"
-done < <(cd "$scratch/whole" && find . -type f -printf '%P\n') |
+done < <(cd "$scratch/whole" && find . -type f -printf '%P\n' | sed "s/\.so\.$version$/.so/") |
     LC_ALL=C sort -u > "$scratch/installed"
 diff "$scratch/installed" - <<< "$head" >> "$scratch/out" ||
     wrong 'the head of ./install tells of other files'
 of_c=$(sed -n '/^PREFIX then has/,/^$/p' "$top/docs/C.md" | told)
-[ "$of_c" = "$(grep -E '^(include|lib|share/hidreport)/?' <<< "$head")" ] ||
+[ "$of_c" = "$(grep -E '^(include|lib|share/(hidreport|man/man3))/?' <<< "$head")" ] ||
     wrong 'docs/C.md tells of other files'
 of_programs=$(tr '\n' ' ' < "$top/docs/HID.md" | grep -oE '`./install PREFIX programs` [^.]*\.')
-[ "$(told <<< "$of_programs")" = "$(grep -E '^(bin|share/(man|bash-))' <<< "$head")" ] ||
+[ "$(told <<< "$of_programs")" = "$(grep -E '^(bin|share/(man/man1|bash-))' <<< "$head")" ] ||
     wrong 'docs/HID.md tells of other files'
 answers=$((answers + 3))
 
