@@ -10,6 +10,8 @@ import re
 import sys
 from collections import Counter
 
+from host_usages import LocalUsages
+
 DATA_FILES = os.path.join(os.path.dirname(os.path.dirname(os.path.abspath(__file__))),
                           "crates/hidreport_cases/data")
 SIZES = [0, 1, 2, 4]
@@ -73,15 +75,23 @@ def drop_locals(items):
 
 
 class State:
-    def __init__(self, keeps_locals):
+    def __init__(self, keeps_locals, by_standard):
         self.values, self.locals, self.stack = {}, [], []
-        self.keeps_locals, self.depth, self.listed = keeps_locals, [], 0
+        self.keeps_locals, self.by_standard, self.depth, self.listed = keeps_locals, by_standard, [], 0
         self.ends = {}
 
     def usages(self):
         """The usages in force: a list, or the text of a fault."""
-        minima = [v for p, v, n in self.locals if p == 0x18]
-        maxima = [v for p, v, n in self.locals if p == 0x28]
+        if not self.by_standard:
+            named = LocalUsages()
+            for prefix, number, size, page in self.locals:
+                named.take(prefix, number.to_bytes(size, "little"), page)
+            return named.concatenated(self.values.get("page", 0))
+        return self.standard_usages()
+
+    def standard_usages(self):
+        minima = [v for p, v, *_ in self.locals if p == 0x18]
+        maxima = [v for p, v, *_ in self.locals if p == 0x28]
         page = self.values.get("page")
         if minima:
             if not maxima:
@@ -89,7 +99,7 @@ class State:
             if page is None:
                 return "Missing UsagePage in globals"
             return list(range(minima[-1], maxima[-1] + 1))
-        singles = [(v, n) for p, v, n in self.locals if p == 0x08]
+        singles = [(v, n) for p, v, n, _ in self.locals if p == 0x08]
         if page is None and any(n < 4 for v, n in singles):
             return "Missing UsagePage in globals"
         return singles
@@ -101,7 +111,7 @@ def mend(raw, words):
         raise Refused(f"refused at {options['longest']}: budget")
     items = cut(raw, "cut-short" in words)
     drop_locals(items)
-    state = State("all" in words)
+    state = State("all" in words, "standard" in words)
     limit = int(options["within"]) if "within" in options else None
     for item in items:
         if item[2] is not None:
@@ -121,7 +131,8 @@ def walk(state, item, unsigned, limit):
     if stands[0] == 0xFE or kind == 3:
         return
     if kind == 2:
-        state.locals.append((prefix, int.from_bytes(data, "little"), len(data)))
+        page = state.values.get("page", 0) & 0xFFFF
+        state.locals.append((prefix, int.from_bytes(data, "little"), len(data), page))
         return
     if kind == 1:
         name = GLOBALS.get(prefix)
@@ -263,6 +274,13 @@ CASES = [
         ("cut-short", "a100c0fe"), ("cut-short", "a100c0fe05"), ("cut-short", "a100c0fe0501aabb"), ("as-usual", "a100c0fe0501aabb"),
         ("cut-short", "05010930750895018102 81".replace(" ", "")), ("cut-short", "81"), ("as-usual", "81"), ("cut-short", "09300081"),
     ]),
+    ("What hosts read as usages is no padding, and what they don't is.", [
+        ("as-usual", "05012905750195058102"), ("standard", "05012905750195058102"),
+        ("as-usual", "050919017501950181 02".replace(" ", "")), ("standard", "0509190175019501 8102".replace(" ", "")),
+        ("as-usual", "09307508950181 02".replace(" ", "")), ("standard", "09307508950181 02".replace(" ", "")),
+        ("as-usual", "0501190175089501810009308102"), ("standard globals", "0501a40930b4750895018102"),
+        ("as-usual", "0501a901a900a9010930a900750895018102"), ("standard", "0501a901a900a9010930a900750895018102"),
+    ]),
     ("Any other fault stays: the first of grammar, and then the first of meaning.", [
         ("as-usual", "b4"), ("as-usual", "c0"), ("as-usual", "c00026"), ("as-usual", "0501190175089501 8102".replace(" ", "")),
         ("as-usual", "09307508950181 02".replace(" ", "")), ("as-usual", "0019 01a100".replace(" ", "")), ("as-usual", "80c0"),
@@ -327,8 +345,9 @@ def print_refused():
     print("# compare/repairs.py wrote this file.\n")
     counts = Counter()
     for raw, refusal in refused_descriptors():
-        if outcome("all", raw) != outcome("as-usual", raw):
-            tell("all", raw.hex(), raw)
+        for words in ("all", "standard"):
+            if outcome(words, raw) != outcome("as-usual", raw):
+                tell(words, raw.hex(), raw)
         counts[refusal, tell("as-usual", raw.hex(), raw) == "read"] += 1
     return counts
 
