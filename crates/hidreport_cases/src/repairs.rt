@@ -8,8 +8,8 @@ use std::alloc::{AllocError, Global};
 use std::fmt::Write;
 
 /// Answers `repair WORD .. / BYTES`: the repaired bytes, and a line for each change, or the
-/// refusal. A word is `as-usual`, `all`, `globals`, `cut-short`, `unsigned`, `within=NUMBER` or
-/// `longest=NUMBER`.
+/// refusal. A word is `as-usual`, `all`, `globals`, `standard`, `hosts`, `cut-short`, `unsigned`,
+/// `within=NUMBER` or `longest=NUMBER`.
 pub fn add_repaired(alloc: Global, text: &mut String, words: &str) -> Result<(), Malformed> {
     let (words, bytes) = parts_of(words)?;
     let options = options_of(words)?;
