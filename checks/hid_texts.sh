@@ -70,8 +70,9 @@ while read -r digits wanted; do
     }
     refused=$((refused + status))
     comes_back
+    mv "$scratch/text" "$scratch/standard"
     decode
-    comes_back
+    cmp -s "$scratch/text" "$scratch/standard" || comes_back
 done < "$scratch/descriptors"
 asked=$(wc -l < "$scratch/descriptors")
 known=$(grep -c '[01]$' "$scratch/descriptors")
