@@ -52,6 +52,11 @@ pub mod OwnReportsLemmas
 pub mod WeightLemmas
 pub mod ParseLemmas
 pub mod ReadBackLemmas
+pub mod RunLemmas
+pub mod RunListLemmas
+pub mod RunReadLemmas
+pub mod FilledLemmas
+pub mod SignLemmas
 pub mod RefusalLemmas
 pub mod RepairLemmas
 pub mod KindLemmas

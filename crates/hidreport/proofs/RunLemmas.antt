@@ -1,0 +1,115 @@
+-- Runs of values stand for the fields that they were made of.
+use Rattle.std.proofs.Common.{◌≡◌, ℕ, zero, suc, ◌+◌, ◌-◌, ◌*◌, ◌<◌, ◌≤◌, Bool, true, false, cond}
+use Rattle.std.proofs.Common.{◌||◌, ◌&&◌, ◌==◌, nat_lt, nat_le, List, [], ◌∷◌, ◌++◌, length, Result, Ok, Err}
+use Rattle.std.proofs.Common.{refl, sym, ap, subst, ◌∙◌, arith, ℤ, append-nil, append_assoc}
+use Rattle.std.specs.Prelude.{flat_map, sum_by}
+use Rattle.std.proofs.Math.Nat.{mul-le-mul_left}
+use Rattle.std.proofs.lemmas.Bool.Decides.{nat_tests}
+use Rattle.std.proofs.lemmas.Grind.{common_steps}
+use Rattle.std.proofs.lemmas.List.Sums.{sum_by-append}
+use Rattle.hidreport_lists.specs.Answer.{Refusal, Bounds}
+use Rattle.hidreport.specs.BitValue.{as_word, value}
+use Rattle.hidreport.specs.Choosing.{value_number}
+use Rattle.hidreport.specs.Reader.{before_numbers, report_numbers}
+use Rattle.hidreport.specs.Reading.{ValueRecord, before_values, each_value, one_value, read_bits}
+use Rattle.hidreport.specs.Reading.{with_id, is_signed}
+use Rattle.hidreport.specs.Records.{FieldRecord, VariableRecord, ArrayRecord, ConstantRecord}
+use Rattle.hidreport.specs.Records.{FieldPlace, Attributes}
+use Rattle.hidreport.specs.Runs.{IsOpen, RunRecord, all_numbers, count_in, is_inside, number_at}
+use Rattle.hidreport.specs.Runs.{numbers_from, place_in, run_of, run_reads, run_value, runs_of}
+use Rattle.hidreport.specs.Runs.{StandFor, runs_read}
+use Rattle.hidreport.specs.Tiling.{Each}
+use Rattle.hidreport.specs.WritingLaws.{numbers_of, reads_numbers}
+use Rattle.hidreport.specs.WritingValues.{value_count}
+use Rattle.hidreport.specs.declared.field.usage.Usage.{Usage}
+use Rattle.hidreport.proofs.ReadBackLemmas.{ReadsAs, id-passes}
+use Rattle.hidreport.proofs.ValueBitsLemmas.{number-read}
+
+-- nothing behind
+before-none : (a : Result (List ℤ) Refusal) → before_numbers a (Ok []) ≡ a
+before-none (Err e) = refl
+before-none (Ok xs) = ap (λ (l : List ℤ). Ok l) (append-nil xs)
+
+before-assoc : (a b c : Result (List ℤ) Refusal)
+    → before_numbers (before_numbers a b) c ≡ before_numbers a (before_numbers b c)
+before-assoc (Err e) b c = refl
+before-assoc (Ok xs) (Err e) c = refl
+before-assoc (Ok xs) (Ok ys) (Err e) = refl
+before-assoc (Ok xs) (Ok ys) (Ok zs) = ap (λ (l : List ℤ). Ok l) (append_assoc xs ys zs)
+
+before-nothing : (a : Result (List ℤ) Refusal) → before_numbers (Ok []) a ≡ a
+before-nothing (Err e) = refl
+before-nothing (Ok xs) = refl
+
+-- runs behind runs
+runs-append : (xs ys : List RunRecord) (bytes : List ℕ)
+    → runs_read (xs ++ ys) bytes ≡ before_numbers (runs_read xs bytes) (runs_read ys bytes)
+runs-append [] ys bytes = sym (before-nothing (runs_read ys bytes))
+runs-append (x ∷ xs) ys bytes =
+    ap (before_numbers (run_reads x bytes)) (runs-append xs ys bytes)
+    ∙ sym (before-assoc (run_reads x bytes) (runs_read xs bytes) (runs_read ys bytes))
+
+-- a single value begins where its field does, and ends there
+one-place : (first end : ℕ) (s : Bool) (bytes : List ℕ)
+    → read_bits (first + (end - first) * 0) (first + (end - first) * 0 + (end - first)) s bytes
+    ≡ read_bits first end s bytes
+one-place first end s bytes =
+    let none : first + (end - first) * 0 ≡ first = omega arith in
+    ap (λ n. read_bits n (n + (end - first)) s bytes) none ∙ by (nat_le end first) refl where
+      by : (t : Bool) → nat_le end first ≡ t
+          → read_bits first (first + (end - first)) s bytes ≡ read_bits first end s bytes
+      by true e =
+          let a : nat_le (first + (end - first)) first ≡ true = grind (arith, nat_tests, e) in
+          rw (a, e) refl
+      by false e =
+          let lt : first < end = grind (arith, nat_tests, e) in
+          let a : first + (end - first) ≡ end = omega arith in
+          ap (λ n. read_bits first n s bytes) a
+
+one-value : (a : Result ValueRecord Refusal) → before_values a (Ok []) ≡ one_value a
+one-value (Err e) = refl
+one-value (Ok x) = refl
+
+-- the run of a field reads what it does
+run-field : (field : FieldRecord) (bytes : List ℕ)
+    → runs_read (run_of field) bytes ≡ reads_numbers field bytes
+run-field (VariableRecord place usage shared) bytes =
+    before-none _ ∙ ap (λ a. numbers_of (with_id place.report_id bytes a))
+    (one-value _ ∙ ap one_value (one-place place.first place.end (is_signed shared) bytes))
+run-field (ArrayRecord place usages is_range count shared) bytes = before-none _
+run-field (ConstantRecord place) bytes = refl
+
+-- so do the runs of all fields
+pub runs-fields : (fields : List FieldRecord) (bytes : List ℕ)
+    → runs_read (runs_of fields) bytes ≡ report_numbers fields bytes
+runs-fields [] bytes = refl
+runs-fields (field ∷ fields) bytes =
+    runs-append (run_of field) (runs_of fields) bytes
+    ∙ ap (λ a. before_numbers a (runs_read (runs_of fields) bytes)) (run-field field bytes)
+    ∙ ap (before_numbers (reads_numbers field bytes)) (runs-fields fields bytes)
+
+-- and they have as many values
+run-count : (field : FieldRecord) → count_in (run_of field) ≡ value_count field
+run-count (VariableRecord place usage shared) = refl
+run-count (ArrayRecord place usages is_range count shared) = grind (arith, common_steps)
+run-count (ConstantRecord place) = refl
+
+pub runs-count : (fields : List FieldRecord) → count_in (runs_of fields) ≡ sum_by value_count fields
+runs-count [] = refl
+runs-count (field ∷ fields) =
+    let here = run-count field in
+    let rest = runs-count fields in
+    let parts : count_in (runs_of (field ∷ fields)) ≡ count_in (run_of field) + count_in (runs_of fields) =
+    sum_by-append (λ (run : RunRecord). run.count) (run_of field) (runs_of fields) in
+    parts ∙ ap (λ n. n + count_in (runs_of fields)) here
+    ∙ ap (λ n. value_count field + n) rest ∙ sym (sum-cons value_count field fields) where
+      sum-cons : (f : FieldRecord → ℕ) (x : FieldRecord) (xs : List FieldRecord)
+          → sum_by f (x ∷ xs) ≡ f x + sum_by f xs
+      sum-cons f x xs = grind (arith, common_steps)
+
+-- so they stand for them
+pub runs-stand : (fields : List FieldRecord) → StandFor fields (runs_of fields)
+runs-stand fields = record {
+  reads = runs-fields fields;
+  count = runs-count fields;
+}

@@ -1,0 +1,73 @@
+//! All values of a report in one pass (Sections 5.6 and 5.8).
+ghost use Rattle.std.specs.Prelude.{◌≡◌, ◌≢◌, Err, IfErr, IfOk, List, sum_by};
+ghost use Rattle.hidreport_lists.specs.Answer.{IsOfReading};
+ghost use Rattle.hidreport.specs.Reader.{ReadsInto, report_numbers};
+ghost use Rattle.hidreport.specs.Records.{FieldRecord};
+ghost use Rattle.hidreport.specs.Runs.{StandFor, count_in, runs_read};
+ghost use Rattle.hidreport.specs.WritingValues.{value_count};
+
+mod run;
+mod run_list;
+
+use crate::report::{RDescReport, Report};
+use hidreport_lists::ParserError;
+use run_list::RunList;
+use std::alloc::{AllocError, Global};
+use std::marker::Model;
+
+/// A report's fields, laid out once so that its values are read in one pass (Section 5.8).
+///
+/// It stands for the fields as they were when it was made, and lends nothing of the report.
+#[derive(Debug, Drop)]
+pub struct Reader {
+    runs: RunList,
+    value_count: usize,
+}
+
+impl Model for Reader {
+    ghost use Rattle.std.specs.Prelude.{◌≡◌, ◌<◌, ◌^◌, List};
+    ghost use Rattle.hidreport.specs.Runs.{RunRecord, count_in};
+
+    ghost Value = { List RunRecord };
+
+    ghost view = { λ r. r.runs };
+
+    ghost invariant = { λ r. (r.value_count ≡ count_in r.runs) × (count_in r.runs < 2 ^ 64) };
+}
+
+impl Reader {
+    /// A reader of a report's fields, in their order.
+    ///
+    /// # Errors
+    ///
+    /// - `AllocError`: memory for it is refused, or the fields have more than `usize::MAX` values.
+    pub fn new(alloc: Global, report: &RDescReport) -> Result<Reader, AllocError>
+        ensures { IfOk result (λ reader. StandFor report.now.fields reader) }
+    {
+        let runs = RunList::of(alloc, *report.report_id(), report.fields())?;
+        let value_count = runs.value_count().ok_or(AllocError)?;
+        Ok(Reader { runs, value_count })
+    }
+
+    /// How many values the fields have: one for each variable field, and for an array its count.
+    pub fn value_count(&self) -> usize
+        ensures counted { result ≡ count_in self.now }
+        ensures fields { (fields : List FieldRecord) → StandFor fields self.now
+            → result ≡ sum_by value_count fields }
+    {
+        self.value_count
+    }
+
+    /// Reads the values of all fields, in order, from a report that has these bytes.
+    pub fn read(&self, bytes: &[u8], values: &mut [i64]) -> Result<usize, ParserError>
+        ensures answer { ReadsInto result values.old values.new (runs_read self.now bytes.now) }
+        ensures fields { (fields : List FieldRecord) → StandFor fields self.now
+            → ReadsInto result values.old values.new (report_numbers fields bytes.now) }
+        ensures named { IfErr result IsOfReading }
+        ensures memory { result ≢ Err ParserError.OutOfMemory }
+    {
+        self.runs.check(bytes)?;
+        self.runs.put(bytes, values);
+        Ok(self.value_count)
+    }
+}
