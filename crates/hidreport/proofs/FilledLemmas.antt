@@ -29,7 +29,7 @@ filled-more (n ∷ numbers) done values place e =
     ∙ ap (λ l. filled l values) (append_assoc done (n ∷ []) numbers)
 
 -- one more at the end
-set-next : (numbers : List ℤ) (number : ℤ) (place : ℕ) (values : List ℤ)
+pub set-next : (numbers : List ℤ) (number : ℤ) (place : ℕ) (values : List ℤ)
     → set_from place (numbers ++ number ∷ []) values
     ≡ slice_set (set_from place numbers values) (place + length numbers) number
 set-next [] number place values =

@@ -52,6 +52,7 @@ pub mod OwnReportsLemmas
 pub mod WeightLemmas
 pub mod ParseLemmas
 pub mod ReadBackLemmas
+pub mod AvailableLemmas
 pub mod RunLemmas
 pub mod RunListLemmas
 pub mod RunReadLemmas

@@ -5,19 +5,21 @@ use Rattle.std.proofs.Common.{refl, sym, ap, subst, ◌∙◌, arith, ℤ, appen
 use Rattle.std.specs.Prelude.{flat_map, sum_by}
 use Rattle.std.proofs.Math.Nat.{mul-le-mul_left}
 use Rattle.std.proofs.lemmas.Bool.Decides.{nat_tests}
-use Rattle.std.proofs.lemmas.Grind.{common_steps}
+use Rattle.std.proofs.lemmas.Grind.{common_steps, flat_map-append}
 use Rattle.std.proofs.lemmas.List.Sums.{sum_by-append}
-use Rattle.hidreport_lists.specs.Answer.{Refusal, Bounds}
+use Rattle.std.specs.List.{list_any}
+use Rattle.hidreport_lists.specs.Answer.{Refusal, Bounds, Mismatch}
 use Rattle.hidreport.specs.BitValue.{as_word, value}
 use Rattle.hidreport.specs.Choosing.{value_number}
-use Rattle.hidreport.specs.Reader.{before_numbers, report_numbers}
+use Rattle.hidreport.specs.Reader.{available_numbers, before_numbers, begins_otherwise, each_alone}
+use Rattle.hidreport.specs.Reader.{numbers_before, report_numbers, value_alone, values_alone}
 use Rattle.hidreport.specs.Reading.{ValueRecord, before_values, each_value, one_value, read_bits}
 use Rattle.hidreport.specs.Reading.{with_id, is_signed}
 use Rattle.hidreport.specs.Records.{FieldRecord, VariableRecord, ArrayRecord, ConstantRecord}
-use Rattle.hidreport.specs.Records.{FieldPlace, Attributes}
+use Rattle.hidreport.specs.Records.{FieldPlace, Attributes, own_id}
 use Rattle.hidreport.specs.Runs.{IsOpen, RunRecord, all_numbers, count_in, is_inside, number_at}
 use Rattle.hidreport.specs.Runs.{numbers_from, place_in, run_of, run_reads, run_value, runs_of}
-use Rattle.hidreport.specs.Runs.{StandFor, runs_read}
+use Rattle.hidreport.specs.Runs.{StandFor, runs_alone, runs_available, runs_read}
 use Rattle.hidreport.specs.Tiling.{Each}
 use Rattle.hidreport.specs.WritingLaws.{numbers_of, reads_numbers}
 use Rattle.hidreport.specs.WritingValues.{value_count}
@@ -107,9 +109,51 @@ runs-count (field ∷ fields) =
           → sum_by f (x ∷ xs) ≡ f x + sum_by f xs
       sum-cons f x xs = grind (arith, common_steps)
 
+-- values alone are those of the fields
+alone-field : (field : FieldRecord) (bytes : List ℕ)
+    → runs_alone (run_of field) bytes ≡ each_alone (value_alone field bytes) 0 (value_count field)
+alone-field (VariableRecord place usage shared) bytes =
+    ap (λ a. a ∷ []) (one-place place.first place.end (is_signed shared) bytes)
+alone-field (ArrayRecord place usages is_range count shared) bytes = append-nil _
+alone-field (ConstantRecord place) bytes = refl
+
+runs-alone : (fields : List FieldRecord) (bytes : List ℕ)
+    → runs_alone (runs_of fields) bytes ≡ values_alone fields bytes
+runs-alone [] bytes = refl
+runs-alone (field ∷ fields) bytes =
+    flat_map-append (λ (run : RunRecord). each_alone (run_value run bytes) 0 run.count)
+    (run_of field) (runs_of fields)
+    ∙ ap (λ l. l ++ runs_alone (runs_of fields) bytes) (alone-field field bytes)
+    ∙ ap (λ l. each_alone (value_alone field bytes) 0 (value_count field) ++ l)
+    (runs-alone fields bytes)
+
+-- so is the id that they are read by
+abbrev another : List ℕ → RunRecord → Bool
+another bytes run = begins_otherwise bytes run.id
+
+runs-another : (fields : List FieldRecord) (bytes : List ℕ)
+    → list_any (another bytes) (runs_of fields)
+    ≡ list_any (λ field. begins_otherwise bytes (own_id field)) fields
+runs-another [] bytes = refl
+runs-another (VariableRecord place usage shared ∷ fields) bytes =
+    let rest = runs-another fields bytes in grind (arith, common_steps, rest)
+runs-another (ArrayRecord place usages is_range count shared ∷ fields) bytes =
+    let rest = runs-another fields bytes in grind (arith, common_steps, rest)
+runs-another (ConstantRecord place ∷ fields) bytes =
+    let rest = runs-another fields bytes in grind (arith, common_steps, rest)
+
+runs-has : (fields : List FieldRecord) (bytes : List ℕ)
+    → runs_available (runs_of fields) bytes ≡ available_numbers fields bytes
+runs-has fields bytes =
+    ap (λ b. cond b (Err Mismatch) (Ok (numbers_before (runs_alone (runs_of fields) bytes))))
+    (runs-another fields bytes)
+    ∙ ap (λ l. cond (list_any (λ field. begins_otherwise bytes (own_id field)) fields) (Err Mismatch)
+    (Ok (numbers_before l))) (runs-alone fields bytes)
+
 -- so they stand for them
 pub runs-stand : (fields : List FieldRecord) → StandFor fields (runs_of fields)
 runs-stand fields = record {
   reads = runs-fields fields;
+  has = runs-has fields;
   count = runs-count fields;
 }

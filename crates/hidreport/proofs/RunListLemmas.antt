@@ -5,14 +5,17 @@ use Rattle.std.proofs.Common.{◌||◌, ◌&&◌, ◌==◌, nat_lt, nat_le, refl
 use Rattle.std.specs.Prelude.{flat_map, sum_by}
 use Rattle.std.proofs.lemmas.Bool.Decides.{nat_tests}
 use Rattle.std.proofs.lemmas.Grind.{common_steps, flat_map-append}
-use Rattle.std.proofs.lemmas.List.Sums.{sum_by-append}
+use Rattle.std.proofs.lemmas.List.Sums.{sum_by-append, sum_by-take-le}
 use Rattle.hidreport_lists.specs.Answer.{Refusal, Refuses}
 use Rattle.hidreport_lists.specs.declared.error.ParserError.{ParserError}
-use Rattle.hidreport.specs.Reader.{filled}
+use Rattle.hidreport.specs.Reader.{each_alone, filled, numbers_before}
 use Rattle.hidreport.specs.Reading.{with_id}
 use Rattle.hidreport.specs.Runs.{IsOpen, IsPlain, RunRecord, all_numbers, count_in, is_inside}
-use Rattle.hidreport.specs.Runs.{numbers_from, place_in, run_reads, runs_read, set_from}
+use Rattle.hidreport.specs.Runs.{numbers_from, place_in, run_reads, run_value, runs_alone, runs_read}
+use Rattle.hidreport.specs.Runs.{set_from}
 use Rattle.hidreport.specs.Tiling.{Each}
+use Rattle.std.proofs.lemmas.List.{length-append, take-append-drop}
+use Rattle.hidreport.proofs.AvailableLemmas.{before-part, before-whole, length-alone}
 use Rattle.hidreport.proofs.FilledLemmas.{filled-more}
 use Rattle.hidreport.proofs.RunReadLemmas.{carries, first-refuses, length-all}
 
@@ -114,3 +117,85 @@ plain-open id n bytes runs le passes each =
       own = own-by run.id id bytes plain.own passes;
       inside = more-inside run (8 * n) (8 * length bytes) (omega (arith, le)) plain.inside;
     }) runs each
+
+-- values that are there, run by run
+pub length-alone-all : (runs : List RunRecord) (bytes : List ℕ)
+    → length (runs_alone runs bytes) ≡ count_in runs
+length-alone-all [] bytes = refl
+length-alone-all (run ∷ runs) bytes =
+    let here = length-alone (run_value run bytes) 0 run.count in
+    let rest = length-alone-all runs bytes in
+    grind (arith, common_steps, here, rest)
+
+alone-taken : (xs : List RunRecord) (i : ℕ) (x : RunRecord) (bytes : List ℕ) → i < length xs
+    → x ≡ get_or xs i x → runs_alone (take (i + 1) xs) bytes
+    ≡ runs_alone (take i xs) bytes ++ each_alone (run_value x bytes) 0 x.count
+alone-taken xs i x bytes lt e =
+    let one : runs_alone (x ∷ []) bytes ≡ each_alone (run_value x bytes) 0 x.count =
+    grind (arith, common_steps) in
+    ap (λ l. runs_alone l bytes) (taken-next xs i x lt e)
+    ∙ flat_map-append (λ (run : RunRecord). each_alone (run_value run bytes) 0 run.count) (take i xs) (x ∷ [])
+    ∙ ap (λ l. runs_alone (take i xs) bytes ++ l) one
+
+-- what is there up to an index, and of the run there
+pub available-next : (xs : List RunRecord) (i : ℕ) (x : RunRecord) (bytes : List ℕ) → i < length xs
+    → x ≡ get_or xs i x
+    → length (numbers_before (runs_alone (take i xs) bytes)) ≡ count_in (take i xs)
+    → numbers_before (runs_alone (take (i + 1) xs) bytes)
+    ≡ numbers_before (runs_alone (take i xs) bytes)
+    ++ numbers_before (each_alone (run_value x bytes) 0 x.count)
+available-next xs i x bytes lt e whole =
+    ap numbers_before (alone-taken xs i x bytes lt e)
+    ∙ before-whole (runs_alone (take i xs) bytes) (each_alone (run_value x bytes) 0 x.count)
+    (whole ∙ sym (length-alone-all (take i xs) bytes))
+
+pub available-length : (xs : List RunRecord) (i : ℕ) (x : RunRecord) (bytes : List ℕ)
+    → i < length xs → x ≡ get_or xs i x
+    → length (numbers_before (runs_alone (take i xs) bytes)) ≡ count_in (take i xs)
+    → length (numbers_before (runs_alone (take (i + 1) xs) bytes))
+    ≡ count_in (take i xs) + length (numbers_before (each_alone (run_value x bytes) 0 x.count))
+available-length xs i x bytes lt e whole =
+    ap length (available-next xs i x bytes lt e whole)
+    ∙ length-append (numbers_before (runs_alone (take i xs) bytes))
+    (numbers_before (each_alone (run_value x bytes) 0 x.count))
+    ∙ ap (λ n. n + length (numbers_before (each_alone (run_value x bytes) 0 x.count))) whole
+
+-- so many values as one run more has are still counted
+pub count-room : (xs : List RunRecord) (i : ℕ) (x : RunRecord) → i < length xs → x ≡ get_or xs i x
+    → count_in (take i xs) + x.count ≤ count_in xs
+count-room xs i x lt e =
+    let next = count-taken xs i x lt e in
+    let le : count_in (take (i + 1) xs) ≤ count_in xs =
+    sum_by-take-le (λ (run : RunRecord). run.count) xs (i + 1) in
+    omega (arith, next, le)
+
+-- so they are put in place
+pub put-available-next : (xs : List RunRecord) (i : ℕ) (x : RunRecord) (bytes : List ℕ) (place : ℕ)
+    (values : List ℤ) → i < length xs → x ≡ get_or xs i x
+    → length (numbers_before (runs_alone (take i xs) bytes)) ≡ count_in (take i xs)
+    → place ≡ length (numbers_before (runs_alone (take i xs) bytes))
+    → set_from place (numbers_before (each_alone (run_value x bytes) 0 x.count))
+    (filled (numbers_before (runs_alone (take i xs) bytes)) values)
+    ≡ filled (numbers_before (runs_alone (take (i + 1) xs) bytes)) values
+put-available-next xs i x bytes place values lt e whole size =
+    filled-more (numbers_before (each_alone (run_value x bytes) 0 x.count))
+    (numbers_before (runs_alone (take i xs) bytes)) values place size
+    ∙ ap (λ l. filled l values) (sym (available-next xs i x bytes lt e whole))
+
+-- a run that isn't there as a whole ends all
+pub available-stops : (xs : List RunRecord) (i : ℕ) (x : RunRecord) (bytes : List ℕ) → i < length xs
+    → x ≡ get_or xs i x
+    → length (numbers_before (runs_alone (take i xs) bytes)) ≡ count_in (take i xs)
+    → length (numbers_before (each_alone (run_value x bytes) 0 x.count)) < x.count
+    → numbers_before (runs_alone xs bytes) ≡ numbers_before (runs_alone (take (i + 1) xs) bytes)
+available-stops xs i x bytes lt e whole part =
+    let front = runs_alone (take (i + 1) xs) bytes in
+    let parts : runs_alone xs bytes ≡ front ++ runs_alone (drop (i + 1) xs) bytes =
+    ap (λ l. runs_alone l bytes) (sym (take-append-drop (i + 1) xs))
+    ∙ flat_map-append (λ (run : RunRecord). each_alone (run_value run bytes) 0 run.count)
+    (take (i + 1) xs) (drop (i + 1) xs) in
+    let here : length front ≡ count_in (take i xs) + x.count =
+    length-alone-all (take (i + 1) xs) bytes ∙ count-taken xs i x lt e in
+    let there = available-length xs i x bytes lt e whole in
+    ap numbers_before parts
+    ∙ before-part front (runs_alone (drop (i + 1) xs) bytes) (omega (arith, here, there, part))

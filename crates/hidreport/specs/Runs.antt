@@ -1,10 +1,12 @@
 -- What a reader keeps of a report: runs of values side by side (Section 5.8).
 use Rattle.std.specs.Prelude.{◌≡◌, ◌⊎◌, ℕ, ℤ, zero, suc, ◌+◌, ◌-◌, ◌*◌, ◌==◌, ◌&&◌, ◌||◌, nat_lt, nat_le}
-use Rattle.std.specs.Prelude.{Bool, List, [], ◌∷◌, ◌++◌, Option, None, Result, Ok, length, sum_by, flat_map}
+use Rattle.std.specs.Prelude.{Bool, List, [], ◌∷◌, ◌++◌, Option, None, Result, Ok, Err, if◌then◌else◌, length, sum_by, flat_map}
 use Rattle.std.specs.Prelude.{slice_set, true}
-use Rattle.hidreport_lists.specs.Answer.{Refusal}
+use Rattle.std.specs.List.{list_any}
+use Rattle.hidreport_lists.specs.Answer.{Refusal, Mismatch}
 use Rattle.hidreport.specs.BitValue.{value}
-use Rattle.hidreport.specs.Reader.{before_numbers, report_numbers}
+use Rattle.hidreport.specs.Reader.{available_numbers, before_numbers, begins_otherwise, each_alone}
+use Rattle.hidreport.specs.Reader.{numbers_before, report_numbers}
 use Rattle.hidreport.specs.Reading.{ValueRecord, each_value, element_width, is_signed, read_bits}
 use Rattle.hidreport.specs.Reading.{with_id}
 use Rattle.hidreport.specs.Records.{FieldRecord, VariableRecord, ArrayRecord, ConstantRecord}
@@ -58,6 +60,16 @@ abbrev pub runs_read : List RunRecord → List ℕ → Result (List ℤ) Refusal
 runs_read [] bytes = Ok []
 runs_read (run ∷ runs) bytes = before_numbers (run_reads run bytes) (runs_read runs bytes)
 
+-- the values of runs, each by itself
+abbrev pub runs_alone : List RunRecord → List ℕ → List (Result ValueRecord Refusal)
+runs_alone runs bytes = flat_map (λ run. each_alone (run_value run bytes) 0 run.count) runs
+
+-- the numbers of runs up to the first that isn't there
+abbrev pub runs_available : List RunRecord → List ℕ → Result (List ℤ) Refusal
+runs_available runs bytes =
+    if list_any (λ (run : RunRecord). begins_otherwise bytes run.id) runs then Err Mismatch
+    else Ok (numbers_before (runs_alone runs bytes))
+
 -- all values of a run have some bits, at most 32, and lie in so many
 abbrev pub is_inside : RunRecord → ℕ → Bool
 is_inside run room = (run.count == 0) || (nat_lt 0 run.width && (nat_le run.width 32
@@ -93,6 +105,7 @@ pub record IsPlain (id : Option ℕ) (bytes : ℕ) (run : RunRecord) : Type 0 wh
 -- the runs read what these fields do
 pub record StandFor (fields : List FieldRecord) (runs : List RunRecord) : Type 0 where
   pub reads : (bytes : List ℕ) → runs_read runs bytes ≡ report_numbers fields bytes
+  pub has : (bytes : List ℕ) → runs_available runs bytes ≡ available_numbers fields bytes
   pub count : count_in runs ≡ sum_by value_count fields
 
 -- numbers in place of the values from this one on, as far as there is room

@@ -1,9 +1,9 @@
 //! All values of a report in one pass (Sections 5.6 and 5.8).
 ghost use Rattle.std.specs.Prelude.{◌≡◌, ◌≢◌, Err, IfErr, IfOk, List, sum_by};
 ghost use Rattle.hidreport_lists.specs.Answer.{IsOfReading};
-ghost use Rattle.hidreport.specs.Reader.{ReadsInto, report_numbers};
+ghost use Rattle.hidreport.specs.Reader.{ReadsInto, available_numbers, report_numbers};
 ghost use Rattle.hidreport.specs.Records.{FieldRecord};
-ghost use Rattle.hidreport.specs.Runs.{StandFor, count_in, runs_read};
+ghost use Rattle.hidreport.specs.Runs.{StandFor, count_in, runs_available, runs_read};
 ghost use Rattle.hidreport.specs.WritingValues.{value_count};
 
 mod run;
@@ -69,5 +69,21 @@ impl Reader {
         self.runs.check(bytes)?;
         self.runs.put(bytes, values);
         Ok(self.value_count)
+    }
+
+    /// Reads the values that these bytes of a report have, in order, up to the first that they don't
+    /// have: what hosts do with a report that is cut short.
+    pub fn read_available(&self, bytes: &[u8], values: &mut [i64]) -> Result<usize, ParserError>
+        ensures answer { ReadsInto result values.old values.new
+            (runs_available self.now bytes.now) }
+        ensures fields { (fields : List FieldRecord) → StandFor fields self.now
+            → ReadsInto result values.old values.new (available_numbers fields bytes.now) }
+        ensures named { result ≢ Err ParserError.OutOfBounds }
+        ensures memory { result ≢ Err ParserError.OutOfMemory }
+    {
+        if self.runs.are_of_another(bytes) {
+            return Err(ParserError::MismatchingReportId);
+        }
+        Ok(self.runs.put_available(bytes, values))
     }
 }

@@ -4,12 +4,13 @@ ghost use Rattle.std.specs.Prelude.{length, slice_set, take, drop, IfErr, IfSome
 ghost use Rattle.hidreport_items.specs.Numbers.{word};
 ghost use Rattle.hidreport_lists.specs.Answer.{IsOfReading, Refuses};
 ghost use Rattle.hidreport.specs.BitValue.{sum_of_bits, value};
+ghost use Rattle.hidreport.specs.Reader.{begins_otherwise, each_alone, numbers_before};
 ghost use Rattle.hidreport.specs.Runs.{IsOpen, IsPlain, is_inside, numbers_from, place_in, run_of, run_reads};
-ghost use Rattle.hidreport.specs.Runs.{set_from};
+ghost use Rattle.hidreport.specs.Runs.{run_value, set_from};
 ghost use Rattle.hidreport.specs.Views.{field_record};
 
 use crate::field::Field;
-use crate::field::value::{check_id, sum_of_bits};
+use crate::field::value::{check_id, read_bits, sum_of_bits};
 use hidreport_lists::ParserError;
 use hidreport_types::ReportId;
 use std::marker::Model;
@@ -114,6 +115,37 @@ impl Run {
         }
         let end = self.first + self.width * self.count;
         Some(end.div_ceil(8))
+    }
+
+    /// Whether bytes begin with another id than that which the values are read by.
+    pub(crate) fn is_of_another(&self, bytes: &[u8]) -> bool
+        ensures { result ≡ begins_otherwise bytes.now self.now.id }
+    {
+        match (&self.report_id, bytes) {
+            (None, _) | (Some(_), []) => false,
+            (Some(id), [first, ..]) => u8::from(*id) != *first,
+        }
+    }
+
+    /// Puts the run's numbers in place of the values from `place` on, as far as there is room, up to
+    /// the first that the bytes don't have; how many they have.
+    pub(crate) fn put_available(&self, bytes: &[u8], place: usize, values: &mut [i64]) -> usize
+        requires counted { place + self.now.count < 2 ^ 64 }
+        ensures values { values.new ≡ set_from place
+            (numbers_before (each_alone (run_value self.now bytes.now) 0 self.now.count)) values.old }
+        ensures count { result
+            ≡ length (numbers_before (each_alone (run_value self.now bytes.now) 0 self.now.count)) }
+        ensures most { result ≤ self.now.count }
+    {
+        for index in 0..self.count {
+            let first = self.first + self.width * index;
+            let bits = first..first + self.width;
+            let Some(value) = read_bits(bytes, &bits, self.is_signed) else {
+                return index;
+            };
+            set_at(values, place + index, i64::from(value));
+        }
+        self.count
     }
 
     /// Puts the run's numbers in place of the values from `place` on, as far as there is room.

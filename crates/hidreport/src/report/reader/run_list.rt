@@ -1,10 +1,11 @@
 //! The runs of a report, and when bytes have all of them (Sections 5.6 and 5.8).
-ghost use Rattle.std.specs.Prelude.{◌≡◌, ◌≢◌, ◌<◌, ◌^◌, Err, Ok, IfErr, IfOk, IfSome, IsTrue, OnOk, map};
+ghost use Rattle.std.specs.Prelude.{◌≡◌, ◌≢◌, ◌<◌, ◌^◌, Err, Ok, IfErr, IfOk, IfSome, IsTrue, OnOk, length, map};
+ghost use Rattle.std.specs.List.{list_any};
 ghost use Rattle.hidreport_lists.specs.Answer.{IsOfReading, Refuses};
-ghost use Rattle.hidreport.specs.Reader.{filled};
+ghost use Rattle.hidreport.specs.Reader.{begins_otherwise, filled, numbers_before};
 ghost use Rattle.hidreport.specs.Reading.{with_id};
 ghost use Rattle.hidreport.specs.Runs.{IsOpen, IsPlain, StandFor, all_numbers, count_in, runs_of};
-ghost use Rattle.hidreport.specs.Runs.{runs_read};
+ghost use Rattle.hidreport.specs.Runs.{RunRecord, runs_alone, runs_read};
 ghost use Rattle.hidreport.specs.Tiling.{Each};
 ghost use Rattle.hidreport.specs.Views.{field_record};
 
@@ -86,6 +87,25 @@ impl RunList {
             Some(enough) => enough <= bytes.len() && begin_with(bytes, &self.report_id),
             None => false,
         }
+    }
+
+    /// Whether bytes begin with another id than that which one of the runs is read by.
+    pub(crate) fn are_of_another(&self, bytes: &[u8]) -> bool
+        ensures { result
+            ≡ list_any (λ (run : RunRecord). begins_otherwise bytes.now run.id) self.now }
+    {
+        self.runs.iter().any(|run| run.is_of_another(bytes))
+    }
+
+    /// Puts numbers in place of the first values, as far as there is room, up to the first that the
+    /// bytes don't have; how many they have.
+    pub(crate) fn put_available(&self, bytes: &[u8], values: &mut [i64]) -> usize
+        requires counted { count_in self.now < 2 ^ 64 }
+        ensures values { values.new
+            ≡ filled (numbers_before (runs_alone self.now bytes.now)) values.old }
+        ensures count { result ≡ length (numbers_before (runs_alone self.now bytes.now)) }
+    {
+        put_available(&self.runs, bytes, values)
     }
 
     /// Puts the numbers of all runs in place of the first values, as far as there is room.
@@ -170,4 +190,22 @@ fn put_all(runs: &[Run], bytes: &[u8], values: &mut [i64])
         run.put(bytes, place, values);
         place += run.count();
     }
+}
+
+/// Puts numbers in place of the first values, as far as there is room, up to the first that the bytes
+/// don't have; how many they have.
+fn put_available(runs: &[Run], bytes: &[u8], values: &mut [i64]) -> usize
+    requires counted { count_in runs.now < 2 ^ 64 }
+    ensures values { values.new ≡ filled (numbers_before (runs_alone runs.now bytes.now)) values.old }
+    ensures count { result ≡ length (numbers_before (runs_alone runs.now bytes.now)) }
+{
+    let mut place = 0;
+    for run in runs {
+        let count = run.put_available(bytes, place, values);
+        place += count;
+        if count < run.count() {
+            return place;
+        }
+    }
+    place
 }
