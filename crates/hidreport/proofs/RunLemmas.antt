@@ -1,31 +1,24 @@
 -- Runs of values stand for the fields that they were made of.
-use Rattle.std.proofs.Common.{◌≡◌, ℕ, zero, suc, ◌+◌, ◌-◌, ◌*◌, ◌<◌, ◌≤◌, Bool, true, false, cond}
-use Rattle.std.proofs.Common.{◌||◌, ◌&&◌, ◌==◌, nat_lt, nat_le, List, [], ◌∷◌, ◌++◌, length, Result, Ok, Err}
-use Rattle.std.proofs.Common.{refl, sym, ap, subst, ◌∙◌, arith, ℤ, append-nil, append_assoc}
-use Rattle.std.specs.Prelude.{flat_map, sum_by}
-use Rattle.std.proofs.Math.Nat.{mul-le-mul_left}
+use Rattle.std.proofs.Common.{◌≡◌, ℕ, ◌+◌, ◌-◌, ◌*◌, ◌<◌, Bool, true, false, cond}
+use Rattle.std.proofs.Common.{nat_le, List, [], ◌∷◌, ◌++◌, Result, Ok, Err}
+use Rattle.std.proofs.Common.{refl, sym, ap, ◌∙◌, arith, ℤ, append-nil, append_assoc}
+use Rattle.std.specs.Prelude.{sum_by}
 use Rattle.std.proofs.lemmas.Bool.Decides.{nat_tests}
 use Rattle.std.proofs.lemmas.Grind.{common_steps, flat_map-append}
 use Rattle.std.proofs.lemmas.List.Sums.{sum_by-append}
 use Rattle.std.specs.List.{list_any}
-use Rattle.hidreport_lists.specs.Answer.{Refusal, Bounds, Mismatch}
-use Rattle.hidreport.specs.BitValue.{as_word, value}
-use Rattle.hidreport.specs.Choosing.{value_number}
+use Rattle.hidreport_lists.specs.Answer.{Refusal, Mismatch}
 use Rattle.hidreport.specs.Reader.{available_numbers, before_numbers, begins_otherwise, each_alone}
 use Rattle.hidreport.specs.Reader.{numbers_before, report_numbers, value_alone, values_alone}
-use Rattle.hidreport.specs.Reading.{ValueRecord, before_values, each_value, one_value, read_bits}
+use Rattle.hidreport.specs.Reading.{ValueRecord, before_values, one_value, read_bits}
 use Rattle.hidreport.specs.Reading.{with_id, is_signed}
 use Rattle.hidreport.specs.Records.{FieldRecord, VariableRecord, ArrayRecord, ConstantRecord}
-use Rattle.hidreport.specs.Records.{FieldPlace, Attributes, own_id}
-use Rattle.hidreport.specs.Runs.{IsOpen, RunRecord, all_numbers, count_in, is_inside, number_at}
-use Rattle.hidreport.specs.Runs.{numbers_from, place_in, run_of, run_reads, run_value, runs_of}
+use Rattle.hidreport.specs.Records.{own_id}
+use Rattle.hidreport.specs.Runs.{RunRecord, count_in}
+use Rattle.hidreport.specs.Runs.{run_of, run_reads, run_value, runs_of}
 use Rattle.hidreport.specs.Runs.{StandFor, runs_alone, runs_available, runs_read}
-use Rattle.hidreport.specs.Tiling.{Each}
 use Rattle.hidreport.specs.WritingLaws.{numbers_of, reads_numbers}
 use Rattle.hidreport.specs.WritingValues.{value_count}
-use Rattle.hidreport.specs.declared.field.usage.Usage.{Usage}
-use Rattle.hidreport.proofs.ReadBackLemmas.{ReadsAs, id-passes}
-use Rattle.hidreport.proofs.ValueBitsLemmas.{number-read}
 
 -- nothing behind
 before-none : (a : Result (List ℤ) Refusal) → before_numbers a (Ok []) ≡ a

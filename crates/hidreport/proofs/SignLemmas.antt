@@ -1,6 +1,6 @@
 -- A sum of bits as a number, with the sign of its top bit.
 use Rattle.std.proofs.Common.{◌≡◌, ℕ, zero, suc, ◌+◌, ◌-◌, ◌*◌, ◌%◌, ◌^◌, ◌<◌, ◌≤◌, ◌⊎◌, inl, inr}
-use Rattle.std.proofs.Common.{true, false, ℤ, pos, negsuc, ◌-ℤ◌, List, refl, sym, ap, subst, ◌∙◌, arith}
+use Rattle.std.proofs.Common.{true, false, pos, ◌-ℤ◌, List, refl, sym, ap, subst, ◌∙◌, arith}
 use Rattle.std.proofs.Common.{to_z, of_z}
 use Rattle.std.specs.Int.{w64}
 use Rattle.std.proofs.Math.Nat.{two-pow-succ}

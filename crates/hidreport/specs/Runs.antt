@@ -1,6 +1,6 @@
 -- What a reader keeps of a report: runs of values side by side (Section 5.8).
 use Rattle.std.specs.Prelude.{◌≡◌, ◌⊎◌, ℕ, ℤ, zero, suc, ◌+◌, ◌-◌, ◌*◌, ◌==◌, ◌&&◌, ◌||◌, nat_lt, nat_le}
-use Rattle.std.specs.Prelude.{Bool, List, [], ◌∷◌, ◌++◌, Option, None, Result, Ok, Err, if◌then◌else◌, length, sum_by, flat_map}
+use Rattle.std.specs.Prelude.{Bool, List, [], ◌∷◌, Option, None, Result, Ok, Err, if◌then◌else◌, length, sum_by, flat_map}
 use Rattle.std.specs.Prelude.{slice_set, true}
 use Rattle.std.specs.List.{list_any}
 use Rattle.hidreport_lists.specs.Answer.{Refusal, Mismatch}

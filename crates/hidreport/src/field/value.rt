@@ -192,7 +192,7 @@ pub(crate) fn word(bytes: &[u8]) -> u64
 
 /// The bits from `first` on as one number, the first as the lowest: the few bytes that they
 /// touch, without the bits below and behind.
-pub(crate) fn sum_of_bits(bytes: &[u8], first: usize, width: usize) -> u64
+fn sum_of_bits(bytes: &[u8], first: usize, width: usize) -> u64
     requires narrow { width ≤ 32 }
     requires within { first + width ≤ 8 * length bytes.now }
     requires counted { first + width < 2 ^ 64 }

@@ -15,7 +15,7 @@ use run_list::RunList;
 use std::alloc::{AllocError, Global};
 use std::marker::Model;
 
-/// A report's fields, laid out once so that its values are read in one pass (Section 5.8).
+/// A report's fields, laid out once so that all its values are read in one pass (Section 5.8).
 ///
 /// It stands for the fields as they were when it was made, and lends nothing of the report.
 #[derive(Debug, Drop)]
@@ -38,6 +38,8 @@ impl Model for Reader {
 impl Reader {
     /// A reader of a report's fields, in their order.
     ///
+    /// Memory is taken here alone: 40 bytes for each field that isn't padding.
+    ///
     /// # Errors
     ///
     /// - `AllocError`: memory for it is refused, or the fields have more than `usize::MAX` values.
@@ -49,7 +51,7 @@ impl Reader {
         Ok(Reader { runs, value_count })
     }
 
-    /// How many values the fields have: one for each variable field, and for an array its count.
+    /// How many values the fields have: a variable field one, an array its count, padding none.
     pub fn value_count(&self) -> usize
         ensures counted { result ≡ count_in self.now }
         ensures fields { (fields : List FieldRecord) → StandFor fields self.now
@@ -59,6 +61,20 @@ impl Reader {
     }
 
     /// Reads the values of all fields, in order, from a report that has these bytes.
+    ///
+    /// They are just what `extract` of each field gives, one behind the other (`fields`), as numbers
+    /// of 64 bits; elements of an array stand one by one, and padding gives none. They stand in place
+    /// of the first of `values`. The answer is how many there are, also where there is no room for
+    /// all: what has no room isn't written, and what is behind the last stays. Bytes behind the
+    /// report say nothing. It takes no memory.
+    ///
+    /// # Errors
+    ///
+    /// What the first field says that refuses the bytes; `values` stay as they were.
+    ///
+    /// - `MismatchingReportId`: the field has a report id, and the first byte is another.
+    /// - `OutOfBounds`: the field has a report id, and there are no bytes; it ends behind the bytes;
+    ///   or its values have no bits or more than 32, as `extract` refuses them, too.
     pub fn read(&self, bytes: &[u8], values: &mut [i64]) -> Result<usize, ParserError>
         ensures answer { ReadsInto result values.old values.new (runs_read self.now bytes.now) }
         ensures fields { (fields : List FieldRecord) → StandFor fields self.now
@@ -73,12 +89,21 @@ impl Reader {
 
     /// Reads the values that these bytes of a report have, in order, up to the first that they don't
     /// have: what hosts do with a report that is cut short.
+    ///
+    /// A value is there where all its bits are, at least one and at most 32. Elements of an array
+    /// count one by one. Numbers, room and count are as for `read`, which gives the same where all
+    /// values are there. It takes no memory.
+    ///
+    /// # Errors
+    ///
+    /// - `MismatchingReportId`: one of the fields has a report id, and the first byte is another;
+    ///   `values` stay as they were.
     pub fn read_available(&self, bytes: &[u8], values: &mut [i64]) -> Result<usize, ParserError>
         ensures answer { ReadsInto result values.old values.new
             (runs_available self.now bytes.now) }
         ensures fields { (fields : List FieldRecord) → StandFor fields self.now
             → ReadsInto result values.old values.new (available_numbers fields bytes.now) }
-        ensures named { result ≢ Err ParserError.OutOfBounds }
+        ensures bounds { result ≢ Err ParserError.OutOfBounds }
         ensures memory { result ≢ Err ParserError.OutOfMemory }
     {
         if self.runs.are_of_another(bytes) {

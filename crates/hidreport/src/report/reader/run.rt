@@ -1,16 +1,16 @@
 //! Values side by side in a report, read by one loop (Section 5.8).
-ghost use Rattle.std.specs.Prelude.{◌≡◌, ◌≢◌, ◌+◌, ◌*◌, ◌<◌, ◌≤◌, ◌/◌, ◌^◌, [], ◌∷◌, true, Ok, Err};
+ghost use Rattle.std.specs.Prelude.{◌≡◌, ◌≢◌, ◌+◌, ◌*◌, ◌<◌, ◌≤◌, ◌^◌, [], ◌∷◌, true, Err};
 ghost use Rattle.std.specs.Prelude.{length, slice_set, take, drop, IfErr, IfSome, IsNone, OnOk};
 ghost use Rattle.hidreport_items.specs.Numbers.{word};
 ghost use Rattle.hidreport_lists.specs.Answer.{IsOfReading, Refuses};
 ghost use Rattle.hidreport.specs.BitValue.{sum_of_bits, value};
 ghost use Rattle.hidreport.specs.Reader.{begins_otherwise, each_alone, numbers_before};
-ghost use Rattle.hidreport.specs.Runs.{IsOpen, IsPlain, is_inside, numbers_from, place_in, run_of, run_reads};
+ghost use Rattle.hidreport.specs.Runs.{IsOpen, IsPlain, is_inside, numbers_from, run_of, run_reads};
 ghost use Rattle.hidreport.specs.Runs.{run_value, set_from};
 ghost use Rattle.hidreport.specs.Views.{field_record};
 
 use crate::field::Field;
-use crate::field::value::{check_id, read_bits, sum_of_bits};
+use crate::field::value::{check_id, read_bits};
 use hidreport_lists::ParserError;
 use hidreport_types::ReportId;
 use std::marker::Model;
@@ -149,15 +149,19 @@ impl Run {
     }
 
     /// Puts the run's numbers in place of the values from `place` on, as far as there is room.
-    pub(crate) fn put(&self, bytes: &[u8], place: usize, values: &mut [i64])
+    #[inline(always)]
+    pub(crate) fn put(&self, bytes: &[u8], short: u64, place: usize, values: &mut [i64])
+        requires short { length bytes.now < 8 → short ≡ word bytes.now }
         requires there { is_inside self.now (8 * length bytes.now) ≡ true }
         requires counted { place + self.now.count < 2 ^ 64 }
         ensures { values.new
             ≡ set_from place (numbers_from self.now bytes.now 0 self.now.count) values.old }
     {
+        let width = self.width;
+        let is_signed = self.is_signed;
         for index in 0..self.count {
-            let first = self.first + self.width * index;
-            let number = number_at(bytes, first, self.width, self.is_signed);
+            let first = self.first + width * index;
+            let number = number_at(bytes, short, first, width, is_signed);
             set_at(values, place + index, number);
         }
     }
@@ -175,14 +179,15 @@ fn set_at(values: &mut [i64], place: usize, number: i64)
 
 /// The number in a few bits, all of them in the bytes, with the sign of its top bit if it has one.
 #[inline(always)]
-fn number_at(bytes: &[u8], first: usize, width: usize, is_signed: bool) -> i64
+fn number_at(bytes: &[u8], short: u64, first: usize, width: usize, is_signed: bool) -> i64
+    requires short { length bytes.now < 8 → short ≡ word bytes.now }
     requires some { 0 < width }
     requires narrow { width ≤ 32 }
     requires within { first + width ≤ 8 * length bytes.now }
     requires counted { first + width < 2 ^ 64 }
     ensures { result ≡ value bytes.now first width is_signed }
 {
-    let sum = bits_at(bytes, first, width);
+    let sum = bits_at(bytes, short, first, width);
     if !is_signed {
         return sum as i64;
     }
@@ -192,32 +197,49 @@ fn number_at(bytes: &[u8], first: usize, width: usize, is_signed: bool) -> i64
     sum as i64 - (1 << width)
 }
 
-/// A few bits as one number, the first as the lowest: of eight bytes where there are so many.
+/// A few bits as one number, the first as the lowest: of eight bytes that have them all, or of all
+/// bytes as one number, where there are fewer.
 #[inline(always)]
-fn bits_at(bytes: &[u8], first: usize, width: usize) -> u64
+fn bits_at(bytes: &[u8], short: u64, first: usize, width: usize) -> u64
+    requires short { length bytes.now < 8 → short ≡ word bytes.now }
+    requires some { 0 < width }
     requires narrow { width ≤ 32 }
     requires within { first + width ≤ 8 * length bytes.now }
-    requires counted { first + width < 2 ^ 64 }
     ensures value { result ≡ sum_of_bits bytes.now first width }
     ensures small { result < 2 ^ width }
 {
-    match eight_from(bytes, first / 8) {
-        Some(word) => word >> (first % 8) & ((1 << width) - 1),
-        None => sum_of_bits(bytes, first, width),
+    let mask = (1 << width) - 1;
+    if bytes.len() < 8 {
+        return short >> first & mask;
+    }
+    let place = (first / 8).min(bytes.len() - 8);
+    eight_from(bytes, place) >> (first - 8 * place) & mask
+}
+
+/// Eight bytes as one number, the first as the lowest.
+#[inline(always)]
+fn eight_from(bytes: &[u8], place: usize) -> u64
+    requires { place + 8 ≤ length bytes.now }
+    ensures { result ≡ word (take 8 (drop place bytes.now)) }
+{
+    match &bytes[place..] {
+        [a, b, c, d, e, f, g, h, ..] => u64::from_le_bytes([*a, *b, *c, *d, *e, *f, *g, *h]),
+        _ => 0,
     }
 }
 
-/// Eight bytes as one number, the first as the lowest; `None` where there are fewer.
-#[inline(always)]
-fn eight_from(bytes: &[u8], place: usize) -> Option<u64>
-    requires { place ≤ length bytes.now }
-    ensures { IfSome result (λ number. (place + 8 ≤ length bytes.now)
-        × (number ≡ word (take 8 (drop place bytes.now)))) }
+/// Fewer than eight bytes as one number, the first as the lowest.
+pub(crate) fn short_word(bytes: &[u8]) -> u64
+    ensures { length bytes.now < 8 → result ≡ word bytes.now }
 {
-    match &bytes[place..] {
-        [a, b, c, d, e, f, g, h, ..] => {
-            Some(u64::from_le_bytes([*a, *b, *c, *d, *e, *f, *g, *h]))
-        }
-        _ => None,
+    match bytes {
+        [a] => u64::from(*a),
+        [a, b] => u64::from_le_bytes([*a, *b, 0, 0, 0, 0, 0, 0]),
+        [a, b, c] => u64::from_le_bytes([*a, *b, *c, 0, 0, 0, 0, 0]),
+        [a, b, c, d] => u64::from_le_bytes([*a, *b, *c, *d, 0, 0, 0, 0]),
+        [a, b, c, d, e] => u64::from_le_bytes([*a, *b, *c, *d, *e, 0, 0, 0]),
+        [a, b, c, d, e, f] => u64::from_le_bytes([*a, *b, *c, *d, *e, *f, 0, 0]),
+        [a, b, c, d, e, f, g] => u64::from_le_bytes([*a, *b, *c, *d, *e, *f, *g, 0]),
+        _ => 0,
     }
 }

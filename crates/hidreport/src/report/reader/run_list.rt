@@ -1,6 +1,7 @@
 //! The runs of a report, and when bytes have all of them (Sections 5.6 and 5.8).
 ghost use Rattle.std.specs.Prelude.{◌≡◌, ◌≢◌, ◌<◌, ◌^◌, Err, Ok, IfErr, IfOk, IfSome, IsTrue, OnOk, length, map};
 ghost use Rattle.std.specs.List.{list_any};
+ghost use Rattle.hidreport_items.specs.Numbers.{word};
 ghost use Rattle.hidreport_lists.specs.Answer.{IsOfReading, Refuses};
 ghost use Rattle.hidreport.specs.Reader.{begins_otherwise, filled, numbers_before};
 ghost use Rattle.hidreport.specs.Reading.{with_id};
@@ -10,7 +11,7 @@ ghost use Rattle.hidreport.specs.Tiling.{Each};
 ghost use Rattle.hidreport.specs.Views.{field_record};
 
 use crate::field::Field;
-use crate::report::reader::run::Run;
+use crate::report::reader::run::{Run, short_word};
 use hidreport_lists::ParserError;
 use hidreport_types::ReportId;
 use std::alloc::{AllocError, Global};
@@ -114,7 +115,7 @@ impl RunList {
         requires counted { count_in self.now < 2 ^ 64 }
         ensures { values.new ≡ filled (all_numbers self.now bytes.now) values.old }
     {
-        put_all(&self.runs, bytes, values);
+        put_all(&self.runs, bytes, short_word(bytes), values);
     }
 }
 
@@ -180,14 +181,15 @@ fn check_all(runs: &[Run], bytes: &[u8]) -> Result<(), ParserError>
 }
 
 /// Puts the numbers of all runs in place of the first values, as far as there is room.
-fn put_all(runs: &[Run], bytes: &[u8], values: &mut [i64])
+fn put_all(runs: &[Run], bytes: &[u8], short: u64, values: &mut [i64])
+    requires short { length bytes.now < 8 → short ≡ word bytes.now }
     requires there { Each (IsOpen bytes.now) runs.now }
     requires counted { count_in runs.now < 2 ^ 64 }
     ensures { values.new ≡ filled (all_numbers runs.now bytes.now) values.old }
 {
     let mut place = 0;
     for run in runs {
-        run.put(bytes, place, values);
+        run.put(bytes, short, place, values);
         place += run.count();
     }
 }

@@ -1,4 +1,4 @@
-use Rattle.std.proofs.Common.{◌≡◌, ◌<◌, ◌^◌, List, ℤ, Ok, Result, arith, rules, subst}
+use Rattle.std.proofs.Common.{◌≡◌, List, ℤ, Ok, Result, rules, subst}
 use Rattle.hidreport_lists.specs.Answer.{Refusal}
 use Rattle.hidreport.specs.Reader.{ReadsInto, filled}
 use Rattle.hidreport.specs.Runs.{all_numbers, count_in}

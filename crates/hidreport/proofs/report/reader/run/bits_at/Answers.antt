@@ -1,20 +1,29 @@
-use Rattle.std.proofs.Common.{◌+◌, ◌/◌, ◌%◌, ◌^◌, ◌-◌, ◌≡◌, ◌∙◌, take, drop, ap, sym, arith}
-use Rattle.hidreport_items.specs.Numbers.{word}
-use Rattle.hidreport_items.specs.Spelling.{AreBytes}
+use Rattle.std.proofs.Common.{◌+◌, ◌*◌, ◌≤◌, arith, length}
 use Rattle.hidreport_lists.proofs.CutLemmas.{are_bytes}
-use Rattle.hidreport.proofs.WordLemmas.{masked, touched-bits}
+use Rattle.hidreport.proofs.WindowLemmas.{short-masked, window-masked}
 use Rattle.hidreport.proofs.report.reader.run.bits_at.Goals as goal
 
-pub returns-in-Some-clause-value : goal.returns-in-Some-clause-value
-returns-in-Some-clause-value c =
-    let first = c.args.first in
-    let width = c.args.width in
-    let bytes = c.args.bytes.now in
-    let end = first / 8 + 8 in
-    let are : AreBytes bytes = are_bytes bytes (λ i. omega (arith, c.type_inv.bytes i)) in
-    let eight : end - first / 8 ≡ 8 = omega arith in
-    masked (c.in-Some.word / 2 ^ (first % 8)) width c.requires.narrow
-    ∙ ap (λ n. n / 2 ^ (first % 8) % 2 ^ width) (c.in-Some.ensures.1
-    ∙ ap (λ n. word (take n (drop (first / 8) bytes))) (sym eight))
-    ∙ touched-bits bytes are first width end (omega (arith, c.requires.narrow))
-    c.in-Some.ensures.0 (omega arith)
+pub returns-then-bytes-lt8-clause-value : goal.returns-then-bytes-lt8-clause-value
+returns-then-bytes-lt8-clause-value c =
+    short-masked c.args.bytes.now (are_bytes _ (λ i. omega (arith, c.type_inv.bytes i)))
+    c.args.first c.args.width c.args.short c.requires.within c.requires.narrow
+    (c.requires.short c.if-bytes-lt8.true)
+
+pub overflow_shr-result-2 : goal.overflow_shr-result-2
+overflow_shr-result-2 c =
+    omega (arith, c.min-place.ensures, c.requires.some, c.requires.within, c.if-bytes-lt8.false)
+
+pub returns-clause-value : goal.returns-clause-value
+returns-clause-value c =
+    let long = c.if-bytes-lt8.false in
+    let some = c.requires.some in
+    let narrow = c.requires.narrow in
+    let within = c.requires.within in
+    let least = c.min-place.ensures in
+    let place = c.min-place.result in
+    let room : place + 8 ≤ length c.args.bytes.now = omega (arith, least, long) in
+    let from : 8 * place ≤ c.args.first = omega (arith, least, long) in
+    let upto : c.args.first + c.args.width ≤ 8 * (place + 8) =
+    omega (arith, least, long, within, narrow) in
+    window-masked c.args.bytes.now (are_bytes _ (λ i. omega (arith, c.type_inv.bytes i))) place 8
+    c.args.first c.args.width c.eight_from.result room from upto narrow c.eight_from.ensures

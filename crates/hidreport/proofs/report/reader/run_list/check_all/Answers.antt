@@ -1,4 +1,4 @@
-use Rattle.std.proofs.Common.{arith, rules, length}
+use Rattle.std.proofs.Common.{rules}
 use Rattle.hidreport_lists.specs.Answer.{Refuses}
 use Rattle.hidreport.specs.Runs.{IsOpen, runs_read}
 use Rattle.hidreport.proofs.RunListLemmas.{each-taken, refused-there}

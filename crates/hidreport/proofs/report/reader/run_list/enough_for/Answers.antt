@@ -1,6 +1,5 @@
-use Rattle.std.proofs.Common.{◌≤◌, arith, rules, take}
+use Rattle.std.proofs.Common.{◌≤◌, arith, take}
 use Rattle.hidreport.specs.Runs.{IsPlain}
-use Rattle.hidreport.specs.Tiling.{Each}
 use Rattle.hidreport.proofs.RunListLemmas.{each-taken, plain-more, plain-one}
 use Rattle.hidreport.proofs.report.reader.run_list.enough_for.Goals as goal
 

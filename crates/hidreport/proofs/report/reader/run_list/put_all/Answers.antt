@@ -1,5 +1,5 @@
-use Rattle.std.proofs.Common.{◌≡◌, ◌∙◌, ◌+◌, List, ℤ, ap, sym, take}
-use Rattle.hidreport.specs.Runs.{count_in, numbers_from, set_from}
+use Rattle.std.proofs.Common.{◌∙◌, ◌+◌, ap, sym}
+use Rattle.hidreport.specs.Runs.{numbers_from, set_from}
 use Rattle.hidreport.proofs.RunListLemmas.{count-taken, put-taken}
 use Rattle.hidreport.proofs.report.reader.run_list.put_all.Goals as goal
 

@@ -1,6 +1,6 @@
-use Rattle.std.proofs.Common.{◌≡◌, ◌∙◌, ◌+◌, ◌<◌, ◌≤◌, List, ℤ, ap, sym, arith, take, length}
+use Rattle.std.proofs.Common.{◌≡◌, ◌∙◌, ◌+◌, ◌<◌, List, ℤ, ap, sym, arith, take, length}
 use Rattle.hidreport.specs.Reader.{each_alone, filled, numbers_before}
-use Rattle.hidreport.specs.Runs.{count_in, run_value, runs_alone, set_from}
+use Rattle.hidreport.specs.Runs.{count_in, run_value, set_from}
 use Rattle.hidreport.proofs.RunListLemmas.{available-length, available-stops, count-room}
 use Rattle.hidreport.proofs.RunListLemmas.{count-taken, put-available-next}
 use Rattle.hidreport.proofs.report.reader.run_list.put_available.Goals as goal

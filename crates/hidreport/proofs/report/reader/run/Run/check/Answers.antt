@@ -1,6 +1,5 @@
-use Rattle.std.proofs.Common.{◌≡◌, ◌∙◌, ◌*◌, Ok, Err, false, length, ap, rules}
-use Rattle.hidreport_lists.specs.Answer.{Refusal, Bounds}
-use Rattle.hidreport.specs.Reading.{ValueRecord, each_value, with_id}
+use Rattle.std.proofs.Common.{◌≡◌, ◌∙◌, ◌*◌, Ok, false, length, ap, rules}
+use Rattle.hidreport.specs.Reading.{each_value, with_id}
 use Rattle.hidreport.specs.Runs.{is_inside, run_value}
 use Rattle.hidreport.specs.WritingLaws.{numbers_of}
 use Rattle.hidreport.proofs.RunReadLemmas.{own-passes, outside-run}

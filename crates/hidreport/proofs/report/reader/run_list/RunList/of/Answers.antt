@@ -1,5 +1,5 @@
 use Rattle.std.proofs.Common.{List, map, subst, sym}
-use Rattle.hidreport.specs.Runs.{RunRecord, StandFor, runs_of}
+use Rattle.hidreport.specs.Runs.{RunRecord, StandFor}
 use Rattle.hidreport.specs.Views.{field_record}
 use Rattle.hidreport.proofs.RunLemmas.{runs-stand}
 use Rattle.hidreport.proofs.report.reader.run_list.RunList.of.Goals as goal
