@@ -9,6 +9,7 @@ pub mod FixedBitsLemmas
 pub mod BitLemmas
 pub mod BlankLemmas
 pub mod WholeLemmas
+pub mod WholeReadLemmas
 pub mod WindowLemmas
 pub mod WordLemmas
 pub mod WrittenLemmas

@@ -1,5 +1,5 @@
 //! All values of a report in one pass (Sections 5.6 and 5.8).
-ghost use Rattle.std.specs.Prelude.{◌≡◌, ◌≢◌, Err, IfErr, IfOk, List, sum_by};
+ghost use Rattle.std.specs.Prelude.{◌≡◌, ◌≢◌, Err, IfErr, IfOk, List, Ok, sum_by, ℤ};
 ghost use Rattle.hidreport_lists.specs.Answer.{IsOfReading};
 ghost use Rattle.hidreport.specs.Reader.{ReadsInto, available_numbers, report_numbers};
 ghost use Rattle.hidreport.specs.Records.{FieldRecord};
@@ -92,7 +92,7 @@ impl Reader {
     ///
     /// A value is there where all its bits are, at least one and at most 32. Elements of an array
     /// count one by one. Numbers, room and count are as for `read`, which gives the same where all
-    /// values are there. It takes no memory.
+    /// values are there (`whole`). It takes no memory.
     ///
     /// # Errors
     ///
@@ -103,6 +103,8 @@ impl Reader {
             (runs_available self.now bytes.now) }
         ensures fields { (fields : List FieldRecord) → StandFor fields self.now
             → ReadsInto result values.old values.new (available_numbers fields bytes.now) }
+        ensures whole { (numbers : List ℤ) → runs_read self.now bytes.now ≡ Ok numbers
+            → runs_available self.now bytes.now ≡ Ok numbers }
         ensures bounds { result ≢ Err ParserError.OutOfBounds }
         ensures memory { result ≢ Err ParserError.OutOfMemory }
     {
