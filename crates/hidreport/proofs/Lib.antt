@@ -9,6 +9,8 @@ pub mod FixedBitsLemmas
 pub mod BitLemmas
 pub mod BlankLemmas
 pub mod WholeLemmas
+pub mod WholeReadLemmas
+pub mod WindowLemmas
 pub mod WordLemmas
 pub mod WrittenLemmas
 pub mod PutBitsLemmas
@@ -52,6 +54,12 @@ pub mod OwnReportsLemmas
 pub mod WeightLemmas
 pub mod ParseLemmas
 pub mod ReadBackLemmas
+pub mod AvailableLemmas
+pub mod RunLemmas
+pub mod RunListLemmas
+pub mod RunReadLemmas
+pub mod FilledLemmas
+pub mod SignLemmas
 pub mod RefusalLemmas
 pub mod RepairLemmas
 pub mod KindLemmas

@@ -40,7 +40,7 @@ word-bit (b ∷ xs) are (suc (suc (suc (suc (suc (suc (suc (suc i)))))))) lt =
     ∙ ap (λ n. slice_index xs (i / 8) / 2 ^ n % 2) within))
 
 -- so many bits from s on are the word without those below, cut there
-sum-word : (xs : List ℕ) → AreBytes xs → (s w : ℕ) → s + w ≤ 8 * length xs
+pub sum-word : (xs : List ℕ) → AreBytes xs → (s w : ℕ) → s + w ≤ 8 * length xs
     → sum_of_bits xs s w ≡ word xs / 2 ^ s % 2 ^ w
 sum-word xs are s zero within = omega arith
 sum-word xs are s (suc w) within =
@@ -74,7 +74,7 @@ bit-from bytes q m i lt =
     ∙ sym (ap (λ n. n / 2 ^ (i % 8) % 2) (taken ∙ dropped))
 
 -- bits of the bytes from q on
-sum-from : (bytes : List ℕ) (q m r w : ℕ) → r + w ≤ 8 * m
+pub sum-from : (bytes : List ℕ) (q m r w : ℕ) → r + w ≤ 8 * m
     → sum_of_bits bytes (8 * q + r) w ≡ sum_of_bits (take m (drop q bytes)) r w
 sum-from bytes q m r zero within = refl
 sum-from bytes q m r (suc w) within =

@@ -19,10 +19,12 @@ pub mod OpenCollections
 pub mod Options
 pub mod Parser
 pub mod Places
+pub mod Reader
 pub mod Reading
 pub mod Records
 pub mod Repair
 pub mod RepairLaws
+pub mod Runs
 pub mod Scaling
 pub mod ScalingLaws
 pub mod Segments

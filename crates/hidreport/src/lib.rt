@@ -66,6 +66,7 @@ pub use parse_options::ParseOptions;
 pub use parser::push_keeps::PushKeeps;
 pub use parser::usages_by::UsagesBy;
 pub use repairing::{Change, RepairOptions, Repaired, repair};
+pub use report::reader::Reader;
 pub use report::{RDescReport, Report};
 pub use types::{
     Delimiter, DesignatorIndex, DesignatorMaximum, DesignatorMinimum, LogicalMaximum,

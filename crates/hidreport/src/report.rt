@@ -8,6 +8,7 @@ ghost use Rattle.hidreport.specs.Views.{field_record};
 ghost use Rattle.hidreport.specs.Working.{TakesAll};
 ghost use Rattle.hidreport.specs.WritingLaws.{IsWhole};
 
+pub(crate) mod reader;
 pub(crate) mod reports;
 
 use crate::field::usage::Usage;

@@ -29,6 +29,7 @@ mod scaled;
 mod tally;
 mod units;
 mod usages;
+mod whole_readings;
 mod words;
 
 use case_file::ask_file;

@@ -21,6 +21,7 @@ use crate::scaled::add_scaled;
 use crate::tally::Tally;
 use crate::units::{add_exponent, add_unit, add_units, add_usage};
 use crate::usages::{add_chosen, add_usages_of};
+use crate::whole_readings::{add_read_at_once, add_read_otherwise};
 use crate::words::{bytes_of, first_of, number_of};
 use std::alloc::{AllocError, Global};
 
@@ -56,7 +57,7 @@ pub fn add_answer(
     }
 }
 
-/// The same of a question about what is written by a field or a report.
+/// The same of a question about what is written by a field or a report, or read of a whole report.
 fn add_answer_of_writing(
     alloc: Global,
     text: &mut String,
@@ -71,6 +72,7 @@ fn add_answer_of_writing(
         "blank" => add_blanks(alloc, text, asked),
         "by-id" => add_by_id(text, asked, words),
         "shared" => add_shared(text, asked, words),
+        "reader" => add_read_at_once(alloc, text, asked, words),
         _ => add_answer_without_field(alloc, text, kind, words),
     }
 }
@@ -166,8 +168,9 @@ fn add_shape(
     Ok(())
 }
 
-/// Appends what the fields of the descriptor read. Besides, where these are the first bytes, each
-/// flipped bit has to change just the value that it is part of.
+/// Appends what the fields of the descriptor read. Besides, a reader of each report has to read the
+/// same in one pass, and where these are the first bytes, each flipped bit has to change just the
+/// value that it is part of.
 fn add_read(
     alloc: Global,
     text: &mut String,
@@ -179,6 +182,7 @@ fn add_read(
     let is_first = asked.is_first_reading();
     let descriptor = asked.descriptor()?;
     add_readings(text, descriptor, &bytes)?;
+    add_read_otherwise(alloc, text, descriptor, &bytes)?;
     if is_first {
         add_flips(alloc, text, tally, descriptor, &bytes)?;
     }

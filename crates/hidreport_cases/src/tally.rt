@@ -2,7 +2,7 @@
 use std::fmt;
 
 /// The kinds, by the first words of their questions.
-static KINDS: [&str; 46] = [
+static KINDS: [&str; 47] = [
     "parse",
     "parse-globals",
     "parse-hosts",
@@ -19,6 +19,7 @@ static KINDS: [&str; 46] = [
     "blank",
     "by-id",
     "shared",
+    "reader",
     "many",
     "many-within",
     "many-hosts-within",
@@ -55,7 +56,7 @@ static KINDS: [&str; 46] = [
 #[derive(Drop)]
 pub struct Tally {
     /// How many questions of each kind, in the order of `KINDS`.
-    asked: [usize; 46],
+    asked: [usize; 47],
     /// How many had another answer, or couldn't be asked.
     differing: usize,
     /// How many cut descriptors were asked besides.
@@ -67,7 +68,7 @@ pub struct Tally {
 impl Tally {
     pub fn new() -> Tally {
         Tally {
-            asked: [0; 46],
+            asked: [0; 47],
             differing: 0,
             cuts: 0,
             flips: 0,

@@ -15,6 +15,7 @@ use Rattle.hidreport.specs.Reading.{ValueRecord, reads}
 use Rattle.hidreport.specs.Records.{Attributes, CollectionRecord, FieldPlace, FieldRecord}
 use Rattle.hidreport.specs.Records.{VariableRecord, ArrayRecord, ConstantRecord, ReportRecord}
 use Rattle.hidreport.specs.Records.{DescriptorRecord}
+use Rattle.hidreport.specs.Runs.{RunRecord}
 use Rattle.hidreport.specs.UsageNumber.{usage_number}
 use Rattle.hidreport.specs.UsageRange.{RangeRecord}
 use Rattle.hidreport.specs.Usages.{make_usage}
@@ -168,6 +169,10 @@ variable_at first last least = VariableRecord (place_at 0 first last)
 abbrev pub array_at : ℕ → ℕ → ℕ → ℤ → FieldRecord
 array_at first last count least = ArrayRecord (place_at 0 first last)
     [] false count (record unset { logical_minimum = least })
+
+-- one unsigned value there, of so many bits
+abbrev pub one_run : ℕ → ℕ → RunRecord
+one_run first width = record { id = None; first = first; width = width; count = 1; is_signed = false }
 
 -- the fields of the first input report, or none
 abbrev pub first_fields : List ReportRecord → List FieldRecord

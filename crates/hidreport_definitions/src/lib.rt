@@ -20,6 +20,7 @@ pub mod mouse_reports;
 pub mod places;
 pub mod push_and_pop;
 pub mod reading;
+pub mod reading_whole;
 pub mod rebuilding;
 pub mod repairs;
 pub mod segments;

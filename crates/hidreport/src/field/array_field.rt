@@ -462,7 +462,7 @@ impl ArrayField {
     }
 
     /// How many bits an element has: the field's bits divided by the count, if it isn't 0.
-    fn element_width(&self) -> usize
+    pub(crate) fn element_width(&self) -> usize
         ensures width { result
             ≡ element_width self.now.bits.start self.now.bits.end self.now.report_count }
         ensures counted { self.now.bits.start + result * self.now.report_count < 2 ^ 64 }

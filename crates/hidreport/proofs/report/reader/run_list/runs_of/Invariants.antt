@@ -1,0 +1,8 @@
+use Rattle.std.proofs.Common.{◌≡◌, map, take}
+use Rattle.hidreport.specs.Runs.{runs_of}
+use Rattle.hidreport.specs.Views.{field_record}
+use Rattle.hidreport.proofs.report.reader.run_list.runs_of.Given as goal
+
+-- the runs of the fields before this one
+abbrev pub invariant-loop-field : goal.invariant-loop-field
+invariant-loop-field l = l.runs.items ≡ runs_of (map field_record (take l.field-index l.fields))

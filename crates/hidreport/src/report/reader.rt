@@ -1,0 +1,116 @@
+//! All values of a report in one pass (Sections 5.6 and 5.8).
+ghost use Rattle.std.specs.Prelude.{◌≡◌, ◌≢◌, Err, IfErr, IfOk, List, Ok, sum_by, ℤ};
+ghost use Rattle.hidreport_lists.specs.Answer.{IsOfReading};
+ghost use Rattle.hidreport.specs.Reader.{ReadsInto, available_numbers, report_numbers};
+ghost use Rattle.hidreport.specs.Records.{FieldRecord};
+ghost use Rattle.hidreport.specs.Runs.{StandFor, count_in, runs_available, runs_read};
+ghost use Rattle.hidreport.specs.WritingValues.{value_count};
+
+mod run;
+mod run_list;
+
+use crate::report::{RDescReport, Report};
+use hidreport_lists::ParserError;
+use run_list::RunList;
+use std::alloc::{AllocError, Global};
+use std::marker::Model;
+
+/// A report's fields, laid out once so that all its values are read in one pass (Section 5.8).
+///
+/// It stands for the fields as they were when it was made, and lends nothing of the report.
+#[derive(Debug, Drop)]
+pub struct Reader {
+    runs: RunList,
+    value_count: usize,
+}
+
+impl Model for Reader {
+    ghost use Rattle.std.specs.Prelude.{◌≡◌, ◌<◌, ◌^◌, List};
+    ghost use Rattle.hidreport.specs.Runs.{RunRecord, count_in};
+
+    ghost Value = { List RunRecord };
+
+    ghost view = { λ r. r.runs };
+
+    ghost invariant = { λ r. (r.value_count ≡ count_in r.runs) × (count_in r.runs < 2 ^ 64) };
+}
+
+impl Reader {
+    /// A reader of a report's fields, in their order.
+    ///
+    /// Memory is taken here alone: 40 bytes for each field that isn't padding.
+    ///
+    /// # Errors
+    ///
+    /// - `AllocError`: memory for it is refused, or the fields have more than `usize::MAX` values.
+    pub fn new(alloc: Global, report: &RDescReport) -> Result<Reader, AllocError>
+        ensures { IfOk result (λ reader. StandFor report.now.fields reader) }
+    {
+        let runs = RunList::of(alloc, *report.report_id(), report.fields())?;
+        let value_count = runs.value_count().ok_or(AllocError)?;
+        Ok(Reader { runs, value_count })
+    }
+
+    /// How many values the fields have: a variable field one, an array its count, padding none.
+    pub fn value_count(&self) -> usize
+        ensures counted { result ≡ count_in self.now }
+        ensures fields { (fields : List FieldRecord) → StandFor fields self.now
+            → result ≡ sum_by value_count fields }
+    {
+        self.value_count
+    }
+
+    /// Reads the values of all fields, in order, from a report that has these bytes.
+    ///
+    /// They are just what `extract` of each field gives, one behind the other (`fields`), as numbers
+    /// of 64 bits; elements of an array stand one by one, and padding gives none. They stand in place
+    /// of the first of `values`. The answer is how many there are, also where there is no room for
+    /// all: what has no room isn't written, and what is behind the last stays. Bytes behind the
+    /// report say nothing. It takes no memory.
+    ///
+    /// # Errors
+    ///
+    /// What the first field says that refuses the bytes; `values` stay as they were.
+    ///
+    /// - `MismatchingReportId`: the field has a report id, and the first byte is another.
+    /// - `OutOfBounds`: the field has a report id, and there are no bytes; it ends behind the bytes;
+    ///   or its values have no bits or more than 32, as `extract` refuses them, too.
+    pub fn read(&self, bytes: &[u8], values: &mut [i64]) -> Result<usize, ParserError>
+        ensures answer { ReadsInto result values.old values.new (runs_read self.now bytes.now) }
+        ensures fields { (fields : List FieldRecord) → StandFor fields self.now
+            → ReadsInto result values.old values.new (report_numbers fields bytes.now) }
+        ensures named { IfErr result IsOfReading }
+        ensures memory { result ≢ Err ParserError.OutOfMemory }
+    {
+        self.runs.check(bytes)?;
+        self.runs.put(bytes, values);
+        Ok(self.value_count)
+    }
+
+    /// Reads the values that these bytes of a report have, in order, up to the first that they don't
+    /// have: what hosts do with a report that is cut short.
+    ///
+    /// A value is there where all its bits are, at least one and at most 32. Elements of an array
+    /// count one by one. Numbers, room and count are as for `read`, which gives the same where all
+    /// values are there (`whole`). It takes no memory.
+    ///
+    /// # Errors
+    ///
+    /// - `MismatchingReportId`: one of the fields has a report id, and the first byte is another;
+    ///   `values` stay as they were.
+    pub fn read_available(&self, bytes: &[u8], values: &mut [i64]) -> Result<usize, ParserError>
+        ensures answer { ReadsInto result values.old values.new
+            (runs_available self.now bytes.now) }
+        ensures fields { (fields : List FieldRecord) → StandFor fields self.now
+            → ReadsInto result values.old values.new (available_numbers fields bytes.now) }
+        ensures whole { (numbers : List ℤ) → runs_read self.now bytes.now ≡ Ok numbers
+            → runs_available self.now bytes.now ≡ Ok numbers }
+        ensures bounds { result ≢ Err ParserError.OutOfBounds }
+        ensures memory { result ≢ Err ParserError.OutOfMemory }
+    {
+        if self.runs.are_of_another(bytes) {
+            return Err(ParserError::MismatchingReportId);
+        }
+        Ok(self.runs.put_available(bytes, values))
+    }
+}

@@ -1,0 +1,245 @@
+//! Values side by side in a report, read by one loop (Section 5.8).
+ghost use Rattle.std.specs.Prelude.{◌≡◌, ◌≢◌, ◌+◌, ◌*◌, ◌<◌, ◌≤◌, ◌^◌, [], ◌∷◌, true, Err};
+ghost use Rattle.std.specs.Prelude.{length, slice_set, take, drop, IfErr, IfSome, IsNone, OnOk};
+ghost use Rattle.hidreport_items.specs.Numbers.{word};
+ghost use Rattle.hidreport_lists.specs.Answer.{IsOfReading, Refuses};
+ghost use Rattle.hidreport.specs.BitValue.{sum_of_bits, value};
+ghost use Rattle.hidreport.specs.Reader.{begins_otherwise, each_alone, numbers_before};
+ghost use Rattle.hidreport.specs.Runs.{IsOpen, IsPlain, is_inside, numbers_from, run_of, run_reads};
+ghost use Rattle.hidreport.specs.Runs.{run_value, set_from};
+ghost use Rattle.hidreport.specs.Views.{field_record};
+
+use crate::field::Field;
+use crate::field::value::{check_id, read_bits};
+use hidreport_lists::ParserError;
+use hidreport_types::ReportId;
+use std::marker::Model;
+
+/// So many values of one width from a bit on, and the id that they are read by.
+#[derive(Debug, Drop)]
+pub(crate) struct Run {
+    report_id: Option<ReportId>,
+    first: usize,
+    width: usize,
+    count: usize,
+    is_signed: bool,
+}
+
+impl Model for Run {
+    ghost use Rattle.std.specs.Prelude.{◌+◌, ◌*◌, ◌<◌, ◌^◌};
+    ghost use Rattle.hidreport.specs.Runs.{RunRecord};
+
+    ghost Value = { RunRecord };
+
+    ghost view = { λ r. record {
+      id = r.report_id;
+      first = r.first;
+      width = r.width;
+      count = r.count;
+      is_signed = r.is_signed;
+    } };
+
+    ghost invariant = { λ r. r.first + r.width * r.count < 2 ^ 64 };
+}
+
+impl Run {
+    /// The values of a field; `None` for padding, which has none.
+    pub(crate) fn of(field: &Field) -> Option<Run>
+        ensures some { IfSome result (λ run. run_of (field_record field.now) ≡ run ∷ []) }
+        ensures none { IsNone result → run_of (field_record field.now) ≡ [] }
+    {
+        match field {
+            Field::Variable(field) => Some(Run {
+                report_id: field.report_id,
+                first: field.bits.start,
+                width: field.bits.end.saturating_sub(field.bits.start),
+                count: 1,
+                is_signed: field.is_signed(),
+            }),
+            Field::Array(field) => Some(Run {
+                report_id: field.report_id,
+                first: field.bits.start,
+                width: field.element_width(),
+                count: usize::from(field.report_count),
+                is_signed: field.is_signed(),
+            }),
+            Field::Constant(_) => None,
+        }
+    }
+
+    /// How many values the run has.
+    pub(crate) fn count(&self) -> usize
+        ensures { result ≡ self.now.count }
+    {
+        self.count
+    }
+
+    /// Refuses bytes that don't have all values of the run.
+    pub(crate) fn check(&self, bytes: &[u8]) -> Result<(), ParserError>
+        ensures refused { IfErr result (λ e. Refuses e (run_reads self.now bytes.now)) }
+        ensures named { IfErr result IsOfReading }
+        ensures memory { result ≢ Err ParserError.OutOfMemory }
+        ensures there { OnOk result (IsOpen bytes.now self.now) }
+    {
+        check_id(self.report_id, bytes)?;
+        if !self.lies_in(bytes.len()) {
+            return Err(ParserError::OutOfBounds);
+        }
+        Ok(())
+    }
+
+    /// Whether all values have some bits, at most 32, and lie in so many bytes.
+    pub(crate) fn lies_in(&self, bytes: usize) -> bool
+        ensures { result ≡ is_inside self.now (8 * bytes) }
+    {
+        if self.count == 0 {
+            return true;
+        }
+        let end = self.first + self.width * self.count;
+        0 < self.width && self.width <= 32 && end.div_ceil(8) <= bytes
+    }
+
+    /// How many bytes have all values, where they are read by this id or by none; `None` where they
+    /// are of another report, or have no bits or more than 32.
+    pub(crate) fn bytes_for(&self, report_id: &Option<ReportId>) -> Option<usize>
+        ensures { IfSome result (λ bytes. IsPlain report_id.now bytes self.now) }
+    {
+        if self.report_id.is_some() && self.report_id != *report_id {
+            return None;
+        }
+        if self.count == 0 {
+            return Some(0);
+        }
+        if self.width == 0 || 32 < self.width {
+            return None;
+        }
+        let end = self.first + self.width * self.count;
+        Some(end.div_ceil(8))
+    }
+
+    /// Whether bytes begin with another id than that which the values are read by.
+    pub(crate) fn is_of_another(&self, bytes: &[u8]) -> bool
+        ensures { result ≡ begins_otherwise bytes.now self.now.id }
+    {
+        match (&self.report_id, bytes) {
+            (None, _) | (Some(_), []) => false,
+            (Some(id), [first, ..]) => u8::from(*id) != *first,
+        }
+    }
+
+    /// Puts the run's numbers in place of the values from `place` on, as far as there is room, up to
+    /// the first that the bytes don't have; how many they have.
+    pub(crate) fn put_available(&self, bytes: &[u8], place: usize, values: &mut [i64]) -> usize
+        requires counted { place + self.now.count < 2 ^ 64 }
+        ensures values { values.new ≡ set_from place
+            (numbers_before (each_alone (run_value self.now bytes.now) 0 self.now.count)) values.old }
+        ensures count { result
+            ≡ length (numbers_before (each_alone (run_value self.now bytes.now) 0 self.now.count)) }
+        ensures most { result ≤ self.now.count }
+    {
+        for index in 0..self.count {
+            let first = self.first + self.width * index;
+            let bits = first..first + self.width;
+            let Some(value) = read_bits(bytes, &bits, self.is_signed) else {
+                return index;
+            };
+            set_at(values, place + index, i64::from(value));
+        }
+        self.count
+    }
+
+    /// Puts the run's numbers in place of the values from `place` on, as far as there is room.
+    #[inline(always)]
+    pub(crate) fn put(&self, bytes: &[u8], short: u64, place: usize, values: &mut [i64])
+        requires short { length bytes.now < 8 → short ≡ word bytes.now }
+        requires there { is_inside self.now (8 * length bytes.now) ≡ true }
+        requires counted { place + self.now.count < 2 ^ 64 }
+        ensures { values.new
+            ≡ set_from place (numbers_from self.now bytes.now 0 self.now.count) values.old }
+    {
+        let width = self.width;
+        let is_signed = self.is_signed;
+        for index in 0..self.count {
+            let first = self.first + width * index;
+            let number = number_at(bytes, short, first, width, is_signed);
+            set_at(values, place + index, number);
+        }
+    }
+}
+
+/// Puts a number in place of a value, if it is there.
+#[inline(always)]
+fn set_at(values: &mut [i64], place: usize, number: i64)
+    ensures { values.new ≡ slice_set values.old place number }
+{
+    if place < values.len() {
+        values[place] = number;
+    }
+}
+
+/// The number in a few bits, all of them in the bytes, with the sign of its top bit if it has one.
+#[inline(always)]
+fn number_at(bytes: &[u8], short: u64, first: usize, width: usize, is_signed: bool) -> i64
+    requires short { length bytes.now < 8 → short ≡ word bytes.now }
+    requires some { 0 < width }
+    requires narrow { width ≤ 32 }
+    requires within { first + width ≤ 8 * length bytes.now }
+    requires counted { first + width < 2 ^ 64 }
+    ensures { result ≡ value bytes.now first width is_signed }
+{
+    let sum = bits_at(bytes, short, first, width);
+    if !is_signed {
+        return sum as i64;
+    }
+    if sum < 1 << (width - 1) {
+        return sum as i64;
+    }
+    sum as i64 - (1 << width)
+}
+
+/// A few bits as one number, the first as the lowest: of eight bytes that have them all, or of all
+/// bytes as one number, where there are fewer.
+#[inline(always)]
+fn bits_at(bytes: &[u8], short: u64, first: usize, width: usize) -> u64
+    requires short { length bytes.now < 8 → short ≡ word bytes.now }
+    requires some { 0 < width }
+    requires narrow { width ≤ 32 }
+    requires within { first + width ≤ 8 * length bytes.now }
+    ensures value { result ≡ sum_of_bits bytes.now first width }
+    ensures small { result < 2 ^ width }
+{
+    let mask = (1 << width) - 1;
+    if bytes.len() < 8 {
+        return short >> first & mask;
+    }
+    let place = (first / 8).min(bytes.len() - 8);
+    eight_from(bytes, place) >> (first - 8 * place) & mask
+}
+
+/// Eight bytes as one number, the first as the lowest.
+#[inline(always)]
+fn eight_from(bytes: &[u8], place: usize) -> u64
+    requires { place + 8 ≤ length bytes.now }
+    ensures { result ≡ word (take 8 (drop place bytes.now)) }
+{
+    match &bytes[place..] {
+        [a, b, c, d, e, f, g, h, ..] => u64::from_le_bytes([*a, *b, *c, *d, *e, *f, *g, *h]),
+        _ => 0,
+    }
+}
+
+/// Fewer than eight bytes as one number, the first as the lowest.
+pub(crate) fn short_word(bytes: &[u8]) -> u64
+    ensures { length bytes.now < 8 → result ≡ word bytes.now }
+{
+    match bytes {
+        [a] => u64::from(*a),
+        [a, b] => u64::from_le_bytes([*a, *b, 0, 0, 0, 0, 0, 0]),
+        [a, b, c] => u64::from_le_bytes([*a, *b, *c, 0, 0, 0, 0, 0]),
+        [a, b, c, d] => u64::from_le_bytes([*a, *b, *c, *d, 0, 0, 0, 0]),
+        [a, b, c, d, e] => u64::from_le_bytes([*a, *b, *c, *d, *e, 0, 0, 0]),
+        [a, b, c, d, e, f] => u64::from_le_bytes([*a, *b, *c, *d, *e, *f, 0, 0]),
+        [a, b, c, d, e, f, g] => u64::from_le_bytes([*a, *b, *c, *d, *e, *f, *g, 0]),
+        _ => 0,
+    }
+}

@@ -1,0 +1,213 @@
+//! The runs of a report, and when bytes have all of them (Sections 5.6 and 5.8).
+ghost use Rattle.std.specs.Prelude.{◌≡◌, ◌≢◌, ◌<◌, ◌^◌, Err, Ok, IfErr, IfOk, IfSome, IsTrue, OnOk, length, map};
+ghost use Rattle.std.specs.List.{list_any};
+ghost use Rattle.hidreport_items.specs.Numbers.{word};
+ghost use Rattle.hidreport_lists.specs.Answer.{IsOfReading, Refuses};
+ghost use Rattle.hidreport.specs.Reader.{begins_otherwise, filled, numbers_before};
+ghost use Rattle.hidreport.specs.Reading.{with_id};
+ghost use Rattle.hidreport.specs.Runs.{IsOpen, IsPlain, StandFor, all_numbers, count_in, runs_of};
+ghost use Rattle.hidreport.specs.Runs.{RunRecord, runs_alone, runs_read};
+ghost use Rattle.hidreport.specs.Tiling.{Each};
+ghost use Rattle.hidreport.specs.Views.{field_record};
+
+use crate::field::Field;
+use crate::report::reader::run::{Run, short_word};
+use hidreport_lists::ParserError;
+use hidreport_types::ReportId;
+use std::alloc::{AllocError, Global};
+use std::marker::Model;
+
+/// Runs in the order of their fields.
+///
+/// Where all of them are read by one id or by none, `enough` is a number of bytes that have them
+/// all, so that one test does for them.
+#[derive(Debug, Drop)]
+pub(crate) struct RunList {
+    runs: Vec<Run>,
+    report_id: Option<ReportId>,
+    enough: Option<usize>,
+}
+
+impl Model for RunList {
+    ghost use Rattle.std.specs.Prelude.{IfSome, List};
+    ghost use Rattle.hidreport.specs.Runs.{IsPlain, RunRecord};
+    ghost use Rattle.hidreport.specs.Tiling.{Each};
+
+    ghost Value = { List RunRecord };
+
+    ghost view = { λ r. r.runs.items };
+
+    ghost invariant = { λ r. IfSome r.enough (λ bytes. Each (IsPlain r.report_id bytes) r.runs.items) };
+}
+
+impl RunList {
+    /// The runs of fields of a report with this id.
+    pub(crate) fn of(
+        alloc: Global,
+        report_id: Option<ReportId>,
+        fields: &[Field],
+    ) -> Result<RunList, AllocError>
+        ensures { IfOk result (λ runs. StandFor (map field_record fields.now) runs) }
+    {
+        let runs = runs_of(alloc, fields)?;
+        let enough = enough_for(&runs, &report_id);
+        Ok(RunList {
+            runs,
+            report_id,
+            enough,
+        })
+    }
+
+    /// How many values the runs have; `None` past `usize::MAX`.
+    pub(crate) fn value_count(&self) -> Option<usize>
+        ensures { IfSome result (λ count. count ≡ count_in self.now) }
+    {
+        count_in(&self.runs)
+    }
+
+    /// Refuses bytes that don't have all values, as the first of the runs does.
+    #[inline(always)]
+    pub(crate) fn check(&self, bytes: &[u8]) -> Result<(), ParserError>
+        ensures refused { IfErr result (λ e. Refuses e (runs_read self.now bytes.now)) }
+        ensures named { IfErr result IsOfReading }
+        ensures memory { result ≢ Err ParserError.OutOfMemory }
+        ensures there { OnOk result (Each (IsOpen bytes.now) self.now) }
+    {
+        if self.has_all(bytes) {
+            return Ok(());
+        }
+        check_all(&self.runs, bytes)
+    }
+
+    /// Whether bytes have all values by their number and the id that they begin with.
+    #[inline(always)]
+    fn has_all(&self, bytes: &[u8]) -> bool
+        ensures { IsTrue result → Each (IsOpen bytes.now) self.now }
+    {
+        match self.enough {
+            Some(enough) => enough <= bytes.len() && begin_with(bytes, &self.report_id),
+            None => false,
+        }
+    }
+
+    /// Whether bytes begin with another id than that which one of the runs is read by.
+    pub(crate) fn are_of_another(&self, bytes: &[u8]) -> bool
+        ensures { result
+            ≡ list_any (λ (run : RunRecord). begins_otherwise bytes.now run.id) self.now }
+    {
+        self.runs.iter().any(|run| run.is_of_another(bytes))
+    }
+
+    /// Puts numbers in place of the first values, as far as there is room, up to the first that the
+    /// bytes don't have; how many they have.
+    pub(crate) fn put_available(&self, bytes: &[u8], values: &mut [i64]) -> usize
+        requires counted { count_in self.now < 2 ^ 64 }
+        ensures values { values.new
+            ≡ filled (numbers_before (runs_alone self.now bytes.now)) values.old }
+        ensures count { result ≡ length (numbers_before (runs_alone self.now bytes.now)) }
+    {
+        put_available(&self.runs, bytes, values)
+    }
+
+    /// Puts the numbers of all runs in place of the first values, as far as there is room.
+    pub(crate) fn put(&self, bytes: &[u8], values: &mut [i64])
+        requires there { Each (IsOpen bytes.now) self.now }
+        requires counted { count_in self.now < 2 ^ 64 }
+        ensures { values.new ≡ filled (all_numbers self.now bytes.now) values.old }
+    {
+        put_all(&self.runs, bytes, short_word(bytes), values);
+    }
+}
+
+/// Whether bytes begin with an id, where there is one.
+#[inline(always)]
+fn begin_with(bytes: &[u8], report_id: &Option<ReportId>) -> bool
+    ensures { IsTrue result → with_id report_id.now bytes.now (Ok (tt {0})) ≡ Ok (tt {0}) }
+{
+    match (report_id, bytes) {
+        (None, _) => true,
+        (Some(id), [first, ..]) => u8::from(*id) == *first,
+        (Some(_), []) => false,
+    }
+}
+
+/// What the fields' values are read by, in order; padding has none.
+fn runs_of(alloc: Global, fields: &[Field]) -> Result<Vec<Run>, AllocError>
+    ensures { IfOk result (λ runs. runs.items ≡ runs_of (map field_record fields.now)) }
+{
+    let mut runs = Vec::new(alloc);
+    for field in fields {
+        if let Some(run) = Run::of(field) {
+            runs.push(run)?;
+        }
+    }
+    Ok(runs)
+}
+
+/// How many values runs have; `None` past `usize::MAX`.
+fn count_in(runs: &[Run]) -> Option<usize>
+    ensures { IfSome result (λ count. count ≡ count_in runs.now) }
+{
+    let mut count: usize = 0;
+    for run in runs {
+        count = count.checked_add(run.count())?;
+    }
+    Some(count)
+}
+
+/// How many bytes have all values, where they are read by this id or by none; `None` where one of
+/// the runs is of another report, or can't be read at all.
+fn enough_for(runs: &[Run], report_id: &Option<ReportId>) -> Option<usize>
+    ensures { IfSome result (λ bytes. Each (IsPlain report_id.now bytes) runs.now) }
+{
+    let mut bytes: usize = 0;
+    for run in runs {
+        bytes = bytes.max(run.bytes_for(report_id)?);
+    }
+    Some(bytes)
+}
+
+/// Refuses bytes that don't have all values, as the first of the runs does.
+fn check_all(runs: &[Run], bytes: &[u8]) -> Result<(), ParserError>
+    ensures refused { IfErr result (λ e. Refuses e (runs_read runs.now bytes.now)) }
+    ensures named { IfErr result IsOfReading }
+    ensures memory { result ≢ Err ParserError.OutOfMemory }
+    ensures there { OnOk result (Each (IsOpen bytes.now) runs.now) }
+{
+    for run in runs {
+        run.check(bytes)?;
+    }
+    Ok(())
+}
+
+/// Puts the numbers of all runs in place of the first values, as far as there is room.
+fn put_all(runs: &[Run], bytes: &[u8], short: u64, values: &mut [i64])
+    requires short { length bytes.now < 8 → short ≡ word bytes.now }
+    requires there { Each (IsOpen bytes.now) runs.now }
+    requires counted { count_in runs.now < 2 ^ 64 }
+    ensures { values.new ≡ filled (all_numbers runs.now bytes.now) values.old }
+{
+    let mut place = 0;
+    for run in runs {
+        run.put(bytes, short, place, values);
+        place += run.count();
+    }
+}
+
+/// Puts numbers in place of the first values, as far as there is room, up to the first that the bytes
+/// don't have; how many they have.
+fn put_available(runs: &[Run], bytes: &[u8], values: &mut [i64]) -> usize
+    requires counted { count_in runs.now < 2 ^ 64 }
+    ensures values { values.new ≡ filled (numbers_before (runs_alone runs.now bytes.now)) values.old }
+    ensures count { result ≡ length (numbers_before (runs_alone runs.now bytes.now)) }
+{
+    let mut place = 0;
+    for run in runs {
+        let count = run.put_available(bytes, place, values);
+        place += count;
+        if count < run.count() {
+            return place;
+        }
+    }
+    place
+}
