@@ -146,7 +146,8 @@ impl ReportDescriptor {
     ) -> Result<ReportDescriptor, ParserError>
         ensures { Answers result (parse_any options bytes.now) }
     {
-        let reports = parser::parse(alloc, bytes, options)?;
+        let outline = parser::parse(alloc, bytes, options)?;
+        let reports = outline.lay_out(alloc)?;
         Ok(ReportDescriptor { reports })
     }
 

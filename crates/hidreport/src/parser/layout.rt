@@ -39,6 +39,8 @@ impl Layout {
     ghost use Rattle.std.specs.Prelude.{◌≡◌, ◌+◌, ◌++◌, ◌*◌, ◌<◌, ◌≤◌, ◌^◌, []};
     ghost use Rattle.std.specs.Prelude.{false, Some, length, IfOk, OnOk, map};
     ghost use Rattle.hidreport.specs.Fields.{each_from, field_count, make_place};
+    ghost use Rattle.hidreport.specs.Parser.Groups.{group_of};
+    ghost use Rattle.hidreport.specs.Usages.{UsageList};
     ghost use Rattle.hidreport.specs.Parser.Layout.{IsPossible, beginning_of, laid_out, shared_list};
     ghost use Rattle.hidreport.specs.Parser.Layout.{shared_of, variable_of, variable_with};
     ghost use Rattle.hidreport.specs.Parser.Usages.{usage_list};
@@ -54,6 +56,30 @@ impl Layout {
         self.item
             .field_count(self.count)
             .saturating_add(MORE_FIELDS)
+    }
+
+    /// The same once more, in the same collections.
+    pub(crate) fn copy(&self) -> Result<Layout, AllocError>
+        ensures laid { IfOk result (λ layout. (us : UsageList)
+            → group_of layout us ≡ group_of self.now us) }
+        ensures possible { IfOk result (λ layout. (us : UsageList)
+            → IsPossible self.now us → IsPossible layout us) }
+    {
+        let collections = match &self.collections {
+            Some(shared) => Some(shared.clone()?),
+            None => None,
+        };
+        Ok(Layout {
+            collections,
+            report_id: self.report_id,
+            report_count: self.report_count,
+            measures: self.measures.copy(),
+            item: self.item,
+            first_id: self.first_id,
+            first_bit: self.first_bit,
+            size: self.size,
+            count: self.count,
+        })
     }
 
     /// Adds the item's fields to those that are there.
