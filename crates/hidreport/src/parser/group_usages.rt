@@ -2,6 +2,7 @@
 ghost use Rattle.std.specs.Prelude.{◌≡◌, IfOk};
 
 use crate::field::Field;
+use crate::field::usage::Usage;
 use crate::parser::layout::Layout;
 use crate::parser::local_usages::LocalUsage;
 use crate::parser::usage_bounds::UsageBounds;
@@ -24,7 +25,9 @@ pub(crate) enum GroupUsages {
 }
 
 impl GroupUsages {
-    ghost use Rattle.std.specs.Prelude.{◌≡◌, ◌++◌, IfOk, OnOk, map};
+    ghost use Rattle.std.specs.Prelude.{◌≡◌, ◌++◌, [], IfOk, IfSome, IsNone, OnOk, map, option_map};
+    ghost use Rattle.std.specs.Prelude.{slice_get};
+    ghost use Rattle.hidreport.specs.Fields.{usage_at};
     ghost use Rattle.hidreport.specs.Parser.Groups.{own_usages};
     ghost use Rattle.hidreport.specs.Parser.Layout.{IsPossible, laid_out};
     ghost use Rattle.hidreport.specs.Parser.Usages.{usage_list};
@@ -43,20 +46,7 @@ impl GroupUsages {
         }
     }
 
-    /// The same usages, lent.
-    #[inline(always)]
-    pub(crate) fn lent(&self) -> Usages<'_>
-        ensures { usage_list result ≡ own_usages self.now }
-    {
-        match self {
-            GroupUsages::Range(bounds) => Usages::Range(*bounds),
-            GroupUsages::Single(page, usages) => Usages::Single(*page, usages.as_slice()),
-            GroupUsages::Spans(spans) => Usages::Spans(spans.as_slice()),
-        }
-    }
-
     /// Adds the fields that an item with these usages lays out to those that are there.
-    #[inline(always)]
     pub(crate) fn add_fields(
         &self,
         alloc: Global,
@@ -77,6 +67,40 @@ impl GroupUsages {
             GroupUsages::Spans(spans) => {
                 layout.add_fields(alloc, &Usages::Spans(spans.as_slice()), fields)
             }
+        }
+    }
+
+    /// Field number `c` that an item with these usages lays out, `None` where it makes no more.
+    pub(crate) fn field(
+        &self,
+        alloc: Global,
+        layout: &Layout,
+        c: usize,
+    ) -> Result<Option<Field>, AllocError>
+        requires { IsPossible layout.now (own_usages self.now) }
+        ensures { IfOk result (λ field. option_map field_record field
+            ≡ slice_get (laid_out layout.now (own_usages self.now)) c) }
+    {
+        match self {
+            GroupUsages::Range(bounds) => layout.field(alloc, &Usages::Range(*bounds), c),
+            GroupUsages::Single(page, usages) => {
+                layout.field(alloc, &Usages::Single(*page, usages.as_slice()), c)
+            }
+            GroupUsages::Spans(spans) => layout.field(alloc, &Usages::Spans(spans.as_slice()), c),
+        }
+    }
+
+    /// Usage number `c`, or the last one where there are fewer; `None` where there is none.
+    pub(crate) fn at(&self, c: usize) -> Option<Usage>
+        ensures some { IfSome result (λ usage. usage ≡ usage_at (own_usages self.now).usages c) }
+        ensures none { IsNone result → (own_usages self.now).usages ≡ [] }
+    {
+        match self {
+            GroupUsages::Range(bounds) => Usages::Range(*bounds).at_if_some(c),
+            GroupUsages::Single(page, usages) => {
+                Usages::Single(*page, usages.as_slice()).at_if_some(c)
+            }
+            GroupUsages::Spans(spans) => Usages::Spans(spans.as_slice()).at_if_some(c),
         }
     }
 }

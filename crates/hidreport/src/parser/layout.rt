@@ -37,7 +37,7 @@ pub(crate) struct Layout {
 impl Layout {
     ghost use Rattle.std.specs.Arc.{arc_slice_items};
     ghost use Rattle.std.specs.Prelude.{◌≡◌, ◌+◌, ◌++◌, ◌*◌, ◌<◌, ◌≤◌, ◌^◌, []};
-    ghost use Rattle.std.specs.Prelude.{false, Some, length, IfOk, OnOk, map};
+    ghost use Rattle.std.specs.Prelude.{false, Some, length, IfOk, OnOk, map, option_map, slice_get};
     ghost use Rattle.hidreport.specs.Fields.{each_from, field_count, make_place};
     ghost use Rattle.hidreport.specs.Parser.Groups.{group_of};
     ghost use Rattle.hidreport.specs.Usages.{UsageList};
@@ -102,6 +102,30 @@ impl Layout {
             fields.push(self.array_field(alloc, usages)?)?;
         }
         Ok(())
+    }
+
+    /// Field number `c` of the item, `None` where it makes no more.
+    pub(crate) fn field(
+        &self,
+        alloc: Global,
+        usages: &Usages,
+        c: usize,
+    ) -> Result<Option<Field>, AllocError>
+        requires { IsPossible self.now (usage_list usages.now) }
+        ensures { IfOk result (λ field. option_map field_record field
+            ≡ slice_get (laid_out self.now (usage_list usages.now)) c) }
+    {
+        if c >= self.item.field_count(self.count) {
+            return Ok(None);
+        }
+        if self.item.is_constant {
+            return Ok(Some(self.constant_field()));
+        }
+        if !self.item.is_variable {
+            return Ok(Some(self.array_field(alloc, usages)?));
+        }
+        let collections = self.shared_collections(alloc)?;
+        Ok(Some(self.variable_field(collections, usages.at(c), c)))
     }
 
     /// The padding.
@@ -246,7 +270,7 @@ impl Layout {
     }
 
     /// The bits of field number `c` of a variable item.
-    fn bits(&self, c: usize) -> Range<usize>
+    pub(crate) fn bits(&self, c: usize) -> Range<usize>
         requires { self.now.first_bit + self.now.size * (c + 1) < 2 ^ 64 }
         ensures first { result.start ≡ self.now.first_bit + c * self.now.size }
         ensures end { result.end ≡ self.now.first_bit + c * self.now.size + self.now.size }
