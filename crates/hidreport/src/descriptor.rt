@@ -18,8 +18,8 @@ ghost use Rattle.hidreport.specs.Weight.{descriptor_weight};
 ghost use Rattle.hidreport.specs.Working.{AllWork};
 
 use crate::field::data_item::Direction;
-use crate::parse_options::ParseOptions;
 use crate::outline::Outline;
+use crate::parse_options::ParseOptions;
 use crate::parser::push_keeps::PushKeeps;
 use crate::report::RDescReport;
 use crate::report::reports::{Reports, find_with_id, likely_report};

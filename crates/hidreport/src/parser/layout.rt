@@ -115,13 +115,14 @@ impl Layout {
         ensures { IfOk result (λ field. option_map field_record field
             ≡ slice_get (laid_out self.now (usage_list usages.now)) c) }
     {
-        if c >= self.item.field_count(self.count) {
+        let item = &self.item;
+        if c >= item.field_count(self.count) {
             return Ok(None);
         }
-        if self.item.is_constant {
+        if item.is_constant {
             return Ok(Some(self.constant_field()));
         }
-        if !self.item.is_variable {
+        if !item.is_variable {
             return Ok(Some(self.array_field(alloc, usages)?));
         }
         let collections = self.shared_collections(alloc)?;

@@ -1,10 +1,10 @@
 //! The fields of one main item (Section 6.2.2.4).
 ghost use Rattle.std.specs.Prelude.{◌≡◌};
 
+use crate::field::Field;
 use crate::field::collection::Collection;
 use crate::field::field_attributes::FieldAttributes;
 use crate::field::usage::Usage;
-use crate::field::Field;
 use crate::parser::group_usages::GroupUsages;
 use crate::parser::layout::Layout;
 use crate::parser::usages::Usages;
@@ -46,11 +46,7 @@ impl Group {
     ghost use Rattle.hidreport.specs.Views.{field_record};
 
     /// The fields that are laid out so, with these usages.
-    pub(crate) fn new(
-        alloc: Global,
-        layout: &Layout,
-        usages: &Usages,
-    ) -> Result<Group, AllocError>
+    pub(crate) fn new(alloc: Global, layout: &Layout, usages: &Usages) -> Result<Group, AllocError>
         requires possible { IsPossible layout.now (usage_list usages.now) }
         ensures { IfOk result (λ group. group ≡ group_of layout.now (usage_list usages.now)) }
     {
@@ -62,7 +58,11 @@ impl Group {
 
     /// Adds the fields to those that are there.
     #[inline(always)]
-    pub(crate) fn add_fields(&self, alloc: Global, fields: &mut Vec<Field>) -> Result<(), AllocError>
+    pub(crate) fn add_fields(
+        &self,
+        alloc: Global,
+        fields: &mut Vec<Field>,
+    ) -> Result<(), AllocError>
         ensures { OnOk result (map field_record fields.new.items
             ≡ map field_record fields.old.items ++ group_fields self.now) }
     {
