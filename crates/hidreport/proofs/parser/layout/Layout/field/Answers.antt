@@ -19,4 +19,4 @@ returns c =
     let several : l.item.is_variable ≡ true = search rules in
     let lt : c.args.c < l.count = search rules in
     ap Some (c.variable_field.ensures ∙ ap (λ u. variable_with l u c.args.c) c.at.ensures)
-    ∙ sym (variable-at l us c.args.c c.if-self.false several lt)
+    ∙ sym (variable-at l us c.args.c c.if-item.false several lt)
