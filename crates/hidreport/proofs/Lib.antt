@@ -1,4 +1,5 @@
 pub mod AlikeLemmas
+pub mod GroupLemmas
 pub mod SharedLemmas
 pub mod WorkLemmas
 pub mod UnchosenLemmas

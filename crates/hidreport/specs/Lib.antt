@@ -7,6 +7,7 @@ pub mod Budget
 pub mod Choosing
 pub mod Faults
 pub mod Fields
+pub mod Groups
 pub mod HostUsages
 pub mod ItemState
 pub mod Kinds

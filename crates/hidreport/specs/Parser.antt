@@ -2,6 +2,7 @@
 -- it.
 pub mod Budget
 pub mod DataItem
+pub mod Groups
 pub mod ItemStates
 pub mod Journal
 pub mod Layout

@@ -6,7 +6,7 @@ ghost use Rattle.hidreport_lists.specs.Entry.{Entry};
 ghost use Rattle.hidreport_lists.specs.Itemising.{itemise};
 ghost use Rattle.hidreport_lists.specs.Rebuilt.{items_of};
 ghost use Rattle.hidreport.specs.Budget.{parse_within};
-ghost use Rattle.hidreport.specs.Laws.{KeptItemsMean, RebuiltBytesMean, SegmentsAreIdle, parse_any};
+ghost use Rattle.hidreport.specs.Laws.{KeptItemsMean, RebuiltBytesMean, SegmentsAreIdle};
 ghost use Rattle.hidreport.specs.Lookup.{find_report, report_with, reports_of};
 ghost use Rattle.hidreport.specs.Meaning.{parse, parse_by, parse_globals_only};
 ghost use Rattle.hidreport.specs.Options.{default_options, globals_only_options, parse_as, reading_of};
@@ -18,8 +18,8 @@ ghost use Rattle.hidreport.specs.Weight.{descriptor_weight};
 ghost use Rattle.hidreport.specs.Working.{AllWork};
 
 use crate::field::data_item::Direction;
+use crate::outline::Outline;
 use crate::parse_options::ParseOptions;
-use crate::parser;
 use crate::parser::push_keeps::PushKeeps;
 use crate::report::RDescReport;
 use crate::report::reports::{Reports, find_with_id, likely_report};
@@ -32,7 +32,7 @@ use std::marker::Model;
 /// order of their first fields.
 #[derive(Debug, Drop)]
 pub struct ReportDescriptor {
-    reports: Reports,
+    pub(crate) reports: Reports,
 }
 
 impl Model for ReportDescriptor {
@@ -132,22 +132,8 @@ impl ReportDescriptor {
         ensures unlimited { options.limit ≡ None → options.longest ≡ None
             → (offset : ℕ) → result ≢ Err (ParserError.BudgetExceeded offset) }
     {
-        if let Some(offset) = options.past_longest(bytes.len()) {
-            return Err(ParserError::BudgetExceeded { offset });
-        }
-        ReportDescriptor::read(alloc, bytes, options)
-    }
-
-    /// The same of bytes that aren't too many.
-    fn read(
-        alloc: Global,
-        bytes: &[u8],
-        options: ParseOptions,
-    ) -> Result<ReportDescriptor, ParserError>
-        ensures { Answers result (parse_any options bytes.now) }
-    {
-        let reports = parser::parse(alloc, bytes, options)?;
-        Ok(ReportDescriptor { reports })
+        let outline = Outline::try_from_with(alloc, bytes, options)?;
+        Ok(outline.lay_out(alloc)?)
     }
 
     /// The reports under a limit, for bytes that nobody vouches for: it lists at most `limit` of

@@ -5,6 +5,7 @@
 mod descriptor;
 mod field;
 mod laws;
+mod outline;
 mod parse_options;
 mod parser;
 mod repairing;
@@ -62,10 +63,13 @@ pub use laws::{
     blank_reports_have_their_id_alone, built_bytes_mean_their_items, scaled_values_lie_on_a_line,
     shared_collections_are_a_common_front,
 };
+pub use outline::Outline;
 pub use parse_options::ParseOptions;
 pub use parser::push_keeps::PushKeeps;
 pub use parser::usages_by::UsagesBy;
 pub use repairing::{Change, RepairOptions, Repaired, repair};
+pub use report::group::Group;
+pub use report::outline_report::OutlineReport;
 pub use report::reader::Reader;
 pub use report::{RDescReport, Report};
 pub use types::{

@@ -13,10 +13,11 @@ pub(crate) mod budget;
 mod extent;
 mod fault;
 mod globals;
+pub(crate) mod group_usages;
 mod host_usages;
 mod item_state_table;
 mod journal;
-mod layout;
+pub(crate) mod layout;
 mod local_usages;
 mod locals;
 mod open_collection;
@@ -29,11 +30,11 @@ mod slot;
 pub(crate) mod state;
 mod usage_bounds;
 mod usage_span;
-mod usages;
+pub(crate) mod usages;
 pub(crate) mod usages_by;
 
 use crate::parse_options::ParseOptions;
-use crate::report::reports::Reports;
+use crate::report::outline_reports::OutlineReports;
 use budget::Budget;
 use fault::{Fault, invalid_data};
 use hidreport_lists::{ParserError, PlacedFault, check_items, front_item};
@@ -46,7 +47,7 @@ pub(crate) fn parse(
     alloc: Global,
     bytes: &[u8],
     options: ParseOptions,
-) -> Result<Reports, ParserError>
+) -> Result<OutlineReports, ParserError>
     ensures { Answers result (walk_bytes options bytes.now) }
 {
     if bytes.is_empty() {

@@ -8,6 +8,9 @@ ghost use Rattle.hidreport.specs.Views.{field_record};
 ghost use Rattle.hidreport.specs.Working.{TakesAll};
 ghost use Rattle.hidreport.specs.WritingLaws.{IsWhole};
 
+pub(crate) mod group;
+pub(crate) mod outline_report;
+pub(crate) mod outline_reports;
 pub(crate) mod reader;
 pub(crate) mod reports;
 

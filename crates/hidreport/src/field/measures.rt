@@ -33,6 +33,20 @@ impl Model for Measures {
 }
 
 impl Measures {
+    /// The same numbers once more.
+    pub(crate) fn copy(&self) -> Measures
+        ensures { result ≡ self.now }
+    {
+        Measures {
+            logical_minimum: self.logical_minimum,
+            logical_maximum: self.logical_maximum,
+            physical_minimum: self.physical_minimum,
+            physical_maximum: self.physical_maximum,
+            unit: self.unit,
+            unit_exponent: self.unit_exponent,
+        }
+    }
+
     /// Whether others are the same.
     pub(crate) fn is_alike(&self, other: &Measures) -> bool
         ensures { IsTrue result ↔ (self.now ≡ other.now) }

@@ -37,8 +37,10 @@ pub(crate) struct Layout {
 impl Layout {
     ghost use Rattle.std.specs.Arc.{arc_slice_items};
     ghost use Rattle.std.specs.Prelude.{◌≡◌, ◌+◌, ◌++◌, ◌*◌, ◌<◌, ◌≤◌, ◌^◌, []};
-    ghost use Rattle.std.specs.Prelude.{false, Some, length, IfOk, OnOk, map};
+    ghost use Rattle.std.specs.Prelude.{false, Some, length, IfOk, OnOk, map, option_map, slice_get};
     ghost use Rattle.hidreport.specs.Fields.{each_from, field_count, make_place};
+    ghost use Rattle.hidreport.specs.Parser.Groups.{group_of};
+    ghost use Rattle.hidreport.specs.Usages.{UsageList};
     ghost use Rattle.hidreport.specs.Parser.Layout.{IsPossible, beginning_of, laid_out, shared_list};
     ghost use Rattle.hidreport.specs.Parser.Layout.{shared_of, variable_of, variable_with};
     ghost use Rattle.hidreport.specs.Parser.Usages.{usage_list};
@@ -54,6 +56,30 @@ impl Layout {
         self.item
             .field_count(self.count)
             .saturating_add(MORE_FIELDS)
+    }
+
+    /// The same once more, in the same collections.
+    pub(crate) fn copy(&self) -> Result<Layout, AllocError>
+        ensures laid { IfOk result (λ layout. (us : UsageList)
+            → group_of layout us ≡ group_of self.now us) }
+        ensures possible { IfOk result (λ layout. (us : UsageList)
+            → IsPossible self.now us → IsPossible layout us) }
+    {
+        let collections = match &self.collections {
+            Some(shared) => Some(shared.clone()?),
+            None => None,
+        };
+        Ok(Layout {
+            collections,
+            report_id: self.report_id,
+            report_count: self.report_count,
+            measures: self.measures.copy(),
+            item: self.item,
+            first_id: self.first_id,
+            first_bit: self.first_bit,
+            size: self.size,
+            count: self.count,
+        })
     }
 
     /// Adds the item's fields to those that are there.
@@ -76,6 +102,31 @@ impl Layout {
             fields.push(self.array_field(alloc, usages)?)?;
         }
         Ok(())
+    }
+
+    /// Field number `c` of the item, `None` where it makes no more.
+    pub(crate) fn field(
+        &self,
+        alloc: Global,
+        usages: &Usages,
+        c: usize,
+    ) -> Result<Option<Field>, AllocError>
+        requires { IsPossible self.now (usage_list usages.now) }
+        ensures { IfOk result (λ field. option_map field_record field
+            ≡ slice_get (laid_out self.now (usage_list usages.now)) c) }
+    {
+        let item = &self.item;
+        if c >= item.field_count(self.count) {
+            return Ok(None);
+        }
+        if item.is_constant {
+            return Ok(Some(self.constant_field()));
+        }
+        if !item.is_variable {
+            return Ok(Some(self.array_field(alloc, usages)?));
+        }
+        let collections = self.shared_collections(alloc)?;
+        Ok(Some(self.variable_field(collections, usages.at(c), c)))
     }
 
     /// The padding.
@@ -220,7 +271,7 @@ impl Layout {
     }
 
     /// The bits of field number `c` of a variable item.
-    fn bits(&self, c: usize) -> Range<usize>
+    pub(crate) fn bits(&self, c: usize) -> Range<usize>
         requires { self.now.first_bit + self.now.size * (c + 1) < 2 ^ 64 }
         ensures first { result.start ≡ self.now.first_bit + c * self.now.size }
         ensures end { result.end ≡ self.now.first_bit + c * self.now.size + self.now.size }

@@ -3,7 +3,7 @@ ghost use Rattle.std.specs.Prelude.{◌≡◌, ◌+◌, ◌<◌, ◌^◌, OnOk};
 use crate::parser::layout::Layout;
 use crate::parser::slot::{Slot, add_fields, size_at, slot_of, widened};
 use crate::parser::usages::Usages;
-use crate::report::RDescReport;
+use crate::report::outline_report::OutlineReport;
 use hidreport_types::ReportId;
 use std::alloc::{AllocError, Global};
 use std::marker::Model;
@@ -14,7 +14,7 @@ use std::marker::Model;
 /// is remembered, and a number that all ids are below.
 #[derive(Drop)]
 pub(crate) struct ReportList {
-    reports: Vec<RDescReport>,
+    reports: Vec<OutlineReport>,
     last: Option<Slot>,
     ids_below: Option<usize>,
 }
@@ -95,7 +95,7 @@ impl ReportList {
     }
 
     /// All of them.
-    pub(crate) fn into_reports(self) -> Vec<RDescReport>
+    pub(crate) fn into_reports(self) -> Vec<OutlineReport>
         ensures { result.items ≡ self }
     {
         self.reports

@@ -3,7 +3,7 @@ use crate::parser::layout::Layout;
 use crate::parser::report_list::ReportList;
 use crate::parser::slot::Slot;
 use crate::parser::usages::Usages;
-use crate::report::reports::Reports;
+use crate::report::outline_reports::OutlineReports;
 use std::alloc::{AllocError, Global};
 use std::marker::Model;
 
@@ -80,10 +80,10 @@ impl ReportLists {
     }
 
     /// All of them.
-    pub(crate) fn into_reports(self) -> Reports
+    pub(crate) fn into_reports(self) -> OutlineReports
         ensures { result ≡ self }
     {
-        Reports {
+        OutlineReports {
             input: self.input.into_reports(),
             output: self.output.into_reports(),
             feature: self.feature.into_reports(),

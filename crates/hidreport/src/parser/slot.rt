@@ -10,9 +10,13 @@ ghost use Rattle.hidreport.specs.Places.{id_bits};
 
 use crate::parser::layout::Layout;
 use crate::parser::usages::Usages;
-use crate::report::RDescReport;
+use crate::report::group::Group;
+use crate::report::outline_report::OutlineReport;
 use hidreport_types::ReportId;
 use std::alloc::{AllocError, Global};
+
+/// How many groups a report has room for at first: mostly a few follow.
+const FEW_GROUPS: usize = 4;
 
 /// The id of a report and its index, which is the number of reports where it has to be made.
 #[derive(Clone, Copy)]
@@ -24,7 +28,7 @@ pub(crate) struct Slot {
 /// The report that a field with this id in force goes to: without one to the first. The reports are
 /// gone over only where it is neither that of the last slot nor past all ids.
 pub(crate) fn slot_of(
-    reports: &[RDescReport],
+    reports: &[OutlineReport],
     last: Option<Slot>,
     ids_below: Option<usize>,
     id: Option<ReportId>,
@@ -76,7 +80,7 @@ pub(crate) fn widened(ids_below: Option<usize>, key: &Option<ReportId>) -> Optio
 }
 
 /// The id of the report that a field with this id in force goes to.
-fn key_of(reports: &[RDescReport], id: Option<ReportId>) -> Option<ReportId>
+fn key_of(reports: &[OutlineReport], id: Option<ReportId>) -> Option<ReportId>
     ensures { result ≡ first_of id (first_id reports.now) }
 {
     match (id, reports.first()) {
@@ -98,7 +102,7 @@ fn is_same(own: &Option<ReportId>, key: &Option<ReportId>) -> bool
 }
 
 /// The index of the report with this id, or the number of reports where it has to be made.
-fn report_index(reports: &[RDescReport], key: &Option<ReportId>) -> usize
+fn report_index(reports: &[OutlineReport], key: &Option<ReportId>) -> usize
     ensures { result ≡ index_in key.now reports.now }
 {
     for (index, report) in reports.iter().enumerate() {
@@ -120,7 +124,7 @@ fn id_bits(id: Option<ReportId>) -> usize
 }
 
 /// Where the report that `slot` names ends so far.
-pub(crate) fn size_at(reports: &[RDescReport], slot: Slot) -> usize
+pub(crate) fn size_at(reports: &[OutlineReport], slot: Slot) -> usize
     requires { slot.index ≡ index_in slot.key reports.now }
     ensures { result ≡ size_in slot.key reports.now }
 {
@@ -136,7 +140,7 @@ pub(crate) fn size_at(reports: &[RDescReport], slot: Slot) -> usize
 /// need.
 pub(crate) fn add_fields(
     alloc: Global,
-    reports: &mut Vec<RDescReport>,
+    reports: &mut Vec<OutlineReport>,
     slot: Slot,
     bits: usize,
     layout: &Layout,
@@ -148,19 +152,20 @@ pub(crate) fn add_fields(
     ensures { OnOk result (reports.new.items
         ≡ added_to slot.key bits (laid_out layout.now (usage_list usages.now)) reports.old.items) }
 {
+    let group = Group::new(alloc, layout, usages)?;
     if slot.index < reports.len() {
         let report = &mut reports[slot.index];
-        layout.add_fields(alloc, usages, &mut report.fields)?;
+        report.groups.push(group)?;
         report.size += bits;
         return Ok(());
     }
     let size = id_bits(slot.key) + bits;
-    let mut fields = Vec::with_capacity(alloc, layout.room())?;
-    layout.add_fields(alloc, usages, &mut fields)?;
-    reports.push(RDescReport {
+    let mut groups = Vec::with_capacity(alloc, FEW_GROUPS)?;
+    groups.push(group)?;
+    reports.push(OutlineReport {
         id: slot.key,
         size,
-        fields,
+        groups,
     })?;
     Ok(())
 }

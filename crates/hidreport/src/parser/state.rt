@@ -14,7 +14,7 @@ use crate::parser::open_collections::OpenCollections;
 use crate::parser::report_lists::ReportLists;
 use crate::parser::usage_span::UsageSpan;
 use crate::parser::usages::{Usages, spans_in, usages_of};
-use crate::report::reports::Reports;
+use crate::report::outline_reports::OutlineReports;
 use hidreport_items::{CollectionItem, GlobalItem, ItemType, MainItem};
 use std::alloc::{AllocError, Global};
 use std::marker::Model;
@@ -281,7 +281,7 @@ impl State {
     }
 
     /// The reports that the items made.
-    pub(crate) fn into_reports(self) -> Reports
+    pub(crate) fn into_reports(self) -> OutlineReports
         ensures { result ≡ self.descriptor }
     {
         self.reports.into_reports()

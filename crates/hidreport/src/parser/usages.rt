@@ -38,7 +38,8 @@ pub(crate) enum Usages<'a> {
 }
 
 impl<'a> Usages<'a> {
-    ghost use Rattle.std.specs.Prelude.{◌≡◌, ◌<◌, ◌≤◌, ◌^◌, false, length, take, IfOk, IfSome};
+    ghost use Rattle.std.specs.Prelude.{◌≡◌, ◌<◌, ◌≤◌, ◌^◌, [], false, length, take, IfOk, IfSome};
+    ghost use Rattle.std.specs.Prelude.{IsNone};
     ghost use Rattle.hidreport.specs.Fields.{usage_at};
     ghost use Rattle.hidreport.specs.Parser.Usages.{usage_list};
 
@@ -80,6 +81,17 @@ impl<'a> Usages<'a> {
             Usages::Single(page, usages) => single_at(*page, usages, c),
             Usages::Spans(spans) => host_usages::usage_at(spans, c),
         }
+    }
+
+    /// The same, `None` where there is none.
+    pub(crate) fn at_if_some(&self, c: usize) -> Option<Usage>
+        ensures some { IfSome result (λ usage. usage ≡ usage_at (usage_list self.now).usages c) }
+        ensures none { IsNone result → (usage_list self.now).usages ≡ [] }
+    {
+        if self.count() == 0 {
+            return None;
+        }
+        Some(self.at(c))
     }
 
     /// So many of the first ones in a list, or all where there are fewer, where they are those of

@@ -6,7 +6,7 @@ use Rattle.hidreport.specs.Records.{DescriptorRecord}
 use Rattle.hidreport.proofs.BudgetBoundLemmas.{limited-plain}
 use Rattle.hidreport.proofs.ParseLemmas.{bytes-as}
 use Rattle.hidreport.proofs.TilingWalkLemmas.{parse-tiled}
-use Rattle.hidreport.proofs.descriptor.ReportDescriptor.read.Goals as goal
+use Rattle.hidreport.proofs.outline.Outline.read.Goals as goal
 
 pub returns-in_err-reports : goal.returns-in_err-reports
 returns-in_err-reports c =

@@ -1,0 +1,7 @@
+use Rattle.std.proofs.Common.{◌∙◌, ap}
+use Rattle.hidreport.specs.Parser.Groups.{group_of, own_usages}
+use Rattle.hidreport.proofs.report.group.Group.new.Goals as goal
+
+pub returns : goal.returns
+returns c = c.in_ok-copy.ensures.laid (own_usages c.in_ok-of.field-0)
+    ∙ ap (group_of c.args.layout.now) c.in_ok-of.ensures

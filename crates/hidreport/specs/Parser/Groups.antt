@@ -1,0 +1,31 @@
+-- The fields of one item, not yet listed.
+use Rattle.std.specs.Prelude.{map, flat_map, true, false}
+use Rattle.hidreport.specs.Groups.{GroupRecord}
+use Rattle.hidreport.specs.HostUsages.{usages_in}
+use Rattle.hidreport.specs.Parser.Layout.{beginning_of, extent_of, shared_of}
+use Rattle.hidreport.specs.Parser.Locals.{usage_under}
+use Rattle.hidreport.specs.Parser.Usages.{between}
+use Rattle.hidreport.specs.Usages.{UsageList}
+use Rattle.hidreport.specs.Views.{item_flags}
+use Rattle.hidreport.specs.declared.parser.group_usages.GroupUsages.{GroupUsages}
+use Rattle.hidreport.specs.declared.parser.group_usages.GroupUsages.TheVariants as usages
+use Rattle.hidreport.specs.declared.parser.layout.Layout.{Layout}
+
+-- the usages as the definition has them
+abbrev pub own_usages : GroupUsages → UsageList
+own_usages (usages.Range bounds) = record { usages = between bounds; is_range = true }
+own_usages (usages.Single page us) = record {
+  usages = map (usage_under page) us.items;
+  is_range = false;
+}
+own_usages (usages.Spans ss) = record { usages = flat_map usages_in ss.items; is_range = false }
+
+-- the fields of an item that the parser lays out so, with these usages
+abbrev pub group_of : Layout → UsageList → GroupRecord
+group_of l us = record {
+  beginning = beginning_of l;
+  extent = extent_of l;
+  flags = item_flags l.item;
+  usages = us;
+  shared = shared_of l;
+}

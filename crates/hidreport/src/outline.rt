@@ -1,0 +1,147 @@
+ghost use Rattle.std.specs.Prelude.{◌≡◌, ◌≢◌, ◌≤◌, ℕ, None, Err, Ok, IfOk, IfSome, option_copied};
+ghost use Rattle.hidreport_lists.specs.Answer.{Answers};
+ghost use Rattle.hidreport.specs.Laws.{KeptItemsMean, RebuiltBytesMean, SegmentsAreIdle, parse_any};
+ghost use Rattle.hidreport.specs.Lookup.{find_report, report_with, reports_of};
+ghost use Rattle.hidreport.specs.Meaning.{parse_by};
+ghost use Rattle.hidreport.specs.Options.{parse_as, reading_of};
+ghost use Rattle.hidreport.specs.Tiling.{IsTiled};
+ghost use Rattle.hidreport.specs.Weight.{descriptor_weight};
+
+use crate::descriptor::ReportDescriptor;
+use crate::field::data_item::Direction;
+use crate::parse_options::ParseOptions;
+use crate::parser;
+use crate::report::outline_report::{OutlineReport, find_with_id};
+use crate::report::outline_reports::OutlineReports;
+use hidreport_lists::ParserError;
+use hidreport_types::ReportId;
+use std::alloc::{AllocError, Global};
+use std::marker::Model;
+
+/// The reports that a report descriptor announces (Section 6.2.2), with their fields in groups.
+///
+/// There is one entry for each main item, so that a few bytes which ask for many fields cost little;
+/// a field is made where it is asked for. Laid out, the groups are the fields of the descriptor
+/// (`lay_out`).
+#[derive(Drop)]
+pub struct Outline {
+    reports: OutlineReports,
+}
+
+impl Model for Outline {
+    ghost use Rattle.hidreport.specs.Records.{DescriptorRecord};
+    ghost use Rattle.hidreport.specs.Tiling.{IsTiled};
+
+    ghost Value = { DescriptorRecord };
+
+    ghost view = { λ o. o.reports };
+
+    ghost invariant = { λ o. IsTiled o.reports };
+}
+
+impl Outline {
+    /// The reports that the bytes of a report descriptor announce, read as the options say.
+    ///
+    /// It answers and refuses as `ReportDescriptor::try_from_with` does, which lays out what this
+    /// reads: the limit counts what would be listed, and all laws of that call hold.
+    ///
+    /// # Errors
+    ///
+    /// As of `ReportDescriptor::try_from_with`, in its order.
+    pub fn try_from_with(
+        alloc: Global,
+        bytes: &[u8],
+        options: ParseOptions,
+    ) -> Result<Outline, ParserError>
+        ensures exact { Answers result (parse_as options bytes.now) }
+        ensures bounded { IfOk result (λ outline.
+            IfSome options.limit (λ limit. descriptor_weight outline ≤ limit)) }
+        ensures plain { IfOk result (λ outline.
+            parse_by (reading_of options) bytes.now ≡ Ok outline) }
+        ensures tiled { IfOk result (λ outline. IsTiled outline) }
+        ensures struck { SegmentsAreIdle options bytes.now }
+        ensures kept { KeptItemsMean options bytes.now }
+        ensures rebuilt { RebuiltBytesMean options bytes.now }
+        ensures own_bytes { result ≢ Err ParserError.MismatchingReportId }
+        ensures unlimited { options.limit ≡ None → options.longest ≡ None
+            → (offset : ℕ) → result ≢ Err (ParserError.BudgetExceeded offset) }
+    {
+        if let Some(offset) = options.past_longest(bytes.len()) {
+            return Err(ParserError::BudgetExceeded { offset });
+        }
+        Outline::read(alloc, bytes, options)
+    }
+
+    /// The same of bytes that aren't too many.
+    fn read(alloc: Global, bytes: &[u8], options: ParseOptions) -> Result<Outline, ParserError>
+        ensures { Answers result (parse_any options bytes.now) }
+    {
+        let reports = parser::parse(alloc, bytes, options)?;
+        Ok(Outline { reports })
+    }
+
+    /// The descriptor that this is, its fields listed.
+    ///
+    /// # Errors
+    ///
+    /// - `AllocError`: memory for the fields is refused.
+    pub fn lay_out(&self, alloc: Global) -> Result<ReportDescriptor, AllocError>
+        ensures { IfOk result (λ descriptor. descriptor ≡ self.now) }
+    {
+        let reports = self.reports.lay_out(alloc)?;
+        Ok(ReportDescriptor { reports })
+    }
+
+    /// The reports that the device sends.
+    pub fn input_reports(&self) -> &[OutlineReport]
+        ensures { result.now ≡ self.now.input }
+    {
+        &self.reports.input
+    }
+
+    /// The reports that the host sends.
+    pub fn output_reports(&self) -> &[OutlineReport]
+        ensures { result.now ≡ self.now.output }
+    {
+        &self.reports.output
+    }
+
+    /// The reports that the host reads and writes apart from the two streams.
+    pub fn feature_reports(&self) -> &[OutlineReport]
+        ensures { result.now ≡ self.now.feature }
+    {
+        &self.reports.feature
+    }
+
+    /// The reports of a direction: those of `input_reports`, `output_reports` or `feature_reports`.
+    pub fn reports(&self, direction: Direction) -> &[OutlineReport]
+        ensures { result.now ≡ reports_of direction self.now }
+    {
+        match direction {
+            Direction::Input => self.input_reports(),
+            Direction::Output => self.output_reports(),
+            Direction::Feature => self.feature_reports(),
+        }
+    }
+
+    /// The report with this id in a direction (Section 5.6), for `None` the one without an id.
+    /// `None` where there is no such report.
+    pub fn report(&self, direction: Direction, id: Option<ReportId>) -> Option<&OutlineReport>
+        ensures { option_copied result ≡ report_with id (reports_of direction self.now) }
+    {
+        find_with_id(self.reports(direction), id)
+    }
+
+    /// The report of a direction that a report's bytes are of (Section 5.6): the first where it has
+    /// no id, else the one with the first byte as its id. `None` where there is none, or no bytes.
+    pub fn find_report(&self, direction: Direction, bytes: &[u8]) -> Option<&OutlineReport>
+        ensures { option_copied result ≡ find_report (reports_of direction self.now) bytes.now }
+    {
+        let id = *bytes.first()?;
+        let first = self.reports(direction).first()?;
+        match first.id {
+            None => Some(first),
+            Some(_) => self.report(direction, Some(ReportId::from(id))),
+        }
+    }
+}

@@ -1,0 +1,245 @@
+//! The fields of one main item (Section 6.2.2.4).
+ghost use Rattle.std.specs.Prelude.{◌≡◌};
+
+use crate::field::Field;
+use crate::field::collection::Collection;
+use crate::field::field_attributes::FieldAttributes;
+use crate::field::usage::Usage;
+use crate::parser::group_usages::GroupUsages;
+use crate::parser::layout::Layout;
+use crate::parser::usages::Usages;
+use hidreport_types::{
+    LogicalMaximum, LogicalMinimum, PhysicalMaximum, PhysicalMinimum, ReportId, Unit, UnitExponent,
+};
+use std::alloc::{AllocError, Global};
+use std::marker::Model;
+use std::ops::Range;
+
+/// The fields that one main item makes, which lie side by side: they are said once for all of them,
+/// and none is listed (Section 6.2.2.4).
+#[derive(Drop)]
+pub struct Group {
+    layout: Layout,
+    usages: GroupUsages,
+}
+
+impl Model for Group {
+    ghost use Rattle.hidreport.specs.Groups.{GroupRecord};
+    ghost use Rattle.hidreport.specs.Parser.Groups.{group_of, own_usages};
+    ghost use Rattle.hidreport.specs.Parser.Layout.{IsPossible};
+
+    ghost Value = { GroupRecord };
+
+    ghost view = { λ g. group_of g.layout (own_usages g.usages) };
+
+    ghost invariant = { λ g. IsPossible g.layout (own_usages g.usages) };
+}
+
+impl Group {
+    ghost use Rattle.std.specs.Prelude.{◌≡◌, ◌+◌, ◌*◌, ◌++◌, [], IfOk, IfSome, IsNone, OnOk, is_some};
+    ghost use Rattle.std.specs.Prelude.{map, nat_lt, option_map, slice_get};
+    ghost use Rattle.hidreport.specs.Fields.{field_count, usage_at};
+    ghost use Rattle.hidreport.specs.Groups.{group_fields};
+    ghost use Rattle.hidreport.specs.Parser.Groups.{group_of};
+    ghost use Rattle.hidreport.specs.Parser.Layout.{IsPossible};
+    ghost use Rattle.hidreport.specs.Parser.Usages.{usage_list};
+    ghost use Rattle.hidreport.specs.Views.{field_record};
+
+    /// The fields that are laid out so, with these usages.
+    pub(crate) fn new(alloc: Global, layout: &Layout, usages: &Usages) -> Result<Group, AllocError>
+        requires possible { IsPossible layout.now (usage_list usages.now) }
+        ensures { IfOk result (λ group. group ≡ group_of layout.now (usage_list usages.now)) }
+    {
+        Ok(Group {
+            layout: layout.copy()?,
+            usages: GroupUsages::of(alloc, usages)?,
+        })
+    }
+
+    /// Adds the fields to those that are there.
+    #[inline(always)]
+    pub(crate) fn add_fields(
+        &self,
+        alloc: Global,
+        fields: &mut Vec<Field>,
+    ) -> Result<(), AllocError>
+        ensures { OnOk result (map field_record fields.new.items
+            ≡ map field_record fields.old.items ++ group_fields self.now) }
+    {
+        self.usages.add_fields(alloc, &self.layout, fields)
+    }
+
+    /// Room for the fields.
+    pub(crate) fn room(&self) -> usize {
+        self.layout.room()
+    }
+
+    /// How many fields there are: one for each element of a variable item, else one.
+    pub fn field_count(&self) -> usize
+        ensures { result ≡ field_count self.now.flags self.now.extent.count }
+    {
+        self.layout.item.field_count(self.layout.count)
+    }
+
+    /// Field number `index`, counted from 0; `None` where there are no more.
+    ///
+    /// # Errors
+    ///
+    /// - `AllocError`: memory is refused, which the usages of an array take.
+    pub fn field(&self, alloc: Global, index: usize) -> Result<Option<Field>, AllocError>
+        ensures { IfOk result (λ field. option_map field_record field
+            ≡ slice_get (group_fields self.now) index) }
+    {
+        self.usages.field(alloc, &self.layout, index)
+    }
+
+    /// The id of the report that the fields are in, where it has one.
+    pub fn report_id(&self) -> Option<ReportId>
+        ensures { result ≡ self.now.beginning.report_id }
+    {
+        self.layout.report_id
+    }
+
+    /// The first bit of the fields in their report, the byte of its id counted.
+    pub fn first_bit(&self) -> usize
+        ensures { result ≡ self.now.beginning.first }
+    {
+        self.layout.first_bit
+    }
+
+    /// How many bits an element has.
+    pub fn element_width(&self) -> usize
+        ensures { result ≡ self.now.extent.size }
+    {
+        self.layout.size
+    }
+
+    /// How many elements lie side by side, each of which is a field of a variable item.
+    pub fn element_count(&self) -> usize
+        ensures { result ≡ self.now.extent.count }
+    {
+        self.layout.count
+    }
+
+    /// The bits of element `index`, counted from 0; `None` where there are no more.
+    pub fn bits(&self, index: usize) -> Option<Range<usize>>
+        ensures some { IfSome result (λ bits.
+            (bits.start ≡ self.now.beginning.first + index * self.now.extent.size)
+            × (bits.end ≡ bits.start + self.now.extent.size)) }
+        ensures there { is_some result ≡ nat_lt index self.now.extent.count }
+    {
+        if index >= self.layout.count {
+            return None;
+        }
+        Some(self.layout.bits(index))
+    }
+
+    /// Whether the fields are padding.
+    pub fn is_constant(&self) -> bool
+        ensures { result ≡ self.now.flags.constant }
+    {
+        self.layout.item.is_constant
+    }
+
+    /// Whether each element is a field of its own, and else one field with all of them.
+    pub fn is_variable(&self) -> bool
+        ensures { result ≡ self.now.flags.variable }
+    {
+        self.layout.item.is_variable
+    }
+
+    /// The usage of field `index`, counted from 0: the last one where there are fewer usages
+    /// (Section 6.2.2.8). An array's fields share them: element `index` isn't of this usage. `None`
+    /// where there is none, as of padding.
+    pub fn usage(&self, index: usize) -> Option<Usage>
+        ensures some { IfSome result (λ usage.
+            usage ≡ usage_at self.now.usages.usages index) }
+        ensures none { IsNone result → self.now.usages.usages ≡ [] }
+    {
+        self.usages.at(index)
+    }
+
+    /// The least value; values are signed where it is below 0.
+    pub fn logical_minimum(&self) -> LogicalMinimum
+        ensures { result ≡ self.now.shared.logical_minimum }
+    {
+        self.layout.measures.logical_minimum
+    }
+
+    /// The greatest value.
+    pub fn logical_maximum(&self) -> LogicalMaximum
+        ensures { result ≡ self.now.shared.logical_maximum }
+    {
+        self.layout.measures.logical_maximum
+    }
+
+    /// What the least value stands for; 0 where only the other physical bound was set.
+    pub fn physical_minimum(&self) -> Option<PhysicalMinimum>
+        ensures { result ≡ self.now.shared.physical_minimum }
+    {
+        self.layout.measures.physical_minimum
+    }
+
+    /// What the greatest value stands for; 0 where only the other physical bound was set.
+    pub fn physical_maximum(&self) -> Option<PhysicalMaximum>
+        ensures { result ≡ self.now.shared.physical_maximum }
+    {
+        self.layout.measures.physical_maximum
+    }
+
+    /// The unit of the physical bounds.
+    pub fn unit(&self) -> Option<Unit>
+        ensures { result ≡ self.now.shared.unit }
+    {
+        self.layout.measures.unit
+    }
+
+    /// The power of ten of the unit.
+    pub fn unit_exponent(&self) -> Option<UnitExponent>
+        ensures { result ≡ self.now.shared.unit_exponent }
+    {
+        self.layout.measures.unit_exponent
+    }
+
+    /// The collections that the fields lie in, outermost first; padding has none.
+    pub fn collections(&self) -> &[Collection]
+        ensures { result.now ≡ self.now.shared.collections }
+    {
+        match &self.layout.collections {
+            Some(shared) => shared,
+            None => &[],
+        }
+    }
+}
+
+impl FieldAttributes for Group {
+    ghost attributes = { λ g. g.shared };
+
+    fn is_relative(&self) -> bool {
+        self.layout.item.is_relative
+    }
+
+    fn wraps(&self) -> bool {
+        self.layout.item.wraps
+    }
+
+    fn is_nonlinear(&self) -> bool {
+        self.layout.item.is_nonlinear
+    }
+
+    fn has_no_preferred_state(&self) -> bool {
+        self.layout.item.has_no_preferred_state
+    }
+
+    fn has_null_state(&self) -> bool {
+        self.layout.item.has_null_state
+    }
+
+    fn is_buffered_bytes(&self) -> bool {
+        self.layout.item.is_buffered_bytes
+    }
+
+    fn is_volatile(&self) -> Option<bool> {
+        self.layout.item.volatile()
+    }
+}

@@ -1,0 +1,118 @@
+//! A report, its fields in groups (Section 5.6).
+ghost use Rattle.std.specs.Prelude.{◌≡◌, IfOk, map, option_copied};
+ghost use Rattle.hidreport.specs.Groups.{fields_of_groups};
+ghost use Rattle.hidreport.specs.Lookup.{report_with};
+ghost use Rattle.hidreport.specs.Making.{same_key};
+ghost use Rattle.hidreport.specs.Views.{field_record};
+
+use crate::field::Field;
+use crate::report::RDescReport;
+use crate::report::group::Group;
+use hidreport_types::ReportId;
+use std::alloc::{AllocError, Global};
+use std::marker::Model;
+
+/// A report that a descriptor announces, with its fields in groups.
+#[derive(Drop)]
+pub struct OutlineReport {
+    pub(crate) id: Option<ReportId>,
+    pub(crate) size: usize,
+    pub(crate) groups: Vec<Group>,
+}
+
+impl Model for OutlineReport {
+    ghost use Rattle.hidreport.specs.Groups.{fields_of_groups};
+    ghost use Rattle.hidreport.specs.Records.{ReportRecord};
+
+    ghost Value = { ReportRecord };
+
+    ghost view = { λ r. record {
+      id = r.id;
+      size = r.size;
+      fields = fields_of_groups r.groups.items;
+    } };
+}
+
+impl OutlineReport {
+    ghost use Rattle.std.specs.Prelude.{◌≡◌, ◌+◌, ◌/◌, IfOk};
+    ghost use Rattle.hidreport.specs.Groups.{fields_of_groups};
+
+    /// The report's id, where it has one.
+    pub fn report_id(&self) -> &Option<ReportId>
+        ensures { result.now ≡ self.now.id }
+    {
+        &self.id
+    }
+
+    /// The groups of the report's fields, in the order of their bits.
+    pub fn groups(&self) -> &[Group]
+        ensures { fields_of_groups result.now ≡ self.now.fields }
+    {
+        &self.groups
+    }
+
+    /// The report's length in bits, the byte of its id among them.
+    pub fn size_in_bits(&self) -> usize
+        ensures { result ≡ self.now.size }
+    {
+        self.size
+    }
+
+    /// The same in bytes, rounded up.
+    pub fn size_in_bytes(&self) -> usize
+        ensures { result ≡ (self.now.size + 7) / 8 }
+    {
+        self.size.div_ceil(8)
+    }
+
+    /// The same report, its fields listed.
+    ///
+    /// # Errors
+    ///
+    /// - `AllocError`: memory for the fields is refused.
+    pub fn lay_out(&self, alloc: Global) -> Result<RDescReport, AllocError>
+        ensures { IfOk result (λ report. report ≡ self.now) }
+    {
+        Ok(RDescReport {
+            id: self.id,
+            size: self.size,
+            fields: fields_of(alloc, &self.groups)?,
+        })
+    }
+}
+
+/// The report with this id, or without one.
+pub(crate) fn find_with_id(
+    reports: &[OutlineReport],
+    id: Option<ReportId>,
+) -> Option<&OutlineReport>
+    ensures { option_copied result ≡ report_with id reports.now }
+{
+    reports.iter().find(|report| has_id(report, id))
+}
+
+fn has_id(report: &OutlineReport, id: Option<ReportId>) -> bool
+    ensures { result ≡ same_key report.now.id id }
+{
+    match (report.id, id) {
+        (Some(own), Some(id)) => u8::from(own) == u8::from(id),
+        (None, None) => true,
+        _ => false,
+    }
+}
+
+/// The fields of groups, for which the room is asked at once.
+fn fields_of(alloc: Global, groups: &[Group]) -> Result<Vec<Field>, AllocError>
+    ensures { IfOk result (λ fields. map field_record fields.items
+        ≡ fields_of_groups groups.now) }
+{
+    let mut room: usize = 0;
+    for group in groups {
+        room = room.saturating_add(group.room());
+    }
+    let mut fields = Vec::with_capacity(alloc, room)?;
+    for group in groups {
+        group.add_fields(alloc, &mut fields)?;
+    }
+    Ok(fields)
+}

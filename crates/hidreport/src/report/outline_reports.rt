@@ -1,0 +1,54 @@
+//! The reports of the three directions, their fields in groups.
+ghost use Rattle.std.specs.Prelude.{◌≡◌, IfOk};
+
+use crate::report::RDescReport;
+use crate::report::outline_report::OutlineReport;
+use crate::report::reports::Reports;
+use std::alloc::{AllocError, Global};
+use std::marker::Model;
+
+/// The reports of the three directions, those of each in the order of their first fields.
+#[derive(Drop)]
+pub(crate) struct OutlineReports {
+    pub(crate) input: Vec<OutlineReport>,
+    pub(crate) output: Vec<OutlineReport>,
+    pub(crate) feature: Vec<OutlineReport>,
+}
+
+impl Model for OutlineReports {
+    ghost use Rattle.hidreport.specs.Records.{DescriptorRecord};
+
+    ghost Value = { DescriptorRecord };
+
+    ghost view = { λ r. record {
+      input = r.input.items;
+      output = r.output.items;
+      feature = r.feature.items;
+    } };
+}
+
+impl OutlineReports {
+    ghost use Rattle.std.specs.Prelude.{◌≡◌, IfOk};
+
+    /// The same reports, their fields listed.
+    pub(crate) fn lay_out(&self, alloc: Global) -> Result<Reports, AllocError>
+        ensures { IfOk result (λ reports. reports ≡ self.now) }
+    {
+        Ok(Reports {
+            input: laid_out(alloc, &self.input)?,
+            output: laid_out(alloc, &self.output)?,
+            feature: laid_out(alloc, &self.feature)?,
+        })
+    }
+}
+
+/// The same reports, their fields listed.
+fn laid_out(alloc: Global, reports: &[OutlineReport]) -> Result<Vec<RDescReport>, AllocError>
+    ensures { IfOk result (λ list. list.items ≡ reports.now) }
+{
+    let mut list = Vec::with_capacity(alloc, reports.len())?;
+    for report in reports {
+        list.push_reserved(report.lay_out(alloc)?);
+    }
+    Ok(list)
+}
