@@ -35,9 +35,8 @@ pub fn read(alloc: Global, way: Way, bytes: &[u8]) -> Result<ReportDescriptor, P
         Way::All => ReportDescriptor::try_from(alloc, bytes),
         Way::Globals => ReportDescriptor::try_from_globals_only(alloc, bytes),
         Way::Within(limit) => ReportDescriptor::try_from_within(alloc, bytes, limit),
-        Way::Hosts => ReportDescriptor::try_from_with(alloc, bytes, as_hosts(None)),
-        Way::HostsWithin(limit) => {
-            ReportDescriptor::try_from_with(alloc, bytes, as_hosts(Some(limit)))
+        Way::Hosts | Way::HostsWithin(_) => {
+            ReportDescriptor::try_from_with(alloc, bytes, options_of(way))
         }
     }
 }
@@ -48,6 +47,24 @@ fn as_hosts(limit: Option<usize>) -> ParseOptions {
         usages: UsagesBy::Hosts,
         limit,
         longest: None,
+    }
+}
+
+/// The options that say the same.
+pub fn options_of(way: Way) -> ParseOptions {
+    let usual = ParseOptions::default();
+    match way {
+        Way::All => usual,
+        Way::Globals => ParseOptions {
+            push_keeps: PushKeeps::Globals,
+            ..usual
+        },
+        Way::Within(limit) => ParseOptions {
+            limit: Some(limit),
+            ..usual
+        },
+        Way::Hosts => as_hosts(None),
+        Way::HostsWithin(limit) => as_hosts(Some(limit)),
     }
 }
 

@@ -19,6 +19,7 @@ mod kinds;
 mod lookups;
 mod made;
 mod malformed;
+mod outlines;
 mod parts;
 mod question;
 mod readers;

@@ -12,6 +12,7 @@ use crate::items::{add_item, add_list, add_short_of};
 use crate::lookups::{add_by_id, add_shared};
 use crate::made::{add_kind_of, add_made};
 use crate::malformed::Malformed;
+use crate::outlines::add_outline;
 use crate::parts::{add_any, add_long, add_short};
 use crate::readers::add_read_as;
 use crate::readings::add_readings;
@@ -148,12 +149,14 @@ fn add_parsed(
     words: &str,
 ) -> Result<(), Malformed> {
     let bytes = bytes_of(alloc, words)?;
-    asked.set(add_descriptor(alloc, text, Ids::Shown, read(alloc, way, &bytes))?);
+    let read = add_descriptor(alloc, text, Ids::Shown, read(alloc, way, &bytes))?;
+    add_outline(alloc, text, way, &bytes, read.as_ref())?;
+    asked.set(read);
     Ok(())
 }
 
-/// Appends all parts of a descriptor but the ids of fields and collections. Besides, its rebuilt
-/// bytes have to be answered alike, and its first bytes, however many, as the items in them are.
+/// Appends all parts of a descriptor but the ids of fields and collections. Besides, its outline has
+/// to have the same fields, its rebuilt bytes have to be answered alike, and its first bytes, however many, as the items in them are.
 fn add_shape(
     alloc: Global,
     text: &mut String,
@@ -162,7 +165,9 @@ fn add_shape(
     words: &str,
 ) -> Result<(), Malformed> {
     let bytes = bytes_of(alloc, words)?;
-    asked.set(add_descriptor(alloc, text, Ids::LeftOut, read(alloc, Way::All, &bytes))?);
+    let read = add_descriptor(alloc, text, Ids::LeftOut, read(alloc, Way::All, &bytes))?;
+    add_outline(alloc, text, Way::All, &bytes, read.as_ref())?;
+    asked.set(read);
     add_alike(alloc, text, &bytes)?;
     add_cuts(alloc, text, tally, &bytes)?;
     Ok(())

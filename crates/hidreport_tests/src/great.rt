@@ -1,7 +1,8 @@
 //! Great numbers: what no machine has memory for is refused, and what lies behind 65,536 others is
 //! found.
 use hidreport::{
-    ArrayField, Field, FieldValue, ParserError, Report, ReportCount, ReportDescriptor, Usage,
+    ArrayField, Field, FieldValue, Group, Outline, ParseOptions, ParserError, Report, ReportCount,
+    ReportDescriptor, Usage,
 };
 use std::alloc::{AllocError, Global};
 use std::test::Fail;
@@ -12,6 +13,44 @@ fn more_fields_than_there_is_memory_for(rt: HostRuntime) {
     let bytes = b"\x05\x01\x09\x30\x75\x01\x97\xff\xff\xff\xff\x81\x02";
     let refused = ReportDescriptor::try_from(rt.alloc(), bytes);
     assert!(rt; matches!(refused, Err(ParserError::OutOfMemory)));
+}
+
+// In a group they take nothing; each is made where it is asked for, the last one, too.
+#[test]
+fn a_group_of_as_many_fields_as_have_a_number(rt: HostRuntime) -> Result<(), Fail> {
+    let bytes = b"\x05\x01\x09\x30\x09\x31\x75\x01\x97\xff\xff\xff\xff\x81\x02";
+    let outline = Outline::try_from_with(rt.alloc(), bytes, ParseOptions::default())?;
+    let groups = match outline.input_reports() {
+        [report] => report.groups(),
+        _ => &[],
+    };
+    match groups {
+        [group] => {
+            assert_eq!(rt; group.field_count(), 0xffff_ffff);
+            assert_eq!(rt;
+                number_and_usage(rt.alloc(), group, 0)?,
+                Some((0, 0x0001_0030))
+            );
+            let last = number_and_usage(rt.alloc(), group, 0xffff_fffe)?;
+            assert_eq!(rt; last, Some((0xffff_fffe, 0x0001_0031)));
+            assert_eq!(rt; number_and_usage(rt.alloc(), group, 0xffff_ffff)?, None);
+        }
+        _ => panic!(rt; "no group"),
+    }
+    Ok(())
+}
+
+/// The number and the usage of a variable field of a group.
+fn number_and_usage(
+    alloc: Global,
+    group: &Group,
+    index: usize,
+) -> Result<Option<(u32, u32)>, AllocError> {
+    let Some(field) = group.field(alloc, index)? else {
+        return Ok(None);
+    };
+    let usage = field.usages().first().map_or(0, |usage| u32::from(usage));
+    Ok(Some((u32::from(field.id()), usage)))
 }
 
 /// An array of 32 bits that chooses among 65,536 times X and then Y.
