@@ -1,0 +1,80 @@
+//! Makes the static library `hidreport` of the assembly in `generated/`, by a C compiler and `ar`,
+//! and links it. `generated/` lies in the repository, a folder up, or in this one. Where neither is,
+//! as below an installed PREFIX/share/hidreport/rust, the library of PREFIX/lib is linked.
+//! HIDREPORT_LIB_DIR names a folder that has libhidreport.a; CC and AR name the tools.
+use std::env;
+use std::path::{Path, PathBuf};
+use std::process::{exit, Command};
+
+fn main() {
+    for name in ["HIDREPORT_LIB_DIR", "CC", "AR"] {
+        println!("cargo:rerun-if-env-changed={name}");
+    }
+    let package = PathBuf::from(variable("CARGO_MANIFEST_DIR"));
+    let folder = match env::var("HIDREPORT_LIB_DIR") {
+        Ok(folder) => PathBuf::from(folder),
+        Err(_) => found(&package),
+    };
+    let archive = folder.join("libhidreport.a");
+    println!("cargo:rerun-if-changed={}", archive.display());
+    if !archive.is_file() {
+        fail(&format!("{} isn't there", archive.display()));
+    }
+    println!("cargo:rustc-link-search=native={}", folder.display());
+    println!("cargo:rustc-link-lib=static=hidreport");
+}
+
+/// The folder with the library: that where it is made, or the one that was installed.
+fn found(package: &Path) -> PathBuf {
+    match [package.join("generated"), package.join("../generated")].iter().find(|it| it.is_dir()) {
+        Some(generated) => made(generated),
+        None => package.join("../../../lib"),
+    }
+}
+
+/// Makes the library, and answers in which folder.
+fn made(generated: &Path) -> PathBuf {
+    let processor = variable("CARGO_CFG_TARGET_ARCH");
+    let text = generated.join(format!("{processor}-linux/hidreport.s"));
+    if variable("CARGO_CFG_TARGET_OS") != "linux" || !text.is_file() {
+        fail("the library is there for Linux on x86-64 and aarch64 alone");
+    }
+    let heap = generated.join("heap.c");
+    let folder = PathBuf::from(variable("OUT_DIR"));
+    let archive = folder.join("libhidreport.a");
+    let mut members = vec![Path::new("rcs").to_path_buf(), archive];
+    for (source, name) in [(&text, "hidreport.o"), (&heap, "heap.o")] {
+        println!("cargo:rerun-if-changed={}", source.display());
+        let member = folder.join(name);
+        let arguments = ["-O2", "-fPIC", "-c", "-o"].map(PathBuf::from);
+        run(&compiler(&processor), arguments.iter().chain([&member, source]));
+        members.push(member);
+    }
+    run(&env::var("AR").unwrap_or_else(|_| "ar".into()), members.iter());
+    folder
+}
+
+/// CC, or the C compiler for a processor.
+fn compiler(processor: &str) -> String {
+    env::var("CC").unwrap_or_else(|_| {
+        let is_ours = variable("HOST").starts_with(&format!("{processor}-"));
+        if is_ours { "cc".into() } else { format!("{processor}-linux-gnu-gcc") }
+    })
+}
+
+fn run<'a>(tool: &str, arguments: impl Iterator<Item = &'a PathBuf>) {
+    match Command::new(tool).args(arguments).status() {
+        Ok(status) if status.success() => {}
+        Ok(status) => fail(&format!("{tool} ended with {status}")),
+        Err(error) => fail(&format!("{tool}: {error}")),
+    }
+}
+
+fn variable(name: &str) -> String {
+    env::var(name).unwrap_or_else(|_| fail(&format!("cargo names no {name}")))
+}
+
+fn fail(message: &str) -> ! {
+    eprintln!("hidreport: {message}");
+    exit(1)
+}

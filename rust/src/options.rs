@@ -1,0 +1,48 @@
+//! How a descriptor is read.
+use crate::c;
+
+pub use crate::c::{Push as PushKeeps, UsagesBy};
+
+/// How a descriptor is read. By default as [`ReportDescriptor::try_from`](crate::ReportDescriptor)
+/// reads it: a Push keeps all items, usages are found by the letter of the standard, and nothing is
+/// limited.
+#[derive(Clone, Copy, Debug, PartialEq, Eq)]
+pub struct ParseOptions {
+    /// What a Push keeps for its Pop (Section 6.2.2.7).
+    pub push_keeps: PushKeeps,
+    /// By which rule an item finds its usages (Section 6.2.2.8).
+    pub usages: UsagesBy,
+    /// The most that may be listed: a field counts 1, with 1 for each usage of an array, for each
+    /// collection around the field and for each usage of that; so does a collection, with 1 for
+    /// each of its usages. With a limit a descriptor has at most 65,536 bytes.
+    pub limit: Option<usize>,
+}
+
+impl ParseOptions {
+    /// For bytes that nobody vouches for: a limit of 65,536.
+    pub fn bounded() -> ParseOptions {
+        ParseOptions { limit: Some(c::DEFAULT_LIMIT), ..ParseOptions::default() }
+    }
+
+    /// As Linux reads a descriptor: a Push keeps global items alone, and usages are found by its
+    /// rule.
+    pub fn as_hosts() -> ParseOptions {
+        ParseOptions { push_keeps: PushKeeps::Globals, usages: UsagesBy::Hosts, limit: None }
+    }
+}
+
+impl Default for ParseOptions {
+    fn default() -> ParseOptions {
+        ParseOptions { push_keeps: PushKeeps::All, usages: UsagesBy::Standard, limit: None }
+    }
+}
+
+impl From<ParseOptions> for c::Options {
+    fn from(options: ParseOptions) -> c::Options {
+        c::Options {
+            limit: options.limit.unwrap_or(c::NO_LIMIT),
+            push: options.push_keeps,
+            usages: options.usages,
+        }
+    }
+}
