@@ -1,14 +1,20 @@
 //! The static library `hidreport_c` from Rust: safe functions over the declarations of `sys`.
 //! Not the Rust crate `hidreport`, which is written in Rust; this one calls what was proved.
+mod lookup;
 mod numbers;
 mod repairing;
+mod scaling;
 mod sys;
+mod writing;
 
+pub use lookup::{field_for, field_numbered, report_with};
 pub use numbers::{
     CollectionKind, Direction, FieldKind, Mends, Push, Reason, Status, UnknownNumber, UsagesBy,
 };
 pub use repairing::{changes, repair, repair_message};
+pub use scaling::{normalized, physical, Fraction};
 pub use sys::{Change, Collection, Field, Item, Options, Report};
+pub use writing::{blank, insert, insert_all, null_value, value_of};
 
 use std::error::Error;
 use std::fmt;

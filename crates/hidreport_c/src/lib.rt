@@ -3,17 +3,23 @@
 #![tactic(auto)]
 
 mod answer;
+mod bits;
+mod blank;
 mod change;
 mod collection;
 mod describe;
 mod field;
+mod insert;
 mod items;
+mod lookup;
 mod message;
 mod numbered;
 mod options;
 mod part;
 mod repair;
 mod report;
+mod scaling;
+mod standing;
 mod status;
 mod usages;
 mod value;

@@ -111,7 +111,7 @@ impl HidreportField {
     }
 
     /// Whether all values can be read.
-    fn check_values(&self, report: &[u8]) -> Result<(), u32>
+    pub(crate) fn check_values(&self, report: &[u8]) -> Result<(), u32>
         ensures { result ≡ by_status (acceptance (values_at self.now report.now)) }
     {
         self.check_id(report)?;
@@ -152,8 +152,8 @@ impl HidreportField {
     }
 
     /// How many bits a value has: the field's bits divided by the number of values, if it isn't 0.
-    fn element_width(&self) -> usize
-        ensures width { 0 < self.now.value_count → result
+    pub(crate) fn element_width(&self) -> usize
+        ensures width { result
             ≡ element_width self.now.first_bit self.now.end_bit self.now.value_count }
         ensures counted { self.now.first_bit + result * self.now.value_count < 2 ^ 64 }
     {
