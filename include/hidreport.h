@@ -1,4 +1,4 @@
-/* HID report descriptors read, and values taken from reports (USB HID 1.11).
+/* HID report descriptors read, values taken from reports and written to them (USB HID 1.11).
  * Licence: MIT (LICENSE).
  *
  * The functions keep nothing between two calls, and may be called from any thread at once. A

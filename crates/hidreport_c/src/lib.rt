@@ -1,4 +1,4 @@
-//! The library for programs in C: descriptors described, reports found and read.
+//! The library for programs in C: descriptors described, reports found, read and written.
 //! Licence: MIT (LICENSE); a port of the Rust crate `hidreport` 0.6.0.
 #![tactic(auto)]
 
