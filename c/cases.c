@@ -139,6 +139,14 @@ static void collection_usages(const char *field, const char *index)
                                             number_of(index), usages, ROOM));
 }
 
+static void alike(const char *first, const char *second)
+{
+    struct hidreport_likeness l = hidreport_is_alike(bytes, length, report, report_length, options);
+    (void)first, (void)second;
+    printf("  offset %zu %s of %d alike %d\n", l.offset, words_of(l.status), l.is_of_other,
+           l.is_alike);
+}
+
 static void message(const char *first, const char *second)
 {
     static uint8_t text[ROOM];
@@ -298,6 +306,7 @@ static const struct {
     {"value-of", 2, value_of},       {"null-value", 1, null_value},
     {"physical", 2, physical},       {"normalized", 2, normalized},
     {"insert", 2, insert},           {"insert-all", 2, insert_all},
+    {"alike", 0, alike},
 };
 
 static void answer_line(const char *line)

@@ -74,6 +74,17 @@ static void look_at_items(const struct row *row, const char *call, struct hidrep
     look(&items, call, answer);
 }
 
+/* The same of a descriptor and itself, which are alike just where it is read. */
+static void look_at_likeness(const struct row *row, struct hidreport_likeness likeness)
+{
+    struct hidreport_answer answer = {0, likeness.offset, likeness.status};
+    look(row, "is_alike", answer);
+    if (likeness.is_alike == (likeness.status == HIDREPORT_ACCEPTED) && !likeness.is_of_other)
+        return;
+    printf("hostile: %s: is_alike says %d\n", row->name, likeness.is_alike);
+    wrong = 1;
+}
+
 /* The same of a text, of which there is some just where the descriptor is refused. */
 static void look_at_text(const struct row *row, const char *call, int is_refused,
                          struct hidreport_answer answer)
@@ -122,6 +133,7 @@ static void ask(const struct row *row, const uint8_t *bytes, size_t length)
     look(row, "field", hidreport_field_numbered(bytes, length, options, 0, NULL, 0));
     look(row, "field_for",
          hidreport_field_for(bytes, length, options, HIDREPORT_INPUT, false, 0, 0x10030, NULL, 0));
+    look_at_likeness(row, hidreport_is_alike(bytes, length, bytes, length, options));
     look(row, "usages", hidreport_usages(bytes, length, options, 0, NULL, 0));
     look(row, "collections", hidreport_collections(bytes, length, options, 0, NULL, 0));
     look(row, "collection_usages",

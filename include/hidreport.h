@@ -228,6 +228,13 @@ struct hidreport_fraction {
     bool is_there;
 };
 
+struct hidreport_likeness {
+    size_t offset;    /* how many bytes stand before the refused item; 0 without one */
+    uint32_t status;  /* enum hidreport_status: 0, or why one of the two isn't read */
+    bool is_of_other; /* it is the other one, and the first is read */
+    bool is_alike;    /* off where one isn't read */
+};
+
 struct hidreport_item {
     size_t offset; /* how many bytes of the descriptor stand before the item */
     size_t size;   /* how many it has, its header among them */
@@ -301,6 +308,12 @@ struct hidreport_answer hidreport_collection_usages(const uint8_t *descriptor, s
                                                     struct hidreport_options options,
                                                     uint32_t field, size_t index, uint32_t *usages,
                                                     size_t room);
+
+/* Whether two descriptors, read by these options, announce the same: the same reports in each
+ * direction, with fields that are equal in all parts. Their bytes may differ. */
+struct hidreport_likeness hidreport_is_alike(const uint8_t *descriptor, size_t length,
+                                             const uint8_t *other, size_t other_length,
+                                             struct hidreport_options options);
 
 /* What a descriptor is refused for, without a zero at the end; no text where it is accepted, and
  * with HIDREPORT_OUT_OF_MEMORY and HIDREPORT_UNKNOWN_OPTION. */

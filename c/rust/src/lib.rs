@@ -1,5 +1,6 @@
 //! The static library `hidreport_c` from Rust: safe functions over the declarations of `sys`.
 //! Not the Rust crate `hidreport`, which is written in Rust; this one calls what was proved.
+mod alike;
 mod lookup;
 mod numbers;
 mod repairing;
@@ -7,6 +8,7 @@ mod scaling;
 mod sys;
 mod writing;
 
+pub use alike::{is_alike, Unread};
 pub use lookup::{field_for, field_numbered, report_with};
 pub use numbers::{
     CollectionKind, Direction, FieldKind, Mends, Push, Reason, Status, UnknownNumber, UsagesBy,

@@ -132,6 +132,15 @@ pub struct MaybeFraction {
     pub is_there: bool,
 }
 
+#[repr(C)]
+#[derive(Clone, Copy, Debug, PartialEq)]
+pub struct Likeness {
+    pub offset: usize,
+    pub status: u32,
+    pub is_of_other: bool,
+    pub is_alike: bool,
+}
+
 /// How a descriptor is read.
 #[repr(C)]
 #[derive(Clone, Copy, Debug, PartialEq)]
@@ -235,6 +244,14 @@ extern "C" {
         usages: *mut u32,
         room: usize,
     ) -> Answer;
+
+    pub fn hidreport_is_alike(
+        descriptor: *const u8,
+        length: usize,
+        other: *const u8,
+        other_length: usize,
+        options: Options,
+    ) -> Likeness;
 
     pub fn hidreport_message(
         descriptor: *const u8,

@@ -2,6 +2,7 @@
 //! Licence: MIT (LICENSE); a port of the Rust crate `hidreport` 0.6.0.
 #![tactic(auto)]
 
+mod alike;
 mod answer;
 mod bits;
 mod blank;

@@ -2,7 +2,7 @@
 //! functions.
 mod words;
 
-use hidreport_c::{Direction, Field, Fraction, Options, Refusal, Report, Status};
+use hidreport_c::{Direction, Field, Fraction, Options, Refusal, Report, Status, Unread};
 use std::io::BufRead;
 use words::{
     bytes_of, collection_of, direction_of, id_of, kind_of, mends_of, numbers_of, options_of,
@@ -204,6 +204,19 @@ impl Asked {
         }
     }
 
+    /// Whether two descriptors are alike.
+    fn ask_alike(&self, descriptor: &[u8], other: &[u8]) {
+        let (refusal, is_of_other) = match hidreport_c::is_alike(descriptor, other, self.options) {
+            Ok(is_alike) => {
+                return println!("  offset 0 accepted of 0 alike {}", u8::from(is_alike));
+            }
+            Err(Unread::First(refusal)) => (refusal, 0),
+            Err(Unread::Other(refusal)) => (refusal, 1),
+        };
+        let status = words_of(refusal.status);
+        println!("  offset {} {status} of {is_of_other} alike 0", refusal.offset);
+    }
+
     /// Questions of a field that was listed.
     fn ask_field(&self, kind: &str, words: &[&str], report: &[u8]) {
         let field = &self.fields[words[0].parse::<usize>().expect("a field")];
@@ -274,6 +287,7 @@ impl Asked {
                 let found = hidreport_c::field_numbered(&descriptor(2), self.options, number);
                 self.keep_fields(found.map(Vec::from_iter));
             }
+            "alike" => self.ask_alike(&descriptor(1), &report),
             "blank" => self.ask_blank(room_of(words[1])),
             kind @ ("insert" | "insert-all") => self.ask_insert(kind, &words[1..], report),
             kind @ ("value-of" | "null-value" | "physical" | "normalized") => {

@@ -66,7 +66,10 @@ pub fn mends_of(word: &str) -> Option<Mends> {
 
 /// What C answers to what can't be named in Rust; texts and bytes have a line of their own.
 pub fn say_unknown(kind: &str) {
-    println!("  count 0 offset 0 unknown-option");
+    match kind {
+        "alike" => println!("  offset 0 unknown-option of 0 alike 0"),
+        _ => println!("  count 0 offset 0 unknown-option"),
+    }
     if matches!(kind, "message" | "repair" | "repair-message") {
         println!("  ");
     }
