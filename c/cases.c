@@ -164,13 +164,20 @@ static void refusal(const char *first, const char *second)
     printf("  %s at %zu: %.*s\n", words_of(answer.status), answer.offset, (int)told.count, text);
 }
 
+static struct hidreport_item item_list[ROOM];
+
 static void items(const char *first, const char *second)
 {
-    static struct hidreport_item listed[ROOM];
-    size_t count = print_answer(hidreport_items(bytes, length, listed, ROOM));
     (void)first, (void)second;
-    for (size_t i = 0; i < count; i++)
-        printf("  offset %zu size %zu\n", listed[i].offset, listed[i].size);
+    print_items(print_answer(hidreport_items(bytes, length, item_list, ROOM)), item_list);
+}
+
+static void front_items(const char *room, const char *none)
+{
+    (void)none;
+    struct hidreport_answer answer =
+        hidreport_front_items(bytes, length, item_list, room_of(room));
+    print_items(print_answer_within(answer, room_of(room)), item_list);
 }
 
 static void items_message(const char *first, const char *second)
@@ -306,7 +313,7 @@ static const struct {
     {"value-of", 2, value_of},       {"null-value", 1, null_value},
     {"physical", 2, physical},       {"normalized", 2, normalized},
     {"insert", 2, insert},           {"insert-all", 2, insert_all},
-    {"alike", 0, alike},
+    {"alike", 0, alike},             {"front-items", 1, front_items},
 };
 
 static void answer_line(const char *line)

@@ -68,3 +68,9 @@ static void print_fraction(struct hidreport_fraction f)
 {
     printf("  fraction %" PRId64 " %" PRId64 " %d\n", f.numerator, f.denominator, f.is_there);
 }
+
+static void print_items(size_t count, const struct hidreport_item *items)
+{
+    for (size_t i = 0; i < count; i++)
+        printf("  offset %zu size %zu\n", items[i].offset, items[i].size);
+}

@@ -74,6 +74,17 @@ static void look_at_items(const struct row *row, const char *call, struct hidrep
     look(&items, call, answer);
 }
 
+/* Of the items from the front there are some just where the first can be read. */
+static void look_at_front(const struct row *row, struct hidreport_answer answer)
+{
+    looked_at++;
+    if (answer.status == HIDREPORT_ACCEPTED && answer.offset == 0
+        && (answer.count > 0) == (row->status != HIDREPORT_INVALID_DATA))
+        return;
+    printf("hostile: %s: front_items has %zu\n", row->name, answer.count);
+    wrong = 1;
+}
+
 /* The same of a descriptor and itself, which are alike just where it is read. */
 static void look_at_likeness(const struct row *row, struct hidreport_likeness likeness)
 {
@@ -148,6 +159,7 @@ static void ask(const struct row *row, const uint8_t *bytes, size_t length)
                  hidreport_repair_message(bytes, length, options, HIDREPORT_MEND_DEFAULT, NULL, 0));
     if (length > 65536)
         return;
+    look_at_front(row, hidreport_front_items(bytes, length, NULL, 0));
     look_at_items(row, "items", hidreport_items(bytes, length, NULL, 0));
     look_at_items(row, "rebuild", hidreport_rebuild(bytes, length, NULL, 0));
     look_at_text(row, "items_message", row->status == HIDREPORT_INVALID_DATA,

@@ -325,6 +325,11 @@ struct hidreport_answer hidreport_message(const uint8_t *descriptor, size_t leng
 struct hidreport_answer hidreport_items(const uint8_t *descriptor, size_t length,
                                         struct hidreport_item *items, size_t room);
 
+/* The items before the first that can't be read, or all: never refused. Where hidreport_items
+ * refuses the bytes, the refused item stands behind the last of these. It takes no memory. */
+struct hidreport_answer hidreport_front_items(const uint8_t *descriptor, size_t length,
+                                              struct hidreport_item *items, size_t room);
+
 /* A descriptor written anew: its items in order, each in its shortest spelling, without long and
  * reserved ones. */
 struct hidreport_answer hidreport_rebuild(const uint8_t *descriptor, size_t length, uint8_t *bytes,

@@ -211,6 +211,15 @@ pub fn items(descriptor: &[u8]) -> Result<Vec<Item>, Refusal> {
     .map_err(|unlisted| items_refusal(descriptor, unlisted))
 }
 
+/// Where the items stand before the first that can't be read, or all: behind the last of them
+/// stands what `items` refuses.
+pub fn front_items(descriptor: &[u8]) -> Vec<Item> {
+    let items = listed(Item::default(), |items, room| unsafe {
+        sys::hidreport_front_items(descriptor.as_ptr(), descriptor.len(), items, room)
+    });
+    items.unwrap_or_default()
+}
+
 /// A descriptor written anew, each item in its shortest spelling.
 pub fn rebuild(descriptor: &[u8]) -> Result<Vec<u8>, Refusal> {
     listed(0, |bytes, room| unsafe {

@@ -268,6 +268,13 @@ extern "C" {
         room: usize,
     ) -> Answer;
 
+    pub fn hidreport_front_items(
+        descriptor: *const u8,
+        length: usize,
+        items: *mut Item,
+        room: usize,
+    ) -> Answer;
+
     pub fn hidreport_rebuild(
         descriptor: *const u8,
         length: usize,

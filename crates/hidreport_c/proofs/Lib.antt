@@ -1,5 +1,6 @@
 pub mod BlankLemmas
 pub mod FieldsLemmas
+pub mod FrontItemsLemmas
 pub mod InsertLemmas
 pub mod ListsLemmas
 pub mod NullLemmas

@@ -298,6 +298,13 @@ impl Asked {
                     println!("  offset {} size {}", item.offset, item.size);
                 }
             }
+            "front-items" => {
+                let items = hidreport_c::front_items(&descriptor(2));
+                println!("  count {} offset 0 accepted", items.len());
+                for item in items.iter().take(room_of(words[1])) {
+                    println!("  offset {} size {}", item.offset, item.size);
+                }
+            }
             "rebuild" => print_bytes(&counted(hidreport_c::rebuild(&descriptor(1)))),
             kind @ ("repair" | "changes") => self.ask_repair(kind, &words[1..], &descriptor(3)),
             "repair-message" => match mends_of(words[1]) {
