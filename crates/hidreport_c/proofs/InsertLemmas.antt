@@ -76,6 +76,14 @@ values-within f bytes (suc last) counts ok some =
     one-more (width_of f) (suc last) last (omega arith) in
     omega (arith, whole, room.within)
 
+-- each of them has 1 to 32 bits
+pub values-wide : (f : HidreportField) (bytes : List ℕ) (n : ℕ) → n ≡ f.value_count
+    → IsOk (values_at f bytes) → n ≢ 0 → (0 < width_of f) × (width_of f ≤ 32)
+values-wide f bytes zero counts ok some = absurd (some refl)
+values-wide f bytes (suc last) counts ok some =
+    let all : f.value_count ≡ last + 1 = omega (arith, counts) in
+    let room = values-room f bytes last all ok in (room.some, room.narrow)
+
 -- a value is refused for the bounds or for the id
 abbrev IsPlain : {A : Type 0} → Result A Refusal → Type 0
 IsPlain (Ok x) = Unit {0}

@@ -11,11 +11,17 @@ use Rattle.hidreport.specs.Reading.{before_values, read_bits, reads, reads_eleme
 use Rattle.hidreport.specs.Reading.{with_id}
 use Rattle.hidreport.specs.Records.{FieldPlace, FieldRecord, VariableRecord}
 use Rattle.hidreport.specs.Records.{ArrayRecord, ConstantRecord}
+use Rattle.hidreport_items.specs.Spelling.{AreBytes}
+use Rattle.hidreport.specs.WritingLaws.{IsWritten}
+use Rattle.hidreport.proofs.IsElementLemmas.{is-element-written}
+use Rattle.hidreport.proofs.IsWrittenLemmas.{is-written}
 use Rattle.hidreport.specs.WritingValues.{begins_in_id, fits, placed, put, where_read, written}
 use Rattle.hidreport.specs.declared.field.insert_error.InsertError.{InsertError}
 use Rattle.hidreport.specs.declared.field.insert_error.InsertError.TheVariants as refused
 use Rattle.hidreport_c.specs.Field.{as_c}
-use Rattle.hidreport_c.specs.Insert.{inserted_at, inserted_value, placed_at, written_at}
+use Rattle.hidreport_c.specs.Insert.{IsInserted, Places, bytes_after, inserted_at, inserted_value}
+use Rattle.hidreport_c.specs.Insert.{placed_at, status_after, written_at}
+use Rattle.hidreport_c.specs.declared.field.HidreportField.{HidreportField}
 use Rattle.hidreport_c.specs.Value.{values_at}
 use Rattle.hidreport_c.proofs.ValueLemmas.{element-of_one, id-again, value_at-described}
 
@@ -130,3 +136,51 @@ written-described (ConstantRecord place) (number ∷ numbers) bytes =
     ∙ sym (ap (λ b. cond b (where_read (reads (ConstantRecord place) bytes)
     (placed (ConstantRecord place) place.first (number ∷ numbers) bytes))
     (Err refused.WrongCount)) t)
+
+-- what is told to be written is
+told-by : (answer : Result (List ℕ) InsertError) (old new : List ℕ) → status_after answer ≡ 0
+    → new ≡ bytes_after answer old → answer ≡ Ok new
+told-by (Ok bytes) old new none is = ap (λ (l : List ℕ). Ok l) (sym is)
+told-by (Err refused.OutOfBounds) old new none is = absurd (omega (arith, none))
+told-by (Err refused.MismatchingReportId) old new none is = absurd (omega (arith, none))
+told-by (Err refused.DoesNotFit) old new none is = absurd (omega (arith, none))
+told-by (Err refused.WrongCount) old new none is = absurd (omega (arith, none))
+
+pub told-written : (r : Result (Unit {0}) ℕ) (status : ℕ) (old new : List ℕ)
+    (answer : Result (List ℕ) InsertError) → r ≡ Err status → Places r old new answer
+    → status ≡ 0 → answer ≡ Ok new
+told-written (Ok done) status old new answer is h none = cc
+told-written (Err other) status old new answer is h none =
+    let same : other ≡ status = cc in
+    told-by answer old new (sym h.0 ∙ same ∙ none) h.1
+
+pub done-written : (r : Result (Unit {0}) ℕ) (done : Unit {0}) (old new : List ℕ)
+    (answer : Result (List ℕ) InsertError) → r ≡ Ok done → Places r old new answer
+    → answer ≡ Ok new
+done-written (Ok done) other old new answer is h = h
+done-written (Err status) other old new answer is h = cc
+
+-- the laws of a write to a described field
+pub all-laws : (f : HidreportField) (read : FieldRecord) (numbers : List ℤ) (old new : List ℕ)
+    → AreBytes old → f ≡ as_c read → written_at f numbers old ≡ Ok new
+    → IsWritten read numbers old new
+all-laws f read numbers old new are same h =
+    is-written read numbers old new are
+    (sym (ap (λ g. written_at g numbers old) same ∙ written-described read numbers old) ∙ h)
+
+value-laws : (read : FieldRecord) (index : ℕ) (number : ℤ) (old new : List ℕ) → AreBytes old
+    → inserted_value read index number old ≡ Ok new → IsInserted read index number old new
+value-laws (VariableRecord place usage shared) zero number old new are h =
+    is-written (VariableRecord place usage shared) (number ∷ []) old new are h
+value-laws (VariableRecord place usage shared) (suc n) number old new are h = cc
+value-laws (ArrayRecord place usages is_range count shared) index number old new are h =
+    is-element-written place usages is_range count shared index number old new are h
+value-laws (ConstantRecord place) index number old new are h = cc
+
+pub one-laws : (f : HidreportField) (read : FieldRecord) (index : ℕ) (number : ℤ)
+    (old new : List ℕ) → AreBytes old → f ≡ as_c read → inserted_at f index number old ≡ Ok new
+    → IsInserted read index number old new
+one-laws f read index number old new are same h =
+    value-laws read index number old new are
+    (sym (ap (λ g. inserted_at g index number old) same
+    ∙ inserted-described read index number old) ∙ h)

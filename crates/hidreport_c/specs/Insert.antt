@@ -4,6 +4,7 @@ use Rattle.std.specs.Prelude.{ℤ, List, [], ◌∷◌, length, Result, Ok, Err}
 use Rattle.std.specs.List.{list_all}
 use Rattle.hidreport.specs.Reading.{element_width}
 use Rattle.hidreport.specs.Records.{FieldRecord, VariableRecord, ArrayRecord, ConstantRecord}
+use Rattle.hidreport.specs.WritingLaws.{IsElementWritten, IsWritten}
 use Rattle.hidreport.specs.WritingValues.{begins_in_id, fits, put, where_read, written}
 use Rattle.hidreport.specs.WritingValues.{written_element}
 use Rattle.hidreport.specs.declared.field.insert_error.InsertError.{InsertError}
@@ -68,3 +69,12 @@ bytes_after (Err e) old = old
 abbrev pub Places : Result (Unit {0}) ℕ → List ℕ → List ℕ → Result (List ℕ) InsertError → Type 0
 Places (Ok done) old new answer = answer ≡ Ok new
 Places (Err status) old new answer = (status ≡ status_after answer) × (new ≡ bytes_after answer old)
+
+-- What was written is read again, all other bits stay, and of two writes the second counts. Nothing
+-- is ever written to padding, which has no value.
+abbrev pub IsInserted : FieldRecord → ℕ → ℤ → List ℕ → List ℕ → Type 0
+IsInserted (VariableRecord place usage shared) index number old new =
+    IsWritten (VariableRecord place usage shared) (number ∷ []) old new
+IsInserted (ArrayRecord place usages is_range count shared) index number old new =
+    IsElementWritten (ArrayRecord place usages is_range count shared) index number old new
+IsInserted (ConstantRecord place) index number old new = ⊥

@@ -1,9 +1,12 @@
 //! Values of a field, written into a report's bytes.
 ghost use Rattle.std.specs.Prelude.{◌≡◌, ◌≢◌, ◌+◌, ◌*◌, ◌<◌, ◌≤◌, ◌^◌, length};
 ghost use Rattle.hidreport.specs.Records.{FieldRecord};
+ghost use Rattle.hidreport.specs.Spelling.{AreBytes};
+ghost use Rattle.hidreport.specs.WritingLaws.{IsWritten};
 ghost use Rattle.hidreport.specs.WritingValues.{begins_in_id, written};
 ghost use Rattle.hidreport_c.specs.Field.{as_c};
-ghost use Rattle.hidreport_c.specs.Insert.{Places, bytes_after, inserted_at, inserted_value};
+ghost use Rattle.hidreport_c.specs.Insert.{IsInserted, Places, bytes_after, inserted_at};
+ghost use Rattle.hidreport_c.specs.Insert.{inserted_value};
 ghost use Rattle.hidreport_c.specs.Insert.{is_signed_in, placed_at, status_after, width_of};
 ghost use Rattle.hidreport_c.specs.Insert.{written_at};
 ghost use Rattle.hidreport_c.specs.Value.{id_of};
@@ -23,7 +26,9 @@ use std::slice;
 /// value. A refusal leaves the bytes as they were. Whatever numbers the field has, nothing but the
 /// bytes is read and written.
 ///
-/// Of a field that the library described it is what `insert` and `insert_one` write (`insert`).
+/// Of a field that the library described it is what `insert` and `insert_one` write (`insert`):
+/// what was written is read again, all other bits and the report's other fields stay, and of two
+/// writes the second counts (`laws`).
 #[unsafe(no_mangle)]
 pub extern "C" fn hidreport_insert(
     field: &HidreportField,
@@ -37,6 +42,8 @@ pub extern "C" fn hidreport_insert(
     ensures insert { (read : FieldRecord) → field.now ≡ as_c read
         → inserted_at field.now index value report.old
         ≡ inserted_value read index value report.old }
+    ensures laws { (read : FieldRecord) → field.now ≡ as_c read → result ≡ 0
+        → IsInserted read index value report.old report.new }
 {
     match field.insert(report, index, value) {
         Ok(()) => ACCEPTED,
@@ -51,7 +58,8 @@ pub extern "C" fn hidreport_insert(
 /// More or fewer values than the field has are refused with 8, before anything else; then the first
 /// value that is refused refuses all. A refusal leaves the bytes as they were.
 ///
-/// Of a field that the library described it is what `insert` writes (`insert`).
+/// Of a field that the library described it is what `insert` writes (`insert`), and its laws hold,
+/// as `hidreport_insert` says (`laws`).
 #[unsafe(no_mangle)]
 pub extern "C" fn hidreport_insert_all(
     field: &HidreportField,
@@ -63,6 +71,8 @@ pub extern "C" fn hidreport_insert_all(
         ≡ bytes_after (written_at field.now values.now report.old) report.old }
     ensures insert { (read : FieldRecord) → field.now ≡ as_c read
         → written_at field.now values.now report.old ≡ written read values.now report.old }
+    ensures laws { (read : FieldRecord) → field.now ≡ as_c read → result ≡ 0
+        → IsWritten read values.now report.old report.new }
 {
     match field.insert_all(report, values) {
         Ok(()) => ACCEPTED,
@@ -73,8 +83,9 @@ pub extern "C" fn hidreport_insert_all(
 impl HidreportField {
     /// Writes one of the field's values.
     fn insert(&self, report: &mut [u8], index: usize, value: i64) -> Result<(), u32>
-        ensures { Places result report.old report.new
+        ensures answer { Places result report.old report.new
             (inserted_at self.now index value report.old) }
+        ensures bytes { AreBytes report.old }
     {
         self.read(report, index)?;
         let width = self.element_width();
@@ -88,13 +99,15 @@ impl HidreportField {
 
     /// Writes all of them.
     fn insert_all(&self, report: &mut [u8], values: &[i64]) -> Result<(), u32>
-        ensures { Places result report.old report.new
+        ensures answer { Places result report.old report.new
             (written_at self.now values.now report.old) }
+        ensures bytes { AreBytes report.old }
     {
+        let readable = self.check_values(report);
         if values.len() != self.value_count {
             return Err(WRONG_COUNT);
         }
-        self.check_values(report)?;
+        readable?;
         self.place(report, self.first_bit, self.element_width(), values)
     }
 

@@ -1,6 +1,7 @@
 ghost use Rattle.std.specs.Prelude.{◌≡◌, ◌+◌, ◌*◌, ◌<◌, ◌≤◌, ◌^◌, false, Err, Ok, IfSome};
 ghost use Rattle.std.specs.Prelude.{IsNone, IsOk, IsTrue};
 ghost use Rattle.hidreport.specs.Answer.{Bounds};
+ghost use Rattle.hidreport.specs.Spelling.{AreBytes};
 ghost use Rattle.hidreport.specs.Reading.{element_width, reads, with_id};
 ghost use Rattle.hidreport.specs.Records.{FieldRecord};
 ghost use Rattle.hidreport_c.specs.Answer.{as_answer, list_or_nothing, array_after};
@@ -86,7 +87,8 @@ impl HidreportField {
 
     /// One of the field's values, or the number of its refusal.
     pub(crate) fn read(&self, report: &[u8], index: usize) -> Result<FieldValue, u32>
-        ensures { result ≡ by_status (value_at self.now report.now index) }
+        ensures value { result ≡ by_status (value_at self.now report.now index) }
+        ensures bytes { AreBytes report.now }
     {
         if index >= self.value_count {
             return Err(OUT_OF_BOUNDS);
@@ -112,7 +114,8 @@ impl HidreportField {
 
     /// Whether all values can be read.
     pub(crate) fn check_values(&self, report: &[u8]) -> Result<(), u32>
-        ensures { result ≡ by_status (acceptance (values_at self.now report.now)) }
+        ensures answer { result ≡ by_status (acceptance (values_at self.now report.now)) }
+        ensures bytes { AreBytes report.now }
     {
         self.check_id(report)?;
         self.check_elements(report)
