@@ -40,9 +40,10 @@ $(BUILD)/hid $(BUILD)/hidreport: $(BUILD)/%: $(made)/%.o.gz generated/programs.c
 	gzip -dc $< > $@.o
 	$(compile) $(LDFLAGS) -o $@ $@.o generated/programs.c generated/heap.c
 	rm -f $@.o
-$(BUILD)/ask_static: c/cases.c c/cases_words.h include/hidreport.h $(BUILD)/libhidreport.a
+cases = c/cases.c c/cases_print.h c/cases_words.h
+$(BUILD)/ask_static: $(cases) include/hidreport.h $(BUILD)/libhidreport.a
 	$(compile) $(LDFLAGS) -o $@ c/cases.c $(BUILD)/libhidreport.a
-$(BUILD)/ask_shared: c/cases.c c/cases_words.h include/hidreport.h $(BUILD)/libhidreport.so
+$(BUILD)/ask_shared: $(cases) include/hidreport.h $(BUILD)/libhidreport.so
 	$(compile) $(LDFLAGS) -o $@ c/cases.c $(BUILD)/libhidreport.so -Wl,-rpath,'$$ORIGIN'
 
 # One of the cases is that memory is refused, so there is little.

@@ -1,7 +1,7 @@
 /* Asks the library what the lines of its input ask, and prints each question with its answer below
  * it, two spaces in: every member of every struct. c/cases.txt has such lines, and says how they
  * are written; checks/c_cases.sh compares. */
-#include "cases_words.h"
+#include "cases_print.h"
 
 /* The descriptor and the report of a question. */
 static uint8_t bytes[LENGTH], report[LENGTH];
@@ -13,44 +13,7 @@ static struct hidreport_field fields[ROOM];
 static size_t field_count;
 static uint32_t usages[ROOM];
 static size_t usage_count;
-
-/* As many as there is room for. */
-static size_t print_answer_within(struct hidreport_answer answer, size_t room)
-{
-    printf("  count %zu offset %zu", answer.count, answer.offset);
-    printf(" %s\n", words_of(answer.status));
-    return answer.count < room ? answer.count : room;
-}
-
-/* As many as the arrays here have room for. */
-static size_t print_answer(struct hidreport_answer answer)
-{
-    return print_answer_within(answer, ROOM);
-}
-
-static void print_measures(const struct hidreport_measures *m)
-{
-    printf("    logical %" PRId32 "..%" PRId32, m->logical_minimum, m->logical_maximum);
-    printf(" physical %d %" PRId32, m->has_physical_minimum, m->physical_minimum);
-    printf("..%d %" PRId32, m->has_physical_maximum, m->physical_maximum);
-    printf(" unit %d %08" PRIx32, m->has_unit, m->unit);
-    printf(" exponent %d %" PRId32, m->has_unit_exponent, m->unit_exponent);
-}
-
-static void print_field(const struct hidreport_field *f)
-{
-    const struct hidreport_usages *u = &f->usages;
-    const struct hidreport_flags *g = &f->flags;
-    printf("  #%" PRIu32 " %s", f->number, kind_of(f->kind));
-    printf(" bits %zu..%zu values %zu", f->first_bit, f->end_bit, f->value_count);
-    printf(" usages %zu %08" PRIx32 "..%08" PRIx32 " %d", u->count, u->first, u->last, u->is_range);
-    printf(" collections %zu %" PRIu32, f->collections.count, f->collections.innermost);
-    printf(" report %d %u\n", f->has_report_id, f->report_id);
-    print_measures(&f->measures);
-    printf(" flags %d%d%d", g->is_relative, g->wraps, g->is_nonlinear);
-    printf("%d%d", g->has_no_preferred_state, g->has_null_state);
-    printf("%d%d\n", g->is_buffered_bytes, g->is_volatile);
-}
+static struct hidreport_report listed_report;
 
 static void keep_fields(struct hidreport_answer answer)
 {
@@ -64,20 +27,6 @@ static void keep_usages(struct hidreport_answer answer)
     usage_count = print_answer(answer);
     for (size_t i = 0; i < usage_count; i++)
         printf("  %08" PRIx32 "\n", usages[i]);
-}
-
-/* So much text, or so many bytes as hexadecimal numbers. */
-static void print_first(size_t count, const uint8_t *written, const char *form)
-{
-    printf("  ");
-    for (size_t i = 0; i < count; i++)
-        printf(form, written[i]);
-    printf("\n");
-}
-
-static void print_written(struct hidreport_answer answer, const uint8_t *written, const char *form)
-{
-    print_first(print_answer(answer), written, form);
 }
 
 static const struct hidreport_field *field_of(const char *word)
@@ -120,8 +69,24 @@ static void reports(const char *direction, const char *none)
         hidreport_reports(bytes, length, options, direction_of(direction), r, ROOM));
     (void)none;
     for (size_t i = 0; i < count; i++)
-        printf("  id %d %u bits %zu bytes %zu fields %zu\n", r[i].has_id, r[i].id,
-               r[i].size_in_bits, r[i].size_in_bytes, r[i].field_count);
+        print_report(&r[i]);
+}
+
+static void find_report(const char *direction, const char *id)
+{
+    uint8_t number;
+    bool has_id = id_of(id, &number);
+    if (print_answer(hidreport_report_with(bytes, length, options, direction_of(direction), has_id,
+                                           number, &listed_report, 1)) == 1)
+        print_report(&listed_report);
+}
+
+static void blank(const char *room, const char *none)
+{
+    static uint8_t written[ROOM];
+    (void)none;
+    print_first(print_answer_within(hidreport_blank(&listed_report, written, room_of(room)),
+                                    room_of(room)), written, "%02x");
 }
 
 static void describe(const char *direction, const char *none)
@@ -135,6 +100,20 @@ static void find(const char *direction, const char *none)
     (void)none;
     keep_fields(hidreport_find(bytes, length, options, direction_of(direction), report,
                                report_length, fields, ROOM));
+}
+
+static void find_field(const char *number, const char *none)
+{
+    (void)none;
+    keep_fields(hidreport_field_numbered(bytes, length, options, number_of(number), fields, ROOM));
+}
+
+static void find_field_for(const char *direction, const char *id_and_usage)
+{
+    uint8_t id;
+    bool has_id = id_of(id_and_usage, &id);
+    keep_fields(hidreport_field_for(bytes, length, options, direction_of(direction), has_id, id,
+                                    usage_of(id_and_usage), fields, ROOM));
 }
 
 static void list_usages(const char *field, const char *none)
@@ -160,6 +139,14 @@ static void collection_usages(const char *field, const char *index)
                                             number_of(index), usages, ROOM));
 }
 
+static void alike(const char *first, const char *second)
+{
+    struct hidreport_likeness l = hidreport_is_alike(bytes, length, report, report_length, options);
+    (void)first, (void)second;
+    printf("  offset %zu %s of %d alike %d\n", l.offset, words_of(l.status), l.is_of_other,
+           l.is_alike);
+}
+
 static void message(const char *first, const char *second)
 {
     static uint8_t text[ROOM];
@@ -177,13 +164,20 @@ static void refusal(const char *first, const char *second)
     printf("  %s at %zu: %.*s\n", words_of(answer.status), answer.offset, (int)told.count, text);
 }
 
+static struct hidreport_item item_list[ROOM];
+
 static void items(const char *first, const char *second)
 {
-    static struct hidreport_item listed[ROOM];
-    size_t count = print_answer(hidreport_items(bytes, length, listed, ROOM));
     (void)first, (void)second;
-    for (size_t i = 0; i < count; i++)
-        printf("  offset %zu size %zu\n", listed[i].offset, listed[i].size);
+    print_items(print_answer(hidreport_items(bytes, length, item_list, ROOM)), item_list);
+}
+
+static void front_items(const char *room, const char *none)
+{
+    (void)none;
+    struct hidreport_answer answer =
+        hidreport_front_items(bytes, length, item_list, room_of(room));
+    print_items(print_answer_within(answer, room_of(room)), item_list);
 }
 
 static void items_message(const char *first, const char *second)
@@ -252,6 +246,50 @@ static void usage(const char *field, const char *number)
     printf("  usage %08" PRIx32 " %d\n", meant.usage, meant.is_meant);
 }
 
+static void value_of(const char *field, const char *usage)
+{
+    print_choice(hidreport_value_of(field_of(field), usage_of(usage), usages, usage_count));
+}
+
+static void null_value(const char *field, const char *none)
+{
+    (void)none;
+    print_choice(hidreport_null_value(field_of(field)));
+}
+
+static void physical(const char *field, const char *number)
+{
+    print_fraction(hidreport_physical(field_of(field), strtoll(number, NULL, 10)));
+}
+
+static void normalized(const char *field, const char *number)
+{
+    print_fraction(hidreport_normalized(field_of(field), strtoll(number, NULL, 10)));
+}
+
+static void print_inserted(uint32_t status)
+{
+    printf("  %s\n", words_of(status));
+    print_first(report_length, report, "%02x");
+}
+
+static void insert(const char *field, const char *index_and_value)
+{
+    const char *equals = strchr(index_and_value, '=');
+    if (!equals)
+        refuse("no value", index_and_value);
+    print_inserted(hidreport_insert(field_of(field), report, report_length,
+                                    number_of(index_and_value), strtoll(equals + 1, NULL, 10)));
+}
+
+static void insert_all(const char *field, const char *values)
+{
+    static int64_t numbers[ROOM];
+    size_t count = numbers_of(values, numbers);
+    print_inserted(
+        hidreport_insert_all(field_of(field), report, report_length, numbers, count));
+}
+
 /* Each kind of question, and how many words it has before its bytes. */
 static const struct {
     const char *kind;
@@ -270,6 +308,12 @@ static const struct {
     {"repair-message", 1, repair_message},
     {"value", 2, value},             {"values", 1, values},
     {"usage", 2, usage},
+    {"report", 2, find_report},      {"blank", 1, blank},
+    {"field", 1, find_field},        {"field-for", 2, find_field_for},
+    {"value-of", 2, value_of},       {"null-value", 1, null_value},
+    {"physical", 2, physical},       {"normalized", 2, normalized},
+    {"insert", 2, insert},           {"insert-all", 2, insert_all},
+    {"alike", 0, alike},             {"front-items", 1, front_items},
 };
 
 static void answer_line(const char *line)

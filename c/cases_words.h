@@ -49,6 +49,8 @@ static const char *words_of(uint32_t status)
     case HIDREPORT_OUT_OF_MEMORY: return "out-of-memory";
     case HIDREPORT_BUDGET_EXCEEDED: return "budget-exceeded";
     case HIDREPORT_UNKNOWN_OPTION: return "unknown-option";
+    case HIDREPORT_DOES_NOT_FIT: return "does-not-fit";
+    case HIDREPORT_WRONG_COUNT: return "wrong-count";
     default: return "?";
     }
 }
@@ -100,6 +102,34 @@ static uint32_t mends_of(const char *word)
            : strcmp(word, "cut-short") == 0       ? HIDREPORT_MEND_CUT_SHORT
            : strcmp(word, "unsigned-maxima") == 0 ? HIDREPORT_MEND_UNSIGNED_MAXIMA
                                                   : number_of(word);
+}
+
+/* An id in front of anything, or `-` for none. */
+static bool id_of(const char *word, uint8_t *id)
+{
+    *id = *word == '-' ? 0 : (uint8_t)number_of(word);
+    return *word != '-';
+}
+
+/* A usage of hexadecimal digits, behind a `=` if there is one. */
+static uint32_t usage_of(const char *word)
+{
+    const char *equals = strchr(word, '=');
+    return (uint32_t)strtoul(equals ? equals + 1 : word, NULL, 16);
+}
+
+/* Numbers with a comma between two of them; `-` is none. */
+static size_t numbers_of(const char *word, int64_t *numbers)
+{
+    size_t count = 0;
+    char *end;
+    while (strcmp(word, "-") != 0 && count < ROOM) {
+        numbers[count++] = strtoll(word, &end, 10);
+        if (!*end)
+            break;
+        word = end + 1;
+    }
+    return count;
 }
 
 static size_t room_of(const char *word)

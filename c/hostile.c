@@ -74,6 +74,28 @@ static void look_at_items(const struct row *row, const char *call, struct hidrep
     look(&items, call, answer);
 }
 
+/* Of the items from the front there are some just where the first can be read. */
+static void look_at_front(const struct row *row, struct hidreport_answer answer)
+{
+    looked_at++;
+    if (answer.status == HIDREPORT_ACCEPTED && answer.offset == 0
+        && (answer.count > 0) == (row->status != HIDREPORT_INVALID_DATA))
+        return;
+    printf("hostile: %s: front_items has %zu\n", row->name, answer.count);
+    wrong = 1;
+}
+
+/* The same of a descriptor and itself, which are alike just where it is read. */
+static void look_at_likeness(const struct row *row, struct hidreport_likeness likeness)
+{
+    struct hidreport_answer answer = {0, likeness.offset, likeness.status};
+    look(row, "is_alike", answer);
+    if (likeness.is_alike == (likeness.status == HIDREPORT_ACCEPTED) && !likeness.is_of_other)
+        return;
+    printf("hostile: %s: is_alike says %d\n", row->name, likeness.is_alike);
+    wrong = 1;
+}
+
 /* The same of a text, of which there is some just where the descriptor is refused. */
 static void look_at_text(const struct row *row, const char *call, int is_refused,
                          struct hidreport_answer answer)
@@ -117,6 +139,12 @@ static void ask(const struct row *row, const uint8_t *bytes, size_t length)
          hidreport_describe(bytes, length, options, HIDREPORT_INPUT, NULL, 0));
     look(row, "find",
          hidreport_find(bytes, length, options, HIDREPORT_INPUT, report, 1, NULL, 0));
+    look(row, "report",
+         hidreport_report_with(bytes, length, options, HIDREPORT_INPUT, true, 1, NULL, 0));
+    look(row, "field", hidreport_field_numbered(bytes, length, options, 0, NULL, 0));
+    look(row, "field_for",
+         hidreport_field_for(bytes, length, options, HIDREPORT_INPUT, false, 0, 0x10030, NULL, 0));
+    look_at_likeness(row, hidreport_is_alike(bytes, length, bytes, length, options));
     look(row, "usages", hidreport_usages(bytes, length, options, 0, NULL, 0));
     look(row, "collections", hidreport_collections(bytes, length, options, 0, NULL, 0));
     look(row, "collection_usages",
@@ -131,10 +159,71 @@ static void ask(const struct row *row, const uint8_t *bytes, size_t length)
                  hidreport_repair_message(bytes, length, options, HIDREPORT_MEND_DEFAULT, NULL, 0));
     if (length > 65536)
         return;
+    look_at_front(row, hidreport_front_items(bytes, length, NULL, 0));
     look_at_items(row, "items", hidreport_items(bytes, length, NULL, 0));
     look_at_items(row, "rebuild", hidreport_rebuild(bytes, length, NULL, 0));
     look_at_text(row, "items_message", row->status == HIDREPORT_INVALID_DATA,
                  hidreport_items_message(bytes, length, NULL, 0));
+}
+
+/* Fields of numbers that no descriptor has, by which nothing can be written: the bits end past what
+ * can be counted, begin behind their end, are too many or none, or lie behind the bytes. */
+static const struct hidreport_field no_fields[] = {
+    {.first_bit = SIZE_MAX, .end_bit = SIZE_MAX, .value_count = 1},
+    {.first_bit = SIZE_MAX - 7, .end_bit = SIZE_MAX, .value_count = SIZE_MAX},
+    {.first_bit = 0, .end_bit = SIZE_MAX, .value_count = 1},
+    {.first_bit = 56, .end_bit = SIZE_MAX, .value_count = SIZE_MAX / 2},
+    {.first_bit = 8, .end_bit = 0, .value_count = 1},
+    {.first_bit = 8, .end_bit = 16, .value_count = SIZE_MAX},
+    {.first_bit = 8, .end_bit = 41, .value_count = 1},
+    {.first_bit = 8, .end_bit = 16, .value_count = 0},
+    {.first_bit = 49, .end_bit = 57, .value_count = 1},
+    {.first_bit = SIZE_MAX / 2, .end_bit = SIZE_MAX, .value_count = 2},
+    {.first_bit = 7, .end_bit = 15, .value_count = 1, .has_report_id = true, .report_id = 0xff},
+};
+
+static void look_unwritten(size_t field, const char *call, uint32_t status, const uint8_t *report)
+{
+    static const uint8_t before[9] = {255, 255, 255, 255, 255, 255, 255, 255, 255};
+    looked_at++;
+    if (status == HIDREPORT_OUT_OF_BOUNDS && memcmp(report, before, sizeof before) == 0)
+        return;
+    printf("hostile: field %zu: %s has status %u\n", field, call, status);
+    wrong = 1;
+}
+
+/* By such a field 7 bytes are neither written nor the two behind them. */
+static void ask_to_write(void)
+{
+    static const int64_t zeros[2];
+    uint8_t report[9];
+
+    memset(report, 0xff, sizeof report);
+    for (size_t i = 0; i < sizeof no_fields / sizeof no_fields[0]; i++) {
+        const struct hidreport_field *f = &no_fields[i];
+        look_unwritten(i, "insert", hidreport_insert(f, report, 7, 0, 0), report);
+        look_unwritten(i, "insert of the last",
+                       hidreport_insert(f, report, 7, f->value_count - 1, 0), report);
+        if (f->value_count == 1 || f->value_count == 2)
+            look_unwritten(i, "insert_all",
+                           hidreport_insert_all(f, report, 7, zeros, f->value_count), report);
+    }
+}
+
+/* A report that says that it has more bytes than there are gets those that there are. */
+static void ask_for_a_blank(void)
+{
+    const struct hidreport_report report = {
+        .size_in_bytes = SIZE_MAX, .has_id = true, .id = 3};
+    uint8_t bytes[4] = {255, 255, 255, 255};
+
+    struct hidreport_answer answer = hidreport_blank(&report, bytes, 3);
+    looked_at++;
+    if (answer.status == HIDREPORT_ACCEPTED && answer.count == SIZE_MAX
+        && memcmp(bytes, "\x03\0\0\xff", 4) == 0)
+        return;
+    printf("hostile: a blank report of SIZE_MAX bytes: %zu\n", answer.count);
+    wrong = 1;
 }
 
 int main(void)
@@ -158,6 +247,8 @@ int main(void)
         }
     }
     ask_with_little_room();
+    ask_to_write();
+    ask_for_a_blank();
     printf("hostile: %u answers\n", looked_at);
     return wrong;
 }

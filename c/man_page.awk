@@ -2,7 +2,8 @@
 # comment above it. `version` is the library's.
 BEGIN {
     print ".TH HIDREPORT 3 \"\" \"hidreport " version "\""
-    print ".SH NAME\nhidreport \\- HID report descriptors read, and values taken from reports"
+    print ".SH NAME\nhidreport \\- HID report descriptors read, " \
+        "values taken from reports and written to them"
     print ".SH SYNOPSIS\n.nf\n.B #include <hidreport.h>\n.PP"
 }
 

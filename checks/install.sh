@@ -113,7 +113,7 @@ wanted_c() {
 prefix=\${pcfiledir}/../..
 
 Name: hidreport
-Description: HID report descriptors read, and values taken from reports
+Description: HID report descriptors read, values taken from reports and written to them
 Version: $version
 Cflags: -I\${prefix}/include
 Libs: -L\${prefix}/lib -lhidreport

@@ -1,4 +1,4 @@
-/* HID report descriptors read, and values taken from reports (USB HID 1.11).
+/* HID report descriptors read, values taken from reports and written to them (USB HID 1.11).
  * Licence: MIT (LICENSE).
  *
  * The functions keep nothing between two calls, and may be called from any thread at once. A
@@ -44,7 +44,11 @@ enum hidreport_status {
      * limit it has more than 65536 bytes, as given or repaired: then this is `offset` */
     HIDREPORT_BUDGET_EXCEEDED = 5,
     /* `push` or `usages` of the options is no number of its enum, or `mends` no sum of its own */
-    HIDREPORT_UNKNOWN_OPTION = 6
+    HIDREPORT_UNKNOWN_OPTION = 6,
+    /* so many bits don't hold the number, signed or unsigned as the field is */
+    HIDREPORT_DOES_NOT_FIT = 7,
+    /* there are more or fewer numbers than the field has values */
+    HIDREPORT_WRONG_COUNT = 8
 };
 
 /* `direction`; nothing is announced in any other */
@@ -212,6 +216,25 @@ struct hidreport_usage {
     bool is_meant;  /* the value stands for one */
 };
 
+struct hidreport_choice {
+    int64_t value; /* 0 where there is none */
+    bool is_there;
+};
+
+/* A number that isn't whole, exactly; not always in its lowest terms. */
+struct hidreport_fraction {
+    int64_t numerator;   /* 0 where there is none */
+    int64_t denominator; /* above 0; 0 where there is none */
+    bool is_there;
+};
+
+struct hidreport_likeness {
+    size_t offset;    /* how many bytes stand before the refused item; 0 without one */
+    uint32_t status;  /* enum hidreport_status: 0, or why one of the two isn't read */
+    bool is_of_other; /* it is the other one, and the first is read */
+    bool is_alike;    /* off where one isn't read */
+};
+
 struct hidreport_item {
     size_t offset; /* how many bytes of the descriptor stand before the item */
     size_t size;   /* how many it has, its header among them */
@@ -248,6 +271,26 @@ struct hidreport_answer hidreport_find(const uint8_t *descriptor, size_t length,
                                        const uint8_t *report, size_t report_length,
                                        struct hidreport_field *fields, size_t room);
 
+/* The report of a direction with this id, or without one, where `has_id` is off: one, or none where
+ * there is no such report. */
+struct hidreport_answer hidreport_report_with(const uint8_t *descriptor, size_t length,
+                                              struct hidreport_options options,
+                                              uint32_t direction, bool has_id, uint8_t id,
+                                              struct hidreport_report *report, size_t room);
+
+/* The field with this number, in whichever direction: one, or none where no field has it. */
+struct hidreport_answer hidreport_field_numbered(const uint8_t *descriptor, size_t length,
+                                                 struct hidreport_options options,
+                                                 uint32_t number, struct hidreport_field *field,
+                                                 size_t room);
+
+/* The first field with this usage of the report of a direction with this id, or without one, where
+ * `has_id` is off: one, or none where there is no such report, or no field of it has the usage. */
+struct hidreport_answer hidreport_field_for(const uint8_t *descriptor, size_t length,
+                                            struct hidreport_options options, uint32_t direction,
+                                            bool has_id, uint8_t id, uint32_t usage,
+                                            struct hidreport_field *field, size_t room);
+
 /* The usages of the field with this number, in order; none where no field has it. Here and below
  * the options are those by which the field was described. */
 struct hidreport_answer hidreport_usages(const uint8_t *descriptor, size_t length,
@@ -266,6 +309,12 @@ struct hidreport_answer hidreport_collection_usages(const uint8_t *descriptor, s
                                                     uint32_t field, size_t index, uint32_t *usages,
                                                     size_t room);
 
+/* Whether two descriptors, read by these options, announce the same: the same reports in each
+ * direction, with fields that are equal in all parts. Their bytes may differ. */
+struct hidreport_likeness hidreport_is_alike(const uint8_t *descriptor, size_t length,
+                                             const uint8_t *other, size_t other_length,
+                                             struct hidreport_options options);
+
 /* What a descriptor is refused for, without a zero at the end; no text where it is accepted, and
  * with HIDREPORT_OUT_OF_MEMORY and HIDREPORT_UNKNOWN_OPTION. */
 struct hidreport_answer hidreport_message(const uint8_t *descriptor, size_t length,
@@ -275,6 +324,11 @@ struct hidreport_answer hidreport_message(const uint8_t *descriptor, size_t leng
 /* The items of a descriptor, short and long. */
 struct hidreport_answer hidreport_items(const uint8_t *descriptor, size_t length,
                                         struct hidreport_item *items, size_t room);
+
+/* The items before the first that can't be read, or all: never refused. Where hidreport_items
+ * refuses the bytes, the refused item stands behind the last of these. It takes no memory. */
+struct hidreport_answer hidreport_front_items(const uint8_t *descriptor, size_t length,
+                                              struct hidreport_item *items, size_t room);
 
 /* A descriptor written anew: its items in order, each in its shortest spelling, without long and
  * reserved ones. */
@@ -318,6 +372,46 @@ struct hidreport_answer hidreport_values(const struct hidreport_field *field, co
  * field: none outside the logical bounds, as where no key is held. It takes no memory. */
 struct hidreport_usage hidreport_usage_of(const struct hidreport_field *field, int64_t value,
                                           const uint32_t *usages, size_t usage_count);
+
+/* The value of an array that stands for a usage, of the same: the least where the usage is listed
+ * more than once, none where it isn't listed, or only behind the logical maximum. It takes no
+ * memory. */
+struct hidreport_choice hidreport_value_of(const struct hidreport_field *field, uint32_t usage,
+                                           const uint32_t *usages, size_t usage_count);
+
+/* A value of an array that stands for no usage, to be written where no key is held: one outside the
+ * logical bounds where its bits hold one, 0 if that is, else the one below them, else the one
+ * above; else the least within them that has no usage. It takes no memory. */
+struct hidreport_choice hidreport_null_value(const struct hidreport_field *field);
+
+/* What a value of a variable field stands for, in the field's unit times ten to its exponent
+ * (Section 6.2.2.7): the logical bounds stand for the physical ones, and a value lies on the line
+ * through both. Physical bounds that are both 0 or unset are the logical ones. None where the
+ * logical minimum isn't below the maximum, and where 64 bits don't hold the numerator, which they
+ * do for each value within the bounds. It takes no memory. */
+struct hidreport_fraction hidreport_physical(const struct hidreport_field *field, int64_t value);
+
+/* The same, between -1, the logical minimum, and 1, the logical maximum. */
+struct hidreport_fraction hidreport_normalized(const struct hidreport_field *field, int64_t value);
+
+/* Writes value `index` of a field, counted from 0, into a report with these bytes: its bits become
+ * those of the number, and no other bit changes. The answer is 0 or, with the bytes as they were,
+ * HIDREPORT_OUT_OF_BOUNDS or HIDREPORT_MISMATCHING_REPORT_ID, as of hidreport_value, or
+ * HIDREPORT_DOES_NOT_FIT; a number that its bits hold is written, whatever the logical bounds are.
+ * It takes no memory, and reads and writes nothing but the report's bytes, whatever numbers the
+ * field has. */
+uint32_t hidreport_insert(const struct hidreport_field *field, uint8_t *report,
+                          size_t report_length, size_t index, int64_t value);
+
+/* Writes all values of a field, in order, likewise: none where one of them is refused, or with
+ * HIDREPORT_WRONG_COUNT where there are more or fewer than the field has. */
+uint32_t hidreport_insert_all(const struct hidreport_field *field, uint8_t *report,
+                              size_t report_length, const int64_t *values, size_t count);
+
+/* The bytes of a report without values, which hidreport_insert may fill: its id, where it has one,
+ * and zeros. It takes no memory. */
+struct hidreport_answer hidreport_blank(const struct hidreport_report *report, uint8_t *bytes,
+                                        size_t room);
 
 #ifdef __cplusplus
 }

@@ -1,14 +1,22 @@
 //! The static library `hidreport_c` from Rust: safe functions over the declarations of `sys`.
 //! Not the Rust crate `hidreport`, which is written in Rust; this one calls what was proved.
+mod alike;
+mod lookup;
 mod numbers;
 mod repairing;
+mod scaling;
 mod sys;
+mod writing;
 
+pub use alike::{is_alike, Unread};
+pub use lookup::{field_for, field_numbered, report_with};
 pub use numbers::{
     CollectionKind, Direction, FieldKind, Mends, Push, Reason, Status, UnknownNumber, UsagesBy,
 };
 pub use repairing::{changes, repair, repair_message};
+pub use scaling::{normalized, physical, Fraction};
 pub use sys::{Change, Collection, Field, Item, Options, Report};
+pub use writing::{blank, insert, insert_all, null_value, value_of};
 
 use std::error::Error;
 use std::fmt;
@@ -201,6 +209,15 @@ pub fn items(descriptor: &[u8]) -> Result<Vec<Item>, Refusal> {
         sys::hidreport_items(descriptor.as_ptr(), descriptor.len(), items, room)
     })
     .map_err(|unlisted| items_refusal(descriptor, unlisted))
+}
+
+/// Where the items stand before the first that can't be read, or all: behind the last of them
+/// stands what `items` refuses.
+pub fn front_items(descriptor: &[u8]) -> Vec<Item> {
+    let items = listed(Item::default(), |items, room| unsafe {
+        sys::hidreport_front_items(descriptor.as_ptr(), descriptor.len(), items, room)
+    });
+    items.unwrap_or_default()
 }
 
 /// A descriptor written anew, each item in its shortest spelling.

@@ -65,6 +65,10 @@ numbers! {
         /// The descriptor lists more than the limit, or is too long for one.
         BudgetExceeded = 5,
         UnknownOption = 6,
+        /// So many bits don't hold the number, signed or unsigned as the field is.
+        DoesNotFit = 7,
+        /// There are more or fewer numbers than the field has values.
+        WrongCount = 8,
     }
 }
 
@@ -88,6 +92,8 @@ impl fmt::Display for Status {
             Status::OutOfMemory => "out of memory",
             Status::BudgetExceeded => "budget exceeded",
             Status::UnknownOption => "unknown option",
+            Status::DoesNotFit => "the field's bits don't hold the value",
+            Status::WrongCount => "the number of values isn't that of the field's values",
         })
     }
 }
@@ -236,7 +242,7 @@ mod tests {
     #[test]
     fn numbers_are_those_of_the_header() {
         both_ways::<Direction>(&[0, 1, 2]);
-        both_ways::<Status>(&[1, 2, 3, 4, 5, 6]);
+        both_ways::<Status>(&[1, 2, 3, 4, 5, 6, 7, 8]);
         both_ways::<FieldKind>(&[0, 1, 2]);
         both_ways::<Push>(&[0, 1]);
         both_ways::<UsagesBy>(&[0, 1]);

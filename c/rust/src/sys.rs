@@ -117,6 +117,30 @@ pub struct Usage {
     pub is_meant: bool,
 }
 
+#[repr(C)]
+#[derive(Clone, Copy, Debug, PartialEq)]
+pub struct Choice {
+    pub value: i64,
+    pub is_there: bool,
+}
+
+#[repr(C)]
+#[derive(Clone, Copy, Debug, PartialEq)]
+pub struct MaybeFraction {
+    pub numerator: i64,
+    pub denominator: i64,
+    pub is_there: bool,
+}
+
+#[repr(C)]
+#[derive(Clone, Copy, Debug, PartialEq)]
+pub struct Likeness {
+    pub offset: usize,
+    pub status: u32,
+    pub is_of_other: bool,
+    pub is_alike: bool,
+}
+
 /// How a descriptor is read.
 #[repr(C)]
 #[derive(Clone, Copy, Debug, PartialEq)]
@@ -161,6 +185,38 @@ extern "C" {
         room: usize,
     ) -> Answer;
 
+    pub fn hidreport_report_with(
+        descriptor: *const u8,
+        length: usize,
+        options: Options,
+        direction: u32,
+        has_id: bool,
+        id: u8,
+        report: *mut Report,
+        room: usize,
+    ) -> Answer;
+
+    pub fn hidreport_field_numbered(
+        descriptor: *const u8,
+        length: usize,
+        options: Options,
+        number: u32,
+        field: *mut Field,
+        room: usize,
+    ) -> Answer;
+
+    pub fn hidreport_field_for(
+        descriptor: *const u8,
+        length: usize,
+        options: Options,
+        direction: u32,
+        has_id: bool,
+        id: u8,
+        usage: u32,
+        field: *mut Field,
+        room: usize,
+    ) -> Answer;
+
     pub fn hidreport_usages(
         descriptor: *const u8,
         length: usize,
@@ -189,6 +245,14 @@ extern "C" {
         room: usize,
     ) -> Answer;
 
+    pub fn hidreport_is_alike(
+        descriptor: *const u8,
+        length: usize,
+        other: *const u8,
+        other_length: usize,
+        options: Options,
+    ) -> Likeness;
+
     pub fn hidreport_message(
         descriptor: *const u8,
         length: usize,
@@ -198,6 +262,13 @@ extern "C" {
     ) -> Answer;
 
     pub fn hidreport_items(
+        descriptor: *const u8,
+        length: usize,
+        items: *mut Item,
+        room: usize,
+    ) -> Answer;
+
+    pub fn hidreport_front_items(
         descriptor: *const u8,
         length: usize,
         items: *mut Item,
@@ -266,4 +337,35 @@ extern "C" {
         usages: *const u32,
         usage_count: usize,
     ) -> Usage;
+
+    pub fn hidreport_value_of(
+        field: *const Field,
+        usage: u32,
+        usages: *const u32,
+        usage_count: usize,
+    ) -> Choice;
+
+    pub fn hidreport_null_value(field: *const Field) -> Choice;
+
+    pub fn hidreport_physical(field: *const Field, value: i64) -> MaybeFraction;
+
+    pub fn hidreport_normalized(field: *const Field, value: i64) -> MaybeFraction;
+
+    pub fn hidreport_insert(
+        field: *const Field,
+        report: *mut u8,
+        report_length: usize,
+        index: usize,
+        value: i64,
+    ) -> u32;
+
+    pub fn hidreport_insert_all(
+        field: *const Field,
+        report: *mut u8,
+        report_length: usize,
+        values: *const i64,
+        count: usize,
+    ) -> u32;
+
+    pub fn hidreport_blank(report: *const Report, bytes: *mut u8, room: usize) -> Answer;
 }

@@ -1,6 +1,12 @@
+pub mod BlankLemmas
 pub mod FieldsLemmas
+pub mod FrontItemsLemmas
+pub mod InsertLemmas
 pub mod ListsLemmas
+pub mod NullLemmas
 pub mod RepairLemmas
+pub mod StandingLemmas
 pub mod UsagesLemmas
 pub mod ValueLemmas
 pub mod ValuesLemmas
+pub mod WrittenLemmas

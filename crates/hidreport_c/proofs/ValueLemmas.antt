@@ -13,7 +13,7 @@ use Rattle.hidreport_c.specs.Field.{as_c}
 use Rattle.hidreport_c.specs.Value.{extracted_value, only, value_at}
 
 -- the id, by whether there is one
-id-again : (id : Option ℕ) → (if is_some id then Some (unwrap_or id 0) else None) ≡ id
+pub id-again : (id : Option ℕ) → (if is_some id then Some (unwrap_or id 0) else None) ≡ id
 id-again None = refl
 id-again (Some id) = refl
 
@@ -53,7 +53,7 @@ by_order first end s bytes (inr (test, less)) =
     ap (λ e. read_bits first e s bytes) whole
 
 -- one element of a range is the range
-element-of_one : (first end : ℕ) (s : Bool) (bytes : List ℕ)
+pub element-of_one : (first end : ℕ) (s : Bool) (bytes : List ℕ)
     → element first end 1 s bytes 0 ≡ read_bits first end s bytes
 element-of_one first end s bytes =
     let from : first + (end - first) / 1 * 0 ≡ first = omega arith in

@@ -20,3 +20,9 @@ pub(crate) const BUDGET_EXCEEDED: u32 = 5;
 
 /// An option has a number that says nothing.
 pub(crate) const UNKNOWN_OPTION: u32 = 6;
+
+/// A field's bits don't hold a number.
+pub(crate) const DOES_NOT_FIT: u32 = 7;
+
+/// There are more or fewer values than a field has.
+pub(crate) const WRONG_COUNT: u32 = 8;

@@ -1,6 +1,7 @@
 ghost use Rattle.std.specs.Prelude.{◌≡◌, ◌+◌, ◌*◌, ◌<◌, ◌≤◌, ◌^◌, false, Err, Ok, IfSome};
 ghost use Rattle.std.specs.Prelude.{IsNone, IsOk, IsTrue};
 ghost use Rattle.hidreport.specs.Answer.{Bounds};
+ghost use Rattle.hidreport.specs.Spelling.{AreBytes};
 ghost use Rattle.hidreport.specs.Reading.{element_width, reads, with_id};
 ghost use Rattle.hidreport.specs.Records.{FieldRecord};
 ghost use Rattle.hidreport_c.specs.Answer.{as_answer, list_or_nothing, array_after};
@@ -86,7 +87,8 @@ impl HidreportField {
 
     /// One of the field's values, or the number of its refusal.
     pub(crate) fn read(&self, report: &[u8], index: usize) -> Result<FieldValue, u32>
-        ensures { result ≡ by_status (value_at self.now report.now index) }
+        ensures value { result ≡ by_status (value_at self.now report.now index) }
+        ensures bytes { AreBytes report.now }
     {
         if index >= self.value_count {
             return Err(OUT_OF_BOUNDS);
@@ -111,8 +113,9 @@ impl HidreportField {
     }
 
     /// Whether all values can be read.
-    fn check_values(&self, report: &[u8]) -> Result<(), u32>
-        ensures { result ≡ by_status (acceptance (values_at self.now report.now)) }
+    pub(crate) fn check_values(&self, report: &[u8]) -> Result<(), u32>
+        ensures answer { result ≡ by_status (acceptance (values_at self.now report.now)) }
+        ensures bytes { AreBytes report.now }
     {
         self.check_id(report)?;
         self.check_elements(report)
@@ -152,8 +155,8 @@ impl HidreportField {
     }
 
     /// How many bits a value has: the field's bits divided by the number of values, if it isn't 0.
-    fn element_width(&self) -> usize
-        ensures width { 0 < self.now.value_count → result
+    pub(crate) fn element_width(&self) -> usize
+        ensures width { result
             ≡ element_width self.now.first_bit self.now.end_bit self.now.value_count }
         ensures counted { self.now.first_bit + result * self.now.value_count < 2 ^ 64 }
     {

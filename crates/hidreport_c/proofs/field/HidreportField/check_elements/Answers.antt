@@ -18,7 +18,7 @@ returns-then-are_readable c =
     let within : f.first_bit + w * last + w ≤ 8 * length bytes = omega (arith, whole, readable.2) in
     sym (accepted-ok (elements_at f bytes)
     (elements-accepted f.first_bit f.end_bit f.value_count last is_signed bytes w counts
-    (c.element_width-width.ensures.width some) readable.0 readable.1 within))
+    c.element_width-width.ensures.width readable.0 readable.1 within))
 
 pub returns-else-are_readable : goal.returns-else-are_readable
 returns-else-are_readable c =
@@ -36,4 +36,4 @@ returns-else-are_readable c =
     omega (arith, whole, outside) in
     sym (ap (λ r. by_status (acceptance r))
     (elements-past f.first_bit f.end_bit f.value_count last is_signed bytes w counts
-    (c.element_width-width.ensures.width some) past))
+    c.element_width-width.ensures.width past))

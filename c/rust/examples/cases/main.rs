@@ -1,8 +1,13 @@
 //! Prints the questions of its input with their answers, as c/cases.c does, by this module's
 //! functions.
-use hidreport_c::{CollectionKind, Direction, FieldKind, Mends, Push, Reason, Status, UsagesBy};
-use hidreport_c::{Field, Options, Refusal, NO_LIMIT};
+mod words;
+
+use hidreport_c::{Direction, Field, Fraction, Options, Refusal, Report, Status, Unread};
 use std::io::BufRead;
+use words::{
+    bytes_of, collection_of, direction_of, id_of, kind_of, mends_of, numbers_of, options_of,
+    reason_of, room_of, say_unknown, usage_of, usages_by, words_of,
+};
 
 /// What the last questions gave, for the questions about it.
 #[derive(Default)]
@@ -12,132 +17,7 @@ struct Asked {
     is_unknown: bool,
     fields: Vec<Field>,
     usages: Vec<u32>,
-}
-
-/// The bytes of a word: of hexadecimal digits, or `9*a4`, one of them nine times.
-fn word_bytes(word: &str) -> Vec<u8> {
-    if let Some((times, byte)) = word.split_once('*') {
-        return word_bytes(byte).repeat(times.parse().expect("a number"));
-    }
-    let digits: Vec<char> = word.chars().filter(|c| c.is_ascii_hexdigit()).collect();
-    let byte = |pair: &[char]| u8::from_str_radix(&pair.iter().collect::<String>(), 16);
-    digits.chunks(2).map(|pair| byte(pair).expect("two digits")).collect()
-}
-
-fn bytes_of(text: &str) -> Vec<u8> {
-    text.split_whitespace().flat_map(word_bytes).collect()
-}
-
-/// Another direction than these can't be named in Rust.
-fn direction_of(word: &str) -> Option<Direction> {
-    match word {
-        "input" => Some(Direction::Input),
-        "output" => Some(Direction::Output),
-        "feature" => Some(Direction::Feature),
-        _ => None,
-    }
-}
-
-/// Other options than these can't be named in Rust.
-fn options_of(limit: &str, push: &str) -> Option<Options> {
-    Some(Options {
-        limit: match limit {
-            "default" => Options::default().limit,
-            "none" => NO_LIMIT,
-            _ => limit.parse().expect("a limit"),
-        },
-        push: match push {
-            "default" => Options::default().push,
-            "all" => Push::All,
-            "globals" => Push::Globals,
-            _ => Push::try_from(push.parse::<u32>().expect("a number")).ok()?,
-        },
-        usages: Options::default().usages,
-    })
-}
-
-/// Nor another rule.
-fn usages_by(word: &str) -> Option<UsagesBy> {
-    match word {
-        "standard" => Some(UsagesBy::Standard),
-        "hosts" => Some(UsagesBy::Hosts),
-        _ => UsagesBy::try_from(word.parse::<u32>().expect("a number")).ok(),
-    }
-}
-
-/// Nor other mends.
-fn mends_of(word: &str) -> Option<Mends> {
-    Some(match word {
-        "default" => Mends::default(),
-        "cut-short" => Mends { cut_short: true, unsigned_maxima: false },
-        "unsigned-maxima" => Mends { cut_short: false, unsigned_maxima: true },
-        "both" => Mends { cut_short: true, unsigned_maxima: true },
-        _ => Mends::try_from(word.parse::<u32>().expect("a number")).ok()?,
-    })
-}
-
-/// What C answers to what can't be named in Rust; texts and bytes have a line of their own.
-fn say_unknown(kind: &str) {
-    println!("  count 0 offset 0 unknown-option");
-    if matches!(kind, "message" | "repair" | "repair-message") {
-        println!("  ");
-    }
-}
-
-/// The module makes room for all that there is; with less, C has the first of them.
-fn room_of(word: &str) -> usize {
-    match word {
-        "enough" => usize::MAX,
-        _ => word.parse().expect("a room"),
-    }
-}
-
-fn reason_of(number: u32) -> &'static str {
-    match Reason::try_from(number) {
-        Ok(Reason::NoData) => "no data",
-        Ok(Reason::UnknownMainItem) => "unknown main item",
-        Ok(Reason::EndedLocal) => "local of an unknown main item",
-        Ok(Reason::NoUsage) => "no usage",
-        Ok(Reason::UnsignedMaximum) => "unsigned maximum",
-        Ok(Reason::CutShort) => "cut short",
-        Err(_) => "?",
-    }
-}
-
-fn words_of(status: Status) -> &'static str {
-    match status {
-        Status::InvalidData => "invalid-data",
-        Status::OutOfBounds => "out-of-bounds",
-        Status::MismatchingReportId => "mismatching-report-id",
-        Status::OutOfMemory => "out-of-memory",
-        Status::BudgetExceeded => "budget-exceeded",
-        Status::UnknownOption => "unknown-option",
-    }
-}
-
-fn kind_of(kind: u32) -> &'static str {
-    match FieldKind::try_from(kind) {
-        Ok(FieldKind::Variable) => "variable",
-        Ok(FieldKind::Array) => "array",
-        Ok(FieldKind::Constant) => "constant",
-        Err(_) => "?",
-    }
-}
-
-fn collection_of(kind: u32) -> String {
-    String::from(match CollectionKind::try_from(kind) {
-        Ok(CollectionKind::Physical) => "physical",
-        Ok(CollectionKind::Application) => "application",
-        Ok(CollectionKind::Logical) => "logical",
-        Ok(CollectionKind::Report) => "report",
-        Ok(CollectionKind::NamedArray) => "named-array",
-        Ok(CollectionKind::UsageSwitch) => "usage-switch",
-        Ok(CollectionKind::UsageModifier) => "usage-modifier",
-        Ok(CollectionKind::Reserved(byte) | CollectionKind::VendorDefined(byte)) => {
-            return byte.to_string()
-        }
-        Err(_) => "?",
-    })
+    report: Report,
 }
 
 /// The list's length, or the refusal; then the list.
@@ -206,6 +86,21 @@ fn version() {
     println!("  {}", if same { "as here" } else { "not as here" });
 }
 
+fn print_report(r: &Report) {
+    print!("  id {} {} bits {}", u8::from(r.has_id), r.id, r.size_in_bits);
+    println!(" bytes {} fields {}", r.size_in_bytes, r.field_count);
+}
+
+fn print_choice(value: Option<i64>) {
+    println!("  value {} {}", value.unwrap_or(0), u8::from(value.is_some()));
+}
+
+fn print_fraction(fraction: Option<Fraction>) {
+    let is_there = u8::from(fraction.is_some());
+    let f = fraction.unwrap_or(Fraction { numerator: 0, denominator: 0 });
+    println!("  fraction {} {} {is_there}", f.numerator, f.denominator);
+}
+
 impl Asked {
     fn keep_fields(&mut self, answer: Result<Vec<Field>, Refusal>) {
         self.fields = counted(answer);
@@ -230,10 +125,8 @@ impl Asked {
                 self.keep_fields(hidreport_c::find(descriptor, self.options, direction, report))
             }
             _ => {
-                for r in counted(hidreport_c::reports(descriptor, self.options, direction)) {
-                    print!("  id {} {} bits {}", u8::from(r.has_id), r.id, r.size_in_bits);
-                    println!(" bytes {} fields {}", r.size_in_bytes, r.field_count);
-                }
+                let listed = counted(hidreport_c::reports(descriptor, self.options, direction));
+                listed.iter().for_each(print_report);
             }
         }
     }
@@ -256,6 +149,72 @@ impl Asked {
                 }
             }
         }
+    }
+
+    /// Questions of one report or one field, by a direction, an id and a usage.
+    fn ask_lookup(&mut self, kind: &str, words: &[&str], descriptor: &[u8]) {
+        let Some(direction) = direction_of(words[0]) else {
+            return println!("  count 0 offset 0 accepted");
+        };
+        let (options, id) = (self.options, id_of(words[1]));
+        if kind == "field-for" {
+            let usage = usage_of(words[1]);
+            let found = hidreport_c::field_for(descriptor, options, direction, id, usage);
+            return self.keep_fields(found.map(Vec::from_iter));
+        }
+        let found = hidreport_c::report_with(descriptor, options, direction, id);
+        for report in counted(found.map(Vec::from_iter)) {
+            print_report(&report);
+            self.report = report;
+        }
+    }
+
+    /// The report that was found last, without values.
+    fn ask_blank(&self, room: usize) {
+        let bytes = hidreport_c::blank(&self.report);
+        println!("  count {} offset 0 accepted", bytes.len());
+        print_bytes(&bytes[..room.min(bytes.len())]);
+    }
+
+    /// What is written into a report by a field that was listed.
+    fn ask_insert(&self, kind: &str, words: &[&str], mut report: Vec<u8>) {
+        let field = &self.fields[words[0].parse::<usize>().expect("a field")];
+        let done = if kind == "insert-all" {
+            hidreport_c::insert_all(field, &mut report, &numbers_of(words[1]))
+        } else {
+            let (index, value) = words[1].split_once('=').expect("an index and a value");
+            let (index, value) = (index.parse().expect("an index"), value.parse());
+            hidreport_c::insert(field, &mut report, index, value.expect("a value"))
+        };
+        println!("  {}", done.map_or_else(words_of, |()| "accepted"));
+        print_bytes(&report);
+    }
+
+    /// What stands for what by a field that was listed.
+    fn ask_meaning(&self, kind: &str, words: &[&str]) {
+        let field = &self.fields[words[0].parse::<usize>().expect("a field")];
+        let number = || words[1].parse().expect("a value");
+        match kind {
+            "value-of" => {
+                print_choice(hidreport_c::value_of(field, usage_of(words[1]), &self.usages))
+            }
+            "null-value" => print_choice(hidreport_c::null_value(field)),
+            "physical" => print_fraction(hidreport_c::physical(field, number())),
+            _ => print_fraction(hidreport_c::normalized(field, number())),
+        }
+    }
+
+    /// Whether two descriptors are alike.
+    fn ask_alike(&self, descriptor: &[u8], other: &[u8]) {
+        let (refusal, is_of_other) = match hidreport_c::is_alike(descriptor, other, self.options) {
+            Ok(is_alike) => {
+                return println!("  offset 0 accepted of 0 alike {}", u8::from(is_alike));
+            }
+            Err(Unread::First(refusal)) => (refusal, 0),
+            Err(Unread::Other(refusal)) => (refusal, 1),
+        };
+        let status = words_of(refusal.status);
+        println!("  offset {} {status} of {is_of_other} alike 0", refusal.offset);
     }
 
     /// Questions of a field that was listed.
@@ -322,8 +281,27 @@ impl Asked {
             kind @ ("usages" | "collections") => self.ask_number(kind, &words[1..], &descriptor(2)),
             kind @ "collection-usages" => self.ask_number(kind, &words[1..], &descriptor(3)),
             kind @ ("value" | "values" | "usage") => self.ask_field(kind, &words[1..], &report),
+            kind @ ("report" | "field-for") => self.ask_lookup(kind, &words[1..], &descriptor(3)),
+            "field" => {
+                let number = words[1].parse().expect("a number");
+                let found = hidreport_c::field_numbered(&descriptor(2), self.options, number);
+                self.keep_fields(found.map(Vec::from_iter));
+            }
+            "alike" => self.ask_alike(&descriptor(1), &report),
+            "blank" => self.ask_blank(room_of(words[1])),
+            kind @ ("insert" | "insert-all") => self.ask_insert(kind, &words[1..], report),
+            kind @ ("value-of" | "null-value" | "physical" | "normalized") => {
+                self.ask_meaning(kind, &words[1..])
+            }
             "items" => {
                 for item in counted(hidreport_c::items(&descriptor(1))) {
+                    println!("  offset {} size {}", item.offset, item.size);
+                }
+            }
+            "front-items" => {
+                let items = hidreport_c::front_items(&descriptor(2));
+                println!("  count {} offset 0 accepted", items.len());
+                for item in items.iter().take(room_of(words[1])) {
                     println!("  offset {} size {}", item.offset, item.size);
                 }
             }

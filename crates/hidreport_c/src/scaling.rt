@@ -1,0 +1,167 @@
+//! What a value stands for.
+ghost use Rattle.std.specs.Prelude.{◌≡◌, ◌≤◌, ◌^◌, ◌*ℤ◌, ◌-ℤ◌, ◌+ℤ◌, ◌&&◌, Some, pos, unsigned_abs};
+ghost use Rattle.std.specs.Ordering.{int_eq};
+ghost use Rattle.hidreport.specs.Records.{Attributes, FieldPlace, VariableRecord};
+ghost use Rattle.hidreport.specs.Scaling.{normalized, on_line, physical_value};
+ghost use Rattle.hidreport.specs.declared.field.usage.Usage.{Usage};
+ghost use Rattle.hidreport_c.specs.Field.{as_c};
+ghost use Rattle.hidreport_c.specs.Scaling.{fraction_as_c, no_fraction, normalized_of, physical_of};
+
+use crate::field::HidreportField;
+
+/// A number that isn't whole, exactly, if there is one (`struct hidreport_fraction`).
+#[repr(C)]
+#[derive(Clone, Copy)]
+pub struct HidreportFraction {
+    /// The number above the line; 0 where there is none.
+    pub numerator: i64,
+    /// The number below it, which is above 0; 0 where there is none.
+    pub denominator: i64,
+    /// Whether there is one.
+    pub is_there: bool,
+}
+
+/// What a value of a field stands for, in its unit times ten to its exponent (Section 6.2.2.7): the
+/// logical bounds stand for the physical ones, and a value lies on the line through both, beyond
+/// them too. Physical bounds that are both 0 or unset are the logical ones. It takes no memory.
+///
+/// None where the logical minimum isn't below the maximum, and where 64 bits don't hold the
+/// numerator, which they do for each value within the logical bounds. Of a variable field that the
+/// library described it is what `VariableField::physical_value` answers (`variable`).
+#[unsafe(no_mangle)]
+pub extern "C" fn hidreport_physical(field: &HidreportField, value: i64) -> HidreportFraction
+    ensures physical { result ≡ fraction_as_c (physical_of field.now.measures value) }
+    ensures variable { (place : FieldPlace) (usage : Usage) (shared : Attributes)
+        → field.now ≡ as_c (VariableRecord place usage shared)
+        → physical_of field.now.measures value ≡ physical_value shared value }
+{
+    let measures = &field.measures;
+    let low = measures.logical_minimum;
+    let high = measures.logical_maximum;
+    if are_unset(measures.physical_minimum, measures.physical_maximum) {
+        HidreportFraction::on_line(value, low, high, low, high)
+    } else {
+        let first = measures.physical_minimum;
+        HidreportFraction::on_line(value, low, high, first, measures.physical_maximum)
+    }
+}
+
+/// A value of a field between -1, its logical minimum, and 1, its logical maximum; beyond them it
+/// goes on as it does between them. It takes no memory.
+///
+/// There is none as `hidreport_physical` says. Of a variable field that the library described it is
+/// what `VariableField::normalized` answers (`variable`).
+#[unsafe(no_mangle)]
+pub extern "C" fn hidreport_normalized(field: &HidreportField, value: i64) -> HidreportFraction
+    ensures normalized { result ≡ fraction_as_c (normalized_of field.now.measures value) }
+    ensures variable { (place : FieldPlace) (usage : Usage) (shared : Attributes)
+        → field.now ≡ as_c (VariableRecord place usage shared)
+        → normalized_of field.now.measures value ≡ normalized shared value }
+{
+    let low = field.measures.logical_minimum;
+    let high = field.measures.logical_maximum;
+    HidreportFraction::on_line(value, low, high, -1, 1)
+}
+
+/// Whether physical bounds say nothing: both are 0.
+fn are_unset(first: i32, last: i32) -> bool
+    ensures { result ≡ (int_eq first (pos 0) && int_eq last (pos 0)) }
+{
+    first == 0 && last == 0
+}
+
+impl HidreportFraction {
+    /// That there is none.
+    fn none() -> HidreportFraction
+        ensures { result ≡ no_fraction }
+    {
+        HidreportFraction {
+            numerator: 0,
+            denominator: 0,
+            is_there: false,
+        }
+    }
+
+    /// The number at a value on the line that is `first` at `low` and `last` at `high`; none where
+    /// `low` isn't below `high`, and where 64 bits don't hold its numerator.
+    fn on_line(value: i64, low: i32, high: i32, first: i32, last: i32) -> HidreportFraction
+        ensures { result ≡ fraction_as_c (on_line low high first last value) }
+    {
+        if low >= high {
+            return HidreportFraction::none();
+        }
+        HidreportFraction::of(
+            numerator(value, low, high, first, last),
+            denominator(low, high),
+        )
+    }
+
+    /// A fraction with this numerator, where 64 bits hold it.
+    fn of(numerator: i128, denominator: i64) -> HidreportFraction
+        ensures { result ≡ fraction_as_c (Some (record {
+          numerator = numerator;
+          denominator = denominator;
+        })) }
+    {
+        match i64::try_from(numerator) {
+            Ok(numerator) => HidreportFraction {
+                numerator,
+                denominator,
+                is_there: true,
+            },
+            Err(_) => HidreportFraction::none(),
+        }
+    }
+}
+
+/// The number above the line of the one at a value on the line that is `first` at `low` and `last`
+/// at `high`.
+fn numerator(value: i64, low: i32, high: i32, first: i32, last: i32) -> i128
+    ensures { result ≡ (value -ℤ low) *ℤ (last -ℤ first) +ℤ first *ℤ (high -ℤ low) }
+{
+    let above = product(distance(low, value), range(first, last));
+    let base = product(i128::from(first), range(low, high));
+    sum(above, base)
+}
+
+/// The number below it.
+fn denominator(low: i32, high: i32) -> i64
+    ensures { result ≡ high -ℤ low }
+{
+    i64::from(high) - i64::from(low)
+}
+
+/// How far a value is above a bound.
+fn distance(low: i32, value: i64) -> i128
+    ensures distance { result ≡ value -ℤ low }
+    ensures bound { unsigned_abs result ≤ 2 ^ 64 }
+{
+    i128::from(value) - i128::from(low)
+}
+
+/// How far one bound is above another.
+fn range(low: i32, high: i32) -> i128
+    ensures range { result ≡ high -ℤ low }
+    ensures bound { unsigned_abs result ≤ 2 ^ 32 }
+{
+    i128::from(high) - i128::from(low)
+}
+
+/// The product of a distance and a range.
+fn product(distance: i128, range: i128) -> i128
+    requires distance { unsigned_abs distance ≤ 2 ^ 64 }
+    requires range { unsigned_abs range ≤ 2 ^ 32 }
+    ensures product { result ≡ distance *ℤ range }
+    ensures bound { unsigned_abs result ≤ 2 ^ 96 }
+{
+    distance * range
+}
+
+/// The sum of two products.
+fn sum(a: i128, b: i128) -> i128
+    requires a { unsigned_abs a ≤ 2 ^ 96 }
+    requires b { unsigned_abs b ≤ 2 ^ 96 }
+    ensures { result ≡ a +ℤ b }
+{
+    a + b
+}
