@@ -58,7 +58,11 @@ fn made(generated: &Path) -> PathBuf {
 fn compiler(processor: &str) -> String {
     env::var("CC").unwrap_or_else(|_| {
         let is_ours = variable("HOST").starts_with(&format!("{processor}-"));
-        if is_ours { "cc".into() } else { format!("{processor}-linux-gnu-gcc") }
+        if is_ours {
+            "cc".into()
+        } else {
+            format!("{processor}-linux-gnu-gcc")
+        }
     })
 }
 

@@ -52,10 +52,8 @@ impl ArrayField {
     /// The first and the last usage, where a minimum and a maximum gave them.
     pub fn usage_range(&self) -> Option<UsageRange> {
         let (first, last) = (self.numbers.first()?, self.numbers.last()?);
-        self.is_usage_range.then_some(UsageRange {
-            minimum: UsageMinimum(*first),
-            maximum: UsageMaximum(*last),
-        })
+        self.is_usage_range
+            .then_some(UsageRange { minimum: UsageMinimum(*first), maximum: UsageMaximum(*last) })
     }
 
     /// Whether a minimum and a maximum gave the usages.

@@ -76,3 +76,7 @@ pub use types::*;
 pub use usage::{Usage, UsageRange};
 pub use value::FieldValue;
 pub use variable_field::VariableField;
+
+#[cfg(doctest)]
+#[doc = include_str!("../README.md")]
+struct Readme;

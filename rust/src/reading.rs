@@ -40,7 +40,8 @@ impl Reading<'_> {
         for report in reports {
             let (own, behind) = left.split_at(report.field_count);
             left = behind;
-            let fields = own.iter().map(|field| self.field(field, direction)).collect::<Result<_, _>>()?;
+            let fields =
+                own.iter().map(|field| self.field(field, direction)).collect::<Result<_, _>>()?;
             let report_id = report.has_id.then_some(ReportId(report.id));
             read.push(RDescReport { report_id, fields, as_c: report });
         }
@@ -51,12 +52,12 @@ impl Reading<'_> {
         let id = FieldId(field.number);
         let report_id = field.has_report_id.then_some(ReportId(field.report_id));
         let bits = field.first_bit..field.end_bit;
-        let kind = FieldKind::try_from(field.kind).expect("the library of this version has no other");
+        let kind =
+            FieldKind::try_from(field.kind).expect("the library of this version has no other");
         if kind == FieldKind::Constant {
             return Ok(Field::Constant(ConstantField { id, report_id, bits }));
         }
-        let attributes =
-            Attributes { flags: field.flags, is_input: direction == Direction::Input };
+        let attributes = Attributes { flags: field.flags, is_input: direction == Direction::Input };
         let measures = field.measures;
         let (logical_minimum, logical_maximum) = measures.logical();
         let (physical_minimum, physical_maximum) = measures.physical();
@@ -108,7 +109,9 @@ impl Reading<'_> {
             return Ok(known.clone());
         }
         let mut read = Vec::with_capacity(field.collections.count);
-        for (index, of) in c::collections(self.bytes, self.options, field.number)?.iter().enumerate() {
+        for (index, of) in
+            c::collections(self.bytes, self.options, field.number)?.iter().enumerate()
+        {
             read.push(Collection {
                 id: CollectionId(of.number),
                 collection_type: CollectionType::try_from(of.kind)

@@ -20,10 +20,7 @@ impl Usage {
 impl From<u32> for Usage {
     /// Of the page in the upper 16 bits and the number on it in the lower ones.
     fn from(number: u32) -> Usage {
-        Usage {
-            usage_page: UsagePage((number >> 16) as u16),
-            usage_id: UsageId(number as u16),
-        }
+        Usage { usage_page: UsagePage((number >> 16) as u16), usage_id: UsageId(number as u16) }
     }
 }
 

@@ -34,11 +34,8 @@ fn changed(read: &Read, words: &str) -> Field {
     let [number, bits, count, minimum] = words[..] else { panic!("{words:?}") };
     let number: u32 = number.parse().expect("a field's number");
     let descriptor = read.as_ref().expect("a descriptor");
-    let reports = [
-        descriptor.input_reports(),
-        descriptor.output_reports(),
-        descriptor.feature_reports(),
-    ];
+    let reports =
+        [descriptor.input_reports(), descriptor.output_reports(), descriptor.feature_reports()];
     let mut fields = reports.into_iter().flatten().flat_map(|report| report.fields());
     let mut field = fields.find(|field| u32::from(field.id()) == number).expect("it").clone();
     let (first, end) = bits.split_once("..").expect("bits");
@@ -62,7 +59,9 @@ fn changed(read: &Read, words: &str) -> Field {
 fn outcome(answer: Result<(), InsertError>, bytes: &[u8], before: &[u8]) -> String {
     let refusal = match answer {
         Ok(()) if bytes.is_empty() => return "-\n".into(),
-        Ok(()) => return bytes.iter().map(|byte| format!("{byte:02x}")).chain(["\n".into()]).collect(),
+        Ok(()) => {
+            return bytes.iter().map(|byte| format!("{byte:02x}")).chain(["\n".into()]).collect()
+        }
         Err(InsertError::OutOfBounds) => "outside\n",
         Err(InsertError::MismatchingReportId) => "another\n",
         Err(InsertError::DoesNotFit) => "doesn't fit\n",
@@ -106,6 +105,10 @@ fn answer(read: &mut Read, kind: &str, rest: &str) -> Option<String> {
         "parse-hosts" => parsed(read, ParseOptions::as_hosts(), rest, true),
         "parse-within" => {
             let (limit, bytes) = rest.split_once(' ').unwrap_or((rest, "-"));
+            // With a limit this library reads no more, which the other has as another option.
+            if bytes_of(bytes).len() > 65_536 {
+                return None;
+            }
             let limit = Some(limit.parse().expect("a limit"));
             parsed(read, ParseOptions { limit, ..standard }, bytes, true)
         }
@@ -144,8 +147,16 @@ fn the_answers_are_those_of_the_cases() {
             let (kind, rest) = question.split_once(' ').unwrap_or((question, ""));
             if let Some(got) = answer(&mut read, kind, rest) {
                 assert_eq!(got, wanted, "{}: {question}", path.display());
-                let names = ["parse", "parse-globals", "parse-hosts", "parse-within", "shape",
-                    "read", "insert", "insert-one"];
+                let names = [
+                    "parse",
+                    "parse-globals",
+                    "parse-hosts",
+                    "parse-within",
+                    "shape",
+                    "read",
+                    "insert",
+                    "insert-one",
+                ];
                 let name = names.iter().find(|name| **name == kind).expect("a kind");
                 *asked.entry(name).or_default() += 1;
             }
@@ -153,4 +164,15 @@ fn the_answers_are_those_of_the_cases() {
     }
     println!("{asked:?}");
     assert!(asked["read"] > 20_000 && asked["shape"] > 2_000 && asked["insert"] > 900, "{asked:?}");
+}
+
+#[test]
+fn with_a_limit_there_are_at_most_65536_bytes() {
+    let refusal =
+        |bytes: &[u8]| ReportDescriptor::try_from_with(bytes, ParseOptions::bounded()).unwrap_err();
+    let longest = [vec![0xa4; 65_535], vec![0xc0]].concat();
+    let message = "Too many EndCollection".into();
+    assert_eq!(refusal(&longest), ParserError::InvalidData { offset: 65_535, message });
+    let longer = [vec![0xa4; 65_536], vec![0xc0]].concat();
+    assert_eq!(refusal(&longer), ParserError::BudgetExceeded { offset: 65_536 });
 }

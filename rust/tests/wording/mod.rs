@@ -36,7 +36,11 @@ pub fn add_descriptor(descriptor: &ReportDescriptor, has_ids: bool) -> String {
             text.extend(report.fields().iter().map(|field| line_of(field, has_ids)));
         }
     }
-    if text.is_empty() { "no reports\n".into() } else { text }
+    if text.is_empty() {
+        "no reports\n".into()
+    } else {
+        text
+    }
 }
 
 fn line_of(field: &Field, has_ids: bool) -> String {

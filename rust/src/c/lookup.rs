@@ -1,7 +1,7 @@
 //! A report by its id, and a field by its number or by a usage.
-use crate::numbers::Direction;
-use crate::sys::{self, Field, Options, Report};
-use crate::{listed_in, Refusal};
+use crate::c::numbers::Direction;
+use crate::c::sys::{self, Field, Options, Report};
+use crate::c::{listed_in, Refusal};
 
 // SAFETY of all calls below: as of those in lib.rs.
 

@@ -1,7 +1,7 @@
 //! Descriptors that hosts accept, made such as are read.
-use crate::numbers::{Mends, Status};
-use crate::sys::{self, Change, Options};
-use crate::{listed, text_of, Refusal, Unlisted};
+use crate::c::numbers::{Mends, Status};
+use crate::c::sys::{self, Change, Options};
+use crate::c::{listed, text_of, Refusal, Unlisted};
 
 // SAFETY of all calls below: as of those in lib.rs.
 
@@ -54,7 +54,7 @@ pub fn repair_message(descriptor: &[u8], options: Options, mends: Mends) -> Resu
 #[cfg(test)]
 mod tests {
     use super::*;
-    use crate::numbers::Reason;
+    use crate::c::numbers::Reason;
 
     #[test]
     fn what_is_left_out_is_named() {

@@ -2,7 +2,7 @@
 //! functions.
 mod words;
 
-use hidreport_c::{Direction, Field, Fraction, Options, Refusal, Report, Status, Unread};
+use hidreport::c::{Direction, Field, Fraction, Options, Refusal, Report, Status, Unread};
 use std::io::BufRead;
 use words::{
     bytes_of, collection_of, direction_of, id_of, kind_of, mends_of, numbers_of, options_of,
@@ -81,7 +81,7 @@ fn print_field(f: &Field) {
 
 /// The version that this crate says of itself is that of the library.
 fn version() {
-    let [major, minor, patch, stage] = hidreport_c::version();
+    let [major, minor, patch, stage] = hidreport::c::version();
     let same = format!("{major}.{minor}.{patch}-{stage}") == env!("CARGO_PKG_VERSION");
     println!("  {}", if same { "as here" } else { "not as here" });
 }
@@ -119,13 +119,13 @@ impl Asked {
         };
         match kind {
             "describe" => {
-                self.keep_fields(hidreport_c::describe(descriptor, self.options, direction))
+                self.keep_fields(hidreport::c::describe(descriptor, self.options, direction))
             }
             "find" => {
-                self.keep_fields(hidreport_c::find(descriptor, self.options, direction, report))
+                self.keep_fields(hidreport::c::find(descriptor, self.options, direction, report))
             }
             _ => {
-                let listed = counted(hidreport_c::reports(descriptor, self.options, direction));
+                let listed = counted(hidreport::c::reports(descriptor, self.options, direction));
                 listed.iter().for_each(print_report);
             }
         }
@@ -135,15 +135,15 @@ impl Asked {
     fn ask_number(&mut self, kind: &str, words: &[&str], descriptor: &[u8]) {
         let number = words[0].parse().expect("a number");
         match kind {
-            "usages" => self.keep_usages(hidreport_c::usages(descriptor, self.options, number)),
+            "usages" => self.keep_usages(hidreport::c::usages(descriptor, self.options, number)),
             "collection-usages" => {
                 let index = words[1].parse().expect("an index");
                 let answer =
-                    hidreport_c::collection_usages(descriptor, self.options, number, index);
+                    hidreport::c::collection_usages(descriptor, self.options, number, index);
                 self.keep_usages(answer);
             }
             _ => {
-                for c in counted(hidreport_c::collections(descriptor, self.options, number)) {
+                for c in counted(hidreport::c::collections(descriptor, self.options, number)) {
                     print!("  #{} {}", c.number, collection_of(c.kind));
                     println!(" usages {} {:08x}", c.usage_count, c.usage);
                 }
@@ -159,10 +159,10 @@ impl Asked {
         let (options, id) = (self.options, id_of(words[1]));
         if kind == "field-for" {
             let usage = usage_of(words[1]);
-            let found = hidreport_c::field_for(descriptor, options, direction, id, usage);
+            let found = hidreport::c::field_for(descriptor, options, direction, id, usage);
             return self.keep_fields(found.map(Vec::from_iter));
         }
-        let found = hidreport_c::report_with(descriptor, options, direction, id);
+        let found = hidreport::c::report_with(descriptor, options, direction, id);
         for report in counted(found.map(Vec::from_iter)) {
             print_report(&report);
             self.report = report;
@@ -171,7 +171,7 @@ impl Asked {
 
     /// The report that was found last, without values.
     fn ask_blank(&self, room: usize) {
-        let bytes = hidreport_c::blank(&self.report);
+        let bytes = hidreport::c::blank(&self.report);
         println!("  count {} offset 0 accepted", bytes.len());
         print_bytes(&bytes[..room.min(bytes.len())]);
     }
@@ -180,11 +180,11 @@ impl Asked {
     fn ask_insert(&self, kind: &str, words: &[&str], mut report: Vec<u8>) {
         let field = &self.fields[words[0].parse::<usize>().expect("a field")];
         let done = if kind == "insert-all" {
-            hidreport_c::insert_all(field, &mut report, &numbers_of(words[1]))
+            hidreport::c::insert_all(field, &mut report, &numbers_of(words[1]))
         } else {
             let (index, value) = words[1].split_once('=').expect("an index and a value");
             let (index, value) = (index.parse().expect("an index"), value.parse());
-            hidreport_c::insert(field, &mut report, index, value.expect("a value"))
+            hidreport::c::insert(field, &mut report, index, value.expect("a value"))
         };
         println!("  {}", done.map_or_else(words_of, |()| "accepted"));
         print_bytes(&report);
@@ -196,17 +196,17 @@ impl Asked {
         let number = || words[1].parse().expect("a value");
         match kind {
             "value-of" => {
-                print_choice(hidreport_c::value_of(field, usage_of(words[1]), &self.usages))
+                print_choice(hidreport::c::value_of(field, usage_of(words[1]), &self.usages))
             }
-            "null-value" => print_choice(hidreport_c::null_value(field)),
-            "physical" => print_fraction(hidreport_c::physical(field, number())),
-            _ => print_fraction(hidreport_c::normalized(field, number())),
+            "null-value" => print_choice(hidreport::c::null_value(field)),
+            "physical" => print_fraction(hidreport::c::physical(field, number())),
+            _ => print_fraction(hidreport::c::normalized(field, number())),
         }
     }
 
     /// Whether two descriptors are alike.
     fn ask_alike(&self, descriptor: &[u8], other: &[u8]) {
-        let (refusal, is_of_other) = match hidreport_c::is_alike(descriptor, other, self.options) {
+        let (refusal, is_of_other) = match hidreport::c::is_alike(descriptor, other, self.options) {
             Ok(is_alike) => {
                 return println!("  offset 0 accepted of 0 alike {}", u8::from(is_alike));
             }
@@ -223,12 +223,12 @@ impl Asked {
         match kind {
             "value" => {
                 let index = words[1].parse().expect("an index");
-                match hidreport_c::value(field, report, index) {
+                match hidreport::c::value(field, report, index) {
                     Ok(number) => println!("  number {number} accepted"),
                     Err(status) => println!("  number 0 {}", words_of(status)),
                 }
             }
-            "values" => match hidreport_c::values(field, report) {
+            "values" => match hidreport::c::values(field, report) {
                 Ok(values) => {
                     println!("  count {} offset 0 accepted", values.len());
                     values.iter().for_each(|value| println!("  {value}"));
@@ -237,7 +237,7 @@ impl Asked {
             },
             _ => {
                 let value = words[1].parse().expect("a value");
-                let usage = hidreport_c::usage_of(field, value, &self.usages);
+                let usage = hidreport::c::usage_of(field, value, &self.usages);
                 println!("  usage {:08x} {}", usage.unwrap_or(0), u8::from(usage.is_some()));
             }
         }
@@ -249,10 +249,10 @@ impl Asked {
             return say_unknown(kind);
         };
         if kind == "repair" {
-            let bytes = counted(hidreport_c::repair(descriptor, self.options, mends));
+            let bytes = counted(hidreport::c::repair(descriptor, self.options, mends));
             return print_bytes(&bytes[..room.min(bytes.len())]);
         }
-        let listed = counted(hidreport_c::changes(descriptor, self.options, mends));
+        let listed = counted(hidreport::c::changes(descriptor, self.options, mends));
         for c in listed.iter().take(room) {
             print!("  offset {} stood {} stands {}", c.offset, c.stood, c.stands);
             println!(" {}", reason_of(c.reason));
@@ -284,7 +284,7 @@ impl Asked {
             kind @ ("report" | "field-for") => self.ask_lookup(kind, &words[1..], &descriptor(3)),
             "field" => {
                 let number = words[1].parse().expect("a number");
-                let found = hidreport_c::field_numbered(&descriptor(2), self.options, number);
+                let found = hidreport::c::field_numbered(&descriptor(2), self.options, number);
                 self.keep_fields(found.map(Vec::from_iter));
             }
             "alike" => self.ask_alike(&descriptor(1), &report),
@@ -294,30 +294,30 @@ impl Asked {
                 self.ask_meaning(kind, &words[1..])
             }
             "items" => {
-                for item in counted(hidreport_c::items(&descriptor(1))) {
+                for item in counted(hidreport::c::items(&descriptor(1))) {
                     println!("  offset {} size {}", item.offset, item.size);
                 }
             }
             "front-items" => {
-                let items = hidreport_c::front_items(&descriptor(2));
+                let items = hidreport::c::front_items(&descriptor(2));
                 println!("  count {} offset 0 accepted", items.len());
                 for item in items.iter().take(room_of(words[1])) {
                     println!("  offset {} size {}", item.offset, item.size);
                 }
             }
-            "rebuild" => print_bytes(&counted(hidreport_c::rebuild(&descriptor(1)))),
+            "rebuild" => print_bytes(&counted(hidreport::c::rebuild(&descriptor(1)))),
             kind @ ("repair" | "changes") => self.ask_repair(kind, &words[1..], &descriptor(3)),
             "repair-message" => match mends_of(words[1]) {
                 Some(mends) => {
-                    say(hidreport_c::repair_message(&descriptor(2), self.options, mends))
+                    say(hidreport::c::repair_message(&descriptor(2), self.options, mends))
                 }
                 None => say_unknown("repair-message"),
             },
-            "message" => say(hidreport_c::message(&descriptor(1), self.options)),
+            "message" => say(hidreport::c::message(&descriptor(1), self.options)),
             "refusal" => {
-                tell(hidreport_c::describe(&descriptor(1), self.options, Direction::Input))
+                tell(hidreport::c::describe(&descriptor(1), self.options, Direction::Input))
             }
-            "items-message" => say(hidreport_c::items_message(&descriptor(1))),
+            "items-message" => say(hidreport::c::items_message(&descriptor(1))),
             other => panic!("no question: {other}"),
         }
     }

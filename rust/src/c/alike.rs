@@ -1,7 +1,7 @@
 //! Descriptors compared.
-use crate::numbers::Status;
-use crate::sys::{self, Options};
-use crate::{message, Refusal};
+use crate::c::numbers::Status;
+use crate::c::sys::{self, Options};
+use crate::c::{message, Refusal};
 use std::error::Error;
 use std::fmt;
 

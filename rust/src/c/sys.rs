@@ -1,5 +1,5 @@
 //! `include/hidreport.h` in Rust.
-use crate::numbers::{Push, UsagesBy};
+use crate::c::numbers::{Push, UsagesBy};
 
 #[repr(C)]
 #[derive(Clone, Copy, Debug, PartialEq)]

@@ -1,7 +1,7 @@
 //! Reports written.
-use crate::listed;
-use crate::numbers::Status;
-use crate::sys::{self, Field, Report};
+use crate::c::listed;
+use crate::c::numbers::Status;
+use crate::c::sys::{self, Field, Report};
 
 // SAFETY of all calls below: as of those in lib.rs.
 
@@ -43,7 +43,7 @@ pub fn null_value(field: &Field) -> Option<i64> {
 #[cfg(test)]
 mod tests {
     use super::*;
-    use crate::{describe, Direction, Options};
+    use crate::c::{describe, Direction, Options};
 
     /// Two values that choose among three keys, in an output report with an id.
     const KEYS: &[u8] = b"\x85\x05\x05\x07\x19\x04\x29\x06\x15\x01\x25\x03\x75\x08\x95\x02\x91\x00";
@@ -53,15 +53,15 @@ mod tests {
         let options = Options::default();
         let fields = describe(KEYS, options, Direction::Output).unwrap();
         let report =
-            crate::report_with(KEYS, options, Direction::Output, Some(5)).unwrap().unwrap();
+            crate::c::report_with(KEYS, options, Direction::Output, Some(5)).unwrap().unwrap();
         let mut bytes = blank(&report);
         assert_eq!(bytes, [5, 0, 0]);
-        let usages = crate::usages(KEYS, options, fields[0].number).unwrap();
+        let usages = crate::c::usages(KEYS, options, fields[0].number).unwrap();
         let value = value_of(&fields[0], 0x0007_0006, &usages).unwrap();
         let none = null_value(&fields[0]).unwrap();
         assert_eq!(insert_all(&fields[0], &mut bytes, &[none, value]), Ok(()));
         assert_eq!(bytes, [5, 0, 3]);
-        assert_eq!(crate::values(&fields[0], &bytes), Ok(vec![0, 3]));
+        assert_eq!(crate::c::values(&fields[0], &bytes), Ok(vec![0, 3]));
         assert_eq!(insert(&fields[0], &mut bytes, 0, 256), Err(Status::DoesNotFit));
         assert_eq!(insert_all(&fields[0], &mut bytes, &[1]), Err(Status::WrongCount));
         assert_eq!(bytes, [5, 0, 3]);

@@ -1,5 +1,5 @@
 //! What values stand for.
-use crate::sys::{self, Field};
+use crate::c::sys::{self, Field};
 
 // SAFETY of all calls below: as of those in lib.rs.
 

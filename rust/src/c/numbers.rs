@@ -158,9 +158,13 @@ pub enum CollectionKind {
     UsageSwitch,
     UsageModifier,
     /// One that is kept for later, 0x07 to 0x7f.
-    Reserved(u8),
+    Reserved {
+        value: u8,
+    },
     /// The vendor's, 0x80 to 0xff.
-    VendorDefined(u8),
+    VendorDefined {
+        value: u8,
+    },
 }
 
 impl TryFrom<u32> for CollectionKind {
@@ -176,8 +180,8 @@ impl TryFrom<u32> for CollectionKind {
             4 => CollectionKind::NamedArray,
             5 => CollectionKind::UsageSwitch,
             6 => CollectionKind::UsageModifier,
-            0x07..=0x7f => CollectionKind::Reserved(byte),
-            0x80.. => CollectionKind::VendorDefined(byte),
+            0x07..=0x7f => CollectionKind::Reserved { value: byte },
+            0x80.. => CollectionKind::VendorDefined { value: byte },
         })
     }
 }
@@ -192,7 +196,9 @@ impl From<CollectionKind> for u32 {
             CollectionKind::NamedArray => 4,
             CollectionKind::UsageSwitch => 5,
             CollectionKind::UsageModifier => 6,
-            CollectionKind::Reserved(byte) | CollectionKind::VendorDefined(byte) => byte.into(),
+            CollectionKind::Reserved { value } | CollectionKind::VendorDefined { value } => {
+                value.into()
+            }
         }
     }
 }

@@ -1,5 +1,5 @@
-//! The static library `hidreport_c` from Rust: safe functions over the declarations of `sys`.
-//! Not the Rust crate `hidreport`, which is written in Rust; this one calls what was proved.
+//! The functions of `include/hidreport.h` one by one, as safe functions: all `unsafe` of this package
+//! is here. The header says what each answers.
 mod alike;
 mod lookup;
 mod numbers;
@@ -15,7 +15,9 @@ pub use numbers::{
 };
 pub use repairing::{changes, repair, repair_message};
 pub use scaling::{normalized, physical, Fraction};
-pub use sys::{Change, Collection, Field, Item, Options, Report};
+pub use sys::{
+    Change, Collection, Collections, Field, Flags, Item, Measures, Options, Report, Usages,
+};
 pub use writing::{blank, insert, insert_all, null_value, value_of};
 
 use std::error::Error;

@@ -1,6 +1,6 @@
 //! The words of the questions, and those of their answers.
-use hidreport_c::{CollectionKind, Direction, FieldKind, Mends, Push, Reason, Status, UsagesBy};
-use hidreport_c::{Options, NO_LIMIT};
+use hidreport::c::{CollectionKind, Direction, FieldKind, Mends, Push, Reason, Status, UsagesBy};
+use hidreport::c::{Options, NO_LIMIT};
 
 /// The bytes of a word: of hexadecimal digits, or `9*a4`, one of them nine times.
 pub fn word_bytes(word: &str) -> Vec<u8> {
@@ -126,9 +126,10 @@ pub fn collection_of(kind: u32) -> String {
         Ok(CollectionKind::NamedArray) => "named-array",
         Ok(CollectionKind::UsageSwitch) => "usage-switch",
         Ok(CollectionKind::UsageModifier) => "usage-modifier",
-        Ok(CollectionKind::Reserved(byte) | CollectionKind::VendorDefined(byte)) => {
-            return byte.to_string()
-        }
+        Ok(
+            CollectionKind::Reserved { value: byte }
+            | CollectionKind::VendorDefined { value: byte },
+        ) => return byte.to_string(),
         Err(_) => "?",
     })
 }
