@@ -153,6 +153,27 @@ static void expect_lists(const struct hidreport_field *field)
     free(collections);
 }
 
+/* To write what was read changes nothing; into zeros it is read again, and nothing behind it is
+ * written. */
+static void expect_written(const struct hidreport_field *field, const uint8_t *report,
+                           size_t length, const int64_t *values)
+{
+    static uint8_t again[8193];
+    memcpy(again, report, length);
+    again[length] = 0xa5;
+    if (hidreport_insert_all(field, again, length, values, field->value_count) != 0
+        || memcmp(again, report, length) != 0)
+        fail("to write what was read changes something");
+    for (size_t i = 0; i < length; i++)
+        again[i] = i == 0 && field->has_report_id ? field->report_id : 0;
+    for (size_t i = 0; i < field->value_count; i++)
+        if (hidreport_insert(field, again, length, i, values[i]) != 0
+            || hidreport_value(field, again, length, i).number != values[i])
+            fail("what was written is not read again");
+    if (again[length] != 0xa5)
+        fail("written behind the report");
+}
+
 static void print_field(const struct hidreport_field *field, const uint8_t *report, size_t length)
 {
     int64_t *values;
@@ -167,6 +188,8 @@ static void print_field(const struct hidreport_field *field, const uint8_t *repo
             fail("a value alone isn't the same");
         printf(" %" PRId64, values[i]);
     }
+    if (answer.status == HIDREPORT_ACCEPTED)
+        expect_written(field, report, length, values);
     struct hidreport_value behind = hidreport_value(field, report, length, field->value_count);
     if (behind.status != HIDREPORT_OUT_OF_BOUNDS)
         fail("a value behind the last is there");
