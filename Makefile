@@ -68,7 +68,7 @@ install-library: $(BUILD)/libhidreport.a $(BUILD)/libhidreport.so
 	awk -v version=$(version) -f c/man_page.awk include/hidreport.h \
 	    > "$(into)/share/man/man3/hidreport.3"
 	sed 's/VERSION/$(version)/' c/hidreport.pc > "$(into)/lib/pkgconfig/hidreport.pc"
-	cp -r c/rust/*.toml c/rust/build.rs c/rust/src c/rust/examples "$(package)/"
+	cp -r rust/*.toml rust/README.md rust/build.rs rust/src rust/examples "$(package)/"
 	sed -i 's/^version = .*/version = "$(version)"/' "$(package)/Cargo.toml"
 install-programs: $(programs)
 	$(if $(programs),mkdir -p "$(into)/bin" "$(into)/share")

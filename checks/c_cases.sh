@@ -1,8 +1,8 @@
 #!/bin/bash
-# What C gets, by the header and by the Rust module: the questions of c/cases.txt are asked of the
+# What C gets, by the header and by the cargo package: the questions of c/cases.txt are asked of the
 # static library by a C program and by a Rust one, whose answers have to be those that stand there.
 # A program in C++ tries the header's defaults.
-# Then the tests of the Rust module are run: its numbers, its refusals, and want of memory in either
+# Then the tests of the cargo package are run: its numbers, its refusals, and want of memory in either
 # of the two calls that a list takes. Its argument is a folder that ./install filled; without one it
 # fills one, which takes half a minute behind a check of `hidreport_c`. With `behind-ci` it builds
 # the library over what `rt ci` has just proved (checks/c_library.sh), in two minutes. Where no C
@@ -61,14 +61,17 @@ if cargo --version > /dev/null 2>&1; then
     cp -r "$prefix/share/hidreport/rust" "$scratch/rust"
     (cd "$scratch/rust" && HIDREPORT_LIB_DIR="$prefix/lib" \
         cargo build --offline --quiet --example cases) ||
-        { echo 'c_cases: the Rust module is not built'; exit 1; }
+        { echo 'c_cases: the cargo package is not built'; exit 1; }
     ask 'a Rust program' "$scratch/rust/target/debug/examples/cases"
-    (cd "$scratch/rust" && HIDREPORT_LIB_DIR="$prefix/lib" cargo test --offline --quiet --lib) \
+    cp -r "$top/rust/tests" "$scratch/rust/"
+    (cd "$scratch/rust" && HIDREPORT_LIB_DIR="$prefix/lib" \
+        HIDREPORT_CASES="$top/crates/hidreport_cases/data" cargo test --offline --quiet) \
         > "$scratch/said" 2>&1 || {
         tail -n 20 "$scratch/said"
-        echo 'c_cases: a test of the Rust module fails'
+        echo 'c_cases: a test of the cargo package fails'
         exit 1
     }
+    echo 'c_cases: the cargo package answers the cases of the library'
 else
-    echo 'c_cases: no `cargo` that runs, so the Rust module is not asked'
+    echo 'c_cases: no `cargo` that runs, so the cargo package is not asked'
 fi

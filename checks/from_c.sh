@@ -119,7 +119,7 @@ for text in "$top"/bench/descriptors/*.txt; do
     done
 done
 
-# A cargo package that names the installed one by its path, and the tests of that.
+# A cargo package that names the installed one by its path.
 if command -v cargo > /dev/null; then
     mkdir -p "$scratch/user/src"
     cat > "$scratch/user/Cargo.toml" << END
@@ -129,27 +129,23 @@ version = "0.1.0"
 edition = "2021"
 
 [dependencies]
-hidreport-c = { path = "$prefix/share/hidreport/rust" }
+hidreport = { package = "hidreport-proved", path = "$prefix/share/hidreport/rust" }
 END
     cat > "$scratch/user/src/main.rs" << 'END'
-use hidreport_c::{describe, Direction, Options};
+use hidreport::{Field, Report, ReportDescriptor};
 
 fn main() {
     let mouse = b"\x05\x01\x15\x81\x25\x7f\x75\x08\x95\x02\x09\x30\x09\x31\x81\x02";
-    let fields = describe(mouse, Options::default(), Direction::Input).expect("a mouse");
-    let usages: Vec<u32> = fields.iter().map(|field| field.usages.first).collect();
-    assert_eq!(usages, [0x0001_0030, 0x0001_0031]);
+    let mouse = ReportDescriptor::try_from(&mouse[..]).expect("a mouse");
+    let report = mouse.find_input_report(&[5, 0xfb]).expect("its report");
+    let read = |field: &Field| field.values(&[5, 0xfb]).expect("values")[0].into();
+    let values: Vec<i32> = report.fields().iter().map(read).collect();
+    assert_eq!(values, [5, -5]);
 }
 END
     (cd "$scratch/user" && cargo run --offline --quiet) || wrong 'a cargo program fails'
-    cp -r "$prefix/share/hidreport/rust" "$scratch/rust"
-    (cd "$scratch/rust" && HIDREPORT_LIB_DIR="$prefix/lib" cargo test --offline --quiet) \
-        > "$scratch/said" 2>&1 || {
-        tail -n 20 "$scratch/said" >&2
-        wrong 'the Rust module fails'
-    }
 else
-    echo 'from_c: no `cargo` on the path, so the Rust module is left out'
+    echo 'from_c: no `cargo` on the path, so the cargo package is left out'
 fi
 echo "from_c: a C program shows the values of a mouse, and $runs answers are those of the program"
 bash "$top/checks/c_cases.sh" "$prefix"

@@ -205,9 +205,10 @@ hide_rt() {
 # What a user has: no more of the tree than these files.
 copy() {
     mkdir -p "$1/crates"
-    cp -r Makefile generated include c checks share crates.txt hid hidreport "$1/"
-    rm -rf "$1/c/rust/target"
-    (cd crates && cp -r --parents hid/data hidreport_main/data hidreport_main/stdout ./*/src "$1/crates/")
+    cp -r Makefile generated include c rust checks share crates.txt hid hidreport "$1/"
+    rm -rf "$1/rust/target"
+    (cd crates && cp -r --parents hid/data hidreport_main/data hidreport_main/stdout \
+        hidreport_cases/data ./*/src "$1/crates/")
 }
 
 # A program of the copy: the first call of its launcher links it, within five seconds, as `make` does,
@@ -246,6 +247,12 @@ ask_here() {
         wrong 'the archive answers otherwise'
     }
     cat "$scratch/said"
+    command -v cargo > /dev/null || return 0
+    (cd "$1/rust" && cargo test --offline --quiet) > "$scratch/said" 2>&1 || {
+        tail -n 20 "$scratch/said" >&2
+        wrong 'the cargo package fails'
+    }
+    say 'the cargo package makes its library of generated/, and its tests pass'
 }
 
 # The answers from C on the other processor, where a program of it can be run.

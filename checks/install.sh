@@ -24,13 +24,13 @@ cp "$top/checks/needs.sh" "$copy/checks"
 cp "$top"/c/hidreport.* "$top/c/man_page.awk" "$copy/c"
 cp "$top/generated/heap.c" "$top/generated/programs.c" "$copy/generated"
 cp -R "$top/include" "$top/share" "$copy"
-(cd "$top/c/rust" && find . -type f -not -path './target/*' -not -name Cargo.lock -print0 |
+(cd "$top/rust" && find . -type f -not -path './target/*' -not -path './tests/*' -not -name Cargo.lock -print0 |
     xargs -0 cp --parents -t "$scratch/rust")
 # What cargo leaves, and a version that isn't the header's: neither is installed.
-cp -R "$scratch/rust" "$copy/c/rust"
-mkdir "$copy/c/rust/target"
-touch "$copy/c/rust/target/made" "$copy/c/rust/Cargo.lock"
-sed -i 's/^version = .*/version = "0.0.0"/' "$copy/c/rust/Cargo.toml"
+cp -R "$scratch/rust" "$copy/rust"
+mkdir "$copy/rust/target"
+touch "$copy/rust/target/made" "$copy/rust/Cargo.lock"
+sed -i 's/^version = .*/version = "0.0.0"/' "$copy/rust/Cargo.toml"
 
 # A library that has a mark, as cc makes it by the words behind that.
 library() {
@@ -192,7 +192,7 @@ without_rt 1 'install: generated: stale' stale
 [ -z "$(find "$scratch/stale" -type f)" ] || wrong 'a stale library is installed'
 rm "$copy/checks/stale"
 
-# Over what an older one put: the folder of the Rust module is its own.
+# Over what an older one put: the folder of the cargo package is its own.
 echo old | tee "$scratch/a prefix/share/hidreport/rust/src/old.rs" "$scratch/a prefix/bin/hid" \
     > "$scratch/a prefix/lib/pkgconfig/hidreport.pc"
 call 0 "$last/a prefix" 'a prefix'
@@ -222,7 +222,7 @@ of_programs=$(tr '\n' ' ' < "$top/docs/HID.md" | grep -oE '`./install PREFIX pro
 answers=$((answers + 3))
 
 # The same version everywhere.
-for file in README.md CHANGELOG.md c/rust/Cargo.toml share/help/version share/man/man1/hid.1 \
+for file in README.md CHANGELOG.md rust/Cargo.toml share/help/version share/man/man1/hid.1 \
     share/man/man1/hidreport.1; do
     grep -qE "(^|[ \"])${version//./\\.}([ \",]|$)" "$top/$file" ||
         wrong "$file has no version $version"

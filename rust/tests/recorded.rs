@@ -13,6 +13,13 @@ use wording::{add_descriptor, add_readings, bytes_of};
 /// The descriptor that was read last, for the questions about it.
 type Read = Option<ReportDescriptor>;
 
+/// Whether a descriptor lists more than a million: such are asked for their numbers alone.
+fn is_great(bytes: &[u8]) -> bool {
+    let million = ParseOptions { limit: Some(1_000_000), ..ParseOptions::default() };
+    let answer = ReportDescriptor::try_from_with(bytes, million);
+    matches!(answer, Err(ParserError::BudgetExceeded { offset }) if offset < 65_536)
+}
+
 fn parsed(read: &mut Read, options: ParseOptions, bytes: &str, has_ids: bool) -> String {
     let answer = ReportDescriptor::try_from_with(&bytes_of(bytes), options);
     let text = match &answer {
@@ -22,7 +29,7 @@ fn parsed(read: &mut Read, options: ParseOptions, bytes: &str, has_ids: bool) ->
         }
         Err(ParserError::OutOfBounds) => "refused: out of bounds\n".into(),
         Err(ParserError::BudgetExceeded { offset }) => format!("refused at {offset}: budget\n"),
-        Err(other) => panic!("{other}"),
+        Err(other) => panic!("{other}: {options:?} {bytes}"),
     };
     *read = answer.ok();
     text
@@ -75,6 +82,10 @@ fn outcome(answer: Result<(), InsertError>, bytes: &[u8], before: &[u8]) -> Stri
 fn inserted(read: &Read, rest: &str, is_one: bool) -> String {
     let parts: Vec<&str> = rest.split(" / ").collect();
     let [field, numbers, bytes] = parts[..] else { panic!("{rest}") };
+    let (index, numbers) = match numbers.split_once(' ') {
+        Some((index, number)) if is_one => (index.parse().expect("an index"), number),
+        _ => (0, numbers),
+    };
     let numbers: Vec<i64> = numbers
         .split(' ')
         .filter(|word| *word != "-")
@@ -84,9 +95,7 @@ fn inserted(read: &Read, rest: &str, is_one: bool) -> String {
     let mut bytes = before.clone();
     let answer = match changed(read, field) {
         Field::Variable(field) => field.insert(&mut bytes, numbers[0]),
-        Field::Array(field) if is_one => {
-            field.insert_one(&mut bytes, numbers[0] as usize, numbers[1])
-        }
+        Field::Array(field) if is_one => field.insert_one(&mut bytes, index, numbers[0]),
         Field::Array(field) => field.insert(&mut bytes, &numbers),
         Field::Constant(_) => panic!("{rest}"),
     };
@@ -96,6 +105,12 @@ fn inserted(read: &Read, rest: &str, is_one: bool) -> String {
 /// The answer to a question; none where it is of another kind than these.
 fn answer(read: &mut Read, kind: &str, rest: &str) -> Option<String> {
     let standard = ParseOptions::default();
+    if ["parse", "shape", "parse-globals", "parse-hosts"].contains(&kind)
+        && is_great(&bytes_of(rest))
+    {
+        *read = None;
+        return None;
+    }
     Some(match kind {
         "parse" => parsed(read, standard, rest, true),
         "shape" => parsed(read, standard, rest, false),
@@ -105,11 +120,13 @@ fn answer(read: &mut Read, kind: &str, rest: &str) -> Option<String> {
         "parse-hosts" => parsed(read, ParseOptions::as_hosts(), rest, true),
         "parse-within" => {
             let (limit, bytes) = rest.split_once(' ').unwrap_or((rest, "-"));
-            // With a limit this library reads no more, which the other has as another option.
-            if bytes_of(bytes).len() > 65_536 {
+            let limit = limit.parse().expect("a limit");
+            // With a limit this library reads no more, which the other has as another option; and
+            // the greatest number is no limit.
+            if limit == usize::MAX || bytes_of(bytes).len() > 65_536 {
                 return None;
             }
-            let limit = Some(limit.parse().expect("a limit"));
+            let limit = Some(limit);
             parsed(read, ParseOptions { limit, ..standard }, bytes, true)
         }
         "read" => add_readings(read.as_ref()?, &bytes_of(rest)),
