@@ -38,7 +38,7 @@ impl Model for Reader {
 impl Reader {
     /// A reader of a report's fields, in their order.
     ///
-    /// Memory is taken here alone: 40 bytes for each field that isn't padding.
+    /// Memory is taken here alone, for each field that isn't padding.
     ///
     /// # Errors
     ///
