@@ -15,7 +15,7 @@ repository=${1:-$(dirname "$0")/..}
 make_probe refused_memory "$repository" hidreport_types hidreport_items hidreport_lists hidreport hidreport_transfer hidreport_program
 
 # More allocations than the calls make together, and than the runs do.
-all=960
+all=1100
 of_runs=100
 
 # The tests of a module that has a function `count_refused`, and of how many allocations.
