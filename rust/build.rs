@@ -1,6 +1,6 @@
 //! Makes the static library `hidreport` of the assembly in `generated/`, by a C compiler and `ar`,
-//! and links it. `generated/` lies in the repository, a folder up, or in this one. Where neither is,
-//! as below an installed PREFIX/share/hidreport/rust, the library of PREFIX/lib is linked.
+//! and links it. `generated/` lies in the repository, a folder up, or in this one. Where neither
+//! is, as below an installed PREFIX/share/hidreport/rust, the library of PREFIX/lib is linked.
 //! HIDREPORT_LIB_DIR names a folder that has libhidreport.a; CC and AR name the tools.
 use std::env;
 use std::path::{Path, PathBuf};

@@ -1,5 +1,5 @@
-//! The functions of `include/hidreport.h` one by one, as safe functions: all `unsafe` of this package
-//! is here. The header says what each answers.
+//! The functions of `include/hidreport.h` one by one, as safe functions: all `unsafe` of this
+//! package is here. The header says what each answers.
 mod alike;
 mod lookup;
 mod numbers;

@@ -14,7 +14,8 @@ pub struct ParseOptions {
     pub usages: UsagesBy,
     /// The most that may be listed: a field counts 1, with 1 for each usage of an array, for each
     /// collection around the field and for each usage of that; so does a collection, with 1 for
-    /// each of its usages. With a limit a descriptor has at most 65,536 bytes. `usize::MAX` is none.
+    /// each of its usages. With a limit a descriptor has at most 65,536 bytes. `usize::MAX` is no
+    /// limit.
     pub limit: Option<usize>,
 }
 

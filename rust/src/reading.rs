@@ -79,7 +79,7 @@ impl Reading<'_> {
                 attributes,
             })
         } else {
-            let numbers = c::usages(self.bytes, self.options, field.number)?;
+            let numbers = self.array_usages(field)?;
             Field::Array(ArrayField {
                 id,
                 report_id,
@@ -98,6 +98,16 @@ impl Reading<'_> {
                 attributes,
             })
         })
+    }
+
+    /// The usages of an array; where they count up from the first to the last, without asking.
+    fn array_usages(&self, field: &c::Field) -> Result<Vec<u32>, ParserError> {
+        let c::Usages { count, first, last, is_range } = field.usages;
+        let between = u64::from(last).checked_sub(u64::from(first));
+        if is_range && between.map(|more| more + 1) == Some(count as u64) {
+            return Ok((first..=last).collect());
+        }
+        Ok(c::usages(self.bytes, self.options, field.number)?)
     }
 
     /// The collections around a field, which are those around its innermost one.

@@ -48,7 +48,8 @@ impl VariableField {
     /// # Errors
     ///
     /// - [`ParserError::MismatchingReportId`]: the first byte isn't the id of the field's report.
-    /// - [`ParserError::OutOfBounds`]: the bits don't lie in the bytes, or are none or more than 32.
+    /// - [`ParserError::OutOfBounds`]: the bits don't lie in the bytes, or are none or more than
+    ///   32.
     pub fn extract(&self, bytes: &[u8]) -> Result<FieldValue, ParserError> {
         let number = c::value(&self.as_c(), bytes, 0)?;
         Ok(FieldValue { number, is_signed: self.is_signed() })

@@ -193,3 +193,16 @@ fn with_a_limit_there_are_at_most_65536_bytes() {
     let longer = [vec![0xa4; 65_536], vec![0xc0]].concat();
     assert_eq!(refusal(&longer), ParserError::BudgetExceeded { offset: 65_536 });
 }
+
+#[test]
+fn what_was_read_may_be_shared_by_threads() {
+    let x_alone = [0x05, 1, 0x09, 0x30, 0x15, 0x81, 0x25, 0x7f, 0x75, 8, 0x95, 1, 0x81, 2];
+    let descriptor = ReportDescriptor::try_from(&x_alone[..]).unwrap();
+    let read = || match &descriptor.input_reports()[0].fields()[0] {
+        Field::Variable(field) => field.extract(&[0xff]).map(i32::from),
+        _ => panic!("another field"),
+    };
+    let values =
+        std::thread::scope(|threads| [0, 1].map(|_| threads.spawn(read)).map(|it| it.join()));
+    assert!(values.into_iter().all(|value| value.unwrap() == Ok(-1)));
+}
