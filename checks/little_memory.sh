@@ -60,6 +60,13 @@ again usages 32768 '\011\060'
 again opened 32768 '\241\000'
 again global_in_push 32768 '\244\024'
 again ended_in_push 13107 '\244\011\060\261\002'
+# Usages, and a feature in each of many segments behind them, in which all are in force.
+again many_usages 16380 '\011\060'
+again many_segments 8190 '\244\261\002\264'
+{
+    printf '\005\001\165\001\225\001'
+    cat "$scratch/many_usages" "$scratch/many_segments"
+} > "$scratch/segments"
 again long_items 16384 '\376\001\000\000'
 # A real pen whose first count, 95 at 18, is the header 97 of four bytes.
 pen="$top/crates/hidreport_printer/data/pen.rdesc"
@@ -89,6 +96,7 @@ for command in values-within values-globals-within; do
         answers 64000 2 'fault: read' "$command" 65536 pushes "$file"
     done
 done
+answers 64000 1 'refused: no report' values-within 65536 segments report
 answers 64000 1 'refused: invalid data at offset 0: Invalid data: Invalid item tag 0b000000' items zeros
 answers 64000 1 'refused: invalid data at offset 0: Invalid data: Invalid item tag 0b000000' rebuild zeros
 answers 64000 0 "$(awk 'BEGIN { while (n < 65536) print n++ " a4 Push" }')" items pushes
