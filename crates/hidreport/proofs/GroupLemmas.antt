@@ -1,16 +1,20 @@
 -- Groups of fields: added one by one, and the field at a place in one.
 use Rattle.std.proofs.Common.{◌≡◌, ◌∙◌, ◌+◌, ◌<◌, ◌≤◌, ℕ, zero, suc, Bool, true, false, List, [], ◌∷◌}
-use Rattle.std.proofs.Common.{◌++◌, None, Some, ap, append-nil, arith, refl, slice_get}
+use Rattle.std.proofs.Common.{◌++◌, None, Some, ap, append-nil, arith, inl, inr, length, refl}
+use Rattle.std.proofs.Common.{slice_get, subst, sym}
 use Rattle.std.specs.Prelude.{if◌then◌else◌}
 use Rattle.std.proofs.lemmas.Grind.{flat_map-append}
 use Rattle.hidreport_items.specs.Flags.{Flags}
 use Rattle.hidreport.specs.Fields.{Beginning, each_from, field_count, make_fields}
 use Rattle.hidreport.specs.Groups.{GroupRecord, fields_of_groups, group_fields}
-use Rattle.hidreport.specs.Parser.Layout.{laid_out, variable_of}
+use Rattle.hidreport.specs.Parser.Groups.{HasFirst}
+use Rattle.hidreport.specs.Parser.Layout.{IsPossible, laid_out, variable_of}
 use Rattle.hidreport.specs.Records.{Attributes, FieldRecord}
 use Rattle.hidreport.specs.Usages.{UsageList}
+use Rattle.hidreport.specs.declared.field.usage.Usage.{Usage}
 use Rattle.hidreport.specs.declared.parser.extent.Extent.{Extent}
 use Rattle.hidreport.specs.declared.parser.layout.Layout.{Layout}
+use Rattle.hidreport.proofs.HostUsageLemmas.{each-first, listed, some-first}
 
 -- the fields of one group more
 pub fields-pushed : (gs : List GroupRecord) (g : GroupRecord)
@@ -64,3 +68,37 @@ variable-at l us k filled multiple lt =
     get-by l.item.is_constant l.item.is_variable _ _ (each_from (variable_of l us) 0 l.count) k
     (variable_of l us k) filled multiple (each-get (variable_of l us) 0 l.count k lt
     ∙ ap (λ j. Some (variable_of l us j)) (let e : 0 + k ≡ k = omega arith in e))
+
+same-by : (constant variable : Bool) (x y z : FieldRecord) (fs gs : List FieldRecord)
+    → constant ≡ false → variable ≡ true → fs ≡ gs
+    → (if constant then x ∷ [] else (if variable then fs else y ∷ []))
+    ≡ (if constant then x ∷ [] else (if variable then gs else z ∷ []))
+same-by constant variable x y z fs gs filled multiple same =
+    ap (λ (b : Bool). if b then x ∷ [] else (if variable then fs else y ∷ [])) filled
+    ∙ ap (λ (b : Bool). if b then fs else y ∷ []) multiple
+    ∙ same
+    ∙ sym (ap (λ (b : Bool). if b then x ∷ [] else (if variable then gs else z ∷ [])) filled
+    ∙ ap (λ (b : Bool). if b then gs else z ∷ []) multiple)
+
+-- the fields of a variable item take no more usages than there are fields
+pub first-laid : (l : Layout) (own us : UsageList) (n : ℕ) → l.item.is_constant ≡ false
+    → l.item.is_variable ≡ true → l.count ≤ n → HasFirst n own us
+    → laid_out l own ≡ laid_out l us
+first-laid l own us n filled multiple le (inl same) = ap (laid_out l) same
+first-laid l own us n filled multiple le (inr first) =
+    same-by l.item.is_constant l.item.is_variable _ _ _
+    (each_from (variable_of l own) 0 l.count) (each_from (variable_of l us) 0 l.count)
+    filled multiple
+    (ap (λ (vs : List Usage). each_from (variable_of l (listed vs)) 0 l.count) first
+    ∙ each-first l us n 0 l.count (omega (arith, le)))
+
+pub first-possible : (l : Layout) (own us : UsageList) (n : ℕ) → 0 < n → HasFirst n own us
+    → IsPossible l us → IsPossible l own
+first-possible l own us n pos (inl same) possible = subst (IsPossible l) (sym same) possible
+first-possible l own us n pos (inr first) possible = record {
+  ids = possible.ids;
+  bits = possible.bits;
+  count = possible.count;
+  usages = λ filled. subst (λ (vs : List Usage). 0 < length vs) (sym first)
+      (some-first n us.usages pos (possible.usages filled));
+}

@@ -1,5 +1,5 @@
 -- The fields of one item, not yet listed.
-use Rattle.std.specs.Prelude.{map, flat_map, true, false}
+use Rattle.std.specs.Prelude.{◌≡◌, ◌⊎◌, ℕ, map, flat_map, take, true, false}
 use Rattle.hidreport.specs.Groups.{GroupRecord}
 use Rattle.hidreport.specs.HostUsages.{usages_in}
 use Rattle.hidreport.specs.Parser.Layout.{beginning_of, extent_of, shared_of}
@@ -29,3 +29,7 @@ group_of l us = record {
   usages = us;
   shared = shared_of l;
 }
+
+-- they are these, or the first of these, so many
+abbrev pub HasFirst : ℕ → UsageList → UsageList → Type 0
+HasFirst most own us = (own ≡ us) ⊎ (own.usages ≡ take most us.usages)

@@ -1,8 +1,10 @@
 //! The usages of an item, which outlast its locals (Section 6.2.2.8).
-ghost use Rattle.std.specs.Prelude.{◌≡◌, IfOk};
+ghost use Rattle.std.specs.Prelude.{◌≡◌, IfOk, map, take};
+ghost use Rattle.hidreport.specs.Parser.Locals.{usage_under};
 
 use crate::field::Field;
 use crate::field::usage::Usage;
+use crate::parser::host_usages;
 use crate::parser::layout::Layout;
 use crate::parser::local_usages::LocalUsage;
 use crate::parser::usage_bounds::UsageBounds;
@@ -11,30 +13,34 @@ use crate::parser::usages::Usages;
 use hidreport_types::UsagePage;
 use std::alloc::{AllocError, Global};
 
-/// The usages that the fields of an item have, which aren't listed.
+/// How many spans are kept as they are.
+const FEW_SPANS: usize = 8;
+
+/// The usages that the fields of an item take: no more than these, however many are in force.
 #[derive(Drop)]
 pub(crate) enum GroupUsages {
-    /// From a minimum to a maximum.
+    /// From a minimum to a maximum, not listed.
     Range(UsageBounds),
 
     /// Single ones; one without its own page lies on this one.
     Single(UsagePage, Vec<LocalUsage>),
 
-    /// As hosts read them: those of spans, one after the other.
+    /// As hosts read them: those of a few spans, not listed.
     Spans(Vec<UsageSpan>),
 }
 
 impl GroupUsages {
     ghost use Rattle.std.specs.Prelude.{◌≡◌, ◌++◌, [], IfOk, IfSome, IsNone, OnOk, map, option_map};
-    ghost use Rattle.std.specs.Prelude.{slice_get};
+    ghost use Rattle.std.specs.Prelude.{false, flat_map, slice_get};
     ghost use Rattle.hidreport.specs.Fields.{usage_at};
-    ghost use Rattle.hidreport.specs.Parser.Groups.{own_usages};
+    ghost use Rattle.hidreport.specs.HostUsages.{usages_in};
+    ghost use Rattle.hidreport.specs.Parser.Groups.{HasFirst, own_usages};
     ghost use Rattle.hidreport.specs.Parser.Layout.{IsPossible, laid_out};
     ghost use Rattle.hidreport.specs.Parser.Usages.{usage_list};
     ghost use Rattle.hidreport.specs.Views.{field_record};
 
-    /// The same usages.
-    pub(crate) fn of(alloc: Global, usages: &Usages) -> Result<GroupUsages, AllocError>
+    /// All of the usages, for an array.
+    pub(crate) fn all(alloc: Global, usages: &Usages) -> Result<GroupUsages, AllocError>
         ensures { IfOk result (λ own. own_usages own ≡ usage_list usages.now) }
     {
         match usages {
@@ -42,8 +48,53 @@ impl GroupUsages {
             Usages::Single(page, usages) => {
                 Ok(GroupUsages::Single(*page, copied(alloc, usages)?))
             }
-            Usages::Spans(spans) => Ok(GroupUsages::Spans(copied(alloc, spans)?)),
+            Usages::Spans(spans) => GroupUsages::of_spans(alloc, spans),
         }
+    }
+
+    /// All usages of spans.
+    fn of_spans(alloc: Global, spans: &[UsageSpan]) -> Result<GroupUsages, AllocError>
+        ensures { IfOk result (λ own. own_usages own
+            ≡ record { usages = flat_map usages_in spans.now; is_range = false }) }
+    {
+        if spans.len() <= FEW_SPANS {
+            return Ok(GroupUsages::Spans(copied(alloc, spans)?));
+        }
+        let list = host_usages::list(alloc, spans)?;
+        Ok(GroupUsages::Single(UsagePage::from(0), with_pages(alloc, &list)?))
+    }
+
+    /// The usages that so many fields take, a usage each.
+    pub(crate) fn first(
+        alloc: Global,
+        usages: &Usages,
+        most: usize,
+    ) -> Result<GroupUsages, AllocError>
+        ensures { IfOk result (λ own. HasFirst most (own_usages own) (usage_list usages.now)) }
+    {
+        match usages {
+            Usages::Range(bounds) => Ok(GroupUsages::Range(*bounds)),
+            Usages::Single(page, usages) => {
+                Ok(GroupUsages::Single(*page, copied(alloc, front(usages, most))?))
+            }
+            Usages::Spans(spans) => GroupUsages::first_of_spans(alloc, spans, most),
+        }
+    }
+
+    /// The same of spans.
+    fn first_of_spans(
+        alloc: Global,
+        spans: &[UsageSpan],
+        most: usize,
+    ) -> Result<GroupUsages, AllocError>
+        ensures { IfOk result (λ own. HasFirst most (own_usages own)
+            (record { usages = flat_map usages_in spans.now; is_range = false })) }
+    {
+        if spans.len() <= FEW_SPANS {
+            return Ok(GroupUsages::Spans(copied(alloc, spans)?));
+        }
+        let list = host_usages::list_first(alloc, spans, most)?;
+        Ok(GroupUsages::Single(UsagePage::from(0), with_pages(alloc, &list)?))
     }
 
     /// Adds the fields that an item with these usages lays out to those that are there.
@@ -102,6 +153,31 @@ impl GroupUsages {
             }
             GroupUsages::Spans(spans) => Usages::Spans(spans.as_slice()).at_if_some(c),
         }
+    }
+}
+
+/// Usages as local items with pages of their own.
+fn with_pages(alloc: Global, usages: &[Usage]) -> Result<Vec<LocalUsage>, AllocError>
+    ensures { IfOk result (λ list. map (usage_under 0) list.items ≡ usages.now) }
+{
+    let mut list = Vec::with_capacity(alloc, usages.len())?;
+    for usage in usages {
+        list.push_reserved(LocalUsage {
+            page: Some(usage.usage_page),
+            id: usage.usage_id,
+        });
+    }
+    Ok(list)
+}
+
+/// The first of these, so many, or all where there are fewer.
+fn front(usages: &[LocalUsage], most: usize) -> &[LocalUsage]
+    ensures { result.now ≡ take most usages.now }
+{
+    if most < usages.len() {
+        usages.split_at(most).0
+    } else {
+        usages
     }
 }
 

@@ -1,5 +1,8 @@
 //! The fields of one main item (Section 6.2.2.4).
-ghost use Rattle.std.specs.Prelude.{◌≡◌};
+ghost use Rattle.std.specs.Prelude.{◌≡◌, IfOk};
+ghost use Rattle.hidreport.specs.Parser.Groups.{own_usages};
+ghost use Rattle.hidreport.specs.Parser.Layout.{IsPossible, laid_out};
+ghost use Rattle.hidreport.specs.Parser.Usages.{usage_list};
 
 use crate::field::Field;
 use crate::field::collection::Collection;
@@ -41,18 +44,20 @@ impl Group {
     ghost use Rattle.hidreport.specs.Fields.{field_count, usage_at};
     ghost use Rattle.hidreport.specs.Groups.{group_fields};
     ghost use Rattle.hidreport.specs.Parser.Groups.{group_of};
-    ghost use Rattle.hidreport.specs.Parser.Layout.{IsPossible};
+    ghost use Rattle.hidreport.specs.Parser.Layout.{IsPossible, laid_out};
     ghost use Rattle.hidreport.specs.Parser.Usages.{usage_list};
     ghost use Rattle.hidreport.specs.Views.{field_record};
 
     /// The fields that are laid out so, with these usages.
     pub(crate) fn new(alloc: Global, layout: &Layout, usages: &Usages) -> Result<Group, AllocError>
         requires possible { IsPossible layout.now (usage_list usages.now) }
-        ensures { IfOk result (λ group. group ≡ group_of layout.now (usage_list usages.now)) }
+        ensures { IfOk result (λ group.
+            group_fields group ≡ laid_out layout.now (usage_list usages.now)) }
     {
+        let usages = usages_for(alloc, layout, usages)?;
         Ok(Group {
             layout: layout.copy()?,
-            usages: GroupUsages::of(alloc, usages)?,
+            usages,
         })
     }
 
@@ -210,6 +215,23 @@ impl Group {
             None => &[],
         }
     }
+}
+
+/// The usages that the fields of an item take, of those in force: a variable item's take one each.
+fn usages_for(alloc: Global, layout: &Layout, usages: &Usages) -> Result<GroupUsages, AllocError>
+    requires possible { IsPossible layout.now (usage_list usages.now) }
+    ensures laid { IfOk result (λ own.
+        laid_out layout.now (own_usages own) ≡ laid_out layout.now (usage_list usages.now)) }
+    ensures possible { IfOk result (λ own. IsPossible layout.now (own_usages own)) }
+{
+    if layout.item.is_constant {
+        return GroupUsages::all(alloc, usages);
+    }
+    if layout.item.is_variable {
+        let first = GroupUsages::first(alloc, usages, layout.count.max(1))?;
+        return Ok(first);
+    }
+    GroupUsages::all(alloc, usages)
 }
 
 impl FieldAttributes for Group {

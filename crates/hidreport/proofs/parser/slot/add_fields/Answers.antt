@@ -1,6 +1,6 @@
 use Rattle.std.proofs.Common.{◌≡◌, ◌≤◌, ◌+◌, ◌++◌, ◌∙◌, ℕ, List, [], ◌∷◌, set, length, ap, sym}
 use Rattle.std.proofs.Common.{arith}
-use Rattle.hidreport.specs.Groups.{GroupRecord, fields_of_groups, group_fields}
+use Rattle.hidreport.specs.Groups.{GroupRecord, fields_of_groups}
 use Rattle.hidreport.specs.Parser.Layout.{laid_out}
 use Rattle.hidreport.specs.Parser.Machine.{index_in}
 use Rattle.hidreport.specs.Parser.Usages.{usage_list}
@@ -30,7 +30,7 @@ returns-then-slot-len c =
     let pushed : fields_of_groups c.push.new.self.items ≡ fields_of_groups groups ++ fields =
     ap fields_of_groups c.in_ok-push.ensures.items
     ∙ fields-pushed groups c.in_ok-group.group
-    ∙ ap (λ g. fields_of_groups groups ++ group_fields g) c.in_ok-group.ensures in
+    ∙ ap (λ (fs : List FieldRecord). fields_of_groups groups ++ fs) c.in_ok-group.ensures in
     ap (λ (l : List FieldRecord). set items c.args.slot.index
     (record { id = c.report.inside.id; size = c.report.inside.size + c.args.bits; fields = l }))
     pushed
@@ -57,7 +57,7 @@ returns c =
     ap fields_of_groups (c.in_ok-push-2.ensures.items
     ∙ ap (λ (gs : List GroupRecord). gs ++ c.in_ok-group.group ∷ []) c.in_ok-groups.ensures.items)
     ∙ fields-pushed [] c.in_ok-group.group
-    ∙ ap group_fields c.in_ok-group.ensures in
+    ∙ c.in_ok-group.ensures in
     c.in_ok-push-3.ensures.items
     ∙ ap (λ (n : ℕ). items ++ record {
       id = c.args.slot.key;

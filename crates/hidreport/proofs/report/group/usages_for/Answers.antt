@@ -1,0 +1,19 @@
+use Rattle.std.proofs.Common.{◌<◌, ◌≤◌, rules}
+use Rattle.hidreport.specs.Parser.Groups.{own_usages}
+use Rattle.hidreport.specs.Parser.Usages.{usage_list}
+use Rattle.hidreport.proofs.GroupLemmas.{first-laid, first-possible}
+use Rattle.hidreport.proofs.report.group.usages_for.Goals as goal
+
+pub returns-then-layout-2-clause-laid : goal.returns-then-layout-2-clause-laid
+returns-then-layout-2-clause-laid c =
+    let l = c.args.layout.now in
+    let n = c.max.result in
+    let enough : l.count ≤ n = search rules in
+    first-laid l (own_usages c.in_ok-first.first) (usage_list c.args.usages.now) n
+    c.if-layout.false c.if-layout-2.true enough c.in_ok-first.ensures
+
+pub returns-then-layout-2-clause-possible : goal.returns-then-layout-2-clause-possible
+returns-then-layout-2-clause-possible c =
+    let some : 0 < c.max.result = search rules in
+    first-possible c.args.layout.now (own_usages c.in_ok-first.first)
+    (usage_list c.args.usages.now) c.max.result some c.in_ok-first.ensures c.requires.possible
