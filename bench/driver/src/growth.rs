@@ -75,7 +75,8 @@ fn growth_text(times: &[f64]) -> String {
     }
 }
 
-/// Seconds that the next size takes if the time goes on to grow as it did, or by 16 where it isn't known.
+/// Seconds that the next size takes if the time goes on to grow as it did, or by 16 where it isn't
+/// known.
 fn expected(seconds: &[f64]) -> f64 {
     match seconds {
         [] => 0.0,

@@ -1,7 +1,7 @@
 //! This library, by the static library `bench`.
 use crate::facts::{Facts, Frames};
 
-// As ../../ours/lib.source has them: a slice is a pointer and a length, and an allocator is nothing.
+// As ../../ours/lib.source has them: a slice is a pointer and a length, an allocator nothing.
 #[link(name = "bench", kind = "static")]
 #[link(name = "libc_c", kind = "static")]
 unsafe extern "C" {

@@ -10,8 +10,8 @@ pub struct Measured {
 /// One number over another.
 pub struct Ratio {
     pub name: &'static str,
-    pub over: usize,
-    pub under: usize,
+    over: usize,
+    under: usize,
 }
 
 /// Classes: up to so many fields.
@@ -32,7 +32,10 @@ fn class_of(fields: u64) -> usize {
 
 /// The names of the classes, each as a cell.
 pub fn class_cells() -> String {
-    CLASSES.iter().map(|(name, _)| format!(" {name} |")).collect()
+    CLASSES
+        .iter()
+        .map(|(name, _)| format!(" {name} |"))
+        .collect()
 }
 
 /// How many descriptors each class has, each as a cell.
@@ -43,6 +46,10 @@ pub fn count_cells(fields: impl Iterator<Item = u64>) -> String {
 }
 
 impl Ratio {
+    pub const fn new(name: &'static str, over: usize, under: usize) -> Ratio {
+        Ratio { name, over, under }
+    }
+
     /// Both numbers of the descriptors that have both.
     fn pairs<'a>(&self, all: &'a [Measured]) -> Vec<(&'a Measured, f64, f64)> {
         all.iter()

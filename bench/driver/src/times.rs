@@ -16,16 +16,20 @@ const CRATE_READ: usize = 10;
 const COUNT: usize = 11;
 
 const RATIOS: &[Ratio] = &[
-    Ratio { name: "parse: `try_from` to the crate", over: LISTED, under: CRATE },
-    Ratio { name: "parse: outline to the crate", over: OUTLINE, under: CRATE },
-    Ratio { name: "parse: `try_from` to Chromium", over: LISTED, under: CHROMIUM },
-    Ratio { name: "parse: outline to Chromium", over: OUTLINE, under: CHROMIUM },
-    Ratio { name: "parse: `try_from` to Chromium with details", over: LISTED, under: DETAILS },
-    Ratio { name: "parse: outline to Chromium with details", over: OUTLINE, under: DETAILS },
-    Ratio { name: "itemise, to the crate", over: ITEMISE, under: CRATE_ITEMISE },
-    Ratio { name: "read: by fields to the crate", over: READ, under: CRATE_READ },
-    Ratio { name: "read: by readers to the crate", over: READERS, under: CRATE_READ },
-    Ratio { name: "read: by readers to by fields", over: READERS, under: READ },
+    Ratio::new("parse: `try_from` to the crate", LISTED, CRATE),
+    Ratio::new("parse: outline to the crate", OUTLINE, CRATE),
+    Ratio::new("parse: `try_from` to Chromium", LISTED, CHROMIUM),
+    Ratio::new("parse: outline to Chromium", OUTLINE, CHROMIUM),
+    Ratio::new(
+        "parse: `try_from` to Chromium with details",
+        LISTED,
+        DETAILS,
+    ),
+    Ratio::new("parse: outline to Chromium with details", OUTLINE, DETAILS),
+    Ratio::new("itemise, to the crate", ITEMISE, CRATE_ITEMISE),
+    Ratio::new("read: by fields to the crate", READ, CRATE_READ),
+    Ratio::new("read: by readers to the crate", READERS, CRATE_READ),
+    Ratio::new("read: by readers to by fields", READERS, READ),
 ];
 
 /// A descriptor on which the libraries answer the same.
@@ -36,7 +40,8 @@ struct Entry<'a> {
     is_alike_in_chromium: bool,
 }
 
-/// The ratios over all descriptors, by how many fields they have, and the times of those of the folder.
+/// The ratios over all descriptors, by how many fields they have, and the times of those of the
+/// folder.
 pub fn print(folder: &str, list: &str) -> Result<(), String> {
     keep_memory();
     std::panic::set_hook(Box::new(|_| {}));
@@ -145,7 +150,8 @@ fn print_ratios(medians: &[Measured], lows: &[Measured]) {
 
 fn print_times(entries: &[Entry], medians: &[Measured]) {
     println!(
-        "| µs | bytes | fields | `try_from` | outline | crate | Chromium | with details | itemise | crate | rebuild | read: by fields | by readers | crate |"
+        "| µs | bytes | fields | `try_from` | outline | crate | Chromium | with details | itemise \
+         | crate | rebuild | read: by fields | by readers | crate |"
     );
     println!("|---|{}", "--:|".repeat(13));
     for (entry, median) in entries.iter().zip(medians) {

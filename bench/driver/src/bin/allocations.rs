@@ -55,10 +55,10 @@ fn taken<T>(call: impl Fn() -> T) -> (usize, usize) {
 }
 
 const RATIOS: &[Ratio] = &[
-    Ratio { name: "`try_from` to the crate", over: LISTED, under: CRATE },
-    Ratio { name: "outline to the crate", over: OUTLINE, under: CRATE },
-    Ratio { name: "`try_from` to Chromium", over: LISTED, under: CHROMIUM },
-    Ratio { name: "outline to Chromium", over: OUTLINE, under: CHROMIUM },
+    Ratio::new("`try_from` to the crate", LISTED, CRATE),
+    Ratio::new("outline to the crate", OUTLINE, CRATE),
+    Ratio::new("`try_from` to Chromium", LISTED, CHROMIUM),
+    Ratio::new("outline to Chromium", OUTLINE, CHROMIUM),
 ];
 
 /// The ratios of bytes over all descriptors, their sums, and what those of the folder take.
@@ -95,7 +95,8 @@ fn print(folder: &str, list: &str) -> Result<(), String> {
     }
     print_ratios(&measured);
     println!(
-        "\n| allocations and bytes of a parse | fields | `try_from` | | outline | | crate | | Chromium | |"
+        "\n| allocations and bytes of a parse | fields | `try_from` | | outline | | crate | \
+         | Chromium | |"
     );
     println!("|---|{}", "--:|".repeat(9));
     lines.iter().for_each(|line| println!("{line}"));
@@ -121,7 +122,10 @@ fn print_ratios(measured: &[Measured]) {
         );
     }
     println!("\n| bytes of all that Chromium reads alike | |\n|---|--:|");
-    for (what, name) in ["`try_from`", "outline", "crate", "Chromium"].iter().enumerate() {
+    for (what, name) in ["`try_from`", "outline", "crate", "Chromium"]
+        .iter()
+        .enumerate()
+    {
         let alike = measured.iter().filter(|one| one.numbers[CHROMIUM] > 0.0);
         let sum: f64 = alike.map(|one| one.numbers[what]).sum();
         println!("| {name} | {sum:.0} |");
