@@ -8,7 +8,7 @@ pub mod summary;
 pub mod theirs;
 
 use facts::{Facts, Frames};
-use std::panic::catch_unwind;
+use std::panic::{AssertUnwindSafe, catch_unwind};
 
 /// What a library can be asked for. Each call drops what it made.
 pub struct Side {
@@ -60,14 +60,32 @@ pub const CHROMIUM: usize = 3;
 pub const DETAILS: usize = 4;
 
 /// Frames to read, and what the descriptor announces, where both libraries, and ours by each of its
-/// ways, give the same items, the same reports and fields, and the same values.
+/// ways, give the same items, and the same reports and fields.
 pub fn compare(bytes: &[u8]) -> Result<(Facts, Frames), String> {
-    let compared = catch_unwind(|| {
+    caught(|| {
         let frames = theirs::frames(bytes, 1)?;
         let facts = compared(bytes, &frames)?;
         Ok((facts, frames))
-    });
-    compared.unwrap_or_else(|_| Err("the Rust crate panics".to_string()))
+    })
+}
+
+/// Whether both libraries, and ours by each of its ways, read the same values.
+pub fn compare_values(bytes: &[u8], frames: &Frames) -> Result<(), String> {
+    caught(|| {
+        let values = (OURS.read)(bytes, frames, 1);
+        if values != (THEIRS.read)(bytes, frames, 1) {
+            return Err("other values in the Rust crate".to_string());
+        }
+        if values != ours::read_by_readers(bytes, frames, 1) {
+            return Err("other values by readers".to_string());
+        }
+        Ok(())
+    })
+}
+
+fn caught<T>(call: impl Fn() -> Result<T, String>) -> Result<T, String> {
+    catch_unwind(AssertUnwindSafe(call))
+        .unwrap_or_else(|_| Err("the Rust crate panics".to_string()))
 }
 
 fn compared(bytes: &[u8], frames: &Frames) -> Result<Facts, String> {
@@ -90,13 +108,6 @@ fn compared(bytes: &[u8], frames: &Frames) -> Result<Facts, String> {
     }
     if (OURS.parse)(bytes) != (THEIRS.parse)(bytes) || (OURS.parse)(bytes) != ours::outline(bytes) {
         return Err("other reports".to_string());
-    }
-    let values = (OURS.read)(bytes, frames, 1);
-    if values != (THEIRS.read)(bytes, frames, 1) {
-        return Err("other values in the Rust crate".to_string());
-    }
-    if values != ours::read_by_readers(bytes, frames, 1) {
-        return Err("other values by readers".to_string());
     }
     Ok(facts)
 }

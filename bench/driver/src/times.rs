@@ -4,7 +4,7 @@ use sides::descriptors::{self, Descriptor};
 use sides::facts::Frames;
 use sides::summary::{Measured, Ratio, class_cells, count_cells};
 use sides::{CHROMIUM, CRATE, DETAILS, LISTED, OUTLINE, PARSERS};
-use sides::{compare, compare_chromium, ours, theirs};
+use sides::{compare, compare_chromium, compare_values, ours, theirs};
 
 // What is timed: the five ways to parse (sides), and these.
 const ITEMISE: usize = 5;
@@ -38,6 +38,7 @@ struct Entry<'a> {
     fields: u64,
     frames: Frames,
     is_alike_in_chromium: bool,
+    has_alike_values: bool,
 }
 
 /// The ratios over all descriptors, by how many fields they have, and the times of those of the
@@ -49,6 +50,7 @@ pub fn print(folder: &str, list: &str) -> Result<(), String> {
     let descriptors = descriptors::all(folder, list)?;
     let mut refused = Vec::new();
     let mut other = Vec::new();
+    let mut unread = Vec::new();
     let mut entries = Vec::new();
     for descriptor in &descriptors {
         let bytes = descriptor.bytes.as_slice();
@@ -56,13 +58,16 @@ pub fn print(folder: &str, list: &str) -> Result<(), String> {
         match compare(bytes) {
             Ok((facts, frames)) => {
                 let compared = compare_chromium(bytes, &facts);
+                let read = compare_values(bytes, &frames);
                 entries.push(Entry {
                     descriptor,
                     fields: facts.fields,
                     frames,
                     is_alike_in_chromium: compared.is_ok(),
+                    has_alike_values: read.is_ok(),
                 });
                 other.extend(compared.err().map(|reason| format!("{name}: {reason}")));
+                unread.extend(read.err().map(|reason| format!("{name}: {reason}")));
             }
             Err(reason) => refused.push(format!("{name}: {reason}")),
         }
@@ -74,6 +79,7 @@ pub fn print(folder: &str, list: &str) -> Result<(), String> {
     print_times(&entries[..shown], &medians[..shown]);
     print_list("Not measured, as not all answer the same", &refused);
     print_list("Not measured beside Chromium", &other);
+    print_list("Reports not read", &unread);
     Ok(())
 }
 
@@ -117,6 +123,9 @@ fn samples_of<'a>(entry: &'a Entry) -> Vec<(usize, Sample<'a>)> {
     samples.push((ITEMISE, sample_of(move || ours::itemise(bytes))));
     samples.push((CRATE_ITEMISE, sample_of(move || theirs::itemise(bytes))));
     samples.push((REBUILD, sample_of(move || ours::rebuild(bytes))));
+    if !entry.has_alike_values {
+        return samples;
+    }
     let read = move |rounds| ours::read(bytes, frames, rounds);
     samples.push((READ, sample_of_rounds(read)));
     let read = move |rounds| ours::read_by_readers(bytes, frames, rounds);
