@@ -1,24 +1,24 @@
-//! Measures this library and the Rust crate side by side.
+//! Measures this library, the Rust crate and Chromium's parser side by side.
 mod growth;
 mod growth_cases;
 mod times;
 mod timing;
 
-use sides::{OURS, Side, THEIRS, descriptors, ours, theirs};
+use sides::facts::Frames;
+use sides::{descriptors, ours, theirs};
 use std::hint::black_box;
-use std::path::Path;
 use std::process::ExitCode;
 
-const USAGE: &str =
-    "usage: driver times FOLDER | growth | repeat ours|theirs itemise|parse|read|write FILE ROUNDS";
+const USAGE: &str = "usage: driver times FOLDER LIST | growth | \
+    repeat FOLDER LIST NAME|all WHAT ROUNDS";
 
 fn main() -> ExitCode {
     let words: Vec<String> = std::env::args().skip(1).collect();
     let words: Vec<&str> = words.iter().map(String::as_str).collect();
     let done = match words.as_slice() {
-        ["times", folder] => times::print(folder),
+        ["times", folder, list] => times::print(folder, list),
         ["growth"] => growth::print(),
-        ["repeat", side, what, file, rounds] => repeat(side, what, file, rounds),
+        ["repeat", folder, list, name, what, rounds] => repeat(folder, list, name, what, rounds),
         _ => Err(USAGE.to_string()),
     };
     match done {
@@ -30,34 +30,48 @@ fn main() -> ExitCode {
     }
 }
 
-fn side_of(word: &str) -> Result<Side, String> {
-    match word {
-        "ours" => Ok(OURS),
-        "theirs" => Ok(THEIRS),
-        _ => Err(USAGE.to_string()),
+/// One thing so many times, of one descriptor or of all on which the libraries answer the same, for
+/// an instrument that counts the instructions of a whole run.
+fn repeat(folder: &str, list: &str, name: &str, what: &str, rounds: &str) -> Result<(), String> {
+    let rounds: usize = rounds.parse().map_err(|_| USAGE.to_string())?;
+    std::panic::set_hook(Box::new(|_| {}));
+    for descriptor in descriptors::all(folder, list)? {
+        let bytes = descriptor.bytes.as_slice();
+        if name == descriptor.name || (name == "all" && sides::compare(bytes).is_ok()) {
+            repeat_one(bytes, what, rounds)?;
+        }
     }
+    Ok(())
 }
 
-/// One thing so many times, for an instrument that counts the instructions of a whole run.
-fn repeat(side: &str, what: &str, file: &str, rounds: &str) -> Result<(), String> {
-    let side = side_of(side)?;
-    let descriptor = descriptors::read(Path::new(file))?;
-    let bytes = descriptor.bytes.as_slice();
-    let rounds: usize = rounds.parse().map_err(|_| USAGE.to_string())?;
-    match what {
-        "itemise" => (0..rounds).for_each(|_| {
-            black_box((side.itemise)(bytes));
-        }),
-        "parse" => (0..rounds).for_each(|_| {
-            black_box((side.parse)(bytes));
-        }),
-        "read" => {
-            black_box((side.read)(bytes, &theirs::frames(bytes, 1)?, rounds));
-        }
-        "write" => {
-            black_box(ours::write(bytes, &theirs::frames(bytes, 1)?, rounds));
-        }
+fn repeat_one(bytes: &[u8], what: &str, rounds: usize) -> Result<(), String> {
+    let call: fn(&[u8]) -> usize = match what {
+        "itemise" => ours::itemise,
+        "crate_itemise" => theirs::itemise,
+        "parse" => ours::parse,
+        "outline" => ours::outline,
+        "crate_parse" => theirs::parse,
+        #[cfg(feature = "chromium")]
+        "chromium_parse" => sides::chromium::parse,
+        _ => return read_or_write(bytes, what, rounds),
+    };
+    for _ in 0..rounds {
+        black_box(call(bytes));
+    }
+    Ok(())
+}
+
+fn read_or_write(bytes: &[u8], what: &str, rounds: usize) -> Result<(), String> {
+    let call: fn(&[u8], &Frames, usize) -> u64 = match what {
+        "read" => ours::read,
+        "read_by_readers" => ours::read_by_readers,
+        "crate_read" => theirs::read,
+        "write" => ours::write,
         _ => return Err(USAGE.to_string()),
+    };
+    let frames = theirs::frames(bytes, 1)?;
+    if sides::compare_values(bytes, &frames).is_ok() {
+        black_box(call(bytes, &frames, rounds));
     }
     Ok(())
 }

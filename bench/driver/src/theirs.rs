@@ -138,6 +138,7 @@ fn add_reports(facts: &mut Facts, reports: &[impl Report]) {
 }
 
 fn add_field(facts: &mut Facts, field: &Field) {
+    facts.bits += (field.bits().end - field.bits().start) as u64;
     facts.add(field.bits().start as u64);
     facts.add(field.bits().end as u64);
     facts.add(field.collections().len() as u64);
@@ -152,6 +153,7 @@ fn add_field(facts: &mut Facts, field: &Field) {
 }
 
 fn add_variable(facts: &mut Facts, field: &VariableField) {
+    facts.usages += u64::from(u32::from(field.usage));
     facts.add(1);
     facts.add(u64::from(u32::from(field.usage)));
     facts.add(i64::from(i32::from(field.logical_minimum)).cast_unsigned());

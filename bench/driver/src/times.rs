@@ -1,102 +1,194 @@
-//! Times of each descriptor, ours and theirs.
-use crate::timing::{Pair, in_turns, time_of};
+//! Times of each descriptor, by each library and each of its ways.
+use crate::timing::{Sample, in_rounds, keep_memory, sample_of, sample_of_rounds};
 use sides::descriptors::{self, Descriptor};
-use sides::facts::{Facts, Frames};
-use sides::{OURS, Side, THEIRS, compare, ours, theirs};
+use sides::facts::Frames;
+use sides::summary::{Measured, Ratio, class_cells, count_cells};
+use sides::{CHROMIUM, CRATE, DETAILS, LISTED, OUTLINE, PARSERS};
+use sides::{compare, compare_chromium, compare_values, ours, theirs};
 
-#[derive(Default)]
-struct Row {
-    facts: Facts,
-    parse: Pair,
-    itemise: Pair,
-    read: Pair,
-    rebuild: f64,
+// What is timed: the five ways to parse (sides), and these.
+const ITEMISE: usize = 5;
+const CRATE_ITEMISE: usize = 6;
+const REBUILD: usize = 7;
+const READ: usize = 8;
+const READERS: usize = 9;
+const CRATE_READ: usize = 10;
+const COUNT: usize = 11;
+
+const RATIOS: &[Ratio] = &[
+    Ratio::new("parse: `try_from` to the crate", LISTED, CRATE),
+    Ratio::new("parse: outline to the crate", OUTLINE, CRATE),
+    Ratio::new("parse: `try_from` to Chromium", LISTED, CHROMIUM),
+    Ratio::new("parse: outline to Chromium", OUTLINE, CHROMIUM),
+    Ratio::new(
+        "parse: `try_from` to Chromium with details",
+        LISTED,
+        DETAILS,
+    ),
+    Ratio::new("parse: outline to Chromium with details", OUTLINE, DETAILS),
+    Ratio::new("itemise, to the crate", ITEMISE, CRATE_ITEMISE),
+    Ratio::new("read: by fields to the crate", READ, CRATE_READ),
+    Ratio::new("read: by readers to the crate", READERS, CRATE_READ),
+    Ratio::new("read: by readers to by fields", READERS, READ),
+];
+
+/// A descriptor on which the libraries answer the same.
+struct Entry<'a> {
+    descriptor: &'a Descriptor,
+    fields: u64,
+    frames: Frames,
+    is_alike_in_chromium: bool,
+    has_alike_values: bool,
 }
 
-pub fn print(folder: &str) -> Result<(), String> {
-    crate::timing::keep_memory();
-    let descriptors = descriptors::all(folder)?;
-    println!(
-        "| Descriptor | Bytes | Fields | parse: ours, µs | theirs, µs | ratio | itemise: ours, µs | theirs, µs | ratio | read: ours, µs | theirs, µs | ratio | rebuild: ours, µs |"
-    );
-    println!("|---|--:|--:|--:|--:|--:|--:|--:|--:|--:|--:|--:|--:|");
-    let mut sums = Row::default();
-    let mut bytes = 0;
-    let mut worst = [0.0f64; 3];
+/// The ratios over all descriptors, by how many fields they have, and the times of those of the
+/// folder.
+pub fn print(folder: &str, list: &str) -> Result<(), String> {
+    keep_memory();
+    std::panic::set_hook(Box::new(|_| {}));
+    let shown = descriptors::of_folder(folder)?.len();
+    let descriptors = descriptors::all(folder, list)?;
+    let mut refused = Vec::new();
+    let mut other = Vec::new();
+    let mut unread = Vec::new();
+    let mut entries = Vec::new();
     for descriptor in &descriptors {
-        let row = row_of(descriptor).map_err(|error| format!("{}: {error}", descriptor.name))?;
-        println!("{}", row.line(&descriptor.name, descriptor.bytes.len()));
-        for (worst, pair) in worst.iter_mut().zip([row.parse, row.itemise, row.read]) {
-            *worst = worst.max(pair.ratio());
+        let bytes = descriptor.bytes.as_slice();
+        let name = &descriptor.name;
+        match compare(bytes) {
+            Ok((facts, frames)) => {
+                let compared = compare_chromium(bytes, &facts);
+                let read = compare_values(bytes, &frames);
+                entries.push(Entry {
+                    descriptor,
+                    fields: facts.fields,
+                    frames,
+                    is_alike_in_chromium: compared.is_ok(),
+                    has_alike_values: read.is_ok(),
+                });
+                other.extend(compared.err().map(|reason| format!("{name}: {reason}")));
+                unread.extend(read.err().map(|reason| format!("{name}: {reason}")));
+            }
+            Err(reason) => refused.push(format!("{name}: {reason}")),
         }
-        sums.add(&row);
-        bytes += descriptor.bytes.len();
     }
-    println!("{}", sums.line("**sum**", bytes));
-    let [parse, itemise, read] = worst;
-    println!("| **largest ratio** | | | | | {parse:.2} | | | {itemise:.2} | | | {read:.2} | |");
+    let (medians, lows) = measured(&entries);
+    print_ratios(&medians, &lows);
+    println!();
+    let shown = shown.min(medians.len());
+    print_times(&entries[..shown], &medians[..shown]);
+    print_list("Not measured, as not all answer the same", &refused);
+    print_list("Not measured beside Chromium", &other);
+    print_list("Reports not read", &unread);
     Ok(())
 }
 
-fn row_of(descriptor: &Descriptor) -> Result<Row, String> {
-    let bytes = descriptor.bytes.as_slice();
-    let frames = theirs::frames(bytes, 1)?;
-    let facts = compare(bytes, &frames)?;
-    let parse = in_turns(|| (OURS.parse)(bytes), || (THEIRS.parse)(bytes));
-    let itemise = in_turns(|| (OURS.itemise)(bytes), || (THEIRS.itemise)(bytes));
-    let read = reading(bytes, &frames, parse);
-    let rebuild = in_turns(|| ours::rebuild(bytes), || ()).ours;
-    Ok(Row {
-        facts,
-        parse,
-        itemise,
-        read,
-        rebuild,
-    })
-}
-
-/// Times of reading one frame. A call parses once and then reads many frames; the parsing is taken off.
-fn reading(bytes: &[u8], frames: &Frames, parse: Pair) -> Pair {
-    let rounds = Pair {
-        ours: rounds_of(&OURS, bytes, frames, parse.ours),
-        theirs: rounds_of(&THEIRS, bytes, frames, parse.theirs),
-    };
-    let whole = in_turns(
-        || (OURS.read)(bytes, frames, rounds.ours as usize),
-        || (THEIRS.read)(bytes, frames, rounds.theirs as usize),
-    );
-    let count = Frames::COUNT as f64;
-    Pair {
-        ours: (whole.ours - parse.ours) / rounds.ours / count,
-        theirs: (whole.theirs - parse.theirs) / rounds.theirs / count,
-    }
-}
-
-/// How often a call is to go over the frames, so that parsing is no more than a tenth of it.
-fn rounds_of(side: &Side, bytes: &[u8], frames: &Frames, parse: f64) -> f64 {
-    let mut rounds = 1;
-    while time_of(&|| (side.read)(bytes, frames, rounds), 3) < 10.0 * parse {
-        rounds *= 2;
-    }
-    rounds as f64
-}
-
-impl Row {
-    fn add(&mut self, row: &Row) {
-        self.facts.fields += row.facts.fields;
-        self.parse.add(row.parse);
-        self.itemise.add(row.itemise);
-        self.read.add(row.read);
-        self.rebuild += row.rebuild;
-    }
-
-    fn line(&self, name: &str, bytes: usize) -> String {
-        let mut line = format!("| {name} | {bytes} | {} |", self.facts.fields);
-        for pair in [self.parse, self.itemise, self.read] {
-            let ours = pair.ours / 1e3;
-            let theirs = pair.theirs / 1e3;
-            line += &format!(" {ours:.3} | {theirs:.3} | {:.2} |", pair.ratio());
+/// Medians and lowest tenths of everything.
+fn measured(entries: &[Entry]) -> (Vec<Measured>, Vec<Measured>) {
+    let mut places = Vec::new();
+    let mut samples = Vec::new();
+    for (entry, at) in entries.iter().zip(0..) {
+        for (what, sample) in samples_of(entry) {
+            places.push((at, what));
+            samples.push(sample);
         }
-        line + &format!(" {:.3} |", self.rebuild / 1e3)
+    }
+    let mut medians: Vec<Measured> = entries.iter().map(nothing_of).collect();
+    let mut lows: Vec<Measured> = entries.iter().map(nothing_of).collect();
+    for ((entry, what), times) in places.iter().zip(in_rounds(&samples)) {
+        medians[*entry as usize].numbers[*what] = times.median();
+        lows[*entry as usize].numbers[*what] = times.low();
+    }
+    (medians, lows)
+}
+
+fn nothing_of(entry: &Entry) -> Measured {
+    Measured {
+        name: entry.descriptor.name.clone(),
+        fields: entry.fields,
+        numbers: vec![f64::NAN; COUNT],
+    }
+}
+
+/// What is timed of a descriptor. A round of reading has some frames, and goes over all of them.
+fn samples_of<'a>(entry: &'a Entry) -> Vec<(usize, Sample<'a>)> {
+    let bytes = entry.descriptor.bytes.as_slice();
+    let frames = &entry.frames;
+    let mut samples: Vec<(usize, Sample)> = Vec::new();
+    for (what, parse) in PARSERS.iter().enumerate() {
+        if what < CHROMIUM || entry.is_alike_in_chromium {
+            samples.push((what, sample_of(move || parse(bytes))));
+        }
+    }
+    samples.push((ITEMISE, sample_of(move || ours::itemise(bytes))));
+    samples.push((CRATE_ITEMISE, sample_of(move || theirs::itemise(bytes))));
+    samples.push((REBUILD, sample_of(move || ours::rebuild(bytes))));
+    if !entry.has_alike_values {
+        return samples;
+    }
+    let read = move |rounds| ours::read(bytes, frames, rounds);
+    samples.push((READ, sample_of_rounds(read)));
+    let read = move |rounds| ours::read_by_readers(bytes, frames, rounds);
+    samples.push((READERS, sample_of_rounds(read)));
+    let read = move |rounds| theirs::read(bytes, frames, rounds);
+    samples.push((CRATE_READ, sample_of_rounds(read)));
+    samples
+}
+
+fn print_ratios(medians: &[Measured], lows: &[Measured]) {
+    println!(
+        "| Ratio of times, fields: |{} all | lowest tenth | sums | lowest tenth | largest |",
+        class_cells()
+    );
+    println!("|---|--:|--:|--:|--:|--:|--:|--:|--:|--:|---|");
+    let counts = count_cells(medians.iter().map(|one| one.fields));
+    println!("| descriptors |{counts} {} | | | | |", medians.len());
+    for ratio in RATIOS {
+        println!(
+            "| {} |{}{}{}{}{}{}",
+            ratio.name,
+            ratio.class_means(medians),
+            ratio.mean(medians),
+            ratio.mean(lows),
+            ratio.of_sums(medians),
+            ratio.of_sums(lows),
+            ratio.largest(medians),
+        );
+    }
+}
+
+fn print_times(entries: &[Entry], medians: &[Measured]) {
+    println!(
+        "| µs | bytes | fields | `try_from` | outline | crate | Chromium | with details | itemise \
+         | crate | rebuild | read: by fields | by readers | crate |"
+    );
+    println!("|---|{}", "--:|".repeat(13));
+    for (entry, median) in entries.iter().zip(medians) {
+        let mut line = format!(
+            "| {} | {} | {} |",
+            median.name,
+            entry.descriptor.bytes.len(),
+            median.fields
+        );
+        for (what, time) in median.numbers.iter().enumerate() {
+            let frames = if what >= READ { Frames::COUNT } else { 1 };
+            line += &time_cell(time / frames as f64);
+        }
+        println!("{line}");
+    }
+}
+
+fn time_cell(time: f64) -> String {
+    if time.is_nan() {
+        " |".to_string()
+    } else {
+        format!(" {:.2} |", time / 1e3)
+    }
+}
+
+fn print_list(what: &str, lines: &[String]) {
+    if !lines.is_empty() {
+        println!("\n{what} ({}):\n", lines.len());
+        lines.iter().for_each(|line| println!("- {line}"));
     }
 }

@@ -1,5 +1,7 @@
-//! Counts what each call takes from the C library's heap. Both sides take all memory there.
-use sides::{OURS, THEIRS, descriptors, theirs};
+//! Counts what each parse takes from the C library's heap. All sides take all memory there.
+use sides::summary::{Measured, Ratio, class_cells, count_cells};
+use sides::{CHROMIUM, CRATE, DETAILS, LISTED, OUTLINE, PARSERS};
+use sides::{compare, compare_chromium, descriptors};
 use std::ffi::c_void;
 use std::hint::black_box;
 use std::process::ExitCode;
@@ -52,40 +54,89 @@ fn taken<T>(call: impl Fn() -> T) -> (usize, usize) {
     )
 }
 
-fn print(folder: &str) -> Result<(), String> {
-    println!(
-        "| Descriptor | parse: ours | theirs | bytes: ours | theirs | itemise: ours | theirs | read: ours | theirs |"
-    );
-    println!("|---|--:|--:|--:|--:|--:|--:|--:|--:|");
-    for descriptor in descriptors::all(folder)? {
+const RATIOS: &[Ratio] = &[
+    Ratio::new("`try_from` to the crate", LISTED, CRATE),
+    Ratio::new("outline to the crate", OUTLINE, CRATE),
+    Ratio::new("`try_from` to Chromium", LISTED, CHROMIUM),
+    Ratio::new("outline to Chromium", OUTLINE, CHROMIUM),
+];
+
+/// The ratios of bytes over all descriptors, their sums, and what those of the folder take.
+fn print(folder: &str, list: &str) -> Result<(), String> {
+    std::panic::set_hook(Box::new(|_| {}));
+    let shown = descriptors::of_folder(folder)?.len();
+    let mut measured = Vec::new();
+    let mut lines = Vec::new();
+    for (descriptor, at) in descriptors::all(folder, list)?.iter().zip(0..) {
         let bytes = descriptor.bytes.as_slice();
-        let frames = theirs::frames(bytes, 1)?;
-        let mut line = format!("| {} |", descriptor.name);
-        let parse = [OURS, THEIRS].map(|side| taken(|| (side.parse)(bytes)));
-        for (count, _) in parse {
-            line += &format!(" {count} |");
+        let Ok((facts, _)) = compare(bytes) else {
+            continue;
+        };
+        let is_alike = compare_chromium(bytes, &facts).is_ok();
+        let mut numbers = vec![f64::NAN; DETAILS];
+        let mut line = format!("| {} | {} |", descriptor.name, facts.fields);
+        for (what, parse) in PARSERS.iter().enumerate().take(DETAILS) {
+            if what < CHROMIUM || is_alike {
+                let (count, bytes) = taken(|| parse(bytes));
+                numbers[what] = bytes as f64;
+                line += &format!(" {count} | {bytes} |");
+            } else {
+                line += " | |";
+            }
         }
-        for (_, bytes) in parse {
-            line += &format!(" {bytes} |");
+        if at < shown {
+            lines.push(line);
         }
-        for side in [OURS, THEIRS] {
-            line += &format!(" {} |", taken(|| (side.itemise)(bytes)).0);
-        }
-        for side in [OURS, THEIRS] {
-            let with = |rounds| taken(|| (side.read)(bytes, &frames, rounds)).0;
-            let frames_read = sides::facts::Frames::COUNT;
-            line += &format!(" {} |", (with(1) - with(0)) / frames_read);
-        }
-        println!("{line}");
+        measured.push(Measured {
+            name: descriptor.name.clone(),
+            fields: facts.fields,
+            numbers,
+        });
     }
+    print_ratios(&measured);
+    println!(
+        "\n| allocations and bytes of a parse | fields | `try_from` | | outline | | crate | \
+         | Chromium | |"
+    );
+    println!("|---|{}", "--:|".repeat(9));
+    lines.iter().for_each(|line| println!("{line}"));
     Ok(())
+}
+
+fn print_ratios(measured: &[Measured]) {
+    println!(
+        "| Ratio of bytes, fields: |{} all | sums | largest |",
+        class_cells()
+    );
+    println!("|---|--:|--:|--:|--:|--:|--:|--:|---|");
+    let counts = count_cells(measured.iter().map(|one| one.fields));
+    println!("| descriptors |{counts} {} | | |", measured.len());
+    for ratio in RATIOS {
+        println!(
+            "| {} |{}{}{}{}",
+            ratio.name,
+            ratio.class_means(measured),
+            ratio.mean(measured),
+            ratio.of_sums(measured),
+            ratio.largest(measured),
+        );
+    }
+    println!("\n| bytes of all that Chromium reads alike | |\n|---|--:|");
+    for (what, name) in ["`try_from`", "outline", "crate", "Chromium"]
+        .iter()
+        .enumerate()
+    {
+        let alike = measured.iter().filter(|one| one.numbers[CHROMIUM] > 0.0);
+        let sum: f64 = alike.map(|one| one.numbers[what]).sum();
+        println!("| {name} | {sum:.0} |");
+    }
 }
 
 fn main() -> ExitCode {
     let words: Vec<String> = std::env::args().skip(1).collect();
     let done = match words.as_slice() {
-        [folder] => print(folder),
-        _ => Err("usage: allocations FOLDER".to_string()),
+        [folder, list] => print(folder, list),
+        _ => Err("usage: allocations FOLDER LIST".to_string()),
     };
     match done {
         Ok(()) => ExitCode::SUCCESS,

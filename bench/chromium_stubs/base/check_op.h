@@ -1,0 +1,4 @@
+// Stands for Chromium's header of this name.
+#pragma once
+
+#include "base/check.h"
