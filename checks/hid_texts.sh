@@ -115,6 +115,9 @@ refused "$(
     ulimit -v 65536
     yes ab | tr -d '\n' | tr ab '\005\001' | head -c 8388608 | "$program" decode --form bytes - 2>&1
 )" 'hid: -: budget exceeded at offset 65536'
+refused "$(head -c 65537 /dev/zero | "$program" convert --form bytes - 2>&1 > /dev/null)" \
+    'hid: -: longer than 65536 bytes: say --limit 65537'
+refused "$(head -c 65536 /dev/zero | "$program" convert --form bytes - 2>&1 > /dev/null)" ''
 case $(ulimit -v 32768 && head -c 60000000 /dev/zero | tr '\0' '\n' | "$program" compile - 2>&1) in
     'hid: -: '*memory*) ;;
     *) refused 'too little memory' 'said with its input' ;;
