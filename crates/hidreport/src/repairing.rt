@@ -1,5 +1,5 @@
 //! Descriptors that hosts accept, made such as are read.
-ghost use Rattle.std.specs.Prelude.{◌≡◌, ◌≢◌, ℕ, [], false, Err, IfOk, IsOk, None, Ok};
+ghost use Rattle.std.specs.Prelude.{◌≡◌, ◌≢◌, ℕ, [], false, Err, IfOk, IsOk, IsTrue, None, Ok};
 ghost use Rattle.hidreport_lists.specs.Answer.{AnswersBy};
 ghost use Rattle.hidreport.specs.Options.{parse_as};
 ghost use Rattle.hidreport.specs.Repair.{repaired, repaired_view};
@@ -10,7 +10,8 @@ mod change;
 mod mending;
 mod repair_options;
 
-use crate::descriptor::ReportDescriptor;
+use crate::outline::Outline;
+use crate::parse_options::ParseOptions;
 pub use change::{Change, Repaired};
 use hidreport_lists::{ParserError, pieces};
 use mending::mend_all;
@@ -55,8 +56,33 @@ pub fn repair(alloc: Global, bytes: &[u8], options: RepairOptions) -> Result<Rep
     repaired_bytes(alloc, bytes, options)
 }
 
-/// What `repair` answers, by the definition alone.
+/// What `repair` answers, by the definition alone: what is read needs no repair.
 fn repaired_bytes(
+    alloc: Global,
+    bytes: &[u8],
+    options: RepairOptions,
+) -> Result<Repaired, ParserError>
+    ensures { AnswersBy repaired_view result (repaired options bytes.now) }
+{
+    if !options.unsigned_maxima && is_read(alloc, bytes, options.parse) {
+        let unchanged = Repaired::unchanged(alloc, bytes)?;
+        return Ok(unchanged);
+    }
+    mended_bytes(alloc, bytes, options)
+}
+
+/// Whether bytes are read by these options.
+fn is_read(alloc: Global, bytes: &[u8], options: ParseOptions) -> bool
+    ensures { IsTrue result → IsOk (parse_as options bytes.now) }
+{
+    match Outline::try_from_with(alloc, bytes, options) {
+        Ok(_outline) => true,
+        Err(_fault) => false,
+    }
+}
+
+/// The bytes with each piece mended, where they are read then.
+fn mended_bytes(
     alloc: Global,
     bytes: &[u8],
     options: RepairOptions,
@@ -69,6 +95,6 @@ fn repaired_bytes(
     let mut pieces = pieces(alloc, bytes, options.leave_out_cut_short)?;
     mend_all(alloc, pieces.as_mut_slice(), options)?;
     let repaired = Repaired::of(alloc, pieces.as_slice())?;
-    ReportDescriptor::try_from_with(alloc, repaired.bytes.as_slice(), options.parse)?;
+    Outline::try_from_with(alloc, repaired.bytes.as_slice(), options.parse)?;
     Ok(repaired)
 }

@@ -1,5 +1,5 @@
 //! Asks the library the questions of the files that its arguments name, and compares what it
-//! answers with what stands below each question. docs/CASES.md says how a case is written. Licence:
+//! answers with what stands below each question. docs/TESTING.md says how a case is written. Licence:
 //! MIT (LICENSE); a port of the Rust crate `hidreport` 0.6.0.
 #![tactic(auto)]
 

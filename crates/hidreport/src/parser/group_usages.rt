@@ -75,9 +75,24 @@ impl GroupUsages {
         match usages {
             Usages::Range(bounds) => Ok(GroupUsages::Range(*bounds)),
             Usages::Single(page, usages) => {
-                Ok(GroupUsages::Single(*page, copied(alloc, front(usages, most))?))
+                GroupUsages::first_of_single(alloc, *page, front(usages, most))
             }
             Usages::Spans(spans) => GroupUsages::first_of_spans(alloc, spans, most),
+        }
+    }
+
+    /// Single ones, which take no memory where they count up.
+    fn first_of_single(
+        alloc: Global,
+        page: UsagePage,
+        usages: &[LocalUsage],
+    ) -> Result<GroupUsages, AllocError>
+        ensures { IfOk result (λ own.
+            (own_usages own).usages ≡ map (usage_under page) usages.now) }
+    {
+        match UsageBounds::counting_up(page, usages) {
+            Some(bounds) => Ok(GroupUsages::Range(bounds)),
+            None => Ok(GroupUsages::Single(page, copied(alloc, usages)?)),
         }
     }
 

@@ -17,9 +17,6 @@ use std::alloc::{AllocError, Global};
 use std::ops::Range;
 use std::sync::ArcSlice;
 
-/// How many fields more than its first item's a report has room for.
-const MORE_FIELDS: usize = 3;
-
 /// What the fields of one item have in common.
 #[derive(Drop)]
 pub(crate) struct Layout {
@@ -46,17 +43,6 @@ impl Layout {
     ghost use Rattle.hidreport.specs.Parser.Usages.{usage_list};
     ghost use Rattle.hidreport.specs.Records.{ArrayRecord, ConstantRecord};
     ghost use Rattle.hidreport.specs.Views.{field_record};
-
-    /// Room for the fields of a report that begins with the item: mostly a few follow, such as
-    /// padding or axes behind buttons.
-    pub(crate) fn room(&self) -> usize
-        ensures least { field_count (item_flags self.now.item) self.now.count ≤ result }
-        ensures most { result ≤ field_count (item_flags self.now.item) self.now.count + 3 }
-    {
-        self.item
-            .field_count(self.count)
-            .saturating_add(MORE_FIELDS)
-    }
 
     /// The same once more, in the same collections.
     pub(crate) fn copy(&self) -> Result<Layout, AllocError>

@@ -2,6 +2,7 @@ ghost use Rattle.std.specs.Prelude.{◌≡◌, ◌%◌, IfOk};
 ghost use Rattle.hidreport.specs.Usages.{make_usage};
 
 use crate::field::usage::Usage;
+use crate::parser::local_usages::LocalUsage;
 use hidreport_types::{UsageId, UsagePage};
 use std::alloc::{AllocError, Global};
 
@@ -15,9 +16,33 @@ pub(crate) struct UsageBounds {
 }
 
 impl UsageBounds {
-    ghost use Rattle.std.specs.Prelude.{◌≡◌, ◌+◌, ◌-◌, ◌<◌, length, IfOk};
+    ghost use Rattle.std.specs.Prelude.{◌≡◌, ◌+◌, ◌-◌, ◌<◌, length, map, IfOk, IfSome};
     ghost use Rattle.hidreport.specs.Fields.{usage_at};
+    ghost use Rattle.hidreport.specs.Parser.Locals.{usage_under};
     ghost use Rattle.hidreport.specs.Parser.Usages.{between};
+
+    /// Single usages, where they count up on one page: one that names none lies on this one.
+    pub(crate) fn counting_up(page: UsagePage, usages: &[LocalUsage]) -> Option<UsageBounds>
+        ensures { IfSome result (λ bounds.
+            between bounds ≡ map (usage_under page) usages.now) }
+    {
+        let first = usages.first()?.under(page);
+        let page_of_all = first.usage_page;
+        let minimum = u32::from(u16::from(first.usage_id));
+        let mut next = minimum;
+        for usage in usages {
+            let usage = usage.under(page);
+            if usage.usage_page != page_of_all || u32::from(u16::from(usage.usage_id)) != next {
+                return None;
+            }
+            next += 1;
+        }
+        Some(UsageBounds {
+            page: page_of_all,
+            minimum,
+            maximum: next - 1,
+        })
+    }
 
     /// How many usages there are.
     pub(crate) fn count(&self) -> u64

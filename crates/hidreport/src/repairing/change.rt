@@ -1,7 +1,6 @@
 //! What a repair answers.
 ghost use Rattle.std.specs.Prelude.{◌≡◌, IfOk, filter_map, map};
 ghost use Rattle.hidreport.specs.Repair.{change_in, change_of, change_view, joined};
-ghost use Rattle.hidreport.specs.Repair.{repaired_of, repaired_view};
 
 use hidreport_lists::{Mend, Piece};
 use std::alloc::{AllocError, Global};
@@ -33,6 +32,20 @@ pub struct Repaired {
 }
 
 impl Repaired {
+    ghost use Rattle.std.specs.Prelude.{◌≡◌, [], IfOk};
+    ghost use Rattle.hidreport.specs.Repair.{repaired_of, repaired_view};
+
+    /// These bytes without a change.
+    pub(crate) fn unchanged(alloc: Global, bytes: &[u8]) -> Result<Repaired, AllocError>
+        ensures { IfOk result (λ repaired.
+            repaired_view repaired ≡ record { bytes = bytes.now; changes = [] }) }
+    {
+        Ok(Repaired {
+            bytes: Vec::from_slice(alloc, bytes)?,
+            changes: Vec::new(alloc),
+        })
+    }
+
     /// What stands in the pieces.
     pub(crate) fn of(alloc: Global, pieces: &[Piece]) -> Result<Repaired, AllocError>
         ensures { IfOk result (λ repaired. repaired_view repaired ≡ repaired_of pieces.now) }

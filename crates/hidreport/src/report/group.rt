@@ -74,11 +74,6 @@ impl Group {
         self.usages.add_fields(alloc, &self.layout, fields)
     }
 
-    /// Room for the fields.
-    pub(crate) fn room(&self) -> usize {
-        self.layout.room()
-    }
-
     /// How many fields there are: one for each element of a variable item, else one.
     pub fn field_count(&self) -> usize
         ensures { result ≡ field_count self.now.flags self.now.extent.count }

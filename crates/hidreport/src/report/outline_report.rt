@@ -108,7 +108,7 @@ fn fields_of(alloc: Global, groups: &[Group]) -> Result<Vec<Field>, AllocError>
 {
     let mut room: usize = 0;
     for group in groups {
-        room = room.saturating_add(group.room());
+        room = room.saturating_add(group.field_count());
     }
     let mut fields = Vec::with_capacity(alloc, room)?;
     for group in groups {
