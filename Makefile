@@ -40,7 +40,7 @@ $(BUILD)/hid $(BUILD)/hidreport: $(BUILD)/%: $(made)/%.o.gz generated/programs.c
 	gzip -dc $< > $@.o
 	$(compile) $(LDFLAGS) -o $@ $@.o generated/programs.c generated/heap.c
 	rm -f $@.o
-cases = c/cases.c c/cases_print.h c/cases_words.h
+cases = c/cases.c c/cases_print.h c/cases_words.h c/cases_asked.h c/cases_wholes.h c/cases_names.h
 $(BUILD)/ask_static: $(cases) include/hidreport.h $(BUILD)/libhidreport.a
 	$(compile) $(LDFLAGS) -o $@ c/cases.c $(BUILD)/libhidreport.a
 $(BUILD)/ask_shared: $(cases) include/hidreport.h $(BUILD)/libhidreport.so

@@ -1,40 +1,7 @@
 /* Asks the library what the lines of its input ask, and prints each question with its answer below
  * it, two spaces in: every member of every struct. c/cases.txt has such lines, and says how they
  * are written; checks/c_cases.sh compares. */
-#include "cases_print.h"
-
-/* The descriptor and the report of a question. */
-static uint8_t bytes[LENGTH], report[LENGTH];
-static size_t length, report_length;
-
-/* What the last questions gave stays for the questions about it. */
-static struct hidreport_options options;
-static struct hidreport_field fields[ROOM];
-static size_t field_count;
-static uint32_t usages[ROOM];
-static size_t usage_count;
-static struct hidreport_report listed_report;
-
-static void keep_fields(struct hidreport_answer answer)
-{
-    field_count = print_answer(answer);
-    for (size_t i = 0; i < field_count; i++)
-        print_field(&fields[i]);
-}
-
-static void keep_usages(struct hidreport_answer answer)
-{
-    usage_count = print_answer(answer);
-    for (size_t i = 0; i < usage_count; i++)
-        printf("  %08" PRIx32 "\n", usages[i]);
-}
-
-static const struct hidreport_field *field_of(const char *word)
-{
-    if (number_of(word) >= field_count)
-        refuse("no such field", word);
-    return &fields[number_of(word)];
-}
+#include "cases_names.h"
 
 static void version(const char *first, const char *second)
 {
@@ -314,6 +281,15 @@ static const struct {
     {"physical", 2, physical},       {"normalized", 2, normalized},
     {"insert", 2, insert},           {"insert-all", 2, insert_all},
     {"alike", 0, alike},             {"front-items", 1, front_items},
+    {"groups", 1, groups},           {"group-usage", 2, group_usage},
+    {"group-field", 2, group_field}, {"describe-usages", 1, describe_usages},
+    {"find-usages", 1, find_usages},
+    {"read", 1, read_all},           {"read-available", 1, read_available},
+    {"usage-name", 1, usage_name},   {"usage-by-name", 1, usage_by_name},
+    {"page-name", 1, page_name},     {"page-by-name", 1, page_by_name},
+    {"usage-on-page", 2, usage_on_page},
+    {"item-name", 0, item_name},     {"flag-words", 0, flag_words},
+    {"collection-name", 1, collection_name},
 };
 
 static void answer_line(const char *line)

@@ -24,19 +24,34 @@ static void print_measures(const struct hidreport_measures *m)
     printf(" exponent %d %" PRId32, m->has_unit_exponent, m->unit_exponent);
 }
 
+static void print_flags(const struct hidreport_flags *g)
+{
+    printf(" flags %d%d%d", g->is_relative, g->wraps, g->is_nonlinear);
+    printf("%d%d", g->has_no_preferred_state, g->has_null_state);
+    printf("%d%d\n", g->is_buffered_bytes, g->is_volatile);
+}
+
 static void print_field(const struct hidreport_field *f)
 {
     const struct hidreport_usages *u = &f->usages;
-    const struct hidreport_flags *g = &f->flags;
     printf("  #%" PRIu32 " %s", f->number, kind_of(f->kind));
     printf(" bits %zu..%zu values %zu", f->first_bit, f->end_bit, f->value_count);
     printf(" usages %zu %08" PRIx32 "..%08" PRIx32 " %d", u->count, u->first, u->last, u->is_range);
     printf(" collections %zu %" PRIu32, f->collections.count, f->collections.innermost);
     printf(" report %d %u\n", f->has_report_id, f->report_id);
     print_measures(&f->measures);
-    printf(" flags %d%d%d", g->is_relative, g->wraps, g->is_nonlinear);
-    printf("%d%d", g->has_no_preferred_state, g->has_null_state);
-    printf("%d%d\n", g->is_buffered_bytes, g->is_volatile);
+    print_flags(&f->flags);
+}
+
+static void print_group(const struct hidreport_group *g)
+{
+    printf("  %s bits %zu, %zu each", kind_of(g->kind), g->first_bit, g->element_width);
+    printf(" elements %zu fields %zu", g->element_count, g->field_count);
+    printf(" usage %08" PRIx32, g->usage);
+    printf(" collections %zu %" PRIu32, g->collections.count, g->collections.innermost);
+    printf(" report %d %u\n", g->has_report_id, g->report_id);
+    print_measures(&g->measures);
+    print_flags(&g->flags);
 }
 
 /* So much text, or so many bytes as hexadecimal numbers. */

@@ -7,6 +7,7 @@
 #include <time.h>
 
 #include "hidreport.h"
+#include "hostile_memory.h"
 
 /* Bytes: what stands in front, then what is repeated; and the answer that is wanted. */
 struct row {
@@ -144,6 +145,15 @@ static void ask(const struct row *row, const uint8_t *bytes, size_t length)
     look(row, "field", hidreport_field_numbered(bytes, length, options, 0, NULL, 0));
     look(row, "field_for",
          hidreport_field_for(bytes, length, options, HIDREPORT_INPUT, false, 0, 0x10030, NULL, 0));
+    look(row, "groups", hidreport_groups(bytes, length, options, HIDREPORT_INPUT, NULL, 0));
+    look(row, "group_usage",
+         hidreport_group_usage(bytes, length, options, HIDREPORT_INPUT, 0, 0, NULL, 0));
+    look(row, "group_field",
+         hidreport_group_field(bytes, length, options, HIDREPORT_INPUT, 0, 0, NULL, 0));
+    look(row, "describe_usages",
+         hidreport_describe_usages(bytes, length, options, HIDREPORT_INPUT, NULL, 0));
+    look(row, "find_usages",
+         hidreport_find_usages(bytes, length, options, HIDREPORT_INPUT, report, 1, NULL, 0));
     look_at_likeness(row, hidreport_is_alike(bytes, length, bytes, length, options));
     look(row, "usages", hidreport_usages(bytes, length, options, 0, NULL, 0));
     look(row, "collections", hidreport_collections(bytes, length, options, 0, NULL, 0));
@@ -166,48 +176,42 @@ static void ask(const struct row *row, const uint8_t *bytes, size_t length)
                  hidreport_items_message(bytes, length, NULL, 0));
 }
 
-/* Fields of numbers that no descriptor has, by which nothing can be written: the bits end past what
- * can be counted, begin behind their end, are too many or none, or lie behind the bytes. */
-static const struct hidreport_field no_fields[] = {
-    {.first_bit = SIZE_MAX, .end_bit = SIZE_MAX, .value_count = 1},
-    {.first_bit = SIZE_MAX - 7, .end_bit = SIZE_MAX, .value_count = SIZE_MAX},
-    {.first_bit = 0, .end_bit = SIZE_MAX, .value_count = 1},
-    {.first_bit = 56, .end_bit = SIZE_MAX, .value_count = SIZE_MAX / 2},
-    {.first_bit = 8, .end_bit = 0, .value_count = 1},
-    {.first_bit = 8, .end_bit = 16, .value_count = SIZE_MAX},
-    {.first_bit = 8, .end_bit = 41, .value_count = 1},
-    {.first_bit = 8, .end_bit = 16, .value_count = 0},
-    {.first_bit = 49, .end_bit = 57, .value_count = 1},
-    {.first_bit = SIZE_MAX / 2, .end_bit = SIZE_MAX, .value_count = 2},
-    {.first_bit = 7, .end_bit = 15, .value_count = 1, .has_report_id = true, .report_id = 0xff},
-};
-
-static void look_unwritten(size_t field, const char *call, uint32_t status, const uint8_t *report)
+static void say(int is_right, const char *what)
 {
-    static const uint8_t before[9] = {255, 255, 255, 255, 255, 255, 255, 255, 255};
     looked_at++;
-    if (status == HIDREPORT_OUT_OF_BOUNDS && memcmp(report, before, sizeof before) == 0)
+    if (is_right)
         return;
-    printf("hostile: field %zu: %s has status %u\n", field, call, status);
+    printf("hostile: %s\n", what);
     wrong = 1;
 }
 
-/* By such a field 7 bytes are neither written nor the two behind them. */
-static void ask_to_write(void)
+/* Without a limit 2^32 - 1 fields are one group, each usage of which is there by its place; where
+ * there is no room for it the group isn't written. */
+static void ask_for_groups(void)
 {
-    static const int64_t zeros[2];
-    uint8_t report[9];
+    const struct row *row = &rows[0];
+    const uint8_t *bytes = (const uint8_t *)row->front;
+    struct hidreport_options options = HIDREPORT_DEFAULTS;
+    struct hidreport_group group;
+    uint32_t usage[2] = {7, 7};
 
-    memset(report, 0xff, sizeof report);
-    for (size_t i = 0; i < sizeof no_fields / sizeof no_fields[0]; i++) {
-        const struct hidreport_field *f = &no_fields[i];
-        look_unwritten(i, "insert", hidreport_insert(f, report, 7, 0, 0), report);
-        look_unwritten(i, "insert of the last",
-                       hidreport_insert(f, report, 7, f->value_count - 1, 0), report);
-        if (f->value_count == 1 || f->value_count == 2)
-            look_unwritten(i, "insert_all",
-                           hidreport_insert_all(f, report, 7, zeros, f->value_count), report);
-    }
+    options.limit = HIDREPORT_NO_LIMIT;
+    memset(&group, 0xff, sizeof group);
+    struct hidreport_answer answer =
+        hidreport_groups(bytes, row->front_length, options, HIDREPORT_INPUT, &group, 0);
+    say(answer.count == 1 && group.first_bit == SIZE_MAX, "a group without room");
+    answer = hidreport_groups(bytes, row->front_length, options, HIDREPORT_INPUT, &group, 1);
+    say(answer.status == HIDREPORT_ACCEPTED && answer.count == 1 && group.kind == HIDREPORT_VARIABLE
+        && group.element_count == UINT32_MAX && group.field_count == UINT32_MAX
+        && group.element_width == 1 && group.usage == 0x10030, "2^32 - 1 fields as one group");
+    answer = hidreport_group_usage(bytes, row->front_length, options, HIDREPORT_INPUT, 0,
+                                   UINT32_MAX - 1, usage, 1);
+    say(answer.status == HIDREPORT_ACCEPTED && answer.count == 1 && usage[0] == 0x10030
+        && usage[1] == 7, "the usage of the last of them");
+    answer = hidreport_group_usage(bytes, row->front_length, options, HIDREPORT_INPUT, SIZE_MAX,
+                                   SIZE_MAX, usage, 2);
+    say(answer.status == HIDREPORT_ACCEPTED && answer.count == 0 && usage[1] == 7,
+        "the usage of no group");
 }
 
 /* A report that says that it has more bytes than there are gets those that there are. */
@@ -247,8 +251,14 @@ int main(void)
         }
     }
     ask_with_little_room();
-    ask_to_write();
+    ask_to_write(say);
     ask_for_a_blank();
+    ask_for_groups();
+    ask_to_read(say);
+    ask_to_read_with_little_room(say);
+    ask_for_numbers(say);
+    ask_for_texts(say);
+    ask_without_memory(say);
     printf("hostile: %u answers\n", looked_at);
     return wrong;
 }

@@ -15,7 +15,7 @@ set -eu
 
 top=$(cd "$(dirname "$0")/.." && pwd)
 cd "$top"
-crates=(hidreport_types hidreport_items hidreport_lists hidreport hidreport_c)
+crates=(hidreport_types hidreport_items hidreport_lists hidreport hidreport_usages hidreport_c)
 processors=(x86_64 aarch64)
 programs=(hid hidreport)
 packed=("${programs[@]/#/x86_64-linux/}")

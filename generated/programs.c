@@ -1,7 +1,10 @@
 /* What the programs ask of the system besides the C library: their words, the environment and the
- * number of an error, as the contracts ask for them that the toolchain's pages state.
+ * number of an error, and a folder, as the contracts ask for them that the toolchain's pages state.
  * Licence: MIT (LICENSE). */
+#define _POSIX_C_SOURCE 200809L
+
 #include <errno.h>
+#include <fcntl.h>
 #include <stddef.h>
 #include <stdlib.h>
 #include <string.h>
@@ -12,6 +15,7 @@ ptrdiff_t rattle_env(const char *name, char *start, size_t room);
 ptrdiff_t rattle_env_at(size_t index, char *start, size_t room);
 int rattle_errno(void);
 void rattle_set_errno(int error);
+int rattle_open_dir_at(int folder, const char *name);
 
 static size_t count;
 static char **words;
@@ -75,4 +79,11 @@ int rattle_errno(void)
 void rattle_set_errno(int error)
 {
     errno = error;
+}
+
+/* Opens the folder that a name reaches from an open one, for reading: its number, or -1, also where
+ * the name ends in a link without a slash behind it, or reaches no folder. */
+int rattle_open_dir_at(int folder, const char *name)
+{
+    return openat(folder, name, O_RDONLY | O_DIRECTORY | O_NOFOLLOW | O_CLOEXEC);
 }

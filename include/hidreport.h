@@ -191,6 +191,21 @@ struct hidreport_field {
     uint8_t report_id;
 };
 
+/* The fields that one item makes, side by side (Section 6.2.2.4), said once for all of them. */
+struct hidreport_group {
+    uint32_t kind;        /* enum hidreport_kind, of each of its fields */
+    size_t first_bit;     /* in its report, the byte of the id counted */
+    size_t element_width; /* in bits */
+    size_t element_count; /* side by side */
+    size_t field_count;   /* a variable field is one element; an array and padding are all */
+    uint32_t usage;       /* of the first field; 0 where there is none */
+    struct hidreport_measures measures;
+    struct hidreport_collections collections;
+    struct hidreport_flags flags;
+    bool has_report_id; /* its report begins with `report_id`, of padding too */
+    uint8_t report_id;
+};
+
 struct hidreport_report {
     size_t size_in_bits;  /* the byte of the id counted */
     size_t size_in_bytes; /* rounded up */
@@ -213,7 +228,12 @@ struct hidreport_value {
 
 struct hidreport_usage {
     uint32_t usage; /* 0 where there is none */
-    bool is_meant;  /* the value stands for one */
+    bool is_meant;  /* the value, or the name, stands for one */
+};
+
+struct hidreport_page {
+    uint16_t page; /* 0 where there is none */
+    bool is_there;
 };
 
 struct hidreport_choice {
@@ -271,6 +291,30 @@ struct hidreport_answer hidreport_find(const uint8_t *descriptor, size_t length,
                                        const uint8_t *report, size_t report_length,
                                        struct hidreport_field *fields, size_t room);
 
+/* The groups of the fields that a descriptor announces in a direction, in the order of its reports
+ * and of their bits: laid out, they are the fields that hidreport_describe lists. None of these is
+ * listed, so that with HIDREPORT_NO_LIMIT, too, no more memory is taken than for the descriptor's
+ * items. */
+struct hidreport_answer hidreport_groups(const uint8_t *descriptor, size_t length,
+                                         struct hidreport_options options, uint32_t direction,
+                                         struct hidreport_group *groups, size_t room);
+
+/* The usage at place `index` of group `group` of these, both counted from 0: that of variable field
+ * `index`, the last one where there are fewer, or of those that an array's values choose among, the
+ * last one behind these; 0 where there is none, as of padding and behind the last variable field.
+ * One, or none where there is no such group. */
+struct hidreport_answer hidreport_group_usage(const uint8_t *descriptor, size_t length,
+                                              struct hidreport_options options,
+                                              uint32_t direction, size_t group, size_t index,
+                                              uint32_t *usage, size_t room);
+
+/* Field `index` of group `group` of these, likewise, as hidreport_describe lists it: one, or none
+ * where there is no such field or group. Memory is taken for the usages of an array. */
+struct hidreport_answer hidreport_group_field(const uint8_t *descriptor, size_t length,
+                                              struct hidreport_options options,
+                                              uint32_t direction, size_t group, size_t index,
+                                              struct hidreport_field *field, size_t room);
+
 /* The report of a direction with this id, or without one, where `has_id` is off: one, or none where
  * there is no such report. */
 struct hidreport_answer hidreport_report_with(const uint8_t *descriptor, size_t length,
@@ -296,6 +340,20 @@ struct hidreport_answer hidreport_field_for(const uint8_t *descriptor, size_t le
 struct hidreport_answer hidreport_usages(const uint8_t *descriptor, size_t length,
                                          struct hidreport_options options, uint32_t field,
                                          uint32_t *usages, size_t room);
+
+/* The usages of all fields that hidreport_describe lists, in their order: those of a field, as many
+ * as its `usages.count`, behind those of the field before. */
+struct hidreport_answer hidreport_describe_usages(const uint8_t *descriptor, size_t length,
+                                                  struct hidreport_options options,
+                                                  uint32_t direction, uint32_t *usages,
+                                                  size_t room);
+
+/* The same of the fields that hidreport_find finds. */
+struct hidreport_answer hidreport_find_usages(const uint8_t *descriptor, size_t length,
+                                              struct hidreport_options options,
+                                              uint32_t direction, const uint8_t *report,
+                                              size_t report_length, uint32_t *usages,
+                                              size_t room);
 
 /* The collections that the field with this number lies in, outermost first. */
 struct hidreport_answer hidreport_collections(const uint8_t *descriptor, size_t length,
@@ -368,6 +426,21 @@ struct hidreport_value hidreport_value(const struct hidreport_field *field, cons
 struct hidreport_answer hidreport_values(const struct hidreport_field *field, const uint8_t *report,
                                          size_t report_length, int64_t *values, size_t room);
 
+/* All values of these fields, as hidreport_find lists them, in such a report, in order: those of
+ * a field, as many as its `value_count`, behind those of the field before. None written where one
+ * of them is refused: the first refusal counts. It takes no memory. */
+struct hidreport_answer hidreport_read(const struct hidreport_field *fields, size_t field_count,
+                                       const uint8_t *report, size_t report_length,
+                                       int64_t *values, size_t room);
+
+/* The values of these fields that the bytes have, in order, up to the first that they don't have:
+ * what hosts do with a report that is cut short. Bytes that begin with another id than one of the
+ * fields has are HIDREPORT_MISMATCHING_REPORT_ID. It takes no memory. */
+struct hidreport_answer hidreport_read_available(const struct hidreport_field *fields,
+                                                 size_t field_count, const uint8_t *report,
+                                                 size_t report_length, int64_t *values,
+                                                 size_t room);
+
 /* The usage that a value of an array stands for, of the usages that hidreport_usages lists for the
  * field: none outside the logical bounds, as where no key is held. It takes no memory. */
 struct hidreport_usage hidreport_usage_of(const struct hidreport_field *field, int64_t value,
@@ -412,6 +485,37 @@ uint32_t hidreport_insert_all(const struct hidreport_field *field, uint8_t *repo
  * and zeros. It takes no memory. */
 struct hidreport_answer hidreport_blank(const struct hidreport_report *report, uint8_t *bytes,
                                         size_t room);
+
+/* The name of a usage in the HID Usage Tables, without a zero at the end; no text where they name
+ * no such usage. */
+struct hidreport_answer hidreport_usage_name(uint32_t usage, uint8_t *text, size_t room);
+
+/* The name of a usage page, likewise; those of vendors have names by their numbers. */
+struct hidreport_answer hidreport_page_name(uint16_t page, uint8_t *text, size_t room);
+
+/* The usage that has this name, letter for letter; of several pages that of the lowest, of those of
+ * vendors FF00. It takes no memory. */
+struct hidreport_usage hidreport_usage_by_name(const uint8_t *name, size_t length);
+
+/* The usage of a page that has this name, which stands once on a page. It takes no memory. */
+struct hidreport_usage hidreport_usage_on_page(uint16_t page, const uint8_t *name, size_t length);
+
+/* The usage page that has this name. It takes no memory. */
+struct hidreport_page hidreport_page_by_name(const uint8_t *name, size_t length);
+
+/* The standard's name of the item that these bytes begin with, as of the bytes from an item's
+ * offset on; no text where it can't be read. It takes no memory. */
+struct hidreport_answer hidreport_item_name(const uint8_t *item, size_t length, uint8_t *text,
+                                            size_t room);
+
+/* The flags of the Input, Output or Feature that these bytes begin with, as words with a comma
+ * between two; no text of another item. */
+struct hidreport_answer hidreport_flag_words(const uint8_t *item, size_t length, uint8_t *text,
+                                             size_t room);
+
+/* The standard's name of a kind of collection; no text for a number above 255. It takes no
+ * memory. */
+struct hidreport_answer hidreport_collection_name(uint32_t kind, uint8_t *text, size_t room);
 
 #ifdef __cplusplus
 }

@@ -2,21 +2,30 @@
 //! package is here. The header says what each answers.
 mod alike;
 mod lookup;
+mod names;
 mod numbers;
 mod repairing;
 mod scaling;
 mod sys;
+mod wholes;
 mod writing;
 
 pub use alike::{is_alike, Unread};
 pub use lookup::{field_for, field_numbered, report_with};
+pub use names::{
+    collection_name, flag_words, item_name, page_by_name, page_name, usage_by_name, usage_name,
+    usage_on_page,
+};
 pub use numbers::{
     CollectionKind, Direction, FieldKind, Mends, Push, Reason, Status, UnknownNumber, UsagesBy,
 };
 pub use repairing::{changes, repair, repair_message};
 pub use scaling::{normalized, physical, Fraction};
 pub use sys::{
-    Change, Collection, Collections, Field, Flags, Item, Measures, Options, Report, Usages,
+    Change, Collection, Collections, Field, Flags, Group, Item, Measures, Options, Report, Usages,
+};
+pub use wholes::{
+    describe_usages, find_usages, group_field, group_usage, groups, read, read_available,
 };
 pub use writing::{blank, insert, insert_all, null_value, value_of};
 

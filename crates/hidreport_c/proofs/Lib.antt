@@ -1,11 +1,16 @@
+pub mod AvailableLemmas
 pub mod BlankLemmas
 pub mod FieldsLemmas
 pub mod FrontItemsLemmas
+pub mod GroupLemmas
 pub mod InsertLemmas
 pub mod ListsLemmas
 pub mod NullLemmas
+pub mod ReadDescribedLemmas
+pub mod ReadingLemmas
 pub mod RepairLemmas
 pub mod StandingLemmas
+pub mod UsageListsLemmas
 pub mod UsagesLemmas
 pub mod ValueLemmas
 pub mod ValuesLemmas

@@ -1,9 +1,17 @@
 -- What is written to a caller's array, part by part, and what C is told of it.
-use Rattle.std.proofs.Common.{◌≡◌, ℕ, suc, ◌+◌, ◌<◌, ◌≤◌, List, [], ◌∷◌, ◌++◌, length, take}
+use Rattle.std.proofs.Common.{◌≡◌, ℕ, zero, suc, ◌+◌, ◌<◌, ◌≤◌, ◌⊎◌, List, [], ◌∷◌, ◌++◌, length}
+use Rattle.std.proofs.Common.{take, drop}
 use Rattle.std.proofs.Common.{slice_set, Option, None, Some, Result, Ok, Err, inl, inr}
 use Rattle.std.proofs.Common.{refl, ap, sym, ◌∙◌, arith, string_bytes, map, get_or, append_assoc}
 use Rattle.std.proofs.Common.{length-append}
-use Rattle.std.proofs.lemmas.List.{length-map, length-take-le, map_more}
+use borrow.Rule.Slice.PartMut.{put_mid}
+use Rattle.std.proofs.Common.{true, false, ◌-◌, append-nil}
+use Rattle.std.proofs.Math.Dec.{leb}
+use Rattle.std.proofs.Math.Nat.{min-eq_left, min-eq_right, min-le_left, min-le_right}
+use Rattle.std.proofs.lemmas.Bool.Decides.{leb_tells}
+use Rattle.std.proofs.lemmas.List.{drop_all, length-drop, length-map, length-take-le, map_more}
+use Rattle.std.proofs.lemmas.List.{take_rest}
+use Rattle.std.specs.Prelude.{min}
 use Rattle.std.proofs.Math.Seq.{drop-nil, take-nil}
 use Rattle.hidreport.specs.Answer.{Refusal, Refuses, InvalidAt, Bounds, Mismatch, OverBudget}
 use Rattle.hidreport.specs.Options.{parse_as}
@@ -44,6 +52,60 @@ pub written-length : {A : Type 0} (xs old : List A) → length (array_after xs o
 written-length [] old = ap length (written-none old)
 written-length (x ∷ xs) [] = refl
 written-length (x ∷ xs) (o ∷ old) = ap suc (written-length xs old)
+
+-- what is written behind what was written, into the rest of the array
+pub written-behind : {A : Type 0} (xs ys old : List A) (n : ℕ) → n ≤ length xs → n ≤ length old
+    → (length xs ≤ n) ⊎ (length old ≤ n)
+    → take n (array_after xs old) ++ array_after ys (drop n (array_after xs old))
+    ≡ array_after (xs ++ ys) old
+written-behind [] ys old zero most room past = ap (array_after ys) (written-none old)
+written-behind [] ys old (suc n) most room past = absurd (omega (arith, most))
+written-behind (x ∷ xs) ys [] zero most room past =
+    ap (array_after ys) (drop-nil (length (x ∷ xs)))
+    ∙ drop-nil (length ys) ∙ sym (drop-nil (length ((x ∷ xs) ++ ys)))
+written-behind (x ∷ xs) ys [] (suc n) most room past = absurd (omega (arith, room))
+written-behind (x ∷ xs) ys (o ∷ old) zero most room (inl past) = absurd (omega (arith, past))
+written-behind (x ∷ xs) ys (o ∷ old) zero most room (inr past) = absurd (omega (arith, past))
+written-behind (x ∷ xs) ys (o ∷ old) (suc n) most room (inl past) =
+    ap (λ rest. x ∷ rest) (written-behind xs ys old n (omega (arith, most)) (omega (arith, room))
+    (inl (omega (arith, past))))
+written-behind (x ∷ xs) ys (o ∷ old) (suc n) most room (inr past) =
+    ap (λ rest. x ∷ rest) (written-behind xs ys old n (omega (arith, most)) (omega (arith, room))
+    (inr (omega (arith, past))))
+
+least-by : (a b i : ℕ) → min a b ≤ i → ((leb a b ≡ true) × (a ≤ b)) ⊎ ((leb a b ≡ false) × (b < a))
+    → (a ≤ i) ⊎ (b ≤ i)
+least-by a b i past (inl (test, below)) = inl (rw (sym (min-eq_left below)) past)
+least-by a b i past (inr (test, above)) =
+    let below : b ≤ a = omega (arith, above) in
+    inr (rw (sym (min-eq_right below)) past)
+
+-- an index past the lesser of two numbers is past one of them
+pub past-least : (a b i : ℕ) → min a b ≤ i → (a ≤ i) ⊎ (b ≤ i)
+past-least a b i past = least-by a b i past (leb_tells a b)
+
+past-in : {a b c n : ℕ} → (a ≤ n) ⊎ (b ≤ n) → b ≡ c → (a ≤ n) ⊎ (c ≤ n)
+past-in (inl h) is = inl h
+past-in (inr h) is = inr (rw (sym is) h)
+
+-- the same of a slice from that place on
+pub part-joined : {A : Type 0} (xs ys old array new : List A) (n : ℕ) → array ≡ array_after xs old
+    → n ≡ min (length xs) (length array)
+    → new ≡ array_after ys (take (length array - n) (drop n array))
+    → put_mid n (length array - n) array new ≡ array_after (xs ++ ys) old
+part-joined xs ys old array new n sofar least is =
+    let whole : length array ≡ length old = ap length sofar ∙ written-length xs old in
+    let most : n ≤ length xs = omega (arith, least, min-le_left (length xs) (length array)) in
+    let room : n ≤ length array = omega (arith, least, min-le_right (length xs) (length array)) in
+    let end : length (drop n array) ≤ length array - n = omega (arith, length-drop n array) in
+    let past = past-least (length xs) (length array) n (omega (arith, least)) in
+    let none : drop (length array - n) (drop n array) ≡ [] =
+    drop_all (length array - n) (drop n array) end in
+    ap (λ l. take n array ++ (new ++ l)) none
+    ∙ ap (λ l. take n array ++ l) (append-nil new ∙ is
+    ∙ ap (array_after ys) (take_rest array n))
+    ∙ ap (λ a. take n a ++ array_after ys (drop n a)) sofar
+    ∙ written-behind xs ys old n most (omega (arith, room, whole)) (past-in past whole)
 
 -- one part more behind those that were listed before
 next-part : {P A : Type 0} (f : P → A) (parts : List P) (i : ℕ) (p : P) (before : List A)

@@ -4,10 +4,9 @@ use Rattle.std.proofs.Common.{slice_set, Option, None, Some, IsOk, Result, Ok, E
 use Rattle.std.proofs.Common.{false, not, cond, nat_le, nat_lt, ◌||◌, ◌*◌, ◌-◌, ◌≤◌}
 use Rattle.std.proofs.Common.{◌⊎◌, inl, inr, refl, ap, sym, ◌∙◌, arith}
 use Rattle.std.proofs.Math.Dec.{leb}
-use Rattle.std.proofs.Math.Nat.{min-eq_left, min-eq_right}
 use Rattle.std.proofs.Math.Seq.{drop-nil, take-nil}
-use Rattle.std.proofs.lemmas.Bool.Decides.{leb_tells, nat_tests}
-use Rattle.std.specs.Prelude.{◌==◌, min, slice_get}
+use Rattle.std.proofs.lemmas.Bool.Decides.{nat_tests}
+use Rattle.std.specs.Prelude.{◌==◌, slice_get}
 use Rattle.hidreport.specs.Answer.{Refusal, Bounds, Mismatch}
 use Rattle.hidreport.proofs.ElementLemmas.{elements-outside, elements-readable-by}
 use Rattle.hidreport.specs.Reading.{ValueRecord, before_values, element, each_value, with_id}
@@ -135,17 +134,6 @@ element-listed first end count s bytes index (suc more) all (suc j) x h within f
     ∙ element-listed first end count s bytes (index + 1) more parts.1 j x parts.3
     (omega (arith, within)) (ap (λ i. element first end count s bytes i) here ∙ found)
 
-least-by : (a b i : ℕ) → min a b ≤ i → ((leb a b ≡ true) × (a ≤ b)) ⊎ ((leb a b ≡ false) × (b < a))
-    → (a ≤ i) ⊎ (b ≤ i)
-least-by a b i past (inl (test, below)) = inl (rw (sym (min-eq_left below)) past)
-least-by a b i past (inr (test, above)) =
-    let below : b ≤ a = omega (arith, above) in
-    inr (rw (sym (min-eq_right below)) past)
-
--- an index past the lesser of two numbers is past one of them
-pub past-least : (a b i : ℕ) → min a b ≤ i → (a ≤ i) ⊎ (b ≤ i)
-past-least a b i past = least-by a b i past (leb_tells a b)
-
 pub refused-not-ok : (r : Result (List ValueRecord) Refusal) (all : List ValueRecord)
     → r ≡ Err Bounds → r ≡ Ok all → ⊥
 refused-not-ok (Ok xs) all refused ok = cc
@@ -193,11 +181,13 @@ told (Err r) status place h =
     ∙ ap (λ o. record { count = 0; offset = o; status = status_of r }) (sym (place r refl))
 
 -- a refusal of values has no place
+pub values-place : (f : HidreportField) (bytes : List ℕ) (r : Refusal)
+    → values_at f bytes ≡ Err r → offset_of r ≡ 0
+values-place f bytes r e = id-place (id_of f) bytes (elements_at f bytes) r e
+    (λ inside. elements-place f.first_bit f.end_bit f.value_count _ bytes 0 f.value_count r inside)
+
 pub values-refused : (f : HidreportField) (bytes : List ℕ) (status : ℕ)
     → Err status ≡ by_status (acceptance (values_at f bytes))
     → record { count = 0; offset = 0; status = status }
     ≡ as_answer (value_numbers (values_at f bytes))
-values-refused f bytes status h =
-    told (values_at f bytes) status (λ r e. id-place (id_of f) bytes (elements_at f bytes) r e
-    (λ inside. elements-place f.first_bit f.end_bit f.value_count _ bytes 0 f.value_count r inside))
-    h
+values-refused f bytes status h = told (values_at f bytes) status (values-place f bytes) h

@@ -54,7 +54,7 @@ before-none (Ok v) = refl
 before-none (Err e) = refl
 
 -- the value of a variable field
-one-read : (place : FieldPlace) (s : Bool) (bytes : List ℕ)
+pub one-read : (place : FieldPlace) (s : Bool) (bytes : List ℕ)
     → before_values (element place.first place.end 1 s bytes 0) (Ok [])
     ≡ one_value (read_bits place.first place.end s bytes)
 one-read place s bytes =

@@ -73,7 +73,7 @@ pub(crate) fn reports_of(descriptor: &ReportDescriptor, direction: u32) -> &[RDe
 }
 
 /// The report of a direction that these bytes are of.
-fn report_of<'a>(
+pub(crate) fn report_of<'a>(
     descriptor: &'a ReportDescriptor,
     direction: u32,
     report: &[u8],

@@ -1,6 +1,7 @@
 ghost use Rattle.std.specs.Prelude.{◌≡◌, is_some, pos, unwrap_or};
 ghost use Rattle.hidreport.specs.Views.{field_record};
-ghost use Rattle.hidreport_c.specs.Field.{as_c, collections_as_c, flags_as_c, usages_as_c};
+ghost use Rattle.hidreport_c.specs.Field.{as_c, collections_as_c, flags_as_c, nothing_measured};
+ghost use Rattle.hidreport_c.specs.Field.{nothing_set, usages_as_c};
 
 use crate::part::Part;
 use hidreport::{
@@ -9,13 +10,13 @@ use hidreport::{
 };
 
 /// `kind` of a field with one value.
-const VARIABLE: u32 = 0;
+pub(crate) const VARIABLE: u32 = 0;
 
 /// `kind` of a field with several values, each of which chooses among usages.
 pub(crate) const ARRAY: u32 = 1;
 
 /// `kind` of padding.
-const CONSTANT: u32 = 2;
+pub(crate) const CONSTANT: u32 = 2;
 
 /// The usages of a field (`struct hidreport_usages`): page and id as one number, the page in the
 /// upper 16 bits.
@@ -199,23 +200,30 @@ fn measures_of(field: &Field) -> HidreportMeasures
             (field.physical_minimum, field.physical_maximum),
             (field.unit, field.unit_exponent),
         ),
-        Field::Constant(_) => HidreportMeasures {
-            logical_minimum: 0,
-            logical_maximum: 0,
-            physical_minimum: 0,
-            physical_maximum: 0,
-            unit: 0,
-            unit_exponent: 0,
-            has_physical_minimum: false,
-            has_physical_maximum: false,
-            has_unit: false,
-            has_unit_exponent: false,
-        },
+        Field::Constant(_) => nothing_measured(),
+    }
+}
+
+/// Padding has no data.
+pub(crate) fn nothing_measured() -> HidreportMeasures
+    ensures { result ≡ nothing_measured }
+{
+    HidreportMeasures {
+        logical_minimum: 0,
+        logical_maximum: 0,
+        physical_minimum: 0,
+        physical_maximum: 0,
+        unit: 0,
+        unit_exponent: 0,
+        has_physical_minimum: false,
+        has_physical_maximum: false,
+        has_unit: false,
+        has_unit_exponent: false,
     }
 }
 
 /// Bounds and unit, 0 for what isn't there.
-fn measures(
+pub(crate) fn measures(
     logical: (LogicalMinimum, LogicalMaximum),
     physical: (Option<PhysicalMinimum>, Option<PhysicalMaximum>),
     unit: (Option<Unit>, Option<UnitExponent>),
@@ -289,19 +297,26 @@ fn flags_of(field: &Field) -> HidreportFlags
     match field {
         Field::Variable(variable) => attributes_of(variable),
         Field::Array(array) => attributes_of(array),
-        Field::Constant(_) => HidreportFlags {
-            is_relative: false,
-            wraps: false,
-            is_nonlinear: false,
-            has_no_preferred_state: false,
-            has_null_state: false,
-            is_buffered_bytes: false,
-            is_volatile: false,
-        },
+        Field::Constant(_) => nothing_set(),
     }
 }
 
-fn attributes_of<F: FieldAttributes>(field: &F) -> HidreportFlags
+/// Nor has it flags.
+pub(crate) fn nothing_set() -> HidreportFlags
+    ensures { result ≡ nothing_set }
+{
+    HidreportFlags {
+        is_relative: false,
+        wraps: false,
+        is_nonlinear: false,
+        has_no_preferred_state: false,
+        has_null_state: false,
+        is_buffered_bytes: false,
+        is_volatile: false,
+    }
+}
+
+pub(crate) fn attributes_of<F: FieldAttributes>(field: &F) -> HidreportFlags
     ensures { result ≡ flags_as_c (F.attributes field.now) }
 {
     HidreportFlags {
@@ -315,7 +330,7 @@ fn attributes_of<F: FieldAttributes>(field: &F) -> HidreportFlags
     }
 }
 
-fn collections_of(collections: &[Collection]) -> HidreportCollections
+pub(crate) fn collections_of(collections: &[Collection]) -> HidreportCollections
     ensures { result ≡ collections_as_c collections.now }
 {
     HidreportCollections {

@@ -138,7 +138,7 @@ impl HidreportField {
     }
 
     /// Writes as many values as there is room for.
-    fn write_values(&self, report: &[u8], values: &mut [i64]) -> HidreportAnswer
+    pub(crate) fn write_values(&self, report: &[u8], values: &mut [i64]) -> HidreportAnswer
         requires { IsOk (elements_at self.now report.now) }
         ensures answer { result ≡ as_answer (value_numbers (elements_at self.now report.now)) }
         ensures written { values.new
@@ -165,7 +165,7 @@ impl HidreportField {
     }
 
     /// A value that is there, of so many bits, whatever the report's id.
-    fn element(&self, report: &[u8], width: usize, index: usize) -> Option<FieldValue>
+    pub(crate) fn element(&self, report: &[u8], width: usize, index: usize) -> Option<FieldValue>
         requires there { index < self.now.value_count }
         requires width { width
             ≡ element_width self.now.first_bit self.now.end_bit self.now.value_count }

@@ -1,8 +1,12 @@
 //! Prints the questions of its input with their answers, as c/cases.c does, by this module's
 //! functions.
+mod names;
+mod wholes;
 mod words;
 
-use hidreport::c::{Direction, Field, Fraction, Options, Refusal, Report, Status, Unread};
+use hidreport::c::{
+    Direction, Field, Flags, Fraction, Measures, Options, Refusal, Report, Status, Unread,
+};
 use std::io::BufRead;
 use words::{
     bytes_of, collection_of, direction_of, id_of, kind_of, mends_of, numbers_of, options_of,
@@ -60,6 +64,12 @@ fn print_field(f: &Field) {
     print!(" {:08x}..{:08x} {}", u.first, u.last, bit(u.is_range));
     print!(" collections {} {}", c.count, c.innermost);
     println!(" report {} {}", bit(f.has_report_id), f.report_id);
+    print_shared(m, g);
+}
+
+/// What the fields of one item share.
+fn print_shared(m: &Measures, g: &Flags) {
+    let bit = |b: bool| u8::from(b);
     print!("    logical {}..{}", m.logical_minimum, m.logical_maximum);
     print!(" physical {} {}", bit(m.has_physical_minimum), m.physical_minimum);
     print!("..{} {}", bit(m.has_physical_maximum), m.physical_maximum);
@@ -318,7 +328,11 @@ impl Asked {
                 tell(hidreport::c::describe(&descriptor(1), self.options, Direction::Input))
             }
             "items-message" => say(hidreport::c::items_message(&descriptor(1))),
-            other => panic!("no question: {other}"),
+            other => {
+                let is_answered = wholes::ask(self, other, &words[1..], &report)
+                    || names::ask(other, &words[1..]);
+                assert!(is_answered, "no question: {other}");
+            }
         }
     }
 }

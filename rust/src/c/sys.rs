@@ -1,4 +1,8 @@
-//! `include/hidreport.h` in Rust.
+//! `include/hidreport.h` in Rust: its structures here, its functions in `functions`.
+mod functions;
+
+pub use functions::*;
+
 use crate::c::numbers::{Push, UsagesBy};
 
 #[repr(C)]
@@ -70,6 +74,22 @@ pub struct Field {
 
 #[repr(C)]
 #[derive(Clone, Copy, Debug, Default, PartialEq)]
+pub struct Group {
+    pub kind: u32,
+    pub first_bit: usize,
+    pub element_width: usize,
+    pub element_count: usize,
+    pub field_count: usize,
+    pub usage: u32,
+    pub measures: Measures,
+    pub collections: Collections,
+    pub flags: Flags,
+    pub has_report_id: bool,
+    pub report_id: u8,
+}
+
+#[repr(C)]
+#[derive(Clone, Copy, Debug, Default, PartialEq)]
 pub struct Report {
     pub size_in_bits: usize,
     pub size_in_bytes: usize,
@@ -119,6 +139,13 @@ pub struct Usage {
 
 #[repr(C)]
 #[derive(Clone, Copy, Debug, PartialEq)]
+pub struct Page {
+    pub page: u16,
+    pub is_there: bool,
+}
+
+#[repr(C)]
+#[derive(Clone, Copy, Debug, PartialEq)]
 pub struct Choice {
     pub value: i64,
     pub is_there: bool,
@@ -151,221 +178,4 @@ pub struct Options {
     pub push: Push,
     /// By which rule an item finds its usages.
     pub usages: UsagesBy,
-}
-
-extern "C" {
-    pub fn hidreport_version() -> u32;
-
-    pub fn hidreport_reports(
-        descriptor: *const u8,
-        length: usize,
-        options: Options,
-        direction: u32,
-        reports: *mut Report,
-        room: usize,
-    ) -> Answer;
-
-    pub fn hidreport_describe(
-        descriptor: *const u8,
-        length: usize,
-        options: Options,
-        direction: u32,
-        fields: *mut Field,
-        room: usize,
-    ) -> Answer;
-
-    pub fn hidreport_find(
-        descriptor: *const u8,
-        length: usize,
-        options: Options,
-        direction: u32,
-        report: *const u8,
-        report_length: usize,
-        fields: *mut Field,
-        room: usize,
-    ) -> Answer;
-
-    pub fn hidreport_report_with(
-        descriptor: *const u8,
-        length: usize,
-        options: Options,
-        direction: u32,
-        has_id: bool,
-        id: u8,
-        report: *mut Report,
-        room: usize,
-    ) -> Answer;
-
-    pub fn hidreport_field_numbered(
-        descriptor: *const u8,
-        length: usize,
-        options: Options,
-        number: u32,
-        field: *mut Field,
-        room: usize,
-    ) -> Answer;
-
-    pub fn hidreport_field_for(
-        descriptor: *const u8,
-        length: usize,
-        options: Options,
-        direction: u32,
-        has_id: bool,
-        id: u8,
-        usage: u32,
-        field: *mut Field,
-        room: usize,
-    ) -> Answer;
-
-    pub fn hidreport_usages(
-        descriptor: *const u8,
-        length: usize,
-        options: Options,
-        field: u32,
-        usages: *mut u32,
-        room: usize,
-    ) -> Answer;
-
-    pub fn hidreport_collections(
-        descriptor: *const u8,
-        length: usize,
-        options: Options,
-        field: u32,
-        collections: *mut Collection,
-        room: usize,
-    ) -> Answer;
-
-    pub fn hidreport_collection_usages(
-        descriptor: *const u8,
-        length: usize,
-        options: Options,
-        field: u32,
-        index: usize,
-        usages: *mut u32,
-        room: usize,
-    ) -> Answer;
-
-    pub fn hidreport_is_alike(
-        descriptor: *const u8,
-        length: usize,
-        other: *const u8,
-        other_length: usize,
-        options: Options,
-    ) -> Likeness;
-
-    pub fn hidreport_message(
-        descriptor: *const u8,
-        length: usize,
-        options: Options,
-        text: *mut u8,
-        room: usize,
-    ) -> Answer;
-
-    pub fn hidreport_items(
-        descriptor: *const u8,
-        length: usize,
-        items: *mut Item,
-        room: usize,
-    ) -> Answer;
-
-    pub fn hidreport_front_items(
-        descriptor: *const u8,
-        length: usize,
-        items: *mut Item,
-        room: usize,
-    ) -> Answer;
-
-    pub fn hidreport_rebuild(
-        descriptor: *const u8,
-        length: usize,
-        bytes: *mut u8,
-        room: usize,
-    ) -> Answer;
-
-    pub fn hidreport_items_message(
-        descriptor: *const u8,
-        length: usize,
-        text: *mut u8,
-        room: usize,
-    ) -> Answer;
-
-    pub fn hidreport_repair(
-        descriptor: *const u8,
-        length: usize,
-        options: Options,
-        mends: u32,
-        bytes: *mut u8,
-        room: usize,
-    ) -> Answer;
-
-    pub fn hidreport_changes(
-        descriptor: *const u8,
-        length: usize,
-        options: Options,
-        mends: u32,
-        changes: *mut Change,
-        room: usize,
-    ) -> Answer;
-
-    pub fn hidreport_repair_message(
-        descriptor: *const u8,
-        length: usize,
-        options: Options,
-        mends: u32,
-        text: *mut u8,
-        room: usize,
-    ) -> Answer;
-
-    pub fn hidreport_value(
-        field: *const Field,
-        report: *const u8,
-        report_length: usize,
-        index: usize,
-    ) -> Value;
-
-    pub fn hidreport_values(
-        field: *const Field,
-        report: *const u8,
-        report_length: usize,
-        values: *mut i64,
-        room: usize,
-    ) -> Answer;
-
-    pub fn hidreport_usage_of(
-        field: *const Field,
-        value: i64,
-        usages: *const u32,
-        usage_count: usize,
-    ) -> Usage;
-
-    pub fn hidreport_value_of(
-        field: *const Field,
-        usage: u32,
-        usages: *const u32,
-        usage_count: usize,
-    ) -> Choice;
-
-    pub fn hidreport_null_value(field: *const Field) -> Choice;
-
-    pub fn hidreport_physical(field: *const Field, value: i64) -> MaybeFraction;
-
-    pub fn hidreport_normalized(field: *const Field, value: i64) -> MaybeFraction;
-
-    pub fn hidreport_insert(
-        field: *const Field,
-        report: *mut u8,
-        report_length: usize,
-        index: usize,
-        value: i64,
-    ) -> u32;
-
-    pub fn hidreport_insert_all(
-        field: *const Field,
-        report: *mut u8,
-        report_length: usize,
-        values: *const i64,
-        count: usize,
-    ) -> u32;
-
-    pub fn hidreport_blank(report: *const Report, bytes: *mut u8, room: usize) -> Answer;
 }

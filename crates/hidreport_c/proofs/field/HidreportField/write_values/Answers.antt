@@ -8,7 +8,8 @@ use Rattle.std.specs.Prelude.{option_map}
 use Rattle.hidreport.proofs.ElementLemmas.{elements-outside}
 use Rattle.hidreport.specs.Reading.{element}
 use Rattle.hidreport.specs.Choosing.{value_number}
-use Rattle.hidreport_c.proofs.ValuesLemmas.{element-listed, elements-length, past-least}
+use Rattle.hidreport_c.proofs.ListsLemmas.{past-least}
+use Rattle.hidreport_c.proofs.ValuesLemmas.{element-listed, elements-length}
 use Rattle.hidreport_c.proofs.ValuesLemmas.{refused-not-ok, set-written, written-whole}
 use Rattle.hidreport_c.specs.Answer.{as_answer, counted, list_or_nothing, array_after}
 use Rattle.hidreport_c.specs.Value.{elements_at, value_numbers}

@@ -1,0 +1,109 @@
+-- The groups that references lend, told to C.
+use Rattle.std.proofs.Common.{◌≡◌, ℕ, List, [], ◌∷◌, length, map, Bor, refl, ap, sym}
+use Rattle.std.proofs.Common.{◌∙◌, inl, inr, Option, None, Some, Result, Ok, Err, IfOk}
+use Rattle.std.proofs.lemmas.List.{length-map}
+use Rattle.std.proofs.lemmas.Option.{slice_get-map}
+use Rattle.std.specs.Option.{option_copied}
+use Rattle.std.specs.Prelude.{MatchResult, option_map, slice_get}
+use Rattle.std.specs.Slice.{IsItemAt}
+use Rattle.hidreport.specs.Groups.{GroupRecord, fields_of_groups, group_fields}
+use Rattle.hidreport.specs.Records.{FieldRecord}
+use Rattle.hidreport.specs.Views.{field_record}
+use Rattle.hidreport.specs.declared.field.Field.{Field}
+use Rattle.hidreport_c.proofs.UsagesLemmas.{copied-item}
+use Rattle.hidreport_c.proofs.ListsLemmas.{written-none}
+use Rattle.hidreport_c.specs.Answer.{Lists, array_after, counted, no_memory}
+use Rattle.hidreport_c.specs.Group.{InGroups, group_as_c, groups_as_c, lent, one_or_none}
+use Rattle.hidreport_c.specs.Group.{field_in, field_placed, usage_listed}
+use Rattle.hidreport_c.specs.Lookup.{field_or_none}
+use Rattle.hidreport_c.specs.declared.answer.HidreportAnswer.{HidreportAnswer}
+use Rattle.hidreport_c.specs.declared.field.HidreportField.{HidreportField}
+use Rattle.hidreport_c.specs.declared.group.HidreportGroup.{HidreportGroup}
+
+lent-in-c : (found : List (Bor GroupRecord))
+    → map (λ (g : Bor GroupRecord). group_as_c g.now) found ≡ groups_as_c (lent found)
+lent-in-c [] = refl
+lent-in-c (g ∷ found) = ap (λ rest. group_as_c g.now ∷ rest) (lent-in-c found)
+
+-- groups that were found, written
+pub groups-told : (found : List (Bor GroupRecord)) (fields : List FieldRecord)
+    (old new : List HidreportGroup) (told : HidreportAnswer)
+    → fields_of_groups (lent found) ≡ fields → told ≡ counted (length found)
+    → new ≡ array_after (map (λ (g : Bor GroupRecord). group_as_c g.now) found) old
+    → InGroups groups_as_c fields old new told
+groups-told found fields old new told tiled count written =
+    let all = lent-in-c found in
+    inl (
+      lent found,
+      tiled,
+      inl (
+        count ∙ ap counted (sym (length-map found (λ (g : Bor GroupRecord). group_as_c g.now))
+            ∙ ap length all),
+        written ∙ ap (λ l. array_after l old) all,
+      ),
+    )
+
+-- the usage of one that was looked for
+pub usage-found : (found : List (Bor GroupRecord)) (group index : ℕ)
+    (got : Option (Bor (Bor GroupRecord))) → IsItemAt found group got
+    → one_or_none (option_map (λ (g : Bor GroupRecord). g.now) (option_copied got)) index
+    ≡ usage_listed group index (lent found)
+usage-found found group index got item =
+    ap (λ g. one_or_none (option_map (λ (r : Bor GroupRecord). r.now) g) index)
+    (copied-item found group got item)
+    ∙ ap (λ g. one_or_none g index)
+    (sym (slice_get-map (λ (r : Bor GroupRecord). r.now) found group))
+
+-- it is written
+pub usage-told : (found : List (Bor GroupRecord)) (fields : List FieldRecord) (group index : ℕ)
+    (numbers old new : List ℕ) (told : HidreportAnswer) → fields_of_groups (lent found) ≡ fields
+    → numbers ≡ usage_listed group index (lent found) → told ≡ counted (length numbers)
+    → new ≡ array_after numbers old
+    → InGroups (usage_listed group index) fields old new told
+usage-told found fields group index numbers old new told tiled is count written =
+    inl (
+      lent found,
+      tiled,
+      inl (
+        count ∙ ap (λ (l : List ℕ). counted (length l)) is,
+        written ∙ ap (λ (l : List ℕ). array_after l old) is,
+      ),
+    )
+
+-- a field that was made of one that was looked for
+pub field-told : {E : Type 0} (found : List (Bor GroupRecord)) (fields : List FieldRecord)
+    (group index : ℕ) (g : GroupRecord) (made : Result (Option Field) E) (old new : List HidreportField)
+    (told : HidreportAnswer) → fields_of_groups (lent found) ≡ fields
+    → slice_get (lent found) group ≡ Some g
+    → IfOk made (λ field. option_map field_record field ≡ slice_get (group_fields g) index)
+    → MatchResult made
+    (λ field. Lists (Ok (field_or_none (option_map field_record field))) old new told)
+    (λ _. (told ≡ no_memory) × (new ≡ old))
+    → InGroups (field_placed group index) fields old new told
+field-told found fields group index g (Ok field) old new told tiled there is lists =
+    let all : field_or_none (option_map field_record field)
+    ≡ field_placed group index (lent found) =
+    ap field_or_none is ∙ ap (λ r. field_in r index) (sym there) in
+    inl (lent found, tiled, rw (sym all) lists)
+field-told found fields group index g (Err e) old new told tiled there is lists = inr lists
+
+-- there is no such group
+pub no-field-told : (found : List (Bor GroupRecord)) (fields : List FieldRecord) (group index : ℕ)
+    (old : List HidreportField) (told : HidreportAnswer) → fields_of_groups (lent found) ≡ fields
+    → slice_get (lent found) group ≡ None → told ≡ counted 0
+    → InGroups (field_placed group index) fields old old told
+no-field-told found fields group index old told tiled none count =
+    inl (
+      lent found,
+      tiled,
+      rw none (inl (count, sym (written-none old))),
+    )
+
+-- the group that was looked for
+pub group-at : (found : List (Bor GroupRecord)) (group : ℕ)
+    (got : Option (Bor (Bor GroupRecord))) → IsItemAt found group got
+    → slice_get (lent found) group
+    ≡ option_map (λ (g : Bor GroupRecord). g.now) (option_copied got)
+group-at found group got item =
+    slice_get-map (λ (r : Bor GroupRecord). r.now) found group
+    ∙ ap (option_map (λ (r : Bor GroupRecord). r.now)) (sym (copied-item found group got item))

@@ -1,0 +1,107 @@
+-- The fields of one main item as C has them, said once for all (Section 6.2.2.4).
+use Rattle.std.specs.Prelude.{◌≡◌, ◌⊎◌, ℕ, ◌||◌, ◌&&◌, nat_le, if◌then◌else◌, List, [], ◌∷◌, map, is_some, unwrap_or}
+use Rattle.std.specs.Borrow.{Bor}
+use Rattle.std.specs.Prelude.{slice_get, Option, None, Some, Result, Ok, Err}
+use Rattle.hidreport.specs.Answer.{Refusal}
+use Rattle.hidreport.specs.Fields.{field_count, usage_at}
+use Rattle.hidreport.specs.Groups.{GroupRecord, fields_of_groups, group_fields}
+use Rattle.hidreport.specs.Options.{parse_as}
+use Rattle.hidreport.specs.Records.{DescriptorRecord, FieldRecord, fields_in_all}
+use Rattle.hidreport.specs.UsageNumber.{usage_number}
+use Rattle.hidreport.specs.declared.parse_options.ParseOptions.{ParseOptions}
+use Rattle.hidreport_c.specs.Answer.{Lists, no_memory, refusal_as_c, unknown_option}
+use Rattle.hidreport_c.specs.Describe.{reports_in_direction}
+use Rattle.hidreport_c.specs.Field.{collections_as_c, flags_as_c, measures_as_c, nothing_measured}
+use Rattle.hidreport_c.specs.Field.{nothing_set}
+use Rattle.hidreport_c.specs.Lookup.{field_or_none}
+use Rattle.hidreport_c.specs.Options.{options_of}
+use Rattle.hidreport_c.specs.declared.answer.HidreportAnswer.{HidreportAnswer}
+use Rattle.hidreport_c.specs.declared.field.HidreportField.{HidreportField}
+use Rattle.hidreport_c.specs.declared.field.HidreportFlags.{HidreportFlags}
+use Rattle.hidreport_c.specs.declared.field.HidreportMeasures.{HidreportMeasures}
+use Rattle.hidreport_c.specs.declared.group.HidreportGroup.{HidreportGroup}
+use Rattle.hidreport_c.specs.declared.options.HidreportOptions.{HidreportOptions}
+
+-- 0 is variable, 1 an array, 2 padding
+abbrev pub kind_in : GroupRecord → ℕ
+kind_in g = if g.flags.constant then 2 else (if g.flags.variable then 0 else 1)
+
+-- the number of a usage by its place, 0 where there is none; padding has none, nor has what is
+-- behind the last variable field
+abbrev pub usage_in : GroupRecord → ℕ → ℕ
+usage_in g index =
+    if g.flags.constant || (g.flags.variable && nat_le g.extent.count index) then 0
+    else usage_number (usage_at g.usages.usages index)
+
+-- padding has no data
+abbrev pub measures_in : GroupRecord → HidreportMeasures
+measures_in g = if g.flags.constant then nothing_measured else measures_as_c g.shared
+
+abbrev pub flags_in : GroupRecord → HidreportFlags
+flags_in g = if g.flags.constant then nothing_set else flags_as_c g.shared
+
+abbrev pub group_as_c : GroupRecord → HidreportGroup
+group_as_c g = record {
+  kind = kind_in g;
+  first_bit = g.beginning.first;
+  element_width = g.extent.size;
+  element_count = g.extent.count;
+  field_count = field_count g.flags g.extent.count;
+  usage = usage_in g 0;
+  measures = measures_in g;
+  collections = collections_as_c g.shared.collections;
+  flags = flags_in g;
+  has_report_id = is_some g.beginning.report_id;
+  report_id = unwrap_or g.beginning.report_id 0;
+}
+
+abbrev pub groups_as_c : List GroupRecord → List HidreportGroup
+groups_as_c groups = map group_as_c groups
+
+abbrev pub one_or_none : Option GroupRecord → ℕ → List ℕ
+one_or_none None index = []
+one_or_none (Some g) index = usage_in g index ∷ []
+
+-- the usage of a field by the places of its group and of itself
+abbrev pub usage_listed : ℕ → ℕ → List GroupRecord → List ℕ
+usage_listed group index groups = one_or_none (slice_get groups group) index
+
+abbrev pub field_in : Option GroupRecord → ℕ → List HidreportField
+field_in None index = []
+field_in (Some g) index = field_or_none (slice_get (group_fields g) index)
+
+-- a field by the places of its group and of itself
+abbrev pub field_placed : ℕ → ℕ → List GroupRecord → List HidreportField
+field_placed group index groups = field_in (slice_get groups group) index
+
+-- what references refer to
+abbrev pub lent : {A : Type 0} → List (Bor A) → List A
+lent refs = map (λ r. r.now) refs
+
+-- the caller is told of a list that some groups have which are these fields, laid out; or memory
+-- was refused, and the array is as it was
+abbrev pub InGroups : {A : Type 0} → (List GroupRecord → List A) → List FieldRecord → List A
+    → List A → HidreportAnswer → Type 0
+InGroups parts fields old new told =
+    ((groups : List GroupRecord) × (fields_of_groups groups ≡ fields)
+    × Lists (Ok (parts groups)) old new told)
+    ⊎ ((told ≡ no_memory) × (new ≡ old))
+
+-- the same of the groups of a direction, where the descriptor isn't refused
+abbrev pub InGroupsBy : {A : Type 0} → (List GroupRecord → List A) → ℕ
+    → Result DescriptorRecord Refusal → List A → List A → HidreportAnswer → Type 0
+InGroupsBy parts direction (Ok d) old new told =
+    InGroups parts (fields_in_all (reports_in_direction direction d)) old new told
+InGroupsBy parts direction (Err refusal) old new told =
+    ((told ≡ refusal_as_c refusal) ⊎ (told ≡ no_memory)) × (new ≡ old)
+
+-- where an option says nothing the caller is told so, and the array is as it was
+abbrev pub InGroupsWith : {A : Type 0} → (List GroupRecord → List A) → ℕ → Option ParseOptions
+    → List ℕ → List A → List A → HidreportAnswer → Type 0
+InGroupsWith parts direction None bytes old new told = (told ≡ unknown_option) × (new ≡ old)
+InGroupsWith parts direction (Some options) bytes old new told =
+    InGroupsBy parts direction (parse_as options bytes) old new told
+
+abbrev pub InGroupsOf : {A : Type 0} → (List GroupRecord → List A) → ℕ → HidreportOptions
+    → List ℕ → List A → List A → HidreportAnswer → Type 0
+InGroupsOf parts direction options = InGroupsWith parts direction (options_of options)

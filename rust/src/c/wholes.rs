@@ -1,0 +1,92 @@
+//! Groups of fields, and all usages and all values at once.
+use crate::c::numbers::{Direction, Status};
+use crate::c::sys::{self, Field, Group, Options};
+use crate::c::{listed, listed_in, Refusal};
+
+// SAFETY of all calls below: as of those in lib.rs.
+
+/// The groups of the fields that a descriptor announces in a direction.
+pub fn groups(
+    descriptor: &[u8],
+    options: Options,
+    direction: Direction,
+) -> Result<Vec<Group>, Refusal> {
+    let empty = Group::default();
+    listed_in(descriptor, options, empty, |bytes, length, list, room| unsafe {
+        sys::hidreport_groups(bytes, length, options, direction.into(), list, room)
+    })
+}
+
+/// The usage at place `index` of group `group` of these, 0 where it has none; none where there is no
+/// such group.
+pub fn group_usage(
+    descriptor: &[u8],
+    options: Options,
+    direction: Direction,
+    group: usize,
+    index: usize,
+) -> Result<Option<u32>, Refusal> {
+    let way = direction.into();
+    listed_in(descriptor, options, 0, |bytes, length, list, room| unsafe {
+        sys::hidreport_group_usage(bytes, length, options, way, group, index, list, room)
+    })
+    .map(|usages| usages.first().copied())
+}
+
+/// Field `index` of group `group` of these, as `describe` lists it.
+pub fn group_field(
+    descriptor: &[u8],
+    options: Options,
+    direction: Direction,
+    group: usize,
+    index: usize,
+) -> Result<Option<Field>, Refusal> {
+    let way = direction.into();
+    listed_in(descriptor, options, Field::default(), |bytes, length, list, room| unsafe {
+        sys::hidreport_group_field(bytes, length, options, way, group, index, list, room)
+    })
+    .map(|fields| fields.first().copied())
+}
+
+/// The usages of all fields that `describe` lists, those of each field behind those of the field
+/// before.
+pub fn describe_usages(
+    descriptor: &[u8],
+    options: Options,
+    direction: Direction,
+) -> Result<Vec<u32>, Refusal> {
+    listed_in(descriptor, options, 0, |bytes, length, list, room| unsafe {
+        sys::hidreport_describe_usages(bytes, length, options, direction.into(), list, room)
+    })
+}
+
+/// The same of the fields that `find` finds.
+pub fn find_usages(
+    descriptor: &[u8],
+    options: Options,
+    direction: Direction,
+    report: &[u8],
+) -> Result<Vec<u32>, Refusal> {
+    let (way, first, size) = (direction.into(), report.as_ptr(), report.len());
+    listed_in(descriptor, options, 0, |bytes, length, list, room| unsafe {
+        sys::hidreport_find_usages(bytes, length, options, way, first, size, list, room)
+    })
+}
+
+/// All values of these fields in a report, those of each field behind those of the field before.
+pub fn read(fields: &[Field], report: &[u8]) -> Result<Vec<i64>, Status> {
+    let (first, count) = (fields.as_ptr(), fields.len());
+    listed(0, |values, room| unsafe {
+        sys::hidreport_read(first, count, report.as_ptr(), report.len(), values, room)
+    })
+    .map_err(|unlisted| unlisted.status)
+}
+
+/// The values of these fields that the bytes of a report have, up to the first that they don't have.
+pub fn read_available(fields: &[Field], report: &[u8]) -> Result<Vec<i64>, Status> {
+    let (first, count) = (fields.as_ptr(), fields.len());
+    listed(0, |values, room| unsafe {
+        sys::hidreport_read_available(first, count, report.as_ptr(), report.len(), values, room)
+    })
+    .map_err(|unlisted| unlisted.status)
+}
