@@ -1,12 +1,12 @@
 //! What the words of a command line ask for.
 use crate::commands::{
-    Check, Compile, Convert, Decode, Diff, Fields, Map, Record, Set, Target, Values, id_named,
+    Check, Compile, Convert, Decode, Diff, Fields, List, Map, Record, Set, Target, Values, id_named,
 };
 use crate::ending::Ending;
-use crate::settings::Settings;
-use crate::words::direction_named;
 use anyhow::{Result, bail};
 use clap::ArgMatches;
+use hid_input::settings::Settings;
+use hid_text::words::direction_named;
 use hidreport::Direction;
 use std::alloc::{AllocError, Global};
 use std::rt::{Clock, Files};
@@ -34,6 +34,8 @@ pub enum Command<'a> {
     Diff(Diff<'a>),
     /// Shows what is odd in a descriptor.
     Check(Check<'a>),
+    /// Shows the HID devices of the machine.
+    List(List),
 }
 
 impl<'a> Command<'a> {
@@ -44,6 +46,7 @@ impl<'a> Command<'a> {
             "decode" => Command::Decode(Decode { file }),
             "fields" => Command::Fields(Fields { file }),
             "check" => Command::Check(Check { file }),
+            "list" => Command::List(List),
             "values" => Command::Values(values_of(alloc, file, matches)?),
             "record" => Command::Record(record_of(file, matches)),
             "set" => Command::Set(set_of(alloc, file, matches)?),
@@ -77,6 +80,7 @@ impl<'a> Command<'a> {
             Command::Map(command) => command.file,
             Command::Diff(command) => command.file,
             Command::Check(command) => command.file,
+            Command::List(_) => "list",
         }
     }
 
@@ -102,7 +106,7 @@ impl<'a> Command<'a> {
     }
 
     /// Does what is asked for.
-    pub fn run<R: AllocGlobal + Clock + Files + Input + Print + Eprint>(
+    pub fn run<R: AllocGlobal + Clock + Files + Clone + Drop + Input + Print + Eprint>(
         &self,
         rt: &R,
         settings: &Settings,
@@ -118,6 +122,7 @@ impl<'a> Command<'a> {
             Command::Map(command) => command.run(rt, settings),
             Command::Diff(command) => command.run(rt, settings),
             Command::Check(command) => command.run(rt, settings),
+            Command::List(command) => command.run(rt, settings),
         }
     }
 }

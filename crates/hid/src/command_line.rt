@@ -1,7 +1,7 @@
 //! The words that `hid` knows.
 use crate::commands::TARGETS;
-use crate::input::FORM_WORDS;
 use clap::{Arg, ArgAction, Command};
+use hid_input::input::FORM_WORDS;
 use std::alloc::{AllocError, Global};
 
 /// What may stand for an argument.
@@ -39,6 +39,9 @@ enum Kind {
 
     /// What bytes are written as.
     Target,
+
+    /// A folder.
+    Folder,
 }
 
 /// An argument's name, what may stand for it, and what it is for.
@@ -53,7 +56,7 @@ static COLOURS: [&str; 3] = ["auto", "always", "never"];
 static DIRECTIONS: [&str; 3] = ["input", "output", "feature"];
 
 /// The options of all commands.
-static OPTIONS: [Argument; 9] = [
+static OPTIONS: [Argument; 10] = [
     (
         "form",
         Kind::Form,
@@ -95,6 +98,11 @@ static OPTIONS: [Argument; 9] = [
         "Write an object of JSON in each line",
     ),
     ("color", Kind::Colour, "Show names in colour"),
+    (
+        "sysfs",
+        Kind::Folder,
+        "The folder in which Linux tells of devices",
+    ),
 ];
 
 const FILE: Argument = ("FILE", Kind::Word, "The descriptor");
@@ -175,8 +183,10 @@ static DIFF: [Argument; 2] = [
     ("OTHER", Kind::Word, "Another"),
 ];
 
+static LIST: [Argument; 0] = [];
+
 /// The commands, and what each is for.
-static COMMANDS: [(&str, &str); 10] = [
+static COMMANDS: [(&str, &str); 11] = [
     ("decode", "Shows the items of a descriptor in words"),
     (
         "fields",
@@ -199,6 +209,7 @@ static COMMANDS: [(&str, &str); 10] = [
         "check",
         "Shows what is odd in a descriptor, and what the standard says",
     ),
+    ("list", "Shows the HID devices of the machine"),
 ];
 
 /// The arguments of a command.
@@ -211,14 +222,16 @@ fn arguments_of(name: &str) -> &'static [Argument] {
         "compile" => &COMPILE,
         "map" => &MAP,
         "diff" => &DIFF,
+        "list" => &LIST,
         _ => &DECODE,
     }
 }
 
 /// What stands below the help.
 const AFTER: &str = "FILE is a report descriptor: a file, - for the standard input, or a node such \
-as /dev/hidraw0.\nIt holds bytes, hex text, C or Rust source, or the lines of hid-recorder or usbhid-dump.\nThe status \
-is 0, 1 where something is refused or can't be read, and 2 where the words are wrong.";
+as /dev/hidraw0.\nIt holds bytes, hex text, a dump with offsets, C, Rust or Python source, or what \
+hid-recorder,\nusbhid-dump, libinput record, debugfs or lsusb -v write.\nThe status is 0, 1 where \
+something is refused or can't be read, and 2 where the words are wrong.";
 
 /// `hid` with its commands.
 pub fn command_line<'a>(alloc: Global) -> Result<Command<'a>, AllocError> {
@@ -274,6 +287,11 @@ fn argument_of<'a>(alloc: Global, argument: Argument) -> Arg<'a> {
             .default_value("auto")
             .global(true),
         Kind::Direction => choice(arg, name, "DIRECTION", &DIRECTIONS).default_value("input"),
+        Kind::Folder => arg
+            .long(name)
+            .value_name("DIR")
+            .default_value("/sys")
+            .global(true),
         Kind::Target => choice(arg, name, "TARGET", &TARGETS).default_value("hex"),
     }
 }

@@ -7,16 +7,16 @@ mod decode;
 mod diff;
 mod fields;
 mod findings;
+mod list;
 mod map;
 mod moved_usages;
 mod other_usages;
 mod record;
+mod report_findings;
 mod set;
 mod target;
 mod values;
 
-use crate::input::{Given, descriptor_named};
-use crate::settings::Settings;
 use anyhow::{Result, anyhow, bail};
 pub use check::Check;
 pub use compile::Compile;
@@ -24,7 +24,10 @@ pub use convert::Convert;
 pub use decode::Decode;
 pub use diff::Diff;
 pub use fields::Fields;
-use hidreport::{Direction, ParseOptions, ParserError, Report, ReportDescriptor, repair};
+use hid_input::input::{Given, descriptor_named};
+use hid_input::settings::Settings;
+use hidreport::{Direction, Outline, ParseOptions, ParserError, Report, ReportDescriptor, repair};
+pub use list::List;
 pub use map::Map;
 pub use record::Record;
 pub use set::{Set, id_named};
@@ -74,15 +77,34 @@ fn parsed(alloc: Global, settings: &Settings, bytes: &[u8]) -> Result<ReportDesc
 
 /// The descriptors of all devices, parsed, which share what may be listed.
 fn all_parsed(alloc: Global, settings: &Settings, given: &Given) -> Result<Vec<ReportDescriptor>> {
-    let mut left = *settings;
+    let mut limit = settings.parse.limit;
     let mut known = Vec::new(alloc);
     for device in given.devices.iter() {
-        let descriptor = parsed(alloc, &left, &device.descriptor)?;
+        let within = limited(settings, limit);
+        let descriptor = parsed(alloc, &within, &device.descriptor)?;
         let listed = listed_by(&descriptor);
-        left.parse.limit = left.parse.limit.map(|limit| limit.saturating_sub(listed));
+        limit = limit.map(|limit| limit.saturating_sub(listed));
         known.push(descriptor)?;
     }
     Ok(known)
+}
+
+/// The options with another limit on what may be listed.
+fn limited<'a>(settings: &Settings<'a>, limit: Option<usize>) -> Settings<'a> {
+    let parse = ParseOptions {
+        limit,
+        ..settings.parse
+    };
+    Settings {
+        form: settings.form,
+        report_form: settings.report_form,
+        device: settings.device,
+        parse,
+        is_lenient: settings.is_lenient,
+        is_json: settings.is_json,
+        is_coloured: settings.is_coloured,
+        sysfs: settings.sysfs,
+    }
 }
 
 /// How many fields and usages of arrays a descriptor lists.
@@ -130,9 +152,9 @@ fn enough(alloc: Global, settings: &Settings, bytes: &[u8]) -> Option<usize> {
             longest: None,
             ..settings.parse
         };
-        match ReportDescriptor::try_from_with(alloc, bytes, options) {
+        match Outline::try_from_with(alloc, bytes, options) {
             Err(ParserError::BudgetExceeded { .. }) => {}
-            Ok(_descriptor) => return Some(limit),
+            Ok(_outline) => return Some(limit),
             Err(_fault) => return None,
         }
     }

@@ -6,26 +6,18 @@
 mod command;
 mod command_line;
 mod commands;
-mod diff;
 mod ending;
-mod field_object;
-mod input;
 mod items;
-mod nearest;
-mod output;
-mod report;
 mod settings;
-mod value_object;
 mod wanted_usage;
-mod words;
 
 use crate::command::Command;
 use crate::command_line::command_line;
 use crate::ending::Ending;
-use crate::output::escaped;
-use crate::settings::Settings;
+use crate::settings::settings_of;
 use anyhow::{Context, Result, bail};
 use clap::ArgMatches;
+use hid_output::escaped;
 use std::alloc::{AllocError, Global};
 use std::io::IsTerminal;
 use std::process::ExitCode;
@@ -38,7 +30,7 @@ fn main(rt: HostRuntime) -> io::Result<ExitCode> {
 }
 
 /// Does what the program's words ask for; says on standard error why it can't.
-fn run<R: AllocGlobal + Clock + Env + Files + Input + Print + Eprint>(
+fn run<R: AllocGlobal + Clock + Env + Files + Clone + Drop + Input + Print + Eprint>(
     rt: &R,
     is_terminal: bool,
 ) -> Ending {
@@ -77,7 +69,7 @@ fn words_of<R: AllocGlobal + Env>(rt: &R) -> Result<Vec<String>> {
     }
 }
 
-fn answer<R: AllocGlobal + Clock + Env + Files + Input + Print + Eprint>(
+fn answer<R: AllocGlobal + Clock + Env + Files + Clone + Drop + Input + Print + Eprint>(
     rt: &R,
     is_terminal: bool,
 ) -> Result<Ending> {
@@ -100,13 +92,13 @@ fn answer<R: AllocGlobal + Clock + Env + Files + Input + Print + Eprint>(
 }
 
 /// Does what a command asks for.
-fn carry_out<R: AllocGlobal + Clock + Env + Files + Input + Print + Eprint>(
+fn carry_out<R: AllocGlobal + Clock + Env + Files + Clone + Drop + Input + Print + Eprint>(
     rt: &R,
     is_terminal: bool,
     name: &str,
     matches: &ArgMatches,
 ) -> Result<Ending> {
-    let settings = Settings::of(matches, is_coloured(rt, is_terminal));
+    let settings = settings_of(matches, is_coloured(rt, is_terminal));
     let command = match Command::of(rt.alloc(), name, matches) {
         Ok(command) => command,
         Err(error) => {

@@ -1,5 +1,5 @@
 //! The usage that a word names.
-use crate::words::{add_usage, add_usage_on_page, plain_number};
+use hid_text::words::{add_usage, add_usage_on_page, plain_number};
 use hidreport::Usage;
 use hidreport::types::UsagePage;
 use hidreport_usages::{page_by_name, usage_on_page};

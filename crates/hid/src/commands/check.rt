@@ -2,10 +2,10 @@
 use crate::commands::findings::{Finding, findings};
 use crate::commands::{check_length, descriptor_of};
 use crate::ending::Ending;
-use crate::input::descriptor_named;
-use crate::output::{add_json, flush, flush_piece};
-use crate::settings::Settings;
 use anyhow::{Result, bail};
+use hid_input::input::descriptor_named;
+use hid_input::settings::Settings;
+use hid_output::{add_json, flush, flush_piece};
 use hidreport::{ParserError, ReportDescriptor};
 use serde::Serialize;
 use std::alloc::Global;

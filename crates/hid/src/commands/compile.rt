@@ -2,12 +2,12 @@
 use crate::commands::check_length;
 use crate::commands::target::Target;
 use crate::ending::Ending;
-use crate::input::{bytes_of_hex, text_named};
 use crate::items::{ItemCursor, ItemState, PlacedItem};
-use crate::output::escaped;
-use crate::settings::Settings;
-use crate::words::{FlagTable, add_item, item_of_words, number_of, plain_number};
 use anyhow::{Context, Result, bail};
+use hid_input::input::{bytes_of_hex, text_named};
+use hid_input::settings::Settings;
+use hid_output::escaped;
+use hid_text::words::{FlagTable, add_item, item_of_words, number_of, plain_number};
 use hidreport_items::write_item;
 use std::alloc::{AllocError, Global};
 use std::rt::Files;

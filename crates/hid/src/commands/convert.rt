@@ -2,9 +2,9 @@
 use crate::commands::target::Target;
 use crate::commands::{check_length, descriptor_of};
 use crate::ending::Ending;
-use crate::input::descriptor_named;
-use crate::settings::Settings;
 use anyhow::Result;
+use hid_input::input::descriptor_named;
+use hid_input::settings::Settings;
 use std::rt::Files;
 
 /// Writes a descriptor in another form.

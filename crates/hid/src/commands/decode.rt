@@ -2,12 +2,12 @@
 use crate::commands::descriptor_of;
 use crate::commands::moved_usages::StoodUsages;
 use crate::ending::Ending;
-use crate::input::descriptor_named;
 use crate::items::{ItemCursor, ItemState, PlacedItem};
-use crate::output::{add_bytes, add_json, digits_of, flush, flush_piece};
-use crate::settings::Settings;
-use crate::words::{add_depth, add_item, number_of};
 use anyhow::{Result, bail};
+use hid_input::input::descriptor_named;
+use hid_input::settings::Settings;
+use hid_output::{add_bytes, add_json, digits_of, flush, flush_piece};
+use hid_text::words::{add_depth, add_item, number_of};
 use hidreport::hid::{ItemType, MainItem};
 use hidreport::{ParserError, ReportDescriptor};
 use hidreport_usages::item_name;

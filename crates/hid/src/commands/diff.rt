@@ -1,13 +1,13 @@
 //! `hid diff`: what differs between two descriptors.
 use crate::commands::descriptor_by;
-use crate::diff::{Changed, ReportDiff, add_runs, id_alone_changed};
 use crate::ending::Ending;
-use crate::field_object::{FieldObject, object_of};
-use crate::output::{add_json, flush, flush_piece};
-use crate::report::add_title;
-use crate::settings::Settings;
-use crate::words::word_of;
 use anyhow::{Context, Result};
+use hid_input::settings::Settings;
+use hid_output::{add_json, flush, flush_piece};
+use hid_text::diff::{Changed, ReportDiff, add_runs, id_alone_changed};
+use hid_text::field_object::{FieldObject, object_of};
+use hid_text::report::add_title;
+use hid_text::words::word_of;
 use hidreport::{Direction, Field, RDescReport, Report, ReportDescriptor};
 use serde::Serialize;
 use std::alloc::{AllocError, Global};
@@ -44,7 +44,7 @@ struct IdObject {
 /// What is shown so far.
 #[derive(Drop)]
 struct Showing<'a> {
-    settings: &'a Settings,
+    settings: &'a Settings<'a>,
     text: String,
     is_nothing: bool,
 }

@@ -1,12 +1,12 @@
 //! `hid fields`: the reports of a descriptor with their fields, inside their collections.
 use crate::commands::descriptor_by;
 use crate::ending::Ending;
-use crate::field_object::add_field_object;
-use crate::output::{flush, flush_piece};
-use crate::report::add_title;
-use crate::settings::Settings;
-use crate::words::{add_collection, add_depth, add_field, add_spaces, indent_of};
 use anyhow::Result;
+use hid_input::settings::Settings;
+use hid_output::{flush, flush_piece};
+use hid_text::field_object::add_field_object;
+use hid_text::report::{AlikeFields, add_title};
+use hid_text::words::{add_collection, add_depth, add_spaces, indent_of};
 use hidreport::{Collection, Direction, Field, RDescReport, Report};
 use std::alloc::AllocError;
 use std::fmt::Write;
@@ -55,13 +55,29 @@ fn show_report<R: Print>(
         return Ok(());
     }
     add_head(text, direction, report)?;
+    show_fields(rt, text, report)
+}
+
+/// Shows the fields of a report, a line for those side by side that are alike but for their bits.
+fn show_fields<R: Print>(rt: &R, text: &mut String, report: &RDescReport) -> Result<()> {
     let mut open: &[Collection] = &[];
+    let mut run: Option<AlikeFields> = None;
     for field in report.fields() {
-        add_placed_field(text, open, field)?;
-        open = around(open, field);
-        flush_piece(rt, text)?;
+        if let Some(longer) = run.and_then(|run| run.with(field)) {
+            run = Some(longer);
+            continue;
+        }
+        if let Some(run) = run {
+            add_placed_fields(text, open, run)?;
+            open = around(open, run.first);
+            flush_piece(rt, text)?;
+        }
+        run = Some(AlikeFields::of(field));
     }
-    Ok(())
+    match run {
+        Some(run) => Ok(add_placed_fields(text, open, run)?),
+        None => Ok(()),
+    }
 }
 
 /// Appends the line that names a report.
@@ -76,17 +92,17 @@ fn add_head(
     writeln!(text, ": {bits} bits, {bytes} byte{plural}")
 }
 
-/// Appends a field below the collections that it lies in, where those before it aren't these.
-fn add_placed_field(
+/// Appends fields below the collections that they lie in, where those before them aren't these.
+fn add_placed_fields(
     text: &mut String,
     open: &[Collection],
-    field: &Field,
+    run: AlikeFields,
 ) -> Result<(), AllocError> {
-    let around = around(open, field);
+    let around = around(open, run.first);
     add_opened(text, open, around)?;
     let indent = indent_of(around.len().saturating_add(1));
     add_spaces(text, indent)?;
-    add_field(text, field, indent)?;
+    run.add(text, indent)?;
     text.push_str("\n")
 }
 

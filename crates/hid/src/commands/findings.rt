@@ -1,13 +1,12 @@
 //! What is odd in a descriptor, and what the standard says.
 use crate::commands::decode::{offset_of, remark_of};
 use crate::commands::other_usages::tell_other_usages;
+use crate::commands::report_findings::tell_reports;
 use crate::items::{ItemCursor, ItemState, PlacedItem};
-use crate::report::add_title;
-use crate::settings::Settings;
+use hid_input::settings::Settings;
 use hidreport::hid::{CollectionItem, GlobalItem, ItemType, LocalItem, MainDataItem, MainItem};
-use hidreport::{Direction, Field, ParserError, RDescReport, Report, ReportDescriptor};
+use hidreport::{ParserError, ReportDescriptor};
 use std::alloc::{AllocError, Global};
-use std::fmt::Write;
 
 /// Something odd.
 #[derive(Drop)]
@@ -40,7 +39,7 @@ pub fn findings(
     watch.pass_all(bytes)?;
     match parsed {
         Ok(descriptor) => {
-            watch.tell_sizes(descriptor)?;
+            tell_reports(descriptor, &mut watch.findings)?;
             tell_other_usages(alloc, settings, bytes, descriptor, &mut watch.findings)?;
         }
         Err(fault) => watch.tell_refusal(fault)?,
@@ -118,12 +117,24 @@ impl Watch {
         Ok(())
     }
 
+    /// Notes an outermost collection that is no Application, and an Application without a usage.
     fn open_collection(&mut self, offset: usize, kind: CollectionItem) -> Result<(), AllocError> {
-        if self.state.open.is_empty() && kind != CollectionItem::Application {
+        if kind == CollectionItem::Application {
+            return self.tell_no_usage(offset);
+        }
+        if self.state.open.is_empty() {
             self.tell(
                 offset,
                 "an outermost collection is an Application (Section 8.4)",
             )?;
+        }
+        Ok(())
+    }
+
+    /// Notes that a collection which names what the device is has no usage.
+    fn tell_no_usage(&mut self, offset: usize) -> Result<(), AllocError> {
+        if self.usages == 0 {
+            return self.tell(offset, "an Application has no usage (Section 6.2.2.6)");
         }
         Ok(())
     }
@@ -136,6 +147,8 @@ impl Watch {
             return Ok(());
         }
         self.tell_bounds()?;
+        self.tell_width()?;
+        self.tell_one_value(offset)?;
         self.tell_usages()
     }
 
@@ -166,6 +179,32 @@ impl Watch {
             "the maximum {high} is below the minimum {low}{hint} (Section 6.2.2.7)"
         )?;
         self.tell(self.state.globals.maximum_offset, &remark)
+    }
+
+    /// Notes that so few bits don't hold the logical maximum.
+    fn tell_width(&mut self) -> Result<(), AllocError> {
+        let (low, high) = (self.state.globals.minimum, self.state.globals.maximum);
+        let size = self.state.globals.size;
+        if high < low || holds(size, low < 0, high) {
+            return Ok(());
+        }
+        let plural = if size == 1 { "" } else { "s" };
+        let remark = format!(in self.alloc;
+            "the maximum {high} takes more than {size} bit{plural} (Section 6.2.2.7)"
+        )?;
+        self.tell(self.state.globals.maximum_offset, &remark)
+    }
+
+    /// Notes that the logical bounds are one number.
+    fn tell_one_value(&mut self, offset: usize) -> Result<(), AllocError> {
+        let (low, high) = (self.state.globals.minimum, self.state.globals.maximum);
+        if low != high || self.state.globals.size == 0 {
+            return Ok(());
+        }
+        let remark = format!(in self.alloc;
+            "its logical minimum and maximum are both {low} (Section 6.2.2.7)"
+        )?;
+        self.tell(offset, &remark)
     }
 
     /// Notes that there are more usages than buttons or keys of one bit.
@@ -247,47 +286,6 @@ impl Watch {
         }
         Ok(())
     }
-
-    /// Notes the reports that are no whole number of bytes, and the fields that lie in too many.
-    fn tell_sizes(&mut self, descriptor: &ReportDescriptor) -> Result<(), AllocError> {
-        for direction in Direction::ALL {
-            for report in descriptor.reports(direction) {
-                self.tell_bits(direction, report)?;
-                self.tell_wide(direction, report)?;
-            }
-        }
-        Ok(())
-    }
-
-    fn tell_bits(&mut self, direction: Direction, report: &RDescReport) -> Result<(), AllocError> {
-        if report.size_in_bits() % 8 == 0 {
-            return Ok(());
-        }
-        let said = ": its bits are no whole number of bytes (Section 8.4)";
-        self.tell_of_report(direction, report, said)
-    }
-
-    fn tell_wide(&mut self, direction: Direction, report: &RDescReport) -> Result<(), AllocError> {
-        if !report.fields().iter().any(is_in_five_bytes) {
-            return Ok(());
-        }
-        let said = ": a field lies in more than four bytes (Section 8.4)";
-        self.tell_of_report(direction, report, said)
-    }
-
-    /// Notes what is odd in a report.
-    fn tell_of_report(
-        &mut self,
-        direction: Direction,
-        report: &RDescReport,
-        said: &str,
-    ) -> Result<(), AllocError> {
-        let mut remark = String::new(self.alloc);
-        add_title(&mut remark, direction, report)?;
-        remark.push_str(said)?;
-        let offset = None;
-        Ok(self.findings.push(Finding { offset, remark })?)
-    }
 }
 
 /// What may be meant by a maximum below the minimum.
@@ -299,13 +297,13 @@ fn hint_of(low: i32, high: i32) -> &'static str {
     }
 }
 
-/// Whether a value lies in more than four bytes.
-fn is_in_five_bytes(field: &Field) -> bool {
-    match field {
-        Field::Variable(field) => {
-            let last = field.bits.end.saturating_sub(1) / 8;
-            last.saturating_sub(field.bits.start / 8) > 3
-        }
-        _ => false,
-    }
+/// Whether so many bits, signed or not, hold a number above the least that they hold; no bits are
+/// told of elsewhere, and past 31 they hold all.
+fn holds(size: usize, is_signed: bool, number: i32) -> bool {
+    let bits = if is_signed {
+        size.saturating_sub(1)
+    } else {
+        size
+    };
+    size == 0 || 31 <= bits || number >> bits == 0 || number < 0
 }

@@ -1,11 +1,11 @@
 //! `hid map`: the bits of each report, a row for each byte, bit 7 on the left.
 use crate::commands::descriptor_by;
 use crate::ending::Ending;
-use crate::output::{flush, flush_piece, show};
-use crate::report::{Cell, Picture, Row, add_title, rows_of};
-use crate::settings::Settings;
-use crate::words::{add_spaces, shortened};
 use anyhow::Result;
+use hid_input::settings::Settings;
+use hid_output::{flush, flush_piece, show};
+use hid_text::report::{Cell, Picture, Row, add_title, rows_of};
+use hid_text::words::{add_spaces, shortened};
 use hidreport::{Direction, RDescReport, ReportDescriptor};
 use std::alloc::AllocError;
 use std::fmt::Write;

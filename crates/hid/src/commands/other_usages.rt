@@ -1,9 +1,9 @@
 //! Where the letter of the standard gives fields other usages than hosts read.
 use crate::commands::decode::{offset_of, remark_of};
 use crate::commands::findings::Finding;
-use crate::report::add_title;
-use crate::settings::Settings;
-use crate::words::add_name;
+use hid_input::settings::Settings;
+use hid_text::report::add_title;
+use hid_text::words::add_name;
 use hidreport::{
     Direction, Field, ParseOptions, ParserError, RDescReport, Report, ReportDescriptor, UsagesBy,
 };

@@ -2,12 +2,12 @@
 use crate::commands::all_parsed;
 use crate::commands::values::place_of;
 use crate::ending::Ending;
-use crate::input::{Form, Given, GivenReport, Stream, descriptors_named, is_node};
-use crate::output::{add_bytes, flush};
-use crate::report::{Lines, tell_size};
-use crate::settings::Settings;
-use crate::value_object::add_value_objects;
 use anyhow::{Context, Result, bail};
+use hid_input::input::{Form, Given, GivenReport, Stream, descriptors_named, is_node, node_named};
+use hid_input::settings::Settings;
+use hid_output::{add_bytes, flush};
+use hid_text::report::{Lines, tell_size};
+use hid_text::value_object::add_value_objects;
 use hidreport::{Direction, ReportDescriptor};
 use std::alloc::AllocError;
 use std::fmt::Write;
@@ -67,8 +67,9 @@ impl<'a> Record<'a> {
         let given = descriptors_named(rt, settings, self.file)?;
         let known = all_parsed(rt.alloc(), settings, &given)?;
         let mut recording = self.recording(rt, settings, &given, &known)?;
-        let stream = Stream::new(rt.alloc(), settings.report_form, is_node(self.stream));
-        self.follow_named(rt, &known, stream, &mut recording)
+        let node = node_named(rt, settings, self.stream)?;
+        let stream = Stream::new(rt.alloc(), settings.report_form, is_node(node.as_str()));
+        self.follow_named(rt, node.as_str(), &known, stream, &mut recording)
             .context(format_args!("{}", self.stream))
     }
 
@@ -76,6 +77,7 @@ impl<'a> Record<'a> {
     fn follow_named<R: AllocGlobal + Clock + Files + Input + Print + Eprint>(
         &self,
         rt: &R,
+        node: &str,
         known: &[ReportDescriptor],
         stream: Stream,
         recording: &mut Recording,
@@ -83,7 +85,7 @@ impl<'a> Record<'a> {
         if self.stream == "-" {
             return follow(rt, rt.reader(), self.stream, known, stream, recording);
         }
-        let file = fs::open(rt, self.stream)?;
+        let file = fs::open(rt, node)?;
         follow(rt, file, self.stream, known, stream, recording)
     }
 

@@ -2,13 +2,13 @@
 use crate::commands::descriptor_by;
 use crate::commands::target::Target;
 use crate::ending::Ending;
-use crate::nearest::add_nearest;
-use crate::output::escaped;
-use crate::report::{Choice, add_reports, choice_of, is_outside};
-use crate::settings::Settings;
 use crate::wanted_usage::WantedUsage;
-use crate::words::{add_usage, plain_number, word_of};
 use anyhow::{Context, Result, anyhow, bail};
+use hid_input::settings::Settings;
+use hid_output::escaped;
+use hid_text::nearest::add_nearest;
+use hid_text::report::{Choice, add_reports, choice_of, is_outside};
+use hid_text::words::{add_usage, plain_number, word_of};
 use hidreport::{
     ArrayField, Direction, Field, FieldAttributes, RDescReport, Report, ReportDescriptor, ReportId,
     Usage, VariableField,

@@ -1,8 +1,8 @@
 //! What bytes are written as: hex text, source, bytes, or a recording.
 use crate::items::{ItemCursor, ItemState};
-use crate::output::{add_bytes, flush, flush_piece};
-use crate::words::add_item;
 use anyhow::Result;
+use hid_output::{add_bytes, flush, flush_piece};
+use hid_text::words::add_item;
 use std::alloc::AllocError;
 use std::fmt::Write as FmtWrite;
 use std::io;

@@ -1,18 +1,18 @@
 //! `hid values`: the values of reports, by name.
 use crate::commands::all_parsed;
 use crate::ending::Ending;
-use crate::input::{Form, Given, GivenReport, descriptors_named, reports_named};
-use crate::output::{flush, flush_piece, show};
-use crate::report::{
+use anyhow::{Context, Result, anyhow, bail, ensure};
+use hid_input::input::{Form, Given, GivenReport, descriptors_named, reports_named};
+use hid_input::settings::Settings;
+use hid_output::{flush, flush_piece, show};
+use hid_text::report::{
     Amount, add_choice, add_choices, add_reports, add_title, amount_of, element_width, is_outside,
     readable, tell_size,
 };
-use crate::settings::Settings;
-use crate::value_object::add_value_objects;
-use crate::words::{
+use hid_text::value_object::add_value_objects;
+use hid_text::words::{
     add_array_name, add_measured, add_usage, add_usage_on_page, measured_value, word_of,
 };
-use anyhow::{Context, Result, anyhow, bail, ensure};
 use hidreport::{
     ArrayField, Direction, Field, RDescReport, Report, ReportDescriptor, VariableField,
 };

@@ -1,0 +1,92 @@
+//! Numbers of a byte each with commas between them, over several lines.
+use crate::input::form::hex_text::without_prefix;
+use anyhow::{Result, bail, ensure};
+use std::alloc::Global;
+use std::mem;
+
+/// The numbers of a list so far.
+#[derive(Drop)]
+pub struct NumberList {
+    bytes: Vec<u8>,
+    /// Whether a number was last, and no comma.
+    is_behind_number: bool,
+}
+
+impl NumberList {
+    /// A list without numbers.
+    pub fn new(alloc: Global) -> NumberList {
+        NumberList {
+            bytes: Vec::new(alloc),
+            is_behind_number: false,
+        }
+    }
+
+    /// Whether no number is in it yet.
+    pub fn is_empty(&self) -> bool {
+        self.bytes.is_empty()
+    }
+
+    /// Takes the numbers of a part of the list.
+    pub fn add(&mut self, part: &str) -> Result<()> {
+        let mut is_behind_comma = false;
+        for word in part.split(",") {
+            if is_behind_comma {
+                self.take_comma()?;
+            }
+            is_behind_comma = true;
+            let word = word.trim();
+            if !word.is_empty() {
+                self.take_number(word)?;
+            }
+        }
+        Ok(())
+    }
+
+    /// Takes a comma.
+    fn take_comma(&mut self) -> Result<()> {
+        ensure!(self.is_behind_number, "no number stands before a comma");
+        self.is_behind_number = false;
+        Ok(())
+    }
+
+    /// Takes a number.
+    fn take_number(&mut self, word: &str) -> Result<()> {
+        ensure!(!self.is_behind_number, "no comma stands before {word}");
+        self.is_behind_number = true;
+        ensure!(
+            !is_octal(word),
+            "{word} begins with 0: it may be octal or decimal"
+        );
+        match byte_of(word) {
+            Some(byte) => Ok(self.bytes.push(byte)?),
+            None => bail!("{word} is no byte"),
+        }
+    }
+
+    /// The bytes so far; the list has none from here on.
+    pub fn taken(&mut self) -> Vec<u8> {
+        let alloc = *self.bytes.allocator();
+        self.is_behind_number = false;
+        mem::replace(&mut self.bytes, Vec::new(alloc))
+    }
+}
+
+/// Whether a number is another where C reads it: digits behind a 0, of which one digit alone is the
+/// same in both.
+fn is_octal(word: &str) -> bool {
+    let digits = word.trim_start_matches('0');
+    let is_decimal = word.bytes().all(|byte| byte.is_ascii_digit());
+    is_decimal
+        && digits.len() < word.len()
+        && !matches!(digits, "" | "1" | "2" | "3" | "4" | "5" | "6" | "7")
+}
+
+/// The byte that a number writes.
+fn byte_of(word: &str) -> Option<u8> {
+    match without_prefix(word) {
+        Some(digits) if !digits.starts_with("+") => u8::from_str_radix(digits, 16).ok(),
+        Some(_signed) => None,
+        None if word.starts_with("+") => None,
+        None => word.parse::<u8>().ok(),
+    }
+}

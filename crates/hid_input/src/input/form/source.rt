@@ -1,0 +1,184 @@
+//! Arrays of C and Rust, as `hid convert` writes them: a declaration with a list of numbers in
+//! braces or brackets, and remarks behind `//` or between `/*` and `*/`.
+use crate::input::form::Wanted;
+use crate::input::form::number_list::NumberList;
+use crate::input::given::{Found, GivenReport};
+use anyhow::{Result, bail, ensure};
+use std::alloc::{AllocError, Global};
+
+/// What reads arrays.
+#[derive(Drop)]
+pub struct SourceLines {
+    wanted: Wanted,
+    /// How many arrays are read.
+    read: usize,
+    is_in_remark: bool,
+    is_in_list: bool,
+    /// The name of the array, and how many bytes it says that it has.
+    name: String,
+    said: Option<usize>,
+    numbers: NumberList,
+    /// How many bytes the last array has.
+    count: Option<usize>,
+}
+
+/// Whether a line is the first of an array, or of a remark.
+pub fn is_source_line(line: &str) -> bool {
+    if line.trim().starts_with("/*") {
+        return true;
+    }
+    match line.split_once("=") {
+        Some((_declared, list)) => begun_list(list).is_some(),
+        None => false,
+    }
+}
+
+/// What stands behind the brace or the bracket that begins a list.
+fn begun_list(text: &str) -> Option<&str> {
+    let text = text.trim();
+    let text = text.strip_prefix("&").unwrap_or(text);
+    match text.strip_prefix("{") {
+        Some(list) => Some(list),
+        None => text.strip_prefix("["),
+    }
+}
+
+impl SourceLines {
+    /// Before the first line.
+    pub fn new(alloc: Global, wanted: Wanted) -> SourceLines {
+        SourceLines {
+            wanted,
+            read: 0,
+            is_in_remark: false,
+            is_in_list: false,
+            name: String::new(alloc),
+            said: None,
+            numbers: NumberList::new(alloc),
+            count: None,
+        }
+    }
+
+    /// Takes what a line says.
+    pub fn take(&mut self, found: &mut Found, line: &str) -> Result<()> {
+        let alloc = *found.devices.allocator();
+        let mut code = String::new(alloc);
+        self.is_in_remark = add_code(&mut code, line, self.is_in_remark)?;
+        let code = code.as_str().trim();
+        if code.is_empty() {
+            return Ok(());
+        }
+        if self.is_in_list {
+            return self.take_list(found, code);
+        }
+        let Some((declared, list)) = code.split_once("=") else {
+            bail!("is no declaration of bytes");
+        };
+        let Some(list) = begun_list(list) else {
+            return self.take_length(declared, list);
+        };
+        self.begin(*found.devices.allocator(), declared)?;
+        self.take_list(found, list)
+    }
+
+    /// Takes the name of an array, and the number of its bytes.
+    fn begin(&mut self, alloc: Global, declared: &str) -> Result<()> {
+        let before = match declared.split_once(":") {
+            Some((name, _type)) => name,
+            None => declared.split_once("[").unwrap_or((declared, "")).0,
+        };
+        let name = before.split_whitespace().last().unwrap_or("");
+        self.name = String::from_str(alloc, name)?;
+        self.said = said_in(declared);
+        self.is_in_list = true;
+        Ok(())
+    }
+
+    /// Takes bytes of a list, and its end.
+    fn take_list(&mut self, found: &mut Found, code: &str) -> Result<()> {
+        let Some((list, behind)) = code.split_once(|letter: char| matches!(letter, '}' | ']'))
+        else {
+            return self.numbers.add(code);
+        };
+        self.numbers.add(list)?;
+        ensure!(
+            matches!(behind.trim(), "" | ";"),
+            "something stands behind the list"
+        );
+        self.take_array(found)
+    }
+
+    /// Takes the number of the bytes of the last array, which `xxd -i` writes behind it.
+    fn take_length(&mut self, declared: &str, number: &str) -> Result<()> {
+        let name = declared.split_whitespace().last().unwrap_or("");
+        let (Some(own), Some(count)) = (name.strip_suffix("_len"), self.count) else {
+            bail!("no list of bytes is behind =");
+        };
+        ensure!(own == self.name.as_str(), "no list of bytes is behind =");
+        let number = number.trim().strip_suffix(";").unwrap_or(number);
+        let Ok(said) = number.trim().parse::<usize>() else {
+            bail!("{number} is no number of bytes");
+        };
+        ensure!(said == count, "says {said} bytes, and the list has {count}");
+        Ok(())
+    }
+
+    /// Takes an array as a descriptor or a report.
+    fn take_array(&mut self, found: &mut Found) -> Result<()> {
+        self.is_in_list = false;
+        let bytes = self.numbers.taken();
+        let got = bytes.len();
+        self.count = Some(got);
+        if let Some(said) = self.said {
+            ensure!(got == said, "says {said} bytes, and has {got}");
+        }
+        if self.wanted == Wanted::Reports {
+            return Ok(found.add_report(GivenReport::new(bytes))?);
+        }
+        let number = found.devices.len();
+        found.set_name(number, self.name.as_str())?;
+        found.add_descriptor(number, bytes)
+    }
+
+    /// Looks whether the last array is whole.
+    pub fn end(&mut self) -> Result<()> {
+        ensure!(!self.is_in_list, "the list of bytes has no end");
+        Ok(())
+    }
+}
+
+/// The number of bytes that a declaration says in brackets: the last word in them.
+fn said_in(declared: &str) -> Option<usize> {
+    let (_before, inner) = declared.split_once("[")?;
+    let (inner, _behind) = inner.split_once("]")?;
+    match inner.split_whitespace().last()?.parse::<usize>() {
+        Ok(count) => Some(count),
+        Err(_wrong) => None,
+    }
+}
+
+/// Appends what of a line is in no remark, and answers whether one goes on behind it.
+fn add_code(code: &mut String, line: &str, is_in_remark: bool) -> Result<bool, AllocError> {
+    let mut is_in_remark = is_in_remark;
+    let mut last = ' ';
+    for letter in line.chars() {
+        if is_in_remark {
+            if last == '*' && letter == '/' {
+                is_in_remark = false;
+                last = ' ';
+                continue;
+            }
+        } else if last == '/' && letter == '/' {
+            code.pop();
+            return Ok(false);
+        } else if last == '/' && letter == '*' {
+            code.pop();
+            is_in_remark = true;
+            last = ' ';
+            continue;
+        } else {
+            code.push(letter)?;
+        }
+        last = letter;
+    }
+    Ok(is_in_remark)
+}

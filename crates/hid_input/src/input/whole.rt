@@ -1,0 +1,95 @@
+//! A whole input, in the form that is named or the one that it has.
+use crate::input::form::{Form, FormLines, Wanted, is_blank};
+use crate::input::given::{Found, Given, GivenReport};
+use anyhow::{Context, Result, bail, ensure};
+use std::alloc::Global;
+
+/// What the bytes of an input say. Bytes that are all text are read as text unless `form` says
+/// bytes.
+pub fn given_of(
+    alloc: Global,
+    bytes: Vec<u8>,
+    form: Option<Form>,
+    wanted: Wanted,
+) -> Result<Given> {
+    if form == Some(Form::Bytes) {
+        return plain(alloc, bytes, wanted);
+    }
+    let Some(text) = text_of(&bytes) else {
+        ensure!(form.is_none(), "isn't text");
+        return plain(alloc, bytes, wanted);
+    };
+    let form = match form {
+        Some(form) => form,
+        None => guessed(text)?,
+    };
+    said(alloc, text, form, wanted)
+}
+
+/// What the lines of a text say in a form.
+fn said(alloc: Global, text: &str, form: Form, wanted: Wanted) -> Result<Given> {
+    let mut found = Found::new(alloc);
+    if let Some(mut lines) = FormLines::new(alloc, form, wanted) {
+        for (number, line) in (1u64..).zip(text.lines()) {
+            lines
+                .take(&mut found, line)
+                .context(format_args!("line {number}"))?;
+        }
+        lines.end(&mut found)?;
+    }
+    Ok(found.given(form))
+}
+
+/// Bytes as they are.
+fn plain(alloc: Global, bytes: Vec<u8>, wanted: Wanted) -> Result<Given> {
+    let mut found = Found::new(alloc);
+    if wanted == Wanted::Descriptors {
+        found.add_descriptor(0, bytes)?;
+    } else if !bytes.is_empty() {
+        found.add_report(GivenReport::new(bytes))?;
+    }
+    Ok(found.given(Form::Bytes))
+}
+
+/// The text that bytes are, without the mark that may stand before it; none where they aren't all
+/// text.
+pub fn text_of(bytes: &[u8]) -> Option<&str> {
+    let Ok(text) = str::from_utf8(bytes) else {
+        return None;
+    };
+    let text = text.strip_prefix("\u{feff}").unwrap_or(text);
+    if is_text(text) { Some(text) } else { None }
+}
+
+/// Whether all characters can be seen, or are spaces and ends of lines.
+fn is_text(text: &str) -> bool {
+    text.chars().all(|letter| matches!(letter, '\t' | '\n' | '\r') || !letter.is_control())
+}
+
+/// The form of a text, by its first two lines that say something; where none does it is hex text.
+fn guessed(text: &str) -> Result<Form> {
+    let mut first = None;
+    for (number, line) in (1u64..).zip(text.lines()) {
+        if is_blank(line) {
+            continue;
+        }
+        match first {
+            Some((number, first)) => return form_of_lines(number, first, line),
+            None => first = Some((number, line)),
+        }
+    }
+    match first {
+        Some((number, first)) => form_of_lines(number, first, ""),
+        None => Ok(Form::Hex),
+    }
+}
+
+/// The form of a text whose first lines that say something are these; the second may be empty.
+pub fn form_of_lines(number: u64, line: &str, next: &str) -> Result<Form> {
+    match Form::of_lines(line, next).context(format_args!("line {number}"))? {
+        Some(form) => Ok(form),
+        None => bail!(
+            "line {number}: in none of the forms of --form; as bytes: --form or --report-form bytes"
+        ),
+    }
+}

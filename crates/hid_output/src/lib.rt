@@ -1,0 +1,81 @@
+//! What the program `hid` writes: texts in pieces, bytes in digits, JSON, and what came from an
+//! input.
+//! Licence: MIT (LICENSE).
+#![tactic(auto)]
+
+use anyhow::Result;
+use serde::Serialize;
+use std::alloc::{AllocError, Global};
+use std::fmt::Write as FmtWrite;
+use std::io;
+use std::io::Write;
+
+/// How many bytes are gathered before they are written.
+const PIECE: usize = 65_536;
+
+/// Writes a text.
+pub fn show<R: Print>(rt: &R, text: &str) -> Result<()> {
+    Ok(io::writer(rt).write_all(text.as_bytes())?)
+}
+
+/// Writes what was gathered, and keeps nothing of it.
+pub fn flush<R: Print>(rt: &R, text: &mut String) -> Result<()> {
+    show(rt, text.as_str())?;
+    text.clear();
+    Ok(())
+}
+
+/// Writes what was gathered, where it is enough for a piece.
+pub fn flush_piece<R: Print>(rt: &R, text: &mut String) -> Result<()> {
+    if text.len() < PIECE {
+        return Ok(());
+    }
+    flush(rt, text)
+}
+
+/// Appends bytes as pairs of hexadecimal digits, with a space between them.
+pub fn add_bytes(text: &mut String, bytes: &[u8]) -> Result<(), AllocError> {
+    let mut gap = "";
+    for byte in bytes {
+        write!(text, "{gap}{byte:02x}")?;
+        gap = " ";
+    }
+    Ok(())
+}
+
+/// Bytes as pairs of hexadecimal digits, with a space between them.
+pub fn digits_of(alloc: Global, bytes: &[u8]) -> Result<String, AllocError> {
+    let mut digits = String::new(alloc);
+    add_bytes(&mut digits, bytes)?;
+    Ok(digits)
+}
+
+/// Appends a value of JSON as a line.
+pub fn add_json<T: Serialize>(text: &mut String, value: &T) -> Result<()> {
+    let line = serde_json::to_string(*text.allocator(), value)?;
+    text.push_str(line.as_str())?;
+    text.push_str("\n")?;
+    Ok(())
+}
+
+/// A text that came from an input, as a terminal may be given it: control characters and those that
+/// turn the direction of a line are written as `\u{..}`.
+pub fn escaped(alloc: Global, text: &str) -> Result<String, AllocError> {
+    let mut shown = String::new(alloc);
+    for letter in text.chars() {
+        if is_plain(letter) {
+            shown.push(letter)?;
+        } else {
+            let number = u32::from(letter);
+            write!(shown, "\\u{{{number:x}}}")?;
+        }
+    }
+    Ok(shown)
+}
+
+/// Whether a terminal shows a character where it stands.
+fn is_plain(letter: char) -> bool {
+    let is_turning = matches!(letter,
+        '\u{61c}' | '\u{200e}' | '\u{200f}' | '\u{202a}'..='\u{202e}' | '\u{2066}'..='\u{2069}');
+    !letter.is_control() && !is_turning && !matches!(letter, '\u{2028}' | '\u{2029}' | '\u{feff}')
+}
