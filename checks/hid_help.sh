@@ -43,7 +43,9 @@ say 0 output --version > "$scratch/texts/version"
 say 2 errors WORD > "$scratch/texts/wrong"
 for command in $(commands); do
     say 0 output "$command" --help > "$scratch/texts/of_$command"
-    say 2 errors "$command" > "$scratch/texts/alone_$command"
+    # One that wants no word does what it is for.
+    ! grep -q '^Usage: .*<' "$scratch/texts/of_$command" ||
+        say 2 errors "$command" > "$scratch/texts/alone_$command"
 done
 
 # Other words for the same.

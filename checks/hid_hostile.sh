@@ -50,7 +50,7 @@ says() {
 
 # Files of so many bytes, in which what is printed stands again and again.
 again() {
-    printf "$3" > piece
+    printf -- "$3" > piece
     while [ "$(stat -c %s piece)" -lt "$2" ]; do
         cat piece piece > pieces
         mv pieces piece
@@ -111,6 +111,18 @@ again source_arrays $length 'a={0};\n'
 again source_numbers $length 'a={0,\n'
 again source_remarks $length '/*\n'
 again blanks $length '\n'
+again marks $length '05:01:'
+again offset_lines $length '0000 00\n'
+again offset_heads $length '00000000: 00\n'
+od -A x -t x1z -v zeros > dumped
+od -A d -t x1 -v pushes > dumped_pushes
+again python_lists $length '[0],\n'
+again python_numbers $length '[0,\n'
+again python_strings $length "b'\\\\x00'\\n"
+again libinput_nodes $length '- node: /dev/input/event0\n  hid: [\n    5, 1\n  ]\n'
+again libinput_numbers $length '  hid: [ 5,\n'
+again lsusb_items $length '            Item(Main  ): Input, data= [ 0x00 ] 0\n'
+again debugfs_lines $length '05 01\nINPUT[INPUT]\n'
 {
     for ((n = 0; n < 4000; n++)); do printf 'D: %d\nR: 0\n' "$n"; done
 } > recorder_many
@@ -121,7 +133,9 @@ again long_text 1048576 'a4 '
 shapes='elements fields many_fields padding feature collections ranges usages_of_array deep reports
 zeros pushes opened usages pages designators global_in_push ended_in_push long_items inputs
 hex_lines hex_words recorder_reports recorder_devices recorder_names dump_heads dump_devices
-source_arrays source_numbers source_remarks blanks recorder_many long long_text'
+source_arrays source_numbers source_remarks blanks recorder_many long long_text marks offset_lines
+offset_heads dumped dumped_pushes python_lists python_numbers python_strings libinput_nodes
+libinput_numbers lsusb_items debugfs_lines'
 
 head -c 64 zeros > report
 for shape in $shapes; do

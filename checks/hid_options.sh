@@ -102,7 +102,7 @@ commands=$(sed -n '/^Commands:/,/^$/s/^  \([a-z]*\) .*/\1/p' "$help/help" | grep
 
 # The options of all commands, with their values, in the page of man and by completion.
 same 'OPTIONS of hid.1' "$of_all" \
-    "$(entries OPTIONS | sed -E 's/^(-[a-zA-Z]), /\1\n/; s/ N$/ VALUE/')"
+    "$(entries OPTIONS | sed -E 's/^(-[a-zA-Z]), /\1\n/; s/ (N|DIR)$/ VALUE/')"
 same 'what is completed behind hid' "$(names <<< "$of_all")" "$(completed hid -)"
 same 'what is completed behind hid alone' "$(names <<< "$of_all"; echo "$commands"; echo help)" \
     "$(completed hid '')"

@@ -1,7 +1,7 @@
 #!/usr/bin/env python3
 """Asks `hid` and the library the same questions, over all descriptors in the tree, and prints each
 number that differs. The library's answers are those that the program `hidreport_cases` gives to
-questions without an answer (docs/CASES.md). Random numbers are the same in each run.
+questions without an answer (docs/TESTING.md). Random numbers are the same in each run.
 
     hid_questions.py [--spoil KIND] [HID CASES]
 

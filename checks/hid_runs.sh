@@ -1,5 +1,5 @@
 #!/bin/bash
-# The runs of `hid` that crates/hid/data/*.txt store (docs/CASES.md): of each its standard output, its
+# The runs of `hid` that crates/hid/data/*.txt store (docs/TESTING.md): of each its standard output, its
 # standard error and its status are those that stand below it. Its arguments are programs, each of
 # which makes all runs; without one a program is built that isn't proved (`rt try`): there standard
 # error stands behind standard output, and bytes that are no text aren't compared.

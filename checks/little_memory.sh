@@ -69,7 +69,7 @@ again many_segments 8190 '\244\261\002\264'
 } > "$scratch/segments"
 again long_items 16384 '\376\001\000\000'
 # A real pen whose first count, 95 at 18, is the header 97 of four bytes.
-pen="$top/crates/hidreport_printer/data/pen.rdesc"
+pen="$top/crates/hidreport_main/data/pen.rdesc"
 { head -c 18 "$pen"; printf '\227'; tail -c +20 "$pen"; } > "$scratch/pen"
 mkfifo "$scratch/fifo"
 
