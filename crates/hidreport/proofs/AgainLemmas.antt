@@ -11,7 +11,7 @@ use Rattle.hidreport_items.specs.Spelling.{AreBytes}
 use Rattle.hidreport_lists.specs.Answer.{Refusal, Bounds}
 use Rattle.hidreport.specs.BitValue.{bit, sum_of_bits, value}
 use Rattle.hidreport.specs.Choosing.{value_number}
-use Rattle.hidreport.specs.Reading.{ValueRecord, before_values, each_value, element, element_width}
+use Rattle.hidreport.specs.Reading.{ValueRecord, before_values, each_value, element_width}
 use Rattle.hidreport.specs.Reading.{is_signed, one_value, read_bits, reads, reads_element, values_of}
 use Rattle.hidreport.specs.Reading.{with_id}
 use Rattle.hidreport.specs.Records.{ArrayRecord, Attributes, ConstantRecord, FieldPlace, FieldRecord}
@@ -179,6 +179,31 @@ pub record OwnNumbers (field : FieldRecord) (numbers : List ℤ) (old : List ℕ
   pub fit : list_all (fits (value_width field) (has_sign field)) numbers ≡ true
   pub same : put (place_of field).first (value_width field) numbers old ≡ old
 
+-- numbers that were read side by side: they fit, and putting them there changes nothing
+pub run-own : (first w n : ℕ) (s : Bool) (numbers : List ℤ) (old : List ℕ) → AreBytes old
+    → numbers_of (each_value (λ k. read_bits (first + w * k) (first + w * k + w) s old) 0 n)
+    ≡ Ok numbers
+    → (list_all (fits w s) numbers ≡ true) × (put first w numbers old ≡ old)
+run-own first w n s numbers old are h =
+    let at = λ (k : ℕ). read_bits (first + w * k) (first + w * k + w) s old in
+    let all = each-number at 0 n numbers h in
+    let own = λ (k : ℕ) (lt : k < length numbers).
+    let none : 0 + k ≡ k = omega arith in
+    let width : first + w * k + w - (first + w * k) ≡ w = omega arith in
+    subst (λ v. IsValue (first + w * k) v s old (get_or numbers k (pos 0))) width
+    (own-value (first + w * k) (first + w * k + w) s old (get_or numbers k (pos 0))
+    (sym (ap (λ i. number_in (at i)) none) ∙ all.each k (subst (λ m. k < m) all.size lt))) in (
+      all-fit w s numbers (λ k lt.
+          value-own-fits (first + w * k) w s old (get_or numbers k (pos 0)) (own k lt)),
+      put-own first w numbers old are (λ k i lt below.
+          value-own-bits (first + w * k) w s old (get_or numbers k (pos 0)) i (own k lt) below),
+    )
+
+-- as many numbers as values were read one by one
+pub each-size : (f : ℕ → Result ValueRecord Refusal) (index more : ℕ) (numbers : List ℤ)
+    → numbers_of (each_value f index more) ≡ Ok numbers → length numbers ≡ more
+each-size f index more numbers h = (each-number f index more numbers h).size
+
 one-in : (r : Result ValueRecord Refusal) (numbers : List ℤ) → numbers_of (one_value r) ≡ Ok numbers
     → (z : ℤ) × ((numbers ≡ z ∷ []) × (number_in r ≡ Ok z))
 one-in (Ok x) numbers h = (value_number x, (cc, refl))
@@ -215,22 +240,7 @@ values-own (VariableRecord place usage shared) numbers old are h =
           let here : first + i ≡ first + w * 0 + i = omega arith in h ∙ ap (bit old) here
       only-bit first w z old (suc k) i lt h = absurd (omega arith)
 values-own (ArrayRecord place usages is_range n shared) numbers old are h =
-    let s = is_signed shared in
-    let first = place.first in
-    let w = element_width first place.«end» n in
-    let all = each-number (element first place.«end» n s old) 0 n numbers h in
-    let own = λ (k : ℕ) (lt : k < length numbers).
-    let none : 0 + k ≡ k = omega arith in
-    let width : first + w * k + w - (first + w * k) ≡ w = omega arith in
-    subst (λ v. IsValue (first + w * k) v s old (get_or numbers k (pos 0))) width
-    (own-value (first + w * k) (first + w * k + w) s old (get_or numbers k (pos 0))
-    (sym (ap (λ i. number_in (element first place.«end» n s old i)) none)
-    ∙ all.each k (subst (λ m. k < m) all.size lt))) in (
-      all-fit w s numbers (λ k lt.
-          value-own-fits (first + w * k) w s old (get_or numbers k (pos 0)) (own k lt)),
-      put-own first w numbers old are (λ k i lt below.
-          value-own-bits (first + w * k) w s old (get_or numbers k (pos 0)) i (own k lt) below),
-    )
+    run-own place.first (element_width place.first place.«end» n) n (is_signed shared) numbers old are h
 values-own (ConstantRecord place) numbers old are h =
     let none : [] ≡ numbers = cc in (
       sym (ap (list_all (fits 0 false)) none),

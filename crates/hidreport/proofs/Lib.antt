@@ -11,6 +11,7 @@ pub mod BitLemmas
 pub mod BlankLemmas
 pub mod WholeLemmas
 pub mod WholeReadLemmas
+pub mod ReportWriteLemmas
 pub mod WindowLemmas
 pub mod WordLemmas
 pub mod WrittenLemmas
@@ -59,6 +60,7 @@ pub mod AvailableLemmas
 pub mod RunLemmas
 pub mod RunListLemmas
 pub mod RunReadLemmas
+pub mod RunWriteLemmas
 pub mod FilledLemmas
 pub mod SignLemmas
 pub mod RefusalLemmas

@@ -19,6 +19,7 @@ use Rattle.hidreport.specs.Runs.{run_of, run_reads, run_value, runs_of}
 use Rattle.hidreport.specs.Runs.{StandFor, runs_alone, runs_available, runs_read}
 use Rattle.hidreport.specs.WritingLaws.{numbers_of, reads_numbers}
 use Rattle.hidreport.specs.WritingValues.{value_count}
+use Rattle.hidreport.proofs.RunWriteLemmas.{runs-write}
 
 -- nothing behind
 before-none : (a : Result (List ℤ) Refusal) → before_numbers a (Ok []) ≡ a
@@ -149,4 +150,7 @@ runs-stand fields = record {
   reads = runs-fields fields;
   has = runs-has fields;
   count = runs-count fields;
+  writes = λ numbers bytes are.
+      runs-write fields (report_numbers fields bytes) numbers bytes are (runs-count fields)
+      (runs-fields fields bytes);
 }

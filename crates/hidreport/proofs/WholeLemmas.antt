@@ -12,7 +12,7 @@ use Rattle.hidreport.specs.Bits.{covered_bits}
 use Rattle.hidreport.specs.Reading.{reads}
 use Rattle.hidreport.specs.Records.{FieldRecord, ReportRecord, place_of}
 use Rattle.hidreport.specs.Tiling.{IsFilled}
-use Rattle.hidreport.specs.WritingValues.{bit_after, bytes_of, value_width, written}
+use Rattle.hidreport.specs.WritingValues.{bit_after, bytes_of, put, value_width, written}
 use Rattle.hidreport.specs.WritingLaws.{AllRead, IsWhole, Keeps, SamePadding, numbers_of}
 use Rattle.hidreport.specs.WritingLaws.{then_written, written_all}
 use Rattle.hidreport.specs.declared.field.insert_error.InsertError.{InsertError}
@@ -29,12 +29,15 @@ bytes_of-are f small s zero = λ k d lt. absurd (omega (arith, lt))
 bytes_of-are f small s (suc m) =
     All-cons (λ b. b < 256) _ _ (number-small f small s 8) (bytes_of-are f small (s + 8) m)
 
+pub put-are : (first w : ℕ) (numbers : List ℤ) (old : List ℕ) → AreBytes (put first w numbers old)
+put-are first w numbers old =
+    bytes_of-are (bit_after first w numbers old) (after-bits first w numbers old) 0 (length old)
+
 pub written-are : (field : FieldRecord) (numbers : List ℤ) (old new : List ℕ)
     → written field numbers old ≡ Ok new → AreBytes new
 written-are field numbers old new h =
     subst (λ l. AreBytes l) (written-parts field numbers old new h).is
-    (bytes_of-are (bit_after (place_of field).first (value_width field) numbers old)
-    (after-bits (place_of field).first (value_width field) numbers old) 0 (length old))
+    (put-are (place_of field).first (value_width field) numbers old)
 
 -- a field that is written, and those behind it
 record Steps (field : FieldRecord) (numbers : List ℤ) (bytes : List ℕ)

@@ -11,14 +11,14 @@ use Rattle.hidreport.specs.Runs.{RunRecord, run_reads, run_value, runs_alone, ru
 use Rattle.hidreport.specs.WritingLaws.{numbers_of}
 
 -- numbers that were read, and those behind them
-record Both (a b : Result (List ℤ) Refusal) (numbers : List ℤ) : Type 0 where
-  front : List ℤ
-  rest : List ℤ
-  first : a ≡ Ok front
-  second : b ≡ Ok rest
-  is : front ++ rest ≡ numbers
+pub record Both (a b : Result (List ℤ) Refusal) (numbers : List ℤ) : Type 0 where
+  pub front : List ℤ
+  pub rest : List ℤ
+  pub first : a ≡ Ok front
+  pub second : b ≡ Ok rest
+  pub is : front ++ rest ≡ numbers
 
-both : (a b : Result (List ℤ) Refusal) (numbers : List ℤ) → before_numbers a b ≡ Ok numbers
+pub both : (a b : Result (List ℤ) Refusal) (numbers : List ℤ) → before_numbers a b ≡ Ok numbers
     → Both a b numbers
 both (Err e) b numbers h = cc
 both (Ok xs) (Err e) numbers h = cc
@@ -52,7 +52,7 @@ before-there [] rest = refl
 before-there (v ∷ values) rest = ap (λ l. value_number v ∷ l) (before-there values rest)
 
 -- an id that lets numbers through
-passes : (id : Option ℕ) (bytes : List ℕ) (answer : Result (List ValueRecord) Refusal)
+pub passes : (id : Option ℕ) (bytes : List ℕ) (answer : Result (List ValueRecord) Refusal)
     (numbers : List ℤ) → numbers_of (with_id id bytes answer) ≡ Ok numbers
     → (begins_otherwise bytes id ≡ false) × (numbers_of answer ≡ Ok numbers)
 passes None bytes answer numbers h = (refl, h)

@@ -25,6 +25,7 @@ pub mod Reading
 pub mod Records
 pub mod Repair
 pub mod RepairLaws
+pub mod ReportWriting
 pub mod Runs
 pub mod Scaling
 pub mod ScalingLaws

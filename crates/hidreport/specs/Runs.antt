@@ -1,8 +1,9 @@
 -- What a reader keeps of a report: runs of values side by side (Section 5.8).
-use Rattle.std.specs.Prelude.{◌≡◌, ◌⊎◌, ℕ, ℤ, zero, suc, ◌+◌, ◌-◌, ◌*◌, ◌==◌, ◌&&◌, ◌||◌, nat_lt, nat_le}
+use Rattle.std.specs.Prelude.{◌≡◌, ◌≢◌, ◌⊎◌, ◌<◌, ◌≤◌, ℕ, ℤ, zero, suc, ◌+◌, ◌-◌, ◌*◌, ◌==◌, ◌&&◌, ◌||◌, nat_lt, nat_le}
 use Rattle.std.specs.Prelude.{Bool, List, [], ◌∷◌, Option, None, Result, Ok, Err, if◌then◌else◌, length, sum_by, flat_map}
-use Rattle.std.specs.Prelude.{slice_set, true}
-use Rattle.std.specs.List.{list_any}
+use Rattle.std.specs.Prelude.{slice_set, take, drop, true}
+use Rattle.std.specs.List.{list_all, list_any}
+use Rattle.hidreport_items.specs.Spelling.{AreBytes}
 use Rattle.hidreport_lists.specs.Answer.{Refusal, Mismatch}
 use Rattle.hidreport.specs.BitValue.{value}
 use Rattle.hidreport.specs.Reader.{available_numbers, before_numbers, begins_otherwise, each_alone}
@@ -10,8 +11,11 @@ use Rattle.hidreport.specs.Reader.{numbers_before, report_numbers}
 use Rattle.hidreport.specs.Reading.{ValueRecord, each_value, element_width, is_signed, read_bits}
 use Rattle.hidreport.specs.Reading.{with_id}
 use Rattle.hidreport.specs.Records.{FieldRecord, VariableRecord, ArrayRecord, ConstantRecord}
+use Rattle.hidreport.specs.ReportWriting.{report_written}
 use Rattle.hidreport.specs.WritingLaws.{numbers_of}
-use Rattle.hidreport.specs.WritingValues.{value_count}
+use Rattle.hidreport.specs.WritingValues.{begins_in_id, fits, put, value_count, where_read}
+use Rattle.hidreport.specs.declared.field.insert_error.InsertError.{InsertError}
+use Rattle.hidreport.specs.declared.field.insert_error.InsertError.TheVariants as refused
 
 -- so many values of one width from a bit on, and the id that they are read by
 pub record RunRecord : Type 0 where
@@ -92,6 +96,10 @@ all_numbers runs bytes = flat_map (λ run. numbers_from run bytes 0 run.count) r
 abbrev pub count_in : List RunRecord → ℕ
 count_in runs = sum_by (λ (run : RunRecord). run.count) runs
 
+-- values that there are have some bits, at most 32
+abbrev pub IsNarrow : RunRecord → Type 0
+IsNarrow run = run.count ≢ 0 → (0 < run.width) × (run.width ≤ 32)
+
 -- bytes of this report have all values of a run
 pub record IsOpen (bytes : List ℕ) (run : RunRecord) : Type 0 where
   pub own : with_id run.id bytes (Ok (tt {0})) ≡ Ok (tt {0})
@@ -102,11 +110,43 @@ pub record IsPlain (id : Option ℕ) (bytes : ℕ) (run : RunRecord) : Type 0 wh
   pub own : (run.id ≡ None) ⊎ (run.id ≡ id)
   pub inside : is_inside run (8 * bytes) ≡ true
 
--- the runs read what these fields do
+-- a run begins in the byte of the id that it is read by
+abbrev pub run_in_id : RunRecord → Bool
+run_in_id run = begins_in_id run.id run.first
+
+-- each run's bits hold its numbers
+abbrev pub runs_fit : List RunRecord → List ℤ → Bool
+runs_fit [] numbers = true
+runs_fit (run ∷ runs) numbers =
+    list_all (fits run.width run.is_signed) (take run.count numbers)
+    && runs_fit runs (drop run.count numbers)
+
+-- the bytes with the numbers of each run in place of its bits
+abbrev pub runs_put : List RunRecord → List ℤ → List ℕ → List ℕ
+runs_put [] numbers bytes = bytes
+runs_put (run ∷ runs) numbers bytes = runs_put runs (drop run.count numbers)
+    (put run.first run.width (take run.count numbers) bytes)
+
+-- the same, where no run lies in the id and each number fits
+abbrev pub runs_placed : List RunRecord → List ℤ → List ℕ → Result (List ℕ) InsertError
+runs_placed runs numbers bytes = if list_any run_in_id runs then Err refused.OutOfBounds
+    else (if runs_fit runs numbers then Ok (runs_put runs numbers bytes)
+    else Err refused.DoesNotFit)
+
+-- the bytes with these numbers, or why not
+abbrev pub runs_written : List RunRecord → List ℤ → List ℕ → Result (List ℕ) InsertError
+runs_written runs numbers bytes =
+    if length numbers == count_in runs
+    then where_read (runs_read runs bytes) (runs_placed runs numbers bytes)
+    else Err refused.WrongCount
+
+-- the runs read and write what these fields do
 pub record StandFor (fields : List FieldRecord) (runs : List RunRecord) : Type 0 where
   pub reads : (bytes : List ℕ) → runs_read runs bytes ≡ report_numbers fields bytes
   pub has : (bytes : List ℕ) → runs_available runs bytes ≡ available_numbers fields bytes
   pub count : count_in runs ≡ sum_by value_count fields
+  pub writes : (numbers : List ℤ) (bytes : List ℕ) → AreBytes bytes
+      → runs_written runs numbers bytes ≡ report_written fields numbers bytes
 
 -- numbers in place of the values from this one on, as far as there is room
 abbrev pub set_from : ℕ → List ℤ → List ℤ → List ℤ

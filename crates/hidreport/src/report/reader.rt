@@ -1,14 +1,17 @@
 //! All values of a report in one pass (Sections 5.6 and 5.8).
-ghost use Rattle.std.specs.Prelude.{◌≡◌, ◌≢◌, Err, IfErr, IfOk, List, Ok, sum_by, ℤ};
+ghost use Rattle.std.specs.Prelude.{◌≡◌, ◌≢◌, Err, IfErr, IfOk, List, Ok, OnOk, sum_by, ℤ};
+ghost use Rattle.hidreport_items.specs.Spelling.{AreBytes};
 ghost use Rattle.hidreport_lists.specs.Answer.{IsOfReading};
 ghost use Rattle.hidreport.specs.Reader.{ReadsInto, available_numbers, report_numbers};
 ghost use Rattle.hidreport.specs.Records.{FieldRecord};
-ghost use Rattle.hidreport.specs.Runs.{StandFor, count_in, runs_available, runs_read};
-ghost use Rattle.hidreport.specs.WritingValues.{value_count};
+ghost use Rattle.hidreport.specs.ReportWriting.{IsReportWritten, report_written};
+ghost use Rattle.hidreport.specs.Runs.{StandFor, count_in, runs_available, runs_read, runs_written};
+ghost use Rattle.hidreport.specs.WritingValues.{Inserts, value_count};
 
 mod run;
 mod run_list;
 
+use crate::field::insert_error::InsertError;
 use crate::report::{RDescReport, Report};
 use hidreport_lists::ParserError;
 use run_list::RunList;
@@ -112,5 +115,51 @@ impl Reader {
             return Err(ParserError::MismatchingReportId);
         }
         Ok(self.runs.put_available(bytes, values))
+    }
+
+    /// Writes the values of all fields, in order, into a report that has these bytes: what `read`
+    /// gives for the new bytes.
+    ///
+    /// The bits of each value become those of the number in two's complement, the lowest first;
+    /// padding and all other bits stay. A value outside the logical bounds is written, since it
+    /// stands for no value. Where the fields fill their report, as those of a report that was read
+    /// do, the bytes are those that `insert` of each field gives, one field after the other, and the
+    /// values are read again (`laws`); to write what was read changes nothing (`again`). It takes no
+    /// memory.
+    ///
+    /// # Errors
+    ///
+    /// The first of these; the bytes stay as they were.
+    ///
+    /// - `WrongCount`: there are more or fewer values than `value_count`.
+    /// - `MismatchingReportId`, `OutOfBounds`: what `read` says of the bytes.
+    /// - `OutOfBounds`: a field with a report id begins in the byte of the id.
+    /// - `DoesNotFit`: the bits of a value don't hold it, signed or not as its field is.
+    pub fn write(&self, bytes: &mut [u8], values: &[i64]) -> Result<(), InsertError>
+        ensures answer { Inserts result bytes.old bytes.new
+            (runs_written self.now values.now bytes.old) }
+        ensures fields { (fields : List FieldRecord) → StandFor fields self.now
+            → Inserts result bytes.old bytes.new (report_written fields values.now bytes.old) }
+        ensures laws { (fields : List FieldRecord) → StandFor fields self.now
+            → OnOk result (IsReportWritten fields values.now bytes.old bytes.new) }
+        ensures again { runs_read self.now bytes.old ≡ Ok values.now
+            → (bytes.new ≡ bytes.old) × (result ≢ Err InsertError.DoesNotFit) }
+    {
+        self.put_values(bytes, values)
+    }
+
+    /// What `write` does, by the runs alone.
+    fn put_values(&self, bytes: &mut [u8], values: &[i64]) -> Result<(), InsertError>
+        ensures answer { Inserts result bytes.old bytes.new
+            (runs_written self.now values.now bytes.old) }
+        ensures bytes { result ≢ Err InsertError.WrongCount → AreBytes bytes.old }
+    {
+        if values.len() != self.value_count {
+            return Err(InsertError::WrongCount);
+        }
+        self.runs.check_written(bytes)?;
+        self.runs.check_values(values)?;
+        self.runs.put_numbers(bytes, values);
+        Ok(())
     }
 }

@@ -1,16 +1,19 @@
 //! Values side by side in a report, read by one loop (Section 5.8).
 ghost use Rattle.std.specs.Prelude.{◌≡◌, ◌≢◌, ◌+◌, ◌*◌, ◌<◌, ◌≤◌, ◌^◌, [], ◌∷◌, true, Err};
 ghost use Rattle.std.specs.Prelude.{length, slice_set, take, drop, IfErr, IfSome, IsNone, OnOk};
+ghost use Rattle.std.specs.List.{list_all};
 ghost use Rattle.hidreport_items.specs.Numbers.{word};
 ghost use Rattle.hidreport_lists.specs.Answer.{IsOfReading, Refuses};
 ghost use Rattle.hidreport.specs.BitValue.{sum_of_bits, value};
 ghost use Rattle.hidreport.specs.Reader.{begins_otherwise, each_alone, numbers_before};
-ghost use Rattle.hidreport.specs.Runs.{IsOpen, IsPlain, is_inside, numbers_from, run_of, run_reads};
-ghost use Rattle.hidreport.specs.Runs.{run_value, set_from};
+ghost use Rattle.hidreport.specs.Runs.{IsNarrow, IsOpen, IsPlain, is_inside, numbers_from, run_in_id};
+ghost use Rattle.hidreport.specs.Runs.{run_of, run_reads, run_value, set_from};
 ghost use Rattle.hidreport.specs.Views.{field_record};
+ghost use Rattle.hidreport.specs.WritingValues.{fits, put};
 
 use crate::field::Field;
 use crate::field::value::{check_id, read_bits};
+use crate::field::written_bits::{all_fit, begins_in_id, put_values};
 use hidreport_lists::ParserError;
 use hidreport_types::ReportId;
 use std::marker::Model;
@@ -164,6 +167,31 @@ impl Run {
             let number = number_at(bytes, short, first, width, is_signed);
             set_at(values, place + index, number);
         }
+    }
+
+    /// Whether the run begins in the byte of the id that it is read by.
+    pub(crate) fn begins_in_id(&self) -> bool
+        ensures { result ≡ run_in_id self.now }
+    {
+        begins_in_id(&self.report_id, self.first)
+    }
+
+    /// Whether the run's bits hold each of these numbers, as many as it has values.
+    pub(crate) fn holds(&self, numbers: &[i64]) -> bool
+        requires narrow { IsNarrow self.now }
+        requires counted { length numbers.now ≡ self.now.count }
+        ensures { result ≡ list_all (fits self.now.width self.now.is_signed) numbers.now }
+    {
+        all_fit(self.width, self.is_signed, numbers)
+    }
+
+    /// Puts numbers, as many as the run has values, in place of its bits; all others stay.
+    pub(crate) fn put_numbers(&self, bytes: &mut [u8], numbers: &[i64])
+        requires there { is_inside self.now (8 * length bytes.now) ≡ true }
+        requires counted { length numbers.now ≡ self.now.count }
+        ensures { bytes.new ≡ put self.now.first self.now.width numbers.now bytes.old }
+    {
+        put_values(bytes, self.first, self.width, numbers);
     }
 }
 

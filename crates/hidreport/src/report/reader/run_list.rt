@@ -1,16 +1,22 @@
 //! The runs of a report, and when bytes have all of them (Sections 5.6 and 5.8).
-ghost use Rattle.std.specs.Prelude.{◌≡◌, ◌≢◌, ◌<◌, ◌^◌, Err, Ok, IfErr, IfOk, IfSome, IsTrue, OnOk, length, map};
+ghost use Rattle.std.specs.Prelude.{◌≡◌, ◌≢◌, ◌<◌, ◌^◌, ℕ, List, Err, Ok, IfErr, IfOk, IfSome, IsTrue};
+ghost use Rattle.std.specs.Prelude.{OnOk, Result, length, map};
 ghost use Rattle.std.specs.List.{list_any};
 ghost use Rattle.hidreport_items.specs.Numbers.{word};
+ghost use Rattle.hidreport_items.specs.Spelling.{AreBytes};
 ghost use Rattle.hidreport_lists.specs.Answer.{IsOfReading, Refuses};
 ghost use Rattle.hidreport.specs.Reader.{begins_otherwise, filled, numbers_before};
 ghost use Rattle.hidreport.specs.Reading.{with_id};
-ghost use Rattle.hidreport.specs.Runs.{IsOpen, IsPlain, StandFor, all_numbers, count_in, runs_of};
-ghost use Rattle.hidreport.specs.Runs.{RunRecord, runs_alone, runs_read};
+ghost use Rattle.hidreport.specs.Runs.{IsNarrow, IsOpen, IsPlain, RunRecord, StandFor, all_numbers};
+ghost use Rattle.hidreport.specs.Runs.{count_in, run_in_id, runs_alone, runs_fit, runs_of, runs_placed};
+ghost use Rattle.hidreport.specs.Runs.{runs_put, runs_read};
 ghost use Rattle.hidreport.specs.Tiling.{Each};
 ghost use Rattle.hidreport.specs.Views.{field_record};
+ghost use Rattle.hidreport.specs.WritingValues.{where_read};
+ghost use Rattle.hidreport.specs.declared.field.insert_error.InsertError.{InsertError};
 
 use crate::field::Field;
+use crate::field::insert_error::InsertError;
 use crate::report::reader::run::{Run, short_word};
 use hidreport_lists::ParserError;
 use hidreport_types::ReportId;
@@ -117,6 +123,55 @@ impl RunList {
     {
         put_all(&self.runs, bytes, short_word(bytes), values);
     }
+
+    /// Refuses bytes that can't be read, and so not written either.
+    pub(crate) fn check_written(&self, bytes: &[u8]) -> Result<(), InsertError>
+        ensures refused { IfErr result (λ e. (answer : Result (List ℕ) InsertError)
+            → where_read (runs_read self.now bytes.now) answer ≡ Err e) }
+        ensures there { OnOk result (Each (IsOpen bytes.now) self.now) }
+        ensures bytes { AreBytes bytes.now }
+    {
+        match self.check(bytes) {
+            Ok(()) => Ok(()),
+            Err(ParserError::MismatchingReportId) => Err(InsertError::MismatchingReportId),
+            Err(_) => Err(InsertError::OutOfBounds),
+        }
+    }
+
+    /// Refuses values, as many as the runs have, where a run begins in the byte of an id, and then
+    /// where its bits don't hold one of them.
+    pub(crate) fn check_values(&self, values: &[i64]) -> Result<(), InsertError>
+        requires narrow { Each IsNarrow self.now }
+        requires counted { length values.now ≡ count_in self.now }
+        ensures refused { IfErr result (λ e. (bytes : List ℕ)
+            → runs_placed self.now values.now bytes ≡ Err e) }
+        ensures placed { OnOk result ((bytes : List ℕ)
+            → runs_placed self.now values.now bytes ≡ Ok (runs_put self.now values.now bytes)) }
+    {
+        if self.begin_in_id() {
+            return Err(InsertError::OutOfBounds);
+        }
+        if !all_fit(&self.runs, values) {
+            return Err(InsertError::DoesNotFit);
+        }
+        Ok(())
+    }
+
+    /// Whether one of the runs begins in the byte of the id that it is read by.
+    fn begin_in_id(&self) -> bool
+        ensures { result ≡ list_any run_in_id self.now }
+    {
+        self.runs.iter().any(|run| run.begins_in_id())
+    }
+
+    /// Puts values, as many as the runs have, in place of their bits; all others stay.
+    pub(crate) fn put_numbers(&self, bytes: &mut [u8], values: &[i64])
+        requires there { Each (IsOpen bytes.now) self.now }
+        requires counted { length values.now ≡ count_in self.now }
+        ensures { bytes.new ≡ runs_put self.now values.now bytes.old }
+    {
+        put_numbers(&self.runs, bytes, values);
+    }
 }
 
 /// Whether bytes begin with an id, where there is one.
@@ -210,4 +265,35 @@ fn put_available(runs: &[Run], bytes: &[u8], values: &mut [i64]) -> usize
         }
     }
     place
+}
+
+/// Whether the bits of each run hold its values, the first of them those of the first run.
+fn all_fit(runs: &[Run], values: &[i64]) -> bool
+    requires narrow { Each IsNarrow runs.now }
+    requires counted { length values.now ≡ count_in runs.now }
+    ensures { result ≡ runs_fit runs.now values.now }
+{
+    let mut rest = values;
+    for run in runs {
+        let (own, behind) = rest.split_at(run.count());
+        if !run.holds(own) {
+            return false;
+        }
+        rest = behind;
+    }
+    true
+}
+
+/// Puts values in place of the bits of runs, the first of them those of the first run.
+fn put_numbers(runs: &[Run], bytes: &mut [u8], values: &[i64])
+    requires there { Each (IsOpen bytes.now) runs.now }
+    requires counted { length values.now ≡ count_in runs.now }
+    ensures { bytes.new ≡ runs_put runs.now values.now bytes.old }
+{
+    let mut rest = values;
+    for run in runs {
+        let (own, behind) = rest.split_at(run.count());
+        run.put_numbers(bytes, own);
+        rest = behind;
+    }
 }
