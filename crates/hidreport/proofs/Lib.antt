@@ -61,6 +61,8 @@ pub mod RunLemmas
 pub mod RunListLemmas
 pub mod RunReadLemmas
 pub mod RunWriteLemmas
+pub mod SameRunsLemmas
+pub mod JoinLemmas
 pub mod FilledLemmas
 pub mod SignLemmas
 pub mod RefusalLemmas

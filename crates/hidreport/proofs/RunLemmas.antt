@@ -22,23 +22,23 @@ use Rattle.hidreport.specs.WritingValues.{value_count}
 use Rattle.hidreport.proofs.RunWriteLemmas.{runs-write}
 
 -- nothing behind
-before-none : (a : Result (List ℤ) Refusal) → before_numbers a (Ok []) ≡ a
+pub before-none : (a : Result (List ℤ) Refusal) → before_numbers a (Ok []) ≡ a
 before-none (Err e) = refl
 before-none (Ok xs) = ap (λ (l : List ℤ). Ok l) (append-nil xs)
 
-before-assoc : (a b c : Result (List ℤ) Refusal)
+pub before-assoc : (a b c : Result (List ℤ) Refusal)
     → before_numbers (before_numbers a b) c ≡ before_numbers a (before_numbers b c)
 before-assoc (Err e) b c = refl
 before-assoc (Ok xs) (Err e) c = refl
 before-assoc (Ok xs) (Ok ys) (Err e) = refl
 before-assoc (Ok xs) (Ok ys) (Ok zs) = ap (λ (l : List ℤ). Ok l) (append_assoc xs ys zs)
 
-before-nothing : (a : Result (List ℤ) Refusal) → before_numbers (Ok []) a ≡ a
+pub before-nothing : (a : Result (List ℤ) Refusal) → before_numbers (Ok []) a ≡ a
 before-nothing (Err e) = refl
 before-nothing (Ok xs) = refl
 
 -- runs behind runs
-runs-append : (xs ys : List RunRecord) (bytes : List ℕ)
+pub runs-append : (xs ys : List RunRecord) (bytes : List ℕ)
     → runs_read (xs ++ ys) bytes ≡ before_numbers (runs_read xs bytes) (runs_read ys bytes)
 runs-append [] ys bytes = sym (before-nothing (runs_read ys bytes))
 runs-append (x ∷ xs) ys bytes =

@@ -27,6 +27,7 @@ pub mod Repair
 pub mod RepairLaws
 pub mod ReportWriting
 pub mod Runs
+pub mod SameRuns
 pub mod Scaling
 pub mod ScalingLaws
 pub mod Segments

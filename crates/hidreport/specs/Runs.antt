@@ -100,6 +100,20 @@ count_in runs = sum_by (λ (run : RunRecord). run.count) runs
 abbrev pub IsNarrow : RunRecord → Type 0
 IsNarrow run = run.count ≢ 0 → (0 < run.width) × (run.width ≤ 32)
 
+-- one run goes on where another ends, and this has the values of both
+pub record Joins (front back run : RunRecord) : Type 0 where
+  pub id : back.id ≡ front.id
+  pub width : back.width ≡ front.width
+  pub is_signed : back.is_signed ≡ front.is_signed
+  pub first : back.first ≡ place_in front front.count
+  pub is : run ≡ record {
+    id = front.id;
+    first = front.first;
+    width = front.width;
+    count = front.count + back.count;
+    is_signed = front.is_signed;
+  }
+
 -- bytes of this report have all values of a run
 pub record IsOpen (bytes : List ℕ) (run : RunRecord) : Type 0 where
   pub own : with_id run.id bytes (Ok (tt {0})) ≡ Ok (tt {0})

@@ -6,8 +6,8 @@ ghost use Rattle.hidreport_items.specs.Numbers.{word};
 ghost use Rattle.hidreport_lists.specs.Answer.{IsOfReading, Refuses};
 ghost use Rattle.hidreport.specs.BitValue.{sum_of_bits, value};
 ghost use Rattle.hidreport.specs.Reader.{begins_otherwise, each_alone, numbers_before};
-ghost use Rattle.hidreport.specs.Runs.{IsNarrow, IsOpen, IsPlain, is_inside, numbers_from, run_in_id};
-ghost use Rattle.hidreport.specs.Runs.{run_of, run_reads, run_value, set_from};
+ghost use Rattle.hidreport.specs.Runs.{IsNarrow, IsOpen, IsPlain, Joins, is_inside, numbers_from};
+ghost use Rattle.hidreport.specs.Runs.{run_in_id, run_of, run_reads, run_value, set_from};
 ghost use Rattle.hidreport.specs.Views.{field_record};
 ghost use Rattle.hidreport.specs.WritingValues.{fits, put};
 
@@ -68,6 +68,27 @@ impl Run {
             }),
             Field::Constant(_) => None,
         }
+    }
+
+    /// This run and another in one, where that goes on where this ends: they are read by the same
+    /// id, and their values have the same width and sign.
+    pub(crate) fn joined(&self, next: &Run) -> Option<Run>
+        ensures { IfSome result (λ run. Joins self.now next.now run) }
+    {
+        let goes_on = self.report_id == next.report_id
+            && self.width == next.width
+            && self.is_signed == next.is_signed
+            && self.first + self.width * self.count == next.first;
+        if !goes_on {
+            return None;
+        }
+        Some(Run {
+            report_id: self.report_id,
+            first: self.first,
+            width: self.width,
+            count: self.count.checked_add(next.count)?,
+            is_signed: self.is_signed,
+        })
     }
 
     /// How many values the run has.

@@ -1,6 +1,6 @@
 //! The runs of a report, and when bytes have all of them (Sections 5.6 and 5.8).
-ghost use Rattle.std.specs.Prelude.{◌≡◌, ◌≢◌, ◌<◌, ◌^◌, ℕ, List, Err, Ok, IfErr, IfOk, IfSome, IsTrue};
-ghost use Rattle.std.specs.Prelude.{OnOk, Result, length, map};
+ghost use Rattle.std.specs.Prelude.{◌≡◌, ◌≢◌, ◌<◌, ◌^◌, ℕ, List, [], ◌∷◌, ◌++◌, Err, Ok, IfErr};
+ghost use Rattle.std.specs.Prelude.{IfOk, IfSome, IsTrue, OnOk, Result, length, map};
 ghost use Rattle.std.specs.List.{list_any};
 ghost use Rattle.hidreport_items.specs.Numbers.{word};
 ghost use Rattle.hidreport_items.specs.Spelling.{AreBytes};
@@ -10,6 +10,7 @@ ghost use Rattle.hidreport.specs.Reading.{with_id};
 ghost use Rattle.hidreport.specs.Runs.{IsNarrow, IsOpen, IsPlain, RunRecord, StandFor, all_numbers};
 ghost use Rattle.hidreport.specs.Runs.{count_in, run_in_id, runs_alone, runs_fit, runs_of, runs_placed};
 ghost use Rattle.hidreport.specs.Runs.{runs_put, runs_read};
+ghost use Rattle.hidreport.specs.SameRuns.{SameRuns};
 ghost use Rattle.hidreport.specs.Tiling.{Each};
 ghost use Rattle.hidreport.specs.Views.{field_record};
 ghost use Rattle.hidreport.specs.WritingValues.{where_read};
@@ -188,15 +189,30 @@ fn begin_with(bytes: &[u8], report_id: &Option<ReportId>) -> bool
 
 /// What the fields' values are read by, in order; padding has none.
 fn runs_of(alloc: Global, fields: &[Field]) -> Result<Vec<Run>, AllocError>
-    ensures { IfOk result (λ runs. runs.items ≡ runs_of (map field_record fields.now)) }
+    ensures { IfOk result (λ runs. SameRuns runs.items (runs_of (map field_record fields.now))) }
 {
     let mut runs = Vec::new(alloc);
     for field in fields {
         if let Some(run) = Run::of(field) {
-            runs.push(run)?;
+            add_run(&mut runs, run)?;
         }
     }
     Ok(runs)
+}
+
+/// Adds a run behind others; one that goes on where the last of them ends makes that longer.
+fn add_run(runs: &mut Vec<Run>, run: Run) -> Result<(), AllocError>
+    ensures { OnOk result (SameRuns runs.new.items (runs.old.items ++ run ∷ [])) }
+{
+    if let Some(last) = runs.pop() {
+        if let Some(joined) = last.joined(&run) {
+            runs.push(joined)?;
+            return Ok(());
+        }
+        runs.push(last)?;
+    }
+    runs.push(run)?;
+    Ok(())
 }
 
 /// How many values runs have; `None` past `usize::MAX`.

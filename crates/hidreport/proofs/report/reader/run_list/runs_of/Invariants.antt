@@ -1,8 +1,10 @@
-use Rattle.std.proofs.Common.{◌≡◌, map, take}
+use Rattle.std.proofs.Common.{map, take}
 use Rattle.hidreport.specs.Runs.{runs_of}
+use Rattle.hidreport.specs.SameRuns.{SameRuns}
 use Rattle.hidreport.specs.Views.{field_record}
 use Rattle.hidreport.proofs.report.reader.run_list.runs_of.Given as goal
 
--- the runs of the fields before this one
+-- the runs read and write what the fields before this one do
 abbrev pub invariant-loop-field : goal.invariant-loop-field
-invariant-loop-field l = l.runs.items ≡ runs_of (map field_record (take l.field-index l.fields))
+invariant-loop-field l =
+    SameRuns l.runs.items (runs_of (map field_record (take l.field-index l.fields)))

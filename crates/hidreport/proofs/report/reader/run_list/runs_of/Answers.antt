@@ -1,0 +1,28 @@
+use Rattle.std.proofs.Common.{◌≡◌, [], ◌∷◌, ◌++◌, map, rules, take}
+use Rattle.hidreport.specs.Runs.{run_of, runs_of}
+use Rattle.hidreport.specs.SameRuns.{SameRuns}
+use Rattle.hidreport.specs.Views.{field_record}
+use Rattle.hidreport.proofs.SameRunsLemmas.{same-next, same-padding}
+use Rattle.hidreport.proofs.report.reader.run_list.runs_of.Goals as goal
+use Rattle.hidreport.proofs.report.reader.run_list.runs_of.Goals.{in-Some+in_ok-add_run, in_default}
+
+pub loop-field-preserved : goal.loop-field-preserved
+loop-field-preserved c =
+    let fields = c.args.fields.now in
+    let i = c.loop-field.field-index in
+    let field = c.field-item.result in
+    let old = c.loop-field.runs.items in
+    let new = c.match-of.runs.items in
+    elim c.match-of.branch [
+      in-Some+in_ok-add_run w ↦
+          let run = w.in-Some.run' in
+          let is : run_of (field_record field) ≡ run ∷ [] = search rules in
+          let more : SameRuns new (old ++ run ∷ []) = search rules in
+          same-next field_record fields i field old new run c.loop-field-test.true c.field-item.is
+          c.loop-field.invariant more is
+    | in_default w ↦
+          let none : run_of (field_record field) ≡ [] = search rules in
+          let same : SameRuns new (runs_of (map field_record (take i fields))) = search rules in
+          same-padding field_record fields i field new c.loop-field-test.true c.field-item.is
+          same none
+    ]
