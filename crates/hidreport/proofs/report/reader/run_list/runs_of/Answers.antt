@@ -14,13 +14,13 @@ loop-field-preserved c =
     let old = c.loop-field.runs.items in
     let new = c.match-of.runs.items in
     elim c.match-of.branch [
-      in-Some+in_ok-add_run w ↦
+      | in-Some+in_ok-add_run w ↦
           let run = w.in-Some.run' in
           let is : run_of (field_record field) ≡ run ∷ [] = search rules in
           let more : SameRuns new (old ++ run ∷ []) = search rules in
           same-next field_record fields i field old new run c.loop-field-test.true c.field-item.is
           c.loop-field.invariant more is
-    | in_default w ↦
+      | in_default w ↦
           let none : run_of (field_record field) ≡ [] = search rules in
           let same : SameRuns new (runs_of (map field_record (take i fields))) = search rules in
           same-padding field_record fields i field new c.loop-field-test.true c.field-item.is
