@@ -1,5 +1,6 @@
 //! Values side by side in a report, read by one loop (Section 5.8).
-ghost use Rattle.std.specs.Prelude.{◌≡◌, ◌≢◌, ◌+◌, ◌*◌, ◌<◌, ◌≤◌, ◌^◌, [], ◌∷◌, true, Err};
+ghost use Rattle.std.specs.Prelude.{◌≡◌, ◌≢◌, ◌+◌, ◌-◌, ◌*◌, ◌%◌, ◌<◌, ◌≤◌, ◌^◌, [], ◌∷◌, true};
+ghost use Rattle.std.specs.Prelude.{false, Err};
 ghost use Rattle.std.specs.Prelude.{length, slice_set, take, drop, IfErr, IfSome, IsNone, OnOk};
 ghost use Rattle.std.specs.List.{list_all};
 ghost use Rattle.hidreport_items.specs.Numbers.{word};
@@ -181,12 +182,48 @@ impl Run {
         ensures { values.new
             ≡ set_from place (numbers_from self.now bytes.now 0 self.now.count) values.old }
     {
+        let room = values.len().saturating_sub(place).min(self.count);
+        if self.width == 8 && self.first % 8 == 0 && !self.is_signed {
+            self.put_bytes(bytes, room, place, values);
+        } else {
+            self.put_some(bytes, short, room, place, values);
+        }
+    }
+
+    /// Puts the first numbers of a run in place, whose values are whole bytes without a sign.
+    fn put_bytes(&self, bytes: &[u8], room: usize, place: usize, values: &mut [i64])
+        requires width { self.now.width ≡ 8 }
+        requires aligned { self.now.first % 8 ≡ 0 }
+        requires plain { self.now.is_signed ≡ false }
+        requires there { is_inside self.now (8 * length bytes.now) ≡ true }
+        requires few { room ≤ self.now.count }
+        requires room { room ≤ length values.now - place }
+        requires counted { place + self.now.count < 2 ^ 64 }
+        ensures { values.new
+            ≡ set_from place (numbers_from self.now bytes.now 0 room) values.old }
+    {
+        let first = self.first / 8;
+        for index in 0..room {
+            values[place + index] = i64::from(bytes[first + index]);
+        }
+    }
+
+    /// Puts the first numbers of a run in place.
+    #[inline(always)]
+    fn put_some(&self, bytes: &[u8], short: u64, room: usize, place: usize, values: &mut [i64])
+        requires short { length bytes.now < 8 → short ≡ word bytes.now }
+        requires there { is_inside self.now (8 * length bytes.now) ≡ true }
+        requires few { room ≤ self.now.count }
+        requires room { room ≤ length values.now - place }
+        requires counted { place + self.now.count < 2 ^ 64 }
+        ensures { values.new
+            ≡ set_from place (numbers_from self.now bytes.now 0 room) values.old }
+    {
         let width = self.width;
         let is_signed = self.is_signed;
-        for index in 0..self.count {
+        for index in 0..room {
             let first = self.first + width * index;
-            let number = number_at(bytes, short, first, width, is_signed);
-            set_at(values, place + index, number);
+            values[place + index] = number_at(bytes, short, first, width, is_signed);
         }
     }
 

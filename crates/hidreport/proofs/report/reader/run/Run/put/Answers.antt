@@ -1,20 +1,21 @@
-use Rattle.std.proofs.Common.{◌≡◌, ◌∙◌, ◌+◌, FitsSigned, ap, sym, rules}
-use Rattle.std.specs.Int.{w64}
-use Rattle.std.specs.Prelude.{slice_set}
-use Rattle.std.proofs.lemmas.Int.{to_z-of_z}
-use Rattle.hidreport.specs.Runs.{number_at}
-use Rattle.hidreport.proofs.FilledLemmas.{put-next}
+use Rattle.std.proofs.Common.{◌≡◌, ◌∙◌, arith, rules}
+use Rattle.hidreport.proofs.FilledLemmas.{put-room}
 use Rattle.hidreport.proofs.report.reader.run.Run.put.Goals as goal
 
-pub loop-index-preserved : goal.loop-index-preserved
-loop-index-preserved c =
-    let index = c.loop-index.index in
-    let place = c.args.place in
-    let number = c.number_at-number.result in
-    let fits : FitsSigned w64 number = search rules in
-    let is : number ≡ number_at c.args.self.now c.args.bytes.now index = search rules in
-    c.set_at.ensures
-    ∙ ap (slice_set c.loop-index.values (place + index)) (to_z-of_z w64 number fits ∙ is)
-    ∙ ap (λ l. slice_set l (place + index) (number_at c.args.self.now c.args.bytes.now index))
-    c.loop-index.invariant
-    ∙ sym (put-next c.args.self.now c.args.bytes.now index place c.args.values.now)
+pub returns-then-not-self : goal.returns-then-not-self
+returns-then-not-self c =
+    let least = c.min-room.ensures in
+    let left = c.saturating_sub.ensures in
+    let count : c.args.self.now.count ≡ c.self.inside.count = search rules in
+    c.put_bytes.ensures
+    ∙ put-room c.args.self.now c.args.bytes.now c.args.place c.min-room.result c.args.values.now
+    (omega (arith, least, left, count)) (λ lt. omega (arith, least, left, count, lt))
+
+pub returns-else-self-eq8 : goal.returns-else-self-eq8
+returns-else-self-eq8 c =
+    let least = c.min-room.ensures in
+    let left = c.saturating_sub.ensures in
+    let count : c.args.self.now.count ≡ c.self.inside.count = search rules in
+    c.put_some.ensures
+    ∙ put-room c.args.self.now c.args.bytes.now c.args.place c.min-room.result c.args.values.now
+    (omega (arith, least, left, count)) (λ lt. omega (arith, least, left, count, lt))

@@ -1,6 +1,6 @@
 use Rattle.std.proofs.Common.{◌≡◌}
 use Rattle.hidreport.specs.Runs.{numbers_from, set_from}
-use Rattle.hidreport.proofs.report.reader.run.Run.put.Given as goal
+use Rattle.hidreport.proofs.report.reader.run.Run.put_bytes.Given as goal
 
 -- the numbers before this one are in place
 abbrev pub invariant-loop-index : goal.invariant-loop-index
