@@ -107,7 +107,7 @@ fn add_with_element(
 }
 
 /// Appends the new bytes, or the refusal, and the bytes where they have changed nevertheless.
-fn add_outcome(
+pub fn add_outcome(
     text: &mut String,
     answer: Result<(), InsertError>,
     before: &[u8],
@@ -178,7 +178,7 @@ fn add_readings(
 }
 
 /// Numbers with a space between; `-` is none.
-fn numbers_of(alloc: Global, words: &str) -> Result<Vec<i64>, Malformed> {
+pub fn numbers_of(alloc: Global, words: &str) -> Result<Vec<i64>, Malformed> {
     let mut numbers = Vec::new(alloc);
     if words != "-" {
         for word in words.split(" ") {

@@ -31,6 +31,7 @@ mod tally;
 mod units;
 mod usages;
 mod whole_readings;
+mod whole_writings;
 mod words;
 
 use case_file::ask_file;

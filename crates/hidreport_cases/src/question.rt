@@ -23,6 +23,7 @@ use crate::tally::Tally;
 use crate::units::{add_exponent, add_unit, add_units, add_usage};
 use crate::usages::{add_chosen, add_usages_of};
 use crate::whole_readings::{add_read_at_once, add_read_otherwise};
+use crate::whole_writings::{add_written_at_once, add_written_otherwise};
 use crate::words::{bytes_of, first_of, number_of};
 use std::alloc::{AllocError, Global};
 
@@ -74,6 +75,7 @@ fn add_answer_of_writing(
         "by-id" => add_by_id(text, asked, words),
         "shared" => add_shared(text, asked, words),
         "reader" => add_read_at_once(alloc, text, asked, words),
+        "writer" => add_written_at_once(alloc, text, asked, words),
         _ => add_answer_without_field(alloc, text, kind, words),
     }
 }
@@ -188,6 +190,7 @@ fn add_read(
     let descriptor = asked.descriptor()?;
     add_readings(text, descriptor, &bytes)?;
     add_read_otherwise(alloc, text, descriptor, &bytes)?;
+    add_written_otherwise(alloc, text, descriptor, &bytes)?;
     if is_first {
         add_flips(alloc, text, tally, descriptor, &bytes)?;
     }

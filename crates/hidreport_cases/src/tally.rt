@@ -2,7 +2,7 @@
 use std::fmt;
 
 /// The kinds, by the first words of their questions.
-static KINDS: [&str; 47] = [
+static KINDS: [&str; 48] = [
     "parse",
     "parse-globals",
     "parse-hosts",
@@ -20,6 +20,7 @@ static KINDS: [&str; 47] = [
     "by-id",
     "shared",
     "reader",
+    "writer",
     "many",
     "many-within",
     "many-hosts-within",
@@ -56,7 +57,7 @@ static KINDS: [&str; 47] = [
 #[derive(Drop)]
 pub struct Tally {
     /// How many questions of each kind, in the order of `KINDS`.
-    asked: [usize; 47],
+    asked: [usize; 48],
     /// How many had another answer, or couldn't be asked.
     differing: usize,
     /// How many cut descriptors were asked besides.
@@ -68,7 +69,7 @@ pub struct Tally {
 impl Tally {
     pub fn new() -> Tally {
         Tally {
-            asked: [0; 47],
+            asked: [0; 48],
             differing: 0,
             cuts: 0,
             flips: 0,
