@@ -9,8 +9,9 @@
 # else three. By any other, and by none, answers decide: with no `rt` on the path the archive that
 # `make` builds answers c/cases.txt and hostile descriptors. What was made from other sources is
 # stale: one line says so, and it is a fault only where the version is another. A spoilt byte and a
-# name too many are tried each time, and have to be refused. The programs are compared with the objects
-# that lie in out/ once they are proved, and make their stored runs.
+# name too many are tried each time, and have to be refused. Of the programs what the kit links of
+# the packed objects is compared with those that lie in out/ once they are proved; they make their
+# stored runs. (--write wants their objects there, too: rt ci leaves none of a program that it kept.)
 set -eu
 
 top=$(cd "$(dirname "$0")/.." && pwd)
@@ -68,7 +69,8 @@ find_fresh() {
     done
 }
 
-# The crate of a program, and the object that lies there once it is proved.
+# The crate of a program, and what lies there once it is proved: the program, and the object of one that
+# was proved there and then.
 crate_of() {
     case $1 in
         hid) echo hid ;;
@@ -76,14 +78,22 @@ crate_of() {
     esac
 }
 
-object_of() {
-    echo "$1/crates/$(crate_of "$2")/out/$(crate_of "$2").o"
+program_of() {
+    echo "$1/crates/$(crate_of "$2")/out/$(crate_of "$2")"
 }
 
 # Is the program that lies in a tree proved of the sources there?
 is_proved() {
     [ "$("$1/$2" --sources)" = "$(cat "$1/crates/$(crate_of "$2")/out/built_from" 2> /dev/null)" ] &&
-        [ -r "$(object_of "$1" "$2")" ]
+        [ -x "$(program_of "$1" "$2")" ]
+}
+
+# The program that rt links of an object.
+link() {
+    local kit
+    kit=$(dirname "$(rt doc)")
+    "$kit/bin/rattle-link" --target x86_64-unknown-linux-gnu --toolchain "$kit/toolchain" \
+        -o "$2" "$1" "$kit/c/libos_c.a" "$kit/c/liblibc_c.a"
 }
 
 # The files that the proofs of a tree give, into the scratch folder.
@@ -124,11 +134,12 @@ write() {
     for program in "${programs[@]}"; do
         [ "$("$1/$program" --code)" = "$("./$program" --code)" ] || wrong "$1 has other sources"
         is_proved "$1" "$program" || wrong "$program isn't proved in $1"
+        [ -r "$(program_of "$1" "$program").o" ] || wrong "$1 has no object of $program"
     done
     build "$1"
     cp -r "$scratch/built/." generated/
     for program in "${programs[@]}"; do
-        gzip -9 -n -c "$(object_of "$1" "$program")" > "generated/x86_64-linux/$program.o.gz"
+        gzip -9 -n -c "$(program_of "$1" "$program").o" > "generated/x86_64-linux/$program.o.gz"
     done
     {
         echo 'From what, and by what, checks/generated.sh --write made this folder; then its sums.'
@@ -164,7 +175,12 @@ compare() {
 compare_program() {
     [ "$("$1/$2" --code)" = "$(noted "code of $2")" ] || wrong "$1 has other sources"
     is_proved "$1" "$2" || wrong "$2 isn't proved in $1"
-    gzip -dc "generated/x86_64-linux/$2.o.gz" | cmp - "$(object_of "$1" "$2")" ||
+    gzip -dc "generated/x86_64-linux/$2.o.gz" > "$scratch/$2.o"
+    link "$scratch/$2.o" "$scratch/$2" > "$scratch/said" 2>&1 || {
+        tail -n 20 "$scratch/said" >&2
+        wrong "$2.o isn't linked"
+    }
+    cmp "$scratch/$2" "$(program_of "$1" "$2")" ||
         wrong "generated/x86_64-linux/$2.o.gz isn't what the proofs build"
     say "$2 is byte for byte what the proofs build"
 }

@@ -174,6 +174,10 @@ array_at first last count least = ArrayRecord (place_at 0 first last)
 abbrev pub one_run : ℕ → ℕ → RunRecord
 one_run first width = record { id = None; first = first; width = width; count = 1; is_signed = false }
 
+-- no values, read by this id, in its byte
+abbrev pub no_run_of : ℕ → RunRecord
+no_run_of id = record { id = Some id; first = 0; width = 8; count = 0; is_signed = false }
+
 -- the fields of the first input report, or none
 abbrev pub first_fields : List ReportRecord → List FieldRecord
 first_fields [] = []

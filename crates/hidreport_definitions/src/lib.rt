@@ -33,3 +33,4 @@ pub mod weights;
 pub mod whole_reports;
 pub mod writing;
 pub mod writing_elements;
+pub mod writing_whole;
