@@ -257,6 +257,15 @@ static void insert_all(const char *field, const char *values)
         hidreport_insert_all(field_of(field), report, report_length, numbers, count));
 }
 
+static void write_all(const char *values, const char *none)
+{
+    static int64_t numbers[ROOM];
+    size_t count = numbers_of(values, numbers);
+    (void)none;
+    print_inserted(
+        hidreport_write(fields, field_count, report, report_length, numbers, count));
+}
+
 /* Each kind of question, and how many words it has before its bytes. */
 static const struct {
     const char *kind;
@@ -280,6 +289,7 @@ static const struct {
     {"value-of", 2, value_of},       {"null-value", 1, null_value},
     {"physical", 2, physical},       {"normalized", 2, normalized},
     {"insert", 2, insert},           {"insert-all", 2, insert_all},
+    {"write", 1, write_all},
     {"alike", 0, alike},             {"front-items", 1, front_items},
     {"groups", 1, groups},           {"group-usage", 2, group_usage},
     {"group-field", 2, group_field}, {"describe-usages", 1, describe_usages},

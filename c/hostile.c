@@ -256,6 +256,7 @@ int main(void)
     ask_for_groups();
     ask_to_read(say);
     ask_to_read_with_little_room(say);
+    ask_to_write_more_than_counted(say);
     ask_for_numbers(say);
     ask_for_texts(say);
     ask_without_memory(say);

@@ -41,7 +41,11 @@ static void ask_to_write(saying *say)
             continue;
         status = hidreport_insert_all(f, report, 7, zeros, f->value_count);
         say(is_unwritten(status, report), "insert_all by no field");
+        status = hidreport_write(f, 1, report, 7, zeros, f->value_count);
+        say(is_unwritten(status, report), "write by no field");
     }
+    say(hidreport_write(NULL, 0, report, 7, NULL, 0) == HIDREPORT_ACCEPTED, "nothing of no fields");
+    say(hidreport_write(NULL, 0, NULL, 0, zeros, 1) == HIDREPORT_WRONG_COUNT, "a value of none");
 }
 
 /* By fields that no descriptor has nothing is read, but of the one without a value, and of the one
@@ -66,6 +70,21 @@ static void ask_to_read(saying *say)
     say(hidreport_read(NULL, 0, NULL, 0, NULL, 0).count == 0, "no fields");
     say(hidreport_read_available(NULL, 0, NULL, 0, NULL, 0).count == 0, "no fields that are there");
     say(values[0] == 7 && values[1] == 7, "values without room");
+}
+
+/* Counts that can't be added in 64 bits are no count of values. */
+static void ask_to_write_more_than_counted(saying *say)
+{
+    const struct hidreport_field two[2] = {
+        {.first_bit = 0, .end_bit = 8, .value_count = SIZE_MAX},
+        {.first_bit = 8, .end_bit = 16, .value_count = 2},
+    };
+    uint8_t report[2] = {5, 6};
+    const int64_t values[1] = {0};
+
+    say(hidreport_write(two, 2, report, 2, values, 1) == HIDREPORT_WRONG_COUNT,
+        "counts that wrap round");
+    say(report[0] == 5 && report[1] == 6, "bytes of counts that wrap round");
 }
 
 /* Two values with room for one. */

@@ -481,6 +481,13 @@ uint32_t hidreport_insert(const struct hidreport_field *field, uint8_t *report,
 uint32_t hidreport_insert_all(const struct hidreport_field *field, uint8_t *report,
                               size_t report_length, const int64_t *values, size_t count);
 
+/* Writes all values of these fields, as hidreport_find lists them, in order: what hidreport_read
+ * gives for the new bytes. None is written where one is refused: with HIDREPORT_WRONG_COUNT where
+ * there are more or fewer than the fields have, then as of hidreport_read, then where a field begins
+ * in the byte of its report's id, then with HIDREPORT_DOES_NOT_FIT. It takes no memory. */
+uint32_t hidreport_write(const struct hidreport_field *fields, size_t field_count, uint8_t *report,
+                         size_t report_length, const int64_t *values, size_t count);
+
 /* The bytes of a report without values, which hidreport_insert may fill: its id, where it has one,
  * and zeros. It takes no memory. */
 struct hidreport_answer hidreport_blank(const struct hidreport_report *report, uint8_t *bytes,

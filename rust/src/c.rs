@@ -25,7 +25,7 @@ pub use sys::{
     Change, Collection, Collections, Field, Flags, Group, Item, Measures, Options, Report, Usages,
 };
 pub use wholes::{
-    describe_usages, find_usages, group_field, group_usage, groups, read, read_available,
+    describe_usages, find_usages, group_field, group_usage, groups, read, read_available, write,
 };
 pub use writing::{blank, insert, insert_all, null_value, value_of};
 

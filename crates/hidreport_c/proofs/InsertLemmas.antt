@@ -85,7 +85,7 @@ values-wide f bytes (suc last) counts ok some =
     let room = values-room f bytes last all ok in (room.some, room.narrow)
 
 -- a value is refused for the bounds or for the id
-abbrev IsPlain : {A : Type 0} → Result A Refusal → Type 0
+abbrev pub IsPlain : {A : Type 0} → Result A Refusal → Type 0
 IsPlain (Ok x) = Unit {0}
 IsPlain (Err r) = insert_status (insert_refusal r) ≡ status_of r
 

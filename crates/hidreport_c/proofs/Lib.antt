@@ -8,6 +8,7 @@ pub mod ListsLemmas
 pub mod NullLemmas
 pub mod ReadDescribedLemmas
 pub mod ReadingLemmas
+pub mod WritingLemmas
 pub mod RepairLemmas
 pub mod StandingLemmas
 pub mod UsageListsLemmas

@@ -33,7 +33,7 @@ same-numbers : (r : Result (List ValueRecord) Refusal) → value_numbers r ≡ n
 same-numbers (Ok vs) = refl
 same-numbers (Err e) = refl
 
-listed-read : (read : List FieldRecord) (bytes : List ℕ)
+pub listed-read : (read : List FieldRecord) (bytes : List ℕ)
     → numbers_in (map as_c read) bytes ≡ report_numbers read bytes
 listed-read [] bytes = refl
 listed-read (f ∷ read) bytes =
@@ -46,7 +46,7 @@ pub described-read : (fields : List HidreportField) (read : List FieldRecord) (b
     → fields ≡ map as_c read → numbers_in fields bytes ≡ report_numbers read bytes
 described-read fields read bytes is = ap (λ l. numbers_in l bytes) is ∙ listed-read read bytes
 
-same-id : (f : FieldRecord) → id_of (as_c f) ≡ own_id f
+pub same-id : (f : FieldRecord) → id_of (as_c f) ≡ own_id f
 same-id (VariableRecord place usage shared) = id-again place.report_id
 same-id (ArrayRecord place usages is_range count shared) = id-again place.report_id
 same-id (ConstantRecord place) = refl

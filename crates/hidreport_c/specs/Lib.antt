@@ -22,3 +22,4 @@ pub mod Status
 pub mod UsageLists
 pub mod Usages
 pub mod Value
+pub mod Writing

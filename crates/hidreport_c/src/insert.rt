@@ -140,7 +140,7 @@ impl HidreportField {
     }
 
     /// Whether bits from this one on begin in the byte of the report's id.
-    fn begins_in_id(&self, first: usize) -> bool
+    pub(crate) fn begins_in_id(&self, first: usize) -> bool
         ensures { result ≡ begins_in_id (id_of self.now) first }
     {
         self.has_report_id && first < 8

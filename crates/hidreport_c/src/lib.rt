@@ -31,3 +31,4 @@ mod usage_lists;
 mod usages;
 mod value;
 mod version;
+mod writing;

@@ -80,7 +80,7 @@ pub extern "C" fn hidreport_read_available(
 }
 
 /// Whether all values of all fields can be read.
-fn check_all(fields: &[HidreportField], report: &[u8]) -> Result<(), u32>
+pub(crate) fn check_all(fields: &[HidreportField], report: &[u8]) -> Result<(), u32>
     ensures { result ≡ by_status (acceptance (numbers_in fields.now report.now)) }
 {
     for field in fields {

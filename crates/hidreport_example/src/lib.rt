@@ -8,3 +8,4 @@ pub mod limits;
 pub mod plain;
 pub mod rewriting;
 pub mod values;
+pub mod whole_reports;

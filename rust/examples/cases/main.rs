@@ -186,6 +186,13 @@ impl Asked {
         print_bytes(&bytes[..room.min(bytes.len())]);
     }
 
+    /// What is written into a report by all fields that were listed.
+    fn ask_write(&self, numbers: &str, mut report: Vec<u8>) {
+        let done = hidreport::c::write(&self.fields, &mut report, &numbers_of(numbers));
+        println!("  {}", done.map_or_else(words_of, |()| "accepted"));
+        print_bytes(&report);
+    }
+
     /// What is written into a report by a field that was listed.
     fn ask_insert(&self, kind: &str, words: &[&str], mut report: Vec<u8>) {
         let field = &self.fields[words[0].parse::<usize>().expect("a field")];
@@ -300,6 +307,7 @@ impl Asked {
             "alike" => self.ask_alike(&descriptor(1), &report),
             "blank" => self.ask_blank(room_of(words[1])),
             kind @ ("insert" | "insert-all") => self.ask_insert(kind, &words[1..], report),
+            "write" => self.ask_write(words[1], report),
             kind @ ("value-of" | "null-value" | "physical" | "normalized") => {
                 self.ask_meaning(kind, &words[1..])
             }

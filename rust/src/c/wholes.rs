@@ -90,3 +90,12 @@ pub fn read_available(fields: &[Field], report: &[u8]) -> Result<Vec<i64>, Statu
     })
     .map_err(|unlisted| unlisted.status)
 }
+
+/// Writes all values of these fields, in order, into a report. Where one is refused the report is as
+/// it was.
+pub fn write(fields: &[Field], report: &mut [u8], values: &[i64]) -> Result<(), Status> {
+    let (first, count) = (fields.as_ptr(), fields.len());
+    let (bytes, length) = (report.as_mut_ptr(), report.len());
+    let (numbers, room) = (values.as_ptr(), values.len());
+    Status::of_answer(unsafe { sys::hidreport_write(first, count, bytes, length, numbers, room) })
+}

@@ -251,6 +251,15 @@ extern "C" {
         room: usize,
     ) -> Answer;
 
+    pub fn hidreport_write(
+        fields: *const Field,
+        field_count: usize,
+        report: *mut u8,
+        report_length: usize,
+        values: *const i64,
+        count: usize,
+    ) -> u32;
+
     pub fn hidreport_usage_of(
         field: *const Field,
         value: i64,
