@@ -83,7 +83,7 @@ pub enum Field {
 }
 
 impl Field {
-    /// The field's number in the descriptor.
+    /// The field's number, counted from 0 in the order of the descriptor.
     pub fn id(&self) -> FieldId
         ensures { result ≡ field_id self.now }
     {

@@ -72,8 +72,9 @@ impl<'a> Model for Piece<'a> {
 
 /// Cuts the bytes of a descriptor as Linux's hid-core reads them (Section 6.2.2).
 ///
-/// Where the bytes are items these stand there; where they are none, an item with the data 0 or
-/// nothing. An item that is cut short is left out where that is asked for.
+/// Where the bytes are an item it stands there; where they are none, an item with the data 0 does, or
+/// nothing. With a main item that is left out go the local items that would have been its own. An
+/// item that is cut short is left out where that is asked for.
 ///
 /// # Errors
 ///

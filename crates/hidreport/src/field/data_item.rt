@@ -22,7 +22,7 @@ pub enum Direction {
 }
 
 impl Direction {
-    /// All three, in the order in which `ReportDescriptor` has their reports.
+    /// All three directions, in the order in which `ReportDescriptor` has their reports.
     pub const ALL: [Direction; 3] = [Direction::Input, Direction::Output, Direction::Feature];
 }
 
