@@ -95,6 +95,19 @@ impl ReportDescriptor {
     /// - `OutOfMemory`: memory is refused; this says nothing of the bytes.
     ///
     /// `BudgetExceeded` (`unlimited`) and `MismatchingReportId` (`own_bytes`) never come.
+    ///
+    /// # Examples
+    ///
+    /// ```rust
+    /// use hidreport::{ParserError, ReportDescriptor};
+    ///
+    /// let bytes = b"\x05\x01\x15\x81\x25\x7f\x75\x08\x95\x02\x09\x30\x09\x31\x81\x02";
+    /// let descriptor = ReportDescriptor::try_from(alloc, bytes)?;
+    /// assert_eq!(rt; descriptor.input_reports().len(), 1);
+    /// // The last item is cut short; that comes before the Input, which lacks usages.
+    /// let refused = ReportDescriptor::try_from(alloc, b"\x05\x01\x75\x08\x95\x01\x81\x02\x05");
+    /// assert!(rt; matches!(refused, Err(ParserError::InvalidData { offset: 8, .. })));
+    /// ```
     pub fn try_from(alloc: Global, bytes: &[u8]) -> Result<ReportDescriptor, ParserError>
         ensures exact { Answers result (parse bytes.now) }
         ensures tiled { IfOk result (λ descriptor. IsTiled descriptor) }
@@ -111,16 +124,15 @@ impl ReportDescriptor {
     /// finds its usages, and under which limits (Section 6.2.2).
     ///
     /// Where there is a limit, a field counts 1, with the usages of an array and, for each
-    /// collection around the field, 1 and the usages of that; padding counts 1 alone. So does what
-    /// an item opens: 1 for a collection, and its usages. Before anything of an item is listed,
-    /// what it counts is known from the numbers in force. What is read counts at most the limit
-    /// together (`bounded`), and is what is read without one (`plain`).
+    /// collection around the field, 1 and the usages of that; padding counts 1 alone. A collection
+    /// counts 1 and its usages where it is opened. Before anything of an item is listed, what it
+    /// counts is known from the numbers in force. What is read counts at most the limit together
+    /// (`bounded`), and is what is read without one (`plain`).
     ///
-    /// A segment changes nothing, where a Push keeps globals alone one without local items
-    /// (`struck`). Items that aren't kept change nothing, and the rebuilt bytes mean the same
-    /// (`kept`, `rebuilt`). These three hold under a limit, too: its error comes at the same item.
-    /// They say nothing of `longest`, which what is left out may pass. Fields tile their reports
-    /// (`tiled`).
+    /// The laws of `try_from` hold, too (`struck`, `kept`, `rebuilt`, `tiled`); where a Push keeps
+    /// globals alone, that of segments only where no local item stands in one. A limit's error then
+    /// comes at the same item. They say nothing of `longest`, which what is left out may pass.
+    /// `ParseOptions` has an example.
     ///
     /// # Errors
     ///
@@ -218,8 +230,7 @@ impl ReportDescriptor {
         ReportDescriptor::try_from_with(alloc, bytes, options)
     }
 
-    /// Whether another descriptor is the same in all parts: whether it announces the same reports
-    /// in each direction, with equal fields in them; takes no memory.
+    /// Whether another descriptor announces equal reports in each direction; takes no memory.
     pub fn is_alike(&self, other: &ReportDescriptor) -> bool
         ensures { IsTrue result ↔ (self.now ≡ other.now) }
     {
@@ -318,6 +329,18 @@ impl ReportDescriptor {
     /// there are as many bytes as the report has, each field whose values have at most 32 bits is
     /// read, and takes as many values as it has, where each fits (`works`): `extract`,
     /// `extract_one`, `insert` and `insert_one` never fail then, want of memory apart.
+    ///
+    /// # Examples
+    ///
+    /// ```rust
+    /// use hidreport::{Report, ReportDescriptor};
+    ///
+    /// let bytes = b"\x05\x01\x75\x08\x95\x01\xa4\x85\x05\x09\x30\x81\x02\xb4\x09\x31\x81\x02";
+    /// let descriptor = ReportDescriptor::try_from(alloc, bytes)?;
+    /// let report = descriptor.find_input_report(b"\x05\x11\x22").ok_or("no report")?;
+    /// assert_eq!(rt; report.size_in_bytes(), 3);
+    /// assert!(rt; descriptor.find_input_report(b"\x07\x11\x22").is_none());
+    /// ```
     pub fn find_input_report(&self, bytes: &[u8]) -> Option<&RDescReport>
         ensures found { option_copied result ≡ find_report self.now.input bytes.now }
         ensures own { IsTiled self.now → IfSome (option_copied result) (λ report.
@@ -327,8 +350,7 @@ impl ReportDescriptor {
         self.report_of(Direction::Input, bytes)
     }
 
-    /// Finds the output report that the bytes of a report are of, as `find_input_report` does
-    /// (Section 5.6).
+    /// Finds the output report that the bytes are of, as `find_input_report` does (Section 5.6).
     pub fn find_output_report(&self, bytes: &[u8]) -> Option<&RDescReport>
         ensures found { option_copied result ≡ find_report self.now.output bytes.now }
         ensures own { IsTiled self.now → IfSome (option_copied result) (λ report.
@@ -338,8 +360,7 @@ impl ReportDescriptor {
         self.report_of(Direction::Output, bytes)
     }
 
-    /// Finds the feature report that the bytes of a report are of, as `find_input_report` does
-    /// (Section 5.6).
+    /// Finds the feature report that the bytes are of, as `find_input_report` does (Section 5.6).
     pub fn find_feature_report(&self, bytes: &[u8]) -> Option<&RDescReport>
         ensures found { option_copied result ≡ find_report self.now.feature bytes.now }
         ensures own { IsTiled self.now → IfSome (option_copied result) (λ report.

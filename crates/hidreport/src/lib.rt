@@ -39,7 +39,7 @@
 //!         values.push(i32::from(field.extract(b"\xfe")?))?;
 //!     }
 //! }
-//! assert_eq!(rt; values.as_slice(), [-2]);
+//! assert_eq!(rt; values.as_slice(), [-2].as_slice());
 //! ```
 //!
 //! # What is proved

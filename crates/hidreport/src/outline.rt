@@ -50,6 +50,20 @@ impl Outline {
     /// # Errors
     ///
     /// - What `ReportDescriptor::try_from_with` refuses, in its order.
+    ///
+    /// # Examples
+    ///
+    /// ```rust
+    /// use hidreport::{Outline, ParseOptions};
+    ///
+    /// let bytes = b"\x05\x01\x15\x81\x25\x7f\x75\x08\x95\x02\x09\x30\x09\x31\x81\x02";
+    /// let outline = Outline::try_from_with(alloc, bytes, ParseOptions::bounded())?;
+    /// let report = outline.input_reports().first().ok_or("no report")?;
+    /// let group = report.groups().first().ok_or("no group")?;
+    /// assert_eq!(rt; group.field_count(), 2);
+    /// assert_eq!(rt; group.element_width(), 8);
+    /// assert_eq!(rt; group.usage(1).map(u32::from), Some(0x0001_0031));
+    /// ```
     pub fn try_from_with(
         alloc: Global,
         bytes: &[u8],

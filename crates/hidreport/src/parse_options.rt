@@ -11,6 +11,19 @@ use crate::parser::usages_by::UsagesBy;
 ///
 /// The default is what `try_from` does: a Push keeps local items, too, usages are found by the
 /// letter of the standard, and nothing is limited.
+///
+/// # Examples
+///
+/// ```rust
+/// use hidreport::{ParseOptions, ParserError, ReportDescriptor};
+///
+/// let bytes = b"\x05\x01\x09\x02\xa1\x01\x09\x30\x75\x08\x95\x02\x81\x02\xc0";
+/// let options = ParseOptions::bounded();
+/// assert!(rt; ReportDescriptor::try_from_with(alloc, bytes, options).is_ok());
+/// let options = ParseOptions { limit: Some(7), ..options };
+/// let refused = ReportDescriptor::try_from_with(alloc, bytes, options);
+/// assert!(rt; matches!(refused, Err(ParserError::BudgetExceeded { offset: 12 })));
+/// ```
 #[derive(Clone, Copy, Debug, PartialEq, Eq)]
 pub struct ParseOptions {
     /// What a Push keeps for its Pop.

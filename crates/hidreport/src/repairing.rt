@@ -47,6 +47,17 @@ use std::alloc::Global;
 ///
 /// `MismatchingReportId` never comes (`own_bytes`), nor without `limit` and `longest`
 /// `BudgetExceeded` (`unlimited`).
+///
+/// # Examples
+///
+/// ```rust
+/// use hidreport::{RepairOptions, repair};
+///
+/// // An Input that lacks usages becomes padding.
+/// let repaired = repair(alloc, b"\x75\x08\x95\x01\x81\x02", RepairOptions::default())?;
+/// assert_eq!(rt; repaired.bytes.as_slice(), b"\x75\x08\x95\x01\x81\x03".as_slice());
+/// assert_eq!(rt; repaired.changes.len(), 1);
+/// ```
 pub fn repair(alloc: Global, bytes: &[u8], options: RepairOptions) -> Result<Repaired, ParserError>
     ensures exact { AnswersBy repaired_view result (repaired options bytes.now) }
     ensures untouched { options.unsigned_maxima ≡ false → IsOk (parse_as options.parse bytes.now)

@@ -86,6 +86,17 @@ pub trait Report {
     /// # Errors
     ///
     /// - `AllocError`: memory for the bytes is refused.
+    ///
+    /// # Examples
+    ///
+    /// ```rust
+    /// use hidreport::{Report, ReportDescriptor};
+    ///
+    /// let bytes = b"\x05\x01\x75\x08\x95\x01\x85\x01\x09\x30\x91\x02";
+    /// let descriptor = ReportDescriptor::try_from(alloc, bytes)?;
+    /// let report = descriptor.output_reports().first().ok_or("no report")?;
+    /// assert_eq!(rt; report.blank(alloc)?.as_slice(), b"\x01\x00".as_slice());
+    /// ```
     fn blank(&self, alloc: Global) -> Result<Vec<u8>, AllocError>
         ensures blank { IfOk result (λ bytes.
             bytes.items ≡ blank_bytes (id self.now) (size self.now)) }

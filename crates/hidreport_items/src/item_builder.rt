@@ -20,6 +20,15 @@ use std::marker::{Model, PhantomData};
 /// that a flag is set at most once: a second setting doesn't compile.
 ///
 /// `ItemBuilder::new().variable().relative().input()` is the Input of a mouse's axes.
+///
+/// # Examples
+///
+/// ```rust
+/// use hidreport::hid::ItemBuilder;
+///
+/// let axes = ItemBuilder::new().variable().relative().input();
+/// assert_eq!(rt; axes.as_bytes(alloc)?.as_slice(), b"\x81\x06".as_slice());
+/// ```
 #[derive(Drop)]
 pub struct ItemBuilder<A, B, C, D, E, F, G, H, I>
 where

@@ -32,6 +32,21 @@ use std::marker::{Model, PhantomData};
 /// A call that appends an item consumes the builder, also where it fails.
 ///
 /// `ReportDescriptorBuilder::new(alloc).push()?.pop()?.build()?` is the bytes `a4 b4`.
+///
+/// # Examples
+///
+/// ```rust
+/// use hidreport::hid::{CollectionItem, ReportDescriptorBuilder};
+/// use hidreport::{UsageId, UsagePage};
+///
+/// let bytes = ReportDescriptorBuilder::new(alloc)
+///     .usage_page(UsagePage::from(1))?
+///     .usage_id(UsageId::from(2))?
+///     .open_collection(CollectionItem::Application)?
+///     .close_collection()?
+///     .build()?;
+/// assert_eq!(rt; bytes.as_slice(), b"\x05\x01\x09\x02\xa1\x01\xc0".as_slice());
+/// ```
 #[derive(Drop)]
 pub struct ReportDescriptorBuilder<S: ReportDescriptorBuilderState> {
     items: Vec<ItemType>,

@@ -88,6 +88,17 @@ impl ReportDescriptorItems {
     /// - `InvalidData` at the offset of the first item that can't be read: `Insufficient data`
     ///   where bytes are missing, else `Invalid data: ` and the message of `ItemType::try_from`.
     /// - `OutOfMemory`: memory is refused; this says nothing of the bytes.
+    ///
+    /// # Examples
+    ///
+    /// ```rust
+    /// use hidreport::hid::{Item, ReportDescriptorItems};
+    ///
+    /// let items = ReportDescriptorItems::try_from(alloc, b"\x05\x01\x75\x08")?;
+    /// let second = items.as_slice().last().ok_or("no item")?;
+    /// assert_eq!(rt; second.offset(), 2);
+    /// assert_eq!(rt; second.item().bytes(), b"\x75\x08".as_slice());
+    /// ```
     pub fn try_from(alloc: Global, bytes: &[u8]) -> Result<ReportDescriptorItems, ParserError>
         ensures exact { Answers result (as_refusal (itemise item_of bytes.now)) }
         ensures named { IfErr result IsOfItems }

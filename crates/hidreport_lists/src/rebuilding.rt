@@ -28,6 +28,16 @@ use std::alloc::{AllocError, Global};
 /// - What `ReportDescriptorItems::try_from` refuses, in its order: no bytes, or the first item that
 ///   can't be read.
 /// - `OutOfMemory`: memory is refused; this says nothing of the bytes.
+///
+/// # Examples
+///
+/// ```rust
+/// use hidreport::hid::rebuild;
+///
+/// let bytes = b"\x06\x01\x00\xc4\x0a\x30\x00\xfc\x17\x00\x00\x00\x00\xa0\xc1\x55";
+/// let rebuilt = rebuild(alloc, bytes)?;
+/// assert_eq!(rt; rebuilt.as_slice(), b"\x05\x01\x09\x30\x15\x00\xa1\x00\xc0".as_slice());
+/// ```
 pub fn rebuild(alloc: Global, bytes: &[u8]) -> Result<Vec<u8>, ParserError>
     ensures exact { AnswersBy (λ written. written.items) result
         (as_refusal (rebuild_answer (itemise item_of bytes.now))) }

@@ -96,6 +96,14 @@ pub fn usage_on_page(usage_page: UsagePage, name: &str) -> Option<UsageId>
 ///
 /// Several pages can have usages of one name: it is that of the lowest page. Every page of vendors
 /// has the same names, so it is page FF00 that is answered for them.
+///
+/// # Examples
+///
+/// ```rust
+/// use hidreport_usages::usage_by_name;
+///
+/// assert_eq!(rt; usage_by_name("Mouse").map(u32::from), Some(0x0001_0002));
+/// ```
 pub fn usage_by_name(name: &str) -> Option<Usage>
     ensures { IsFirstNamed name_of_number name.now 0 (option_map usage_number result) }
 {

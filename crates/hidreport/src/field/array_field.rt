@@ -203,6 +203,23 @@ impl ArrayField {
     /// - `MismatchingReportId`: the field has a report id, and the first byte is another.
     /// - `OutOfBounds`: an element has no bits or more than 32, or ends after the bytes.
     /// - `OutOfMemory`: memory for the values is refused.
+    ///
+    /// # Examples
+    ///
+    /// ```rust
+    /// use hidreport::{Field, Report, ReportDescriptor};
+    ///
+    /// let bytes = b"\x05\x09\x19\x01\x29\x08\x15\x00\x25\x07\x75\x08\x95\x01\x81\x00";
+    /// let descriptor = ReportDescriptor::try_from(alloc, bytes)?;
+    /// let report = descriptor.input_reports().first().ok_or("no report")?;
+    /// let mut usages = Vec::new(alloc);
+    /// if let Some(Field::Array(buttons)) = report.fields().first() {
+    ///     for value in buttons.extract(b"\x02")? {
+    ///         usages.push(buttons.usage_of(value).map(u32::from))?;
+    ///     }
+    /// }
+    /// assert_eq!(rt; usages.as_slice(), [Some(0x0009_0003)].as_slice());
+    /// ```
     pub fn extract(&self, bytes: &[u8]) -> Result<Vec<FieldValue>, ParserError>
         ensures answer { AnswersBy (λ values. values.items) result
             (reads (array_record self.now) bytes.now) }
@@ -280,6 +297,23 @@ impl ArrayField {
     /// - What `extract` refuses, in its order: `OutOfBounds`, `MismatchingReportId`.
     /// - `OutOfBounds`: the field has a report id, and its bits begin in the byte of the id.
     /// - `DoesNotFit`: an element's bits don't hold its value, signed or not as the field is.
+    ///
+    /// # Examples
+    ///
+    /// ```rust
+    /// use hidreport::{Field, InsertError, Report, ReportDescriptor, Usage};
+    ///
+    /// let bytes = b"\x05\x09\x19\x01\x29\x08\x15\x00\x25\x07\x75\x08\x95\x01\x81\x00";
+    /// let descriptor = ReportDescriptor::try_from(alloc, bytes)?;
+    /// let report = descriptor.input_reports().first().ok_or("no report")?;
+    /// let mut bytes = report.blank(alloc)?;
+    /// if let Some(Field::Array(buttons)) = report.fields().first() {
+    ///     let value = buttons.value_of(Usage::from(0x0009_0003)).ok_or("no value")?;
+    ///     buttons.insert(&mut bytes, &[value])?;
+    ///     assert_eq!(rt; buttons.insert(&mut bytes, &[]), Err(InsertError::WrongCount));
+    /// }
+    /// assert_eq!(rt; bytes.as_slice(), b"\x02".as_slice());
+    /// ```
     pub fn insert(&self, bytes: &mut [u8], values: &[i64]) -> Result<(), InsertError>
         ensures answer { Inserts result bytes.old bytes.new
             (written (array_record self.now) values.now bytes.old) }

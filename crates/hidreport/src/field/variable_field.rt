@@ -88,6 +88,23 @@ impl VariableField {
     /// - `MismatchingReportId`: the field has a report id, and the first byte is another.
     /// - `OutOfBounds`: the range of bits is empty or reversed, has more than 32 bits, or ends
     ///   after the bytes.
+    ///
+    /// # Examples
+    ///
+    /// ```rust
+    /// use hidreport::{Field, Report, ReportDescriptor};
+    ///
+    /// let bytes = b"\x05\x01\x15\x81\x25\x7f\x75\x08\x95\x02\x09\x30\x09\x31\x81\x02";
+    /// let descriptor = ReportDescriptor::try_from(alloc, bytes)?;
+    /// let report = descriptor.find_input_report(b"\x05\xfb").ok_or("no report")?;
+    /// let mut values = Vec::new(alloc);
+    /// for field in report.fields() {
+    ///     if let Field::Variable(field) = field {
+    ///         values.push(i64::from(field.extract(b"\x05\xfb")?))?;
+    ///     }
+    /// }
+    /// assert_eq!(rt; values.as_slice(), [5, -5].as_slice());
+    /// ```
     pub fn extract(&self, bytes: &[u8]) -> Result<FieldValue, ParserError>
         ensures answer { AnswersBy (λ value. value ∷ []) result
             (reads (variable_record self.now) bytes.now) }
@@ -114,6 +131,22 @@ impl VariableField {
     /// - What `extract` refuses, in its order: `OutOfBounds`, `MismatchingReportId`.
     /// - `OutOfBounds`: the field has a report id, and its range begins in the byte of the id.
     /// - `DoesNotFit`: so many bits don't hold the value, signed or not as the field is.
+    ///
+    /// # Examples
+    ///
+    /// ```rust
+    /// use hidreport::{Field, InsertError, Report, ReportDescriptor};
+    ///
+    /// let bytes = b"\x05\x01\x75\x04\x95\x01\x81\x01\x15\xf8\x25\x07\x09\x30\x81\x02";
+    /// let descriptor = ReportDescriptor::try_from(alloc, bytes)?;
+    /// let report = descriptor.input_reports().first().ok_or("no report")?;
+    /// let mut bytes = [0xff, 0x00];
+    /// if let Some(Field::Variable(field)) = report.fields().last() {
+    ///     field.insert(&mut bytes, -3)?;
+    ///     assert_eq!(rt; field.insert(&mut bytes, 8), Err(InsertError::DoesNotFit));
+    /// }
+    /// assert_eq!(rt; bytes, [0xdf, 0x00]);
+    /// ```
     pub fn insert(&self, bytes: &mut [u8], value: i64) -> Result<(), InsertError>
         ensures answer { Inserts result bytes.old bytes.new
             (written (variable_record self.now) (value ∷ []) bytes.old) }
