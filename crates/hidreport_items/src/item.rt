@@ -48,6 +48,16 @@ impl ItemType {
     /// - `InsufficientData`: there are no bytes.
     /// - What `try_from` of `MainItem`, `GlobalItem` or `LocalItem` refuses, by the header's type.
     /// - `OutOfMemory`: memory for a message is refused.
+    ///
+    /// # Examples
+    ///
+    /// ```rust
+    /// use hidreport::LogicalMaximum;
+    /// use hidreport::hid::ItemType;
+    ///
+    /// let item = ItemType::try_from(alloc, b"\x26\xff\x00")?;
+    /// assert_eq!(rt; item, ItemType::from(LogicalMaximum::from(255)));
+    /// ```
     pub fn try_from(alloc: Global, bytes: &[u8]) -> Result<ItemType, HidError>
         ensures { GivesWithoutMemory result (read_with item_of bytes.now) }
     {

@@ -8,7 +8,7 @@
 //! - [`HidError`]: why an item can't be read or written.
 //!
 //! `try_from` of each type reads an item, `as_bytes` writes it. The item that is read, the bytes
-//! that are written and the message of each error are proved for every input
+//! that are written and the message of each error are proved for every input, want of memory apart
 //! ([docs/PROVED.md](../../../docs/PROVED.md)).
 //!
 //! Licence: MIT (LICENSE); a port of the Rust crate `hidreport` 0.6.0.

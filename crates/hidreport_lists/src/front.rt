@@ -42,6 +42,15 @@ pub struct PlacedFault {
 ///
 /// - `TooFew`: there are no bytes, or fewer than the header announces.
 /// - What `read_item` refuses, of the header and the data that it announces.
+///
+/// # Examples
+///
+/// ```rust
+/// use hidreport::hid::{ItemFault, front_item};
+///
+/// assert_eq!(rt; front_item(b"\x05\x01\x75")?.size, 2);
+/// assert!(rt; matches!(front_item(b"\x75"), Err(ItemFault::TooFew)));
+/// ```
 pub fn front_item(bytes: &[u8]) -> Result<FrontItem, ItemFault>
     ensures item { IfOk result (λ front. IsAtFront front bytes.now) }
     ensures fault { IfErr result (λ fault. front_item item_of bytes.now ≡ Err (told_fault fault)) }

@@ -8,7 +8,7 @@
 //! - [`ParserError`]: why a descriptor, or the bytes of a report, can't be read.
 //!
 //! The items that bytes are cut into, the first fault with its offset and message, and the bytes
-//! that are built or rebuilt are proved for every input
+//! that are built or rebuilt are proved for every input, want of memory apart
 //! ([docs/PROVED.md](../../../docs/PROVED.md)).
 //!
 //! Licence: MIT (LICENSE); a port of the Rust crate `hidreport` 0.6.0.

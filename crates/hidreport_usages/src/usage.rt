@@ -78,6 +78,15 @@ fn numbered(family: Family, id: u16) -> Option<UsageName>
 /// it.
 ///
 /// A name stands once on a page. `usage_name` gives the usage that is found this name again.
+///
+/// # Examples
+///
+/// ```rust
+/// use hidreport::{UsageId, UsagePage};
+/// use hidreport_usages::usage_on_page;
+///
+/// assert_eq!(rt; usage_on_page(UsagePage::from(0x0c), "Mute"), Some(UsageId::from(0xe2)));
+/// ```
 pub fn usage_on_page(usage_page: UsagePage, name: &str) -> Option<UsageId>
     ensures { IsOnlyNamed (name_on usage_page) name.now result }
 {

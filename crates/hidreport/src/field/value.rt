@@ -39,6 +39,15 @@ impl FieldValue {
     ///
     /// It is what `extract` reads where no report id is in the way. It is `None` where the range is
     /// empty or reversed, has more than 32 bits, or ends after the bytes.
+    ///
+    /// # Examples
+    ///
+    /// ```rust
+    /// use hidreport::FieldValue;
+    ///
+    /// let value = FieldValue::from_bits(b"\x05\xfb", &(8..16), true).ok_or("no bits")?;
+    /// assert_eq!(rt; i64::from(value), -5);
+    /// ```
     pub fn from_bits(bytes: &[u8], bits: &Range<usize>, is_signed: bool) -> Option<FieldValue>
         ensures value { IfSome result (λ value.
             read_bits bits.now.start bits.now.end is_signed bytes.now ≡ Ok value) }

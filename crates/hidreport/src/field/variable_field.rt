@@ -180,6 +180,21 @@ impl VariableField {
     /// The logical bounds stand for the physical ones, and a value lies on the line through both,
     /// beyond them too. Physical bounds that are both 0 or unset are the logical ones. It is `None`
     /// where the logical minimum isn't below the maximum.
+    ///
+    /// # Examples
+    ///
+    /// ```rust
+    /// use hidreport::{Field, Report, ReportDescriptor};
+    ///
+    /// // Values from 0 to 255 stand for 0 to 360.
+    /// let bytes = b"\x05\x01\x09\x30\x26\xff\x00\x46\x68\x01\x75\x08\x95\x01\x81\x02";
+    /// let descriptor = ReportDescriptor::try_from(alloc, bytes)?;
+    /// let report = descriptor.input_reports().first().ok_or("no report")?;
+    /// if let Some(Field::Variable(field)) = report.fields().first() {
+    ///     let value = field.physical_value(128).ok_or("no value")?;
+    ///     assert_eq!(rt; (value.numerator, value.denominator), (46_080, 255));
+    /// }
+    /// ```
     pub fn physical_value(&self, value: i64) -> Option<Fraction>
         ensures { result ≡ physical_value (variable_attributes self.now) value }
     {

@@ -115,6 +115,20 @@ impl Reader {
     ///
     /// - `MismatchingReportId`: one of the fields has a report id, and the first byte is another;
     ///   `values` stay as they were.
+    ///
+    /// # Examples
+    ///
+    /// ```rust
+    /// use hidreport::{Reader, ReportDescriptor};
+    ///
+    /// let bytes = b"\x05\x01\x75\x08\x95\x02\x09\x30\x09\x31\x81\x02";
+    /// let descriptor = ReportDescriptor::try_from(alloc, bytes)?;
+    /// let report = descriptor.input_reports().first().ok_or("no report")?;
+    /// let reader = Reader::new(alloc, report)?;
+    /// let mut values = [0; 2];
+    /// assert_eq!(rt; reader.read_available(b"\x05", &mut values)?, 1);
+    /// assert_eq!(rt; values, [5, 0]);
+    /// ```
     pub fn read_available(&self, bytes: &[u8], values: &mut [i64]) -> Result<usize, ParserError>
         ensures answer { ReadsInto result values.old values.new
             (runs_available self.now bytes.now) }
