@@ -86,7 +86,8 @@ impl Group {
     ///
     /// # Errors
     ///
-    /// - `AllocError`: memory is refused, which the usages of an array take.
+    /// - `AllocError`: memory for the field's usages or collections is refused, or the list of
+    ///   collections would have 2^63 owners; padding takes no memory.
     pub fn field(&self, alloc: Global, index: usize) -> Result<Option<Field>, AllocError>
         ensures { IfOk result (λ field. option_map field_record field
             ≡ slice_get (group_fields self.now) index) }
