@@ -69,21 +69,21 @@ impl From<FieldId> for u32 {
     }
 }
 
-/// A part of a report (Section 5.6).
+/// A field: a part of a report (Section 5.6).
 #[derive(Debug, Drop)]
 pub enum Field {
-    /// One value with a usage of its own.
+    /// One value with a usage of its own (Section 6.2.2.5).
     Variable(VariableField),
 
-    /// Several values, each of which chooses among usages.
+    /// Several values, each of which chooses among usages (Section 6.2.2.5).
     Array(ArrayField),
 
-    /// Padding.
+    /// Padding (Section 6.2.2.5).
     Constant(ConstantField),
 }
 
 impl Field {
-    /// The field's number in the descriptor.
+    /// The field's number, counted from 0 in the order of the descriptor.
     pub fn id(&self) -> FieldId
         ensures { result ≡ field_id self.now }
     {
@@ -94,7 +94,8 @@ impl Field {
         }
     }
 
-    /// The field's bits in its report: from the first up to the one behind the last.
+    /// The field's bits in its report, counted from 0, the byte of its id among them: from the
+    /// first up to the one after the last.
     pub fn bits(&self) -> &Range<usize>
         ensures { result.now ≡ field_bits self.now }
     {
@@ -105,8 +106,9 @@ impl Field {
         }
     }
 
-    /// The id that a report's first byte has to be for the field to be read (Section 5.6); `None`
-    /// where no id was in force, and for padding, which has no value to read.
+    /// The id that a report's first byte has to be for the field to be read (Section 5.6).
+    ///
+    /// It is `None` where no id was in force, and for padding, which has no value to read.
     pub fn report_id(&self) -> Option<ReportId>
         ensures { result ≡ own_id (field_record self.now) }
     {
@@ -117,8 +119,9 @@ impl Field {
         }
     }
 
-    /// The collections that the field lies in, outermost first. Padding lies in none, so they are
-    /// the empty slice there.
+    /// The collections that the field lies in, outermost first (Section 6.2.2.6).
+    ///
+    /// Padding lies in none, so they are the empty slice there.
     pub fn collections(&self) -> &[Collection]
         ensures { result.now ≡ field_collections self.now }
     {
@@ -129,8 +132,8 @@ impl Field {
         }
     }
 
-    /// What the field's values are for, in the order of the descriptor (Section 6.2.2.8): the usage
-    /// of a variable field, those that an array chooses among, and none of padding.
+    /// The field's usages, in the order of the descriptor (Section 6.2.2.8): that of a variable
+    /// field, those that an array chooses among, and none of padding.
     pub fn usages(&self) -> &[Usage]
         ensures { result.now ≡ usages_in (field_record self.now) }
     {
@@ -141,8 +144,10 @@ impl Field {
         }
     }
 
-    /// Whether a usage is one of the field's (Section 6.2.2.8): that of a variable field, or one that
-    /// an array chooses among. Padding has none.
+    /// Whether a usage is one of the field's: that of a variable field, or one that an array
+    /// chooses among (Section 6.2.2.8).
+    ///
+    /// Padding has none.
     pub fn has_usage(&self, usage: Usage) -> bool
         ensures { result ≡ has_usage usage (field_record self.now) }
     {
@@ -150,9 +155,10 @@ impl Field {
             && own.usage_id == usage.usage_id)
     }
 
-    /// Whether another field is the same in all parts: its kind, number, report id and bits, its
-    /// usages and whether they are a range, its count, bounds, unit and flags, and its collections
-    /// with their ids, kinds and usages. It takes no memory.
+    /// Whether another field is the same in all parts; takes no memory.
+    ///
+    /// The parts are its kind, number, report id and bits, its usages and whether they are a range,
+    /// its count, bounds, unit and flags, and its collections with their ids, kinds and usages.
     pub fn is_alike(&self, other: &Field) -> bool
         ensures { IsTrue result ↔ (field_record self.now ≡ field_record other.now) }
     {
@@ -187,7 +193,12 @@ impl Field {
         true
     }
 
-    /// The same field once more, as the `clone` of its kind says.
+    /// A copy of the field, as the `clone` of its kind makes it.
+    ///
+    /// # Errors
+    ///
+    /// - `AllocError`: memory for the usages of an array is refused, or the list of collections,
+    ///   which both share, would have 2^63 owners.
     pub fn clone(&self) -> Result<Field, AllocError>
         ensures { IfOk result (λ copy. field_record copy ≡ field_record self.now) }
     {

@@ -1,4 +1,56 @@
-//! HID report descriptors parsed into reports and fields, and values read from reports.
+//! USB HID report descriptors parsed into reports and fields, and values read and written by them.
+//!
+//! A device announces its reports by a report descriptor, a byte string of items (Section 6.2.2 of
+//! the standard, USB HID 1.11). This crate parses descriptors, also of devices that nobody vouches
+//! for, finds each field's bits, sign, usages and ids, reads and writes values, and builds
+//! descriptors.
+//!
+//! # Which type for what
+//!
+//! - [`ReportDescriptor`]: the reports that a descriptor announces, with all their fields.
+//! - [`Outline`]: the same with a [`Group`] of fields for each main item, where fields are many.
+//! - [`ParseOptions`]: limits, and by which rules a descriptor is read.
+//! - [`Report`]: a report's id, length and fields; its `blank` makes the bytes of a new one.
+//! - [`Field`]: a [`VariableField`], an [`ArrayField`] or padding, a [`ConstantField`]; `extract`
+//!   reads its values, `insert` writes them, [`FieldAttributes`] has its flags.
+//! - [`Reader`]: reads or writes all values of a report in one pass, where reports are many.
+//! - [`Usage`], [`UsageRange`], [`Collection`]: what a field is for, and where it belongs.
+//! - [`repair`]: makes a descriptor that hosts accept one that is read.
+//! - [`hid`]: items, lists of items, builders of items and descriptors, and `rebuild`.
+//! - [`types`]: the numbers that items carry.
+//! - [`ParserError`], [`InsertError`]: why bytes can't be read or written.
+//!
+//! Names of usages are in the crate `hidreport_usages`.
+//!
+//! # Example
+//!
+//! The movement of a mouse's wheel, 8 bits from -127 to 127, by a descriptor that nobody vouches
+//! for; `alloc` is the allocator of the program's runtime:
+//!
+//! ```rust
+//! use hidreport::{Field, ParseOptions, Report, ReportDescriptor};
+//!
+//! let bytes = b"\x05\x01\x09\x38\x15\x81\x25\x7f\x75\x08\x95\x01\x81\x06";
+//! let descriptor = ReportDescriptor::try_from_with(alloc, bytes, ParseOptions::bounded())?;
+//! let report = descriptor.find_input_report(b"\xfe").ok_or("no report")?;
+//! let mut values = Vec::new(alloc);
+//! for field in report.fields() {
+//!     if let Field::Variable(field) = field {
+//!         values.push(i32::from(field.extract(b"\xfe")?))?;
+//!     }
+//! }
+//! assert_eq!(rt; values.as_slice(), [-2].as_slice());
+//! ```
+//!
+//! # What is proved
+//!
+//! The contract of each call is proved for every input, want of memory apart: that a descriptor
+//! yields exactly the reports of the standard's definition, or its first fault; that a value is the
+//! number that the field's own bits write; that what is written is read again, and no other bit
+//! changes. Every call ends and has no undefined behaviour.
+//! [docs/PROVED.md](../../../docs/PROVED.md) has all clauses, and what is only tested; a name in
+//! round brackets, such as (`exact`), is that of a clause.
+//!
 //! Licence: MIT (LICENSE); a port of the Rust crate `hidreport` 0.6.0.
 #![tactic(auto)]
 
@@ -11,7 +63,7 @@ mod parser;
 mod repairing;
 mod report;
 
-/// The numbers that items carry, each as a type of its own.
+/// The numbers that items carry, each as a type of its own (Sections 6.2.2.7 and 6.2.2.8).
 pub mod types {
     pub use hidreport_types::{
         Delimiter, DesignatorIndex, DesignatorMaximum, DesignatorMinimum, LogicalMaximum,
@@ -21,7 +73,7 @@ pub mod types {
     };
 }
 
-/// The items of a report descriptor, and lists of them.
+/// The items of a report descriptor, lists of them, and their builders (Section 6.2.2).
 pub mod hid {
     pub use hidreport_items::{
         CollectionItem, FeatureItem, GlobalItem, HidError, IBAbsolute, IBArray, IBBitfield,

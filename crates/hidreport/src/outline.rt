@@ -1,3 +1,4 @@
+//! Report descriptors, their fields in groups.
 ghost use Rattle.std.specs.Prelude.{◌≡◌, ◌≢◌, ◌≤◌, ℕ, None, Err, Ok, IfOk, IfSome, option_copied};
 ghost use Rattle.hidreport_lists.specs.Answer.{Answers};
 ghost use Rattle.hidreport.specs.Laws.{KeptItemsMean, RebuiltBytesMean, SegmentsAreIdle, parse_any};
@@ -40,14 +41,29 @@ impl Model for Outline {
 }
 
 impl Outline {
-    /// The reports that the bytes of a report descriptor announce, read as the options say.
+    /// Parses the bytes of a report descriptor by options, without a list of its fields
+    /// (Section 6.2.2).
     ///
-    /// It answers and refuses as `ReportDescriptor::try_from_with` does, which lays out what this
-    /// reads: the limit counts what would be listed, and all laws of that call hold.
+    /// It reads what `ReportDescriptor::try_from_with` does, which lays out what this reads: the
+    /// limit counts what would be listed, and all laws of that call hold.
     ///
     /// # Errors
     ///
-    /// As of `ReportDescriptor::try_from_with`, in its order.
+    /// - What `ReportDescriptor::try_from_with` refuses, in its order.
+    ///
+    /// # Examples
+    ///
+    /// ```rust
+    /// use hidreport::{Outline, ParseOptions};
+    ///
+    /// let bytes = b"\x05\x01\x15\x81\x25\x7f\x75\x08\x95\x02\x09\x30\x09\x31\x81\x02";
+    /// let outline = Outline::try_from_with(alloc, bytes, ParseOptions::bounded())?;
+    /// let report = outline.input_reports().first().ok_or("no report")?;
+    /// let group = report.groups().first().ok_or("no group")?;
+    /// assert_eq!(rt; group.field_count(), 2);
+    /// assert_eq!(rt; group.element_width(), 8);
+    /// assert_eq!(rt; group.usage(1).map(u32::from), Some(0x0001_0031));
+    /// ```
     pub fn try_from_with(
         alloc: Global,
         bytes: &[u8],
@@ -80,7 +96,7 @@ impl Outline {
         Ok(Outline { reports })
     }
 
-    /// The descriptor that this is, its fields listed.
+    /// The same descriptor with its fields listed.
     ///
     /// # Errors
     ///
@@ -92,21 +108,22 @@ impl Outline {
         Ok(ReportDescriptor { reports })
     }
 
-    /// The reports that the device sends.
+    /// The input reports, which the device sends (Section 5.6).
     pub fn input_reports(&self) -> &[OutlineReport]
         ensures { result.now ≡ self.now.input }
     {
         &self.reports.input
     }
 
-    /// The reports that the host sends.
+    /// The output reports, which the host sends (Section 5.6).
     pub fn output_reports(&self) -> &[OutlineReport]
         ensures { result.now ≡ self.now.output }
     {
         &self.reports.output
     }
 
-    /// The reports that the host reads and writes apart from the two streams.
+    /// The feature reports, which the host reads and writes apart from the two streams
+    /// (Section 5.6).
     pub fn feature_reports(&self) -> &[OutlineReport]
         ensures { result.now ≡ self.now.feature }
     {
@@ -125,15 +142,18 @@ impl Outline {
     }
 
     /// The report with this id in a direction (Section 5.6), for `None` the one without an id.
-    /// `None` where there is no such report.
+    ///
+    /// It is `None` where there is no such report.
     pub fn report(&self, direction: Direction, id: Option<ReportId>) -> Option<&OutlineReport>
         ensures { option_copied result ≡ report_with id (reports_of direction self.now) }
     {
         find_with_id(self.reports(direction), id)
     }
 
-    /// The report of a direction that a report's bytes are of (Section 5.6): the first where it has
-    /// no id, else the one with the first byte as its id. `None` where there is none, or no bytes.
+    /// Finds the report of a direction that the bytes of a report are of: the first where it has no
+    /// id, else the one with the first byte as its id (Section 5.6).
+    ///
+    /// It is `None` where there is none, or no bytes.
     pub fn find_report(&self, direction: Direction, bytes: &[u8]) -> Option<&OutlineReport>
         ensures { option_copied result ≡ find_report (reports_of direction self.now) bytes.now }
     {

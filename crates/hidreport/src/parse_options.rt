@@ -7,9 +7,23 @@ ghost use Rattle.hidreport.specs.declared.parser.usages_by.UsagesBy.TheVariants 
 use crate::parser::push_keeps::PushKeeps;
 use crate::parser::usages_by::UsagesBy;
 
-/// How `ReportDescriptor::try_from_with` reads a descriptor. The default is what `try_from` does:
-/// a Push keeps local items, too, usages are found by the letter of the standard, and nothing is
-/// limited.
+/// How `ReportDescriptor::try_from_with` reads a descriptor.
+///
+/// The default is what `try_from` does: a Push keeps local items, too, usages are found by the
+/// letter of the standard, and nothing is limited.
+///
+/// # Examples
+///
+/// ```rust
+/// use hidreport::{ParseOptions, ParserError, ReportDescriptor};
+///
+/// let bytes = b"\x05\x01\x09\x02\xa1\x01\x09\x30\x75\x08\x95\x02\x81\x02\xc0";
+/// let options = ParseOptions::bounded();
+/// assert!(rt; ReportDescriptor::try_from_with(alloc, bytes, options).is_ok());
+/// let options = ParseOptions { limit: Some(7), ..options };
+/// let refused = ReportDescriptor::try_from_with(alloc, bytes, options);
+/// assert!(rt; matches!(refused, Err(ParserError::BudgetExceeded { offset: 12 })));
+/// ```
 #[derive(Clone, Copy, Debug, PartialEq, Eq)]
 pub struct ParseOptions {
     /// What a Push keeps for its Pop.
@@ -19,11 +33,12 @@ pub struct ParseOptions {
     pub usages: UsagesBy,
 
     /// The most that may be listed: fields, usages of arrays, collections around fields and their
-    /// usages together, as `ReportDescriptor::try_from_within` counts. `None` is no limit.
+    /// usages together, as `ReportDescriptor::try_from_with` counts. `None` is no limit.
     pub limit: Option<usize>,
 
-    /// The most bytes that a descriptor may have. A longer one is refused before it is looked at:
-    /// `BudgetExceeded`, with this number as its offset. `None` is no limit.
+    /// The most bytes that a descriptor may have; `None` is no limit.
+    ///
+    /// A longer one isn't looked at: it is `BudgetExceeded`, with this number as its offset.
     pub longest: Option<usize>,
 }
 
@@ -41,8 +56,11 @@ impl Default for ParseOptions {
 }
 
 impl ParseOptions {
-    /// For bytes that nobody vouches for: at most 65,536 may be listed, of at most 65,536 bytes. A
-    /// device tells its descriptor's length in 16 bits (Section 6.2.1). Both can be set to others.
+    /// The options for bytes that nobody vouches for: at most 65,536 may be listed, of at most
+    /// 65,536 bytes.
+    ///
+    /// A device tells its descriptor's length in 16 bits (Section 6.2.1). Both can be set to other
+    /// numbers.
     pub fn bounded() -> ParseOptions
         ensures { result ≡ record {
           push_keeps = push_keeps.All;

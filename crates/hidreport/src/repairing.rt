@@ -18,28 +18,46 @@ use mending::mend_all;
 pub use repair_options::RepairOptions;
 use std::alloc::Global;
 
-/// A descriptor that `try_from_with` reads by these options, made of one that hosts accept, as
-/// Linux's hid-core reads it (Section 6.2.2); and what was changed.
+/// Repairs a descriptor that hosts accept, as Linux's hid-core reads it, so that `try_from_with`
+/// reads it by these options (Section 6.2.2).
 ///
-/// An item that needs data and has none has the data 0. A main item whose tag the standard doesn't
+/// An item that needs data and has none gets the data 0. A main item whose tag the standard doesn't
 /// know is left out, with the local items that would have been its own. An Input, Output or Feature
-/// that makes fields with data and has no usages is padding of the same size, its flag Constant
-/// set. Where it is asked for, a negative maximum is written without a sign where no negative
-/// minimum is in force (`25 ff` as `26 ff 00`), and an item that is cut short is left out. Each
-/// other item stands as it stood, in order.
-///
-/// Refused is the first fault that stays, with its offset in the bytes that were given, and as
-/// `try_from_with` says it: an item that is cut short before any fault of meaning. `OutOfBounds`,
-/// `BudgetExceeded` and `OutOfMemory` come as they do there; nothing at all, or nothing that stays,
-/// is `InvalidData` at 0, `Empty report descriptor`.
+/// that makes fields with data and has no usages becomes padding of the same size, its flag
+/// Constant set. Where it is asked for, a negative maximum is written without a sign where no
+/// negative minimum is in force (`25 ff` as `26 ff 00`), and an item that is cut short is left out.
+/// Each other item stands as it stood, in order.
 ///
 /// What is written is read by these options (`accepted`); what no change names stands as it stood,
 /// in order (`kept`); each field lies in the bits of its report where the items that hid-core reads
 /// put it (`bits`); and a descriptor that is read stays as it is, without a change, unless maxima
 /// are asked for (`untouched`). So a second repair changes nothing, unless it asks for maxima
 /// (`again`), and what `hid::rebuild` writes of the repair is read as the repair is (`rebuilt`).
-/// `MismatchingReportId` never comes (`own_bytes`), nor without a limit `BudgetExceeded`
-/// (`unlimited`).
+///
+/// # Errors
+///
+/// - `BudgetExceeded` with the number `longest`: there are more bytes than that.
+/// - `InvalidData` at the item's offset, `Insufficient data`: an item is cut short, and it isn't
+///   left out.
+/// - The first fault of meaning that stays, as `ReportDescriptor::try_from_with` says it, with its
+///   offset in the bytes that were given: `InvalidData`, `OutOfBounds` or `BudgetExceeded`.
+/// - `InvalidData` at 0, `Empty report descriptor`: there are no bytes, or none stay.
+/// - `BudgetExceeded` with the number `longest`: the repaired bytes are more than that.
+/// - `OutOfMemory`: memory is refused; this says nothing of the bytes.
+///
+/// `MismatchingReportId` never comes (`own_bytes`), nor without `limit` and `longest`
+/// `BudgetExceeded` (`unlimited`).
+///
+/// # Examples
+///
+/// ```rust
+/// use hidreport::{RepairOptions, repair};
+///
+/// // An Input that lacks usages becomes padding.
+/// let repaired = repair(alloc, b"\x75\x08\x95\x01\x81\x02", RepairOptions::default())?;
+/// assert_eq!(rt; repaired.bytes.as_slice(), b"\x75\x08\x95\x01\x81\x03".as_slice());
+/// assert_eq!(rt; repaired.changes.len(), 1);
+/// ```
 pub fn repair(alloc: Global, bytes: &[u8], options: RepairOptions) -> Result<Repaired, ParserError>
     ensures exact { AnswersBy repaired_view result (repaired options bytes.now) }
     ensures untouched { options.unsigned_maxima ≡ false → IsOk (parse_as options.parse bytes.now)

@@ -1,3 +1,4 @@
+//! Reports, their fields listed.
 ghost use Rattle.std.specs.Prelude.{◌≡◌, ◌==◌, ◌+◌, ◌/◌, ◌↔◌, ℕ, List, Option, map, IfOk, IsTrue};
 ghost use Rattle.std.specs.Prelude.{find, option_copied, option_map};
 ghost use Rattle.hidreport_items.specs.Spelling.{AreBytes};
@@ -20,9 +21,9 @@ use hidreport_types::ReportId;
 use std::alloc::{AllocError, Global};
 use std::marker::Model;
 
-/// The report of one id in one direction (Section 5.6).
+/// A report of a device: its id, its length and its fields (Section 5.6).
 ///
-/// A report with an id begins with one byte for it; the fields lie behind each other.
+/// A report with an id begins with one byte for it; the fields lie one after the other.
 pub trait Report {
     /// The report's id, where it has one.
     ghost id: { Self → Option ℕ };
@@ -33,7 +34,7 @@ pub trait Report {
     /// The report's fields.
     ghost parts: { Self → List FieldRecord };
 
-    /// The report's id, where it has one.
+    /// The report's id; `None` where it has none.
     fn report_id(&self) -> &Option<ReportId>
         ensures { result.now ≡ id self.now };
 
@@ -45,15 +46,17 @@ pub trait Report {
     fn size_in_bits(&self) -> usize
         ensures { result ≡ size self.now };
 
-    /// The same in bytes, rounded up.
+    /// The report's length in bytes, that of its id among them: its bits, rounded up to whole
+    /// bytes.
     fn size_in_bytes(&self) -> usize
         ensures { result ≡ (size self.now + 7) / 8 }
     {
         self.size_in_bits().div_ceil(8)
     }
 
-    /// The field with this number, `None` where the report has none with it. Fields are numbered over
-    /// the whole descriptor.
+    /// The field with this number; `None` where the report has none with it.
+    ///
+    /// Fields are numbered over the whole descriptor.
     fn field(&self, number: FieldId) -> Option<&Field>
         ensures { option_map field_record (option_copied result)
             ≡ field_with number (parts self.now) }
@@ -61,8 +64,10 @@ pub trait Report {
         field_with_id(self.fields(), number)
     }
 
-    /// The first field that has this usage, `None` where no field of the report has it
-    /// (Section 6.2.2.8). `Field::has_usage` asks it of each field.
+    /// The first field that has this usage; `None` where no field of the report has it
+    /// (Section 6.2.2.8).
+    ///
+    /// `Field::has_usage` asks it of each field.
     fn field_for(&self, usage: Usage) -> Option<&Field>
         ensures { option_map field_record (option_copied result)
             ≡ field_for usage (parts self.now) }
@@ -71,13 +76,27 @@ pub trait Report {
     }
 
     /// The bytes of a report without values: as many as the report has, the first its id, where it
-    /// has one, and all other bits 0 (Section 5.6). An `AllocError` comes where memory for them is
-    /// refused.
+    /// has one, and all other bits 0 (Section 5.6).
     ///
     /// Once all its fields are written, it has just their values, and nothing but these and the
-    /// padding counts (`whole`). Where the fields of a report that was read have at most 32 bits for
-    /// each value, all of them are written, in their order, with any values that fit (`takes`):
+    /// padding counts (`whole`). Where the fields of a report that was read have at most 32 bits
+    /// for each value, all of them are written, in their order, with any values that fit (`takes`):
     /// `insert` refuses none.
+    ///
+    /// # Errors
+    ///
+    /// - `AllocError`: memory for the bytes is refused.
+    ///
+    /// # Examples
+    ///
+    /// ```rust
+    /// use hidreport::{Report, ReportDescriptor};
+    ///
+    /// let bytes = b"\x05\x01\x75\x08\x95\x01\x85\x01\x09\x30\x91\x02";
+    /// let descriptor = ReportDescriptor::try_from(alloc, bytes)?;
+    /// let report = descriptor.output_reports().first().ok_or("no report")?;
+    /// assert_eq!(rt; report.blank(alloc)?.as_slice(), b"\x01\x00".as_slice());
+    /// ```
     fn blank(&self, alloc: Global) -> Result<Vec<u8>, AllocError>
         ensures blank { IfOk result (λ bytes.
             bytes.items ≡ blank_bytes (id self.now) (size self.now)) }
@@ -132,7 +151,7 @@ fn put_id(report_id: &Option<ReportId>, bytes: &mut [u8])
     }
 }
 
-/// A report that a descriptor announces.
+/// A report that a descriptor announces, with its fields (Section 5.6).
 #[derive(Debug, Drop)]
 pub struct RDescReport {
     pub(crate) id: Option<ReportId>,
@@ -156,8 +175,8 @@ impl Model for RDescReport {
 }
 
 impl RDescReport {
-    /// Whether another report is the same in all parts: its id, its size and its fields. It takes
-    /// no memory.
+    /// Whether another report is the same in all parts: its id, its size and its fields; takes no
+    /// memory.
     pub fn is_alike(&self, other: &RDescReport) -> bool
         ensures { IsTrue result ↔ (self.now ≡ other.now) }
     {

@@ -1,19 +1,19 @@
-//! What has been said of each flag of an item that is being built.
+//! The states of the flags of an item that is being built (Section 6.2.2.5).
 ghost use Rattle.std.specs.Prelude.{◌≡◌, Bool, true, false, Option, Some, None, refl};
 
-/// What is known of one flag of a data item (Section 6.2.2.5) while the item is being built.
+/// The state of one flag while a data item is being built (Section 6.2.2.5).
 pub trait IBState: Drop {
     /// Whether the flag is on, if that has been said.
     ghost said: { Option Bool };
 }
 
-/// Nothing has been said of the flag yet: the states from which a setter starts.
+/// The state of a flag that is not set yet, from which a setter starts.
 pub trait IBUnsaid: IBState {
     /// No state of which something has been said is one of them.
     ghost unsaid: { Self.said ≡ None };
 }
 
-/// Nothing has been said of the flag: it is off, and can be set once.
+/// The state of a flag that is not set yet: it is off, and can be set once.
 #[derive(Drop)]
 pub enum IBUndefined {}
 
@@ -25,12 +25,12 @@ impl IBUnsaid for IBUndefined {
     ghost unsaid = { refl };
 }
 
-/// Whether the fields carry data or are padding: flag 0.
+/// The states of flag 0: Data, Constant, or not set yet.
 pub trait IBSData: IBState {}
 
 impl IBSData for IBUndefined {}
 
-/// Said: padding.
+/// Flag 0 is set to Constant: the fields are padding.
 #[derive(Drop)]
 pub enum IBConstant {}
 
@@ -40,7 +40,7 @@ impl IBState for IBConstant {
 
 impl IBSData for IBConstant {}
 
-/// Said: data.
+/// Flag 0 is set to Data: the fields carry data.
 #[derive(Drop)]
 pub enum IBData {}
 
@@ -50,12 +50,12 @@ impl IBState for IBData {
 
 impl IBSData for IBData {}
 
-/// Whether each element is a field or an index into the usages: flag 1.
+/// The states of flag 1: Array, Variable, or not set yet.
 pub trait IBSArr: IBState {}
 
 impl IBSArr for IBUndefined {}
 
-/// Said: a field for each element.
+/// Flag 1 is set to Variable: a field for each element.
 #[derive(Drop)]
 pub enum IBVariable {}
 
@@ -65,7 +65,7 @@ impl IBState for IBVariable {
 
 impl IBSArr for IBVariable {}
 
-/// Said: indexes into the usages.
+/// Flag 1 is set to Array: the elements are indexes into the usages.
 #[derive(Drop)]
 pub enum IBArray {}
 
@@ -75,12 +75,12 @@ impl IBState for IBArray {
 
 impl IBSArr for IBArray {}
 
-/// Whether a value is counted from a fixed origin or from the last report: flag 2.
+/// The states of flag 2: Absolute, Relative, or not set yet.
 pub trait IBSAbs: IBState {}
 
 impl IBSAbs for IBUndefined {}
 
-/// Said: changes since the last report.
+/// Flag 2 is set to Relative: values are changes since the last report.
 #[derive(Drop)]
 pub enum IBRelative {}
 
@@ -90,7 +90,7 @@ impl IBState for IBRelative {
 
 impl IBSAbs for IBRelative {}
 
-/// Said: values from a fixed origin.
+/// Flag 2 is set to Absolute: values are counted from a fixed origin.
 #[derive(Drop)]
 pub enum IBAbsolute {}
 
@@ -100,12 +100,12 @@ impl IBState for IBAbsolute {
 
 impl IBSAbs for IBAbsolute {}
 
-/// Whether a value past one bound goes on at the other: flag 3.
+/// The states of flag 3: No Wrap, Wrap, or not set yet.
 pub trait IBSWrap: IBState {}
 
 impl IBSWrap for IBUndefined {}
 
-/// Said: values that go on at the other bound.
+/// Flag 3 is set to Wrap: values go on at the other bound.
 #[derive(Drop)]
 pub enum IBWrap {}
 
@@ -115,7 +115,7 @@ impl IBState for IBWrap {
 
 impl IBSWrap for IBWrap {}
 
-/// Said: values that stay within their bounds.
+/// Flag 3 is set to No Wrap: values stay within their bounds.
 #[derive(Drop)]
 pub enum IBNoWrap {}
 
@@ -125,12 +125,12 @@ impl IBState for IBNoWrap {
 
 impl IBSWrap for IBNoWrap {}
 
-/// Whether values are linear in what was measured: flag 4.
+/// The states of flag 4: Linear, Non Linear, or not set yet.
 pub trait IBSLin: IBState {}
 
 impl IBSLin for IBUndefined {}
 
-/// Said: values that aren't linear.
+/// Flag 4 is set to Non Linear: values aren't linear in what was measured.
 #[derive(Drop)]
 pub enum IBNonLinear {}
 
@@ -140,7 +140,7 @@ impl IBState for IBNonLinear {
 
 impl IBSLin for IBNonLinear {}
 
-/// Said: linear values.
+/// Flag 4 is set to Linear: values are linear in what was measured.
 #[derive(Drop)]
 pub enum IBLinear {}
 
@@ -150,12 +150,12 @@ impl IBState for IBLinear {
 
 impl IBSLin for IBLinear {}
 
-/// Whether the control comes back to a state when it is let go: flag 5.
+/// The states of flag 5: Preferred State, No Preferred, or not set yet.
 pub trait IBSPref: IBState {}
 
 impl IBSPref for IBUndefined {}
 
-/// Said: a control that stays as it was left.
+/// Flag 5 is set to No Preferred: the control stays as it was left.
 #[derive(Drop)]
 pub enum IBNoPreferred {}
 
@@ -165,7 +165,7 @@ impl IBState for IBNoPreferred {
 
 impl IBSPref for IBNoPreferred {}
 
-/// Said: a control that comes back to a state.
+/// Flag 5 is set to Preferred State: the control comes back to a state.
 #[derive(Drop)]
 pub enum IBPreferred {}
 
@@ -175,12 +175,12 @@ impl IBState for IBPreferred {
 
 impl IBSPref for IBPreferred {}
 
-/// Whether the control can be in a state that sends no meaningful data: flag 6.
+/// The states of flag 6: No Null position, Null State, or not set yet.
 pub trait IBSNull: IBState {}
 
 impl IBSNull for IBUndefined {}
 
-/// Said: a control with a null state.
+/// Flag 6 is set to Null State: the control has a null state.
 #[derive(Drop)]
 pub enum IBNull {}
 
@@ -190,7 +190,7 @@ impl IBState for IBNull {
 
 impl IBSNull for IBNull {}
 
-/// Said: a control without a null state.
+/// Flag 6 is set to No Null position: the control has no null state.
 #[derive(Drop)]
 pub enum IBNoNull {}
 
@@ -200,12 +200,12 @@ impl IBState for IBNoNull {
 
 impl IBSNull for IBNoNull {}
 
-/// Whether the field is a number of bits or a stream of bytes: flag 8.
+/// The states of flag 8: Bit Field, Buffered Bytes, or not set yet.
 pub trait IBSBit: IBState {}
 
 impl IBSBit for IBUndefined {}
 
-/// Said: a stream of bytes.
+/// Flag 8 is set to Buffered Bytes: the field is a stream of bytes.
 #[derive(Drop)]
 pub enum IBBuffered {}
 
@@ -215,7 +215,7 @@ impl IBState for IBBuffered {
 
 impl IBSBit for IBBuffered {}
 
-/// Said: a number of bits.
+/// Flag 8 is set to Bit Field: the field is a number of bits.
 #[derive(Drop)]
 pub enum IBBitfield {}
 
@@ -225,12 +225,12 @@ impl IBState for IBBitfield {
 
 impl IBSBit for IBBitfield {}
 
-/// Whether the device may change the value by itself: flag 7.
+/// The states of flag 7: Non Volatile, Volatile, or not set yet.
 pub trait IBSVol: IBState {}
 
 impl IBSVol for IBUndefined {}
 
-/// Said: a value that may change without the host.
+/// Flag 7 is set to Volatile: the value may change without the host.
 #[derive(Drop)]
 pub enum IBVolatile {}
 
@@ -240,7 +240,7 @@ impl IBState for IBVolatile {
 
 impl IBSVol for IBVolatile {}
 
-/// Said: a value that changes by the host alone.
+/// Flag 7 is set to Non Volatile: the value changes by the host alone.
 #[derive(Drop)]
 pub enum IBNonVolatile {}
 

@@ -1,10 +1,11 @@
+//! The errors of calls that read or write items.
 ghost use Rattle.std.specs.Prelude.{◌≡◌};
 ghost use Rattle.hidreport_items.specs.declared.error.HidError.TheVariants.{OutOfMemory};
 
 use std::alloc::{AllocError, AllocFailed};
 use thiserror::Error;
 
-/// Why bytes are no item.
+/// Why bytes spell no item (Section 6.2.2.2), or why items have no bytes.
 #[derive(Debug, Drop, Error)]
 pub enum HidError {
     /// The bytes are there and spell no item; the message says why.
@@ -14,11 +15,11 @@ pub enum HidError {
         message: String,
     },
 
-    /// There are fewer bytes than the item needs.
+    /// There are fewer bytes than the item needs, or an item that has no bytes was to be written.
     #[error("the item needs more bytes")]
     InsufficientData,
 
-    /// A growth was refused; nothing is said of the bytes.
+    /// Memory was refused; this says nothing of the bytes.
     #[error("out of memory")]
     OutOfMemory,
 }

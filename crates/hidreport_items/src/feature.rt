@@ -1,3 +1,4 @@
+//! Feature items.
 ghost use Rattle.std.specs.Prelude.{◌≡◌, not};
 ghost use Rattle.hidreport_items.specs.Answer.{GivesWithoutMemory, Writes};
 ghost use Rattle.hidreport_items.specs.ItemFaults.{told_answer};
@@ -31,12 +32,16 @@ impl Model for FeatureItem {
 }
 
 impl FeatureItem {
-    /// The item with the data bytes behind the first byte, the header, which isn't looked at
-    /// (Section 6.2.2.5).
+    /// Reads a Feature item from a header and its data (Section 6.2.2.5).
     ///
-    /// Bits 0 to 8 of the data are its flags. No bytes and no data are `InsufficientData`;
-    /// another length `n` of the data than 1, 2 and 4 is `InvalidData`, `Size {n} cannot happen`.
-    /// `OutOfMemory` comes only where there is no memory for the message.
+    /// The first byte is the header, which isn't looked at; all bytes after it are the data. Bits 0
+    /// to 8 of the data are its flags.
+    ///
+    /// # Errors
+    ///
+    /// - `InsufficientData`: there are no bytes, or there is no data.
+    /// - `InvalidData`, `Size {n} cannot happen`: the data has `n` bytes, not 1, 2 or 4.
+    /// - `OutOfMemory`: memory for the message is refused.
     pub fn try_from(alloc: Global, bytes: &[u8]) -> Result<FeatureItem, HidError>
         ensures { GivesWithoutMemory result (read_with (λ _. feature_item) bytes.now) }
     {
@@ -49,7 +54,9 @@ impl FeatureItem {
     /// The item's bytes: the header, and the flags in one byte, or in two where it is of buffered
     /// bytes (Section 6.2.2.5).
     ///
-    /// `OutOfMemory` comes only where a growth is refused.
+    /// # Errors
+    ///
+    /// - `OutOfMemory`: memory for the bytes is refused.
     pub fn as_bytes(&self, alloc: Global) -> Result<Vec<u8>, HidError>
         ensures { Writes result (main_bytes (Feature self.now)) }
     {
@@ -79,14 +86,14 @@ impl FeatureItem {
 }
 
 impl FeatureItem {
-    /// The value may change without the host: flag 7 (Section 6.2.2.5).
+    /// Whether the value may change without the host (Volatile, flag 7; Section 6.2.2.5).
     pub fn is_volatile(&self) -> bool
         ensures { result ≡ self.now.volatile }
     {
         self.flags.is_volatile
     }
 
-    /// The value changes by the host alone: not `is_volatile`.
+    /// Whether the value changes by the host alone (Non Volatile): not `is_volatile`.
     pub fn is_nonvolatile(&self) -> bool
         ensures { result ≡ not self.now.volatile }
     {

@@ -1,3 +1,4 @@
+//! The flags of data items (Section 6.2.2.5).
 ghost use Rattle.std.specs.Prelude.{◌≡◌, not};
 ghost use Rattle.hidreport_items.specs.Flags.{Flags, flags_of};
 ghost use Rattle.hidreport_items.specs.ItemFaults.{told_answer};
@@ -7,95 +8,97 @@ use crate::item_fault::ItemFault;
 use crate::number::{is_flag_set, is_short_length, word};
 use std::marker::Model;
 
-/// The flags that Input, Output and Feature items share (Section 6.2.2.5).
+/// The flags of Input, Output and Feature items (Section 6.2.2.5).
 ///
 /// Each flag has two calls, one for each of its states: exactly one of them answers true.
 pub trait MainDataItem {
     /// The flags of the item.
     ghost flags: { Self → Flags };
 
-    /// The fields are padding: nothing is to be read from them or written to them.
+    /// Whether the fields are padding (Constant, flag 0): nothing is read from them or written to
+    /// them.
     fn is_constant(&self) -> bool
         ensures { result ≡ (flags self.now).constant };
 
-    /// Each element is a field with a usage of its own.
+    /// Whether each element is a field with a usage of its own (Variable, flag 1).
     fn is_variable(&self) -> bool
         ensures { result ≡ (flags self.now).variable };
 
-    /// A value is a change since the last report.
+    /// Whether a value is a change since the last report (Relative, flag 2).
     fn is_relative(&self) -> bool
         ensures { result ≡ (flags self.now).relative };
 
-    /// A value past one logical bound goes on at the other.
+    /// Whether a value past one logical bound goes on at the other (Wrap, flag 3).
     fn wraps(&self) -> bool
         ensures { result ≡ (flags self.now).wrap };
 
-    /// Values were processed: they aren't linear in what was measured.
+    /// Whether values aren't linear in what was measured (Non Linear, flag 4).
     fn is_nonlinear(&self) -> bool
         ensures { result ≡ (flags self.now).nonlinear };
 
-    /// The control doesn't come back to a state when it is let go.
+    /// Whether the control doesn't come back to a state when it is let go (No Preferred, flag 5).
     fn has_no_preferred_state(&self) -> bool
         ensures { result ≡ (flags self.now).no_preferred_state };
 
-    /// The control has a state in which it sends no meaningful data.
+    /// Whether the control has a state in which it sends no meaningful data (Null State, flag 6).
     fn has_null_state(&self) -> bool
         ensures { result ≡ (flags self.now).null_state };
 
-    /// The field is a stream of bytes.
+    /// Whether the field is a stream of bytes (Buffered Bytes, flag 8).
     fn is_buffered_bytes(&self) -> bool
         ensures { result ≡ (flags self.now).buffered_bytes };
 
-    /// The fields carry data: not `is_constant`.
+    /// Whether the fields carry data (Data): not `is_constant`.
     fn is_data(&self) -> bool
         ensures { result ≡ not (flags self.now).constant }
     {
         !self.is_constant()
     }
 
-    /// The elements are indexes into the usages: not `is_variable`.
+    /// Whether the elements are indexes into the usages (Array): not `is_variable`.
     fn is_array(&self) -> bool
         ensures { result ≡ not (flags self.now).variable }
     {
         !self.is_variable()
     }
 
-    /// A value is counted from a fixed origin: not `is_relative`.
+    /// Whether a value is counted from a fixed origin (Absolute): not `is_relative`.
     fn is_absolute(&self) -> bool
         ensures { result ≡ not (flags self.now).relative }
     {
         !self.is_relative()
     }
 
-    /// A value stays within its logical bounds: not `wraps`.
+    /// Whether a value stays within its logical bounds (No Wrap): not `wraps`.
     fn does_not_wrap(&self) -> bool
         ensures { result ≡ not (flags self.now).wrap }
     {
         !self.wraps()
     }
 
-    /// Values are linear in what was measured: not `is_nonlinear`.
+    /// Whether values are linear in what was measured (Linear): not `is_nonlinear`.
     fn is_linear(&self) -> bool
         ensures { result ≡ not (flags self.now).nonlinear }
     {
         !self.is_nonlinear()
     }
 
-    /// The control comes back to a state when it is let go: not `has_no_preferred_state`.
+    /// Whether the control comes back to a state when it is let go (Preferred State): not
+    /// `has_no_preferred_state`.
     fn has_preferred_state(&self) -> bool
         ensures { result ≡ not (flags self.now).no_preferred_state }
     {
         !self.has_no_preferred_state()
     }
 
-    /// The control always sends meaningful data: not `has_null_state`.
+    /// Whether the control always sends meaningful data (No Null position): not `has_null_state`.
     fn has_no_null_state(&self) -> bool
         ensures { result ≡ not (flags self.now).null_state }
     {
         !self.has_null_state()
     }
 
-    /// The field is a number of bits: not `is_buffered_bytes`.
+    /// Whether the field is a number of bits (Bit Field): not `is_buffered_bytes`.
     fn is_bitfield(&self) -> bool
         ensures { result ≡ not (flags self.now).buffered_bytes }
     {

@@ -1,3 +1,4 @@
+//! Global items.
 ghost use Rattle.hidreport_items.specs.Answer.{GivesWithoutMemory, Writes};
 ghost use Rattle.hidreport_items.specs.ItemFaults.{told_answer};
 ghost use Rattle.std.specs.Prelude.{◌≡◌};
@@ -16,7 +17,7 @@ use hidreport_types::{
 };
 use std::alloc::Global;
 
-/// An item that stays in force until it is set again (Section 6.2.2.7).
+/// A global item, which stays in force until it is set again (Section 6.2.2.7).
 #[derive(Clone, Copy, Debug, PartialEq)]
 pub enum GlobalItem {
     /// The page of usages that have none of their own.
@@ -40,13 +41,13 @@ pub enum GlobalItem {
     /// The unit of physical values.
     Unit(Unit),
 
-    /// The bits of one element.
+    /// How many bits one element has.
     ReportSize(ReportSize),
 
     /// The report that fields belong to.
     ReportId(ReportId),
 
-    /// The number of elements.
+    /// How many elements there are.
     ReportCount(ReportCount),
 
     /// Keeps what is in force for the matching Pop.
@@ -60,14 +61,19 @@ pub enum GlobalItem {
 }
 
 impl GlobalItem {
-    /// The global item with the header that comes first and the data bytes behind it, all that
-    /// there are (Section 6.2.2.7).
+    /// Reads a global item from its header and its data (Section 6.2.2.7).
     ///
-    /// No bytes are `InsufficientData`. 3 data bytes or more than 4 are `InvalidData`, `Size {n}
-    /// cannot happen`, for every header. ReportSize, ReportId and ReportCount without data are
-    /// `InsufficientData`; Push and Pop ignore their data; the others are 0 without data. A header
-    /// of no global item is `Reserved`. `OutOfMemory` comes only where there is no memory for a
-    /// message.
+    /// The first byte is the header; all bytes after it are the data, however many the header
+    /// announces. Push and Pop ignore their data; without data the numbers of the other items are
+    /// 0, where that isn't an error. A header of no global item is `Reserved`.
+    ///
+    /// # Errors
+    ///
+    /// - `InsufficientData`: there are no bytes.
+    /// - `InvalidData`, `Size {n} cannot happen`: the data has `n` bytes, 3 or more than 4,
+    ///   whatever the header.
+    /// - `InsufficientData`: a ReportSize, ReportId or ReportCount has no data.
+    /// - `OutOfMemory`: memory for the message is refused.
     pub fn try_from(alloc: Global, bytes: &[u8]) -> Result<GlobalItem, HidError>
         ensures { GivesWithoutMemory result (read_with global_item bytes.now) }
     {
@@ -98,12 +104,14 @@ impl GlobalItem {
         }
     }
 
-    /// The item's bytes: the header, and the shortest data that holds its number
-    /// (Section 6.2.2.7).
+    /// The item's bytes: the header, and the shortest data that holds its number (Section 6.2.2.7).
     ///
     /// Bounds and the unit's exponent are written with their sign. Of a size or a count past 32
-    /// bits the low 32 bits are written. Push, Pop and `Reserved` have no data. `OutOfMemory` comes
-    /// only where a growth is refused.
+    /// bits the low 32 bits are written. Push, Pop and `Reserved` have no data.
+    ///
+    /// # Errors
+    ///
+    /// - `OutOfMemory`: memory for the bytes is refused.
     pub fn as_bytes(&self, alloc: Global) -> Result<Vec<u8>, HidError>
         ensures { Writes result (global_bytes self.now) }
     {

@@ -1,3 +1,4 @@
+//! Input items.
 ghost use Rattle.std.specs.Prelude.{◌≡◌, false};
 ghost use Rattle.hidreport_items.specs.Answer.{GivesWithoutMemory, Writes};
 ghost use Rattle.hidreport_items.specs.ItemFaults.{told_answer};
@@ -35,12 +36,16 @@ impl Model for InputItem {
 }
 
 impl InputItem {
-    /// The item with the data bytes behind the first byte, the header, which isn't looked at
-    /// (Section 6.2.2.5).
+    /// Reads an Input item from a header and its data (Section 6.2.2.5).
     ///
-    /// Bits 0 to 8 of the data are its flags, but for bit 7. No bytes and no data are
-    /// `InsufficientData`; another length `n` of the data than 1, 2 and 4 is `InvalidData`,
-    /// `Size {n} cannot happen`. `OutOfMemory` comes only where there is no memory for the message.
+    /// The first byte is the header, which isn't looked at; all bytes after it are the data. Bits 0
+    /// to 8 of the data are its flags, but for bit 7.
+    ///
+    /// # Errors
+    ///
+    /// - `InsufficientData`: there are no bytes, or there is no data.
+    /// - `InvalidData`, `Size {n} cannot happen`: the data has `n` bytes, not 1, 2 or 4.
+    /// - `OutOfMemory`: memory for the message is refused.
     pub fn try_from(alloc: Global, bytes: &[u8]) -> Result<InputItem, HidError>
         ensures { GivesWithoutMemory result (read_with (λ _. input_item) bytes.now) }
     {
@@ -53,7 +58,9 @@ impl InputItem {
     /// The item's bytes: the header, and the flags in one byte, or in two where it is of buffered
     /// bytes (Section 6.2.2.5); bit 7, which an Input does not have, is never set.
     ///
-    /// `OutOfMemory` comes only where a growth is refused.
+    /// # Errors
+    ///
+    /// - `OutOfMemory`: memory for the bytes is refused.
     pub fn as_bytes(&self, alloc: Global) -> Result<Vec<u8>, HidError>
         ensures { Writes result (main_bytes (Input self.now)) }
     {

@@ -1,3 +1,4 @@
+//! Items of every type.
 ghost use Rattle.hidreport_items.specs.Answer.{GivesWithoutMemory, Writes};
 ghost use Rattle.hidreport_items.specs.ItemFaults.{told_answer};
 ghost use Rattle.hidreport_items.specs.Writing.{item_bytes};
@@ -35,12 +36,28 @@ pub enum ItemType {
 }
 
 impl ItemType {
-    /// The item with the header that comes first and the data bytes behind it, all that there are.
+    /// Reads an item of any type from its header and its data (Section 6.2.2.2).
     ///
-    /// The header's type chooses the reader (Section 6.2.2.2): that of `MainItem`, `GlobalItem` or
-    /// `LocalItem`, whose refusals it has; the type that the standard keeps for later is
-    /// `Reserved`, or with the header FE `Long` (Section 6.2.2.3), whatever the data. No bytes are
-    /// `InsufficientData`. `OutOfMemory` comes only where there is no memory for a message.
+    /// The first byte is the header; all bytes after it are the data, however many the header
+    /// announces. The header's type chooses the reader: that of `MainItem`, `GlobalItem` or
+    /// `LocalItem`. An item of the type that the standard keeps for later is `Reserved`, or with
+    /// the header FE `Long` (Section 6.2.2.3), whatever the data.
+    ///
+    /// # Errors
+    ///
+    /// - `InsufficientData`: there are no bytes.
+    /// - What `try_from` of `MainItem`, `GlobalItem` or `LocalItem` refuses, by the header's type.
+    /// - `OutOfMemory`: memory for a message is refused.
+    ///
+    /// # Examples
+    ///
+    /// ```rust
+    /// use hidreport::LogicalMaximum;
+    /// use hidreport::hid::ItemType;
+    ///
+    /// let item = ItemType::try_from(alloc, b"\x26\xff\x00")?;
+    /// assert_eq!(rt; item, ItemType::from(LogicalMaximum::from(255)));
+    /// ```
     pub fn try_from(alloc: Global, bytes: &[u8]) -> Result<ItemType, HidError>
         ensures { GivesWithoutMemory result (read_with item_of bytes.now) }
     {
@@ -50,11 +67,16 @@ impl ItemType {
         with_message(alloc, read_item(*header, data_bytes))
     }
 
-    /// The item's bytes, those of the item that it is; none for `Long` and `Reserved`.
+    /// The item's bytes, those of the item that it is; none for `Long` and `Reserved`
+    /// (Section 6.2.2.2).
     ///
     /// For an item that bytes can spell, and that is neither long nor of a reserved kind,
     /// `ItemType::try_from` reads these bytes as the item, and no spelling of it with data is
-    /// shorter. `OutOfMemory` comes only where a growth is refused.
+    /// shorter.
+    ///
+    /// # Errors
+    ///
+    /// - `OutOfMemory`: memory for the bytes is refused.
     pub fn as_bytes(&self, alloc: Global) -> Result<Vec<u8>, HidError>
         ensures exact { Writes result (item_bytes self.now) }
         ensures canonical { (spelling : List ℕ) → Spells spelling self.now
@@ -88,12 +110,16 @@ pub fn is_long_header(header: u8) -> bool
     header == 0xfe
 }
 
-/// The item with this header and data, all that there is, whatever its type (Section 6.2.2.2);
-/// takes no memory.
+/// Reads an item of any type from its header and its data, all of it (Section 6.2.2.2); takes no
+/// memory.
 ///
-/// The refusals are those of `ItemType::try_from` without their messages: `TooFew` where data is
-/// missing, `Length` where there is data of another length, `Tag` where a main item has another tag
-/// than the five.
+/// # Errors
+///
+/// Those of `ItemType::try_from` without their messages:
+///
+/// - `Tag`: a main item has another tag than the five.
+/// - `TooFew`: an item that needs data has none.
+/// - `Length`: there is data of a length that the item doesn't have.
 pub fn read_item(header: u8, data_bytes: &[u8]) -> Result<ItemType, ItemFault>
     ensures { told_answer result ≡ item_of header data_bytes.now }
 {

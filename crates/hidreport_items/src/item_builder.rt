@@ -1,3 +1,4 @@
+//! Data items that are built from their flags.
 ghost use Rattle.std.specs.Prelude.{◌≡◌, true, false, Some, None};
 ghost use Rattle.hidreport_items.specs.Said.{flags_said, nothing_said, said_by};
 
@@ -19,6 +20,15 @@ use std::marker::{Model, PhantomData};
 /// that a flag is set at most once: a second setting doesn't compile.
 ///
 /// `ItemBuilder::new().variable().relative().input()` is the Input of a mouse's axes.
+///
+/// # Examples
+///
+/// ```rust
+/// use hidreport::hid::ItemBuilder;
+///
+/// let axes = ItemBuilder::new().variable().relative().input();
+/// assert_eq!(rt; axes.as_bytes(alloc)?.as_slice(), b"\x81\x06".as_slice());
+/// ```
 #[derive(Drop)]
 pub struct ItemBuilder<A, B, C, D, E, F, G, H, I>
 where
@@ -70,7 +80,7 @@ impl ItemBuilder<
     IBUndefined,
     IBUndefined,
 > {
-    /// Nothing is said of any flag: all are off.
+    /// A builder in which no flag is set yet: all are off (Section 6.2.2.5).
     pub fn new() -> Self
         ensures { result ≡ nothing_said }
     {
@@ -102,7 +112,7 @@ where
         }
     }
 
-    /// The Input with these flags; it has no flag 7.
+    /// The Input item with these flags (Section 6.2.2.4); it has no flag 7.
     pub fn input(self) -> InputItem
         ensures flags { result ≡ record (flags_said self) { volatile = false } }
         ensures said { self
@@ -111,7 +121,7 @@ where
         InputItem::from_flags(self.flags)
     }
 
-    /// The Output with these flags.
+    /// The Output item with these flags (Section 6.2.2.4).
     pub fn output(self) -> OutputItem
         ensures flags { result ≡ flags_said self }
         ensures said { self
@@ -120,7 +130,7 @@ where
         OutputItem::from_flags(self.flags)
     }
 
-    /// The Feature with these flags.
+    /// The Feature item with these flags (Section 6.2.2.4).
     pub fn feature(self) -> FeatureItem
         ensures flags { result ≡ flags_said self }
         ensures said { self
@@ -129,7 +139,7 @@ where
         FeatureItem::from_flags(self.flags)
     }
 
-    /// The fields are padding: sets flag 0.
+    /// Sets flag 0 to Constant: the fields are padding.
     pub fn constant(self) -> ItemBuilder<IBConstant, B, C, D, E, F, G, H, I>
     where
         A: IBUnsaid,
@@ -142,7 +152,7 @@ where
         })
     }
 
-    /// The fields carry data: leaves flag 0 off.
+    /// Sets flag 0 to Data: the fields carry data.
     pub fn data(self) -> ItemBuilder<IBData, B, C, D, E, F, G, H, I>
     where
         A: IBUnsaid,
@@ -155,7 +165,7 @@ where
         })
     }
 
-    /// Each element is a field with a usage of its own: sets flag 1.
+    /// Sets flag 1 to Variable: each element is a field with a usage of its own.
     pub fn variable(self) -> ItemBuilder<A, IBVariable, C, D, E, F, G, H, I>
     where
         B: IBUnsaid,
@@ -168,7 +178,7 @@ where
         })
     }
 
-    /// The elements are indexes into the usages: leaves flag 1 off.
+    /// Sets flag 1 to Array: the elements are indexes into the usages.
     pub fn array(self) -> ItemBuilder<A, IBArray, C, D, E, F, G, H, I>
     where
         B: IBUnsaid,
@@ -181,7 +191,7 @@ where
         })
     }
 
-    /// A value is a change since the last report: sets flag 2.
+    /// Sets flag 2 to Relative: a value is a change since the last report.
     pub fn relative(self) -> ItemBuilder<A, B, IBRelative, D, E, F, G, H, I>
     where
         C: IBUnsaid,
@@ -194,7 +204,7 @@ where
         })
     }
 
-    /// A value is counted from a fixed origin: leaves flag 2 off.
+    /// Sets flag 2 to Absolute: a value is counted from a fixed origin.
     pub fn absolute(self) -> ItemBuilder<A, B, IBAbsolute, D, E, F, G, H, I>
     where
         C: IBUnsaid,
@@ -207,7 +217,7 @@ where
         })
     }
 
-    /// A value past one logical bound goes on at the other: sets flag 3.
+    /// Sets flag 3 to Wrap: a value past one logical bound goes on at the other.
     pub fn wrap(self) -> ItemBuilder<A, B, C, IBWrap, E, F, G, H, I>
     where
         D: IBUnsaid,
@@ -220,7 +230,7 @@ where
         })
     }
 
-    /// A value stays within its logical bounds: leaves flag 3 off.
+    /// Sets flag 3 to No Wrap: a value stays within its logical bounds.
     pub fn nowrap(self) -> ItemBuilder<A, B, C, IBNoWrap, E, F, G, H, I>
     where
         D: IBUnsaid,
@@ -233,7 +243,7 @@ where
         })
     }
 
-    /// Values aren't linear in what was measured: sets flag 4.
+    /// Sets flag 4 to Non Linear: values aren't linear in what was measured.
     pub fn nonlinear(self) -> ItemBuilder<A, B, C, D, IBNonLinear, F, G, H, I>
     where
         E: IBUnsaid,
@@ -246,7 +256,7 @@ where
         })
     }
 
-    /// Values are linear in what was measured: leaves flag 4 off.
+    /// Sets flag 4 to Linear: values are linear in what was measured.
     pub fn linear(self) -> ItemBuilder<A, B, C, D, IBLinear, F, G, H, I>
     where
         E: IBUnsaid,
@@ -259,7 +269,7 @@ where
         })
     }
 
-    /// The control stays as it was left: sets flag 5.
+    /// Sets flag 5 to No Preferred: the control stays as it was left.
     pub fn no_preferred_state(self) -> ItemBuilder<A, B, C, D, E, IBNoPreferred, G, H, I>
     where
         F: IBUnsaid,
@@ -272,7 +282,7 @@ where
         })
     }
 
-    /// The control comes back to a state when it is let go: leaves flag 5 off.
+    /// Sets flag 5 to Preferred State: the control comes back to a state when it is let go.
     pub fn preferred_state(self) -> ItemBuilder<A, B, C, D, E, IBPreferred, G, H, I>
     where
         F: IBUnsaid,
@@ -285,7 +295,7 @@ where
         })
     }
 
-    /// The control has a state in which it sends no meaningful data: sets flag 6.
+    /// Sets flag 6 to Null State: the control has a state in which it sends no meaningful data.
     pub fn null(self) -> ItemBuilder<A, B, C, D, E, F, IBNull, H, I>
     where
         G: IBUnsaid,
@@ -298,7 +308,7 @@ where
         })
     }
 
-    /// The control always sends meaningful data: leaves flag 6 off.
+    /// Sets flag 6 to No Null position: the control always sends meaningful data.
     pub fn no_null(self) -> ItemBuilder<A, B, C, D, E, F, IBNoNull, H, I>
     where
         G: IBUnsaid,
@@ -311,7 +321,7 @@ where
         })
     }
 
-    /// The field is a stream of bytes: sets flag 8.
+    /// Sets flag 8 to Buffered Bytes: the field is a stream of bytes.
     pub fn buffered_bytes(self) -> ItemBuilder<A, B, C, D, E, F, G, IBBuffered, I>
     where
         H: IBUnsaid,
@@ -324,7 +334,7 @@ where
         })
     }
 
-    /// The field is a number of bits: leaves flag 8 off.
+    /// Sets flag 8 to Bit Field: the field is a number of bits.
     pub fn bitfield(self) -> ItemBuilder<A, B, C, D, E, F, G, IBBitfield, I>
     where
         H: IBUnsaid,
@@ -337,7 +347,7 @@ where
         })
     }
 
-    /// The value may change without the host: sets flag 7, which an Input doesn't have.
+    /// Sets flag 7 to Volatile, which an Input doesn't have: the value may change without the host.
     pub fn volatile(self) -> ItemBuilder<A, B, C, D, E, F, G, H, IBVolatile>
     where
         I: IBUnsaid,
@@ -350,7 +360,7 @@ where
         })
     }
 
-    /// The value changes by the host alone: leaves flag 7 off.
+    /// Sets flag 7 to Non Volatile: the value changes by the host alone.
     pub fn non_volatile(self) -> ItemBuilder<A, B, C, D, E, F, G, H, IBNonVolatile>
     where
         I: IBUnsaid,

@@ -1,3 +1,4 @@
+//! The bytes of one item, held in place.
 ghost use Rattle.std.specs.Prelude.{◌≡◌, ◌≤◌, [], ◌∷◌, length};
 ghost use Rattle.hidreport_items.specs.Answer.{Writes};
 
@@ -23,7 +24,7 @@ impl Model for ItemBytes {
 }
 
 impl ItemBytes {
-    /// No bytes, of an item that none are written for.
+    /// No bytes, as for an item that has none.
     pub fn none() -> ItemBytes
         ensures { result ≡ [] }
     {
@@ -61,7 +62,9 @@ impl ItemBytes {
 
     /// The bytes as a list of their own.
     ///
-    /// `OutOfMemory` comes only where a growth is refused.
+    /// # Errors
+    ///
+    /// - `OutOfMemory`: memory for the bytes is refused.
     pub fn to_vec(&self, alloc: Global) -> Result<Vec<u8>, HidError>
         ensures { Writes result self.now }
     {

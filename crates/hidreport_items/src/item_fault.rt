@@ -1,3 +1,5 @@
+//! Faults of single items, without their messages.
+
 /// Why a header and data are no item (Section 6.2.2.2), before a message says it.
 #[derive(Clone, Copy, Debug, PartialEq)]
 pub enum ItemFault {

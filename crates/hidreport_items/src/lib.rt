@@ -1,4 +1,16 @@
-//! The items of a report descriptor, and how they are read.
+//! The items of a USB HID report descriptor: read from bytes, written as bytes, built from flags.
+//!
+//! - [`ItemType`]: any item; [`MainItem`], [`GlobalItem`] and [`LocalItem`] are its three types
+//!   (Sections 6.2.2.4, 6.2.2.7 and 6.2.2.8 of the standard, USB HID 1.11).
+//! - [`InputItem`], [`OutputItem`], [`FeatureItem`]: the data items, with their flags by
+//!   [`MainDataItem`]; [`CollectionItem`]: the kinds of collections.
+//! - [`ItemBuilder`]: makes a data item from its flags.
+//! - [`HidError`]: why an item can't be read or written.
+//!
+//! `try_from` of each type reads an item, `as_bytes` writes it. The item that is read, the bytes
+//! that are written and the message of each error are proved for every input, want of memory apart
+//! ([docs/PROVED.md](../../../docs/PROVED.md)).
+//!
 //! Licence: MIT (LICENSE); a port of the Rust crate `hidreport` 0.6.0.
 #![tactic(auto)]
 

@@ -1,3 +1,4 @@
+//! Local items.
 ghost use Rattle.std.specs.Prelude.{◌≡◌, ◌+◌, ◌*◌};
 ghost use Rattle.hidreport_items.specs.Answer.{GivesWithoutMemory, Writes};
 ghost use Rattle.hidreport_items.specs.ItemFaults.{told_answer};
@@ -16,7 +17,7 @@ use hidreport_types::{
 };
 use std::alloc::Global;
 
-/// An item that ends with the next main item (Section 6.2.2.8).
+/// A local item, which ends with the next main item (Section 6.2.2.8).
 #[derive(Clone, Copy, Debug, PartialEq)]
 pub enum LocalItem {
     /// A usage with a page of its own.
@@ -31,7 +32,7 @@ pub enum LocalItem {
     /// The last usage of a range.
     UsageMaximum(UsageMaximum),
 
-    /// A part of the body.
+    /// The index of a part of the body.
     DesignatorIndex(DesignatorIndex),
 
     /// The first part of a range.
@@ -40,7 +41,7 @@ pub enum LocalItem {
     /// The last part of a range.
     DesignatorMaximum(DesignatorMaximum),
 
-    /// A string descriptor.
+    /// The index of a string descriptor.
     StringIndex(StringIndex),
 
     /// The first string of a range.
@@ -60,13 +61,17 @@ pub enum LocalItem {
 }
 
 impl LocalItem {
-    /// The local item with the header that comes first and the data bytes behind it, all that
-    /// there are (Section 6.2.2.8).
+    /// Reads a local item from its header and its data (Section 6.2.2.8).
     ///
-    /// No bytes and no data are `InsufficientData`; 3 data bytes or more than 4 are `InvalidData`,
-    /// `Size {n} cannot happen`. A usage in four data bytes has a page of its own. A header of no
-    /// local item is `Reserved`, with the header without its size code. `OutOfMemory` comes only
-    /// where there is no memory for a message.
+    /// The first byte is the header; all bytes after it are the data, however many the header
+    /// announces. A usage in four data bytes has a page of its own. A header of no local item is
+    /// `Reserved`, with the header without its size code.
+    ///
+    /// # Errors
+    ///
+    /// - `InsufficientData`: there are no bytes, or there is no data.
+    /// - `InvalidData`, `Size {n} cannot happen`: the data has `n` bytes, 3 or more than 4.
+    /// - `OutOfMemory`: memory for the message is refused.
     pub fn try_from(alloc: Global, bytes: &[u8]) -> Result<LocalItem, HidError>
         ensures { GivesWithoutMemory result (read_with local_item bytes.now) }
     {
@@ -95,12 +100,14 @@ impl LocalItem {
         }
     }
 
-    /// The item's bytes: the header, and the shortest data that holds its number
-    /// (Section 6.2.2.8).
+    /// The item's bytes: the header, and the shortest data that holds its number (Section 6.2.2.8).
     ///
-    /// A usage with a page of its own always takes four bytes, also where the page is 0: in fewer
-    /// it would take the page in force. `Reserved` is written as `0xF9` and its value.
-    /// `OutOfMemory` comes only where a growth is refused.
+    /// A usage with a page of its own always takes four data bytes, also where the page is 0: in
+    /// fewer it would take the page in force. `Reserved` is written as `0xF9` and its value.
+    ///
+    /// # Errors
+    ///
+    /// - `OutOfMemory`: memory for the bytes is refused.
     pub fn as_bytes(&self, alloc: Global) -> Result<Vec<u8>, HidError>
         ensures { Writes result (local_bytes self.now) }
     {

@@ -1,3 +1,4 @@
+//! Main items, and the kinds of collections.
 ghost use Rattle.std.specs.Prelude.{◌≡◌, [], MatchResult, Ok};
 ghost use Rattle.hidreport_items.specs.Answer.{GivesWithoutMemory, Writes};
 ghost use Rattle.hidreport_items.specs.ItemFaults.{told_answer};
@@ -118,8 +119,14 @@ impl From<CollectionItem> for u8 {
     }
 }
 
-/// The kind of the first data byte behind the header, which isn't looked at; without data it is
-/// physical (Section 6.2.2.6). No bytes are `InsufficientData`.
+/// Reads the kind of a collection from a header and its data (Section 6.2.2.6).
+///
+/// The first byte is the header, which isn't looked at. The kind is that of the first byte after
+/// it, and Physical where there is none.
+///
+/// # Errors
+///
+/// - `InsufficientData`: there are no bytes.
 impl TryFrom<&[u8]> for CollectionItem {
     type Error = HidError;
 
@@ -138,7 +145,9 @@ impl TryFrom<&[u8]> for CollectionItem {
 impl CollectionItem {
     /// The item's bytes: the header, and the number of the kind in one byte (Section 6.2.2.4).
     ///
-    /// `OutOfMemory` comes only where a growth is refused.
+    /// # Errors
+    ///
+    /// - `OutOfMemory`: memory for the bytes is refused.
     pub fn as_bytes(&self, alloc: Global) -> Result<Vec<u8>, HidError>
         ensures { Writes result (main_bytes (MainItem.Collection self.now)) }
     {
@@ -164,15 +173,19 @@ impl CollectionItem {
 }
 
 impl MainItem {
-    /// The main item with the header that comes first and the data bytes behind it, all that there
-    /// are (Section 6.2.2.4).
+    /// Reads a main item from its header and its data (Section 6.2.2.4).
     ///
-    /// No bytes are `InsufficientData`. A header with another tag than the five, whatever its type,
-    /// is `InvalidData`, `Invalid item tag 0b` and the header without its size code in binary.
-    /// Input, Output and Feature need data of 1, 2 or 4 bytes: none is `InsufficientData`, another
-    /// length `n` is `InvalidData`, `Size {n} cannot happen`. A collection without data is
-    /// physical; EndCollection ignores its data. `OutOfMemory` comes only where there is no memory
-    /// for a message.
+    /// The first byte is the header; all bytes after it are the data, however many the header
+    /// announces. A Collection without data is Physical; EndCollection ignores its data.
+    ///
+    /// # Errors
+    ///
+    /// - `InsufficientData`: there are no bytes.
+    /// - `InvalidData`, `Invalid item tag 0b` and the header without its size code in binary: the
+    ///   header has another tag than the five, or another type.
+    /// - `InsufficientData`: an Input, Output or Feature has no data.
+    /// - `InvalidData`, `Size {n} cannot happen`: its data has `n` bytes, not 1, 2 or 4.
+    /// - `OutOfMemory`: memory for a message is refused.
     pub fn try_from(alloc: Global, bytes: &[u8]) -> Result<MainItem, HidError>
         ensures { GivesWithoutMemory result (read_with main_item bytes.now) }
     {
@@ -185,7 +198,9 @@ impl MainItem {
     /// The item's bytes, those of the item that it is; EndCollection is its header alone
     /// (Section 6.2.2.4).
     ///
-    /// `OutOfMemory` comes only where a growth is refused.
+    /// # Errors
+    ///
+    /// - `OutOfMemory`: memory for the bytes is refused.
     pub fn as_bytes(&self, alloc: Global) -> Result<Vec<u8>, HidError>
         ensures { Writes result (main_bytes self.now) }
     {

@@ -1,3 +1,4 @@
+//! The messages of faults.
 ghost use Rattle.std.specs.Prelude.{◌≡◌, ◌-◌, ◌%◌, Err, IfOk, MatchResult, string_bytes};
 ghost use Rattle.hidreport_items.specs.Answer.{FailsWithoutMemory, GivesWithoutMemory, IsFault};
 ghost use Rattle.hidreport_items.specs.ItemFaults.{told_answer, told_fault};
@@ -9,9 +10,13 @@ use crate::error::HidError;
 use crate::item_fault::ItemFault;
 use std::alloc::{AllocError, Global};
 
-/// What was read, or the error that says why nothing was.
+/// What was read, or the error with a message that says why nothing was.
 ///
-/// `OutOfMemory` comes only where there is no memory for a message.
+/// # Errors
+///
+/// - `InsufficientData`: the fault is `TooFew`.
+/// - `InvalidData`: it is another; the message says which.
+/// - `OutOfMemory`: memory for the message is refused.
 pub fn with_message<T: Drop>(alloc: Global, read: Result<T, ItemFault>) -> Result<T, HidError>
     ensures { GivesWithoutMemory result (told_answer read) }
 {
@@ -21,9 +26,8 @@ pub fn with_message<T: Drop>(alloc: Global, read: Result<T, ItemFault>) -> Resul
     }
 }
 
-/// The error that says why nothing was read.
-///
-/// `OutOfMemory` comes only where there is no memory for a message.
+/// The error that says why nothing was read: `InsufficientData` for `TooFew`, else `InvalidData`
+/// with a message, or `OutOfMemory` where memory for the message is refused.
 pub fn error_of(alloc: Global, fault: ItemFault) -> HidError
     ensures { FailsWithoutMemory {A = Unit {0}} result (Err (told_fault fault)) }
 {
@@ -64,7 +68,8 @@ fn not_long_fault(alloc: Global) -> HidError
     invalid_data(String::from_str(alloc, "Item is not a long item"))
 }
 
-/// Data that is refused with this message, or want of memory for it.
+/// The error `InvalidData` with this message, or `OutOfMemory` where memory for the message was
+/// refused.
 pub fn invalid_data(message: Result<String, AllocError>) -> HidError
     ensures { MatchResult message
         (λ t. IsFault result (string_bytes t))

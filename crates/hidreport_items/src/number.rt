@@ -1,3 +1,4 @@
+//! The numbers in the data of items (Section 6.2.2.2).
 ghost use Rattle.std.specs.Prelude.{◌≡◌, ℕ, ◌<◌, ◌≤◌, ◌+◌, ◌%◌, ◌/◌, ◌^◌, ◌==◌, length};
 ghost use Rattle.hidreport_items.specs.Numbers.{word, signed, is_short_length};
 ghost use Rattle.hidreport_items.specs.Flags.{is_flag_set};

@@ -1,3 +1,4 @@
+//! Items that are short or long.
 ghost use Rattle.std.specs.Prelude.{◌≡◌, false, IfOk};
 ghost use Rattle.hidreport_items.specs.Answer.{GivesBy};
 ghost use Rattle.hidreport_items.specs.Spelling.{first_or_zero, is_long_header, item_of};
@@ -23,11 +24,15 @@ pub enum AnyItem {
 }
 
 impl AnyItem {
-    /// The item at the front of the bytes, a long one where the first is FE; what comes behind it
-    /// isn't looked at.
+    /// Reads the item at the front of the bytes, a long one where the first is FE (Section 6.2.2).
     ///
-    /// No bytes are `InsufficientData`. The refusals are those of `LongItem::try_from` and
-    /// `ShortItem::try_from`; a short item takes no memory.
+    /// What comes after the item isn't looked at. A short item takes no memory.
+    ///
+    /// # Errors
+    ///
+    /// - `InsufficientData`: there are no bytes.
+    /// - What `LongItem::try_from` refuses where the first byte is FE, else what
+    ///   `ShortItem::try_from` does.
     pub fn try_from(alloc: Global, bytes: &[u8]) -> Result<AnyItem, HidError>
         ensures exact { GivesBy spelling_of result (front_item item_of bytes.now) }
         ensures kind { IfOk result (λ item. IsByHeader item bytes.now) }

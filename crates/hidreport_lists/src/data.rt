@@ -1,3 +1,4 @@
+//! The data of items.
 ghost use Rattle.std.specs.Prelude.{◌≡◌, IfOk, string_bytes};
 ghost use Rattle.hidreport_items.specs.Answer.{GivesBy, GivesWithoutMemory};
 ghost use Rattle.hidreport_lists.specs.Data.{byte_message, data_byte, data_list, data_number};
@@ -29,18 +30,20 @@ impl<'a> ItemData<'a> {
         ItemData { bytes }
     }
 
-    /// The data bytes, borrowed from the item.
+    /// The data bytes, borrowed from the item (Section 6.2.2.2).
     pub fn as_slice(&self) -> &[u8]
         ensures { result.now ≡ self.now }
     {
         self.bytes
     }
 
-    /// The data as an unsigned number, the lowest byte first.
+    /// The data as an unsigned number, the lowest byte first (Section 6.2.2.2).
     ///
-    /// No data is `InsufficientData`; another length `n` than 1, 2 and 4 is `InvalidData`,
-    /// `Size of {n} cannot happen`. `OutOfMemory` comes only where there is no memory for the
-    /// message.
+    /// # Errors
+    ///
+    /// - `InsufficientData`: there is no data.
+    /// - `InvalidData`, `Size of {n} cannot happen`: the data has `n` bytes, not 1, 2 or 4.
+    /// - `OutOfMemory`: memory for the message is refused.
     pub fn to_u32(&self, alloc: Global) -> Result<u32, HidError>
         ensures { GivesWithoutMemory result (data_number self.now) }
     {
@@ -55,8 +58,11 @@ impl<'a> ItemData<'a> {
 
     /// The data as one byte.
     ///
-    /// No data is `InsufficientData`; `n` bytes are `InvalidData`, `Cannot convert {n} bytes to
-    /// u8`. `OutOfMemory` comes only where there is no memory for the message.
+    /// # Errors
+    ///
+    /// - `InsufficientData`: there is no data.
+    /// - `InvalidData`, `Cannot convert {n} bytes to u8`: the data has `n` bytes, more than one.
+    /// - `OutOfMemory`: memory for the message is refused.
     pub fn to_u8(&self, alloc: Global) -> Result<u8, HidError>
         ensures { GivesWithoutMemory result (data_byte self.now) }
     {
@@ -69,8 +75,11 @@ impl<'a> ItemData<'a> {
 
     /// The data bytes as a list of their own.
     ///
-    /// No data is `InsufficientData`; another length `n` than 1, 2 and 4 is `InvalidData`,
-    /// `Size of {n} cannot happen`. `OutOfMemory` comes only where a growth is refused.
+    /// # Errors
+    ///
+    /// - `InsufficientData`: there is no data.
+    /// - `InvalidData`, `Size of {n} cannot happen`: the data has `n` bytes, not 1, 2 or 4.
+    /// - `OutOfMemory`: memory for the list or for the message is refused.
     pub fn to_vec(&self, alloc: Global) -> Result<Vec<u8>, HidError>
         ensures { GivesBy (λ bytes. bytes.items) result (data_list self.now) }
     {

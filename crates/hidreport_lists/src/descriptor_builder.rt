@@ -1,3 +1,4 @@
+//! Report descriptors that are built item by item.
 ghost use Rattle.std.specs.Prelude.{◌≡◌, [], ◌∷◌, ◌++◌, IfOk, flat_map};
 ghost use Rattle.std.specs.List.{list_all};
 ghost use Rattle.hidreport_items.specs.Answer.{Writes};
@@ -21,16 +22,31 @@ use hidreport_types::{UsageId, UsagePage};
 use std::alloc::Global;
 use std::marker::{Model, PhantomData};
 
-/// Makes a report descriptor, one item behind the other (Section 6.2.2).
+/// Makes a report descriptor, one item after the other (Section 6.2.2).
 ///
 /// The parameter is what is open. Before `build` can be called, each collection of
 /// `open_collection` has to be closed, and each Push of `push` has to have its `pop`. No collection
-/// can be opened behind a Push, nor a ninth inside eight; `append` takes any item and leaves the
-/// parameter as it is, for descriptors that need more.
+/// can be opened after an open Push, nor a ninth inside eight; `append` takes any item and leaves
+/// the parameter as it is, for descriptors that need more.
 ///
-/// A call that appends an item consumes the builder, also where it is refused.
+/// A call that appends an item consumes the builder, also where it fails.
 ///
 /// `ReportDescriptorBuilder::new(alloc).push()?.pop()?.build()?` is the bytes `a4 b4`.
+///
+/// # Examples
+///
+/// ```rust
+/// use hidreport::hid::{CollectionItem, ReportDescriptorBuilder};
+/// use hidreport::{UsageId, UsagePage};
+///
+/// let bytes = ReportDescriptorBuilder::new(alloc)
+///     .usage_page(UsagePage::from(1))?
+///     .usage_id(UsageId::from(2))?
+///     .open_collection(CollectionItem::Application)?
+///     .close_collection()?
+///     .build()?;
+/// assert_eq!(rt; bytes.as_slice(), b"\x05\x01\x09\x02\xa1\x01\xc0".as_slice());
+/// ```
 #[derive(Drop)]
 pub struct ReportDescriptorBuilder<S: ReportDescriptorBuilderState> {
     items: Vec<ItemType>,
@@ -59,63 +75,77 @@ impl ReportDescriptorBuilder<ReportDescriptorBuilderToplevel> {
 }
 
 impl<S: ReportDescriptorBuilderState> ReportDescriptorBuilder<S> {
-    /// The item at the end, whatever it is and means; what is open stays as it was.
+    /// Appends an item, whatever it is and means; what is open stays as it was.
     ///
-    /// `OutOfMemory` comes only where a growth is refused.
+    /// # Errors
+    ///
+    /// - `OutOfMemory`: memory for the item is refused; the builder is gone.
     pub fn append(self, item: ItemType) -> Result<Self, HidError>
         ensures { Holds result (self ++ item ∷ []) }
     {
         self.with_item(item)
     }
 
-    /// A Usage Page at the end (Section 6.2.2.7), for the usages behind it.
+    /// Appends a Usage Page (Section 6.2.2.7), for the usages after it.
     ///
-    /// `OutOfMemory` comes only where a growth is refused.
+    /// # Errors
+    ///
+    /// - `OutOfMemory`: memory for the item is refused; the builder is gone.
     pub fn usage_page(self, usage_page: UsagePage) -> Result<Self, HidError>
         ensures { Holds result (self ++ item.Global (global.UsagePage usage_page) ∷ []) }
     {
         self.append(ItemType::from(usage_page))
     }
 
-    /// A Usage at the end (Section 6.2.2.8), whose page is the one in force.
+    /// Appends a Usage (Section 6.2.2.8), whose page is the one in force.
     ///
-    /// `OutOfMemory` comes only where a growth is refused.
+    /// # Errors
+    ///
+    /// - `OutOfMemory`: memory for the item is refused; the builder is gone.
     pub fn usage_id(self, usage_id: UsageId) -> Result<Self, HidError>
         ensures { Holds result (self ++ item.Local (local.UsageId usage_id) ∷ []) }
     {
         self.append(ItemType::from(usage_id))
     }
 
-    /// An Input at the end (Section 6.2.2.5).
+    /// Appends an Input (Section 6.2.2.4).
     ///
-    /// `OutOfMemory` comes only where a growth is refused.
+    /// # Errors
+    ///
+    /// - `OutOfMemory`: memory for the item is refused; the builder is gone.
     pub fn input(self, input: InputItem) -> Result<Self, HidError>
         ensures { Holds result (self ++ item.Main (main.Input input) ∷ []) }
     {
         self.append(ItemType::from(input))
     }
 
-    /// An Output at the end (Section 6.2.2.5).
+    /// Appends an Output (Section 6.2.2.4).
     ///
-    /// `OutOfMemory` comes only where a growth is refused.
+    /// # Errors
+    ///
+    /// - `OutOfMemory`: memory for the item is refused; the builder is gone.
     pub fn output(self, output: OutputItem) -> Result<Self, HidError>
         ensures { Holds result (self ++ item.Main (main.Output output) ∷ []) }
     {
         self.append(ItemType::from(output))
     }
 
-    /// A Feature at the end (Section 6.2.2.5).
+    /// Appends a Feature (Section 6.2.2.4).
     ///
-    /// `OutOfMemory` comes only where a growth is refused.
+    /// # Errors
+    ///
+    /// - `OutOfMemory`: memory for the item is refused; the builder is gone.
     pub fn feature(self, feature: FeatureItem) -> Result<Self, HidError>
         ensures { Holds result (self ++ item.Main (main.Feature feature) ∷ []) }
     {
         self.append(ItemType::from(feature))
     }
 
-    /// A Collection at the end (Section 6.2.2.6), which `close_collection` closes.
+    /// Appends a Collection (Section 6.2.2.6), which `close_collection` closes.
     ///
-    /// `OutOfMemory` comes only where a growth is refused.
+    /// # Errors
+    ///
+    /// - `OutOfMemory`: memory for the item is refused; the builder is gone.
     pub fn open_collection(
         self,
         collection: CollectionItem,
@@ -127,9 +157,11 @@ impl<S: ReportDescriptorBuilderState> ReportDescriptorBuilder<S> {
         self.with_item(ItemType::from(collection))
     }
 
-    /// An End Collection at the end (Section 6.2.2.6), for the innermost collection that is open.
+    /// Appends an End Collection (Section 6.2.2.6), for the innermost collection that is open.
     ///
-    /// `OutOfMemory` comes only where a growth is refused.
+    /// # Errors
+    ///
+    /// - `OutOfMemory`: memory for the item is refused; the builder is gone.
     pub fn close_collection(self) -> Result<ReportDescriptorBuilder<S::Outer>, HidError>
     where
         S: MayClose,
@@ -138,9 +170,11 @@ impl<S: ReportDescriptorBuilderState> ReportDescriptorBuilder<S> {
         self.with_item(ItemType::Main(MainItem::EndCollection))
     }
 
-    /// A Push at the end (Section 6.2.2.7), which `pop` ends.
+    /// Appends a Push (Section 6.2.2.7), which `pop` ends.
     ///
-    /// `OutOfMemory` comes only where a growth is refused.
+    /// # Errors
+    ///
+    /// - `OutOfMemory`: memory for the item is refused; the builder is gone.
     pub fn push(self) -> Result<ReportDescriptorBuilder<S::Pushed>, HidError>
     where
         S: MayPush,
@@ -149,9 +183,11 @@ impl<S: ReportDescriptorBuilderState> ReportDescriptorBuilder<S> {
         self.with_item(ItemType::Global(GlobalItem::Push))
     }
 
-    /// A Pop at the end (Section 6.2.2.7), for the Push that waits.
+    /// Appends a Pop (Section 6.2.2.7), for the Push that is open.
     ///
-    /// `OutOfMemory` comes only where a growth is refused.
+    /// # Errors
+    ///
+    /// - `OutOfMemory`: memory for the item is refused; the builder is gone.
     pub fn pop(self) -> Result<ReportDescriptorBuilder<S::Popped>, HidError>
     where
         S: MayPop,
@@ -160,13 +196,17 @@ impl<S: ReportDescriptorBuilderState> ReportDescriptorBuilder<S> {
         self.with_item(ItemType::Global(GlobalItem::Pop))
     }
 
-    /// The descriptor: the bytes of the items, joined in their order (Section 6.2.2.1).
+    /// Writes the descriptor: the bytes of the items, joined in their order (Section 6.2.2.1).
     ///
-    /// `InsufficientData` comes just where an item is `ItemType::Long` or `ItemType::Reserved`,
-    /// which have no bytes (Sections 6.2.2.3 and 6.2.2.2), else `OutOfMemory` where a growth is
-    /// refused. What the items mean isn't looked at. Where each item is kept (neither long nor of
-    /// a kind that the standard keeps for later) and some bytes spell it, what is written is just
-    /// these items, each in its shortest spelling (`items`).
+    /// What the items mean isn't looked at. Where each item is kept (neither long nor of a kind
+    /// that the standard keeps for later) and some bytes spell it, what is written is just these
+    /// items, each in its shortest spelling (`items`).
+    ///
+    /// # Errors
+    ///
+    /// - `InsufficientData`: an item is `ItemType::Long` or `ItemType::Reserved`, which have no
+    ///   bytes (Sections 6.2.2.3 and 6.2.2.2).
+    /// - `OutOfMemory`: memory for the bytes is refused.
     pub fn build(&self) -> Result<Vec<u8>, HidError>
     where
         S: MayBuild,

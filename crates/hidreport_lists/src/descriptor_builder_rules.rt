@@ -1,4 +1,4 @@
-//! From where to where the calls of a builder of descriptors lead.
+//! The states in which a builder of descriptors may open, close, push, pop and build.
 ghost use Rattle.std.specs.Prelude.{◌≡◌, ◌+◌, nat_lt, true, false, refl};
 
 use crate::descriptor_builder_state::{

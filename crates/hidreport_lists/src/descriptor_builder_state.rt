@@ -10,7 +10,7 @@ pub trait ReportDescriptorBuilderState: Drop {
     ghost pushed: { Bool };
 }
 
-/// No collection is open.
+/// The state in which no collection is open.
 #[derive(Drop)]
 pub enum ReportDescriptorBuilderToplevel {}
 
@@ -20,7 +20,7 @@ impl ReportDescriptorBuilderState for ReportDescriptorBuilderToplevel {
     ghost pushed = { false };
 }
 
-/// No collection is open, and a Push waits.
+/// The state in which no collection is open, and a Push waits.
 #[derive(Drop)]
 pub enum ReportDescriptorBuilderToplevelPush {}
 
@@ -30,7 +30,7 @@ impl ReportDescriptorBuilderState for ReportDescriptorBuilderToplevelPush {
     ghost pushed = { true };
 }
 
-/// One collection is open.
+/// The state in which one collection is open.
 #[derive(Drop)]
 pub enum ReportDescriptorBuilderC1 {}
 
@@ -40,7 +40,7 @@ impl ReportDescriptorBuilderState for ReportDescriptorBuilderC1 {
     ghost pushed = { false };
 }
 
-/// One collection is open, and a Push waits.
+/// The state in which one collection is open, and a Push waits.
 #[derive(Drop)]
 pub enum ReportDescriptorBuilderC1Push {}
 
@@ -50,7 +50,7 @@ impl ReportDescriptorBuilderState for ReportDescriptorBuilderC1Push {
     ghost pushed = { true };
 }
 
-/// Two collections are open.
+/// The state in which two collections are open.
 #[derive(Drop)]
 pub enum ReportDescriptorBuilderC2 {}
 
@@ -60,7 +60,7 @@ impl ReportDescriptorBuilderState for ReportDescriptorBuilderC2 {
     ghost pushed = { false };
 }
 
-/// Two collections are open, and a Push waits.
+/// The state in which two collections are open, and a Push waits.
 #[derive(Drop)]
 pub enum ReportDescriptorBuilderC2Push {}
 
@@ -70,7 +70,7 @@ impl ReportDescriptorBuilderState for ReportDescriptorBuilderC2Push {
     ghost pushed = { true };
 }
 
-/// Three collections are open.
+/// The state in which three collections are open.
 #[derive(Drop)]
 pub enum ReportDescriptorBuilderC3 {}
 
@@ -80,7 +80,7 @@ impl ReportDescriptorBuilderState for ReportDescriptorBuilderC3 {
     ghost pushed = { false };
 }
 
-/// Three collections are open, and a Push waits.
+/// The state in which three collections are open, and a Push waits.
 #[derive(Drop)]
 pub enum ReportDescriptorBuilderC3Push {}
 
@@ -90,7 +90,7 @@ impl ReportDescriptorBuilderState for ReportDescriptorBuilderC3Push {
     ghost pushed = { true };
 }
 
-/// Four collections are open.
+/// The state in which four collections are open.
 #[derive(Drop)]
 pub enum ReportDescriptorBuilderC4 {}
 
@@ -100,7 +100,7 @@ impl ReportDescriptorBuilderState for ReportDescriptorBuilderC4 {
     ghost pushed = { false };
 }
 
-/// Four collections are open, and a Push waits.
+/// The state in which four collections are open, and a Push waits.
 #[derive(Drop)]
 pub enum ReportDescriptorBuilderC4Push {}
 
@@ -110,7 +110,7 @@ impl ReportDescriptorBuilderState for ReportDescriptorBuilderC4Push {
     ghost pushed = { true };
 }
 
-/// Five collections are open.
+/// The state in which five collections are open.
 #[derive(Drop)]
 pub enum ReportDescriptorBuilderC5 {}
 
@@ -120,7 +120,7 @@ impl ReportDescriptorBuilderState for ReportDescriptorBuilderC5 {
     ghost pushed = { false };
 }
 
-/// Five collections are open, and a Push waits.
+/// The state in which five collections are open, and a Push waits.
 #[derive(Drop)]
 pub enum ReportDescriptorBuilderC5Push {}
 
@@ -130,7 +130,7 @@ impl ReportDescriptorBuilderState for ReportDescriptorBuilderC5Push {
     ghost pushed = { true };
 }
 
-/// Six collections are open.
+/// The state in which six collections are open.
 #[derive(Drop)]
 pub enum ReportDescriptorBuilderC6 {}
 
@@ -140,7 +140,7 @@ impl ReportDescriptorBuilderState for ReportDescriptorBuilderC6 {
     ghost pushed = { false };
 }
 
-/// Six collections are open, and a Push waits.
+/// The state in which six collections are open, and a Push waits.
 #[derive(Drop)]
 pub enum ReportDescriptorBuilderC6Push {}
 
@@ -150,7 +150,7 @@ impl ReportDescriptorBuilderState for ReportDescriptorBuilderC6Push {
     ghost pushed = { true };
 }
 
-/// Seven collections are open.
+/// The state in which seven collections are open.
 #[derive(Drop)]
 pub enum ReportDescriptorBuilderC7 {}
 
@@ -160,7 +160,7 @@ impl ReportDescriptorBuilderState for ReportDescriptorBuilderC7 {
     ghost pushed = { false };
 }
 
-/// Seven collections are open, and a Push waits.
+/// The state in which seven collections are open, and a Push waits.
 #[derive(Drop)]
 pub enum ReportDescriptorBuilderC7Push {}
 
@@ -170,7 +170,7 @@ impl ReportDescriptorBuilderState for ReportDescriptorBuilderC7Push {
     ghost pushed = { true };
 }
 
-/// Eight collections are open.
+/// The state in which eight collections are open.
 #[derive(Drop)]
 pub enum ReportDescriptorBuilderC8 {}
 
@@ -180,7 +180,7 @@ impl ReportDescriptorBuilderState for ReportDescriptorBuilderC8 {
     ghost pushed = { false };
 }
 
-/// Eight collections are open, and a Push waits.
+/// The state in which eight collections are open, and a Push waits.
 #[derive(Drop)]
 pub enum ReportDescriptorBuilderC8Push {}
 

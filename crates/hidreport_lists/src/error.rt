@@ -1,10 +1,11 @@
+//! The errors of calls that read descriptors or reports.
 ghost use Rattle.std.specs.Prelude.{◌≡◌};
 ghost use Rattle.hidreport_lists.specs.declared.error.ParserError.TheVariants.{OutOfMemory};
 
 use std::alloc::{AllocError, AllocFailed};
 use thiserror::Error;
 
-/// Why a report descriptor, or the bytes of a report, are refused.
+/// Why a report descriptor, or the bytes of a report, can't be read.
 #[derive(Debug, Drop, Error)]
 pub enum ParserError {
     /// An item can't be read, or has no meaning where it stands.
@@ -16,7 +17,8 @@ pub enum ParserError {
         message: String,
     },
 
-    /// A report's end or a count passes what can be counted, or a field lies outside the bytes.
+    /// A report's end or a count passes what can be counted; or a field lies outside the bytes, or
+    /// its values have no bits or more than 32.
     #[error("out of bounds")]
     OutOfBounds,
 
@@ -24,14 +26,15 @@ pub enum ParserError {
     #[error("the bytes are of another report")]
     MismatchingReportId,
 
-    /// A growth was refused; nothing is said of the bytes.
+    /// Memory was refused; this says nothing of the bytes.
     #[error("out of memory")]
     OutOfMemory,
 
-    /// Under a budget: with this item more would be listed than the budget's limit.
+    /// A limit was passed: with this item more would be listed than `limit`, or the descriptor has
+    /// more bytes than `longest`.
     #[error("budget exceeded at offset {offset}")]
     BudgetExceeded {
-        /// The offset of the item's first byte, counted in bytes from 0.
+        /// The offset of the item's first byte, counted in bytes from 0; or the number `longest`.
         offset: usize,
     },
 }

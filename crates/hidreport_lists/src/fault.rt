@@ -1,3 +1,4 @@
+//! The errors of items that can't be read.
 ghost use Rattle.std.specs.Prelude.{◌≡◌, IfSome, MatchResult, None, OnOk, string_bytes};
 ghost use Rattle.hidreport_lists.specs.Answer.{IsInvalidAt, fault_of};
 ghost use Rattle.hidreport_lists.specs.Messages.{grammar_message};

@@ -13,31 +13,44 @@ use crate::short_item::following;
 use hidreport_items::{ItemFault, ItemType, error_of, read_item};
 use std::alloc::Global;
 
-/// An item, and how many bytes spell it.
+/// An item, and how many bytes spell it (Section 6.2.2).
 #[derive(Clone, Copy)]
 pub struct FrontItem {
     /// The item.
     pub item: ItemType,
 
-    /// How many bytes it has, its header among them.
+    /// How many bytes the item has, its header among them.
     pub size: usize,
 }
 
-/// Where bytes can't be read, and why.
+/// The offset of an item that can't be read, and why.
 #[derive(Clone, Copy)]
 pub struct PlacedFault {
     /// How many bytes stand before the item.
     pub offset: usize,
 
-    /// Why they are no item.
+    /// Why the bytes there are no item.
     pub fault: ItemFault,
 }
 
-/// The item at the front of the bytes, a long one where the first is FE; what comes behind it isn't
-/// looked at, and no memory is taken.
+/// Reads the item at the front of the bytes, a long one where the first is FE (Section 6.2.2);
+/// takes no memory.
 ///
-/// No bytes, and fewer than the header announces, are too few; else the refusals are those of
-/// `read_item`.
+/// What comes after the item isn't looked at.
+///
+/// # Errors
+///
+/// - `TooFew`: there are no bytes, or fewer than the header announces.
+/// - What `read_item` refuses, of the header and the data that it announces.
+///
+/// # Examples
+///
+/// ```rust
+/// use hidreport::hid::{ItemFault, front_item};
+///
+/// assert_eq!(rt; front_item(b"\x05\x01\x75")?.size, 2);
+/// assert!(rt; matches!(front_item(b"\x75"), Err(ItemFault::TooFew)));
+/// ```
 pub fn front_item(bytes: &[u8]) -> Result<FrontItem, ItemFault>
     ensures item { IfOk result (λ front. IsAtFront front bytes.now) }
     ensures fault { IfErr result (λ fault. front_item item_of bytes.now ≡ Err (told_fault fault)) }
@@ -56,8 +69,14 @@ pub fn front_item(bytes: &[u8]) -> Result<FrontItem, ItemFault>
     })
 }
 
-/// Whether the bytes are items, or none, from the first to the last; the first of them stands at
-/// the offset. No memory is taken.
+/// Checks that the bytes are items, or none, from the first to the last; takes no memory.
+///
+/// The first item stands at `offset`, in bytes.
+///
+/// # Errors
+///
+/// - `PlacedFault`: the offset of the first item that can't be read, and why `front_item` refuses
+///   it.
 pub fn check_items(offset: usize, bytes: &[u8]) -> Result<(), PlacedFault>
     requires { offset + length bytes.now < 2 ^ 64 }
     ensures items { OnOk result (IsOk (items_from item_of offset 0 bytes.now)) }
@@ -79,7 +98,8 @@ pub fn check_items(offset: usize, bytes: &[u8]) -> Result<(), PlacedFault>
 }
 
 impl PlacedFault {
-    /// What a parser says of it.
+    /// The parser's error for this fault: `InvalidData` at its offset, or `OutOfMemory` where
+    /// memory for the message is refused.
     pub fn refusal(self, alloc: Global) -> ParserError
         ensures { IsInvalidAt result self.offset (grammar_message (told_fault self.fault)) }
     {

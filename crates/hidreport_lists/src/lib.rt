@@ -1,4 +1,16 @@
-//! Items and lists of them, cut from the bytes of a report descriptor.
+//! The items of a USB HID report descriptor in order: cut from its bytes, and joined into bytes.
+//!
+//! - [`ReportDescriptorItems`]: all items of a descriptor, each with its offset (Section 6.2.2 of
+//!   the standard, USB HID 1.11); [`front_item`]: the first of them alone, without memory.
+//! - [`AnyItem`], [`ShortItem`], [`LongItem`]: one item with the bytes that spell it, by [`Item`].
+//! - [`ReportDescriptorBuilder`]: makes a descriptor, one item after the other.
+//! - [`rebuild`]: writes a descriptor anew, each item in its shortest spelling.
+//! - [`ParserError`]: why a descriptor, or the bytes of a report, can't be read.
+//!
+//! The items that bytes are cut into, the first fault with its offset and message, and the bytes
+//! that are built or rebuilt are proved for every input, want of memory apart
+//! ([docs/PROVED.md](../../../docs/PROVED.md)).
+//!
 //! Licence: MIT (LICENSE); a port of the Rust crate `hidreport` 0.6.0.
 #![tactic(auto)]
 

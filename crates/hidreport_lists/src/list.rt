@@ -1,3 +1,4 @@
+//! The items of a whole descriptor.
 ghost use Rattle.std.specs.Prelude.{◌≡◌, ◌≢◌, ℕ, List, [], IfErr, IfOk};
 ghost use Rattle.hidreport_items.specs.Answer.{GrammarFault};
 ghost use Rattle.hidreport_items.specs.Spelling.{item_of};
@@ -18,7 +19,7 @@ use hidreport_items::HidError;
 use std::alloc::Global;
 use std::marker::Model;
 
-/// An item of a descriptor, and where it stands.
+/// An item of a descriptor with its offset.
 #[derive(Debug, Drop)]
 pub struct ReportDescriptorItem {
     offset: usize,
@@ -49,7 +50,7 @@ impl ReportDescriptorItem {
         self.offset
     }
 
-    /// The item, a long one just where its header is one's.
+    /// The item itself, a long one just where its header is FE.
     pub fn item(&self) -> &AnyItem
         ensures item { spelling_of result.now
             ≡ record { bytes = self.now.bytes; item = self.now.item } }
@@ -75,13 +76,29 @@ impl Model for ReportDescriptorItems {
 }
 
 impl ReportDescriptorItems {
-    /// The items that the bytes are cut into, from the first byte to the last.
+    /// Cuts the bytes of a descriptor into items, from the first byte to the last
+    /// (Section 6.2.2.1).
     ///
-    /// The first item that can't be read is `InvalidData` at its offset, with the message
-    /// `Insufficient data`, or `Invalid data: ` and the reader's message. No bytes at all are
-    /// `InvalidData` at 0, `Insufficient data`. `OutOfMemory` comes only where a growth is refused.
+    /// There is at most one way to do it. Where a list of short items alone has these bytes, it is
+    /// the answer (`short`).
     ///
-    /// Where a list of short items alone has these bytes, it is the answer (`short`).
+    /// # Errors
+    ///
+    /// - `InvalidData` at 0, `Insufficient data`: there are no bytes.
+    /// - `InvalidData` at the offset of the first item that can't be read: `Insufficient data`
+    ///   where bytes are missing, else `Invalid data: ` and the message of `ItemType::try_from`.
+    /// - `OutOfMemory`: memory is refused; this says nothing of the bytes.
+    ///
+    /// # Examples
+    ///
+    /// ```rust
+    /// use hidreport::hid::{Item, ReportDescriptorItems};
+    ///
+    /// let items = ReportDescriptorItems::try_from(alloc, b"\x05\x01\x75\x08")?;
+    /// let second = items.as_slice().last().ok_or("no item")?;
+    /// assert_eq!(rt; second.offset(), 2);
+    /// assert_eq!(rt; second.item().bytes(), b"\x75\x08".as_slice());
+    /// ```
     pub fn try_from(alloc: Global, bytes: &[u8]) -> Result<ReportDescriptorItems, ParserError>
         ensures exact { Answers result (as_refusal (itemise item_of bytes.now)) }
         ensures named { IfErr result IsOfItems }

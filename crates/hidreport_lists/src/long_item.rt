@@ -1,3 +1,4 @@
+//! Long items.
 ghost use Rattle.std.specs.Prelude.{◌≡◌, ◌≤◌, ◌+◌, true, List, ℕ, length};
 ghost use Rattle.hidreport_items.specs.Answer.{Gives};
 ghost use Rattle.hidreport_items.specs.Spelling.{first_or_zero};
@@ -27,12 +28,17 @@ impl Model for LongItem {
 }
 
 impl LongItem {
-    /// The long item at the front of the bytes; what comes behind it isn't looked at.
+    /// Reads the long item at the front of the bytes (Section 6.2.2.3).
     ///
-    /// No bytes are `InsufficientData`. Another header than FE is `InvalidData`, `Item is not a
-    /// long item`. Fewer than 3 bytes, or than 3 and as many as the second says, are
-    /// `InsufficientData`. `OutOfMemory` comes only where there is no memory for the item's bytes
-    /// or for the message.
+    /// What comes after the item isn't looked at.
+    ///
+    /// # Errors
+    ///
+    /// - `InsufficientData`: there are no bytes.
+    /// - `InvalidData`, `Item is not a long item`: the first byte isn't FE.
+    /// - `InsufficientData`: there are fewer bytes than 3, or than 3 and as many as the second byte
+    ///   says.
+    /// - `OutOfMemory`: memory for the item's bytes or for the message is refused.
     pub fn try_from(alloc: Global, bytes: &[u8]) -> Result<LongItem, HidError>
         ensures { Gives result (long_item bytes.now) }
     {

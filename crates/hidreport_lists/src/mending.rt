@@ -13,7 +13,7 @@ use hidreport_items::{ItemBytes, ItemFault, ItemType, read_item};
 use std::alloc::Global;
 use std::marker::Model;
 
-/// Why something else stands in a repaired descriptor than what stood there.
+/// Why a repaired descriptor has other bytes at a place than before.
 #[derive(Clone, Copy, Debug, PartialEq, Eq)]
 pub enum Mend {
     /// An item that needs a data byte had none: its data is 0 now.
@@ -48,7 +48,7 @@ enum Standing {
     LeftOut,
 }
 
-/// Bytes of a descriptor, and what stands in their place.
+/// The bytes of a descriptor at one place, and what stands there now.
 #[derive(Debug, Drop)]
 pub struct Piece<'a> {
     offset: usize,
@@ -70,11 +70,17 @@ impl<'a> Model for Piece<'a> {
     } };
 }
 
-/// What hid-core reads of the bytes: items, and where there is none, an item with the data 0 or
-/// nothing; what is cut short is left out where that is asked for.
+/// Cuts the bytes of a descriptor as Linux's hid-core reads them (Section 6.2.2).
 ///
-/// What hid-core can't read either is `InvalidData` at its offset, as
-/// `ReportDescriptorItems::try_from` says it. `OutOfMemory` comes only where a growth is refused.
+/// Where the bytes are an item it stands there; where they are none, an item with the data 0 does, or
+/// nothing. With a main item that is left out go the local items that would have been its own. An
+/// item that is cut short is left out where that is asked for.
+///
+/// # Errors
+///
+/// - `InvalidData` at the item's offset, `Insufficient data`: an item is cut short, and it isn't
+///   left out.
+/// - `OutOfMemory`: memory is refused; this says nothing of the bytes.
 pub fn pieces<'a>(
     alloc: Global,
     bytes: &'a [u8],
@@ -188,21 +194,21 @@ impl<'a> Piece<'a> {
     ghost use Rattle.hidreport_lists.specs.Mending.{holding, is_local, is_main, is_unknown};
     ghost use Rattle.hidreport_lists.specs.Mending.{item_in, standing_bytes};
 
-    /// How many bytes of the descriptor stand before it.
+    /// The offset of the piece: how many bytes of the descriptor stand before it.
     pub fn offset(&self) -> usize
         ensures { result ≡ self.now.offset }
     {
         self.offset
     }
 
-    /// What stood there.
+    /// The bytes of the descriptor that stood there.
     pub fn stood(&self) -> &[u8]
         ensures { result.now ≡ self.now.stood }
     {
         self.stood
     }
 
-    /// The item that stands there, if any.
+    /// The item that stands there now; `None` where nothing does.
     pub fn item(&self) -> Option<ItemType>
         ensures { result ≡ item_in self.now }
     {
@@ -212,7 +218,7 @@ impl<'a> Piece<'a> {
         }
     }
 
-    /// The bytes that stand there now, none where it is left out.
+    /// The bytes that stand there now, none where they are left out.
     pub fn bytes(&self) -> &[u8]
         ensures { result.now ≡ standing_bytes self.now.stands }
     {
@@ -223,14 +229,14 @@ impl<'a> Piece<'a> {
         }
     }
 
-    /// Why another item stands there, or none.
+    /// Why other bytes stand there now; `None` where the same do.
     pub fn mend(&self) -> Option<Mend>
         ensures { result ≡ self.now.mend }
     {
         self.mend
     }
 
-    /// Puts an item there that these bytes spell.
+    /// Puts another item there, which these bytes spell, for this reason.
     pub fn write(&mut self, mend: Mend, bytes: ItemBytes, item: ItemType)
         ensures { self.new ≡ holding (Some mend) self.old.offset self.old.stood bytes item }
     {

@@ -1,3 +1,4 @@
+//! Descriptors that are written anew.
 ghost use Rattle.std.specs.Prelude.{◌≡◌, ◌≢◌, ◌↔◌, ◌++◌, ℕ, List, [], Ok, IfErr, IfOk, flat_map};
 ghost use Rattle.hidreport_items.specs.Kept.{is_kept};
 ghost use Rattle.hidreport_items.specs.Spelling.{item_of};
@@ -14,16 +15,29 @@ use crate::short_item::Item;
 use hidreport_items::{GlobalItem, ItemType, LocalItem, write_item};
 use std::alloc::{AllocError, Global};
 
-/// A descriptor written anew (Section 6.2.2.2): its items in order, without long ones and those of
-/// a kind that the standard keeps for later, each in its canonical spelling, the shortest with
-/// data.
+/// Writes a descriptor anew, each item in its canonical spelling, the shortest with data
+/// (Section 6.2.2.2).
 ///
-/// Bytes that are no items are refused as `ReportDescriptorItems::try_from` refuses them.
-/// `OutOfMemory` comes only where a growth is refused. The answer is empty where no item is kept.
+/// The items stand in their order, without long ones and those of a kind that the standard keeps
+/// for later. The answer is empty where no item is kept. Where it isn't, it itemises to just the
+/// kept items (`again`), and is what rebuilding it gives (`itself`). Two descriptors are rebuilt
+/// alike just where they keep the same items (`alike`).
 ///
-/// The answer, where not empty, itemises to just the kept items (`again`), and is what rebuilding
-/// it gives (`itself`). Two descriptors are rebuilt alike just where they keep the same items
-/// (`alike`).
+/// # Errors
+///
+/// - What `ReportDescriptorItems::try_from` refuses, in its order: no bytes, or the first item that
+///   can't be read.
+/// - `OutOfMemory`: memory is refused; this says nothing of the bytes.
+///
+/// # Examples
+///
+/// ```rust
+/// use hidreport::hid::rebuild;
+///
+/// let bytes = b"\x06\x01\x00\xc4\x0a\x30\x00\xfc\x17\x00\x00\x00\x00\xa0\xc1\x55";
+/// let rebuilt = rebuild(alloc, bytes)?;
+/// assert_eq!(rt; rebuilt.as_slice(), b"\x05\x01\x09\x30\x15\x00\xa1\x00\xc0".as_slice());
+/// ```
 pub fn rebuild(alloc: Global, bytes: &[u8]) -> Result<Vec<u8>, ParserError>
     ensures exact { AnswersBy (λ written. written.items) result
         (as_refusal (rebuild_answer (itemise item_of bytes.now))) }

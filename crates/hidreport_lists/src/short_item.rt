@@ -1,3 +1,4 @@
+//! Short items, and what all items have.
 ghost use Rattle.std.specs.Prelude.{◌≡◌, ◌≢◌, ◌≤◌, ◌+◌, ◌%◌, Bool, false, Err, List, ℕ, length};
 ghost use Rattle.hidreport_items.specs.Answer.{GivesWithoutMemory};
 ghost use Rattle.hidreport_items.specs.ItemFaults.{told_answer};
@@ -36,7 +37,7 @@ pub trait Item {
     fn size(&self) -> usize
         ensures { result ≡ length (item_bytes self.now) };
 
-    /// What the bytes spell.
+    /// The item that the bytes spell.
     fn item_type(&self) -> ItemType
         ensures { result ≡ item_meaning self.now };
 
@@ -78,11 +79,17 @@ impl Model for ShortItem {
 }
 
 impl ShortItem {
-    /// The item at the front of the bytes; what comes behind it isn't looked at.
+    /// Reads the short item at the front of the bytes (Section 6.2.2.2).
     ///
-    /// No bytes are `InsufficientData`. The header FE is `InvalidData`, `Item is a long item`,
-    /// whatever stands behind it. Fewer bytes than the header announces are `InsufficientData`;
-    /// else the refusals are those of `ItemType::try_from` of just the announced bytes.
+    /// What comes after the item isn't looked at. Memory is taken for messages alone.
+    ///
+    /// # Errors
+    ///
+    /// - `InsufficientData`: there are no bytes.
+    /// - `InvalidData`, `Item is a long item`: the first byte is FE, whatever comes after it.
+    /// - `InsufficientData`: there are fewer bytes than the header announces.
+    /// - What `ItemType::try_from` refuses, of the header and the data that it announces.
+    /// - `OutOfMemory`: memory for a message is refused.
     pub fn try_from(alloc: Global, bytes: &[u8]) -> Result<ShortItem, HidError>
         ensures { GivesWithoutMemory result (short_item item_of bytes.now) }
     {
@@ -91,7 +98,9 @@ impl ShortItem {
 
     /// The short item that `as_bytes` of this item spells; takes no memory.
     ///
-    /// `Long` and `Reserved` spell none: `InsufficientData`. There is no other refusal.
+    /// # Errors
+    ///
+    /// - `InsufficientData`: the item is `Long` or `Reserved`, which have no bytes.
     pub fn from_item_type(item: &ItemType) -> Result<ShortItem, HidError>
         ensures exact { GivesWithoutMemory result (short_item item_of (item_bytes item.now)) }
         ensures memory { result ≢ Err HidError.OutOfMemory }

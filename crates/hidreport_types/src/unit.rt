@@ -42,11 +42,16 @@ impl Model for Unit {
 }
 
 impl Unit {
-    /// The units that are set, in the order of their places; `None` where none is.
+    /// The units that are set, in the order of their places (Section 6.2.2.7); `None` where none
+    /// is.
     ///
     /// For cm/s² (`0xE011`) these are `Centimeter { exponent: 1 }` and `Seconds { exponent: -2 }`.
     /// Where a system is named and the highest nibble is 0, the system's number OR-ed with the
     /// numbers of these units is the number of the unit.
+    ///
+    /// # Errors
+    ///
+    /// - `AllocError`: memory for the list is refused.
     pub fn units(&self, alloc: Global) -> Result<Option<Vec<Units>>, AllocError>
         ensures exact { IfOk result (λ units.
             option_map (λ v. v.items) units ≡ if_any (units_of self.now)) }

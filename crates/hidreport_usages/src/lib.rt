@@ -1,4 +1,16 @@
-//! The names of usage pages, usages, items and their flags, and which usages hold values.
+//! The names of usages, usage pages, items and flags, and which usages hold values.
+//!
+//! - [`usage_name`], [`usage_by_name`], [`usage_on_page`]: a usage's name, and the usage of a name.
+//! - [`page_name`], [`page_by_name`]: the same of usage pages.
+//! - [`item_name`], [`collection_name`], [`system_name`], [`FlagWords`]: the standard's words for
+//!   items, kinds of collections, systems of units and flags (USB HID 1.11).
+//! - [`holds_value`]: whether a usage is of a type that holds a value.
+//!
+//! Names are those of the HID Usage Tables 1.5, and match letter for letter; nothing takes memory.
+//! It is proved that each answer is that of the tables of this crate, and that on one page a name
+//! is unique; that the tables say what the HID Usage Tables say is tested in part
+//! ([docs/PROVED.md](../../../docs/PROVED.md)).
+//!
 //! Licence: MIT (LICENSE); the names of usages are under the licence in data/LICENSE as well.
 #![tactic(auto)]
 

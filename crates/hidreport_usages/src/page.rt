@@ -22,8 +22,8 @@ pub enum PageName {
     Vendor(u16),
 }
 
-/// The name of a usage page (Section 6.2.2.7), or none for a page that the HID Usage Tables keep
-/// for later.
+/// The name of a usage page (Section 6.2.2.7); `None` for a page that the HID Usage Tables keep for
+/// later.
 pub fn page_name(usage_page: UsagePage) -> Option<PageName>
     ensures { option_map page_text result ≡ page_name usage_page }
 {
@@ -37,7 +37,7 @@ pub fn page_name(usage_page: UsagePage) -> Option<PageName>
     }
 }
 
-/// The usage page (Section 6.2.2.7) that has this name, letter for letter, or none where none has
+/// The usage page that has this name, letter for letter (Section 6.2.2.7); `None` where none has
 /// it.
 ///
 /// `page_name` gives the page that is found this name again.

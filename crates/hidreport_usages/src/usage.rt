@@ -41,7 +41,7 @@ pub enum UsageName {
     Vendor(u16),
 }
 
-/// The name of a usage (Section 5.5), or none where the HID Usage Tables name no such usage.
+/// The name of a usage (Section 5.5); `None` where the HID Usage Tables name no such usage.
 ///
 /// The usages of pages 09, 0A, 10, 81 and FF00 to FFFF are numbered, so all have names, but for 0
 /// of pages 0A and 81.
@@ -74,10 +74,19 @@ fn numbered(family: Family, id: u16) -> Option<UsageName>
     }
 }
 
-/// The usage of a page (Section 5.5) that has this name, letter for letter, or none where none has
+/// The usage of a page that has this name, letter for letter (Section 5.5); `None` where none has
 /// it.
 ///
 /// A name stands once on a page. `usage_name` gives the usage that is found this name again.
+///
+/// # Examples
+///
+/// ```rust
+/// use hidreport::{UsageId, UsagePage};
+/// use hidreport_usages::usage_on_page;
+///
+/// assert_eq!(rt; usage_on_page(UsagePage::from(0x0c), "Mute"), Some(UsageId::from(0xe2)));
+/// ```
 pub fn usage_on_page(usage_page: UsagePage, name: &str) -> Option<UsageId>
     ensures { IsOnlyNamed (name_on usage_page) name.now result }
 {
@@ -92,10 +101,18 @@ pub fn usage_on_page(usage_page: UsagePage, name: &str) -> Option<UsageId>
     }
 }
 
-/// The usage (Section 5.5) that has this name, letter for letter, or none where none has it.
+/// The usage that has this name, letter for letter (Section 5.5); `None` where none has it.
 ///
 /// Several pages can have usages of one name: it is that of the lowest page. Every page of vendors
 /// has the same names, so it is page FF00 that is answered for them.
+///
+/// # Examples
+///
+/// ```rust
+/// use hidreport_usages::usage_by_name;
+///
+/// assert_eq!(rt; usage_by_name("Mouse").map(u32::from), Some(0x0001_0002));
+/// ```
 pub fn usage_by_name(name: &str) -> Option<Usage>
     ensures { IsFirstNamed name_of_number name.now 0 (option_map usage_number result) }
 {

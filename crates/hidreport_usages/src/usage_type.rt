@@ -19,12 +19,12 @@ pub(crate) struct TypedUsages {
     pub(crate) holds_value: bool,
 }
 
-/// Whether a usage holds a value (Section 6.2.2.7), by the types that the HID Usage Tables give it:
-/// a linear control and a static or dynamic value do; switches, flags, selectors, arrays and
-/// collections don't. So a unit and physical bounds say something only of what holds a value.
+/// Whether a usage holds a value, by the types that the HID Usage Tables give it; `None` where no
+/// type is known, as on pages other than Generic Desktop, Button, Consumer, Digitizers and Sensors.
 ///
-/// A usage with several types holds a value where one of them does. None where no type is known,
-/// as on pages other than Generic Desktop, Button, Consumer, Digitizers and Sensors.
+/// A linear control and a static or dynamic value hold one; switches, flags, selectors, arrays and
+/// collections don't. A usage with several types holds a value where one of them does. A unit and
+/// physical bounds say something only of what holds a value (Section 6.2.2.7).
 pub fn holds_value(usage: Usage) -> Option<bool>
     ensures { result ≡ held_by TYPED_USAGES (usage_number usage) }
 {

@@ -1,3 +1,4 @@
+//! Array fields.
 ghost use Rattle.std.specs.Prelude.{◌≡◌, ◌≢◌, ◌+◌, ◌*◌, ◌^◌, ◌<◌, ◌≤◌, length, pos, int_lt, IfErr, IfOk, IfSome};
 ghost use Rattle.std.specs.Prelude.{IsNone, IsOk, OnOk, Some, true, false, slice_get, ℕ, ℤ, ◌||◌};
 ghost use Rattle.hidreport_lists.specs.Answer.{Answers, AnswersBy, Bounds, IsOfReading, Refuses};
@@ -47,33 +48,37 @@ pub struct ArrayField {
     pub(crate) report_id: Option<ReportId>,
     pub(crate) is_usage_range: bool,
 
-    /// The field's bits in its report: from the first up to the one behind the last.
+    /// The field's bits in its report, counted from 0, the byte of its id among them: from the
+    /// first up to the one after the last.
     pub bits: Range<usize>,
 
     pub(crate) usages: Vec<Usage>,
 
-    /// How many values the field has.
+    /// How many values the field has (Section 6.2.2.7).
     pub report_count: ReportCount,
 
-    /// The least value; the field is signed where it is below 0.
+    /// The least value (Section 6.2.2.7); the field is signed where it is below 0.
     pub logical_minimum: LogicalMinimum,
 
-    /// The greatest value.
+    /// The greatest value (Section 6.2.2.7).
     pub logical_maximum: LogicalMaximum,
 
-    /// What the least value stands for; 0 where only the other physical bound was set.
+    /// What the least value stands for (Section 6.2.2.7); 0 where only the other physical bound was
+    /// set.
     pub physical_minimum: Option<PhysicalMinimum>,
 
-    /// What the greatest value stands for; 0 where only the other physical bound was set.
+    /// What the greatest value stands for (Section 6.2.2.7); 0 where only the other physical bound
+    /// was set.
     pub physical_maximum: Option<PhysicalMaximum>,
 
-    /// The unit of the physical bounds.
+    /// The unit of the physical bounds (Section 6.2.2.7).
     pub unit: Option<Unit>,
 
-    /// The power of ten of the unit.
+    /// The power of ten of the unit (Section 6.2.2.7).
     pub unit_exponent: Option<UnitExponent>,
 
-    /// The collections that the field lies in, outermost first; the fields of an item share them.
+    /// The collections that the field lies in, outermost first (Section 6.2.2.6); the fields of an
+    /// item share them.
     pub collections: ArcSlice<Collection>,
 
     pub(crate) item: DataItem,
@@ -87,8 +92,8 @@ impl ArrayField {
         &self.usages
     }
 
-    /// The range of the usages, from the first to the last, where a minimum and a maximum gave
-    /// them (Section 6.2.2.8). `None` where they were given one by one.
+    /// The range of the usages, from the first to the last, where a minimum and a maximum gave them
+    /// (Section 6.2.2.8); `None` where they were given one by one.
     ///
     /// Where the last id less the first is one less than the number of usages, as it is whenever
     /// minimum and maximum have the same upper 16 bits, the range has exactly these usages
@@ -114,9 +119,11 @@ impl ArrayField {
         self.is_usage_range
     }
 
-    /// The usage that a value of the field stands for (Section 6.2.2.5): the one whose index,
-    /// counted from 0, is the value less the logical minimum. `None` where the value lies outside
-    /// the logical bounds, as it does where no usage is meant, and where no usage has the index.
+    /// The usage that a value of the field stands for: the one whose index, counted from 0, is the
+    /// value less the logical minimum (Section 6.2.2.5).
+    ///
+    /// It is `None` where the value lies outside the logical bounds, as it does where no usage is
+    /// meant, and where no usage has the index.
     pub fn usage_of(&self, value: FieldValue) -> Option<Usage>
         ensures { result ≡ usage_chosen (usages_in (array_record self.now))
             self.now.logical_minimum self.now.logical_maximum (value_number value) }
@@ -131,10 +138,11 @@ impl ArrayField {
         self.usages.get(index).copied()
     }
 
-    /// The value that stands for a usage, the inverse of `usage_of` (Section 6.2.2.5): the logical
-    /// minimum plus the usage's index, counted from 0. Where the usage is listed more than once,
-    /// it is the least such value. `None` where the usage isn't listed, or only behind the logical
-    /// maximum. It takes no memory.
+    /// The value that stands for a usage, the inverse of `usage_of`: the logical minimum plus the
+    /// usage's index, counted from 0 (Section 6.2.2.5); takes no memory.
+    ///
+    /// Where the usage is listed more than once, it is the least such value. It is `None` where the
+    /// usage isn't listed, or only after the logical maximum.
     pub fn value_of(&self, usage: Usage) -> Option<i64>
         ensures { IsLeastFor (usages_in (array_record self.now))
             self.now.logical_minimum self.now.logical_maximum usage result }
@@ -148,12 +156,13 @@ impl ArrayField {
         Some(minimum + index as i64)
     }
 
-    /// A value that stands for no usage, and that an element's bits hold (Section 6.2.2.5).
+    /// A value that stands for no usage, and that an element's bits hold (Section 6.2.2.5); takes
+    /// no memory.
     ///
     /// It is one outside the logical bounds where there is one: 0 if that is, else the number below
     /// the logical minimum, else the one above the logical maximum. Else it is the least number
-    /// within them that has no usage at its index. `None` where the bits hold no such value
-    /// (`none`), and where an element has no bits or more than 32. It takes no memory.
+    /// within them that has no usage at its index. It is `None` where the bits hold no such value
+    /// (`none`), and where an element has no bits or more than 32.
     pub fn null_value(&self) -> Option<i64>
         ensures null { IsNullNumber (usages_in (array_record self.now))
             (element_width self.now.bits.start self.now.bits.end self.now.report_count)
@@ -175,23 +184,42 @@ impl ArrayField {
         }
     }
 
-    /// Whether the values can be below 0: the logical minimum is.
+    /// Whether the values can be below 0: the logical minimum is (Section 6.2.2.7).
     pub fn is_signed(&self) -> bool
         ensures { result ≡ int_lt self.now.logical_minimum (pos 0) }
     {
         self.logical_minimum < LogicalMinimum::from(0)
     }
 
-    /// The values of all elements in a report that has these bytes, in order (Section 5.8).
+    /// Reads the values of all elements, in order, from the bytes of a report (Section 5.8).
     ///
-    /// For a field with a report id, no bytes are `OutOfBounds`, and another first byte is
-    /// `MismatchingReportId`. Then a count of 0 gives no values, and an element of 0 bits, one of
-    /// more than 32 and one that ends behind the bytes are `OutOfBounds`. Memory is taken for the
-    /// values alone, once they are known to be there; where it is refused the answer is
-    /// `OutOfMemory`.
+    /// A count of 0 gives no values. Memory is taken for the values alone, once they are known to
+    /// be there. Where two reports have values, these are equal just where the bits of all elements
+    /// are (`fixed`).
     ///
-    /// Where two reports have values, these are equal just where the bits of all elements are
-    /// (`fixed`).
+    /// # Errors
+    ///
+    /// - `OutOfBounds`: the field has a report id, and there are no bytes.
+    /// - `MismatchingReportId`: the field has a report id, and the first byte is another.
+    /// - `OutOfBounds`: an element has no bits or more than 32, or ends after the bytes.
+    /// - `OutOfMemory`: memory for the values is refused.
+    ///
+    /// # Examples
+    ///
+    /// ```rust
+    /// use hidreport::{Field, Report, ReportDescriptor};
+    ///
+    /// let bytes = b"\x05\x09\x19\x01\x29\x08\x15\x00\x25\x07\x75\x08\x95\x01\x81\x00";
+    /// let descriptor = ReportDescriptor::try_from(alloc, bytes)?;
+    /// let report = descriptor.input_reports().first().ok_or("no report")?;
+    /// let mut usages = Vec::new(alloc);
+    /// if let Some(Field::Array(buttons)) = report.fields().first() {
+    ///     for value in buttons.extract(b"\x02")? {
+    ///         usages.push(buttons.usage_of(value).map(u32::from))?;
+    ///     }
+    /// }
+    /// assert_eq!(rt; usages.as_slice(), [Some(0x0009_0003)].as_slice());
+    /// ```
     pub fn extract(&self, bytes: &[u8]) -> Result<Vec<FieldValue>, ParserError>
         ensures answer { AnswersBy (λ values. values.items) result
             (reads (array_record self.now) bytes.now) }
@@ -203,12 +231,15 @@ impl ArrayField {
         check_id(self.report_id, bytes).and_then(|()| self.elements(bytes))
     }
 
-    /// The value of element `idx`, counted from 0, in a report that has these bytes (Section 5.8).
+    /// Reads the value of element `idx`, counted from 0, from the bytes of a report (Section 5.8);
+    /// takes no memory.
     ///
-    /// An `idx` that isn't below the count is `OutOfBounds`. Then, for a field with a report id, no
-    /// bytes are `OutOfBounds`, and another first byte is `MismatchingReportId`. Then an element of
-    /// 0 bits, one of more than 32 and one that ends behind the bytes are `OutOfBounds`. It takes
-    /// no memory.
+    /// # Errors
+    ///
+    /// - `OutOfBounds`: `idx` isn't below the count.
+    /// - `OutOfBounds`: the field has a report id, and there are no bytes.
+    /// - `MismatchingReportId`: the field has a report id, and the first byte is another.
+    /// - `OutOfBounds`: the element has no bits or more than 32, or ends after the bytes.
     pub fn extract_one(&self, bytes: &[u8], idx: usize) -> Result<FieldValue, ParserError>
         ensures answer { Answers result (reads_element (array_record self.now) bytes.now idx) }
         ensures named { IfErr result IsOfReading }
@@ -222,20 +253,22 @@ impl ArrayField {
             .ok_or(ParserError::OutOfBounds)
     }
 
-    /// Writes the value of element `index`, counted from 0, into a report that has these bytes: the
-    /// element's bits become those of the value in two's complement, the lowest first, and no
-    /// other bit changes (Section 5.8).
+    /// Writes the value of element `index`, counted from 0, into the bytes of a report
+    /// (Section 5.8); takes no memory.
     ///
-    /// What can't be read can't be written: an index that isn't below the count is `OutOfBounds`,
-    /// then `OutOfBounds` and `MismatchingReportId` come as for `extract_one`. An element that
-    /// begins in the byte of the report's id is `OutOfBounds`, too. Then a value that so many bits
-    /// don't hold, signed or not as the field is, is `DoesNotFit`; one outside the logical bounds
-    /// is written, since it stands for no usage. A refusal leaves the bytes as they were. It takes
-    /// no memory.
+    /// The element's bits become those of the value in two's complement, the lowest first, and no
+    /// other bit changes. A value outside the logical bounds is written, since it stands for no
+    /// usage. What was written is read again, all other bits, the other elements and the report's
+    /// other fields stay, and of two writes the second counts (`laws`); to write what was read
+    /// changes nothing (`again`).
     ///
-    /// What was written is read again, all other bits, the other elements and the report's other
-    /// fields stay, and of two writes the second counts (`laws`); to write what was read changes
-    /// nothing (`again`).
+    /// # Errors
+    ///
+    /// The bytes stay as they were.
+    ///
+    /// - What `extract_one` refuses, in its order: `OutOfBounds`, `MismatchingReportId`.
+    /// - `OutOfBounds`: the field has a report id, and the element begins in the byte of the id.
+    /// - `DoesNotFit`: the element's bits don't hold the value, signed or not as the field is.
     pub fn insert_one(&self, bytes: &mut [u8], index: usize, value: i64) -> Result<(), InsertError>
         ensures answer { Inserts result bytes.old bytes.new
             (written_element (array_record self.now) index value bytes.old) }
@@ -247,19 +280,40 @@ impl ArrayField {
         self.put_element(bytes, index, value)
     }
 
-    /// Writes the values of all elements, in order, into a report that has these bytes: the bits of
-    /// the elements become those of the values in two's complement, the lowest first, and no other
-    /// bit changes (Section 5.8).
+    /// Writes the values of all elements, in order, into the bytes of a report (Section 5.8); takes
+    /// no memory.
     ///
-    /// More or fewer values than the field's count are `WrongCount`, before anything else. What
-    /// can't be read can't be written: `OutOfBounds` and `MismatchingReportId` come as for
-    /// `extract`. A range that begins in the byte of the report's id is `OutOfBounds`, too. Then,
-    /// where so many bits don't hold one of the values, signed or not as the field is, it is
-    /// `DoesNotFit`; one outside the logical bounds is written, since it stands for no usage. A
-    /// refusal leaves the bytes as they were. It takes no memory.
+    /// The bits of the elements become those of the values in two's complement, the lowest first,
+    /// and no other bit changes. A value outside the logical bounds is written, since it stands for
+    /// no usage. What was written is read again, all other bits and the report's other fields stay,
+    /// and of two writes the second counts (`laws`); to write what was read changes nothing
+    /// (`again`).
     ///
-    /// What was written is read again, all other bits and the report's other fields stay, and of
-    /// two writes the second counts (`laws`); to write what was read changes nothing (`again`).
+    /// # Errors
+    ///
+    /// The bytes stay as they were.
+    ///
+    /// - `WrongCount`: there are more or fewer values than the field's count.
+    /// - What `extract` refuses, in its order: `OutOfBounds`, `MismatchingReportId`.
+    /// - `OutOfBounds`: the field has a report id, and its bits begin in the byte of the id.
+    /// - `DoesNotFit`: an element's bits don't hold its value, signed or not as the field is.
+    ///
+    /// # Examples
+    ///
+    /// ```rust
+    /// use hidreport::{Field, InsertError, Report, ReportDescriptor, Usage};
+    ///
+    /// let bytes = b"\x05\x09\x19\x01\x29\x08\x15\x00\x25\x07\x75\x08\x95\x01\x81\x00";
+    /// let descriptor = ReportDescriptor::try_from(alloc, bytes)?;
+    /// let report = descriptor.input_reports().first().ok_or("no report")?;
+    /// let mut bytes = report.blank(alloc)?;
+    /// if let Some(Field::Array(buttons)) = report.fields().first() {
+    ///     let value = buttons.value_of(Usage::from(0x0009_0003)).ok_or("no value")?;
+    ///     buttons.insert(&mut bytes, &[value])?;
+    ///     assert_eq!(rt; buttons.insert(&mut bytes, &[]), Err(InsertError::WrongCount));
+    /// }
+    /// assert_eq!(rt; bytes.as_slice(), b"\x02".as_slice());
+    /// ```
     pub fn insert(&self, bytes: &mut [u8], values: &[i64]) -> Result<(), InsertError>
         ensures answer { Inserts result bytes.old bytes.new
             (written (array_record self.now) values.now bytes.old) }
@@ -271,9 +325,12 @@ impl ArrayField {
         self.put_elements(bytes, values)
     }
 
-    /// The same field once more, with a list of usages of its own; both share the list of
-    /// collections. An `AllocError` comes where memory for the usages is refused, or where that
-    /// list would have 2^63 owners.
+    /// A copy of the field with a list of usages of its own; both share the list of collections.
+    ///
+    /// # Errors
+    ///
+    /// - `AllocError`: memory for the usages is refused, or the list of collections would have 2^63
+    ///   owners.
     pub fn clone(&self) -> Result<ArrayField, AllocError>
         ensures { IfOk result (λ copy. array_record copy ≡ array_record self.now) }
     {

@@ -1,3 +1,4 @@
+//! Collections.
 ghost use Rattle.std.specs.Prelude.{◌≡◌, ◌↔◌, nat_eq, IfOk, IsTrue};
 ghost use Rattle.std.specs.Cmp.Rules.{comparing, hashing};
 ghost use Rattle.std.specs.Hash as fed;
@@ -34,7 +35,7 @@ impl CollectionId {
         CollectionId(number)
     }
 
-    /// The same id once more. It takes no memory.
+    /// A copy of the id; takes no memory.
     pub fn clone(&self) -> CollectionId
         ensures { result ≡ self.now }
     {
@@ -99,7 +100,7 @@ pub(crate) enum CollectionParts {
     List(CollectionItem, CollectionId, ArcSlice<Usage>),
 }
 
-/// A group of fields that belong together (Section 6.2.2.6).
+/// A collection: a group of fields that belong together (Section 6.2.2.6).
 ///
 /// Two collections are equal where their ids are.
 #[derive(Debug, Drop)]
@@ -142,7 +143,7 @@ impl Collection {
         }
     }
 
-    /// The collection's number.
+    /// The collection's number, counted from 0 in the order of the descriptor.
     pub fn id(&self) -> &CollectionId
         ensures { result.now ≡ self.now.id }
     {
@@ -152,7 +153,7 @@ impl Collection {
         }
     }
 
-    /// What the collection's fields have in common.
+    /// The kind of the collection: what its fields have in common (Section 6.2.2.6).
     pub fn collection_type(&self) -> CollectionItem
         ensures { result ≡ self.now.kind }
     {
@@ -162,7 +163,7 @@ impl Collection {
         }
     }
 
-    /// The collection's usages, in the order of the descriptor.
+    /// The collection's usages, in the order of the descriptor (Section 6.2.2.8).
     pub fn usages(&self) -> &[Usage]
         ensures { result.now ≡ self.now.usages }
     {
@@ -172,8 +173,10 @@ impl Collection {
         }
     }
 
-    /// How many of the outermost collections two lists have in common: what lies behind them in
-    /// the first is closed, and in the second opened, on the way from one field to another.
+    /// How many of the outermost collections two lists have in common (Section 6.2.2.6).
+    ///
+    /// On the way from one field to another, what comes after them in the first list is closed, and
+    /// in the second opened.
     pub fn shared(before: &[Collection], around: &[Collection]) -> usize
         ensures { result ≡ shared before.now around.now }
     {
@@ -188,8 +191,10 @@ impl Collection {
         count
     }
 
-    /// Whether another collection is the same in all parts: its id, its kind and its usages. It
-    /// takes no memory. `==` compares ids alone.
+    /// Whether another collection is the same in all parts: its id, its kind and its usages; takes
+    /// no memory.
+    ///
+    /// `==` compares ids alone.
     pub fn is_alike(&self, other: &Collection) -> bool
         ensures { IsTrue result ↔ (self.now ≡ other.now) }
     {
@@ -213,8 +218,11 @@ impl Collection {
         true
     }
 
-    /// The same collection once more; both share the list of usages. It takes no memory; an
-    /// `AllocError` comes only where that list would have 2^63 owners.
+    /// A copy of the collection, which takes no memory: both share the list of usages.
+    ///
+    /// # Errors
+    ///
+    /// - `AllocError`: the list of usages would have 2^63 owners.
     pub fn clone(&self) -> Result<Collection, AllocError>
         ensures { IfOk result (λ copy. copy ≡ self.now) }
     {

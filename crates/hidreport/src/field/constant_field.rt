@@ -1,3 +1,4 @@
+//! Constant fields.
 ghost use Rattle.std.specs.Prelude.{◌≡◌, []};
 
 use crate::field::FieldId;
@@ -5,25 +6,26 @@ use crate::field::usage::Usage;
 use hidreport_types::ReportId;
 use std::ops::Range;
 
-/// Padding: bits of a report that say nothing (Section 6.2.2.4).
+/// Padding: bits of a report that say nothing (Section 6.2.2.5).
 #[derive(Debug, Drop)]
 pub struct ConstantField {
     pub(crate) id: FieldId,
     pub(crate) report_id: Option<ReportId>,
 
-    /// The field's bits in its report: from the first up to the one behind the last.
+    /// The field's bits in its report, counted from 0, the byte of its id among them: from the
+    /// first up to the one after the last.
     pub bits: Range<usize>,
 }
 
 impl ConstantField {
-    /// The field's usages: padding has none, so they are the empty slice.
+    /// The usages of padding, which has none: the empty slice.
     pub fn usages(&self) -> &[Usage]
         ensures { result.now ≡ [] }
     {
         &[]
     }
 
-    /// The same field once more. It takes no memory.
+    /// A copy of the field; takes no memory.
     pub fn clone(&self) -> ConstantField
         ensures { result ≡ self.now }
     {

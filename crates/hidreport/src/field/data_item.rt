@@ -1,3 +1,4 @@
+//! Directions, and the main items that make fields.
 ghost use Rattle.std.specs.Prelude.{◌≡◌, ◌↔◌, false, IsTrue};
 ghost use Rattle.hidreport_items.specs.declared.item.ItemType.TheVariants as item;
 ghost use Rattle.hidreport_items.specs.declared.main_item.MainItem.TheVariants as main;
@@ -10,10 +11,10 @@ use hidreport_items::{FeatureItem, InputItem, MainDataItem, OutputItem};
 /// The three directions in which reports go (Section 6.2.2.4).
 #[derive(Clone, Copy, Debug, PartialEq, Eq)]
 pub enum Direction {
-    /// From the device.
+    /// From the device to the host.
     Input,
 
-    /// From the host.
+    /// From the host to the device.
     Output,
 
     /// Both ways, apart from the two streams.
@@ -21,7 +22,7 @@ pub enum Direction {
 }
 
 impl Direction {
-    /// All three, in the order in which `ReportDescriptor` has their reports.
+    /// All three directions, in the order in which `ReportDescriptor` has their reports.
     pub const ALL: [Direction; 3] = [Direction::Input, Direction::Output, Direction::Feature];
 }
 

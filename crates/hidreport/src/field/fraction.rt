@@ -2,13 +2,13 @@
 ghost use Rattle.std.specs.Prelude.{◌≡◌, ◌≤◌, ◌^◌, ◌*ℤ◌, ◌-ℤ◌, ◌+ℤ◌, unsigned_abs};
 ghost use Rattle.hidreport.specs.Scaling.{on_line};
 
-/// A number as a fraction, which isn't in its lowest terms always.
+/// A number as a fraction, which isn't always in its lowest terms.
 #[derive(Clone, Copy, Debug)]
 pub struct Fraction {
     /// The number above the line.
     pub numerator: i128,
 
-    /// The number below it, which is above 0 in all answers of this library.
+    /// The number below the line, which is above 0 in all answers of this library.
     pub denominator: i128,
 }
 

@@ -1,6 +1,7 @@
+//! The errors of calls that write values.
 use thiserror::Error;
 
-/// Why a value isn't written to a report's bytes; they are as they were.
+/// Why a value isn't written to the bytes of a report, which stay as they were (Section 5.8).
 #[derive(Clone, Copy, Debug, PartialEq, Eq, Error)]
 pub enum InsertError {
     /// The field has no such element, its bits are none or more than 32, they don't lie in the

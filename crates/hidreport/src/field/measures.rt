@@ -1,3 +1,4 @@
+//! The bounds and the unit of fields.
 ghost use Rattle.std.specs.Prelude.{◌≡◌, ◌↔◌, IsTrue};
 
 use hidreport_types::{

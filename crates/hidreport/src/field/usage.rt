@@ -1,17 +1,19 @@
+//! Usages.
 ghost use Rattle.std.specs.Prelude.{◌≡◌, ◌↔◌, IsTrue};
 ghost use Rattle.hidreport.specs.UsageNumber.{usage_number, numbered_usage};
 
 use hidreport_types::{UsageId, UsageMaximum, UsageMinimum, UsagePage};
 
-/// What a control is for: a usage page and a usage within it, 16 bits each (Section 5.5).
+/// A usage, what a control is for: a usage page and a usage id within it, 16 bits each
+/// (Section 5.5).
 ///
-/// As one number the page is the upper half.
+/// As one number, by `u32::from` and `Usage::from`, the page is the upper half.
 #[derive(Clone, Copy, Debug, PartialEq)]
 pub struct Usage {
-    /// The page.
+    /// The usage page.
     pub usage_page: UsagePage,
 
-    /// The usage within the page.
+    /// The usage id, within the page.
     pub usage_id: UsageId,
 }
 

@@ -1,3 +1,4 @@
+//! Ranges of usages.
 ghost use Rattle.std.specs.Prelude.{◌≡◌, IfSome, option_copied};
 ghost use Rattle.hidreport.specs.UsageNumber.{usage_number};
 ghost use Rattle.hidreport.specs.UsageRange.{is_id_within, usage_within, usage_with_id};
@@ -32,24 +33,24 @@ impl UsageRange {
         UsageRange { first, last }
     }
 
-    /// The first usage, its page in the upper 16 bits.
+    /// The first usage as a number, its page in the upper 16 bits (Section 6.2.2.8).
     pub fn minimum(&self) -> UsageMinimum
         ensures { result ≡ usage_number self.now.first }
     {
         UsageMinimum::from(&self.first)
     }
 
-    /// The last usage, its page in the upper 16 bits.
+    /// The last usage as a number, its page in the upper 16 bits (Section 6.2.2.8).
     pub fn maximum(&self) -> UsageMaximum
         ensures { result ≡ usage_number self.now.last }
     {
         UsageMaximum::from(&self.last)
     }
 
-    /// The usage itself, where it lies in the range (Section 6.2.2.8).
+    /// The usage itself, where it lies in the range; else `None` (Section 6.2.2.8).
     ///
-    /// That is where its page is the range's and its id is none below the minimum's and none above
-    /// the maximum's; else `None`.
+    /// It lies there where its page is the range's and its id is none below the minimum's and none
+    /// above the maximum's.
     pub fn lookup_usage<'a>(&self, usage: &'a Usage) -> Option<&'a Usage>
         ensures lookup { option_copied result ≡ usage_within self.now usage.now }
         ensures itself { IfSome result (λ found. found.now ≡ usage.now) }
@@ -61,7 +62,7 @@ impl UsageRange {
         }
     }
 
-    /// The usage with this id on the range's page, where the id lies in the range, and else `None`
+    /// The usage with this id on the range's page, where the id lies in the range; else `None`
     /// (Section 6.2.2.8).
     pub fn lookup_id(&self, id: UsageId) -> Option<Usage>
         ensures { result ≡ usage_with_id self.now id }

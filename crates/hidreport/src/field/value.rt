@@ -1,3 +1,4 @@
+//! Values that are read from reports.
 ghost use Rattle.std.specs.Prelude.{◌≡◌, ◌≢◌, true, Err, Ok, ◌+◌, ◌*◌, ◌<◌, ◌≤◌, ◌/◌, ◌%◌, ◌^◌};
 ghost use Rattle.std.specs.Prelude.{length, IfErr, IfSome, IsNone};
 ghost use Rattle.std.specs.Int.{w8, w16, w32, cast_signed};
@@ -13,9 +14,9 @@ use hidreport_types::ReportId;
 use std::marker::Model;
 use std::ops::Range;
 
-/// A value that was read from a report: 32 bits, and whether they are signed.
+/// A value that was read from a report (Section 5.8): 32 bits, and whether they are signed.
 ///
-/// The numbers of other types are its low bits.
+/// `i64::from` gives the number itself; the numbers of other types are its low bits.
 #[derive(Clone, Copy, Debug)]
 pub struct FieldValue {
     is_signed: bool,
@@ -33,10 +34,20 @@ impl Model for FieldValue {
 }
 
 impl FieldValue {
-    /// The value of a range of bits in these bytes, counted from the lowest bit of the first byte
-    /// on (Section 5.8): what `extract` reads where no report id is in the way. `None` where the
-    /// range is empty or reversed, has more than 32 bits, or ends behind the bytes. It takes no
-    /// memory.
+    /// Reads the value of a range of bits in these bytes, counted from the lowest bit of the first
+    /// byte on (Section 5.8); takes no memory.
+    ///
+    /// It is what `extract` reads where no report id is in the way. It is `None` where the range is
+    /// empty or reversed, has more than 32 bits, or ends after the bytes.
+    ///
+    /// # Examples
+    ///
+    /// ```rust
+    /// use hidreport::FieldValue;
+    ///
+    /// let value = FieldValue::from_bits(b"\x05\xfb", &(8..16), true).ok_or("no bits")?;
+    /// assert_eq!(rt; i64::from(value), -5);
+    /// ```
     pub fn from_bits(bytes: &[u8], bits: &Range<usize>, is_signed: bool) -> Option<FieldValue>
         ensures value { IfSome result (λ value.
             read_bits bits.now.start bits.now.end is_signed bytes.now ≡ Ok value) }

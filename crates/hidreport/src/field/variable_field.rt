@@ -1,3 +1,4 @@
+//! Variable fields.
 ghost use Rattle.std.specs.Prelude.{◌≡◌, ◌≢◌, [], ◌∷◌, pos, int_lt, ◌&&◌, IfErr, IfOk, OnOk};
 ghost use Rattle.std.specs.Ordering.{int_eq};
 ghost use Rattle.hidreport_lists.specs.Answer.{AnswersBy, IsOfReading};
@@ -34,52 +35,76 @@ pub struct VariableField {
     pub(crate) id: FieldId,
     pub(crate) report_id: Option<ReportId>,
 
-    /// The field's bits in its report: from the first up to the one behind the last.
+    /// The field's bits in its report, counted from 0, the byte of its id among them: from the
+    /// first up to the one after the last.
     pub bits: Range<usize>,
 
-    /// What the value is for.
+    /// What the value is for (Section 6.2.2.8).
     pub usage: Usage,
 
-    /// The least value; the field is signed where it is below 0.
+    /// The least value (Section 6.2.2.7); the field is signed where it is below 0.
     pub logical_minimum: LogicalMinimum,
 
-    /// The greatest value.
+    /// The greatest value (Section 6.2.2.7).
     pub logical_maximum: LogicalMaximum,
 
-    /// What the least value stands for; 0 where only the other physical bound was set.
+    /// What the least value stands for (Section 6.2.2.7); 0 where only the other physical bound was
+    /// set.
     pub physical_minimum: Option<PhysicalMinimum>,
 
-    /// What the greatest value stands for; 0 where only the other physical bound was set.
+    /// What the greatest value stands for (Section 6.2.2.7); 0 where only the other physical bound
+    /// was set.
     pub physical_maximum: Option<PhysicalMaximum>,
 
-    /// The unit of the physical bounds.
+    /// The unit of the physical bounds (Section 6.2.2.7).
     pub unit: Option<Unit>,
 
-    /// The power of ten of the unit.
+    /// The power of ten of the unit (Section 6.2.2.7).
     pub unit_exponent: Option<UnitExponent>,
 
-    /// The collections that the field lies in, outermost first; the fields of an item share them.
+    /// The collections that the field lies in, outermost first (Section 6.2.2.6); the fields of an
+    /// item share them.
     pub collections: ArcSlice<Collection>,
 
     pub(crate) item: DataItem,
 }
 
 impl VariableField {
-    /// Whether the value can be below 0: the logical minimum is.
+    /// Whether the value can be below 0: the logical minimum is (Section 6.2.2.7).
     pub fn is_signed(&self) -> bool
         ensures { result ≡ int_lt self.now.logical_minimum (pos 0) }
     {
         self.logical_minimum < LogicalMinimum::from(0)
     }
 
-    /// The field's value in a report that has these bytes (Section 5.8).
-    ///
-    /// For a field with a report id, no bytes are `OutOfBounds`, and another first byte is
-    /// `MismatchingReportId`. Then an empty or reversed range of bits, one of more than 32 bits
-    /// and one that ends behind the bytes are `OutOfBounds`. It takes no memory.
+    /// Reads the field's value from the bytes of a report (Section 5.8); takes no memory.
     ///
     /// Where two reports have values, these are equal just where all bits of the range are
     /// (`fixed`).
+    ///
+    /// # Errors
+    ///
+    /// - `OutOfBounds`: the field has a report id, and there are no bytes.
+    /// - `MismatchingReportId`: the field has a report id, and the first byte is another.
+    /// - `OutOfBounds`: the range of bits is empty or reversed, has more than 32 bits, or ends
+    ///   after the bytes.
+    ///
+    /// # Examples
+    ///
+    /// ```rust
+    /// use hidreport::{Field, Report, ReportDescriptor};
+    ///
+    /// let bytes = b"\x05\x01\x15\x81\x25\x7f\x75\x08\x95\x02\x09\x30\x09\x31\x81\x02";
+    /// let descriptor = ReportDescriptor::try_from(alloc, bytes)?;
+    /// let report = descriptor.find_input_report(b"\x05\xfb").ok_or("no report")?;
+    /// let mut values = Vec::new(alloc);
+    /// for field in report.fields() {
+    ///     if let Field::Variable(field) = field {
+    ///         values.push(i64::from(field.extract(b"\x05\xfb")?))?;
+    ///     }
+    /// }
+    /// assert_eq!(rt; values.as_slice(), [5, -5].as_slice());
+    /// ```
     pub fn extract(&self, bytes: &[u8]) -> Result<FieldValue, ParserError>
         ensures answer { AnswersBy (λ value. value ∷ []) result
             (reads (variable_record self.now) bytes.now) }
@@ -91,17 +116,37 @@ impl VariableField {
         read_bits(bytes, &self.bits, self.is_signed()).ok_or(ParserError::OutOfBounds)
     }
 
-    /// Writes the field's value into a report that has these bytes: its bits become those of the
-    /// value in two's complement, the lowest first, and no other bit changes (Section 5.8).
+    /// Writes the field's value into the bytes of a report (Section 5.8); takes no memory.
     ///
-    /// What can't be read can't be written: `OutOfBounds` and `MismatchingReportId` come as for
-    /// `extract`. A range that begins in the byte of the report's id is `OutOfBounds`, too. Then a
-    /// value that so many bits don't hold, signed or not as the field is, is `DoesNotFit`; one
-    /// outside the logical bounds is written, since it stands for no value. A refusal leaves the
-    /// bytes as they were. It takes no memory.
+    /// The field's bits become those of the value in two's complement, the lowest first, and no
+    /// other bit changes. A value outside the logical bounds is written, since it stands for no
+    /// value. What was written is read again, all other bits and the report's other fields stay,
+    /// and of two writes the second counts (`laws`); to write what was read changes nothing
+    /// (`again`).
     ///
-    /// What was written is read again, all other bits and the report's other fields stay, and of
-    /// two writes the second counts (`laws`); to write what was read changes nothing (`again`).
+    /// # Errors
+    ///
+    /// The bytes stay as they were.
+    ///
+    /// - What `extract` refuses, in its order: `OutOfBounds`, `MismatchingReportId`.
+    /// - `OutOfBounds`: the field has a report id, and its range begins in the byte of the id.
+    /// - `DoesNotFit`: so many bits don't hold the value, signed or not as the field is.
+    ///
+    /// # Examples
+    ///
+    /// ```rust
+    /// use hidreport::{Field, InsertError, Report, ReportDescriptor};
+    ///
+    /// let bytes = b"\x05\x01\x75\x04\x95\x01\x81\x01\x15\xf8\x25\x07\x09\x30\x81\x02";
+    /// let descriptor = ReportDescriptor::try_from(alloc, bytes)?;
+    /// let report = descriptor.input_reports().first().ok_or("no report")?;
+    /// let mut bytes = [0xff, 0x00];
+    /// if let Some(Field::Variable(field)) = report.fields().last() {
+    ///     field.insert(&mut bytes, -3)?;
+    ///     assert_eq!(rt; field.insert(&mut bytes, 8), Err(InsertError::DoesNotFit));
+    /// }
+    /// assert_eq!(rt; bytes, [0xdf, 0x00]);
+    /// ```
     pub fn insert(&self, bytes: &mut [u8], value: i64) -> Result<(), InsertError>
         ensures answer { Inserts result bytes.old bytes.new
             (written (variable_record self.now) (value ∷ []) bytes.old) }
@@ -130,9 +175,26 @@ impl VariableField {
     }
 
     /// What a value of the field stands for, in its unit times ten to its exponent
-    /// (Section 6.2.2.7): the logical bounds stand for the physical ones, and a value lies on the
-    /// line through both, beyond them too. Physical bounds that are both 0 or unset are the logical
-    /// ones. None where the logical minimum isn't below the maximum.
+    /// (Section 6.2.2.7).
+    ///
+    /// The logical bounds stand for the physical ones, and a value lies on the line through both,
+    /// beyond them too. Physical bounds that are both 0 or unset are the logical ones. It is `None`
+    /// where the logical minimum isn't below the maximum.
+    ///
+    /// # Examples
+    ///
+    /// ```rust
+    /// use hidreport::{Field, Report, ReportDescriptor};
+    ///
+    /// // Values from 0 to 255 stand for 0 to 360.
+    /// let bytes = b"\x05\x01\x09\x30\x26\xff\x00\x46\x68\x01\x75\x08\x95\x01\x81\x02";
+    /// let descriptor = ReportDescriptor::try_from(alloc, bytes)?;
+    /// let report = descriptor.input_reports().first().ok_or("no report")?;
+    /// if let Some(Field::Variable(field)) = report.fields().first() {
+    ///     let value = field.physical_value(128).ok_or("no value")?;
+    ///     assert_eq!(rt; (value.numerator, value.denominator), (46_080, 255));
+    /// }
+    /// ```
     pub fn physical_value(&self, value: i64) -> Option<Fraction>
         ensures { result ≡ physical_value (variable_attributes self.now) value }
     {
@@ -154,8 +216,11 @@ impl VariableField {
         }
     }
 
-    /// A value of the field between -1, its logical minimum, and 1, its logical maximum; beyond
-    /// them it goes on as it does between them. None where the minimum isn't below the maximum.
+    /// A value of the field between -1, its logical minimum, and 1, its logical maximum
+    /// (Section 6.2.2.7).
+    ///
+    /// Beyond them it goes on as it does between them. It is `None` where the minimum isn't below
+    /// the maximum.
     pub fn normalized(&self, value: i64) -> Option<Fraction>
         ensures { result ≡ normalized (variable_attributes self.now) value }
     {
@@ -164,8 +229,11 @@ impl VariableField {
         Fraction::on_line(value, low, high, -1, 1)
     }
 
-    /// The same field once more; both share the list of collections. It takes no memory; an
-    /// `AllocError` comes only where that list would have 2^63 owners.
+    /// A copy of the field, which takes no memory: both share the list of collections.
+    ///
+    /// # Errors
+    ///
+    /// - `AllocError`: the list of collections would have 2^63 owners.
     pub fn clone(&self) -> Result<VariableField, AllocError>
         ensures { IfOk result (λ copy. variable_record copy ≡ variable_record self.now) }
     {

@@ -1,3 +1,4 @@
+//! What a parse may still list.
 ghost use Rattle.std.specs.Option.{SomeIff};
 ghost use Rattle.std.specs.Prelude.{◌≡◌, ◌*◌, ◌-◌, ◌≤◌, ◌^◌, length};
 ghost use Rattle.hidreport.specs.Parser.Budget.{weight_of_each};

@@ -1,3 +1,4 @@
+//! Faults of meaning, and the errors that they become.
 ghost use Rattle.std.specs.Prelude.{◌≡◌, IfSome, None};
 ghost use Rattle.hidreport_lists.specs.Answer.{InvalidAt};
 ghost use Rattle.hidreport.specs.Meaning.{refusal_at};

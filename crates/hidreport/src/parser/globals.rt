@@ -1,3 +1,4 @@
+//! The values of global items in force (Section 6.2.2.7).
 use crate::field::measures::Measures;
 use crate::parser::extent::Extent;
 use hidreport_items::GlobalItem;

@@ -1,3 +1,4 @@
+//! The item state table (Section 6.2.2.7), and what each open Push keeps of it.
 use crate::parser::globals::Globals;
 use crate::parser::journal::{Change, Journal};
 use crate::parser::locals::Locals;

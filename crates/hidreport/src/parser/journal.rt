@@ -1,3 +1,4 @@
+//! What open Pushes keep, as a list of changes.
 use crate::parser::globals::Globals;
 use crate::parser::locals::Locals;
 use std::alloc::{AllocError, Global};

@@ -1,3 +1,4 @@
+//! A collection that is open (Section 6.2.2.6).
 use crate::field::collection::{Collection, CollectionId, CollectionUsages};
 use crate::parser::usage_bounds::UsageBounds;
 use crate::parser::usages::Usages;

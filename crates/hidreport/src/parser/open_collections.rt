@@ -1,3 +1,4 @@
+//! The collections that are open (Section 6.2.2.6).
 ghost use Rattle.std.specs.Prelude.{◌≡◌, IfOk};
 
 use crate::field::collection::Collection;

@@ -1,3 +1,4 @@
+//! Local items with their usage pages (Section 6.2.2.8).
 use hidreport_items::LocalItem;
 use hidreport_types::UsagePage;
 

@@ -1,3 +1,5 @@
+//! What a Push keeps.
+
 /// What a Push keeps for its Pop (Section 6.2.2.7).
 #[derive(Clone, Copy, Debug, PartialEq, Eq)]
 pub enum PushKeeps {

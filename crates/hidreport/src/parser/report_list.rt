@@ -1,3 +1,4 @@
+//! The reports of one direction so far (Section 5.6).
 ghost use Rattle.std.specs.Prelude.{◌≡◌, ◌+◌, ◌<◌, ◌^◌, OnOk};
 
 use crate::parser::layout::Layout;

@@ -1,3 +1,4 @@
+//! The reports of the three directions so far (Section 5.6).
 use crate::field::data_item::Direction;
 use crate::parser::layout::Layout;
 use crate::parser::report_list::ReportList;

@@ -1,3 +1,4 @@
+//! What the parser knows between two items.
 ghost use Rattle.std.specs.Prelude.{◌≡◌, ◌≢◌, ◌+◌, ◌*◌, ◌<◌, ◌≤◌, ◌^◌, None, IfOk, IfErr};
 ghost use Rattle.std.specs.Prelude.{OnOk};
 ghost use Rattle.hidreport.specs.Parser.Refusals.{IsFaultOf, fault_named};

@@ -1,3 +1,4 @@
+//! Usages from a minimum to a maximum (Section 6.2.2.8).
 ghost use Rattle.std.specs.Prelude.{◌≡◌, ◌%◌, IfOk};
 ghost use Rattle.hidreport.specs.Usages.{make_usage};
 

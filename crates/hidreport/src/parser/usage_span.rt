@@ -1,3 +1,4 @@
+//! The usages of one local item, as hosts read them (Section 6.2.2.8).
 ghost use Rattle.std.specs.Prelude.{◌≡◌};
 
 use crate::field::usage::Usage;

@@ -1,3 +1,5 @@
+//! The rules by which usages are found.
+
 /// By which rule an item finds its usages among the local items before it (Section 6.2.2.8).
 #[derive(Clone, Copy, Debug, PartialEq, Eq)]
 pub enum UsagesBy {

@@ -5,29 +5,29 @@ ghost use Rattle.hidreport.specs.Repair.{change_in, change_of, change_view, join
 use hidreport_lists::{Mend, Piece};
 use std::alloc::{AllocError, Global};
 
-/// A place of a descriptor where something else stands after its repair.
+/// One change of a repair: other bytes at a place of the descriptor than before.
 #[derive(Debug, Drop)]
 pub struct Change {
     /// The offset of what stood there, in bytes from the descriptor's first.
     pub offset: usize,
 
-    /// The bytes that stood there, an item and all of it.
+    /// The bytes that stood there: one item, all of it.
     pub stood: Vec<u8>,
 
-    /// The bytes that stand there now, an item, or none where it was left out.
+    /// The bytes that stand there now: an item, or none where it was left out.
     pub stands: Vec<u8>,
 
-    /// Why.
+    /// Why the bytes were changed.
     pub mend: Mend,
 }
 
-/// A repaired descriptor.
+/// A repaired descriptor, and what was changed.
 #[derive(Debug, Drop)]
 pub struct Repaired {
-    /// Its bytes.
+    /// The bytes of the repaired descriptor.
     pub bytes: Vec<u8>,
 
-    /// What was changed, in the order of the offsets.
+    /// What was changed, in the order of the offsets; nothing where the bytes are as they were.
     pub changes: Vec<Change>,
 }
 

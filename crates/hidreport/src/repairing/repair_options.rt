@@ -7,20 +7,21 @@ use crate::parse_options::ParseOptions;
 use crate::parser::push_keeps::PushKeeps;
 use crate::parser::usages_by::UsagesBy;
 
-/// What `repair` mends, and how what it writes is read. The default mends what Linux's hid-core
-/// reads without asking, and reads as it does: a Push keeps globals alone, and usages are those that
-/// hosts read.
+/// What `repair` mends, and how what it writes is read.
+///
+/// The default mends what Linux's hid-core reads without asking, and reads as it does: a Push keeps
+/// globals alone, and usages are those that hosts read.
 #[derive(Clone, Copy, Debug, PartialEq, Eq)]
 pub struct RepairOptions {
     /// How the repaired descriptor is read.
     pub parse: ParseOptions,
 
-    /// Whether an item that is cut short is left out, with all bytes from there on. hid-core
+    /// Whether an item that is cut short is left out, with all bytes from there on; hid-core
     /// refuses it.
     pub leave_out_cut_short: bool,
 
     /// Whether a negative maximum is written as the same data without a sign, where no negative
-    /// minimum is in force. hid-core always reads it so.
+    /// minimum is in force; hid-core always reads it so.
     pub unsigned_maxima: bool,
 }
 

@@ -18,8 +18,9 @@ use std::alloc::{AllocError, Global};
 use std::marker::Model;
 use std::ops::Range;
 
-/// The fields that one main item makes, which lie side by side: they are said once for all of them,
-/// and none is listed (Section 6.2.2.4).
+/// The fields that one main item makes, said once for all of them (Section 6.2.2.4).
+///
+/// They lie side by side, and none is listed.
 #[derive(Drop)]
 pub struct Group {
     layout: Layout,
@@ -81,11 +82,12 @@ impl Group {
         self.layout.item.field_count(self.layout.count)
     }
 
-    /// Field number `index`, counted from 0; `None` where there are no more.
+    /// Field number `index` of the group, counted from 0; `None` where there are no more.
     ///
     /// # Errors
     ///
-    /// - `AllocError`: memory is refused, which the usages of an array take.
+    /// - `AllocError`: memory for the field's usages or collections is refused, or the list of
+    ///   collections would have 2^63 owners; padding takes no memory.
     pub fn field(&self, alloc: Global, index: usize) -> Result<Option<Field>, AllocError>
         ensures { IfOk result (λ field. option_map field_record field
             ≡ slice_get (group_fields self.now) index) }
@@ -107,7 +109,7 @@ impl Group {
         self.layout.first_bit
     }
 
-    /// How many bits an element has.
+    /// How many bits each element has.
     pub fn element_width(&self) -> usize
         ensures { result ≡ self.now.extent.size }
     {
@@ -121,7 +123,8 @@ impl Group {
         self.layout.count
     }
 
-    /// The bits of element `index`, counted from 0; `None` where there are no more.
+    /// The bits of element `index`, counted from 0, in their report: from the first up to the one
+    /// after the last; `None` where there are no more elements.
     pub fn bits(&self, index: usize) -> Option<Range<usize>>
         ensures some { IfSome result (λ bits.
             (bits.start ≡ self.now.beginning.first + index * self.now.extent.size)
@@ -134,14 +137,15 @@ impl Group {
         Some(self.layout.bits(index))
     }
 
-    /// Whether the fields are padding.
+    /// Whether the fields are padding (Constant, Section 6.2.2.5).
     pub fn is_constant(&self) -> bool
         ensures { result ≡ self.now.flags.constant }
     {
         self.layout.item.is_constant
     }
 
-    /// Whether each element is a field of its own, and else one field with all of them.
+    /// Whether each element is a field of its own (Variable, Section 6.2.2.5), and else one field
+    /// with all of them.
     pub fn is_variable(&self) -> bool
         ensures { result ≡ self.now.flags.variable }
     {
@@ -149,8 +153,9 @@ impl Group {
     }
 
     /// The usage of field `index`, counted from 0: the last one where there are fewer usages
-    /// (Section 6.2.2.8). An array's fields share them: element `index` isn't of this usage. `None`
-    /// where there is none, as of padding.
+    /// (Section 6.2.2.8); `None` where there is none, as of padding.
+    ///
+    /// An array's fields share them: element `index` isn't of this usage.
     pub fn usage(&self, index: usize) -> Option<Usage>
         ensures some { IfSome result (λ usage.
             usage ≡ usage_at self.now.usages.usages index) }
@@ -159,42 +164,44 @@ impl Group {
         self.usages.at(index)
     }
 
-    /// The least value; values are signed where it is below 0.
+    /// The least value (Section 6.2.2.7); values are signed where it is below 0.
     pub fn logical_minimum(&self) -> LogicalMinimum
         ensures { result ≡ self.now.shared.logical_minimum }
     {
         self.layout.measures.logical_minimum
     }
 
-    /// The greatest value.
+    /// The greatest value (Section 6.2.2.7).
     pub fn logical_maximum(&self) -> LogicalMaximum
         ensures { result ≡ self.now.shared.logical_maximum }
     {
         self.layout.measures.logical_maximum
     }
 
-    /// What the least value stands for; 0 where only the other physical bound was set.
+    /// What the least value stands for (Section 6.2.2.7); 0 where only the other physical bound was
+    /// set, `None` where neither was.
     pub fn physical_minimum(&self) -> Option<PhysicalMinimum>
         ensures { result ≡ self.now.shared.physical_minimum }
     {
         self.layout.measures.physical_minimum
     }
 
-    /// What the greatest value stands for; 0 where only the other physical bound was set.
+    /// What the greatest value stands for (Section 6.2.2.7); 0 where only the other physical bound
+    /// was set, `None` where neither was.
     pub fn physical_maximum(&self) -> Option<PhysicalMaximum>
         ensures { result ≡ self.now.shared.physical_maximum }
     {
         self.layout.measures.physical_maximum
     }
 
-    /// The unit of the physical bounds.
+    /// The unit of the physical bounds (Section 6.2.2.7); `None` where none was set.
     pub fn unit(&self) -> Option<Unit>
         ensures { result ≡ self.now.shared.unit }
     {
         self.layout.measures.unit
     }
 
-    /// The power of ten of the unit.
+    /// The power of ten of the unit (Section 6.2.2.7); `None` where none was set.
     pub fn unit_exponent(&self) -> Option<UnitExponent>
         ensures { result ≡ self.now.shared.unit_exponent }
     {

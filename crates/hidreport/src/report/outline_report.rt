@@ -12,7 +12,7 @@ use hidreport_types::ReportId;
 use std::alloc::{AllocError, Global};
 use std::marker::Model;
 
-/// A report that a descriptor announces, with its fields in groups.
+/// A report that a descriptor announces, with its fields in groups (Section 5.6).
 #[derive(Drop)]
 pub struct OutlineReport {
     pub(crate) id: Option<ReportId>,
@@ -37,7 +37,7 @@ impl OutlineReport {
     ghost use Rattle.std.specs.Prelude.{◌≡◌, ◌+◌, ◌/◌, IfOk};
     ghost use Rattle.hidreport.specs.Groups.{fields_of_groups};
 
-    /// The report's id, where it has one.
+    /// The report's id; `None` where it has none.
     pub fn report_id(&self) -> &Option<ReportId>
         ensures { result.now ≡ self.now.id }
     {
@@ -58,14 +58,15 @@ impl OutlineReport {
         self.size
     }
 
-    /// The same in bytes, rounded up.
+    /// The report's length in bytes, that of its id among them: its bits, rounded up to whole
+    /// bytes.
     pub fn size_in_bytes(&self) -> usize
         ensures { result ≡ (self.now.size + 7) / 8 }
     {
         self.size.div_ceil(8)
     }
 
-    /// The same report, its fields listed.
+    /// The same report with its fields listed.
     ///
     /// # Errors
     ///

@@ -78,6 +78,20 @@ impl Reader {
     /// - `MismatchingReportId`: the field has a report id, and the first byte is another.
     /// - `OutOfBounds`: the field has a report id, and there are no bytes; it ends behind the bytes;
     ///   or its values have no bits or more than 32, as `extract` refuses them, too.
+    ///
+    /// # Examples
+    ///
+    /// ```rust
+    /// use hidreport::{Reader, ReportDescriptor};
+    ///
+    /// let bytes = b"\x05\x01\x15\x81\x25\x7f\x75\x08\x95\x02\x09\x30\x09\x31\x81\x02";
+    /// let descriptor = ReportDescriptor::try_from(alloc, bytes)?;
+    /// let report = descriptor.input_reports().first().ok_or("no report")?;
+    /// let reader = Reader::new(alloc, report)?;
+    /// let mut values = [0; 2];
+    /// assert_eq!(rt; reader.read(b"\x05\xfb", &mut values)?, 2);
+    /// assert_eq!(rt; values, [5, -5]);
+    /// ```
     pub fn read(&self, bytes: &[u8], values: &mut [i64]) -> Result<usize, ParserError>
         ensures answer { ReadsInto result values.old values.new (runs_read self.now bytes.now) }
         ensures fields { (fields : List FieldRecord) → StandFor fields self.now
@@ -101,6 +115,20 @@ impl Reader {
     ///
     /// - `MismatchingReportId`: one of the fields has a report id, and the first byte is another;
     ///   `values` stay as they were.
+    ///
+    /// # Examples
+    ///
+    /// ```rust
+    /// use hidreport::{Reader, ReportDescriptor};
+    ///
+    /// let bytes = b"\x05\x01\x75\x08\x95\x02\x09\x30\x09\x31\x81\x02";
+    /// let descriptor = ReportDescriptor::try_from(alloc, bytes)?;
+    /// let report = descriptor.input_reports().first().ok_or("no report")?;
+    /// let reader = Reader::new(alloc, report)?;
+    /// let mut values = [0; 2];
+    /// assert_eq!(rt; reader.read_available(b"\x05", &mut values)?, 1);
+    /// assert_eq!(rt; values, [5, 0]);
+    /// ```
     pub fn read_available(&self, bytes: &[u8], values: &mut [i64]) -> Result<usize, ParserError>
         ensures answer { ReadsInto result values.old values.new
             (runs_available self.now bytes.now) }
@@ -135,6 +163,21 @@ impl Reader {
     /// - `MismatchingReportId`, `OutOfBounds`: what `read` says of the bytes.
     /// - `OutOfBounds`: a field with a report id begins in the byte of the id.
     /// - `DoesNotFit`: the bits of a value don't hold it, signed or not as its field is.
+    ///
+    /// # Examples
+    ///
+    /// ```rust
+    /// use hidreport::{InsertError, Reader, Report, ReportDescriptor};
+    ///
+    /// let bytes = b"\x05\x01\x75\x08\x95\x02\x09\x30\x09\x31\x81\x02";
+    /// let descriptor = ReportDescriptor::try_from(alloc, bytes)?;
+    /// let report = descriptor.input_reports().first().ok_or("no report")?;
+    /// let reader = Reader::new(alloc, report)?;
+    /// let mut bytes = report.blank(alloc)?;
+    /// reader.write(&mut bytes, &[5, 7])?;
+    /// assert_eq!(rt; reader.write(&mut bytes, &[256, 7]), Err(InsertError::DoesNotFit));
+    /// assert_eq!(rt; bytes.as_slice(), b"\x05\x07".as_slice());
+    /// ```
     pub fn write(&self, bytes: &mut [u8], values: &[i64]) -> Result<(), InsertError>
         ensures answer { Inserts result bytes.old bytes.new
             (runs_written self.now values.now bytes.old) }

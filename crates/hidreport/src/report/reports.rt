@@ -1,3 +1,4 @@
+//! The reports of the three directions, their fields listed.
 ghost use Rattle.std.specs.Prelude.{◌≡◌, Some, IfSome, option_copied};
 ghost use Rattle.hidreport.specs.Lookup.{IsOneWith, report_with};
 ghost use Rattle.hidreport.specs.Making.{same_key};
