@@ -279,10 +279,21 @@ fn number_at(bytes: &[u8], short: u64, first: usize, width: usize, is_signed: bo
     if !is_signed {
         return sum as i64;
     }
-    if sum < 1 << (width - 1) {
-        return sum as i64;
-    }
-    sum as i64 - (1 << width)
+    sum as i64 - excess(sum, width) as i64
+}
+
+/// What a signed number of so many bits is too great by as an unsigned one: 2 to their number where
+/// the top bit is set, else 0. There is no branch, as nothing foretells the top bits of a report.
+#[inline(always)]
+fn excess(sum: u64, width: usize) -> u64
+    requires some { 0 < width }
+    requires narrow { width ≤ 32 }
+    requires small { sum < 2 ^ width }
+    ensures clear { sum < 2 ^ (width - 1) → result ≡ 0 }
+    ensures set { 2 ^ (width - 1) ≤ sum → result ≡ 2 ^ width }
+    ensures most { result < 2 ^ 33 }
+{
+    sum >> (width - 1) << width
 }
 
 /// A few bits as one number, the first as the lowest: of eight bytes that have them all, or of all
