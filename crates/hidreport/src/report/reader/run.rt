@@ -223,9 +223,7 @@ impl Run {
         let is_signed = self.is_signed;
         for index in 0..room {
             let first = self.first + width * index;
-            let number = number_at(bytes, short, first, width, is_signed);
-            // The test in it keeps LLVM from shifts of vectors, which take longer than single ones.
-            set_at(values, place + index, number);
+            values[place + index] = number_at(bytes, short, first, width, is_signed);
         }
     }
 

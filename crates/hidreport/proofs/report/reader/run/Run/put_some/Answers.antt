@@ -10,11 +10,10 @@ pub loop-index-preserved : goal.loop-index-preserved
 loop-index-preserved c =
     let index = c.loop-index.index in
     let place = c.args.place in
-    let number = c.number_at-number.result in
+    let number = c.number_at.result in
     let fits : FitsSigned w64 number = search rules in
     let is : number ≡ number_at c.args.self.now c.args.bytes.now index = search rules in
-    c.set_at.ensures
-    ∙ ap (slice_set c.loop-index.values (place + index)) (to_z-of_z w64 number fits ∙ is)
+    ap (slice_set c.loop-index.values (place + index)) (to_z-of_z w64 number fits ∙ is)
     ∙ ap (λ l. slice_set l (place + index) (number_at c.args.self.now c.args.bytes.now index))
     c.loop-index.invariant
     ∙ sym (put-next c.args.self.now c.args.bytes.now index place c.args.values.now)
