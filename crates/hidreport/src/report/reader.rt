@@ -41,7 +41,8 @@ impl Model for Reader {
 impl Reader {
     /// A reader of a report's fields, in their order.
     ///
-    /// Memory is taken here alone, for each field that isn't padding.
+    /// Memory is taken here alone: once for fields of one width and sign that lie side by side, and
+    /// none for padding.
     ///
     /// # Errors
     ///
