@@ -1,6 +1,7 @@
 //! What the words of a command line ask for.
 use crate::commands::{
-    Check, Compile, Convert, Decode, Diff, Fields, List, Map, Record, Set, Target, Values, id_named,
+    Check, Compile, Convert, Decode, Diff, Fields, List, Map, Record, ReportTarget, Set, Target,
+    Values, id_named,
 };
 use crate::ending::Ending;
 use anyhow::{Result, bail};
@@ -167,7 +168,7 @@ fn set_of<'a>(alloc: Global, file: &'a str, matches: &ArgMatches<'a>) -> Result<
         id: id_named(matches.get_str("ID").unwrap_or("-"))?,
         words: words_of(alloc, "NAME=NUMBER", matches)?,
         direction: direction_of(matches),
-        target: target_of(matches),
+        target: ReportTarget::named(matches.get_str("to")),
         is_zero: matches.get_flag("zero"),
     })
 }

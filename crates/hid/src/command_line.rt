@@ -1,5 +1,5 @@
 //! The words that `hid` knows.
-use crate::commands::TARGETS;
+use crate::commands::{REPORT_TARGETS, TARGETS};
 use clap::{Arg, ArgAction, Command};
 use hid_input::input::FORM_WORDS;
 use std::alloc::{AllocError, Global};
@@ -37,8 +37,11 @@ enum Kind {
     /// Which way reports go.
     Direction,
 
-    /// What bytes are written as.
+    /// What a descriptor is written as.
     Target,
+
+    /// What a report is written as.
+    ReportTarget,
 
     /// A folder.
     Folder,
@@ -109,7 +112,9 @@ const FILE: Argument = ("FILE", Kind::Word, "The descriptor");
 
 const DIRECTION: Argument = ("direction", Kind::Direction, "Which way the reports go");
 
-const TARGET: Argument = ("to", Kind::Target, "What the bytes are written as");
+const WRITTEN_AS: &str = "What the bytes are written as";
+
+const TARGET: Argument = ("to", Kind::Target, WRITTEN_AS);
 
 /// Of `decode`, `fields` and `check`.
 static DECODE: [Argument; 1] = [FILE];
@@ -157,7 +162,7 @@ static SET: [Argument; 6] = [
         "A field's value, or a key of an array that is down (1)",
     ),
     DIRECTION,
-    TARGET,
+    ("to", Kind::ReportTarget, WRITTEN_AS),
     (
         "zero",
         Kind::Flag,
@@ -293,6 +298,7 @@ fn argument_of<'a>(alloc: Global, argument: Argument) -> Arg<'a> {
             .default_value("/sys")
             .global(true),
         Kind::Target => choice(arg, name, "TARGET", &TARGETS).default_value("hex"),
+        Kind::ReportTarget => choice(arg, name, "TARGET", &REPORT_TARGETS).default_value("hex"),
     }
 }
 

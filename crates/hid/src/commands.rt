@@ -33,7 +33,7 @@ pub use record::Record;
 pub use set::{Set, id_named};
 use std::alloc::Global;
 use std::rt::Files;
-pub use target::{TARGETS, Target};
+pub use target::{REPORT_TARGETS, ReportTarget, TARGETS, Target};
 pub use values::Values;
 
 /// How often a limit is doubled to find one that is enough.
