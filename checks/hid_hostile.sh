@@ -163,6 +163,7 @@ for shape in $shapes; do
         [ "${shape#long}" != "$shape" ] || run record $words mouse "$shape"
     done
     run compile "$shape"
+    run uhid "$shape"
 done
 
 # What lies behind a report's bytes is said once.

@@ -1,7 +1,7 @@
 #!/bin/bash
 # What `hid decode` writes is compiled to the same bytes: of each descriptor of the tree
 # (checks/hid_descriptors.sh), refused ones too. What `hid convert` writes of them is the same bytes
-# to others (checks/hid_written.py). Then what
+# to others (checks/hid_written.py), what `hid uhid` writes is events (checks/hid_uhid.sh). Then what
 # no stored run shows (checks/hid_runs.sh): a stream's times, and refusals for which it takes more
 # than a file. Its argument is the program; else it is the one that ./hid built.
 set -eu
@@ -63,6 +63,7 @@ if command -v python3 > /dev/null; then
 else
     echo 'hid_texts: no `python3` on the path, so nobody else reads what `hid convert` writes'
 fi
+bash "$top/checks/hid_uhid.sh" "$program"
 
 # hid-recorder's lines of a stream, whose time is its own.
 raw=$(echo 05 | "$program" record --raw "$top/crates/hid/data/axis.bytes" - 2> /dev/null |

@@ -149,6 +149,12 @@ static RECORD: [Argument; 4] = [
     ("raw", Kind::Flag, "Write hid-recorder's lines"),
 ];
 
+static UHID: [Argument; 1] = [(
+    "FILE",
+    Kind::Word,
+    "A recording of a device, or its descriptor",
+)];
+
 static SET: [Argument; 6] = [
     FILE,
     (
@@ -191,7 +197,7 @@ static DIFF: [Argument; 2] = [
 static LIST: [Argument; 0] = [];
 
 /// The commands, and what each is for.
-static COMMANDS: [(&str, &str); 11] = [
+static COMMANDS: [(&str, &str); 12] = [
     ("decode", "Shows the items of a descriptor in words"),
     (
         "fields",
@@ -201,6 +207,10 @@ static COMMANDS: [(&str, &str); 11] = [
     (
         "record",
         "Shows each report of a stream in a line, as it comes",
+    ),
+    (
+        "uhid",
+        "Writes a recording as events for Linux's /dev/uhid, without its times",
     ),
     ("set", "Writes the bytes of a report"),
     ("convert", "Writes a descriptor in another form"),
@@ -222,6 +232,7 @@ fn arguments_of(name: &str) -> &'static [Argument] {
     match name {
         "values" => &VALUES,
         "record" => &RECORD,
+        "uhid" => &UHID,
         "set" => &SET,
         "convert" => &CONVERT,
         "compile" => &COMPILE,

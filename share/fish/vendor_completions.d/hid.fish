@@ -1,5 +1,5 @@
 # Completions of `hid` for fish: an option in a line, with its values and what it is for.
-set -l commands decode fields values record set convert compile map diff check list
+set -l commands decode fields values record uhid set convert compile map diff check list
 
 # A command, where none stands yet, and behind help.
 set -l none "not __fish_seen_subcommand_from $commands help"
@@ -9,6 +9,7 @@ complete -c hid -n "$none" -a decode -d "Shows the items of a descriptor in word
 complete -c hid -n "$none" -a fields -d "Shows the reports of a descriptor and their fields"
 complete -c hid -n "$none" -a values -d "Shows the values of reports"
 complete -c hid -n "$none" -a record -d "Shows each report of a stream in a line, as it comes"
+complete -c hid -n "$none" -a uhid -d "Writes a recording as events for Linux's /dev/uhid, without its times"
 complete -c hid -n "$none" -a set -d "Writes the bytes of a report"
 complete -c hid -n "$none" -a convert -d "Writes a descriptor in another form"
 complete -c hid -n "$none" -a compile -d "Writes the descriptor that a text of hid decode says"
