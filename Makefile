@@ -73,7 +73,7 @@ install-library: $(BUILD)/libhidreport.a $(BUILD)/libhidreport.so
 install-programs: $(programs)
 	$(if $(programs),mkdir -p "$(into)/bin" "$(into)/share")
 	$(if $(programs),cp $(programs) "$(into)/bin/")
-	$(if $(programs),cp -r share/man share/bash-completion "$(into)/share/")
+	$(if $(programs),cp -r share/man share/bash-completion share/zsh share/fish "$(into)/share/")
 
 clean:
 	rm -rf $(BUILD)

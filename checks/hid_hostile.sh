@@ -150,7 +150,7 @@ for shape in $shapes; do
     run diff mouse "$shape"
     run set "$shape" - X=1
     run --lenient fields "$shape"
-    for to in hex c rust bytes recording; do
+    for to in hex c rust bytes recording kernel zephyr tinyusb libinput; do
         run convert --to "$to" "$shape"
     done
     for words in '' --json --down; do
@@ -163,6 +163,7 @@ for shape in $shapes; do
         [ "${shape#long}" != "$shape" ] || run record $words mouse "$shape"
     done
     run compile "$shape"
+    run uhid "$shape"
 done
 
 # What lies behind a report's bytes is said once.

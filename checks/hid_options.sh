@@ -1,8 +1,9 @@
 #!/bin/bash
 # The options of `hid`: those that share/help tells of each command (checks/hid_help.sh holds it to
-# the program), those of its page of man, and those that bash completes are the same, with their
-# values; so are its commands with their arguments. docs/HID.md names no other option. Then the
-# commands of `hidreport`, by its usage. It needs no program.
+# the program), those of its page of man, and those that bash, zsh and fish complete are the same,
+# with their values; so are its commands with their arguments. docs/HID.md names no other option.
+# Then the commands of `hidreport`, by its usage. It needs no program, and neither zsh nor fish: in
+# their files each option has a line, with the help's words for what it is for.
 set -euo pipefail
 
 top=$(cd "$(dirname "$0")/.." && pwd)
@@ -73,6 +74,54 @@ names() {
     sed 's/ .*//'
 }
 
+# The same with what each is for, as `--form bytes|hex|..: WHAT`; the commands, as `decode: WHAT`.
+described() {
+    sed -n '/^Options:$/,/^$/p' "$help/$1" | awk '
+        !/^ / { next }
+        {
+            values = / <[A-Z]+> / ? " VALUE" : ""
+            if (match($0, /\[possible values: .*\]$/)) {
+                values = " " substr($0, RSTART + 18, RLENGTH - 19)
+                gsub(/, /, "|", values)
+            }
+            what = $0
+            sub(/ \[(default|possible values): .*/, "", what)
+            sub(/.*  /, "", what)
+            if ($1 ~ /,$/) print substr($1, 1, 2) ": " what
+            match($0, /--[a-z-]+/)
+            print substr($0, RSTART, RLENGTH) values ": " what
+        }'
+}
+described_commands() {
+    sed -nE '/^Commands:/,/^$/s/^  ([a-z]+) +(.*)$/\1: \2/p' "$help/help"
+}
+
+# What a line of zsh's or fish's file completes: an option, and in zsh's one without a value first.
+of_zsh() {
+    sed -nE '
+        s/^ *"(--?[a-zA-Z-]+)\[([^]]*)\]"( \\)?$/\1: \2/p
+        s/^ *"(--?[a-zA-Z-]+)\[([^]]*)\]:[a-z]+:\(([^)]*)\)"$/\1 \3: \2/p
+        s/^ *"(--?[a-zA-Z-]+)\[([^]]*)\]:[a-z]+:[^(]*"$/\1 VALUE: \2/p' | barred
+}
+of_fish() {
+    sed -nE '
+        s/ -a "\(.*\)"//
+        s/^complete -c hid ((-n "[^"]*" )?)(-s ([a-zA-Z]) )?-l ([a-z-]+) (.*)$/\5 \6\n\4 \6/
+        s/\n .*//
+        s/(^|\n)([a-z-]+) -x -a "([^"]*)" -d "([^"]*)"/\1--\2 \3: \4/
+        s/(^|\n)([a-z-]+) -x -d "([^"]*)"/\1--\2 VALUE: \3/
+        s/^([a-z-]+) -d "([^"]*)"/--\1: \2/
+        s/\n([a-zA-Z]) -d "([^"]*)"/\n-\1: \2/
+        /^-/p' | barred
+}
+
+# Values with bars between them.
+barred() {
+    awk '{ place = index($0, ": "); option = substr($0, 1, place - 1); name = option
+        sub(/ .*/, "", name); values = substr(option, length(name) + 2); gsub(/ /, "|", values)
+        print name (values == "" ? "" : " " values) substr($0, place) }'
+}
+
 # The words that bash completes behind others, of which the last is begun.
 # shellcheck source=/dev/null
 . "$top/share/bash-completion/completions/hid"
@@ -114,11 +163,27 @@ same 'COMMANDS of hid.1' "$(
     echo 'help [COMMAND]'
 )" "$(entries COMMANDS)"
 
+# The same in the files of zsh and fish, with what each is for.
+zsh="$top/share/zsh/site-functions/_hid"
+fish="$top/share/fish/vendor_completions.d/hid.fish"
+same 'commands of zsh' "$(described_commands)" "$(sed -nE 's/^ *"([a-z]+):(.*)"$/\1: \2/p' "$zsh")"
+same 'commands of fish' "$(described_commands)" \
+    "$(sed -nE 's/^complete -c hid -n "\$none" -a ([a-z]+) -d "(.*)"$/\1: \2/p' "$fish")"
+same 'the list of commands of fish' "$commands" \
+    "$(sed -n 's/^set -l commands //p' "$fish" | tr ' ' '\n')"
+same 'options of all commands of zsh' "$(described help)" "$(sed '/^case /,$d' "$zsh" | of_zsh)"
+same 'options of all commands of fish' "$(described help)" \
+    "$(grep -v '"__fish_seen_subcommand_from ' "$fish" | of_fish)"
+
 told=$of_all
 for command in $commands; do
     of_it=$(helped "of_$command")
     same "options of all commands in the help of $command" \
         "$(grep -vxF -e -V -e --version <<< "$of_all")" "$(grep -xF -e "$of_all" <<< "$of_it")"
+    own=$(described "of_$command" | grep -vxF -e "$(described help)" || true)
+    same "options of $command of zsh" "$own" "$(sed -n "/^ *$command)\$/,/;;\$/p" "$zsh" | of_zsh)"
+    same "options of $command of fish" "$own" \
+        "$(grep "\"__fish_seen_subcommand_from $command\"" "$fish" | of_fish)"
     own=$(grep -vxF -e "$of_all" <<< "$of_it" || true)
     same "hid.1 of $command" "$(names <<< "$own")" "$(entry COMMANDS "$command" | options || true)"
     same "what is completed behind hid $command" "$(names <<< "$of_it")" \
@@ -158,4 +223,8 @@ same 'SYNOPSIS of hidreport.1' "$usage"$'\n--help' \
 same 'what is completed behind hidreport' "$(names <<< "$usage"; echo --help)" \
     "$(completed hidreport '')"
 same 'what is completed behind hidreport values' a_file "$(completed hidreport values '')"
+same 'commands of hidreport of zsh' "$(names <<< "$usage"; echo --help)" \
+    "$(sed -n 's/^commands=(\(.*\))$/\1/p' "${zsh}report" | tr ' ' '\n')"
+same 'commands of hidreport of fish' "$(names <<< "$usage")" \
+    "$(sed -n 's/^set -l commands //p' "${fish%.fish}report.fish" | tr ' ' '\n')"
 echo "hid_options: $answers lists of options, commands and values are the same"

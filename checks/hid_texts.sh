@@ -1,8 +1,9 @@
 #!/bin/bash
-# What `hid decode` writes is compiled to the same bytes: of each descriptor that the cases
-# (crates/hidreport_cases/data) ask about and of bench/descriptors, refused ones too; then what no
-# stored run shows (checks/hid_runs.sh): a stream's times, and refusals for which it takes more than
-# a file. Its argument is the program; else it is the one that ./hid built.
+# What `hid decode` writes is compiled to the same bytes: of each descriptor of the tree
+# (checks/hid_descriptors.sh), refused ones too. What `hid convert` writes of them is the same bytes
+# to others (checks/hid_written.py), what `hid uhid` writes is events (checks/hid_uhid.sh). Then what
+# no stored run shows (checks/hid_runs.sh): a stream's times, and refusals for which it takes more
+# than a file. Its argument is the program; else it is the one that ./hid built.
 set -eu
 
 top=$(cd "$(dirname "$0")/.." && pwd)
@@ -14,31 +15,7 @@ program=${1:-$top/crates/hid/out/hid}
 scratch=$(mktemp -d)
 trap 'rm -rf "$scratch"' EXIT
 
-# A descriptor in a line, and 1 where its case says that it is refused, 0 where it says what is
-# read, by a Push that keeps all and the standard's usages; else -. Bytes that are written as a
-# number of times are left out.
-{
-    awk '
-        function asks(bytes, status) {
-            gsub(/ /, "", bytes)
-            if (bytes !~ /^([0-9a-f][0-9a-f])+$/) return
-            if (!(bytes in said) || said[bytes] == "-") said[bytes] = status
-        }
-        within { asks(within, /^  refused/ ? 1 : 0); within = "" }
-        /^(parse|shape) / { within = $0; sub(/^[a-z]* /, "", within) }
-        /^(parse-globals|list|rebuild|many) / { sub(/^[a-z-]* /, ""); asks($0, "-") }
-        /^(parse|many)-within / { sub(/^[a-z-]* [0-9]+ /, ""); asks($0, "-") }
-        /^(repair|alike) / {
-            sub(/^repair [^\/]*\/|^alike /, "")
-            split($0, both, "/")
-            for (it in both) asks(both[it], "-")
-        }
-        END { for (bytes in said) print bytes, said[bytes] }' \
-        "$top"/crates/hidreport_cases/data/*.txt
-    for file in "$top"/bench/descriptors/*.txt; do
-        echo "$(sed 's/#.*//' "$file" | tr -d ' \n')" 0
-    done
-} | LC_ALL=C sort -u > "$scratch/descriptors"
+bash "$top/checks/hid_descriptors.sh" > "$scratch/descriptors"
 
 # The text of a descriptor, and the status.
 decode() {
@@ -81,6 +58,12 @@ known=$(grep -c '[01]$' "$scratch/descriptors")
     exit 1
 }
 echo "hid_texts: $asked descriptors, $refused refused, decoded and compiled to the same bytes"
+if command -v python3 > /dev/null; then
+    cut -d ' ' -f 1 "$scratch/descriptors" | python3 "$top/checks/hid_written.py" "$program"
+else
+    echo 'hid_texts: no `python3` on the path, so nobody else reads what `hid convert` writes'
+fi
+bash "$top/checks/hid_uhid.sh" "$program"
 
 # hid-recorder's lines of a stream, whose time is its own.
 raw=$(echo 05 | "$program" record --raw "$top/crates/hid/data/axis.bytes" - 2> /dev/null |

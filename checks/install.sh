@@ -122,13 +122,16 @@ END
         > "$1/share/man/man3/hidreport.3"
 }
 wanted_programs() {
-    mkdir -p "$1/bin" "$1/share/man/man1" "$1/share/bash-completion/completions"
+    local shells='bash-completion/completions zsh/site-functions fish/vendor_completions.d' shell
+    mkdir -p "$1/bin" "$1/share/man/man1"
+    for shell in $shells; do
+        mkdir -p "$1/share/$shell"
+        cp "$top/share/$shell"/* "$1/share/$shell"
+    done
     for program in hid hidreport; do
         echo "mark: $2 $program" > "$1/bin/$program"
         chmod +x "$1/bin/$program"
         cp "$top/share/man/man1/$program.1" "$1/share/man/man1"
-        cp "$top/share/bash-completion/completions/$program" \
-            "$1/share/bash-completion/completions"
     done
 }
 
@@ -216,8 +219,10 @@ diff "$scratch/installed" - <<< "$head" >> "$scratch/out" ||
 of_c=$(sed -n '/^PREFIX then has/,/^$/p' "$top/docs/C.md" | told)
 [ "$of_c" = "$(grep -E '^(include|lib|share/(hidreport|man/man3))/?' <<< "$head")" ] ||
     wrong 'docs/C.md tells of other files'
-of_programs=$(tr '\n' ' ' < "$top/docs/HID.md" | grep -oE '`./install PREFIX programs` [^.]*\.')
-[ "$(told <<< "$of_programs")" = "$(grep -E '^(bin|share/(man/man1|bash-))' <<< "$head")" ] ||
+of_programs=$(tr '\n' ' ' < "$top/docs/HID.md" |
+    grep -oE '`./install PREFIX programs` ([^.]|\.[^ ])*\. ')
+programs_head=$(grep -E '^(bin|share/(man/man1|bash-|zsh|fish))' <<< "$head")
+[ "$(told <<< "$of_programs")" = "$programs_head" ] ||
     wrong 'docs/HID.md tells of other files'
 answers=$((answers + 3))
 

@@ -1,7 +1,8 @@
 #!/bin/bash
-# samples.sh HID HIDREPORT: the samples of README.md and docs/, runs of the two programs: what each
-# writes is what stands below its line `$ ..`, down to the next or to the end of the block. A block
-# may begin with `$ cd FOLDER`; those of docs/HID.md lie in crates/hid/data. A remark behind a line
+# samples.sh HID HIDREPORT: the samples of README.md, docs/ and the pages of man, runs of the two
+# programs: what each writes is what stands below its line `$ ..`, down to the next or to the end of
+# the block. A block may begin with `$ cd FOLDER`; those of docs/HID.md and hid.1 lie in
+# crates/hid/data, those of hidreport.1 in crates/hidreport_main/data. A remark behind a line
 # says bytes that are on its standard input. Of the other programs (`rt run`) what stands below is
 # the beginning of the output that is stored beside them, `..` standing for what is left out;
 # `./values` of docs/C.md writes what `hidreport values` does, without its first line and the kinds.
@@ -25,7 +26,7 @@ answers=0
 mkdir -p "$copy/crates/hid" "$copy/crates/hidreport_main"
 cp -R "$top/crates/hid/data" "$copy/crates/hid"
 cp -R "$top/crates/hidreport_main/data" "$copy/crates/hidreport_main"
-for folder in "$copy" "$copy/crates/hid/data"; do
+for folder in "$copy" "$copy/crates/hid/data" "$copy/crates/hidreport_main/data"; do
     ln -s "$hid" "$folder/hid"
     ln -s "$hidreport" "$folder/hidreport"
 done
@@ -49,6 +50,12 @@ gather() {
             next
         }
         file != "" { print > file }' "$1"
+}
+
+# The examples of a page of man as blocks of a text; they call programs that are installed.
+blocks() {
+    sed -n '/^\.SH EXAMPLES$/,/^\.SH SEE/p' "$1" |
+        sed 's/\\-/-/g; s/\\(aq/'\''/g; s/\\e/\\/g; s/^\.[nf][fi]$/```/; s/^\$ hid/$ .\/hid/'
 }
 
 # Whether an output begins as a sample: ` .. ` and `..` at a line's end stand for a part of it that
@@ -114,6 +121,11 @@ for text in "$top"/README.md "$top"/docs/*.md; do
         *) gather "$text" . ;;
     esac
 done
+for page in hid hidreport; do
+    blocks "$top/share/man/man1/$page.1" > "$scratch/$page.1"
+done
+gather "$scratch/hid.1" crates/hid/data
+gather "$scratch/hidreport.1" crates/hidreport_main/data
 for sample in "$scratch"/samples/*.line; do
     sample=${sample%.line}
     line=$(< "$sample.line")
@@ -130,6 +142,7 @@ for sample in "$scratch"/samples/*.line; do
     esac
     answers=$((answers + 1))
 done
-begun=$(cat "$top"/README.md "$top"/docs/*.md | grep '^\$ ' | grep -cvE '^\$ (cd [^ ]*|sudo .*)$')
+begun=$(cat "$top"/README.md "$top"/docs/*.md "$top"/share/man/man1/*.1 | grep '^\$ ' |
+    grep -cvE '^\$ (cd [^ ]*|sudo .*)$')
 [ "$answers" -eq "$begun" ] || wrong "$answers of $begun lines that begin with \$ stand in blocks"
-echo "samples: $answers runs of README.md and docs/ as they are written"
+echo "samples: $answers runs of README.md, docs/ and the pages of man as they are written"

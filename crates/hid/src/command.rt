@@ -1,6 +1,7 @@
 //! What the words of a command line ask for.
 use crate::commands::{
-    Check, Compile, Convert, Decode, Diff, Fields, List, Map, Record, Set, Target, Values, id_named,
+    Check, Compile, Convert, Decode, Diff, Fields, List, Map, Record, ReportTarget, Set, Target,
+    Uhid, Values, id_named,
 };
 use crate::ending::Ending;
 use anyhow::{Result, bail};
@@ -22,6 +23,8 @@ pub enum Command<'a> {
     Values(Values<'a>),
     /// Shows the reports of a stream.
     Record(Record<'a>),
+    /// Writes a recording as events.
+    Uhid(Uhid<'a>),
     /// Writes the bytes of a report.
     Set(Set<'a>),
     /// Writes a descriptor in another form.
@@ -49,6 +52,7 @@ impl<'a> Command<'a> {
             "list" => Command::List(List),
             "values" => Command::Values(values_of(alloc, file, matches)?),
             "record" => Command::Record(record_of(file, matches)),
+            "uhid" => Command::Uhid(Uhid { file }),
             "set" => Command::Set(set_of(alloc, file, matches)?),
             "convert" => {
                 let target = target_of(matches);
@@ -74,6 +78,7 @@ impl<'a> Command<'a> {
             Command::Fields(command) => command.file,
             Command::Values(command) => command.file,
             Command::Record(command) => command.file,
+            Command::Uhid(command) => command.file,
             Command::Set(command) => command.file,
             Command::Convert(command) => command.file,
             Command::Compile(command) => command.text,
@@ -99,7 +104,11 @@ impl<'a> Command<'a> {
             Command::Record(command) if command.only_changes && settings.is_json => {
                 Some("--changes and --json can't both be met")
             }
-            Command::Set(_) | Command::Convert(_) | Command::Compile(_) | Command::Map(_)
+            Command::Uhid(_)
+            | Command::Set(_)
+            | Command::Convert(_)
+            | Command::Compile(_)
+            | Command::Map(_)
                 if settings.is_json => { Some("this command has no JSON") }
             _ => None,
         }
@@ -116,6 +125,7 @@ impl<'a> Command<'a> {
             Command::Fields(command) => command.run(rt, settings),
             Command::Values(command) => command.run(rt, settings),
             Command::Record(command) => command.run(rt, settings),
+            Command::Uhid(command) => command.run(rt, settings),
             Command::Set(command) => command.run(rt, settings),
             Command::Convert(command) => command.run(rt, settings),
             Command::Compile(command) => command.run(rt, settings),
@@ -167,7 +177,7 @@ fn set_of<'a>(alloc: Global, file: &'a str, matches: &ArgMatches<'a>) -> Result<
         id: id_named(matches.get_str("ID").unwrap_or("-"))?,
         words: words_of(alloc, "NAME=NUMBER", matches)?,
         direction: direction_of(matches),
-        target: target_of(matches),
+        target: ReportTarget::named(matches.get_str("to")),
         is_zero: matches.get_flag("zero"),
     })
 }

@@ -1,5 +1,5 @@
 //! The words that `hid` knows.
-use crate::commands::TARGETS;
+use crate::commands::{REPORT_TARGETS, TARGETS};
 use clap::{Arg, ArgAction, Command};
 use hid_input::input::FORM_WORDS;
 use std::alloc::{AllocError, Global};
@@ -37,8 +37,11 @@ enum Kind {
     /// Which way reports go.
     Direction,
 
-    /// What bytes are written as.
+    /// What a descriptor is written as.
     Target,
+
+    /// What a report is written as.
+    ReportTarget,
 
     /// A folder.
     Folder,
@@ -109,7 +112,9 @@ const FILE: Argument = ("FILE", Kind::Word, "The descriptor");
 
 const DIRECTION: Argument = ("direction", Kind::Direction, "Which way the reports go");
 
-const TARGET: Argument = ("to", Kind::Target, "What the bytes are written as");
+const WRITTEN_AS: &str = "What the bytes are written as";
+
+const TARGET: Argument = ("to", Kind::Target, WRITTEN_AS);
 
 /// Of `decode`, `fields` and `check`.
 static DECODE: [Argument; 1] = [FILE];
@@ -144,6 +149,12 @@ static RECORD: [Argument; 4] = [
     ("raw", Kind::Flag, "Write hid-recorder's lines"),
 ];
 
+static UHID: [Argument; 1] = [(
+    "FILE",
+    Kind::Word,
+    "A recording of a device, or its descriptor",
+)];
+
 static SET: [Argument; 6] = [
     FILE,
     (
@@ -157,7 +168,7 @@ static SET: [Argument; 6] = [
         "A field's value, or a key of an array that is down (1)",
     ),
     DIRECTION,
-    TARGET,
+    ("to", Kind::ReportTarget, WRITTEN_AS),
     (
         "zero",
         Kind::Flag,
@@ -186,7 +197,7 @@ static DIFF: [Argument; 2] = [
 static LIST: [Argument; 0] = [];
 
 /// The commands, and what each is for.
-static COMMANDS: [(&str, &str); 11] = [
+static COMMANDS: [(&str, &str); 12] = [
     ("decode", "Shows the items of a descriptor in words"),
     (
         "fields",
@@ -196,6 +207,10 @@ static COMMANDS: [(&str, &str); 11] = [
     (
         "record",
         "Shows each report of a stream in a line, as it comes",
+    ),
+    (
+        "uhid",
+        "Writes a recording as events for Linux's /dev/uhid, without its times",
     ),
     ("set", "Writes the bytes of a report"),
     ("convert", "Writes a descriptor in another form"),
@@ -217,6 +232,7 @@ fn arguments_of(name: &str) -> &'static [Argument] {
     match name {
         "values" => &VALUES,
         "record" => &RECORD,
+        "uhid" => &UHID,
         "set" => &SET,
         "convert" => &CONVERT,
         "compile" => &COMPILE,
@@ -293,6 +309,7 @@ fn argument_of<'a>(alloc: Global, argument: Argument) -> Arg<'a> {
             .default_value("/sys")
             .global(true),
         Kind::Target => choice(arg, name, "TARGET", &TARGETS).default_value("hex"),
+        Kind::ReportTarget => choice(arg, name, "TARGET", &REPORT_TARGETS).default_value("hex"),
     }
 }
 

@@ -15,6 +15,7 @@ mod record;
 mod report_findings;
 mod set;
 mod target;
+mod uhid;
 mod values;
 
 use anyhow::{Result, anyhow, bail};
@@ -33,7 +34,8 @@ pub use record::Record;
 pub use set::{Set, id_named};
 use std::alloc::Global;
 use std::rt::Files;
-pub use target::{TARGETS, Target};
+pub use target::{REPORT_TARGETS, ReportTarget, TARGETS, Target};
+pub use uhid::Uhid;
 pub use values::Values;
 
 /// How often a limit is doubled to find one that is enough.

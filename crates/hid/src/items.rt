@@ -111,6 +111,15 @@ impl ItemState {
         self.globals.page
     }
 
+    /// How many collections are open around an item.
+    pub fn depth_of(&self, item: &ItemType) -> usize {
+        let open = self.open.len();
+        match item {
+            ItemType::Main(MainItem::EndCollection) => open.saturating_sub(1),
+            _ => open,
+        }
+    }
+
     /// Goes over an item.
     pub fn pass(&mut self, entry: &PlacedItem) -> Result<(), AllocError> {
         match entry.item {

@@ -47,7 +47,7 @@ impl<'a> Compile<'a> {
         let text = text_named(rt, self.text)?;
         let compiled = Compiled::of(rt.alloc(), &text)?;
         check_length(settings, &compiled.bytes)?;
-        self.target.write_descriptor(rt, &compiled.bytes)?;
+        self.target.write(rt, &compiled.bytes)?;
         Ok(Ending::Done)
     }
 }

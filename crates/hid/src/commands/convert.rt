@@ -26,7 +26,7 @@ impl<'a> Convert<'a> {
         let given = descriptor_named(rt, settings, self.file)?;
         let bytes = descriptor_of(&given);
         check_length(settings, bytes)?;
-        self.target.write_descriptor(rt, bytes)?;
+        self.target.write(rt, bytes)?;
         Ok(Ending::Done)
     }
 }

@@ -8,7 +8,7 @@ use hid_input::input::descriptor_named;
 use hid_input::settings::Settings;
 use hid_output::{add_bytes, add_json, digits_of, flush, flush_piece};
 use hid_text::words::{add_depth, add_item, number_of};
-use hidreport::hid::{ItemType, MainItem};
+use hidreport::hid::ItemType;
 use hidreport::{ParserError, ReportDescriptor};
 use hidreport_usages::item_name;
 use serde::Serialize;
@@ -128,11 +128,7 @@ fn add_entry(
     entry: &PlacedItem,
     state: &ItemState,
 ) -> Result<()> {
-    let open = state.open.len();
-    let depth = match entry.item {
-        ItemType::Main(MainItem::EndCollection) => open.saturating_sub(1),
-        _ => open,
-    };
+    let depth = state.depth_of(&entry.item);
     if settings.is_json {
         return add_object(text, entry, depth, state);
     }

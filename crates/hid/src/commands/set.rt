@@ -1,6 +1,6 @@
 //! `hid set`: the bytes of a report, from names and numbers.
 use crate::commands::descriptor_by;
-use crate::commands::target::Target;
+use crate::commands::target::ReportTarget;
 use crate::ending::Ending;
 use crate::wanted_usage::WantedUsage;
 use anyhow::{Context, Result, anyhow, bail};
@@ -28,7 +28,7 @@ pub struct Set<'a> {
     /// Which way the report goes.
     pub direction: Direction,
     /// What its bytes are written as.
-    pub target: Target,
+    pub target: ReportTarget,
     /// Whether all bits that no name sets are 0.
     pub is_zero: bool,
 }
@@ -92,7 +92,7 @@ impl<'a> Set<'a> {
                 .context(format_args!("{word}"))?;
         }
         written.tell_pressed(rt)?;
-        self.target.write_report(rt, &written.bytes)
+        self.target.write(rt, &written.bytes)
     }
 
     /// Puts the number of one name into the report; says where it is outside of the bounds.

@@ -24,6 +24,10 @@ pub struct Device {
     pub number: usize,
     /// What the input calls it.
     pub name: Option<String>,
+    /// Where it is plugged in, as the input has it.
+    pub place: Option<String>,
+    /// Its bus, its vendor and its product, as the input has them.
+    pub ids: Option<String>,
     /// The bytes of its descriptor.
     pub descriptor: Vec<u8>,
     /// Whether the input has a descriptor of it.
@@ -116,6 +120,8 @@ impl Found {
         self.devices.push(Device {
             number,
             name: None,
+            place: None,
+            ids: None,
             descriptor: Vec::new(alloc),
             is_described: false,
         })?;
@@ -129,6 +135,30 @@ impl Found {
         for device in self.devices.iter_mut() {
             if device.number == number {
                 device.name = Some(String::from_str(alloc, name)?);
+            }
+        }
+        Ok(())
+    }
+
+    /// Takes where a device is plugged in.
+    pub fn set_place(&mut self, number: usize, place: &str) -> Result<()> {
+        self.add_device(number)?;
+        let alloc = *self.devices.allocator();
+        for device in self.devices.iter_mut() {
+            if device.number == number {
+                device.place = Some(String::from_str(alloc, place)?);
+            }
+        }
+        Ok(())
+    }
+
+    /// Takes a device's bus, vendor and product.
+    pub fn set_ids(&mut self, number: usize, ids: &str) -> Result<()> {
+        self.add_device(number)?;
+        let alloc = *self.devices.allocator();
+        for device in self.devices.iter_mut() {
+            if device.number == number {
+                device.ids = Some(String::from_str(alloc, ids)?);
             }
         }
         Ok(())

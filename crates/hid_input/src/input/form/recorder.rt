@@ -43,7 +43,8 @@ impl RecorderLines {
         match mark {
             "D" => self.take_device(found, rest),
             "N" => found.set_name(self.device, rest),
-            "P" | "I" => Ok(()),
+            "P" => found.set_place(self.device, rest),
+            "I" => found.set_ids(self.device, rest),
             "R" => {
                 let bytes = counted_bytes(*found.devices.allocator(), rest)?;
                 found.add_descriptor(self.device, bytes)

@@ -1,0 +1,48 @@
+# Completions of `hid` for fish: an option in a line, with its values and what it is for.
+set -l commands decode fields values record uhid set convert compile map diff check list
+
+# A command, where none stands yet, and behind help.
+set -l none "not __fish_seen_subcommand_from $commands help"
+complete -c hid -n "$none" -f
+complete -c hid -n "__fish_seen_subcommand_from help" -f
+complete -c hid -n "$none" -a decode -d "Shows the items of a descriptor in words"
+complete -c hid -n "$none" -a fields -d "Shows the reports of a descriptor and their fields"
+complete -c hid -n "$none" -a values -d "Shows the values of reports"
+complete -c hid -n "$none" -a record -d "Shows each report of a stream in a line, as it comes"
+complete -c hid -n "$none" -a uhid -d "Writes a recording as events for Linux's /dev/uhid, without its times"
+complete -c hid -n "$none" -a set -d "Writes the bytes of a report"
+complete -c hid -n "$none" -a convert -d "Writes a descriptor in another form"
+complete -c hid -n "$none" -a compile -d "Writes the descriptor that a text of hid decode says"
+complete -c hid -n "$none" -a map -d "Draws the bits of each report"
+complete -c hid -n "$none" -a diff -d "Shows what differs between two descriptors"
+complete -c hid -n "$none" -a check -d "Shows what is odd in a descriptor, and what the standard says"
+complete -c hid -n "$none" -a list -d "Shows the HID devices of the machine"
+complete -c hid -n "$none" -a help -d "Print this message or the help of the given subcommand(s)"
+complete -c hid -n "__fish_seen_subcommand_from help" -a "$commands"
+
+# The options of all commands.
+complete -c hid -l form -x -a "bytes hex recorder dump source python offsets libinput debugfs lsusb" -d "What the descriptor's input holds, where it isn't to be guessed"
+complete -c hid -l report-form -x -a "bytes hex recorder dump source python offsets libinput debugfs lsusb" -d "What the reports' input holds, where it isn't to be guessed"
+complete -c hid -l device -x -d "The device that is meant, of an input that has several"
+complete -c hid -l limit -x -d "The most that a descriptor may list, 131072 where it isn't said"
+complete -c hid -l push -x -a "globals all" -d "What a Push keeps: globals, as hosts read, or all"
+complete -c hid -l usages -x -a "hosts standard" -d "How usages are found: as hosts read them, or by the standard's letter"
+complete -c hid -l lenient -d "Mend the descriptor first, as Linux reads it"
+complete -c hid -l json -d "Write an object of JSON in each line"
+complete -c hid -l color -x -a "auto always never" -d "Show names in colour"
+complete -c hid -l sysfs -x -a "(__fish_complete_directories)" -d "The folder in which Linux tells of devices"
+complete -c hid -s h -l help -d "Print help"
+complete -c hid -n "$none" -s V -l version -d "Print version"
+
+# Those of one.
+complete -c hid -n "__fish_seen_subcommand_from values" -l direction -x -a "input output feature" -d "Which way the reports go"
+complete -c hid -n "__fish_seen_subcommand_from values" -l down -d "Show only the keys and buttons that are down, a name in each line"
+complete -c hid -n "__fish_seen_subcommand_from record" -l changes -d "Leave out what is as it was in the report before"
+complete -c hid -n "__fish_seen_subcommand_from record" -l raw -d "Write hid-recorder's lines"
+complete -c hid -n "__fish_seen_subcommand_from set" -l direction -x -a "input output feature" -d "Which way the reports go"
+complete -c hid -n "__fish_seen_subcommand_from set" -l to -x -a "hex c rust bytes recording python kernel" -d "What the bytes are written as"
+complete -c hid -n "__fish_seen_subcommand_from set" -l zero -d "Set all bits to 0 that no name sets, and not to what stands for no value"
+complete -c hid -n "__fish_seen_subcommand_from convert" -l to -x -a "hex c rust bytes recording python kernel zephyr tinyusb libinput" -d "What the bytes are written as"
+complete -c hid -n "__fish_seen_subcommand_from compile" -l to -x -a "hex c rust bytes recording python kernel zephyr tinyusb libinput" -d "What the bytes are written as"
+complete -c hid -n "__fish_seen_subcommand_from map" -l svg -d "Write the picture as SVG"
+complete -c hid -n "__fish_seen_subcommand_from map" -l all -d "Draw all rows, past the first 4,096"
