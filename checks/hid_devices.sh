@@ -61,6 +61,20 @@ wants 0 '/dev/hidraw0: Logitech USB Optical Mouse
 wants 0 '{"node":"/dev/hidraw0","name":"Logitech USB Optical Mouse","bus":3,"vendor":1133,"product":49271,"driver":"hid-generic","input":["event12","event4"],"reports":[{"direction":"input","report":null,"bits":24}]}' \
     list --json --sysfs mouse
 
+# Buses by their names, and one without.
+device buses 0 '' 0006:00000001:00000002 one "$data/mouse.hex"
+device buses 1 '' 0018:00000001:00000002 two "$data/mouse.hex"
+device buses 2 '' 0019:00000001:00000002 three "$data/mouse.hex"
+wants 0 '/dev/hidraw0: one
+  virtual 0001:0002
+  Input report: 24 bits
+/dev/hidraw1: two
+  I2C 0001:0002
+  Input report: 24 bits
+/dev/hidraw2: three
+  bus 0019 0001:0002
+  Input report: 24 bits' list --sysfs buses
+
 # A device by its node, its number, its ids, or a part of its name; a file of that name goes before.
 mouse=$("$program" convert "$data/mouse.hex" 2> said)
 for name in hidraw0 046d:c077 46D:C077 Optical; do
