@@ -9,7 +9,7 @@ use Rattle.hidreport.specs.Kinds.{is_push, is_pop}
 use Rattle.hidreport.specs.Parser.Machine.{last_item_state, next_item_state}
 use Rattle.hidreport.specs.Visibility.{level}
 use Rattle.hidreport.specs.declared.parser.paged_local.PagedLocal.{PagedLocal}
-use Rattle.hidreport.specs.declared.parser.push_keeps.PushKeeps.TheVariants as push_keeps
+use Rattle.hidreport.specs.declared.parser.push_keeps.PushKeeps.TheVariants as a_push_keeps
 use Rattle.hidreport.specs.declared.parser.usages_by.UsagesBy.{UsagesBy}
 use Rattle.hidreport.proofs.LevelLemmas.{Rests, stack, length-stack, Stepped, plain-step, push-step}
 use Rattle.hidreport.proofs.LevelLemmas.{pop-step}
@@ -42,7 +42,7 @@ steps-by : (by : UsagesBy) (a b : Bool) (items : List ItemType) (k : ℕ) (x : I
     (next_item_state (item_state by items k) x)
     → saved ≡ cond b (take (length (stack by items k) - 1) (stack by items k))
     (cond a (stack by items k ++ item_state by items k ∷ []) (stack by items k))
-    → Stepped by items k f saved → Steps push_keeps.All (item_state by items) (stack by items) items k x
+    → Stepped by items k f saved → Steps a_push_keeps.All (item_state by items) (stack by items) items k x
 steps-by by a b items k x f saved push pop is keeps stepped = record {
   item_states_next = stepped.item_states_next ∙ is
       ∙ ap (λ c. cond c (last_item_state (item_state by items k) (stack by items k))
@@ -59,7 +59,7 @@ steps-by by a b items k x f saved push pop is keeps stepped = record {
 all-by : (by : UsagesBy) (a b : Bool) (items front rest : List ItemType) (x : ItemType) → items ≡ front ++ x ∷ rest
     → Rests items (length front)
     → (is_pop x ≡ true → 0 < level items (length front)) → is_push x ≡ a → is_pop x ≡ b
-    → Steps push_keeps.All (item_state by items) (stack by items) items (length front) x
+    → Steps a_push_keeps.All (item_state by items) (stack by items) items (length front) x
 all-by by true true items front rest x e rests deep push pop = let no = push_is_no_pop x push in cc
 all-by by false true items front rest x e rests deep push pop =
     steps-by by false true items (length front) x _ _ push pop refl refl
@@ -73,7 +73,7 @@ all-by by false false items front rest x e rests deep push pop =
     (plain-step by items front rest x e rests push pop)
 
 pub all-follows : (by : UsagesBy) (items : List ItemType)
-    → Follows push_keeps.All by (item_state by items) (stack by items) items
+    → Follows a_push_keeps.All by (item_state by items) (stack by items) items
 all-follows by items = record {
   begins = refl;
   empty = refl;

@@ -26,7 +26,8 @@ use Rattle.hidreport.specs.Options.{parse_limited, reading_of}
 use Rattle.hidreport.specs.Parser.Budget.{past_fault, walk_within, weight_in, weight_made_in}
 use Rattle.hidreport.specs.Parser.Machine.{StateRecord, added_to, adds, fault_in, go_on, key_in}
 use Rattle.hidreport.specs.Parser.Machine.{next_state}
-use Rattle.hidreport.specs.Parser.Machine.{next_reports, first_state, reports_in, start_in}
+use Rattle.hidreport.specs.Lookup.{reports_of}
+use Rattle.hidreport.specs.Parser.Machine.{next_reports, first_state, start_in}
 use Rattle.hidreport.specs.Parser.Machine.{unless_fault}
 use Rattle.hidreport.specs.Places.{bits_of}
 use Rattle.hidreport.specs.Records.{DescriptorRecord, FieldRecord, ReportRecord}
@@ -73,24 +74,24 @@ added-weight id bits fields (r ∷ rs) =
 -- in a direction, the reports weigh at most what the item's fields weigh more
 next-by : (b : Bool) (d : Direction) (h : StateRecord) (x : ItemType) → adds d h x ≡ b
     → sum_by report_weight (next_reports d h x)
-    ≡ sum_by report_weight (reports_in d h.descriptor) + cond b
+    ≡ sum_by report_weight (reports_of d h.descriptor) + cond b
     (sum_by field_weight (fields_of h.item_state h.opened h.fields (start_in d h) (data_of x)
     (extent h.item_state))) 0
 next-by true d h x is =
     let fields = fields_of h.item_state h.opened h.fields (start_in d h) (data_of x)
     (extent h.item_state) in
     ap (λ b. sum_by report_weight (cond b
-    (added_to (key_in d h) (bits_of (extent h.item_state)) fields (reports_in d h.descriptor))
-    (reports_in d h.descriptor))) is
-    ∙ added-weight (key_in d h) (bits_of (extent h.item_state)) fields (reports_in d h.descriptor)
+    (added_to (key_in d h) (bits_of (extent h.item_state)) fields (reports_of d h.descriptor))
+    (reports_of d h.descriptor))) is
+    ∙ added-weight (key_in d h) (bits_of (extent h.item_state)) fields (reports_of d h.descriptor)
 next-by false d h x is =
     let fields = fields_of h.item_state h.opened h.fields (start_in d h) (data_of x)
     (extent h.item_state) in
     ap (λ b. sum_by report_weight (cond b
-    (added_to (key_in d h) (bits_of (extent h.item_state)) fields (reports_in d h.descriptor))
-    (reports_in d h.descriptor))) is
-    ∙ (let e : sum_by report_weight (reports_in d h.descriptor)
-    ≡ sum_by report_weight (reports_in d h.descriptor) + 0 = omega arith in e)
+    (added_to (key_in d h) (bits_of (extent h.item_state)) fields (reports_of d h.descriptor))
+    (reports_of d h.descriptor))) is
+    ∙ (let e : sum_by report_weight (reports_of d h.descriptor)
+    ≡ sum_by report_weight (reports_of d h.descriptor) + 0 = omega arith in e)
 
 -- the fields go to one direction
 abbrev made_in : Direction → StateRecord → Option (Direction × Flags) → ℕ

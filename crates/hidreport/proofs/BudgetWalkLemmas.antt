@@ -14,12 +14,12 @@ use Rattle.hidreport_items.specs.declared.item.ItemType.{ItemType}
 use Rattle.hidreport.specs.Budget.{meaning_within_by, unless_past}
 use Rattle.hidreport.specs.Faults.{fault}
 use Rattle.hidreport.specs.Fields.{fields_of, list_or_none}
-use Rattle.hidreport.specs.ItemState.{ItemState, first_of, item_state, item_state_globals_only}
+use Rattle.hidreport.specs.ItemState.{ItemState, first_of}
 use Rattle.hidreport.specs.Kinds.{Indexed, Direction, collection_kind_of, data_of}
 use Rattle.hidreport.specs.Making.{extent}
 use Rattle.hidreport.specs.Meaning.{InForce, descriptor, fault_here, first_fault, unless_first}
 use Rattle.hidreport.specs.MeaningFault.{MeaningFault, PastBudget}
-use Rattle.hidreport.specs.Options.{meaning_as, meaning_limited, reading_by, reading_of}
+use Rattle.hidreport.specs.Options.{meaning_as, meaning_limited, reading_of}
 use Rattle.hidreport.specs.Parser.Budget.{past_fault, walk_within, weight_in, weight_made_in}
 use Rattle.hidreport.specs.Parser.Budget.{weight_opened_in}
 use Rattle.hidreport.specs.Parser.Machine.{StateRecord, fault_in, go_on, next_state, first_state, start_by}
@@ -29,15 +29,12 @@ use Rattle.hidreport.specs.Records.{DescriptorRecord}
 use Rattle.hidreport.specs.Usages.{usages_of}
 use Rattle.hidreport.specs.Visibility.{before, level}
 use Rattle.hidreport.specs.declared.parser.push_keeps.PushKeeps.{PushKeeps}
-use Rattle.hidreport.specs.declared.parser.push_keeps.PushKeeps.TheVariants as push_keeps
 use Rattle.hidreport.specs.declared.parser.usages_by.UsagesBy.{UsagesBy}
 use Rattle.hidreport.specs.declared.parse_options.ParseOptions.{ParseOptions}
 use Rattle.hidreport.specs.Weight.{field_weight, unless_faulty, weight, weight_before, weight_made}
 use Rattle.hidreport.specs.Weight.{weight_opened}
 use Rattle.hidreport.proofs.ReadingLemmas.{walk-meaning}
-use Rattle.hidreport.proofs.AllKeptLemmas.{all-follows}
-use Rattle.hidreport.proofs.GlobalsAloneLemmas.{globals-follows, stack_bare}
-use Rattle.hidreport.proofs.LevelLemmas.{stack}
+use Rattle.hidreport.proofs.PushReadings.{kept_stack, reading-follows}
 use Rattle.hidreport.proofs.ItemStateLemmas.{before-next, first_of-none}
 use Rattle.hidreport.proofs.WalkLemmas.{Follows, Holds, at-end, fault-held, fields-held, holds-next}
 use Rattle.hidreport.proofs.WalkLemmas.{holds-nothing}
@@ -219,19 +216,19 @@ within-by None false item_state items limit left k h x xs same e past is rest =
     (unless_first (first_fault item_state items (enumerate_from (k + 1) xs))
     (descriptor item_state items))) (past e ∙ is))
 
-within-walk : (keeping : PushKeeps) (by : UsagesBy) (item_state : ℕ → ItemState) (stack : ℕ → List ItemState)
+within-walk : (push_keeps : PushKeeps) (by : UsagesBy) (item_state : ℕ → ItemState) (stack : ℕ → List ItemState)
     (items front rest : List ItemType) (h : StateRecord) (limit : ℕ)
-    → Follows keeping by item_state stack items
-    → h.keeping ≡ keeping → items ≡ front ++ rest → Holds item_state stack items (length front) h
+    → Follows push_keeps by item_state stack items
+    → h.push_keeps ≡ push_keeps → items ≡ front ++ rest → Holds item_state stack items (length front) h
     → weight_before item_state items (length front) ≤ limit
     → walk_within (Some (limit - weight_before item_state items (length front))) h
     (length front) rest
     ≡ within_from item_state items limit (length front) rest
-within-walk keeping by item_state stack items front [] h limit follows reads e held room =
+within-walk push_keeps by item_state stack items front [] h limit follows reads e held room =
     let whole : items ≡ front = e ∙ append-nil front in
     ap Ok (at-end item_state stack items h
     (subst (λ n. Holds item_state stack items n h) (ap length (sym whole)) held))
-within-walk keeping by item_state stack items front (x ∷ xs) h limit follows reads e held room =
+within-walk push_keeps by item_state stack items front (x ∷ xs) h limit follows reads e held room =
     let k = length front in
     let spent = weight_before item_state items k in
     let w = weight_in h x in
@@ -249,7 +246,7 @@ within-walk keeping by item_state stack items front (x ∷ xs) h limit follows r
     (λ faultless within.
     let next : Holds item_state stack items (length (front ++ x ∷ [])) (next_state h x) =
     subst (λ n. Holds item_state stack items n (next_state h x)) (sym size)
-    (holds-next keeping by item_state stack items front xs h x follows reads e held faultless) in
+    (holds-next push_keeps by item_state stack items front xs h x follows reads e held faultless) in
     let spent_next : weight_before item_state items (length (front ++ x ∷ [])) ≡ spent + w =
     ap (weight_before item_state items) size ∙ heavier faultless in
     let fits : w ≤ limit - spent = grind (arith, nat_tests) in
@@ -258,7 +255,7 @@ within-walk keeping by item_state stack items front (x ∷ xs) h limit follows r
     let left_next : limit - weight_before item_state items (length (front ++ x ∷ []))
     ≡ limit - spent -
     w = omega (arith, spent_next, fits, room) in
-    let walked = within-walk keeping by item_state stack items (front ++ x ∷ []) xs
+    let walked = within-walk push_keeps by item_state stack items (front ++ x ∷ []) xs
     (next_state h x) limit
     follows reads more next room_next in
     ap (λ l. walk_within (Some l) (next_state h x) (k + 1) xs) (sym left_next)
@@ -268,31 +265,25 @@ within-walk keeping by item_state stack items front (x ∷ xs) h limit follows r
     ∙ walked ∙ ap (λ n. within_from item_state items limit n xs) size_one)
 
 -- the walk under a limit is the meaning under it, by each reading that the walk follows
-pub walk-follows-within : (keeping : PushKeeps) (by : UsagesBy) (reading : InForce) (saved : ℕ → List ItemState)
-    (items : List ItemType) (limit : ℕ) → Follows keeping by (reading items) saved items
-    → walk_within (Some limit) (start_by keeping by) 0 items ≡ meaning_within_by reading limit
+pub walk-follows-within : (push_keeps : PushKeeps) (by : UsagesBy) (reading : InForce) (saved : ℕ → List ItemState)
+    (items : List ItemType) (limit : ℕ) → Follows push_keeps by (reading items) saved items
+    → walk_within (Some limit) (start_by push_keeps by) 0 items ≡ meaning_within_by reading limit
     items
-walk-follows-within keeping by reading saved items limit follows =
+walk-follows-within push_keeps by reading saved items limit follows =
     let all : limit ≡ limit - 0 = omega arith in
-    ap (λ n. walk_within (Some n) (start_by keeping by) 0 items) all
-    ∙ within-walk keeping by (reading items) saved items [] items (start_by keeping by) limit follows
-    refl refl (holds-nothing keeping by (reading items) saved items follows) (omega arith)
-
-within-kept : (keeping : PushKeeps) (by : UsagesBy) (limit : ℕ) (items : List ItemType)
-    → walk_within (Some limit) (start_by keeping by) 0 items
-    ≡ meaning_within_by (reading_by keeping by) limit items
-within-kept push_keeps.All by limit items =
-    walk-follows-within push_keeps.All by (item_state by) (stack by items) items limit
-    (all-follows by items)
-within-kept push_keeps.Globals by limit items =
-    walk-follows-within push_keeps.Globals by (item_state_globals_only by) (stack_bare by items)
-    items limit (globals-follows by items)
+    ap (λ n. walk_within (Some n) (start_by push_keeps by) 0 items) all
+    ∙ within-walk push_keeps by (reading items) saved items [] items (start_by push_keeps by) limit follows
+    refl refl (holds-nothing push_keeps by (reading items) saved items follows) (omega arith)
 
 -- by the reading of the options
 pub walk-within : (options : ParseOptions) (limit : ℕ) (items : List ItemType)
     → walk_within (Some limit) (first_state options) 0 items
     ≡ meaning_within_by (reading_of options) limit items
-walk-within options limit items = within-kept options.push_keeps options.usages limit items
+walk-within options limit items =
+    let push_keeps = options.push_keeps in
+    let by = options.usages in
+    walk-follows-within push_keeps by (reading_of options) (kept_stack push_keeps by items) items limit
+    (reading-follows push_keeps by items)
 
 unlimited-by : (o : Option MeaningFault) (h : StateRecord) (k : ℕ) (xs : List ItemType)
     → walk_within None h (k + 1) xs ≡ walk h (k + 1) xs

@@ -18,7 +18,8 @@ use Rattle.hidreport.specs.ItemState.{ItemState, first_of}
 use Rattle.hidreport.specs.Parser.Machine.{StateRecord, after_pop, pushed_copy, step, unless_fault}
 use Rattle.hidreport.specs.Parser.Machine.{last_item_state, next_item_state, next_state, key_in}
 use Rattle.hidreport.specs.Parser.Machine.{start_in}
-use Rattle.hidreport.specs.Parser.Machine.{size_in, first_id, added_to, reports_in, with_reports}
+use Rattle.hidreport.specs.Lookup.{reports_of}
+use Rattle.hidreport.specs.Parser.Machine.{size_in, first_id, added_to, with_reports}
 use Rattle.hidreport.specs.Making.{extent}
 use Rattle.hidreport.specs.Records.{CollectionRecord, DescriptorRecord, FieldRecord, ReportRecord}
 use Rattle.hidreport.specs.Parser.Usages.{HasUsages, usage_list}
@@ -41,7 +42,7 @@ made-descriptor : (h : StateRecord) (d : Direction) (flags : Flags) (e : Extent)
     → (next_state h (item_with d flags)).descriptor
     ≡ with_reports d (added_to (key_in d h) (e.size * e.count)
     (made_fields h d flags h.opened e (list_or_none (usages_of h.item_state)) (start_in d h))
-    (reports_in d h.descriptor)) h.descriptor
+    (reports_of d h.descriptor)) h.descriptor
 made-descriptor h Input flags e made = rw made refl
 made-descriptor h Output flags e made = rw made refl
 made-descriptor h Feature flags e made = rw made refl
@@ -65,13 +66,13 @@ pub descriptor-made : (h : StateRecord) (d : Direction) (flags : Flags) (cs : Li
     (e : Extent) (us : Usages) (key : Option ℕ) (first bits : ℕ) (fields : List FieldRecord)
     → (flags.constant ≡ false → cs ≡ h.opened) → extent h.item_state ≡ Some e
     → HasUsages flags h.item_state us
-    → key ≡ key_in d h → first ≡ size_in key (reports_in d h.descriptor) → bits ≡ e.size * e.count
+    → key ≡ key_in d h → first ≡ size_in key (reports_of d h.descriptor) → bits ≡ e.size * e.count
     → fields ≡ made_fields h d flags cs e (usage_list us) first
-    → with_reports d (added_to key bits fields (reports_in d h.descriptor)) h.descriptor
+    → with_reports d (added_to key bits fields (reports_of d h.descriptor)) h.descriptor
     ≡ (next_state h (item_with d flags)).descriptor
 descriptor-made h d flags cs e us key first bits fields around made has key_is first_is
     bits_are fields_are =
-    let old = reports_in d h.descriptor in
+    let old = reports_of d h.descriptor in
     let begins : first ≡ start_in d h = first_is ∙ ap (λ id. size_in id old) key_is in
     let listed : fields ≡ made_fields h d flags h.opened e
     (list_or_none (usages_of h.item_state)) (start_in d h) =
@@ -102,23 +103,22 @@ pub data-held : (h : StateRecord) (g : ItemState) (d : Direction) (flags : Flags
     (fields : List FieldRecord) (rs : DescriptorRecord) (n : ℕ)
     → g ≡ h.item_state → (flags.constant ≡ false → cs ≡ h.opened) → extent g ≡ Some e
     → HasUsages flags h.item_state us
-    → key ≡ first_of g.report_id (first_id (reports_in d h.descriptor))
-    → first ≡ size_in key (reports_in d h.descriptor) → bits ≡ e.size * e.count
+    → key ≡ first_of g.report_id (first_id (reports_of d h.descriptor))
+    → first ≡ size_in key (reports_of d h.descriptor) → bits ≡ e.size * e.count
     → fields ≡ make_fields
     (record { report_id = g.report_id; number = h.fields; first = first }) e flags (usage_list us)
     (attributes g cs d flags)
-    → rs ≡ with_reports d (added_to key bits fields (reports_in d h.descriptor)) h.descriptor
+    → rs ≡ with_reports d (added_to key bits fields (reports_of d h.descriptor)) h.descriptor
     → n ≡ field_count flags e.count
     → record h { descriptor = rs; fields = h.fields + n } ≡ record h {
       descriptor = (next_state h (item_with d flags)).descriptor;
-      fields =
-          (next_state h (item_with d flags)).fields;
+      fields = (next_state h (item_with d flags)).fields;
     }
 data-held h g d flags cs e us key first bits fields rs n same around made has key_is
     first_is bits_are fields_are rs_are n_is =
     let made_now : extent h.item_state ≡ Some e = ap extent (sym same) ∙ made in
     let key_now : key ≡ key_in d h = key_is
-    ∙ ap (λ (f : ItemState). first_of f.report_id (first_id (reports_in d h.descriptor))) same
+    ∙ ap (λ (f : ItemState). first_of f.report_id (first_id (reports_of d h.descriptor))) same
     in
     let fields_now : fields ≡ made_fields h d flags cs e (usage_list us) first =
     fields_are ∙ ap (λ (f : ItemState). make_fields
@@ -129,8 +129,7 @@ data-held h g d flags cs e us key first bits fields rs n same around made has ke
     key_now first_is bits_are fields_now)
     ∙ ap (λ (m : ℕ). record h {
       descriptor = (next_state h (item_with d flags)).descriptor;
-      fields =
-          m;
+      fields = m;
     })
     (ap (λ (m : ℕ). h.fields + m) n_is ∙ sym (fields-made h d flags e made_now))
 
@@ -140,7 +139,7 @@ held_result h = Ok h
 -- what is held behind an item that makes nothing and has no fault
 pub quiet : (h : StateRecord) (f : ItemState) (stack : List ItemState)
     → held_result (record {
-      keeping = h.keeping;
+      push_keeps = h.push_keeps;
       item_state = f;
       stack = stack;
       descriptor = h.descriptor;
@@ -151,18 +150,17 @@ pub quiet : (h : StateRecord) (f : ItemState) (stack : List ItemState)
     ≡ held_result (record h { item_state = f; stack = stack })
 quiet h f stack =
     ap (λ n. held_result (record {
-      keeping = h.keeping;
+      push_keeps = h.push_keeps;
       item_state = f;
       stack = stack;
-      descriptor =
-          h.descriptor;
+      descriptor = h.descriptor;
       fields = n;
       opened = h.opened ++ [];
       collections = h.collections + 0;
     }))
     (add-zero h.fields)
     ∙ ap (λ l. held_result (record {
-      keeping = h.keeping;
+      push_keeps = h.push_keeps;
       item_state = f;
       stack = stack;
       descriptor = h.descriptor;
@@ -171,7 +169,7 @@ quiet h f stack =
       collections = h.collections + 0;
     })) (append-nil h.opened)
     ∙ ap (λ n. held_result (record {
-      keeping = h.keeping;
+      push_keeps = h.push_keeps;
       item_state = f;
       stack = stack;
       descriptor = h.descriptor;
@@ -197,12 +195,12 @@ same-item_state f locals e = ap (λ l. record f { locals = l }) e
 -- a Push keeps what is in force
 pub step-push : (h : StateRecord)
     → step h (item.Global global.Push) ≡ Ok
-    (record h { stack = h.stack ++ pushed_copy h.keeping h.item_state ∷ [] })
+    (record h { stack = h.stack ++ pushed_copy h.push_keeps h.item_state ∷ [] })
 step-push h =
     quiet h (next_item_state h.item_state (item.Global global.Push))
-    (h.stack ++ pushed_copy h.keeping h.item_state ∷ [])
+    (h.stack ++ pushed_copy h.push_keeps h.item_state ∷ [])
     ∙ ap (λ (f : ItemState). held_result
-    (record h { item_state = f; stack = h.stack ++ pushed_copy h.keeping h.item_state ∷ [] }))
+    (record h { item_state = f; stack = h.stack ++ pushed_copy h.push_keeps h.item_state ∷ [] }))
     (same-item_state h.item_state (h.item_state.locals ++ []) (append-nil h.item_state.locals))
 
 pops-by : (b : Bool) (h : StateRecord) → (length h.stack == 0) ≡ b → 0 < length h.stack
@@ -217,13 +215,12 @@ pops-by false h e some = ap (λ b. unless_fault (cond b (Some TooManyPops) None)
 pub step-pop : (h : StateRecord) → 0 < length h.stack
     → step h (item.Global global.Pop) ≡ Ok
     (record h {
-      item_state = after_pop h.keeping h.item_state (last_item_state h.item_state h.stack);
-      stack =
-          take (length h.stack - 1) h.stack;
+      item_state = after_pop h.push_keeps h.item_state (last_item_state h.item_state h.stack);
+      stack = take (length h.stack - 1) h.stack;
     })
 step-pop h some =
     pops-by (length h.stack == 0) h refl some
-    ∙ quiet h (after_pop h.keeping h.item_state (last_item_state h.item_state h.stack))
+    ∙ quiet h (after_pop h.push_keeps h.item_state (last_item_state h.item_state h.stack))
     (take (length h.stack - 1) h.stack)
 
 -- the last of a list

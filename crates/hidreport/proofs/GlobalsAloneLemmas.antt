@@ -14,7 +14,7 @@ use Rattle.hidreport.specs.Parser.Machine.{after_pop, pushed_copy, last_item_sta
 use Rattle.hidreport.specs.Parser.Machine.{next_locals}
 use Rattle.hidreport.specs.Visibility.{before}
 use Rattle.hidreport.specs.declared.parser.paged_local.PagedLocal.{PagedLocal}
-use Rattle.hidreport.specs.declared.parser.push_keeps.PushKeeps.TheVariants as push_keeps
+use Rattle.hidreport.specs.declared.parser.push_keeps.PushKeeps.TheVariants as a_push_keeps
 use Rattle.hidreport.specs.declared.parser.usages_by.UsagesBy.{UsagesBy}
 use Rattle.hidreport.proofs.AllKeptLemmas.{all-follows}
 use Rattle.hidreport.proofs.IndexedLemmas.{subst-below}
@@ -24,7 +24,7 @@ use Rattle.hidreport.proofs.WalkLemmas.{Steps, Follows}
 
 -- without its locals
 abbrev pub bare : ItemState → ItemState
-bare f = pushed_copy push_keeps.Globals f
+bare f = pushed_copy a_push_keeps.Globals f
 
 -- what the open Pushes keep
 abbrev pub stack_bare : UsagesBy → List ItemType → ℕ → List ItemState
@@ -65,7 +65,7 @@ in-item_state-by : (b : Bool) (f next : ItemState) (ls : List PagedLocal) (ts : 
     → is_pop x ≡ b
     → next ≡ cond b (last_item_state f ts) (next_item_state f x)
     → record next { locals = next_locals f.usage_page ls x }
-    ≡ cond b (after_pop push_keeps.Globals (record f { locals = ls })
+    ≡ cond b (after_pop a_push_keeps.Globals (record f { locals = ls })
     (last_item_state (record f { locals = ls }) (map bare ts)))
     (next_item_state (record f { locals = ls }) x)
 in-item_state-by true f next ls ts x pop e =
@@ -87,8 +87,8 @@ stack-by false true f ts = map-append bare ts (f ∷ [])
 stack-by false false f ts = refl
 
 globals-step : (by : UsagesBy) (items front rest : List ItemType) (x : ItemType) → items ≡ front ++ x ∷ rest
-    → Steps push_keeps.All (item_state by items) (stack by items) items (length front) x
-    → Steps push_keeps.Globals (item_state_globals_only by items) (stack_bare by items) items
+    → Steps a_push_keeps.All (item_state by items) (stack by items) items (length front) x
+    → Steps a_push_keeps.Globals (item_state_globals_only by items) (stack_bare by items) items
     (length front) x
 globals-step by items front rest x e s =
     let k = length front in
@@ -106,7 +106,7 @@ globals-step by items front rest x e s =
     }
 
 pub globals-follows : (by : UsagesBy) (items : List ItemType)
-    → Follows push_keeps.Globals by (item_state_globals_only by items) (stack_bare by items) items
+    → Follows a_push_keeps.Globals by (item_state_globals_only by items) (stack_bare by items) items
 globals-follows by items =
     let all = all-follows by items in
     record {

@@ -61,11 +61,11 @@ get-by constant variable x y several k z filled multiple is =
     ∙ is
 
 -- the field at a place of a variable item
-pub variable-at : (l : Layout) (us : UsageList) (k : ℕ) → l.item.is_constant ≡ false
-    → l.item.is_variable ≡ true → k < l.count
+pub variable-at : (l : Layout) (us : UsageList) (k : ℕ) → l.item.flags.constant ≡ false
+    → l.item.flags.variable ≡ true → k < l.count
     → slice_get (laid_out l us) k ≡ Some (variable_of l us k)
 variable-at l us k filled multiple lt =
-    get-by l.item.is_constant l.item.is_variable _ _ (each_from (variable_of l us) 0 l.count) k
+    get-by l.item.flags.constant l.item.flags.variable _ _ (each_from (variable_of l us) 0 l.count) k
     (variable_of l us k) filled multiple (each-get (variable_of l us) 0 l.count k lt
     ∙ ap (λ j. Some (variable_of l us j)) (let e : 0 + k ≡ k = omega arith in e))
 
@@ -81,12 +81,12 @@ same-by constant variable x y z fs gs filled multiple same =
     ∙ ap (λ (b : Bool). if b then gs else z ∷ []) multiple)
 
 -- the fields of a variable item take no more usages than there are fields
-pub first-laid : (l : Layout) (own us : UsageList) (n : ℕ) → l.item.is_constant ≡ false
-    → l.item.is_variable ≡ true → l.count ≤ n → HasFirst n own us
+pub first-laid : (l : Layout) (own us : UsageList) (n : ℕ) → l.item.flags.constant ≡ false
+    → l.item.flags.variable ≡ true → l.count ≤ n → HasFirst n own us
     → laid_out l own ≡ laid_out l us
 first-laid l own us n filled multiple le (inl same) = ap (laid_out l) same
 first-laid l own us n filled multiple le (inr first) =
-    same-by l.item.is_constant l.item.is_variable _ _ _
+    same-by l.item.flags.constant l.item.flags.variable _ _ _
     (each_from (variable_of l own) 0 l.count) (each_from (variable_of l us) 0 l.count)
     filled multiple
     (ap (λ (vs : List Usage). each_from (variable_of l (listed vs)) 0 l.count) first

@@ -12,9 +12,9 @@ use Rattle.hidreport.specs.Fields.{usage_at}
 use Rattle.std.specs.Prelude.{nat_lt, not, slice_set}
 use Rattle.std.specs.List.{list_any}
 use Rattle.hidreport.specs.Fields.{each_from}
-use Rattle.hidreport.specs.HostUsages.{completed, first_set, is_lone, is_on, is_on_one_page, moved_to}
-use Rattle.hidreport.specs.HostUsages.{minimum_behind, opens_set, span_of, spans, usage_in, usages_from}
-use Rattle.hidreport.specs.HostUsages.{usages_in}
+use Rattle.hidreport.specs.HostUsages.{completed, first_set, is_lone, lies_on, is_on_one_page, moved_to}
+use Rattle.hidreport.specs.HostUsages.{minimum_behind, opens_set, span_of, spans, span_usage, usages_from}
+use Rattle.hidreport.specs.HostUsages.{span_usages}
 use Rattle.hidreport.specs.ItemState.{local_items}
 use Rattle.hidreport.specs.Tiling.{IsRangeOf}
 use Rattle.hidreport.specs.Parser.Layout.{variable_of, variable_with}
@@ -52,7 +52,7 @@ own-range s page n (suc more) own low high =
 -- the usages of a span on one page
 page-by : (b : Bool) (s : UsageSpan) → s.is_short ≡ b
     → (b || (s.first / 65536 == s.last / 65536)) ≡ true
-    → usages_in s ≡ range_from (cond b s.page (s.first / 65536)) s.first (s.last + 1 - s.first)
+    → span_usages s ≡ range_from (cond b s.page (s.first / 65536)) s.first (s.last + 1 - s.first)
 page-by true s short one = short-range s s.first (s.last + 1 - s.first) short
 page-by false s own one =
     let same : s.first / 65536 ≡ s.last / 65536 = grind (arith, nat_tests) in
@@ -60,7 +60,7 @@ page-by false s own one =
     (omega (arith, same))
 
 pub page-range : (s : UsageSpan) → is_on_one_page s ≡ true
-    → usages_in s ≡ range_from (first_page s) s.first (s.last + 1 - s.first)
+    → span_usages s ≡ range_from (first_page s) s.first (s.last + 1 - s.first)
 page-range s one =
     page-by s.is_short s refl one
     ∙ ap (λ p. range_from p s.first (s.last + 1 - s.first)) refl
@@ -70,19 +70,19 @@ and-both true true e = (refl, refl)
 and-both true false e = cc
 and-both false b e = cc
 
-one-usages : (s : UsageSpan) → flat_map usages_in (s ∷ []) ≡ usages_in s
-one-usages s = append-nil (usages_in s)
+one-usages : (s : UsageSpan) → flat_map span_usages (s ∷ []) ≡ span_usages s
+one-usages s = append-nil (span_usages s)
 
 pub lone-so : (s : UsageSpan) → s.is_range ≡ true → is_on_one_page s ≡ true → is_lone (s ∷ []) ≡ true
 lone-so s range one = ap (λ b. b && is_on_one_page s) range ∙ one
 
 -- a lone maximum gives a range
 pub lone-range : (s : UsageSpan) → is_lone (s ∷ []) ≡ true
-    → flat_map usages_in (s ∷ []) ≡ range_from (first_page s) s.first (s.last + 1 - s.first)
+    → flat_map span_usages (s ∷ []) ≡ range_from (first_page s) s.first (s.last + 1 - s.first)
 lone-range s lone =
     one-usages s ∙ page-range s (and-both s.is_range (is_on_one_page s) lone).1
 
-pub spans-ranged : (ss : List UsageSpan) → is_lone ss ≡ true → IsRangeOf (flat_map usages_in ss)
+pub spans-ranged : (ss : List UsageSpan) → is_lone ss ≡ true → IsRangeOf (flat_map span_usages ss)
 spans-ranged [] lone = cc
 spans-ranged (s ∷ []) lone = record {
   page = first_page s;
@@ -151,12 +151,12 @@ length-usages s n zero = refl
 length-usages s n (suc more) = let e = length-usages s (n + 1) more in omega arith
 
 pub usages-next : (s : UsageSpan) (n more : ℕ)
-    → usages_from s n (suc more) ≡ usages_from s n more ++ usage_in s (n + more) ∷ []
+    → usages_from s n (suc more) ≡ usages_from s n more ++ span_usage s (n + more) ∷ []
 usages-next s n zero =
-    ap (λ k. usage_in s k ∷ []) (let e : n ≡ n + 0 = omega arith in e)
+    ap (λ k. span_usage s k ∷ []) (let e : n ≡ n + 0 = omega arith in e)
 usages-next s n (suc more) =
-    ap (λ l. usage_in s n ∷ l) (usages-next s (n + 1) more)
-    ∙ ap (λ k. usage_in s n ∷ (usages_from s (n + 1) more ++ usage_in s k ∷ []))
+    ap (λ l. span_usage s n ∷ l) (usages-next s (n + 1) more)
+    ∙ ap (λ k. span_usage s n ∷ (usages_from s (n + 1) more ++ span_usage s k ∷ []))
     (let e : n + 1 + more ≡ n + suc more = omega arith in e)
 
 pub take-usages : (s : UsageSpan) (n k more : ℕ) → k ≤ more
@@ -164,7 +164,7 @@ pub take-usages : (s : UsageSpan) (n k more : ℕ) → k ≤ more
 take-usages s n zero more le = refl
 take-usages s n (suc k) zero le = absurd (omega arith)
 take-usages s n (suc k) (suc more) le =
-    ap (λ l. usage_in s n ∷ l) (take-usages s (n + 1) k more (omega (arith, le)))
+    ap (λ l. span_usage s n ∷ l) (take-usages s (n + 1) k more (omega (arith, le)))
 
 -- usage c of a list, or the last one; where there is none this one
 abbrev pub usage_or : Usage → List Usage → ℕ → Usage
@@ -200,53 +200,53 @@ or-behind d (u ∷ w ∷ us) vs (suc c) le =
     (let e : c - length (w ∷ us) ≡ suc c - length (u ∷ w ∷ us) = omega arith in e)
 
 at-from : (s : UsageSpan) (n more c : ℕ) → c < more
-    → usage_at (usages_from s n more) c ≡ usage_in s (n + c)
+    → usage_at (usages_from s n more) c ≡ span_usage s (n + c)
 at-from s n zero c lt = absurd (omega arith)
-at-from s n (suc zero) zero lt = ap (usage_in s) (let e : n ≡ n + 0 = omega arith in e)
+at-from s n (suc zero) zero lt = ap (span_usage s) (let e : n ≡ n + 0 = omega arith in e)
 at-from s n (suc zero) (suc c) lt = absurd (omega (arith, lt))
-at-from s n (suc (suc more)) zero lt = ap (usage_in s) (let e : n ≡ n + 0 = omega arith in e)
+at-from s n (suc (suc more)) zero lt = ap (span_usage s) (let e : n ≡ n + 0 = omega arith in e)
 at-from s n (suc (suc more)) (suc c) lt =
     at-from s (n + 1) (suc more) c (omega (arith, lt))
-    ∙ ap (usage_in s) (let e : n + 1 + c ≡ n + suc c = omega arith in e)
+    ∙ ap (span_usage s) (let e : n + 1 + c ≡ n + suc c = omega arith in e)
 
 last-from : (d : Usage) (s : UsageSpan) (n more : ℕ)
-    → last_or d (usages_from s n (suc more)) ≡ usage_in s (n + more)
-last-from d s n zero = ap (usage_in s) (let e : n ≡ n + 0 = omega arith in e)
+    → last_or d (usages_from s n (suc more)) ≡ span_usage s (n + more)
+last-from d s n zero = ap (span_usage s) (let e : n ≡ n + 0 = omega arith in e)
 last-from d s n (suc more) =
-    last-from (usage_in s n) s (n + 1) more
-    ∙ ap (usage_in s) (let e : n + 1 + more ≡ n + suc more = omega arith in e)
+    last-from (span_usage s n) s (n + 1) more
+    ∙ ap (span_usage s) (let e : n + 1 + more ≡ n + suc more = omega arith in e)
 
 -- usage c of a span and of what stands behind it
 pub or-span : (d : Usage) (s : UsageSpan) (vs : List Usage) (n c : ℕ) → n ≡ s.last + 1 - s.first
-    → c < n → usage_or d (usages_in s ++ vs) c ≡ usage_in s (s.first + c)
+    → c < n → usage_or d (span_usages s ++ vs) c ≡ span_usage s (s.first + c)
 or-span d s vs n c is lt =
-    or-front d (usages_in s) vs c
+    or-front d (span_usages s) vs c
     (omega (arith, length-usages s s.first (s.last + 1 - s.first), is, lt))
     ∙ at-from s s.first (s.last + 1 - s.first) c (omega (arith, is, lt))
 
 last-by : (more : ℕ) (d : Usage) (s : UsageSpan) (m : ℕ) → more ≡ suc m
-    → last_or d (usages_from s s.first more) ≡ usage_in s (s.first + (more - 1))
+    → last_or d (usages_from s s.first more) ≡ span_usage s (s.first + (more - 1))
 last-by more d s m e =
     ap (λ k. last_or d (usages_from s s.first k)) e ∙ last-from d s s.first m
-    ∙ ap (usage_in s) (let p : s.first + m ≡ s.first + (more - 1) = omega (arith, e) in p)
+    ∙ ap (span_usage s) (let p : s.first + m ≡ s.first + (more - 1) = omega (arith, e) in p)
 
 pub or-further : (d last : Usage) (s : UsageSpan) (vs : List Usage) (n c : ℕ)
     → n ≡ s.last + 1 - s.first → n ≤ c
-    → (0 < n → last ≡ usage_in s (s.first + (n - 1))) → (n ≡ 0 → last ≡ d)
-    → usage_or d (usages_in s ++ vs) c ≡ usage_or last vs (c - n)
+    → (0 < n → last ≡ span_usage s (s.first + (n - 1))) → (n ≡ 0 → last ≡ d)
+    → usage_or d (span_usages s ++ vs) c ≡ usage_or last vs (c - n)
 or-further d last s vs n c is le some none =
     let size = length-usages s s.first (s.last + 1 - s.first) in
-    or-behind d (usages_in s) vs c (omega (arith, size, is, le))
-    ∙ ap (λ k. usage_or (last_or d (usages_in s)) vs (c - k)) (size ∙ sym is)
+    or-behind d (span_usages s) vs c (omega (arith, size, is, le))
+    ∙ ap (λ k. usage_or (last_or d (span_usages s)) vs (c - k)) (size ∙ sym is)
     ∙ ap (λ u. usage_or u vs (c - n)) (by-size n (s.last + 1 - s.first) is some none)
   where
-    by-size : (k more : ℕ) → k ≡ more → (0 < k → last ≡ usage_in s (s.first + (k - 1)))
+    by-size : (k more : ℕ) → k ≡ more → (0 < k → last ≡ span_usage s (s.first + (k - 1)))
         → (k ≡ 0 → last ≡ d) → last_or d (usages_from s s.first more) ≡ last
     by-size zero more e some none =
         ap (λ m. last_or d (usages_from s s.first m)) (sym e) ∙ sym (none refl)
     by-size (suc k) more e some none =
         last-by more d s k (sym e)
-        ∙ ap (λ m. usage_in s (s.first + (m - 1))) (sym e) ∙ sym (some (omega arith))
+        ∙ ap (λ m. span_usage s (s.first + (m - 1))) (sym e) ∙ sym (some (omega arith))
 
 abbrev no_usage : List Usage
 no_usage = []
@@ -311,12 +311,12 @@ some-first (suc n) (u ∷ us) pos some = omega arith
 
 -- the usages from a span on
 pub rest-of : (ss : List UsageSpan) (i : ℕ) (s : UsageSpan) → i < length ss → s ≡ get_or ss i s
-    → flat_map usages_in (drop i ss) ≡ usages_in s ++ flat_map usages_in (drop (i + 1) ss)
+    → flat_map span_usages (drop i ss) ≡ span_usages s ++ flat_map span_usages (drop (i + 1) ss)
 rest-of [] i s lt is = absurd (omega arith)
-rest-of (t ∷ ss) zero s lt is = ap (λ x. usages_in x ++ flat_map usages_in ss) (sym is)
+rest-of (t ∷ ss) zero s lt is = ap (λ x. span_usages x ++ flat_map span_usages ss) (sym is)
 rest-of (t ∷ ss) (suc i) s lt is =
     rest-of ss i s (omega (arith, lt)) is
-    ∙ ap (λ k. usages_in s ++ flat_map usages_in (drop k (t ∷ ss)))
+    ∙ ap (λ k. span_usages s ++ flat_map span_usages (drop k (t ∷ ss)))
     (let e : suc (i + 1) ≡ suc i + 1 = omega arith in e)
 
 -- what a list of usages is that no range gave
@@ -337,7 +337,7 @@ each-first l us n c (suc more) le =
 
 -- spans moved from the last on
 
-on-moved : (page : ℕ) (s : UsageSpan) → is_on page s ≡ true → moved_to page s ≡ s
+on-moved : (page : ℕ) (s : UsageSpan) → lies_on page s ≡ true → moved_to page s ≡ s
 on-moved page s on =
     let parts = and-both (s.is_short && s.page == page) (not (nat_lt s.last s.first)) on in
     let short = and-both s.is_short (s.page == page) parts.0 in
@@ -348,13 +348,13 @@ on-moved page s on =
     equal e = grind (arith, nat_tests)
 
 any-at : (page : ℕ) (ss : List UsageSpan) (i : ℕ) (s : UsageSpan) → i < length ss
-    → s ≡ get_or ss i s → is_on page s ≡ true → list_any (is_on page) ss ≡ true
+    → s ≡ get_or ss i s → lies_on page s ≡ true → list_any (lies_on page) ss ≡ true
 any-at page [] i s lt is on = absurd (omega arith)
 any-at page (t ∷ ss) zero s lt is on =
-    ap (λ b. b || list_any (is_on page) ss) (ap (is_on page) (sym is) ∙ on)
+    ap (λ b. b || list_any (lies_on page) ss) (ap (lies_on page) (sym is) ∙ on)
 any-at page (t ∷ ss) (suc i) s lt is on =
-    ap (λ b. is_on page t || b) (any-at page ss i s (omega (arith, lt)) is on)
-    ∙ or-true (is_on page t)
+    ap (λ b. lies_on page t || b) (any-at page ss i s (omega (arith, lt)) is on)
+    ∙ or-true (lies_on page t)
   where
     or-true : (b : Bool) → (b || true) ≡ true
     or-true true = refl
@@ -362,8 +362,8 @@ any-at page (t ∷ ss) (suc i) s lt is on =
 
 -- from a span that lies on the page on, all is as it is wanted
 pub stays-on : (page : ℕ) (old : List UsageSpan) (i : ℕ) (s : UsageSpan) → i < length old
-    → s ≡ get_or old i s → is_on page s ≡ true
-    → list_any (is_on page) (drop (suc i) old) ≡ false
+    → s ≡ get_or old i s → lies_on page s ≡ true
+    → list_any (lies_on page) (drop (suc i) old) ≡ false
     → take (suc i) old ++ completed page (drop (suc i) old) ≡ completed page old
 stays-on page [] i s lt is on none = absurd (omega arith)
 stays-on page (t ∷ old) zero s lt is on none =
@@ -378,16 +378,16 @@ stays-on page (t ∷ old) (suc i) s lt is on none =
 
 -- one span further moved
 pub moves-on : (page : ℕ) (old : List UsageSpan) (i : ℕ) (s m : UsageSpan) → i < length old
-    → s ≡ get_or old i s → is_on page s ≡ false → m ≡ moved_to page s
-    → list_any (is_on page) (drop (suc i) old) ≡ false
+    → s ≡ get_or old i s → lies_on page s ≡ false → m ≡ moved_to page s
+    → list_any (lies_on page) (drop (suc i) old) ≡ false
     → (slice_set (take (suc i) old ++ completed page (drop (suc i) old)) i m
     ≡ take i old ++ completed page (drop i old))
-    × (list_any (is_on page) (drop i old) ≡ false)
+    × (list_any (lies_on page) (drop i old) ≡ false)
 moves-on page [] i s m lt is off moved none = absurd (omega arith)
 moves-on page (t ∷ old) zero s m lt is off moved none = (
   ap (λ (x : UsageSpan). x ∷ completed page old) (moved ∙ ap (moved_to page) is)
       ∙ sym (ap (λ b. cond b t (moved_to page t) ∷ completed page old) none),
-  ap (λ b. b || list_any (is_on page) old) (ap (is_on page) (sym is) ∙ off) ∙ none,
+  ap (λ b. b || list_any (lies_on page) old) (ap (lies_on page) (sym is) ∙ off) ∙ none,
 )
 moves-on page (t ∷ old) (suc i) s m lt is off moved none =
     let rest = moves-on page old i s m (omega (arith, lt)) is off moved none in
@@ -409,23 +409,23 @@ on-listed (Err e) new old more others same is = tt
 -- as many usages as before, and a span's
 pub length-taken : (ss : List UsageSpan) (i : ℕ) (s : UsageSpan) → i < length ss
     → s ≡ get_or ss i s
-    → length (flat_map usages_in (take (i + 1) ss))
-    ≡ length (flat_map usages_in (take i ss)) + length (usages_in s)
+    → length (flat_map span_usages (take (i + 1) ss))
+    ≡ length (flat_map span_usages (take i ss)) + length (span_usages s)
 length-taken [] i s lt is = absurd (omega arith)
 length-taken (t ∷ ss) zero s lt is =
-    let one : length (flat_map usages_in (t ∷ [])) ≡ length (usages_in t) =
-    ap length (append-nil (usages_in t)) in
-    let same : length (usages_in t) ≡ length (usages_in s) =
-    ap (λ (x : UsageSpan). length (usages_in x)) (sym is) in
-    one ∙ same ∙ (let e : length (usages_in s) ≡ 0 + length (usages_in s) = omega arith in e)
+    let one : length (flat_map span_usages (t ∷ [])) ≡ length (span_usages t) =
+    ap length (append-nil (span_usages t)) in
+    let same : length (span_usages t) ≡ length (span_usages s) =
+    ap (λ (x : UsageSpan). length (span_usages x)) (sym is) in
+    one ∙ same ∙ (let e : length (span_usages s) ≡ 0 + length (span_usages s) = omega arith in e)
 length-taken (t ∷ ss) (suc i) s lt is =
     let more : suc i + 1 ≡ suc (i + 1) = omega arith in
     let rest = length-taken ss i s (omega (arith, lt)) is in
-    ap (λ k. length (flat_map usages_in (take k (t ∷ ss)))) more
-    ∙ length-append (usages_in t) (flat_map usages_in (take (i + 1) ss))
-    ∙ ap (λ k. length (usages_in t) + k) rest
-    ∙ (let e : length (usages_in t) + (length (flat_map usages_in (take i ss))
-    + length (usages_in s)) ≡ length (usages_in t) + length (flat_map usages_in (take i ss))
-    + length (usages_in s) = omega arith in e)
-    ∙ ap (λ k. k + length (usages_in s))
-    (sym (length-append (usages_in t) (flat_map usages_in (take i ss))))
+    ap (λ k. length (flat_map span_usages (take k (t ∷ ss)))) more
+    ∙ length-append (span_usages t) (flat_map span_usages (take (i + 1) ss))
+    ∙ ap (λ k. length (span_usages t) + k) rest
+    ∙ (let e : length (span_usages t) + (length (flat_map span_usages (take i ss))
+    + length (span_usages s)) ≡ length (span_usages t) + length (flat_map span_usages (take i ss))
+    + length (span_usages s) = omega arith in e)
+    ∙ ap (λ k. k + length (span_usages s))
+    (sym (length-append (span_usages t) (flat_map span_usages (take i ss))))

@@ -57,7 +57,7 @@ use Rattle.hidreport.specs.Parser.Budget.{is_past, left_behind, past_fault, stop
 use Rattle.hidreport.specs.Parser.Budget.{weight_in, weight_made_in, weight_opened_in}
 use Rattle.hidreport.specs.Weight.{field_weight}
 use Rattle.hidreport.specs.declared.parser.push_keeps.PushKeeps.{PushKeeps}
-use Rattle.hidreport.specs.declared.parser.push_keeps.PushKeeps.TheVariants as push_keeps
+use Rattle.hidreport.proofs.PushReadings.{back-on, push-on}
 use Rattle.hidreport.specs.Options.{meaning_as, meaning_limited, parse_limited, reading_of}
 use Rattle.hidreport.specs.declared.parse_options.ParseOptions.{ParseOptions}
 use Rattle.hidreport.specs.declared.parser.paged_local.PagedLocal.{PagedLocal}
@@ -173,8 +173,7 @@ counts-thin h x =
     ∙ ap (λ (n : ℕ). record {
       level = length h.stack;
       depth = length h.opened;
-      collections =
-          h.collections;
+      collections = h.collections;
       fields = h.fields;
       start = n;
     }) (start-thin (data_of x) h)
@@ -244,28 +243,26 @@ last-thin f [] = refl
 last-thin f (t ∷ ts) = last-thin t ts
 
 -- what a Pop brings back without reserved local items is what it brings back, without them
-back-thin : (keeping : PushKeeps) (f g : ItemState)
-    → after_pop keeping (thin_item_state f) (thin_item_state g)
-    ≡ thin_item_state (after_pop keeping f g)
-back-thin push_keeps.All f g = refl
-back-thin push_keeps.Globals f g = refl
+back-thin : (push_keeps : PushKeeps) (f g : ItemState)
+    → after_pop push_keeps (thin_item_state f) (thin_item_state g)
+    ≡ thin_item_state (after_pop push_keeps f g)
+back-thin push_keeps f g = back-on push_keeps (filter is_kept_paged) f g
 
 -- so is what a Push keeps
-push-thin : (keeping : PushKeeps) (f : ItemState)
-    → pushed_copy keeping (thin_item_state f) ≡ thin_item_state (pushed_copy keeping f)
-push-thin push_keeps.All f = refl
-push-thin push_keeps.Globals f = refl
+push-thin : (push_keeps : PushKeeps) (f : ItemState)
+    → pushed_copy push_keeps (thin_item_state f) ≡ thin_item_state (pushed_copy push_keeps f)
+push-thin push_keeps f = push-on push_keeps (filter is_kept_paged) f refl
 
 held-by : (b : Bool) (h : StateRecord) (x : ItemType) → is_kept x ≡ true
-    → cond b (after_pop h.keeping (thin_item_state h.item_state)
+    → cond b (after_pop h.push_keeps (thin_item_state h.item_state)
     (last_item_state (thin_item_state h.item_state) (map thin_item_state h.stack)))
     (next_item_state (thin_item_state h.item_state) x)
     ≡ thin_item_state
-    (cond b (after_pop h.keeping h.item_state (last_item_state h.item_state h.stack))
+    (cond b (after_pop h.push_keeps h.item_state (last_item_state h.item_state h.stack))
     (next_item_state h.item_state x))
-held-by true h x e = ap (after_pop h.keeping (thin_item_state h.item_state))
+held-by true h x e = ap (after_pop h.push_keeps (thin_item_state h.item_state))
     (last-thin h.item_state h.stack)
-    ∙ back-thin h.keeping h.item_state (last_item_state h.item_state h.stack)
+    ∙ back-thin h.push_keeps h.item_state (last_item_state h.item_state h.stack)
 held-by false h x e = item_state-thin h.item_state x e
 
 abbrev shorter : List ItemState → List ItemState
@@ -276,16 +273,16 @@ shorter-thin : (ts : List ItemState) → shorter (map thin_item_state ts)
 shorter-thin ts = ap (λ n. take (n - 1) (map thin_item_state ts)) (length-map ts thin_item_state)
     ∙ take-map thin_item_state (length ts - 1) ts
 
-kept-by : (a b : Bool) (keeping : PushKeeps) (f : ItemState) (ts : List ItemState)
+kept-by : (a b : Bool) (push_keeps : PushKeeps) (f : ItemState) (ts : List ItemState)
     → cond a (shorter (map thin_item_state ts))
-    (cond b (map thin_item_state ts ++ pushed_copy keeping (thin_item_state f) ∷ [])
+    (cond b (map thin_item_state ts ++ pushed_copy push_keeps (thin_item_state f) ∷ [])
     (map thin_item_state ts))
-    ≡ map thin_item_state (cond a (shorter ts) (cond b (ts ++ pushed_copy keeping f ∷ []) ts))
-kept-by true b keeping f ts = shorter-thin ts
-kept-by false true keeping f ts =
-    ap (λ (g : ItemState). map thin_item_state ts ++ g ∷ []) (push-thin keeping f)
-    ∙ sym (map-append thin_item_state ts (pushed_copy keeping f ∷ []))
-kept-by false false keeping f ts = refl
+    ≡ map thin_item_state (cond a (shorter ts) (cond b (ts ++ pushed_copy push_keeps f ∷ []) ts))
+kept-by true b push_keeps f ts = shorter-thin ts
+kept-by false true push_keeps f ts =
+    ap (λ (g : ItemState). map thin_item_state ts ++ g ∷ []) (push-thin push_keeps f)
+    ∙ sym (map-append thin_item_state ts (pushed_copy push_keeps f ∷ []))
+kept-by false false push_keeps f ts = refl
 
 next-thin : (h : StateRecord) (x : ItemType) → is_kept x ≡ true
     → next_state (thin h) x ≡ thin (next_state h x)
@@ -294,13 +291,11 @@ next-thin h x e =
     → List ReportRecord
     → List CollectionRecord → ℕ → StateRecord =
     λ f ts i o t cs n. record {
-      keeping = h.keeping;
+      push_keeps = h.push_keeps;
       item_state = f;
       stack = ts;
-      descriptor =
-          record { input = i; output = o; feature = t };
-      fields =
-          h.fields + fields_made (data_of x) (extent h.item_state);
+      descriptor = record { input = i; output = o; feature = t };
+      fields = h.fields + fields_made (data_of x) (extent h.item_state);
       opened = cs;
       collections = n;
     } in
@@ -311,7 +306,7 @@ next-thin h x e =
     ∙ ap (λ ts. made (thin_item_state (item_state_behind h x)) ts (next_reports Input t x)
     (next_reports Output t x) (next_reports Feature t x) (next_opened t x)
     (h.collections + length (new_collection t (collection_kind_of x))))
-    (kept-by (is_pop x) (is_push x) h.keeping h.item_state h.stack)
+    (kept-by (is_pop x) (is_push x) h.push_keeps h.item_state h.stack)
     ∙ ap (λ i. made (thin_item_state (item_state_behind h x))
     (map thin_item_state (next_stack h x)) i
     (next_reports Output t x) (next_reports Feature t x) (next_opened t x)
@@ -342,22 +337,20 @@ not-kept-fault h item.Reserved e = refl
 idle-thin : (h : StateRecord) (locals : List PagedLocal)
     → filter is_kept_paged locals ≡ filter is_kept_paged h.item_state.locals
     → thin (record {
-      keeping = h.keeping;
+      push_keeps = h.push_keeps;
       item_state = record h.item_state { locals = locals };
       stack = h.stack;
       descriptor = h.descriptor;
       fields = h.fields + 0;
       opened = h.opened ++ [];
-      collections =
-          h.collections + 0;
+      collections = h.collections + 0;
     }) ≡ thin h
 idle-thin h locals e =
     let made : List PagedLocal → ℕ → List CollectionRecord → ℕ → StateRecord =
     λ l n cs m. record {
-      keeping = h.keeping;
+      push_keeps = h.push_keeps;
       item_state = record h.item_state { locals = l };
-      stack =
-          map thin_item_state h.stack;
+      stack = map thin_item_state h.stack;
       descriptor = h.descriptor;
       fields = n;
       opened = cs;

@@ -7,6 +7,7 @@ pub mod RepairAgainLemmas
 pub mod LocalsLemmas
 pub mod LookupLemmas
 pub mod FixedBitsLemmas
+pub mod FlagLemmas
 pub mod BitLemmas
 pub mod BlankLemmas
 pub mod WholeLemmas
@@ -73,6 +74,7 @@ pub mod RepairLawLemmas
 pub mod RepairRefusalLemmas
 pub mod RepairBitsLemmas
 pub mod MendedPieceLemmas
+pub mod PushReadings
 pub mod RangeLemmas
 pub mod ElementLemmas
 pub mod ScalingLemmas

@@ -4,7 +4,7 @@ use Rattle.std.proofs.Common.{sym, IfOk}
 use Rattle.hidreport_lists.specs.Answer.{Answers, Mismatch, OverBudget, Refusal}
 use Rattle.hidreport_lists.specs.declared.error.ParserError.{ParserError}
 use Rattle.hidreport.specs.Meaning.{InForce}
-use Rattle.hidreport.specs.Options.{parse_as, parse_limited, past_longest, reading_of, unless_past}
+use Rattle.hidreport.specs.Options.{parse_as, parse_limited, past_longest, reading_of, unless_too_long}
 use Rattle.hidreport.specs.Records.{DescriptorRecord}
 use Rattle.hidreport.specs.declared.parse_options.ParseOptions.{ParseOptions}
 use Rattle.hidreport.proofs.RefusalLemmas.{never-mismatch, never-over}
@@ -14,18 +14,18 @@ pub as-limited : (options : ParseOptions) (bytes : List ℕ)
     → None ≡ past_longest options.longest (length bytes)
     → parse_as options bytes
     ≡ parse_limited (reading_of options) options.limit bytes
-as-limited options bytes none = ap (λ o. unless_past o
+as-limited options bytes none = ap (λ o. unless_too_long o
     (parse_limited (reading_of options) options.limit bytes)) (sym none)
 
 -- what is past is the refusal
 pub as-past : (options : ParseOptions) (bytes : List ℕ) (offset : ℕ)
     → Some offset ≡ past_longest options.longest (length bytes)
     → parse_as options bytes ≡ Err (OverBudget offset)
-as-past options bytes offset past = ap (λ o. unless_past o
+as-past options bytes offset past = ap (λ o. unless_too_long o
     (parse_limited (reading_of options) options.limit bytes)) (sym past)
 
 past-mismatch : (past : Option ℕ) (answer : Result DescriptorRecord Refusal)
-    → answer ≢ Err Mismatch → unless_past past answer ≢ Err Mismatch
+    → answer ≢ Err Mismatch → unless_too_long past answer ≢ Err Mismatch
 past-mismatch None answer never is = never is
 past-mismatch (Some offset) answer never is = cc
 
@@ -37,7 +37,7 @@ as-never-mismatch options bytes = past-mismatch (past_longest options.longest (l
 
 unlimited : (reading : InForce) (limit longest : Option ℕ) (bytes : List ℕ) (offset : ℕ)
     → limit ≡ None → longest ≡ None
-    → unless_past (past_longest longest (length bytes)) (parse_limited reading limit bytes)
+    → unless_too_long (past_longest longest (length bytes)) (parse_limited reading limit bytes)
     ≢ Err (OverBudget offset)
 unlimited reading None None bytes offset none any is = never-over reading bytes offset is
 unlimited reading (Some limit) longest bytes offset none any is = cc

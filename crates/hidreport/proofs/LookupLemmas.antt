@@ -6,12 +6,10 @@ use Rattle.std.specs.Prelude.{count_by, find, slice_get}
 use Rattle.std.specs.Slice.{IsItemAt}
 use Rattle.hidreport.specs.Making.{same_key}
 use Rattle.hidreport.specs.Lookup.{IsOneWith, report_with, reports_of}
-use Rattle.hidreport.specs.Parser.Machine.{reports_in}
 use Rattle.hidreport.specs.Records.{DescriptorRecord, ReportRecord}
 use Rattle.hidreport.specs.Tiling.{HaveOwnIds, IsTiled}
-use Rattle.hidreport.specs.Views.{direction_of}
-use Rattle.hidreport.specs.declared.field.data_item.Direction.{Direction as ItemDirection}
-use Rattle.hidreport.specs.declared.field.data_item.Direction.TheVariants as directions
+use Rattle.hidreport.specs.declared.field.data_item.Direction.{Direction}
+use Rattle.hidreport.specs.declared.field.data_item.Direction.TheVariants as direction
 use Rattle.hidreport.proofs.TilingLemmas.{count-cons}
 
 counted-by : (b : Bool) (n : ℕ) → b ≡ true → 1 ≤ cond b 1 0 + n
@@ -65,15 +63,9 @@ pub own-found : (id : Option ℕ) (rs : List ReportRecord) (r : ReportRecord) �
 own-found id rs r own one =
     sole (λ (x : ReportRecord). same_key x.id id) rs one.index r (own.once id) one.there one.wanted
 
-pub same-reports : (direction : ItemDirection) (d : DescriptorRecord)
-    → reports_in (direction_of direction) d ≡ reports_of direction d
-same-reports directions.Input d = refl
-same-reports directions.Output d = refl
-same-reports directions.Feature d = refl
-
 -- in each direction of a tiled descriptor
-pub own-ids : (direction : ItemDirection) (d : DescriptorRecord) → IsTiled d
+pub own-ids : (direction : Direction) (d : DescriptorRecord) → IsTiled d
     → HaveOwnIds (reports_of direction d)
-own-ids directions.Input d tiled = tiled.input_ids
-own-ids directions.Output d tiled = tiled.output_ids
-own-ids directions.Feature d tiled = tiled.feature_ids
+own-ids direction.Input d tiled = tiled.input_ids
+own-ids direction.Output d tiled = tiled.output_ids
+own-ids direction.Feature d tiled = tiled.feature_ids

@@ -16,12 +16,11 @@ use Rattle.hidreport.specs.Kinds.{Direction, Indexed, data_of, goes, is_pop, is_
 use Rattle.hidreport.specs.Kinds.{report_count_of, report_id_of, report_size_of}
 use Rattle.hidreport.specs.Making.{both_set, extent, first_report_id, key, makers, makers_of, makes}
 use Rattle.hidreport.specs.Making.{same_key}
-use Rattle.hidreport.specs.Options.{reading_by, reading_of}
+use Rattle.hidreport.specs.Options.{reading_of}
 use Rattle.hidreport.specs.Places.{bits_of, end_before, id_bits, start}
-use Rattle.hidreport.specs.RepairLaws.{SamePlaces, direction_of}
+use Rattle.hidreport.specs.RepairLaws.{SamePlaces, item_direction}
 use Rattle.hidreport.specs.Visibility.{before, is_visible, level, stays_up, visible}
-use Rattle.hidreport.specs.declared.parser.push_keeps.PushKeeps.{PushKeeps}
-use Rattle.hidreport.specs.declared.parser.push_keeps.PushKeeps.TheVariants as push_keeps
+use Rattle.hidreport.proofs.PushReadings.{IsRead, reading-globals}
 use Rattle.hidreport.specs.declared.parser.usages_by.UsagesBy.{UsagesBy}
 use Rattle.hidreport.specs.declared.parse_options.ParseOptions.{ParseOptions}
 
@@ -41,7 +40,7 @@ record Alike (x y : ItemType) : Type 0 where
   size : report_size_of x ≡ report_size_of y
   id : report_id_of x ≡ report_id_of y
   count : report_count_of x ≡ report_count_of y
-  direction : direction_of x ≡ direction_of y
+  direction : item_direction x ≡ item_direction y
   goes_too : (d : Direction) → goes d (data_of x) ≡ goes d (data_of y)
 
 alike : (x : ItemType) → Alike (outline x) x
@@ -189,20 +188,9 @@ force-same : (tag : ItemType → Option ℕ) → ((x : ItemType) → tag (outlin
 force-same tag same items k =
     ap (last_value tag) (visible-same items k) ∙ value-same tag same (visible items k)
 
--- size, count and id are in force by each reading alike
-record IsRead (f : ItemState) (items : List ItemType) (k : ℕ) : Type 0 where
-  size : f.report_size ≡ in_force report_size_of items k
-  count : f.report_count ≡ in_force report_count_of items k
-  id : f.report_id ≡ in_force report_id_of items k
-
-read-by : (keeps : PushKeeps) (by : UsagesBy) (items : List ItemType) (k : ℕ)
-    → IsRead (reading_by keeps by items k) items k
-read-by push_keeps.All by items k = record { size = refl; count = refl; id = refl }
-read-by push_keeps.Globals by items k = record { size = refl; count = refl; id = refl }
-
 is-read : (options : ParseOptions) (items : List ItemType) (k : ℕ)
     → IsRead (reading_of options items k) items k
-is-read options items k = read-by options.push_keeps options.usages items k
+is-read options items k = reading-globals options.push_keeps options.usages items k
 
 extent-same : (options : ParseOptions) (items : List ItemType) (k : ℕ)
     → extent (reading_of options (outlines items) k) ≡ extent (reading_of options items k)
@@ -288,17 +276,17 @@ start-same options items d k =
     (key-same options items d k)
     ∙ end-same options items d (key (reading_of options items) d items k) k
 
-directions-same : (items : List ItemType) → map direction_of (outlines items) ≡ map direction_of items
+directions-same : (items : List ItemType) → map item_direction (outlines items) ≡ map item_direction items
 directions-same [] = refl
 directions-same (x ∷ xs) =
-    ap (λ o. o ∷ map direction_of (outlines xs)) (alike x).direction
-    ∙ ap (λ l. direction_of x ∷ l) (directions-same xs)
+    ap (λ o. o ∷ map item_direction (outlines xs)) (alike x).direction
+    ∙ ap (λ l. item_direction x ∷ l) (directions-same xs)
 
 -- items with the same outlines lie in the same places
 pub same-places : (options : ParseOptions) (items others : List ItemType)
     → map outline items ≡ map outline others → SamePlaces options items others
 same-places options items others same = record {
-  directions = sym (directions-same items) ∙ ap (map direction_of) same ∙ directions-same others;
+  directions = sym (directions-same items) ∙ ap (map item_direction) same ∙ directions-same others;
   extents = λ k. sym (extent-same options items k)
       ∙ ap (λ l. extent (reading_of options l k)) same ∙ extent-same options others k;
   reports = λ d k. sym (key-same options items d k)

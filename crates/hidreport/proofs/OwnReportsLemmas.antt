@@ -6,8 +6,8 @@ use Rattle.std.specs.Prelude.{◌==◌, find}
 use Rattle.std.proofs.lemmas.Grind.{common_steps}
 use Rattle.hidreport_lists.specs.Answer.{Refusal, Bounds, Mismatch}
 use Rattle.hidreport.specs.Lookup.{find_by, find_report, reports_of}
-use Rattle.hidreport.specs.declared.field.data_item.Direction.{Direction as ItemDirection}
-use Rattle.hidreport.specs.declared.field.data_item.Direction.TheVariants as directions
+use Rattle.hidreport.specs.declared.field.data_item.Direction.{Direction}
+use Rattle.hidreport.specs.declared.field.data_item.Direction.TheVariants as direction
 use Rattle.hidreport.specs.Making.{same_key}
 use Rattle.hidreport.specs.Reading.{ValueRecord, before_values, element, each_value, is_signed}
 use Rattle.hidreport.specs.Reading.{one_value, read_bits, reads, values_of, with_id}
@@ -135,8 +135,8 @@ feature-own d bytes t = found-own d.feature bytes
     (each-back IsFilled d.input (d.output ++ d.feature) t.filled))
 
 -- those of any direction
-pub own-of : (way : ItemDirection) (d : DescriptorRecord) (bytes : List ℕ) → IsTiled d
+pub own-of : (way : Direction) (d : DescriptorRecord) (bytes : List ℕ) → IsTiled d
     → IfSome (find_report (reports_of way d) bytes) (AllOwn bytes)
-own-of directions.Input d bytes t = input-own d bytes t
-own-of directions.Output d bytes t = output-own d bytes t
-own-of directions.Feature d bytes t = feature-own d bytes t
+own-of direction.Input d bytes t = input-own d bytes t
+own-of direction.Output d bytes t = output-own d bytes t
+own-of direction.Feature d bytes t = feature-own d bytes t

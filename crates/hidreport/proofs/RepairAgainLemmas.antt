@@ -11,7 +11,7 @@ use Rattle.hidreport_lists.specs.Rebuilt.{canonical_entries, items_of, kept_entr
 use Rattle.hidreport_lists.specs.declared.error.ParserError.{ParserError}
 use Rattle.hidreport.specs.Meaning.{at_offset, meaning_by, parse_by}
 use Rattle.hidreport.specs.MeaningFault.{MeaningFault}
-use Rattle.hidreport.specs.Options.{parse_as, parse_limited, past_longest, reading_of, unless_past}
+use Rattle.hidreport.specs.Options.{parse_as, parse_limited, past_longest, reading_of, unless_too_long}
 use Rattle.hidreport.specs.Records.{DescriptorRecord}
 use Rattle.hidreport.specs.Repair.{RepairedRecord, repaired, repaired_view}
 use Rattle.hidreport.specs.RepairLaws.{KeepsBits, RebuildsAlike, StaysRepaired}
@@ -42,7 +42,7 @@ stays-repaired options bytes r are e =
 -- what is read by options is read without limits
 read-plain : (past limit : Option ℕ) (options : ParseOptions) (bytes : List ℕ)
     (d : DescriptorRecord)
-    → unless_past past (parse_limited (reading_of options) limit bytes) ≡ Ok d
+    → unless_too_long past (parse_limited (reading_of options) limit bytes) ≡ Ok d
     → parse_by (reading_of options) bytes ≡ Ok d
 read-plain None limit options bytes d e =
     limited-plain (reading_of options) limit bytes d e

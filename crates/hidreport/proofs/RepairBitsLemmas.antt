@@ -22,16 +22,16 @@ use Rattle.hidreport.specs.Faults.{Counts, id_count, item_fault}
 use Rattle.hidreport.specs.ItemState.{ItemState}
 use Rattle.hidreport.specs.Meaning.{InForce}
 use Rattle.hidreport.specs.MeaningFault.{MeaningFault, TooManyEnds, TooManyPops}
-use Rattle.hidreport.specs.Options.{parse_as, parse_limited, past_longest, reading_of, unless_past}
+use Rattle.hidreport.specs.Options.{parse_as, parse_limited, past_longest, reading_of, unless_too_long}
 use Rattle.hidreport.specs.Parser.Budget.{is_past, left_behind, weight_in}
 use Rattle.hidreport.specs.Parser.Machine.{StateRecord, counts_in, fault_held, fault_in, first_state}
 use Rattle.hidreport.specs.Parser.Machine.{next_state, step}
-use Rattle.hidreport.specs.Parser.Machine.{unless_fault as unless_held}
+use Rattle.hidreport.specs.Parser.Machine.{unless_fault}
 use Rattle.hidreport.specs.Records.{DescriptorRecord}
 use Rattle.hidreport.specs.Repair.{RepairedRecord, all_mended, behind, constant_bytes, fault_at}
 use Rattle.hidreport.specs.Repair.{if_read, is_meant_unsigned, is_missing_usages, joined, mended}
 use Rattle.hidreport.specs.Repair.{padded_by, repaired, repaired_of, repaired_pieces, repaired_view}
-use Rattle.hidreport.specs.Repair.{rewritten, then_mended, then_read, unless_fault, wider_bytes}
+use Rattle.hidreport.specs.Repair.{rewritten, then_mended, then_read, if_faultless, wider_bytes}
 use Rattle.hidreport.specs.Repair.{widened, widened_in, with_mended}
 use Rattle.hidreport.specs.RepairLaws.{KeepsBits}
 use Rattle.hidreport.specs.Tiling.{Each}
@@ -160,7 +160,7 @@ goes-by options before left h None reached passes = record {
 goes-by options before left h (Some x) reached passes =
     let fits = stop-none (fault_in h x) (is_past left (weight_in h x)) passes in
     let stepped : step h x ≡ Ok (next_state h x) =
-    ap (λ o. unless_held o (next_state h x)) fits.0 in
+    ap (λ o. unless_fault o (next_state h x)) fits.0 in
     record {
       left = left_behind left (weight_in h x);
       state = next_state h x;
@@ -199,7 +199,7 @@ all-mend options before left h (p ∷ ps) qs reached stand e =
   where
     by-fault : (o : Option MeaningFault) (rest : Result (List PieceRecord) Refusal)
         → fault_at options.parse before (mended options before p) ≡ o
-        → unless_fault o p.offset (with_mended (mended options before p) rest) ≡ Ok qs
+        → if_faultless o p.offset (with_mended (mended options before p) rest) ≡ Ok qs
         → (Goes options.parse (behind before (mended options before p))
         → (more : List PieceRecord) → rest ≡ Ok more → AllMend ps more)
         → AllMend (p ∷ ps) qs
@@ -221,7 +221,7 @@ all-mend options before left h (p ∷ ps) qs reached stand e =
 
 -- nothing is no descriptor
 none-read : (past limit : Option ℕ) (reading : InForce)
-    → IsOk (unless_past past (parse_limited reading limit [])) → ⊥
+    → IsOk (unless_too_long past (parse_limited reading limit [])) → ⊥
 none-read None None reading ok = cc
 none-read None (Some limit) reading ok = cc
 none-read (Some offset) limit reading ok = cc
@@ -278,7 +278,7 @@ by-pieces options bytes r (Ok ps) are cut e some = by-mended (all_mended options
 
 past-keeps : (past : Option ℕ) (options : RepairOptions) (bytes : List ℕ) (r : RepairedRecord)
     → AreBytes bytes
-    → unless_past past (then_read options.parse (repaired_pieces options bytes)) ≡ Ok r
+    → unless_too_long past (then_read options.parse (repaired_pieces options bytes)) ≡ Ok r
     → r.bytes ≢ [] → KeepsBits options bytes r
 past-keeps None options bytes r are e some =
     by-pieces options bytes r (pieces options.leave_out_cut_short bytes) are refl e some

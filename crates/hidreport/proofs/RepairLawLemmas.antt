@@ -12,10 +12,10 @@ use Rattle.hidreport_items.specs.declared.item.ItemType.{ItemType}
 use Rattle.hidreport_lists.specs.Answer.{AnswersBy, Refusal}
 use Rattle.hidreport_lists.specs.Itemising.{as_refusal}
 use Rattle.hidreport_lists.specs.Mending.{PieceRecord, cut_short, ends_unknown, front_piece}
-use Rattle.hidreport_lists.specs.Mending.{is_local, item_in, left_out, piece_by}
+use Rattle.hidreport_lists.specs.Mending.{has_local, item_in, left_out, piece_by}
 use Rattle.hidreport_lists.specs.Mending.{pieces_from, whole_piece, with_piece}
 use Rattle.hidreport_lists.specs.Mending.{without_ended, zero_piece}
-use Rattle.hidreport_lists.specs.Mending.{if_read as if_pieces}
+use Rattle.hidreport_lists.specs.Mending.{then_ended}
 use Rattle.hidreport_lists.specs.declared.error.ParserError.{ParserError}
 use Rattle.hidreport_lists.specs.declared.mending.Mend.{Mend}
 use Rattle.hidreport_lists.specs.declared.mending.Mend.TheVariants as mend
@@ -23,12 +23,12 @@ use Rattle.hidreport_items.proofs.FollowingLemmas.{following-cut}
 use Rattle.hidreport_lists.proofs.ItemLemmas.{enough}
 use Rattle.hidreport_lists.proofs.MendingLemmas.{all-inside}
 use Rattle.hidreport.specs.MeaningFault.{MeaningFault}
-use Rattle.hidreport.specs.Options.{parse_as, past_longest, unless_past}
+use Rattle.hidreport.specs.Options.{parse_as, past_longest, unless_too_long}
 use Rattle.hidreport.specs.Records.{DescriptorRecord}
 use Rattle.hidreport.specs.Repair.{RepairedRecord, all_mended, behind, fault_at, if_read}
 use Rattle.hidreport.specs.Repair.{joined, mended, repaired, repaired_of}
 use Rattle.hidreport.specs.Repair.{repaired_pieces, repaired_view, rewritten_as}
-use Rattle.hidreport.specs.Repair.{then_mended, then_read, unless_fault, widened}
+use Rattle.hidreport.specs.Repair.{then_mended, then_read, if_faultless, widened}
 use Rattle.hidreport.specs.Repair.{with_mended}
 use Rattle.hidreport.specs.RepairLaws.{AreInPlace, IsOneItem, IsRepairOf, StandsAsItStood}
 use Rattle.hidreport.specs.RepairLaws.{StoodAsOne}
@@ -241,7 +241,7 @@ laid-kept offset bytes ps qs keep laid = record {
 ended-keep : (ps : List PieceRecord) → AllKeep ps (without_ended ps)
 ended-keep [] = tt
 ended-keep (p ∷ ps) = (
-  keeps-choice (ends_unknown ps && is_local (item_in p)) p
+  keeps-choice (ends_unknown ps && has_local (item_in p)) p
       (left_out mend.EndedLocal p.offset p.stood) (keeps-left_out mend.EndedLocal p),
   ended-keep ps,
 )
@@ -263,7 +263,7 @@ all-keep options before (p ∷ ps) qs e =
     (λ more f. all-keep options (behind before (mended options before p)) ps more f)
   where
     by-fault : (o : Option MeaningFault) (rest : Result (List PieceRecord) Refusal)
-        → unless_fault o p.offset (with_mended (mended options before p) rest) ≡ Ok qs
+        → if_faultless o p.offset (with_mended (mended options before p) rest) ≡ Ok qs
         → ((more : List PieceRecord) → rest ≡ Ok more → AllKeep ps more) → AllKeep (p ∷ ps) qs
     by-fault (Some f) rest whole later = cc
     by-fault None (Err refusal) whole later = cc
@@ -275,7 +275,7 @@ all-keep options before (p ∷ ps) qs e =
 pieces-laid : (options : RepairOptions) (bytes : List ℕ)
     (r : Result (List PieceRecord) (ℕ × GrammarFault)) (qs : List PieceRecord)
     → pieces_from options.leave_out_cut_short 0 0 bytes ≡ r
-    → then_mended options (as_refusal (if_pieces r)) ≡ Ok qs → Laid 0 bytes qs
+    → then_mended options (as_refusal (then_ended r)) ≡ Ok qs → Laid 0 bytes qs
 pieces-laid options bytes (Ok ps) qs cut e =
     laid-kept 0 bytes (without_ended ps) qs (all-keep options [] (without_ended ps) qs e)
     (laid-kept 0 bytes ps (without_ended ps) (ended-keep ps)
@@ -306,7 +306,7 @@ repair-by options bytes (Ok ps) r found e =
         }
 
 past-repair : (past : Option ℕ) (options : RepairOptions) (bytes : List ℕ) (r : RepairedRecord)
-    → unless_past past (then_read options.parse (repaired_pieces options bytes)) ≡ Ok r
+    → unless_too_long past (then_read options.parse (repaired_pieces options bytes)) ≡ Ok r
     → IsRepairOf bytes r
 past-repair None options bytes r e =
     repair-by options bytes (repaired_pieces options bytes) r refl e

@@ -11,10 +11,10 @@ use Rattle.hidreport_items.specs.declared.item.ItemType.{ItemType}
 use Rattle.hidreport_lists.specs.Answer.{Refusal}
 use Rattle.hidreport_lists.specs.Mending.{PieceRecord, item_in, standing_bytes}
 use Rattle.hidreport_lists.specs.declared.mending.Mend.TheVariants as mend
-use Rattle.hidreport.specs.ItemState.{ItemState, first_of, item_state, item_state_globals_only}
+use Rattle.hidreport.specs.ItemState.{ItemState, first_of}
 use Rattle.hidreport.specs.Meaning.{InForce, refusal_at}
 use Rattle.hidreport.specs.MeaningFault.{MeaningFault}
-use Rattle.hidreport.specs.Options.{meaning_as, reading_by, reading_of}
+use Rattle.hidreport.specs.Options.{meaning_as, reading_of}
 use Rattle.hidreport.specs.Parser.Budget.{is_past, left_behind, past_fault, stop_in, walk_within}
 use Rattle.hidreport.specs.Parser.Budget.{weight_in}
 use Rattle.hidreport.specs.Parser.Machine.{StateRecord, fault_held, fault_in, first_state, go_on, start_by}
@@ -23,16 +23,13 @@ use Rattle.hidreport.specs.Parser.Mended.{mended_in, padded_in}
 use Rattle.hidreport.specs.Repair.{all_mended, behind, change_in, constant_bytes, fault_at}
 use Rattle.hidreport.specs.Repair.{is_missing_usages, mended, named_fault, padded_by, rewritten}
 use Rattle.hidreport.specs.Repair.{widened, widened_in, with_mended}
-use Rattle.hidreport.specs.Repair.{unless_fault as unless_refused}
+use Rattle.hidreport.specs.Repair.{if_faultless}
 use Rattle.hidreport.specs.declared.parse_options.ParseOptions.{ParseOptions}
 use Rattle.hidreport.specs.declared.parser.push_keeps.PushKeeps.{PushKeeps}
-use Rattle.hidreport.specs.declared.parser.push_keeps.PushKeeps.TheVariants as push_keeps
 use Rattle.hidreport.specs.declared.parser.usages_by.UsagesBy.{UsagesBy}
 use Rattle.hidreport.specs.declared.repairing.repair_options.RepairOptions.{RepairOptions}
-use Rattle.hidreport.proofs.AllKeptLemmas.{all-follows}
 use Rattle.hidreport.proofs.BudgetWalkLemmas.{meaning-walk}
-use Rattle.hidreport.proofs.GlobalsAloneLemmas.{globals-follows, stack_bare}
-use Rattle.hidreport.proofs.LevelLemmas.{stack}
+use Rattle.hidreport.proofs.PushReadings.{kept_stack, reading-follows}
 use Rattle.hidreport.proofs.ParseLemmas.{goes-on}
 use Rattle.hidreport.proofs.WalkLemmas.{Follows, Holds, holds-next, holds-nothing}
 
@@ -69,56 +66,51 @@ stepped-so None h next e = (refl, cc)
 stepped-so (Some f) h next e = cc
 
 -- what is held is what the definitions say
-run-holds : (keeping : PushKeeps) (by : UsagesBy) (state : ℕ → ItemState) (saved : ℕ → List ItemState)
-    (items front rest : List ItemType) (h g : StateRecord) → Follows keeping by state saved items
-    → h.keeping ≡ keeping → items ≡ front ++ rest → Holds state saved items (length front) h
+run-holds : (push_keeps : PushKeeps) (by : UsagesBy) (state : ℕ → ItemState) (saved : ℕ → List ItemState)
+    (items front rest : List ItemType) (h g : StateRecord) → Follows push_keeps by state saved items
+    → h.push_keeps ≡ push_keeps → items ≡ front ++ rest → Holds state saved items (length front) h
     → run h rest ≡ Ok g → Holds state saved items (length items) g
-run-holds keeping by state saved items front [] h g follows reads e held ran =
+run-holds push_keeps by state saved items front [] h g follows reads e held ran =
     let whole : items ≡ front = e ∙ append-nil front in
     let same : h ≡ g = cc in
     subst (λ s. Holds state saved items (length items) s) same
     (subst (λ n. Holds state saved items n h) (ap length (sym whole)) held)
-run-holds keeping by state saved items front (x ∷ xs) h g follows reads e held ran =
+run-holds push_keeps by state saved items front (x ∷ xs) h g follows reads e held ran =
     by-step (step h x) refl ran
-    (λ n keeps held_next more. run-holds keeping by state saved items (front ++ x ∷ []) xs n g
+    (λ n keeps held_next more. run-holds push_keeps by state saved items (front ++ x ∷ []) xs n g
     follows keeps (e ∙ sym (append_assoc front (x ∷ []) xs)) held_next more)
   where
     by-step : (r : Result StateRecord MeaningFault) → step h x ≡ r
         → then_run r (λ n. run n xs) ≡ Ok g
-        → ((n : StateRecord) → n.keeping ≡ keeping
+        → ((n : StateRecord) → n.push_keeps ≡ push_keeps
         → Holds state saved items (length (front ++ x ∷ [])) n → run n xs ≡ Ok g
         → Holds state saved items (length items) g)
         → Holds state saved items (length items) g
     by-step (Ok n) stepped more rest =
         let so = stepped-so (fault_in h x) (next_state h x) n stepped in
         let size : length (front ++ x ∷ []) ≡ suc (length front) = grind (arith, common_steps) in
-        let next = holds-next keeping by state saved items front xs h x follows reads e held so.0 in
-        rest n (ap (λ (s : StateRecord). s.keeping) so.1 ∙ reads)
+        let next = holds-next push_keeps by state saved items front xs h x follows reads e held so.0 in
+        rest n (ap (λ (s : StateRecord). s.push_keeps) so.1 ∙ reads)
         (subst (λ s. Holds state saved items (length (front ++ x ∷ [])) s) (sym so.1)
         (subst (λ k. Holds state saved items k (next_state h x)) (sym size) next)) more
     by-step (Err f) stepped more rest = cc
 
-run-state : (keeping : PushKeeps) (by : UsagesBy) (reading : InForce) (saved : ℕ → List ItemState)
-    (items : List ItemType) (g : StateRecord) → Follows keeping by (reading items) saved items
-    → run (start_by keeping by) items ≡ Ok g → g.item_state ≡ reading items (length items)
-run-state keeping by reading saved items g follows ran =
-    (run-holds keeping by (reading items) saved items [] items (start_by keeping by) g follows refl
-    refl (holds-nothing keeping by (reading items) saved items follows) ran).item_states
-
-kept-held : (keeping : PushKeeps) (by : UsagesBy) (items : List ItemType) (g : StateRecord)
-    → run (start_by keeping by) items ≡ Ok g
-    → g.item_state ≡ reading_by keeping by items (length items)
-kept-held push_keeps.All by items g ran =
-    run-state push_keeps.All by (item_state by) (stack by items) items g (all-follows by items) ran
-kept-held push_keeps.Globals by items g ran =
-    run-state push_keeps.Globals by (item_state_globals_only by) (stack_bare by items) items g
-    (globals-follows by items) ran
+run-state : (push_keeps : PushKeeps) (by : UsagesBy) (reading : InForce) (saved : ℕ → List ItemState)
+    (items : List ItemType) (g : StateRecord) → Follows push_keeps by (reading items) saved items
+    → run (start_by push_keeps by) items ≡ Ok g → g.item_state ≡ reading items (length items)
+run-state push_keeps by reading saved items g follows ran =
+    (run-holds push_keeps by (reading items) saved items [] items (start_by push_keeps by) g follows refl
+    refl (holds-nothing push_keeps by (reading items) saved items follows) ran).item_states
 
 -- what is in force behind the items, by the reading that is asked for
 pub state-held : (options : ParseOptions) (items : List ItemType) (g : StateRecord)
     → run (first_state options) items ≡ Ok g
     → g.item_state ≡ reading_of options items (length items)
-state-held options items g ran = kept-held options.push_keeps options.usages items g ran
+state-held options items g ran =
+    let push_keeps = options.push_keeps in
+    let by = options.usages in
+    run-state push_keeps by (reading_of options) (kept_stack push_keeps by items) items g
+    (reading-follows push_keeps by items) ran
 
 -- this is held and left behind these items
 pub record Reached (options : ParseOptions) (before : List ItemType) (left : Option ℕ)
@@ -236,7 +228,7 @@ mended-on options before left h p m ps reached is passes =
     let none : fault_at options.parse before (mended options before p) ≡ None =
     ap (fault_at options.parse before) (sym is)
     ∙ fault-stop options.parse before left h m reached ∙ passes in
-    ap (λ o. unless_refused o p.offset (with_mended (mended options before p)
+    ap (λ o. if_faultless o p.offset (with_mended (mended options before p)
     (all_mended options (behind before (mended options before p)) ps))) none
     ∙ ap (λ v. with_mended v (all_mended options (behind before v) ps)) (sym is)
 
@@ -250,7 +242,7 @@ mended-not options before left h p m ps f reached is stops =
     let some : fault_at options.parse before (mended options before p) ≡ Some f =
     ap (fault_at options.parse before) (sym is)
     ∙ fault-stop options.parse before left h m reached ∙ stops in
-    ap (λ o. unless_refused o p.offset (with_mended (mended options before p)
+    ap (λ o. if_faultless o p.offset (with_mended (mended options before p)
     (all_mended options (behind before (mended options before p)) ps))) some
 
 -- one more piece, and what it gives, if anything

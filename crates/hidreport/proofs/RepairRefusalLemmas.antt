@@ -13,11 +13,11 @@ use Rattle.hidreport.specs.MeaningFault.{MeaningFault, MissingUsageMaximum, Miss
 use Rattle.hidreport.specs.MeaningFault.{MissingUsages, PastBounds, PastBudget, TooManyEnds}
 use Rattle.hidreport.specs.MeaningFault.{TooManyPops}
 use Rattle.hidreport.specs.Options.{meaning_as, meaning_limited, parse_as, past_longest}
-use Rattle.hidreport.specs.Options.{reading_of, unless_past}
+use Rattle.hidreport.specs.Options.{reading_of, unless_too_long}
 use Rattle.hidreport.specs.Records.{DescriptorRecord}
 use Rattle.hidreport.specs.Repair.{RepairedRecord, all_mended, behind, fault_at, if_read, joined}
 use Rattle.hidreport.specs.Repair.{mended, named_fault, repaired, repaired_of, repaired_pieces, repaired_view}
-use Rattle.hidreport.specs.Repair.{then_mended, then_read, unless_fault, with_mended}
+use Rattle.hidreport.specs.Repair.{then_mended, then_read, if_faultless, with_mended}
 use Rattle.hidreport.specs.declared.parse_options.ParseOptions.{ParseOptions}
 use Rattle.hidreport.specs.declared.repairing.change.Repaired.{Repaired}
 use Rattle.hidreport.specs.declared.repairing.repair_options.RepairOptions.{RepairOptions}
@@ -44,7 +44,7 @@ refusal-other offset PastBudget is = cc
 
 unless-other : (fault : Option MeaningFault) (offset : ℕ)
     (answer : Result (List PieceRecord) Refusal) → answer ≢ Err Mismatch
-    → unless_fault fault offset answer ≢ Err Mismatch
+    → if_faultless fault offset answer ≢ Err Mismatch
 unless-other None offset answer never is = never is
 unless-other (Some fault) offset answer never is =
     let same : refusal_at offset fault ≡ Mismatch = cc in refusal-other offset fault same
@@ -83,7 +83,7 @@ then-other options (Err refusal) never is =
     let same : refusal ≡ Mismatch = cc in never (ap Err same)
 
 past-other : (past : Option ℕ) (answer : Result RepairedRecord Refusal) → answer ≢ Err Mismatch
-    → unless_past past answer ≢ Err Mismatch
+    → unless_too_long past answer ≢ Err Mismatch
 past-other None answer never is = never is
 past-other (Some offset) answer never is = cc
 
@@ -137,7 +137,7 @@ at-unlimited at offset PastBudget plain is = plain refl
 
 unless-unlimited : (fault : Option MeaningFault) (at offset : ℕ)
     (answer : Result (List PieceRecord) Refusal) → fault ≢ Some PastBudget
-    → answer ≢ Err (OverBudget offset) → unless_fault fault at answer ≢ Err (OverBudget offset)
+    → answer ≢ Err (OverBudget offset) → if_faultless fault at answer ≢ Err (OverBudget offset)
 unless-unlimited None at offset answer plain never is = never is
 unless-unlimited (Some fault) at offset answer plain never is =
     let same : refusal_at at fault ≡ OverBudget offset = cc in
@@ -183,7 +183,7 @@ then-unlimited options (Err refusal) offset none any never is =
 
 past-unlimited : (longest : Option ℕ) (size : ℕ) (answer : Result RepairedRecord Refusal)
     (offset : ℕ) → longest ≡ None → answer ≢ Err (OverBudget offset)
-    → unless_past (past_longest longest size) answer ≢ Err (OverBudget offset)
+    → unless_too_long (past_longest longest size) answer ≢ Err (OverBudget offset)
 past-unlimited None size answer offset any never is = never is
 past-unlimited (Some longest) size answer offset any never is = cc
 

@@ -9,7 +9,7 @@ use Rattle.std.proofs.lemmas.List.{map-append}
 use Rattle.std.proofs.lemmas.List.Elements.{filter-append}
 use Rattle.std.proofs.lemmas.List.Sums.{sum_by-append}
 use Rattle.hidreport.specs.Kinds.{Indexed}
-use Rattle.hidreport.specs.Parser.Machine.{report_of, reports_of, size_in, added_to}
+use Rattle.hidreport.specs.Parser.Machine.{report_made, reports_made, size_in, added_to}
 use Rattle.hidreport.specs.Making.{same_key}
 use Rattle.hidreport.specs.Meaning.{firsts_after}
 use Rattle.hidreport.specs.Places.{id_bits}
@@ -166,12 +166,11 @@ sum_by-one bits m = grind (arith, common_steps)
 report-extended : (key : Indexed → Option ℕ) (bits : Indexed → ℕ)
     (fields : Indexed → List FieldRecord) (ms : List Indexed) (m : Indexed) (id : Option ℕ)
     → same_key (key m) id ≡ true
-    → report_of key bits fields (ms ++ m ∷ []) id
+    → report_made key bits fields (ms ++ m ∷ []) id
     ≡ record {
       id = id;
-      size = (report_of key bits fields ms id).size + bits m;
-      fields =
-          (report_of key bits fields ms id).fields ++ fields m;
+      size = (report_made key bits fields ms id).size + bits m;
+      fields = (report_made key bits fields ms id).fields ++ fields m;
     }
 report-extended key bits fields ms m id same =
     let all : adding key id (ms ++ m ∷ []) ≡ adding key id ms ++ m ∷ [] =
@@ -200,7 +199,7 @@ report-extended key bits fields ms m id same =
 report-other : (key : Indexed → Option ℕ) (bits : Indexed → ℕ) (fields : Indexed → List FieldRecord)
     (ms : List Indexed) (m : Indexed) (id : Option ℕ)
     → same_key (key m) id ≡ false
-    → report_of key bits fields (ms ++ m ∷ []) id ≡ report_of key bits fields ms id
+    → report_made key bits fields (ms ++ m ∷ []) id ≡ report_made key bits fields ms id
 report-other key bits fields ms m id other =
     let all : adding key id (ms ++ m ∷ []) ≡ adding key id ms =
     filter-append (λ p. same_key (key p) id) ms (m ∷ [])
@@ -220,89 +219,88 @@ adding-none key id (m ∷ ms) n =
 absent : (key : Indexed → Option ℕ) (bits : Indexed → ℕ) (fields : Indexed → List FieldRecord)
     (ms : List Indexed) (m : Indexed) (ks : List (Option ℕ))
     → is_among (key m) ks ≡ false
-    → map (report_of key bits fields (ms ++ m ∷ [])) ks ++ record
+    → map (report_made key bits fields (ms ++ m ∷ [])) ks ++ record
     { id = key m; size = id_bits (key m) + bits m; fields = fields m } ∷ []
-    ≡ added_to (key m) (bits m) (fields m) (map (report_of key bits fields ms) ks)
+    ≡ added_to (key m) (bits m) (fields m) (map (report_made key bits fields ms) ks)
 absent key bits fields ms m [] n = refl
 absent key bits fields ms m (k ∷ ks) n =
     let both = or_cases (same_key (key m) k) (is_among (key m) ks) n in
     let here = report-other key bits fields ms m k both.0 in
     let rest = absent key bits fields ms m ks both.1 in
-    ap (λ (r : ReportRecord). r ∷ (map (report_of key bits fields (ms ++ m ∷ [])) ks ++ record
+    ap (λ (r : ReportRecord). r ∷ (map (report_made key bits fields (ms ++ m ∷ [])) ks ++ record
     { id = key m; size = id_bits (key m) + bits m; fields = fields m } ∷ [])) here
-    ∙ ap (λ l. report_of key bits fields ms k ∷ l) rest
+    ∙ ap (λ l. report_made key bits fields ms k ∷ l) rest
     ∙ ap (λ b. cond b (record {
       id = k;
-      size = (report_of key bits fields ms k).size + bits m;
-      fields = (report_of key bits fields ms k).fields ++ fields m;
+      size = (report_made key bits fields ms k).size + bits m;
+      fields = (report_made key bits fields ms k).fields ++ fields m;
     } ∷ map
-    (report_of key bits fields ms) ks)
-    (report_of key bits fields ms k ∷ added_to (key m) (bits m) (fields m)
-    (map (report_of key bits fields ms) ks)))
+    (report_made key bits fields ms) ks)
+    (report_made key bits fields ms k ∷ added_to (key m) (bits m) (fields m)
+    (map (report_made key bits fields ms) ks)))
     (sym (same_key-sym k (key m) ∙ both.0))
 
 -- reports of other keys stay
 others : (key : Indexed → Option ℕ) (bits : Indexed → ℕ) (fields : Indexed → List FieldRecord)
     (ms : List Indexed) (m : Indexed) (ks : List (Option ℕ))
     → is_among (key m) ks ≡ false
-    → map (report_of key bits fields (ms ++ m ∷ [])) ks ≡ map (report_of key bits fields ms) ks
+    → map (report_made key bits fields (ms ++ m ∷ [])) ks ≡ map (report_made key bits fields ms) ks
 others key bits fields ms m [] n = refl
 others key bits fields ms m (k ∷ ks) n =
     let both = or_cases (same_key (key m) k) (is_among (key m) ks) n in
-    ap (λ (r : ReportRecord). r ∷ map (report_of key bits fields (ms ++ m ∷ [])) ks)
+    ap (λ (r : ReportRecord). r ∷ map (report_made key bits fields (ms ++ m ∷ [])) ks)
     (report-other key bits fields ms m k both.0)
-    ∙ ap (λ l. report_of key bits fields ms k ∷ l) (others key bits fields ms m ks both.1)
+    ∙ ap (λ l. report_made key bits fields ms k ∷ l) (others key bits fields ms m ks both.1)
 
 present-by : (b : Bool) (key : Indexed → Option ℕ) (bits : Indexed → ℕ)
     (fields : Indexed → List FieldRecord) (ms : List Indexed) (m : Indexed) (k : Option ℕ)
     (ks : List (Option ℕ))
     → same_key (key m) k ≡ b → Distinct (k ∷ ks) → (b || is_among (key m) ks) ≡ true
     → (is_among (key m) ks ≡ true
-    → map (report_of key bits fields (ms ++ m ∷ [])) ks ≡ added_to (key m) (bits m) (fields m)
-    (map (report_of key bits fields ms) ks))
-    → map (report_of key bits fields (ms ++ m ∷ [])) (k ∷ ks) ≡ added_to (key m) (bits m) (fields m)
-    (map (report_of key bits fields ms) (k ∷ ks))
+    → map (report_made key bits fields (ms ++ m ∷ [])) ks ≡ added_to (key m) (bits m) (fields m)
+    (map (report_made key bits fields ms) ks))
+    → map (report_made key bits fields (ms ++ m ∷ [])) (k ∷ ks) ≡ added_to (key m) (bits m) (fields m)
+    (map (report_made key bits fields ms) (k ∷ ks))
 present-by true key bits fields ms m k ks s d n rest =
     let same : key m ≡ k = same_key-equal (key m) k s in
     let none : is_among (key m) ks ≡ false = subst (λ z. is_among z ks ≡ false) (sym same) d.0 in
-    ap (λ (r : ReportRecord). r ∷ map (report_of key bits fields (ms ++ m ∷ [])) ks)
+    ap (λ (r : ReportRecord). r ∷ map (report_made key bits fields (ms ++ m ∷ [])) ks)
     (report-extended key bits fields ms m k s)
     ∙ ap (λ l. record {
       id = k;
-      size = (report_of key bits fields ms k).size + bits m;
-      fields =
-          (report_of key bits fields ms k).fields ++ fields m;
+      size = (report_made key bits fields ms k).size + bits m;
+      fields = (report_made key bits fields ms k).fields ++ fields m;
     } ∷ l)
     (others key bits fields ms m ks none)
     ∙ ap (λ b. cond b (record {
       id = k;
-      size = (report_of key bits fields ms k).size + bits m;
-      fields = (report_of key bits fields ms k).fields ++ fields m;
+      size = (report_made key bits fields ms k).size + bits m;
+      fields = (report_made key bits fields ms k).fields ++ fields m;
     } ∷ map
-    (report_of key bits fields ms) ks)
-    (report_of key bits fields ms k ∷ added_to (key m) (bits m) (fields m)
-    (map (report_of key bits fields ms) ks)))
+    (report_made key bits fields ms) ks)
+    (report_made key bits fields ms k ∷ added_to (key m) (bits m) (fields m)
+    (map (report_made key bits fields ms) ks)))
     (sym (same_key-sym k (key m) ∙ s))
 present-by false key bits fields ms m k ks s d n rest =
-    ap (λ (r : ReportRecord). r ∷ map (report_of key bits fields (ms ++ m ∷ [])) ks)
+    ap (λ (r : ReportRecord). r ∷ map (report_made key bits fields (ms ++ m ∷ [])) ks)
     (report-other key bits fields ms m k s)
-    ∙ ap (λ l. report_of key bits fields ms k ∷ l) (rest n)
+    ∙ ap (λ l. report_made key bits fields ms k ∷ l) (rest n)
     ∙ ap (λ b. cond b (record {
       id = k;
-      size = (report_of key bits fields ms k).size + bits m;
-      fields = (report_of key bits fields ms k).fields ++ fields m;
+      size = (report_made key bits fields ms k).size + bits m;
+      fields = (report_made key bits fields ms k).fields ++ fields m;
     } ∷ map
-    (report_of key bits fields ms) ks)
-    (report_of key bits fields ms k ∷ added_to (key m) (bits m) (fields m)
-    (map (report_of key bits fields ms) ks)))
+    (report_made key bits fields ms) ks)
+    (report_made key bits fields ms k ∷ added_to (key m) (bits m) (fields m)
+    (map (report_made key bits fields ms) ks)))
     (sym (same_key-sym k (key m) ∙ s))
 
 -- where it is among them, just its report is extended
 present : (key : Indexed → Option ℕ) (bits : Indexed → ℕ) (fields : Indexed → List FieldRecord)
     (ms : List Indexed) (m : Indexed) (ks : List (Option ℕ))
     → Distinct ks → is_among (key m) ks ≡ true
-    → map (report_of key bits fields (ms ++ m ∷ [])) ks ≡ added_to (key m) (bits m) (fields m)
-    (map (report_of key bits fields ms) ks)
+    → map (report_made key bits fields (ms ++ m ∷ [])) ks ≡ added_to (key m) (bits m) (fields m)
+    (map (report_made key bits fields ms) ks)
 present key bits fields ms m [] d n = cc
 present key bits fields ms m (k ∷ ks) d n =
     present-by (same_key (key m) k) key bits fields ms m k ks refl d n
@@ -311,39 +309,38 @@ present key bits fields ms m (k ∷ ks) d n =
 reports-next-by : (b : Bool) (key : Indexed → Option ℕ) (bits : Indexed → ℕ)
     (fields : Indexed → List FieldRecord) (ms : List Indexed) (m : Indexed)
     → is_among (key m) (map key ms) ≡ b
-    → map (report_of key bits fields (ms ++ m ∷ []))
+    → map (report_made key bits fields (ms ++ m ∷ []))
     (firsts_after [] (map key ms) ++ cond b [] (key m ∷ [])) ≡ added_to (key m) (bits m)
-    (fields m) (reports_of key bits fields ms)
+    (fields m) (reports_made key bits fields ms)
 reports-next-by true key bits fields ms m e =
     let ks = firsts_after [] (map key ms) in
-    ap (map (report_of key bits fields (ms ++ m ∷ []))) (append-nil ks)
+    ap (map (report_made key bits fields (ms ++ m ∷ []))) (append-nil ks)
     ∙ present key bits fields ms m ks (firsts-distinct [] (map key ms))
     (listed (key m) [] (map key ms) refl ∙ e)
 reports-next-by false key bits fields ms m e =
     let ks = firsts_after [] (map key ms) in
     let none : adding key (key m) ms ≡ [] = adding-none key (key m) ms e in
-    let new : report_of key bits fields (ms ++ m ∷ []) (key m) ≡ record
+    let new : report_made key bits fields (ms ++ m ∷ []) (key m) ≡ record
     { id = key m; size = id_bits (key m) + bits m; fields = fields m } =
     report-extended key bits fields ms m (key m) (same_key-refl (key m))
     ∙ ap (λ l. record {
       id = key m;
       size = (id_bits (key m) + sum_by bits l) + bits m;
-      fields =
-          flat_map fields l ++ fields m;
+      fields = flat_map fields l ++ fields m;
     }) none
     ∙ ap (λ n. record { id = key m; size = n + bits m; fields = fields m })
     (add-zero (id_bits (key m))) in
-    map-append (report_of key bits fields (ms ++ m ∷ [])) ks (key m ∷ [])
-    ∙ ap (λ (r : ReportRecord). map (report_of key bits fields (ms ++ m ∷ [])) ks ++ r ∷ []) new
+    map-append (report_made key bits fields (ms ++ m ∷ [])) ks (key m ∷ [])
+    ∙ ap (λ (r : ReportRecord). map (report_made key bits fields (ms ++ m ∷ [])) ks ++ r ∷ []) new
     ∙ absent key bits fields ms m ks (listed (key m) [] (map key ms) refl ∙ e)
 
 -- the reports behind one more item that makes fields
 pub reports-next : (key : Indexed → Option ℕ) (bits : Indexed → ℕ)
     (fields : Indexed → List FieldRecord) (ms : List Indexed) (m : Indexed)
-    → reports_of key bits fields (ms ++ m ∷ []) ≡ added_to (key m) (bits m) (fields m)
-    (reports_of key bits fields ms)
+    → reports_made key bits fields (ms ++ m ∷ []) ≡ added_to (key m) (bits m) (fields m)
+    (reports_made key bits fields ms)
 reports-next key bits fields ms m =
-    ap (map (report_of key bits fields (ms ++ m ∷ [])))
+    ap (map (report_made key bits fields (ms ++ m ∷ [])))
     (ap (firsts_after []) (map-append key ms (m ∷ [])) ∙ firsts-next (key m) [] (map key ms))
     ∙ reports-next-by (is_among (key m) (map key ms)) key bits fields ms m refl
 
@@ -352,23 +349,23 @@ size-at : (b : Bool) (key : Indexed → Option ℕ) (bits : Indexed → ℕ)
     (ks : List (Option ℕ))
     → same_key id k ≡ b → ((b || is_among id ks) ≡ false → adding key id ms ≡ [])
     → ((is_among id ks ≡ false → adding key id ms ≡ [])
-    → size_in id (map (report_of key bits fields ms) ks)
-    ≡ (report_of key bits fields ms id).size)
-    → size_in id (map (report_of key bits fields ms) (k ∷ ks))
-    ≡ (report_of key bits fields ms id).size
+    → size_in id (map (report_made key bits fields ms) ks)
+    ≡ (report_made key bits fields ms id).size)
+    → size_in id (map (report_made key bits fields ms) (k ∷ ks))
+    ≡ (report_made key bits fields ms id).size
 size-at true key bits fields ms id k ks s none rest =
-    ap (λ b. cond b (report_of key bits fields ms k).size
-    (size_in id (map (report_of key bits fields ms) ks))) (same_key-sym k id ∙ s)
-    ∙ ap (λ z. (report_of key bits fields ms z).size) (sym (same_key-equal id k s))
+    ap (λ b. cond b (report_made key bits fields ms k).size
+    (size_in id (map (report_made key bits fields ms) ks))) (same_key-sym k id ∙ s)
+    ∙ ap (λ z. (report_made key bits fields ms z).size) (sym (same_key-equal id k s))
 size-at false key bits fields ms id k ks s none rest =
-    ap (λ b. cond b (report_of key bits fields ms k).size
-    (size_in id (map (report_of key bits fields ms) ks))) (same_key-sym k id ∙ s) ∙ rest none
+    ap (λ b. cond b (report_made key bits fields ms k).size
+    (size_in id (map (report_made key bits fields ms) ks))) (same_key-sym k id ∙ s) ∙ rest none
 
 size-by : (key : Indexed → Option ℕ) (bits : Indexed → ℕ) (fields : Indexed → List FieldRecord)
     (ms : List Indexed) (id : Option ℕ) (ks : List (Option ℕ))
     → (is_among id ks ≡ false → adding key id ms ≡ [])
-    → size_in id (map (report_of key bits fields ms) ks)
-    ≡ (report_of key bits fields ms id).size
+    → size_in id (map (report_made key bits fields ms) ks)
+    ≡ (report_made key bits fields ms id).size
 size-by key bits fields ms id [] none =
     sym (ap (λ l. id_bits id + sum_by bits l) (none refl) ∙ add-zero (id_bits id))
 size-by key bits fields ms id (k ∷ ks) none =
@@ -377,7 +374,7 @@ size-by key bits fields ms id (k ∷ ks) none =
 -- where the report with this id ends so far
 pub size-in_reports : (key : Indexed → Option ℕ) (bits : Indexed → ℕ)
     (fields : Indexed → List FieldRecord) (ms : List Indexed) (id : Option ℕ)
-    → size_in id (reports_of key bits fields ms) ≡ (report_of key bits fields ms id).size
+    → size_in id (reports_made key bits fields ms) ≡ (report_made key bits fields ms id).size
 size-in_reports key bits fields ms id =
     size-by key bits fields ms id (firsts_after [] (map key ms))
     (λ n. adding-none key id ms (sym (listed id [] (map key ms) refl) ∙ n))

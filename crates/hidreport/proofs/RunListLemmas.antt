@@ -9,7 +9,7 @@ use Rattle.hidreport_lists.specs.Answer.{Refuses}
 use Rattle.hidreport_lists.specs.declared.error.ParserError.{ParserError}
 use Rattle.hidreport.specs.Reader.{each_alone, filled, numbers_before}
 use Rattle.hidreport.specs.Reading.{with_id}
-use Rattle.hidreport.specs.Runs.{IsOpen, IsPlain, RunRecord, all_numbers, count_in, is_inside}
+use Rattle.hidreport.specs.Runs.{HasAllValues, IsPlain, RunRecord, all_numbers, count_in, is_inside}
 use Rattle.hidreport.specs.Runs.{numbers_from, place_in, run_reads, run_value, runs_alone, runs_read}
 use Rattle.hidreport.specs.Runs.{set_from}
 use Rattle.hidreport.specs.Tiling.{Each}
@@ -45,7 +45,7 @@ each-taken P xs i x lt e each here =
 
 -- a refusal behind runs that don't refuse
 pub refused-there : (xs : List RunRecord) (i : ℕ) (x : RunRecord) (bytes : List ℕ)
-    (e : ParserError) → i < length xs → x ≡ get_or xs i x → Each (IsOpen bytes) (take i xs)
+    (e : ParserError) → i < length xs → x ≡ get_or xs i x → Each (HasAllValues bytes) (take i xs)
     → Refuses e (run_reads x bytes) → Refuses e (runs_read xs bytes)
 refused-there xs i x bytes e lt at each refused =
     carries e (run_reads x bytes) (runs_read xs bytes) (λ r h.
@@ -110,9 +110,9 @@ own-by own id bytes (inr same) passes =
 
 pub plain-open : (id : Option ℕ) (n : ℕ) (bytes : List ℕ) (runs : List RunRecord)
     → n ≤ length bytes → with_id id bytes (Ok (tt {0})) ≡ Ok (tt {0})
-    → Each (IsPlain id n) runs → Each (IsOpen bytes) runs
+    → Each (IsPlain id n) runs → Each (HasAllValues bytes) runs
 plain-open id n bytes runs le passes each =
-    each-map (IsPlain id n) (IsOpen bytes) (λ run plain. record {
+    each-map (IsPlain id n) (HasAllValues bytes) (λ run plain. record {
       own = own-by run.id id bytes plain.own passes;
       inside = more-inside run (8 * n) (8 * length bytes) (omega (arith, le)) plain.inside;
     }) runs each

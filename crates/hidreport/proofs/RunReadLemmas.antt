@@ -12,7 +12,7 @@ use Rattle.hidreport.specs.BitValue.{as_word, value}
 use Rattle.hidreport.specs.Choosing.{value_number}
 use Rattle.hidreport.specs.Reader.{ReadsInto, before_numbers, filled}
 use Rattle.hidreport.specs.Reading.{ValueRecord, before_values, each_value, read_bits, with_id}
-use Rattle.hidreport.specs.Runs.{IsOpen, RunRecord, all_numbers, count_in, is_inside, number_at}
+use Rattle.hidreport.specs.Runs.{HasAllValues, RunRecord, all_numbers, count_in, is_inside, number_at}
 use Rattle.hidreport.specs.Runs.{numbers_from, place_in, run_reads, run_value, runs_read}
 use Rattle.hidreport.specs.Tiling.{Each}
 use Rattle.hidreport.specs.WritingLaws.{numbers_of}
@@ -88,7 +88,7 @@ pub own-passes : {A : Type 0} (id : Option ℕ) (bytes : List ℕ)
 own-passes id bytes own a = id-passes id bytes (Ok (tt {0})) a (subst (λ (r : Result (Unit {0}) Refusal). IsOk r) (sym own) refl)
 
 -- bytes that have all bits of a run give its numbers
-pub open-reads : (run : RunRecord) (bytes : List ℕ) → IsOpen bytes run
+pub open-reads : (run : RunRecord) (bytes : List ℕ) → HasAllValues bytes run
     → run_reads run bytes ≡ Ok (numbers_from run bytes 0 run.count)
 open-reads run bytes has =
     ap numbers_of (own-passes run.id bytes has.own (each_value (run_value run bytes) 0 run.count))
@@ -99,7 +99,7 @@ open-reads run bytes has =
     let within = i.within in
     readable (place_in run k) run.width run.is_signed bytes i.some i.narrow (omega (arith, le, within)))
 
-pub all-read : (runs : List RunRecord) (bytes : List ℕ) → Each (IsOpen bytes) runs
+pub all-read : (runs : List RunRecord) (bytes : List ℕ) → Each (HasAllValues bytes) runs
     → runs_read runs bytes ≡ Ok (all_numbers runs bytes)
 all-read [] bytes has = refl
 all-read (run ∷ runs) bytes has =
@@ -188,7 +188,7 @@ carries (errors.BudgetExceeded offset) a b to h = to _ h
 
 -- the first run that refuses refuses for all
 pub first-refuses : (done : List RunRecord) (run : RunRecord) (rest : List RunRecord)
-    (bytes : List ℕ) (r : Refusal) → Each (IsOpen bytes) done → run_reads run bytes ≡ Err r
+    (bytes : List ℕ) (r : Refusal) → Each (HasAllValues bytes) done → run_reads run bytes ≡ Err r
     → runs_read (done ++ run ∷ rest) bytes ≡ Err r
 first-refuses [] run rest bytes r has h = ap (λ a. before_numbers a (runs_read rest bytes)) h
 first-refuses (d ∷ done) run rest bytes r has h =
@@ -198,7 +198,7 @@ first-refuses (d ∷ done) run rest bytes r has h =
 
 -- what is put in place is what is read
 pub put-reads : (runs : List RunRecord) (bytes : List ℕ) (count : ℕ) (old new : List ℤ)
-    → Each (IsOpen bytes) runs → count ≡ count_in runs
+    → Each (HasAllValues bytes) runs → count ≡ count_in runs
     → new ≡ filled (all_numbers runs bytes) old
     → ReadsInto (Ok count) old new (runs_read runs bytes)
 put-reads runs bytes count old new each size put =

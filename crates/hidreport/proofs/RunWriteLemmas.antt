@@ -11,7 +11,7 @@ use Rattle.hidreport_lists.specs.Answer.{Refusal}
 use Rattle.hidreport.specs.Reading.{each_value, element_width, is_signed}
 use Rattle.hidreport.specs.Records.{FieldRecord, VariableRecord, ArrayRecord, ConstantRecord}
 use Rattle.hidreport.specs.ReportWriting.{all_fit, all_placed, begins_in_own_id, put_all}
-use Rattle.hidreport.specs.Runs.{IsNarrow, IsOpen, RunRecord, count_in, run_in_id, run_reads}
+use Rattle.hidreport.specs.Runs.{HasNarrowValues, HasAllValues, RunRecord, count_in, run_in_id, run_reads}
 use Rattle.hidreport.specs.Runs.{run_value, runs_fit, runs_of, runs_placed, runs_put, runs_read}
 use Rattle.hidreport.specs.Runs.{runs_written}
 use Rattle.hidreport.specs.Tiling.{Each}
@@ -110,7 +110,7 @@ placed-fit runs numbers bytes away fit =
 -- bytes that have all runs are written as the runs are placed
 pub written-open : (runs : List RunRecord) (numbers : List ℤ) (bytes : List ℕ)
     (answer : Result (List ℕ) InsertError) → length numbers ≡ count_in runs
-    → Each (IsOpen bytes) runs → runs_placed runs numbers bytes ≡ answer
+    → Each (HasAllValues bytes) runs → runs_placed runs numbers bytes ≡ answer
     → runs_written runs numbers bytes ≡ answer
 written-open runs numbers bytes answer size has is =
     let same : (length numbers == count_in runs) ≡ true = grind (arith, nat_tests, size) in
@@ -119,13 +119,13 @@ written-open runs numbers bytes answer size has is =
     ∙ ap (λ r. where_read r (runs_placed runs numbers bytes)) (all-read runs bytes has) ∙ is
 
 -- values that are there have some bits, at most 32
-narrow-one : (bytes : List ℕ) (run : RunRecord) → IsOpen bytes run → IsNarrow run
+narrow-one : (bytes : List ℕ) (run : RunRecord) → HasAllValues bytes run → HasNarrowValues run
 narrow-one bytes run has some =
     let parts = inside-parts run (8 * length bytes) has.inside (omega (arith, some)) in
     (parts.some, parts.narrow)
 
-pub open-narrow : (bytes : List ℕ) (runs : List RunRecord) → Each (IsOpen bytes) runs
-    → Each IsNarrow runs
+pub open-narrow : (bytes : List ℕ) (runs : List RunRecord) → Each (HasAllValues bytes) runs
+    → Each HasNarrowValues runs
 open-narrow bytes [] has = tt
 open-narrow bytes (run ∷ runs) has =
     (narrow-one bytes run has.0, open-narrow bytes runs has.1)

@@ -27,7 +27,6 @@ use Rattle.hidreport.specs.Meaning.{InForce, meaning_by, parse_items, at_offset}
 use Rattle.hidreport.specs.Records.{DescriptorRecord}
 use Rattle.hidreport.specs.Segments.{IsMatched, with_segment, moved_fault}
 use Rattle.hidreport.specs.declared.parser.push_keeps.PushKeeps.{PushKeeps}
-use Rattle.hidreport.specs.declared.parser.push_keeps.PushKeeps.TheVariants as push_keeps
 use Rattle.hidreport.proofs.DataLemmas.{quiet, step-push, step-pop, last_item_state-end}
 use Rattle.hidreport.proofs.DataLemmas.{all-but-last}
 use Rattle.hidreport.proofs.ReportLemmas.{or_cases}
@@ -37,6 +36,8 @@ use Rattle.hidreport.specs.declared.parse_options.ParseOptions.{ParseOptions}
 use Rattle.hidreport.specs.declared.parser.paged_local.PagedLocal.{PagedLocal}
 use Rattle.hidreport.proofs.BudgetWalkLemmas.{meaning-walk}
 use Rattle.hidreport.proofs.ParseLemmas.{goes-on, nothing-spent, nothing-within}
+use Rattle.hidreport.proofs.PushReadings.{Returns, returns-back, returns-next, returns-own}
+use Rattle.hidreport.proofs.PushReadings.{spares-next}
 
 abbrev pub Answer : Type 0
 Answer = Result DescriptorRecord (ℕ × MeaningFault)
@@ -106,42 +107,37 @@ front-by (Err f) left h n k x xs more rest e later =
     ∙ ap (λ b. Err (cond b k (k + n), f)) before)
 
 -- what a Push keeps is the same behind every item
-keeping-by : (o : Option MeaningFault) (h next : StateRecord) (x : ItemType)
-    → unless_fault o (next_state h x) ≡ Ok next → next.keeping ≡ h.keeping
-keeping-by None h next x e = let same : next_state h x
-    ≡ next = cc in ap (λ (g : StateRecord). g.keeping)
+push_keeps-by : (o : Option MeaningFault) (h next : StateRecord) (x : ItemType)
+    → unless_fault o (next_state h x) ≡ Ok next → next.push_keeps ≡ h.push_keeps
+push_keeps-by None h next x e = let same : next_state h x
+    ≡ next = cc in ap (λ (g : StateRecord). g.push_keeps)
     (sym same)
-keeping-by (Some fault) h next x e = cc
+push_keeps-by (Some fault) h next x e = cc
 
 -- what changes nothing behind a front changes nothing behind more
-front-stack : (keeping : PushKeeps) (front more rest : List ItemType) (n : ℕ)
-    → ((left : Option ℕ) (h : StateRecord) (k : ℕ) → h.keeping ≡ keeping
+front-stack : (push_keeps : PushKeeps) (front more rest : List ItemType) (n : ℕ)
+    → ((left : Option ℕ) (h : StateRecord) (k : ℕ) → h.push_keeps ≡ push_keeps
     → walk_within left h k more ≡ walk_within left h (k + n) rest)
-    → (left : Option ℕ) (h : StateRecord) (k : ℕ) → h.keeping ≡ keeping
+    → (left : Option ℕ) (h : StateRecord) (k : ℕ) → h.push_keeps ≡ push_keeps
     → walk_within left h k (front ++ more)
     ≡ moved_fault (k + length front) n (walk_within left h k (front ++ rest))
-front-stack keeping [] more rest n same left h k is =
+front-stack push_keeps [] more rest n same left h k is =
     same left h k is ∙ sym (moved-behind left h (k + 0) n k rest (omega arith))
-front-stack keeping (x ∷ xs) more rest n same left h k is =
+front-stack push_keeps (x ∷ xs) more rest n same left h k is =
     front-by (goes left h x) left h n k x xs more rest refl
-    (λ next e. front-stack keeping xs more rest n same (spent left h x) next (k + 1)
-    (keeping-by (stop_in left h x) h next x e ∙ is))
+    (λ next e. front-stack push_keeps xs more rest n same (spent left h x) next (k + 1)
+    (push_keeps-by (stop_in left h x) h next x e ∙ is))
 
 -- what is held inside a segment: other values in force, and more kept
 abbrev pub inside : StateRecord → ItemState → List ItemState → StateRecord
 inside h f ts = record h {
   item_state = f;
-  stack =
-      (h.stack ++ pushed_copy h.keeping h.item_state ∷ []) ++ ts;
+  stack = (h.stack ++ pushed_copy h.push_keeps h.item_state ∷ []) ++ ts;
 }
 
--- a Pop brings back what was in force at its Push
-abbrev pub Returns : PushKeeps → ItemState → ItemState → Type 0
-Returns keeping f g = after_pop keeping f (pushed_copy keeping g) ≡ g
-
 -- what holds of the items up to the segment's Pop, with so many Pushes open inside it
-pub record Closes (keeping : PushKeeps) (n : ℕ) (xs : List ItemType) : Type 0 where
-  pub spares : Spares keeping xs
+pub record Closes (push_keeps : PushKeeps) (n : ℕ) (xs : List ItemType) : Type 0 where
+  pub spares : Spares push_keeps xs
   pub idle : list_any is_main xs ≡ false
   pub within : (m : ℕ) → count_by is_pop (take m xs) ≤ n + count_by is_push (take m xs)
   pub closed : count_by is_pop xs ≡ n + count_by is_push xs
@@ -183,18 +179,12 @@ is-pop (item.Local y) e = cc
 is-pop item.Long e = cc
 is-pop item.Reserved e = cc
 
-spares-next : (keeping : PushKeeps) (x : ItemType) (xs : List ItemType) → Spares keeping (x ∷ xs)
-    → Spares keeping xs
-spares-next push_keeps.All x xs s = tt
-spares-next push_keeps.Globals x xs s =
-    (or_cases (is_some (local_of x)) (list_any (λ (y : ItemType). is_some (local_of y)) xs) s).1
-
 -- the conditions on the rest, behind one item
-closes-next : (keeping : PushKeeps) (n m : ℕ) (x : ItemType) (xs : List ItemType)
-    → Closes keeping n (x ∷ xs) → m + cond (is_pop x) 1 0 ≡ n + cond (is_push x) 1 0
-    → Closes keeping m xs
-closes-next keeping n m x xs c e = record {
-  spares = spares-next keeping x xs c.spares;
+closes-next : (push_keeps : PushKeeps) (n m : ℕ) (x : ItemType) (xs : List ItemType)
+    → Closes push_keeps n (x ∷ xs) → m + cond (is_pop x) 1 0 ≡ n + cond (is_push x) 1 0
+    → Closes push_keeps m xs
+closes-next push_keeps n m x xs c e = record {
+  spares = spares-next push_keeps x xs c.spares;
   idle = (or_cases (is_main x) (list_any is_main xs) c.idle).1;
   within = λ i. omega (
     arith,
@@ -222,12 +212,6 @@ take-stack base ts some =
 length-less : (ts : List ItemState) → length (take (length ts - 1) ts) ≡ length ts - 1
 length-less ts = grind (arith, common_steps)
 
-same-locals : (page : Option ℕ) (ls : List PagedLocal) (b : Bool) (o : Option LocalItem)
-    → b ≡ false → is_some o ≡ false
-    → cond b [] (ls ++ option_to_list (option_map (with_page page) o)) ≡ ls
-same-locals page ls b None plain none = ap (λ c. cond c [] (ls ++ [])) plain ∙ append-nil ls
-same-locals page ls b (Some x) plain none = cc
-
 -- no item but a main item weighs
 light : (h : StateRecord) (x : ItemType) → is_main x ≡ false → weight_in h x ≡ 0
 light h (item.Main y) e = cc
@@ -240,41 +224,19 @@ no-main : (x : ItemType) (xs : List ItemType) → list_any is_main (x ∷ xs) �
     → is_main x ≡ false
 no-main x xs e = (or_cases (is_main x) (list_any is_main xs) e).0
 
--- an item of a segment leaves what comes back
-returns-next : (keeping : PushKeeps) (f g : ItemState) (x : ItemType) (xs : List ItemType)
-    → is_main x ≡ false → Spares keeping (x ∷ xs) → Returns keeping f g
-    → Returns keeping (next_item_state f x) g
-returns-next push_keeps.All f g x xs plain s r = r
-returns-next push_keeps.Globals f g x xs plain s r =
-    let none : is_some (local_of x) ≡ false =
-    (or_cases (is_some (local_of x)) (list_any (λ (y : ItemType). is_some (local_of y)) xs)
-    s).0 in
-    ap (λ (l : List PagedLocal). record g { locals = l })
-    (same-locals f.usage_page f.locals (is_main x) (local_of x) plain none) ∙ r
-
--- so does a Pop inside it
-returns-back : (keeping : PushKeeps) (f g t : ItemState) → Returns keeping f g
-    → Returns keeping (after_pop keeping f t) g
-returns-back push_keeps.All f g t r = r
-returns-back push_keeps.Globals f g t r = r
-
-returns-own : (keeping : PushKeeps) (f : ItemState) → Returns keeping f f
-returns-own push_keeps.All f = refl
-returns-own push_keeps.Globals f = refl
-
 abbrev pub InsideGoesOn : Option ℕ → StateRecord → ℕ → List ItemType → List ItemType → Type 0
 InsideGoesOn left h n xs rest = (f : ItemState) (ts : List ItemState) (k : ℕ) → length ts ≡ n
-    → Closes h.keeping n xs → Returns h.keeping f h.item_state
+    → Closes h.push_keeps n xs → Returns h.push_keeps f h.item_state
     → walk_within left (inside h f ts) k (xs ++ (item.Global global.Pop ∷ rest)) ≡ walk_within left h (k + length xs + 1)
     rest
 
 inside-end : (left : Option ℕ) (h : StateRecord) (f : ItemState) (ts : List ItemState) (k n : ℕ)
     (rest : List ItemType)
-    → length ts ≡ n → Closes h.keeping n [] → Returns h.keeping f h.item_state
+    → length ts ≡ n → Closes h.push_keeps n [] → Returns h.push_keeps f h.item_state
     → walk_within left (inside h f ts) k (item.Global global.Pop ∷ rest) ≡ walk_within left h (k + 0 + 1) rest
 inside-end left h f ts k n rest size c back =
     let none : ts ≡ [] = none-left ts (omega (arith, size, c.closed)) in
-    let own = pushed_copy h.keeping h.item_state in
+    let own = pushed_copy h.push_keeps h.item_state in
     let base = h.stack ++ own ∷ [] in
     let alone : inside h f ts ≡ record h { item_state = f; stack = base } =
     ap (λ (l : List ItemState). record h { item_state = f; stack = l })
@@ -285,7 +247,7 @@ inside-end left h f ts k n rest size c back =
     let popped : step (record h { item_state = f; stack = base }) (item.Global global.Pop) ≡ Ok h =
     step-pop (record h { item_state = f; stack = base }) some
     ∙ ap (λ (g : ItemState). Ok (record h
-    { item_state = after_pop h.keeping f g; stack = take (length base - 1) base }))
+    { item_state = after_pop h.push_keeps f g; stack = take (length base - 1) base }))
     (last_item_state-end f own h.stack)
     ∙ ap (λ (g : ItemState). Ok (record h { item_state = g; stack = take (length base - 1) base }))
     back
@@ -298,31 +260,31 @@ inside-end left h f ts k n rest size c back =
 inside-by : (a b : Bool) (left : Option ℕ) (h : StateRecord) (f : ItemState) (ts : List ItemState) (k n : ℕ)
     (x : ItemType)
     (xs rest : List ItemType) → is_push x ≡ a → is_pop x ≡ b → length ts ≡ n
-    → Closes h.keeping n (x ∷ xs) → Returns h.keeping f h.item_state
+    → Closes h.push_keeps n (x ∷ xs) → Returns h.push_keeps f h.item_state
     → ((m : ℕ) → InsideGoesOn left h m xs rest)
     → walk_within left (inside h f ts) k (x ∷ (xs ++ (item.Global global.Pop ∷ rest))) ≡ walk_within left h
     (k + suc (length xs) + 1) rest
 inside-by true b left h f ts k n x xs rest push pop size c back later =
-    let own = pushed_copy h.keeping h.item_state in
+    let own = pushed_copy h.push_keeps h.item_state in
     let base = h.stack ++ own ∷ [] in
     let no_pop : is_pop x ≡ false = ap is_pop (is-push x push) in
-    let stepped : step (inside h f ts) x ≡ Ok (inside h f (ts ++ pushed_copy h.keeping f ∷ [])) =
+    let stepped : step (inside h f ts) x ≡ Ok (inside h f (ts ++ pushed_copy h.push_keeps f ∷ [])) =
     ap (step (inside h f ts)) (is-push x push) ∙ step-push (inside h f ts)
     ∙ ap (λ (l : List ItemState). Ok (record h { item_state = f; stack = l }))
-    (append_assoc base ts (pushed_copy h.keeping f ∷ [])) in
-    let longer : length (ts ++ pushed_copy h.keeping f ∷ []) ≡ suc n =
-    let s : length (ts ++ pushed_copy h.keeping f ∷ []) ≡ suc (length ts) =
+    (append_assoc base ts (pushed_copy h.push_keeps f ∷ [])) in
+    let longer : length (ts ++ pushed_copy h.push_keeps f ∷ []) ≡ suc n =
+    let s : length (ts ++ pushed_copy h.push_keeps f ∷ []) ≡ suc (length ts) =
     grind (arith, common_steps) in omega (arith, s, size) in
-    let next : Closes h.keeping (suc n) xs =
-    closes-next h.keeping n (suc n) x xs c (omega (arith, ap one_if push, ap one_if no_pop))
+    let next : Closes h.push_keeps (suc n) xs =
+    closes-next h.push_keeps n (suc n) x xs c (omega (arith, ap one_if push, ap one_if no_pop))
     in
-    step-ok left (inside h f ts) (inside h f (ts ++ pushed_copy h.keeping f ∷ [])) k x
+    step-ok left (inside h f ts) (inside h f (ts ++ pushed_copy h.push_keeps f ∷ [])) k x
     (xs ++ (item.Global global.Pop ∷ rest)) stepped (light (inside h f ts) x (no-main x xs c.idle))
-    ∙ later (suc n) f (ts ++ pushed_copy h.keeping f ∷ []) (k + 1) longer next back
+    ∙ later (suc n) f (ts ++ pushed_copy h.push_keeps f ∷ []) (k + 1) longer next back
     ∙ ap (λ p. walk_within left h p rest)
     (let p : k + 1 + length xs + 1 ≡ k + suc (length xs) + 1 = omega arith in p)
 inside-by false true left h f ts k n x xs rest push pop size c back later =
-    let own = pushed_copy h.keeping h.item_state in
+    let own = pushed_copy h.push_keeps h.item_state in
     let base = h.stack ++ own ∷ [] in
     let open_inside : 0 < n = omega (
       arith,
@@ -335,31 +297,31 @@ inside-by false true left h f ts k n x xs rest push pop size c back later =
     let some : 0 < length (base ++ ts) =
     let s : length (base ++ ts) ≡ length base + length ts =
     grind (arith, common_steps) in omega (arith, s, size, open_inside) in
-    let g = after_pop h.keeping f (last_item_state f (base ++ ts)) in
+    let g = after_pop h.push_keeps f (last_item_state f (base ++ ts)) in
     let fewer = take (length ts - 1) ts in
     let stepped : step (inside h f ts) x ≡ Ok (inside h g fewer) =
     ap (step (inside h f ts)) (is-pop x pop) ∙ step-pop (inside h f ts) some
     ∙ ap (λ (l : List ItemState). Ok (record h { item_state = g; stack = l }))
     (take-stack base ts (omega (arith, size, open_inside))) in
     let shorter : length fewer ≡ n - 1 = omega (arith, length-less ts, size) in
-    let next : Closes h.keeping (n - 1) xs =
-    closes-next h.keeping n (n - 1) x xs c
+    let next : Closes h.push_keeps (n - 1) xs =
+    closes-next h.push_keeps n (n - 1) x xs c
     (omega (arith, ap one_if push, ap one_if pop, open_inside)) in
     step-ok left (inside h f ts) (inside h g fewer) k x (xs ++ (item.Global global.Pop ∷ rest))
     stepped (light (inside h f ts) x (no-main x xs c.idle))
     ∙ later (n - 1) g fewer (k + 1) shorter next
-    (returns-back h.keeping f h.item_state (last_item_state f (base ++ ts)) back)
+    (returns-back h.push_keeps f h.item_state (last_item_state f (base ++ ts)) back)
     ∙ ap (λ p. walk_within left h p rest)
     (let p : k + 1 + length xs + 1 ≡ k + suc (length xs) + 1 = omega arith in p)
 inside-by false false left h f ts k n x xs rest push pop size c back later =
     let plain : is_main x ≡ false = (or_cases (is_main x) (list_any is_main xs) c.idle).0 in
-    let next : Closes h.keeping n xs =
-    closes-next h.keeping n n x xs c (omega (arith, ap one_if push, ap one_if pop)) in
+    let next : Closes h.push_keeps n xs =
+    closes-next h.push_keeps n n x xs c (omega (arith, ap one_if push, ap one_if pop)) in
     step-ok left (inside h f ts) (inside h (next_item_state f x) ts) k x
     (xs ++ (item.Global global.Pop ∷ rest)) (plain-inside (inside h f ts) x plain push pop)
     (light (inside h f ts) x plain)
     ∙ later n (next_item_state f x) ts (k + 1) size next
-    (returns-next h.keeping f h.item_state x xs plain c.spares back)
+    (returns-next h.push_keeps f h.item_state x xs plain c.spares back)
     ∙ ap (λ p. walk_within left h p rest)
     (let p : k + 1 + length xs + 1 ≡ k + suc (length xs) + 1 = omega arith in p)
 
@@ -372,16 +334,16 @@ inside-on left h (x ∷ xs) rest n f ts k size c back =
 -- a segment changes nothing
 segment-stack : (xs rest : List ItemType) → IsMatched xs → (left : Option ℕ) (h : StateRecord)
     (k : ℕ)
-    → Spares h.keeping xs
+    → Spares h.push_keeps xs
     → walk_within left h k (item.Global global.Push ∷ (xs ++ (item.Global global.Pop ∷ rest))) ≡ walk_within left h
     (k + (length xs + 2)) rest
 segment-stack xs rest m left h k spares =
-    let own = pushed_copy h.keeping h.item_state in
+    let own = pushed_copy h.push_keeps h.item_state in
     let base = h.stack ++ own ∷ [] in
     let stepped : step h (item.Global global.Push) ≡ Ok (inside h h.item_state []) =
     step-push h ∙ ap (λ (l : List ItemState). Ok (record h { stack = l }))
     (sym (append-nil base)) in
-    let c : Closes h.keeping 0 xs =
+    let c : Closes h.push_keeps 0 xs =
     record {
       spares = spares;
       idle = m.idle;
@@ -390,7 +352,7 @@ segment-stack xs rest m left h k spares =
     } in
     step-ok left h (inside h h.item_state []) k (item.Global global.Push)
     (xs ++ (item.Global global.Pop ∷ rest)) stepped refl
-    ∙ inside-on left h xs rest 0 h.item_state [] (k + 1) refl c (returns-own h.keeping h.item_state)
+    ∙ inside-on left h xs rest 0 h.item_state [] (k + 1) refl c (returns-own h.push_keeps h.item_state)
     ∙ ap (λ p. walk_within left h p rest) (let p : k + 1 + length xs + 1 ≡ k + (length xs + 2) = omega arith in
     p)
 

@@ -14,10 +14,10 @@ use Rattle.hidreport_items.proofs.FollowingLemmas.{following-cut, short-follow}
 use Rattle.hidreport_lists.specs.Entry.{Entry, Spelled}
 use Rattle.hidreport_lists.specs.Itemising.{AreAtOffsets, AreRead, Reads, all_bytes}
 use Rattle.hidreport_lists.specs.Mending.{PieceRecord, cut_short, ends_unknown, front_piece}
-use Rattle.hidreport_lists.specs.Mending.{is_local, item_in, left_out, piece_by, pieces, pieces_from}
+use Rattle.hidreport_lists.specs.Mending.{has_local, item_in, left_out, piece_by, pieces, pieces_from}
 use Rattle.hidreport_lists.specs.Mending.{standing_bytes, whole_piece, with_piece, without_ended}
 use Rattle.hidreport_lists.specs.Mending.{zero_piece}
-use Rattle.hidreport_lists.specs.Mending.{if_read as if_pieces}
+use Rattle.hidreport_lists.specs.Mending.{then_ended}
 use Rattle.hidreport_lists.specs.Rebuilt.{items_of}
 use Rattle.hidreport_lists.specs.declared.mending.Mend.TheVariants as mend
 use Rattle.hidreport_lists.proofs.ItemLemmas.{enough}
@@ -112,7 +112,7 @@ stands-from leave_out offset (suc inside) (b ∷ bs) ps are e =
 stands-ended : (ps : List PieceRecord) → Each Stands ps → Each Stands (without_ended ps)
 stands-ended [] each = tt
 stands-ended (p ∷ ps) each =
-    (by (ends_unknown ps && is_local (item_in p)), stands-ended ps each.1)
+    (by (ends_unknown ps && has_local (item_in p)), stands-ended ps each.1)
   where
     by : (b : Bool) → Stands (cond b (left_out mend.EndedLocal p.offset p.stood) p)
     by true = tt
@@ -123,7 +123,7 @@ pub pieces-stand : (leave_out : Bool) (bytes : List ℕ) (ps : List PieceRecord)
 pieces-stand leave_out bytes ps are e = by (pieces_from leave_out 0 0 bytes) refl e
   where
     by : (r : Result (List PieceRecord) (ℕ × GrammarFault)) → pieces_from leave_out 0 0 bytes ≡ r
-        → if_pieces r ≡ Ok ps → Each Stands ps
+        → then_ended r ≡ Ok ps → Each Stands ps
     by (Ok qs) cut whole =
         let is : without_ended qs ≡ ps = cc in
         subst (Each Stands) is (stands-ended qs (stands-from leave_out 0 0 bytes qs are cut))

@@ -21,7 +21,8 @@ use Rattle.hidreport.specs.Meaning.{at_offset, meaning_by, parse_by, parse_items
 use Rattle.hidreport.specs.MeaningFault.{MeaningFault}
 use Rattle.hidreport.specs.Parser.Machine.{StateRecord, first_id, adds, added_to, fault_in, key_in}
 use Rattle.hidreport.specs.Parser.Machine.{new_collection, next_state, next_reports, first_state}
-use Rattle.hidreport.specs.Parser.Machine.{reports_in, start_in, unless_fault, go_on, walk}
+use Rattle.hidreport.specs.Lookup.{reports_of}
+use Rattle.hidreport.specs.Parser.Machine.{start_in, unless_fault, go_on, walk}
 use Rattle.hidreport.specs.Places.{bits_of}
 use Rattle.hidreport.specs.Records.{CollectionRecord, DescriptorRecord, FieldRecord, ReportRecord}
 use Rattle.hidreport.specs.Tiling.{Each, HasNoRest, HasRange, HaveOwnIds, IsFilled}
@@ -128,8 +129,8 @@ abbrev total : ℕ → DescriptorRecord → ℕ
 total n d = numbered n d.input + (numbered n d.output + numbered n d.feature)
 
 record Keeps (known : List (List CollectionRecord)) (h : StateRecord) : Type 0 where
-  filled : (d : Direction) → Each (IsGood known) (reports_in d h.descriptor)
-  own : (d : Direction) → HaveOwnIds (reports_in d h.descriptor)
+  filled : (d : Direction) → Each (IsGood known) (reports_of d h.descriptor)
+  own : (d : Direction) → HaveOwnIds (reports_of d h.descriptor)
   once : (n : ℕ) → total n h.descriptor ≤ 1
   unused : (n : ℕ) → h.fields ≤ n → total n h.descriptor ≡ 0
   counted : length known ≡ h.collections
@@ -141,17 +142,17 @@ made_in d h x = fields_of h.item_state h.opened h.fields (start_in d h) (data_of
 
 good-by : (b : Bool) (known : List (List CollectionRecord)) (d : Direction) (h : StateRecord)
     (x : ItemType)
-    → adds d h x ≡ b → Each (IsGood known) (reports_in d h.descriptor)
+    → adds d h x ≡ b → Each (IsGood known) (reports_of d h.descriptor)
     → AreOpened known [] h.opened
     → Each (IsGood known)
     (cond b (added_to (key_in d h) (bits_of (extent h.item_state)) (made_in d h x)
-    (reports_in d h.descriptor)) (reports_in d h.descriptor))
+    (reports_of d h.descriptor)) (reports_of d h.descriptor))
 good-by true known d h x makes g l =
     added-good known (key_in d h) (bits_of (extent h.item_state)) (made_in d h x)
-    (reports_in d h.descriptor) g
+    (reports_of d h.descriptor) g
     (made-of known (key_in d h) h.item_state h.opened h.fields (start_in d h) d (data_of x)
     (extent h.item_state) makes (λ z e. extent-some h.item_state z e) l
-    (own-key h.item_state.report_id (first_id (reports_in d h.descriptor))))
+    (own-key h.item_state.report_id (first_id (reports_of d h.descriptor))))
 good-by false known d h x makes g l = g
 
 good-next : (known : List (List CollectionRecord)) (d : Direction) (h : StateRecord) (x : ItemType)
@@ -159,21 +160,21 @@ good-next : (known : List (List CollectionRecord)) (d : Direction) (h : StateRec
 good-next known d h x k = good-by (adds d h x) known d h x refl (k.filled d) k.opened
 
 own-by : (b : Bool) (d : Direction) (h : StateRecord) (x : ItemType)
-    → HaveOwnIds (reports_in d h.descriptor)
+    → HaveOwnIds (reports_of d h.descriptor)
     → HaveOwnIds (cond b (added_to (key_in d h) (bits_of (extent h.item_state)) (made_in d h x)
-    (reports_in d h.descriptor)) (reports_in d h.descriptor))
+    (reports_of d h.descriptor)) (reports_of d h.descriptor))
 own-by true d h x o = added-own h.item_state.report_id (bits_of (extent h.item_state))
     (made_in d h x)
-    (reports_in d h.descriptor) o
+    (reports_of d h.descriptor) o
 own-by false d h x o = o
 
 numbered-by : (b : Bool) (n : ℕ) (d : Direction) (h : StateRecord) (x : ItemType)
     → numbered n (cond b (added_to (key_in d h) (bits_of (extent h.item_state)) (made_in d h x)
-    (reports_in d h.descriptor)) (reports_in d h.descriptor))
-    ≡ numbered n (reports_in d h.descriptor) + cond b (with_number n (made_in d h x)) 0
+    (reports_of d h.descriptor)) (reports_of d h.descriptor))
+    ≡ numbered n (reports_of d h.descriptor) + cond b (with_number n (made_in d h x)) 0
 numbered-by true n d h x = numbered-added n (key_in d h) (bits_of (extent h.item_state))
     (made_in d h x)
-    (reports_in d h.descriptor)
+    (reports_of d h.descriptor)
 numbered-by false n d h x = omega arith
 
 grown-in : (n : ℕ) (d : Direction) (h : StateRecord) (x : ItemType)
@@ -273,13 +274,13 @@ keeps-next known h x k =
     let new = new_opening h (collection_kind_of x) in
     record {
       filled = λ d. elim d as (λ d. Each (IsGood (known ++ new))
-          (reports_in d (next_state h x).descriptor)) [
+          (reports_of d (next_state h x).descriptor)) [
             | Input ↦ all-good known new (next_reports Input h x) (good-next known Input h x k)
             | Output ↦ all-good known new (next_reports Output h x) (good-next known Output h x k)
             | Feature ↦ all-good known new (next_reports Feature h x)
                 (good-next known Feature h x k)
           ];
-      own = λ d. elim d as (λ d. HaveOwnIds (reports_in d (next_state h x).descriptor)) [
+      own = λ d. elim d as (λ d. HaveOwnIds (reports_of d (next_state h x).descriptor)) [
         | Input ↦ own-by (adds Input h x) Input h x (k.own Input)
         | Output ↦ own-by (adds Output h x) Output h x (k.own Output)
         | Feature ↦ own-by (adds Feature h x) Feature h x (k.own Feature)
@@ -375,9 +376,9 @@ none-own = record { once = λ id. omega arith; first = tt }
 
 keeps-nothing : (options : ParseOptions) → Keeps [] (first_state options)
 keeps-nothing options = record {
-  filled = λ d. elim d as (λ d. Each (IsGood []) (reports_in d (first_state options).descriptor))
+  filled = λ d. elim d as (λ d. Each (IsGood []) (reports_of d (first_state options).descriptor))
       [ Input ↦ tt | Output ↦ tt | Feature ↦ tt ];
-  own = λ d. elim d as (λ d. HaveOwnIds (reports_in d (first_state options).descriptor))
+  own = λ d. elim d as (λ d. HaveOwnIds (reports_of d (first_state options).descriptor))
       [ Input ↦ none-own | Output ↦ none-own | Feature ↦ none-own ];
   once = λ n. omega arith;
   unused = λ n le. refl;

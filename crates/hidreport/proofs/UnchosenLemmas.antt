@@ -10,7 +10,6 @@ use Rattle.std.specs.Int.{int_max, w64}
 use Rattle.hidreport.specs.Choosing.{usage_chosen}
 use Rattle.hidreport.specs.Standing.{IsLeastUnchosen, is_null, is_unchosen}
 use Rattle.hidreport.specs.WritingValues.{fits}
-use Rattle.hidreport.specs.declared.field.usage.Usage.{Usage}
 
 all-three : (a b c : Bool) → (a && (b && c)) ≡ true → (a ≡ true) × (b ≡ true) × (c ≡ true)
 all-three true true true e = (refl, refl, refl)
@@ -28,20 +27,20 @@ not-true : (a : Bool) → (a ≡ true → a ≡ false) → a ≡ false
 not-true true h = h refl
 not-true false h = refl
 
-past-usages : (us : List Usage) (k : ℕ) → is_none (slice_get us k) ≡ true → length us ≤ k
+past-usages : {A : Type 0} (us : List A) (k : ℕ) → is_none (slice_get us k) ≡ true → length us ≤ k
 past-usages us k e = elim (slice_get_cases us k).1 [
   | inl found ↦ let is : slice_get us k ≡ Some found.0 = found.2 in cc
   | inr past ↦ past.0
 ]
 
 -- a number that stands for none, where none outside does, lies within, behind all usages
-pub record Behind (us : List Usage) (w : ℕ) (s : Bool) (low high n : ℤ) : Type 0 where
+pub record Behind {A : Type 0} (us : List A) (w : ℕ) (s : Bool) (low high n : ℤ) : Type 0 where
   pub wide : (nat_lt 0 w && nat_le w 32) ≡ true
   pub from : (low +ℤ pos (length us)) ≤ℤ n
   pub upto : n ≤ℤ high
   pub held : fits w s n ≡ true
 
-pub behind : (us : List Usage) (w : ℕ) (s : Bool) (low high n : ℤ)
+pub behind : {A : Type 0} (us : List A) (w : ℕ) (s : Bool) (low high n : ℤ)
     → is_null w s low high n ≡ false → is_unchosen us w s low high n ≡ true
     → Behind us w s low high n
 behind us w s low high n null un = by (int_lt n low || int_lt high n) refl where
@@ -66,15 +65,15 @@ behind us w s low high n null un = by (int_lt n low || int_lt high n) refl where
       }
 
 -- and such a number stands for none
-pub stands-for-none : (us : List Usage) (w : ℕ) (s : Bool) (low high n : ℤ)
+pub stands-for-none : {A : Type 0} (us : List A) (w : ℕ) (s : Bool) (low high n : ℤ)
     → Behind us w s low high n → is_unchosen us w s low high n ≡ true
-stands-for-none us w s low high n b =
+stands-for-none {A = A} us w s low high n b =
     let within : (int_lt n low || int_lt high n) ≡ false =
     grind (arith, nat_tests, ints, b.from, b.upto) in
     let past : length us ≤ nat_abs (n -ℤ low) = omega (arith, ints, b.from) in
     let none : is_none (usage_chosen us low high n) ≡ true =
     ap (λ t. is_none (cond t None (slice_get us (nat_abs (n -ℤ low))))) within
-    ∙ ap (λ (o : Option Usage). is_none o) (slice_get_past us (nat_abs (n -ℤ low)) past) in
+    ∙ ap (λ (o : Option A). is_none o) (slice_get_past us (nat_abs (n -ℤ low)) past) in
     of-three (nat_lt 0 w && nat_le w 32) (is_none (usage_chosen us low high n)) (fits w s n)
     b.wide none b.held
 
@@ -95,7 +94,7 @@ fits-between w true (pos a) (negsuc b) (pos n) p q from upto = absurd (omega (ar
 fits-between w true (negsuc a) (negsuc b) (pos n) p q from upto = absurd (omega (arith, ints, upto))
 
 -- where the usages go past the upper bound, no number stands for none
-pub none-behind : (us : List Usage) (w : ℕ) (s : Bool) (low high : ℤ)
+pub none-behind : {A : Type 0} (us : List A) (w : ℕ) (s : Bool) (low high : ℤ)
     → ((n : ℤ) → is_null w s low high n ≡ false) → high <ℤ (low +ℤ pos (length us))
     → (other : ℤ) → is_unchosen us w s low high other ≡ false
 none-behind us w s low high outer past other =
@@ -104,7 +103,7 @@ none-behind us w s low high outer past other =
     absurd (omega (arith, ints, past, b.from, b.upto)))
 
 -- the greater of the number behind the usages and the least that bits hold
-pub record Candidate (us : List Usage) (w : ℕ) (s : Bool) (low m : ℤ) : Type 0 where
+pub record Candidate {A : Type 0} (us : List A) (w : ℕ) (s : Bool) (low m : ℤ) : Type 0 where
   pub least : ℤ
   pub held : fits w s least ≡ true
   pub lowest : (n : ℤ) → fits w s n ≡ true → least ≤ℤ n
@@ -112,7 +111,7 @@ pub record Candidate (us : List Usage) (w : ℕ) (s : Bool) (low m : ℤ) : Type
   pub from : (low +ℤ pos (length us)) ≤ℤ m
   pub greater : (n : ℤ) → least ≤ℤ n → (low +ℤ pos (length us)) ≤ℤ n → m ≤ℤ n
 
-pub none-held : (us : List Usage) (w : ℕ) (s : Bool) (low high m : ℤ) → Candidate us w s low m
+pub none-held : {A : Type 0} (us : List A) (w : ℕ) (s : Bool) (low high m : ℤ) → Candidate us w s low m
     → ((n : ℤ) → is_null w s low high n ≡ false)
     → (high <ℤ m) ⊎ (fits w s m ≡ false)
     → (other : ℤ) → is_unchosen us w s low high other ≡ false
@@ -130,7 +129,7 @@ none-held us w s low high m can outer bad other =
         let holds : fits w s m ≡ true =
         fits-between w s can.least other m can.held held can.above below in cc
 
-pub least-behind : (us : List Usage) (w : ℕ) (s : Bool) (low high m : ℤ) → Candidate us w s low m
+pub least-behind : {A : Type 0} (us : List A) (w : ℕ) (s : Bool) (low high m : ℤ) → Candidate us w s low m
     → ((n : ℤ) → is_null w s low high n ≡ false) → (nat_lt 0 w && nat_le w 32) ≡ true
     → m ≤ℤ high → fits w s m ≡ true → IsLeastUnchosen us w s low high (Some m)
 least-behind us w s low high m can outer wide upto held = (
@@ -154,30 +153,22 @@ max-left a b = grind (arith, nat_tests, ints)
 max-right : (a b : ℤ) → b ≤ℤ int_max a b
 max-right a b = grind (arith, nat_tests, ints)
 
-pub candidate : (us : List Usage) (w v : ℕ) (s t : Bool) (low all x least m n : ℤ) → v ≡ w
-    → t ≡ s → fits v t x ≡ true → ((k : ℤ) → fits v t k ≡ true → x ≤ℤ k) → least ≡ x
+pub candidate : {A : Type 0} (us : List A) (w : ℕ) (s t : Bool) (low all x least m n : ℤ)
+    → t ≡ s → fits w t x ≡ true → ((k : ℤ) → fits w t k ≡ true → x ≤ℤ k) → least ≡ x
     → all ≡ low +ℤ pos (length us) → m ≡ int_max all least → n ≡ m → Candidate us w s low n
-candidate us w v s t low all x least m n same-width same-sign held lowest is-x sum is-m is-n =
+candidate us w s t low all x least m n same-sign held lowest is-x sum is-m is-n =
     let is : n ≡ int_max all x = is-n ∙ is-m ∙ ap (int_max all) is-x in
     record {
       least = x;
-      held = sym (ap (λ y. fits y t x) same-width ∙ ap (λ y. fits w y x) same-sign) ∙ held;
-      lowest = λ k fit. lowest k
-          (ap (λ y. fits y t k) same-width ∙ ap (λ y. fits w y k) same-sign ∙ fit);
+      held = sym (ap (λ y. fits w y x) same-sign) ∙ held;
+      lowest = λ k fit. lowest k (ap (λ y. fits w y k) same-sign ∙ fit);
       above = subst (λ y. x ≤ℤ y) (sym is) (max-right all x);
       from = subst (λ y. y ≤ℤ n) sum (subst (λ y. all ≤ℤ y) (sym is) (max-left all x));
       greater = λ k p q. subst (λ y. y ≤ℤ k) (sym is)
           (max-least all x k (subst (λ y. y ≤ℤ k) (sym sum) q) p);
     }
 
--- the test of the code, at the same width and sign
-pub fits-same : (w v : ℕ) (s t r b : Bool) (n : ℤ) → v ≡ w → t ≡ s → r ≡ fits v t n → r ≡ b
+-- the test of the code, with the same sign
+pub fits-same : (w : ℕ) (s t r b : Bool) (n : ℤ) → t ≡ s → r ≡ fits w t n → r ≡ b
     → fits w s n ≡ b
-fits-same w v s t r b n same-width same-sign is e =
-    sym (ap (λ y. fits y t n) same-width ∙ ap (λ y. fits w y n) same-sign) ∙ sym is ∙ e
-
--- the code's sum is the number behind all usages
-pub sum-so : (r low : ℤ) (n len : ℕ) → r ≡ low → n ≡ len → negsuc (2 ^ 31) ≤ℤ low
-    → low ≤ℤ pos (2 ^ 31) → n ≤ 2 ^ 34
-    → to_z w64 (of_z w64 (to_z w64 (of_z w64 r) +ℤ to_z w64 n)) ≡ low +ℤ pos len
-sum-so r low n len is size least most few = omega (arith, ints)
+fits-same w s t r b n same-sign is e = sym (ap (λ y. fits w y n) same-sign) ∙ sym is ∙ e

@@ -10,9 +10,9 @@ use Rattle.hidreport_lists.specs.Entry.{Entry}
 use Rattle.hidreport_lists.specs.Itemising.{all_bytes, as_refusal, item_at, items_from, itemise}
 use Rattle.hidreport_lists.specs.Itemising.{with_entry}
 use Rattle.hidreport_lists.specs.Mending.{PieceRecord, cut_short, ended, ends_unknown, front_piece}
-use Rattle.hidreport_lists.specs.Mending.{holding, is_main, piece_by, pieces, pieces_from}
+use Rattle.hidreport_lists.specs.Mending.{holding, has_main, piece_by, pieces, pieces_from}
 use Rattle.hidreport_lists.specs.Mending.{whole_piece, with_piece, without_ended}
-use Rattle.hidreport_lists.specs.Mending.{if_read as if_pieces}
+use Rattle.hidreport_lists.specs.Mending.{then_ended}
 use Rattle.hidreport_lists.specs.Rebuilt.{items_of}
 use Rattle.hidreport_lists.proofs.CutLemmas.{items_or_fault, itemise-fault, itemise-items}
 use Rattle.hidreport_lists.proofs.ItemLemmas.{chosen_ok, itemise-some}
@@ -20,7 +20,7 @@ use Rattle.hidreport.specs.ItemState.{first_of}
 use Rattle.hidreport.specs.Meaning.{at_offset}
 use Rattle.hidreport.specs.MeaningFault.{MeaningFault}
 use Rattle.hidreport.specs.Options.{parse_as, parse_limited, past_longest, reading_of}
-use Rattle.hidreport.specs.Options.{unless_past}
+use Rattle.hidreport.specs.Options.{unless_too_long}
 use Rattle.hidreport.specs.Parser.Budget.{is_past, left_behind, past_fault, stop_in, walk_bytes}
 use Rattle.hidreport.specs.Parser.Budget.{walk_items, walk_within, weight_in}
 use Rattle.hidreport.specs.Parser.Machine.{StateRecord, fault_in, first_state, go_on, next_state}
@@ -84,7 +84,7 @@ pieces-so leave_out offset (suc inside) (b ∷ bs) es e =
 -- none of them ends with a main item that is left out
 none-ends : (es : List Entry) → ends_unknown (map piece_of es) ≡ false
 none-ends [] = refl
-none-ends (e ∷ es) = by-main (is_main (Some e.item)) (none-ends es)
+none-ends (e ∷ es) = by-main (has_main (Some e.item)) (none-ends es)
   where
     by-main : (b : Bool) → ends_unknown (map piece_of es) ≡ false
         → (not b && ends_unknown (map piece_of es)) ≡ false
@@ -195,7 +195,7 @@ repaired-items options bytes es d are some signed items walks parsed =
     pieces-so options.leave_out_cut_short 0 0 bytes es
     (sym (itemise-some item_of bytes some) ∙ items) in
     let read : pieces options.leave_out_cut_short bytes ≡ Ok (map piece_of es) =
-    ap if_pieces cut ∙ ap Ok (all-stay es) in
+    ap then_ended cut ∙ ap Ok (all-stay es) in
     let stand : repaired_pieces options bytes ≡ Ok (map piece_of es) =
     ap (λ r. then_mended options (as_refusal r)) read
     ∙ all-stand options [] options.parse.limit (first_state options.parse) 0 es d signed
@@ -237,14 +237,14 @@ by-past : (past : Option ℕ) (options : RepairOptions) (bytes : List ℕ) (d : 
     → repaired options bytes ≡ Ok (record { bytes = bytes; changes = [] })
 by-past None options bytes d are signed within parsed =
     let limited : parse_limited (reading_of options.parse) options.parse.limit bytes
-    ≡ Ok d = sym (ap (λ o. unless_past o (parse_limited
+    ≡ Ok d = sym (ap (λ o. unless_too_long o (parse_limited
     (reading_of options.parse) options.parse.limit bytes)) within) ∙ parsed in
-    ap (λ o. unless_past o (then_read options.parse (repaired_pieces options bytes))) within
+    ap (λ o. unless_too_long o (then_read options.parse (repaired_pieces options bytes))) within
     ∙ by-bytes options bytes d are signed
     (bytes-as options.parse bytes ∙ limited) parsed
 by-past (Some offset) options bytes d are signed within parsed =
     let bad : parse_as options.parse bytes ≡ Err (OverBudget offset) =
-    ap (λ o. unless_past o (parse_limited
+    ap (λ o. unless_too_long o (parse_limited
     (reading_of options.parse) options.parse.limit bytes)) within in cc
 
 -- what is read stays as it is
@@ -276,7 +276,7 @@ pieces-by options (Ok ps) r e = read-by options ps r (parse_as options (joined p
 pieces-by options (Err refusal) r e = cc
 
 past-by : (past : Option ℕ) (options : ParseOptions) (ps : Result (List PieceRecord) Refusal)
-    (r : RepairedRecord) → unless_past past (then_read options ps) ≡ Ok r
+    (r : RepairedRecord) → unless_too_long past (then_read options ps) ≡ Ok r
     → IsOk (parse_as options r.bytes)
 past-by None options ps r e = pieces-by options ps r e
 past-by (Some offset) options ps r e = cc

@@ -25,7 +25,8 @@ use Rattle.hidreport.specs.ItemState.{ItemState, first_of}
 use Rattle.hidreport.specs.Kinds.{Indexed, Direction, Input, Output, Feature, data_of, goes}
 use Rattle.hidreport.specs.Kinds.{is_push, is_pop, is_collection, is_end_collection, collection_kind_of}
 use Rattle.hidreport.specs.Parser.Machine.{StateRecord, after_pop, pushed_copy, no_item_state}
-use Rattle.hidreport.specs.Parser.Machine.{reports_of, size_in, first_id, added_to, reports_in}
+use Rattle.hidreport.specs.Lookup.{reports_of}
+use Rattle.hidreport.specs.Parser.Machine.{reports_made, size_in, first_id, added_to}
 use Rattle.hidreport.specs.Parser.Machine.{key_in, start_in, start_for, counts_in, fault_in, adds}
 use Rattle.hidreport.specs.Parser.Machine.{next_item_state, last_item_state, next_reports}
 use Rattle.hidreport.specs.Parser.Machine.{next_opened}
@@ -52,30 +53,30 @@ use Rattle.hidreport.specs.declared.parser.extent.Extent.{Extent}
 -- the reports of a direction that the items before k make
 abbrev pub reports_before : (ℕ → ItemState) → Direction → List ItemType → ℕ → List ReportRecord
 reports_before item_state d items k =
-    reports_of (λ p. key item_state d items p.0) (λ p. bits_of (extent (item_state p.0)))
+    reports_made (λ p. key item_state d items p.0) (λ p. bits_of (extent (item_state p.0)))
     (fields_at item_state d items) (makers item_state d items k)
 
 -- what is in force behind an item, and what the open Pushes keep there
-pub record Steps (keeping : PushKeeps) (item_state : ℕ → ItemState) (stack : ℕ → List ItemState)
+pub record Steps (push_keeps : PushKeeps) (item_state : ℕ → ItemState) (stack : ℕ → List ItemState)
     (items : List ItemType) (k : ℕ) (x : ItemType) : Type 0 where
   pub item_states_next : item_state (suc k) ≡ cond (is_pop x)
-      (after_pop keeping (item_state k) (last_item_state (item_state k) (stack k)))
+      (after_pop push_keeps (item_state k) (last_item_state (item_state k) (stack k)))
       (next_item_state (item_state k) x)
   pub stack_next : stack (suc k) ≡ cond (is_pop x) (take (length (stack k) - 1) (stack k))
-      (cond (is_push x) (stack k ++ pushed_copy keeping (item_state k) ∷ []) (stack k))
+      (cond (is_push x) (stack k ++ pushed_copy push_keeps (item_state k) ∷ []) (stack k))
   pub rests_next : Rests items (suc k)
 
 -- All that the walk asks of a reading of Push and Pop: what is in force before the first item and
 -- behind each one.
-pub record Follows (keeping : PushKeeps) (by : UsagesBy) (item_state : ℕ → ItemState) (stack : ℕ → List ItemState)
+pub record Follows (push_keeps : PushKeeps) (by : UsagesBy) (item_state : ℕ → ItemState) (stack : ℕ → List ItemState)
     (items : List ItemType) : Type 0 where
   pub begins : no_item_state by ≡ item_state 0
-  pub empty : (start_by keeping by).stack ≡ stack 0
+  pub empty : (start_by push_keeps by).stack ≡ stack 0
   pub leveled : (k : ℕ) → length (stack k) ≡ level items k
   pub goes_on : (front rest : List ItemType) (x : ItemType) → items ≡ front ++ x ∷ rest
       → Rests items (length front)
       → (is_pop x ≡ true → 0 < level items (length front))
-      → Steps keeping item_state stack items (length front) x
+      → Steps push_keeps item_state stack items (length front) x
 
 -- what is held at k is what the definitions say of the items before k
 pub record Holds (item_state : ℕ → ItemState) (stack : ℕ → List ItemState) (items : List ItemType)
@@ -84,10 +85,10 @@ pub record Holds (item_state : ℕ → ItemState) (stack : ℕ → List ItemStat
   pub item_states : h.item_state ≡ item_state k
   pub rests : Rests items k
   pub keeps : h.stack ≡ stack k
-  pub listed : (d : Direction) → reports_in d h.descriptor ≡ reports_before item_state d items k
+  pub listed : (d : Direction) → reports_of d h.descriptor ≡ reports_before item_state d items k
   pub first : (d : Direction)
       → first_report_id item_state (makers item_state d items k)
-      ≡ first_id (reports_in d h.descriptor)
+      ≡ first_id (reports_of d h.descriptor)
   pub numbered : h.fields ≡ fields_before item_state items k
   pub stands : Stands items k
   pub inside : h.opened ≡ collections_at item_state items k
@@ -108,7 +109,7 @@ start-held item_state stack items k h d held =
     sym (size-in_reports (λ p. key item_state d items p.0) (λ p. bits_of (extent (item_state p.0)))
     (fields_at item_state d items) (makers item_state d items k) (key item_state d items k))
     ∙ ap (size_in (key item_state d items k)) (sym (held.listed d))
-    ∙ ap (λ id. size_in id (reports_in d h.descriptor)) (key-held item_state stack items k h d held)
+    ∙ ap (λ id. size_in id (reports_of d h.descriptor)) (key-held item_state stack items k h d held)
 
 start-for : (item_state : ℕ → ItemState) (stack : ℕ → List ItemState) (items : List ItemType)
     (k : ℕ) (h : StateRecord)
@@ -184,29 +185,29 @@ listed-by : (b : Bool) (item_state : ℕ → ItemState) (stack : ℕ → List It
     → reports_before item_state d items (suc (length front))
     ≡ cond b (added_to (key_in d h) (bits_of (extent h.item_state))
     (fields_of h.item_state h.opened h.fields (start_in d h) (data_of x) (extent h.item_state))
-    (reports_in d h.descriptor)) (reports_in d h.descriptor)
+    (reports_of d h.descriptor)) (reports_of d h.descriptor)
 listed-by true item_state stack items front rest h x d e held t =
     let k = length front in
     let key_of = λ (p : Indexed). key item_state d items p.0 in
     let bits = λ (p : Indexed). bits_of (extent (item_state p.0)) in
     let parts = fields_at item_state d items in
     let ms = makers item_state d items k in
-    ap (reports_of key_of bits parts)
+    ap (reports_made key_of bits parts)
     (makers-next item_state items front rest x d e ∙ ap (λ b. ms ++ cond b ((k, x) ∷ []) []) t)
     ∙ reports-next key_of bits parts ms (k, x)
     ∙ ap (λ id. added_to id (bits_of (extent (item_state k))) (fields_at item_state d items (k, x))
-    (reports_of key_of bits parts ms)) (key-held item_state stack items k h d held)
+    (reports_made key_of bits parts ms)) (key-held item_state stack items k h d held)
     ∙ ap (λ f. added_to (key_in d h) (bits_of (extent f)) (fields_at item_state d items (k, x))
-    (reports_of key_of bits parts ms)) (sym held.item_states)
+    (reports_made key_of bits parts ms)) (sym held.item_states)
     ∙ ap (λ fs. added_to (key_in d h) (bits_of (extent h.item_state)) fs
-    (reports_of key_of bits parts ms)) (fields-held item_state stack items k h d x held)
+    (reports_made key_of bits parts ms)) (fields-held item_state stack items k h d x held)
     ∙ ap (added_to (key_in d h) (bits_of (extent h.item_state))
     (fields_of h.item_state h.opened h.fields (start_in d h) (data_of x) (extent h.item_state)))
     (sym (held.listed d))
 listed-by false item_state stack items front rest h x d e held t =
     let k = length front in
     let ms = makers item_state d items k in
-    ap (reports_of (λ p. key item_state d items p.0) (λ p. bits_of (extent (item_state p.0)))
+    ap (reports_made (λ p. key item_state d items p.0) (λ p. bits_of (extent (item_state p.0)))
     (fields_at item_state d items)) (makers-next item_state items front rest x d e
     ∙ ap (λ b. ms ++ cond b ((k, x) ∷ []) []) t ∙ append-nil ms)
     ∙ sym (held.listed d)
@@ -225,9 +226,9 @@ first-more : (item_state : ℕ → ItemState) (items : List ItemType) (ms : List
     (key_of : Indexed → Option ℕ) (bits : Indexed → ℕ) (parts : Indexed → List FieldRecord)
     (m : Indexed)
     → (ms ≡ [] → (item_state m.0).report_id ≡ key_of m)
-    → first_report_id item_state ms ≡ first_id (reports_of key_of bits parts ms)
+    → first_report_id item_state ms ≡ first_id (reports_made key_of bits parts ms)
     → first_report_id item_state (ms ++ m ∷ [])
-    ≡ first_id (reports_of key_of bits parts (ms ++ m ∷ []))
+    ≡ first_id (reports_made key_of bits parts (ms ++ m ∷ []))
 first-more item_state items [] key_of bits parts m new old = new refl
 first-more item_state items (p ∷ ps) key_of bits parts m new old = old
 
@@ -252,7 +253,7 @@ first-by b item_state stack items front rest h x d e held t = first-at b refl wh
   ms = makers item_state d items k
 
   old : first_report_id item_state ms ≡ first_id
-      (reports_of key_of bits (fields_at item_state d items) ms)
+      (reports_made key_of bits (fields_at item_state d items) ms)
   old = held.first d ∙ ap first_id (held.listed d)
 
   all : (c : Bool) → b ≡ c → makers item_state d items (suc k) ≡ ms ++ cond c ((k, x) ∷ []) []
@@ -261,7 +262,7 @@ first-by b item_state stack items front rest h x d e held t = first-at b refl wh
 
   both : List Indexed → Type 0
   both l = first_report_id item_state l ≡ first_id
-      (reports_of key_of bits (fields_at item_state d items) l)
+      (reports_made key_of bits (fields_at item_state d items) l)
 
   first-at : (c : Bool) → b ≡ c → both (makers item_state d items (suc k))
   first-at true s = subst both (sym (all true s))
@@ -315,7 +316,7 @@ numbered-next item_state stack items front rest h x e held =
     joined ∙ ap (λ g. h.fields + fields_made o (extent g)) (sym held.item_states)
 
 in_direction : (d : Direction) (h : StateRecord) (x : ItemType)
-    → reports_in d (next_state h x).descriptor ≡ next_reports d h x
+    → reports_of d (next_state h x).descriptor ≡ next_reports d h x
 in_direction Input h x = refl
 in_direction Output h x = refl
 in_direction Feature h x = refl
@@ -368,26 +369,22 @@ opened-by (Some kind) b item_state stack items front rest h x e held faultless o
     let new : collection_record item_state items (k, x) ≡ record {
       id = h.collections;
       kind = kind;
-      usages =
-          (list_or_none (usages_of h.item_state)).usages;
+      usages = (list_or_none (usages_of h.item_state)).usages;
     } =
     ap (λ (o : Option CollectionItem). record {
       id = collections_before items k;
       kind = unwrap_or o kinds.Physical;
-      usages =
-          (list_or_none (usages_of (item_state k))).usages;
+      usages = (list_or_none (usages_of (item_state k))).usages;
     }) opens
     ∙ ap (λ (n : ℕ). record {
       id = n;
       kind = kind;
-      usages =
-          (list_or_none (usages_of (item_state k))).usages;
+      usages = (list_or_none (usages_of (item_state k))).usages;
     }) (sym held.counted)
     ∙ ap (λ (f : ItemState). record {
       id = h.collections;
       kind = kind;
-      usages =
-          (list_or_none (usages_of f)).usages;
+      usages = (list_or_none (usages_of f)).usages;
     }) (sym held.item_states) in
     record {
       stands = next.1;
@@ -397,8 +394,7 @@ opened-by (Some kind) b item_state stack items front rest h x e held faultless o
           ∙ ap (λ l. l ++ record {
             id = h.collections;
             kind = kind;
-            usages =
-                (list_or_none (usages_of h.item_state)).usages;
+            usages = (list_or_none (usages_of h.item_state)).usages;
           } ∷ []) held.inside
           ∙ ap (λ (c : CollectionRecord). collections_at item_state items k ++ c ∷ []) (sym new)
           ∙ sym (map-append (collection_record item_state items) (open_at items k) ((k, x) ∷ []))
@@ -454,13 +450,13 @@ pop-deep h item.Long e faultless = cc
 pop-deep h item.Reserved e faultless = cc
 
 -- what is held goes on by one item
-pub holds-next : (keeping : PushKeeps) (by : UsagesBy) (item_state : ℕ → ItemState) (stack : ℕ → List ItemState)
+pub holds-next : (push_keeps : PushKeeps) (by : UsagesBy) (item_state : ℕ → ItemState) (stack : ℕ → List ItemState)
     (items front rest : List ItemType) (h : StateRecord) (x : ItemType)
-    → Follows keeping by item_state stack items
-    → h.keeping ≡ keeping → items ≡ front ++ x ∷ rest
+    → Follows push_keeps by item_state stack items
+    → h.push_keeps ≡ push_keeps → items ≡ front ++ x ∷ rest
     → Holds item_state stack items (length front) h
     → fault_in h x ≡ None → Holds item_state stack items (suc (length front)) (next_state h x)
-holds-next keeping by item_state stack items front rest h x follows reads e held faultless =
+holds-next push_keeps by item_state stack items front rest h x follows reads e held faultless =
     let k = length front in
     let opened = opened-by (collection_kind_of x)
     (is_end_collection x) item_state stack items front rest h x e
@@ -473,18 +469,18 @@ holds-next keeping by item_state stack items front rest h x follows reads e held
       item_states = ap (λ r. cond (is_pop x)
           (after_pop r h.item_state (last_item_state h.item_state h.stack))
           (next_item_state h.item_state x)) reads
-          ∙ ap (λ f. cond (is_pop x) (after_pop keeping f (last_item_state f h.stack))
+          ∙ ap (λ f. cond (is_pop x) (after_pop push_keeps f (last_item_state f h.stack))
           (next_item_state f x)) held.item_states
-          ∙ ap (λ l. cond (is_pop x) (after_pop keeping (item_state k)
+          ∙ ap (λ l. cond (is_pop x) (after_pop push_keeps (item_state k)
           (last_item_state (item_state k) l))
           (next_item_state (item_state k) x)) held.keeps ∙ sym stepped.item_states_next;
       rests = stepped.rests_next;
       keeps = ap (λ r. cond (is_pop x) (take (length h.stack - 1) h.stack)
           (cond (is_push x) (h.stack ++ pushed_copy r h.item_state ∷ []) h.stack)) reads
           ∙ ap (λ l. cond (is_pop x) (take (length l - 1) l)
-          (cond (is_push x) (l ++ pushed_copy keeping h.item_state ∷ []) l)) held.keeps
+          (cond (is_push x) (l ++ pushed_copy push_keeps h.item_state ∷ []) l)) held.keeps
           ∙ ap (λ f. cond (is_pop x) (take (length (stack k) - 1) (stack k))
-          (cond (is_push x) (stack k ++ pushed_copy keeping f ∷ []) (stack k))) held.item_states
+          (cond (is_push x) (stack k ++ pushed_copy push_keeps f ∷ []) (stack k))) held.item_states
           ∙ sym stepped.stack_next;
       listed = λ d. in_direction d h x ∙ sym
           (listed-next item_state stack items front rest h x d e held);
@@ -536,17 +532,17 @@ at-end item_state stack items h held =
     (reports item_state Feature items) (held.listed Input) (held.listed Output)
     (held.listed Feature)
 
-walk-from : (keeping : PushKeeps) (by : UsagesBy) (item_state : ℕ → ItemState) (stack : ℕ → List ItemState)
-    (items front rest : List ItemType) (h : StateRecord) → Follows keeping by item_state stack items
-    → h.keeping ≡ keeping → items ≡ front ++ rest → Holds item_state stack items (length front) h
+walk-from : (push_keeps : PushKeeps) (by : UsagesBy) (item_state : ℕ → ItemState) (stack : ℕ → List ItemState)
+    (items front rest : List ItemType) (h : StateRecord) → Follows push_keeps by item_state stack items
+    → h.push_keeps ≡ push_keeps → items ≡ front ++ rest → Holds item_state stack items (length front) h
     → walk h (length front) rest ≡ unless_first
     (first_fault item_state items (enumerate_from (length front) rest))
     (descriptor item_state items)
-walk-from keeping by item_state stack items front [] h follows reads e held =
+walk-from push_keeps by item_state stack items front [] h follows reads e held =
     let whole : items ≡ front = e ∙ append-nil front in
     ap Ok (at-end item_state stack items h
     (subst (λ n. Holds item_state stack items n h) (ap length (sym whole)) held))
-walk-from keeping by item_state stack items front (x ∷ xs) h follows reads e held =
+walk-from push_keeps by item_state stack items front (x ∷ xs) h follows reads e held =
     let k = length front in
     let more : items ≡ (front ++ x ∷ []) ++ xs = e ∙ sym (append_assoc front (x ∷ []) xs) in
     let size : length (front ++ x ∷ []) ≡ suc k = grind (arith, common_steps) in
@@ -556,24 +552,24 @@ walk-from keeping by item_state stack items front (x ∷ xs) h follows reads e h
     (λ faultless.
     let next : Holds item_state stack items (length (front ++ x ∷ [])) (next_state h x) =
     subst (λ n. Holds item_state stack items n (next_state h x)) (sym size)
-    (holds-next keeping by item_state stack items front xs h x follows reads e held faultless) in
+    (holds-next push_keeps by item_state stack items front xs h x follows reads e held faultless) in
     subst (λ n. walk (next_state h x) n xs ≡ unless_first
     (first_fault item_state items (enumerate_from n xs)) (descriptor item_state items)) size_one
-    (walk-from keeping by item_state stack items (front ++ x ∷ []) xs
+    (walk-from push_keeps by item_state stack items (front ++ x ∷ []) xs
     (next_state h x) follows reads more
     next))
 
-pub holds-nothing : (keeping : PushKeeps) (by : UsagesBy) (item_state : ℕ → ItemState) (stack : ℕ → List ItemState)
-    (items : List ItemType) → Follows keeping by item_state stack items
-    → Holds item_state stack items 0 (start_by keeping by)
-holds-nothing keeping by item_state stack items follows = record {
+pub holds-nothing : (push_keeps : PushKeeps) (by : UsagesBy) (item_state : ℕ → ItemState) (stack : ℕ → List ItemState)
+    (items : List ItemType) → Follows push_keeps by item_state stack items
+    → Holds item_state stack items 0 (start_by push_keeps by)
+holds-nothing push_keeps by item_state stack items follows = record {
   item_states = follows.begins;
   rests = rests-nothing items;
   keeps = follows.empty;
-  listed = λ d. elim d as (λ d. reports_in d (start_by keeping by).descriptor ≡ reports_before
+  listed = λ d. elim d as (λ d. reports_of d (start_by push_keeps by).descriptor ≡ reports_before
       item_state d items 0) [ Input ↦ refl | Output ↦ refl | Feature ↦ refl ];
   first = λ d. elim d as (λ d. first_report_id item_state (makers item_state d items 0) ≡ first_id
-      (reports_in d (start_by keeping by).descriptor))
+      (reports_of d (start_by push_keeps by).descriptor))
       [ Input ↦ refl | Output ↦ refl | Feature ↦ refl ];
   numbered = refl;
   stands = stands-nothing items;
@@ -582,9 +578,9 @@ holds-nothing keeping by item_state stack items follows = record {
 }
 
 -- the walk gives the meaning, by each reading that it follows
-pub walk-follows : (keeping : PushKeeps) (by : UsagesBy) (reading : InForce) (stack : ℕ → List ItemState)
-    (items : List ItemType) → Follows keeping by (reading items) stack items
-    → walk (start_by keeping by) 0 items ≡ meaning_by reading items
-walk-follows keeping by reading stack items follows =
-    walk-from keeping by (reading items) stack items [] items (start_by keeping by) follows refl refl
-    (holds-nothing keeping by (reading items) stack items follows)
+pub walk-follows : (push_keeps : PushKeeps) (by : UsagesBy) (reading : InForce) (stack : ℕ → List ItemState)
+    (items : List ItemType) → Follows push_keeps by (reading items) stack items
+    → walk (start_by push_keeps by) 0 items ≡ meaning_by reading items
+walk-follows push_keeps by reading stack items follows =
+    walk-from push_keeps by (reading items) stack items [] items (start_by push_keeps by) follows refl refl
+    (holds-nothing push_keeps by (reading items) stack items follows)

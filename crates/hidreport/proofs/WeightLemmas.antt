@@ -17,7 +17,8 @@ use Rattle.hidreport.specs.Parser.Budget.{is_past, left_behind, past_fault, stop
 use Rattle.hidreport.specs.Parser.Budget.{weight_of_each}
 use Rattle.hidreport.specs.Parser.DataItem.{item_with}
 use Rattle.hidreport.specs.Parser.Machine.{StateRecord, counts_in, fault_in, first_id, key_in}
-use Rattle.hidreport.specs.Parser.Machine.{reports_in, size_in, start_in}
+use Rattle.hidreport.specs.Lookup.{reports_of}
+use Rattle.hidreport.specs.Parser.Machine.{size_in, start_in}
 use Rattle.hidreport.specs.Parser.Usages.{HasUsages, usage_list, usages_fault}
 use Rattle.hidreport.specs.Records.{Attributes, FieldRecord, VariableRecord}
 use Rattle.hidreport.specs.Usages.{UsageList, usages_of}
@@ -138,15 +139,15 @@ faultless h Feature flags e =
 pub data-faultless : (h now : StateRecord) (g : ItemState) (d : Direction) (flags : Flags)
     (e : Extent) (key : Option ℕ) (first n : ℕ) → h ≡ now → g ≡ h.item_state
     → extent g ≡ Some e → usages_fault flags h.item_state ≡ None
-    → key ≡ first_of g.report_id (first_id (reports_in d h.descriptor))
-    → first ≡ size_in key (reports_in d h.descriptor) → first + e.size * e.count < 2 ^ 64
+    → key ≡ first_of g.report_id (first_id (reports_of d h.descriptor))
+    → first ≡ size_in key (reports_of d h.descriptor) → first + e.size * e.count < 2 ^ 64
     → n ≡ field_count flags e.count → h.fields + n ≤ 2 ^ 32
     → fault_in now (item_with d flags) ≡ None
 data-faultless h now g d flags e key first n view same made usable key_is first_is fits n_is ids =
     let key_now : key ≡ key_in d h = key_is
-    ∙ ap (λ (f : ItemState). first_of f.report_id (first_id (reports_in d h.descriptor))) same in
+    ∙ ap (λ (f : ItemState). first_of f.report_id (first_id (reports_of d h.descriptor))) same in
     let first_now : first ≡ start_in d h =
-    first_is ∙ ap (λ k. size_in k (reports_in d h.descriptor)) key_now in
+    first_is ∙ ap (λ k. size_in k (reports_of d h.descriptor)) key_now in
     subst (λ (z : StateRecord). fault_in z (item_with d flags) ≡ None) view
     (faultless h d flags e (ap extent (sym same) ∙ made) usable
     (subst (λ k. k + e.size * e.count < 2 ^ 64) first_now fits)

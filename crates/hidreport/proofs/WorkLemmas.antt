@@ -23,8 +23,8 @@ use Rattle.hidreport.specs.Working.{AllWork, FieldWorks, IsNarrow}
 use Rattle.hidreport.specs.WritingValues.{begins_in_id, fits, has_sign, placed, put, value_count}
 use Rattle.hidreport.specs.WritingValues.{value_width, where_read, written}
 use Rattle.hidreport.specs.declared.field.insert_error.InsertError.TheVariants as refused
-use Rattle.hidreport.specs.declared.field.data_item.Direction.{Direction as ItemDirection}
-use Rattle.hidreport.specs.declared.field.data_item.Direction.TheVariants as directions
+use Rattle.hidreport.specs.declared.field.data_item.Direction.{Direction}
+use Rattle.hidreport.specs.declared.field.data_item.Direction.TheVariants as direction
 use Rattle.hidreport.proofs.OwnReportsLemmas.{each-back, each-front, of-none, of-some}
 use Rattle.hidreport.proofs.ReportLemmas.{same_key-equal}
 
@@ -248,13 +248,13 @@ found-works [] (b ∷ bytes) filled = tt
 found-works (r ∷ rs) (b ∷ bytes) filled = first-by r.id b bytes r rs refl filled.0 filled.1
 
 -- those of any direction
-pub works-of : (way : ItemDirection) (d : DescriptorRecord) (bytes : List ℕ) → IsTiled d
+pub works-of : (way : Direction) (d : DescriptorRecord) (bytes : List ℕ) → IsTiled d
     → IfSome (find_report (reports_of way d) bytes) (AllWork bytes)
-works-of directions.Input d bytes t = found-works d.input bytes
+works-of direction.Input d bytes t = found-works d.input bytes
     (each-front IsFilled d.input (d.output ++ d.feature) t.filled)
-works-of directions.Output d bytes t = found-works d.output bytes
+works-of direction.Output d bytes t = found-works d.output bytes
     (each-front IsFilled d.output d.feature
     (each-back IsFilled d.input (d.output ++ d.feature) t.filled))
-works-of directions.Feature d bytes t = found-works d.feature bytes
+works-of direction.Feature d bytes t = found-works d.feature bytes
     (each-back IsFilled d.output d.feature
     (each-back IsFilled d.input (d.output ++ d.feature) t.filled))

@@ -51,6 +51,7 @@ abbrev pub needed_usages_fault : Result UsageList MeaningFault → Option Meanin
 needed_usages_fault (Ok us) = if_no_usages us.usages
 needed_usages_fault (Err fault) = Some fault
 
+-- past a limit: `OutOfBounds`
 abbrev pub limit_fault : Bool → Option MeaningFault
 limit_fault true = Some PastBounds
 limit_fault false = None

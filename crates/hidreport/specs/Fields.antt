@@ -99,12 +99,7 @@ attributes_with d flags m collections = record {
   unit = m.unit;
   unit_exponent = m.unit_exponent;
   collections = collections;
-  relative = flags.relative;
-  wrap = flags.wrap;
-  nonlinear = flags.nonlinear;
-  no_preferred_state = flags.no_preferred_state;
-  null_state = flags.null_state;
-  buffered_bytes = flags.buffered_bytes;
+  flags = flags;
   volatile = volatile_in d flags.volatile;
 }
 

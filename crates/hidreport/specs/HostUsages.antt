@@ -64,8 +64,8 @@ spans low (l ∷ ls) = option_to_list (span_of (unwrap_or l.page 0) low l.item)
     ++ spans (minimum_behind low l.item) ls
 
 -- it names a usage, without a page of its own, on this page
-abbrev pub is_on : ℕ → UsageSpan → Bool
-is_on page s = (s.is_short && s.page == page) && not (nat_lt s.last s.first)
+abbrev pub lies_on : ℕ → UsageSpan → Bool
+lies_on page s = (s.is_short && s.page == page) && not (nat_lt s.last s.first)
 
 -- on the page in force at the main item, where it has none of its own
 abbrev pub moved_to : ℕ → UsageSpan → UsageSpan
@@ -76,15 +76,15 @@ moved_to page s = if s.is_short then record s { page = page } else s
 abbrev pub completed : ℕ → List UsageSpan → List UsageSpan
 completed page [] = []
 completed page (s ∷ ss) =
-    (if list_any (is_on page) ss then s else moved_to page s) ∷ completed page ss
+    (if list_any (lies_on page) ss then s else moved_to page s) ∷ completed page ss
 
 -- what the local items name at a main item with this page in force
 abbrev pub host_spans : ℕ → List PagedLocal → List UsageSpan
 host_spans page ls = completed page (spans 0 (first_set false ls))
 
 -- the usage with this number
-abbrev pub usage_in : UsageSpan → ℕ → Usage
-usage_in s n = record {
+abbrev pub span_usage : UsageSpan → ℕ → Usage
+span_usage s n = record {
   usage_page = if s.is_short then s.page else n / 65536;
   usage_id = n % 65536;
 }
@@ -92,10 +92,11 @@ usage_in s n = record {
 -- so many usages from a number on
 abbrev pub usages_from : UsageSpan → ℕ → ℕ → List Usage
 usages_from s n zero = []
-usages_from s n (suc more) = usage_in s n ∷ usages_from s (n + 1) more
+usages_from s n (suc more) = span_usage s n ∷ usages_from s (n + 1) more
 
-abbrev pub usages_in : UsageSpan → List Usage
-usages_in s = usages_from s s.first (s.last + 1 - s.first)
+-- its usages, from the first number to the last; none where the last is below the first
+abbrev pub span_usages : UsageSpan → List Usage
+span_usages s = usages_from s s.first (s.last + 1 - s.first)
 
 -- all lie on one page
 abbrev pub is_on_one_page : UsageSpan → Bool

@@ -14,7 +14,7 @@ use Rattle.hidreport.specs.Records.{DescriptorRecord}
 use Rattle.hidreport.specs.Segments.{HasNoLocal, IsMatched, moved_fault, with_segment}
 use Rattle.hidreport.specs.declared.parse_options.ParseOptions.{ParseOptions}
 use Rattle.hidreport.specs.declared.parser.push_keeps.PushKeeps.{PushKeeps}
-use Rattle.hidreport.specs.declared.parser.push_keeps.PushKeeps.TheVariants as push_keeps
+use Rattle.hidreport.specs.declared.parser.push_keeps.PushKeeps.TheVariants as a_push_keeps
 
 -- what the bytes mean by these options, however many they are
 abbrev pub parse_any : ParseOptions → List ℕ → Result DescriptorRecord Refusal
@@ -22,8 +22,8 @@ parse_any options = parse_limited (reading_of options) options.limit
 
 -- where a Push keeps no locals, no local item is among these
 abbrev pub Spares : PushKeeps → List ItemType → Type 0
-Spares push_keeps.All items = Unit {0}
-Spares push_keeps.Globals items = HasNoLocal items
+Spares a_push_keeps.All items = Unit {0}
+Spares a_push_keeps.Globals items = HasNoLocal items
 
 -- a Push, matched items and its Pop change nothing: the answer is that of the items around them, a
 -- fault at the same item

@@ -42,6 +42,7 @@ pub record IsOneWith (id : Option ℕ) (reports : List ReportRecord) (report : R
 abbrev pub field_with : ℕ → List FieldRecord → Option FieldRecord
 field_with number fields = find (λ f. (place_of f).id == number) fields
 
+-- the same page and the same id
 abbrev pub same_usage : Usage → Usage → Bool
 same_usage u v = (v.usage_page == u.usage_page) && (v.usage_id == u.usage_id)
 

@@ -55,6 +55,7 @@ descriptor item_state items = record {
   feature = reports item_state Feature items;
 }
 
+-- the fault of item k, or else the first behind it
 abbrev pub fault_here : Option MeaningFault → ℕ → Option (ℕ × MeaningFault)
     → Option (ℕ × MeaningFault)
 fault_here (Some x) k later = Some (k, x)
@@ -66,6 +67,7 @@ first_fault item_state items [] = None
 first_fault item_state items (p ∷ ps) =
     fault_here (fault item_state items p.0 p.1) p.0 (first_fault item_state items ps)
 
+-- the reports, unless there is a fault
 abbrev pub unless_first : Option (ℕ × MeaningFault) → DescriptorRecord
     → Result DescriptorRecord (ℕ × MeaningFault)
 unless_first None announced = Ok announced
@@ -111,6 +113,7 @@ parse_items reading (Err fault) = Err (InvalidAt fault.0 (grammar_message fault.
 parse_items reading (Ok entries) =
     at_offset entries (meaning_by reading (map (λ e. e.item) entries))
 
+-- the text for no bytes at all
 abbrev pub empty_descriptor : List ℕ
 empty_descriptor = codes "Empty report descriptor"
 

@@ -2,6 +2,9 @@
 -- parse under a budget also ends at an item that is past its limit.
 use Rattle.std.specs.Prelude.{ℕ, List, Option, None, Some, codes}
 
+-- what an item can mean nothing for: a Pop or an End Collection too many, a maximum, a page or
+-- usages that are missing, and more bits, fields or collections than can be counted, or than the
+-- limit allows
 pub data MeaningFault : Type 0 where
   TooManyPops TooManyEnds MissingUsageMaximum MissingUsagePage MissingUsages PastBounds PastBudget :
       MeaningFault

@@ -9,15 +9,15 @@ use Rattle.hidreport.specs.MeaningFault.{MeaningFault}
 use Rattle.hidreport.specs.Records.{DescriptorRecord}
 use Rattle.hidreport.specs.declared.parse_options.ParseOptions.{ParseOptions}
 use Rattle.hidreport.specs.declared.parser.push_keeps.PushKeeps.{PushKeeps}
-use Rattle.hidreport.specs.declared.parser.push_keeps.PushKeeps.TheVariants as push_keeps
+use Rattle.hidreport.specs.declared.parser.push_keeps.PushKeeps.TheVariants as a_push_keeps
 use Rattle.hidreport.specs.declared.parser.usages_by.UsagesBy.{UsagesBy}
 use Rattle.hidreport.specs.declared.parser.usages_by.UsagesBy.TheVariants as usages_by
 
 -- what is in force where a Push keeps this (Section 6.2.2.7) and usages are found so
 -- (Section 6.2.2.8)
 abbrev pub reading_by : PushKeeps → UsagesBy → InForce
-reading_by push_keeps.All by = item_state by
-reading_by push_keeps.Globals by = item_state_globals_only by
+reading_by a_push_keeps.All by = item_state by
+reading_by a_push_keeps.Globals by = item_state_globals_only by
 
 -- what is in force by these options
 abbrev pub reading_of : ParseOptions → InForce
@@ -26,7 +26,7 @@ reading_of options = reading_by options.push_keeps options.usages
 -- the options of the Rust crate's own call
 abbrev pub default_options : ParseOptions
 default_options = record {
-  push_keeps = push_keeps.All;
+  push_keeps = a_push_keeps.All;
   usages = usages_by.Standard;
   limit = None;
   longest = None;
@@ -34,7 +34,7 @@ default_options = record {
 
 -- the same where a Push keeps globals alone
 abbrev pub globals_only_options : ParseOptions
-globals_only_options = record default_options { push_keeps = push_keeps.Globals }
+globals_only_options = record default_options { push_keeps = a_push_keeps.Globals }
 
 -- the reports by a reading, under a limit, if any
 abbrev pub parse_limited : InForce → Option ℕ → List ℕ → Result DescriptorRecord Refusal
@@ -57,12 +57,12 @@ past_longest None size = None
 past_longest (Some longest) size = if nat_lt longest size then Some longest else None
 
 -- the answer, unless the budget is exceeded here
-abbrev pub unless_past : {A : Type 0} → Option ℕ → Result A Refusal → Result A Refusal
-unless_past None answer = answer
-unless_past (Some offset) answer = Err (OverBudget offset)
+abbrev pub unless_too_long : {A : Type 0} → Option ℕ → Result A Refusal → Result A Refusal
+unless_too_long None answer = answer
+unless_too_long (Some offset) answer = Err (OverBudget offset)
 
 -- the reports that the bytes of a descriptor announce, or their first fault, or the item that is
 -- past the limit; of bytes that aren't too many
 abbrev pub parse_as : ParseOptions → List ℕ → Result DescriptorRecord Refusal
-parse_as options bytes = unless_past (past_longest options.longest (length bytes))
+parse_as options bytes = unless_too_long (past_longest options.longest (length bytes))
     (parse_limited (reading_of options) options.limit bytes)

@@ -39,6 +39,7 @@ element first end count is_signed bytes index =
     let width = element_width first end count in
     read_bits (first + width * index) (first + width * index + width) is_signed bytes
 
+-- a value before others; the first refusal refuses all
 abbrev pub before_values : Result ValueRecord Refusal → Result (List ValueRecord) Refusal
     → Result (List ValueRecord) Refusal
 before_values (Err e) rest = Err e
@@ -54,6 +55,7 @@ each_value read index (suc more) = before_values (read index) (each_value read (
 abbrev pub is_signed : Attributes → Bool
 is_signed shared = int_lt shared.logical_minimum (pos 0)
 
+-- a value as a list of one
 abbrev pub one_value : Result ValueRecord Refusal → Result (List ValueRecord) Refusal
 one_value (Ok x) = Ok (x ∷ [])
 one_value (Err refusal) = Err refusal

@@ -1,5 +1,6 @@
 -- Reports, fields and collections as plain data (Sections 5.6, 6.2.2.4 to 6.2.2.8).
 use Rattle.std.specs.Prelude.{ℕ, ℤ, Bool, false, List, [], ◌∷◌, ◌++◌, flat_map, Option, None}
+use Rattle.hidreport_items.specs.Flags.{Flags}
 use Rattle.hidreport_items.specs.declared.main_item.CollectionItem.{CollectionItem}
 use Rattle.hidreport.specs.declared.field.usage.Usage.{Usage}
 
@@ -17,7 +18,7 @@ pub record FieldPlace : Type 0 where
   pub first : ℕ
   pub end : ℕ
 
--- what a field with data also has; `volatile` is none in an input report
+-- what a field with data also has: `flags` are its item's, and `volatile` is none in an input report
 pub record Attributes : Type 0 where
   pub logical_minimum : ℤ
   pub logical_maximum : ℤ
@@ -26,12 +27,7 @@ pub record Attributes : Type 0 where
   pub unit : Option ℕ
   pub unit_exponent : Option ℤ
   pub collections : List CollectionRecord
-  pub relative : Bool
-  pub wrap : Bool
-  pub nonlinear : Bool
-  pub no_preferred_state : Bool
-  pub null_state : Bool
-  pub buffered_bytes : Bool
+  pub flags : Flags
   pub volatile : Option Bool
 
 -- a field: one value with a usage, several values that choose among usages (whether those are a

@@ -17,7 +17,7 @@ use Rattle.hidreport.specs.ItemState.{ItemState}
 use Rattle.hidreport.specs.Meaning.{refusal_at}
 use Rattle.hidreport.specs.MeaningFault.{MeaningFault, MissingUsages}
 use Rattle.hidreport.specs.Options.{meaning_as, parse_as, past_longest, reading_of}
-use Rattle.hidreport.specs.Options.{unless_past}
+use Rattle.hidreport.specs.Options.{unless_too_long}
 use Rattle.hidreport.specs.Records.{DescriptorRecord}
 use Rattle.hidreport.specs.declared.parse_options.ParseOptions.{ParseOptions}
 use Rattle.hidreport.specs.declared.repairing.change.Change.{Change}
@@ -28,6 +28,7 @@ use Rattle.hidreport.specs.declared.repairing.repair_options.RepairOptions.{Repa
 abbrev pub set_constant : ℕ → ℕ
 set_constant b = b - b % 2 + 1
 
+-- the bytes of a data item with its Constant flag on: of `81 02` `81 03`
 abbrev pub constant_bytes : List ℕ → List ℕ
 constant_bytes (h ∷ b ∷ []) = h ∷ set_constant b ∷ []
 constant_bytes (h ∷ b ∷ c ∷ []) = h ∷ set_constant b ∷ c ∷ []
@@ -45,6 +46,7 @@ abbrev pub rewritten_as : Mend → PieceRecord → List ℕ → Result ItemType 
 rewritten_as why p bytes (Ok x) = holding (Some why) p.offset p.stood bytes x
 rewritten_as why p bytes (Err fault) = p
 
+-- the piece with other bytes, and why
 abbrev pub rewritten : Mend → PieceRecord → List ℕ → PieceRecord
 rewritten why p bytes = rewritten_as why p bytes (read_with item_of bytes)
 
@@ -68,6 +70,7 @@ widened_in asked f p =
     then rewritten mend.UnsignedMaximum p (wider_bytes (standing_bytes p.stands))
     else p
 
+-- the fault is that usages are missing
 abbrev pub is_missing_usages : Option MeaningFault → Bool
 is_missing_usages (Some MissingUsages) = true
 is_missing_usages _ = false
@@ -83,6 +86,7 @@ padded_by fault p =
 abbrev pub behind : List ItemType → PieceRecord → List ItemType
 behind before p = before ++ option_to_list (item_in p)
 
+-- the fault of a reading, if it has one
 abbrev pub named_fault : Result DescriptorRecord (ℕ × MeaningFault) → Option MeaningFault
 named_fault (Ok announced) = None
 named_fault (Err first) = Some first.1
@@ -91,6 +95,7 @@ named_fault (Err first) = Some first.1
 abbrev pub fault_at : ParseOptions → List ItemType → PieceRecord → Option MeaningFault
 fault_at options before p = named_fault (meaning_as options (behind before p))
 
+-- the piece with a wider maximum, where one is asked for
 abbrev pub widened : RepairOptions → List ItemType → PieceRecord → PieceRecord
 widened options before p = widened_in options.unsigned_maxima
     (reading_of options.parse before (length before)) p
@@ -100,11 +105,13 @@ abbrev pub mended : RepairOptions → List ItemType → PieceRecord → PieceRec
 mended options before p = padded_by
     (fault_at options.parse before (widened options before p)) (widened options before p)
 
-abbrev pub unless_fault : Option MeaningFault → ℕ → Result (List PieceRecord) Refusal
+-- the answer, unless the piece at this offset has a fault
+abbrev pub if_faultless : Option MeaningFault → ℕ → Result (List PieceRecord) Refusal
     → Result (List PieceRecord) Refusal
-unless_fault None offset answer = answer
-unless_fault (Some fault) offset answer = Err (refusal_at offset fault)
+if_faultless None offset answer = answer
+if_faultless (Some fault) offset answer = Err (refusal_at offset fault)
 
+-- a mended piece before the others
 abbrev pub with_mended : PieceRecord → Result (List PieceRecord) Refusal
     → Result (List PieceRecord) Refusal
 with_mended p (Ok ps) = Ok (p ∷ ps)
@@ -115,10 +122,11 @@ abbrev pub all_mended : RepairOptions → List ItemType → List PieceRecord
     → Result (List PieceRecord) Refusal
 all_mended options before [] = Ok []
 all_mended options before (p ∷ ps) =
-    unless_fault (fault_at options.parse before (mended options before p)) p.offset
+    if_faultless (fault_at options.parse before (mended options before p)) p.offset
     (with_mended (mended options before p)
     (all_mended options (behind before (mended options before p)) ps))
 
+-- the pieces mended, each behind those before it
 abbrev pub then_mended : RepairOptions → Result (List PieceRecord) Refusal
     → Result (List PieceRecord) Refusal
 then_mended options (Ok ps) = all_mended options [] ps
@@ -136,6 +144,7 @@ pub record ChangeRecord : Type 0 where
   pub stands : List ℕ
   pub mend : Mend
 
+-- the change that a piece shows
 abbrev pub change_of : Mend → PieceRecord → ChangeRecord
 change_of why p = record {
   offset = p.offset;
@@ -144,6 +153,7 @@ change_of why p = record {
   mend = why;
 }
 
+-- none where nothing was changed
 abbrev pub change_in : PieceRecord → Option ChangeRecord
 change_in p = option_map (λ why. change_of why p) p.mend
 
@@ -152,9 +162,11 @@ pub record RepairedRecord : Type 0 where
   pub bytes : List ℕ
   pub changes : List ChangeRecord
 
+-- the bytes that stand there now, joined
 abbrev pub joined : List PieceRecord → List ℕ
 joined ps = flat_map (λ p. standing_bytes p.stands) ps
 
+-- both of these pieces
 abbrev pub repaired_of : List PieceRecord → RepairedRecord
 repaired_of ps = record { bytes = joined ps; changes = filter_map change_in ps }
 
@@ -164,6 +176,7 @@ abbrev pub if_read : RepairedRecord → Result DescriptorRecord Refusal
 if_read r (Ok announced) = Ok r
 if_read r (Err refusal) = Err refusal
 
+-- the pieces as a repaired descriptor, where their bytes are read
 abbrev pub then_read : ParseOptions → Result (List PieceRecord) Refusal
     → Result RepairedRecord Refusal
 then_read options (Ok ps) = if_read (repaired_of ps) (parse_as options (joined ps))
@@ -171,7 +184,7 @@ then_read options (Err refusal) = Err refusal
 
 -- the repaired descriptor, or the first fault that stays
 abbrev pub repaired : RepairOptions → List ℕ → Result RepairedRecord Refusal
-repaired options bytes = unless_past (past_longest options.parse.longest (length bytes))
+repaired options bytes = unless_too_long (past_longest options.parse.longest (length bytes))
     (then_read options.parse (repaired_pieces options bytes))
 
 -- the answer of the library as plain data
@@ -183,5 +196,6 @@ change_view c = record {
   mend = c.mend;
 }
 
+-- the answer of `repair` as plain data
 abbrev pub repaired_view : Repaired → RepairedRecord
 repaired_view r = record { bytes = r.bytes.items; changes = map change_view r.changes.items }

@@ -32,6 +32,7 @@ abbrev pub IsOneItem : List ℕ → Type 0
 IsOneItem [] = ⊥
 IsOneItem (h ∷ bs) = length bs ≤ following_length h bs
 
+-- what stood there was one item
 abbrev pub StoodAsOne : PieceRecord → Type 0
 StoodAsOne p = IsOneItem p.stood
 
@@ -47,13 +48,13 @@ pub record IsRepairOf (bytes : List ℕ) (r : RepairedRecord) : Type 0 where
   pub one : Each StoodAsOne pieces
 
 -- the direction of a data item
-abbrev pub direction_of : ItemType → Option Direction
-direction_of x = option_map (λ p. p.0) (data_of x)
+abbrev pub item_direction : ItemType → Option Direction
+item_direction x = option_map (λ p. p.0) (data_of x)
 
 -- The items at each index have the same direction, if any, and the same size and count in force;
 -- fields of a direction would begin there at the same bit of the same report.
 pub record SamePlaces (options : ParseOptions) (items others : List ItemType) : Type 0 where
-  pub directions : map direction_of items ≡ map direction_of others
+  pub directions : map item_direction items ≡ map item_direction others
   pub extents : (k : ℕ) → extent (reading_of options items k) ≡ extent (reading_of options others k)
   pub reports : (d : Direction) (k : ℕ)
       → key (reading_of options items) d items k ≡ key (reading_of options others) d others k

@@ -16,6 +16,7 @@ use Rattle.hidreport.specs.declared.field.insert_error.InsertError.TheVariants a
 abbrev pub own_numbers : FieldRecord → List ℤ → List ℤ
 own_numbers field numbers = take (value_count field) numbers
 
+-- the numbers behind those of this field
 abbrev pub later_numbers : FieldRecord → List ℤ → List ℤ
 later_numbers field numbers = drop (value_count field) numbers
 

@@ -43,6 +43,7 @@ run_of (ArrayRecord place usages is_range count shared) = record {
 } ∷ []
 run_of (ConstantRecord place) = []
 
+-- the runs of fields, one each but for padding
 abbrev pub runs_of : List FieldRecord → List RunRecord
 runs_of fields = flat_map run_of fields
 
@@ -60,6 +61,7 @@ abbrev pub run_reads : RunRecord → List ℕ → Result (List ℤ) Refusal
 run_reads run bytes =
     numbers_of (with_id run.id bytes (each_value (run_value run bytes) 0 run.count))
 
+-- the numbers that all runs read, or the first refusal
 abbrev pub runs_read : List RunRecord → List ℕ → Result (List ℤ) Refusal
 runs_read [] bytes = Ok []
 runs_read (run ∷ runs) bytes = before_numbers (run_reads run bytes) (runs_read runs bytes)
@@ -89,6 +91,7 @@ numbers_from run bytes index zero = []
 numbers_from run bytes index (suc more) =
     number_at run bytes index ∷ numbers_from run bytes (index + 1) more
 
+-- the numbers in their bits, whatever they are
 abbrev pub all_numbers : List RunRecord → List ℕ → List ℤ
 all_numbers runs bytes = flat_map (λ run. numbers_from run bytes 0 run.count) runs
 
@@ -97,8 +100,8 @@ abbrev pub count_in : List RunRecord → ℕ
 count_in runs = sum_by (λ (run : RunRecord). run.count) runs
 
 -- values that there are have some bits, at most 32
-abbrev pub IsNarrow : RunRecord → Type 0
-IsNarrow run = run.count ≢ 0 → (0 < run.width) × (run.width ≤ 32)
+abbrev pub HasNarrowValues : RunRecord → Type 0
+HasNarrowValues run = run.count ≢ 0 → (0 < run.width) × (run.width ≤ 32)
 
 -- one run goes on where another ends, and this has the values of both
 pub record Joins (front back run : RunRecord) : Type 0 where
@@ -115,7 +118,7 @@ pub record Joins (front back run : RunRecord) : Type 0 where
   }
 
 -- bytes of this report have all values of a run
-pub record IsOpen (bytes : List ℕ) (run : RunRecord) : Type 0 where
+pub record HasAllValues (bytes : List ℕ) (run : RunRecord) : Type 0 where
   pub own : with_id run.id bytes (Ok (tt {0})) ≡ Ok (tt {0})
   pub inside : is_inside run (8 * length bytes) ≡ true
 

@@ -10,9 +10,11 @@ use Rattle.hidreport.specs.declared.field.fraction.Fraction.{Fraction}
 abbrev pub Is : Fraction → ℤ → Type 0
 Is x n = x.numerator ≡ n *ℤ x.denominator
 
+-- a fraction is at most a whole number
 abbrev pub IsUpTo : Fraction → ℤ → Type 0
 IsUpTo x n = x.numerator ≤ℤ (n *ℤ x.denominator)
 
+-- it is at least that number
 abbrev pub IsFrom : Fraction → ℤ → Type 0
 IsFrom x n = (n *ℤ x.denominator) ≤ℤ x.numerator
 
@@ -44,6 +46,7 @@ bounds_between first last a =
     then (a.logical_minimum, a.logical_maximum)
     else (first, last)
 
+-- what the logical bounds mean; a physical bound that is not set is 0
 abbrev pub bounds_meant : Attributes → ℤ × ℤ
 bounds_meant a =
     bounds_between (unwrap_or a.physical_minimum (pos 0)) (unwrap_or a.physical_maximum (pos 0)) a

@@ -4,10 +4,9 @@ use Rattle.std.specs.Prelude.{◌||◌, if◌then◌else◌, Bool, true, false, 
 use Rattle.std.specs.Prelude.{MatchOption, is_none}
 use Rattle.hidreport.specs.Choosing.{usage_chosen}
 use Rattle.hidreport.specs.WritingValues.{fits}
-use Rattle.hidreport.specs.declared.field.usage.Usage.{Usage}
 
 -- the least number that stands for the usage; none where no number does
-abbrev pub IsLeastFor : List Usage → ℤ → ℤ → Usage → Option ℤ → Type 0
+abbrev pub IsLeastFor : {A : Type 0} → List A → ℤ → ℤ → A → Option ℤ → Type 0
 IsLeastFor usages minimum maximum usage (Some number) =
     (usage_chosen usages minimum maximum number ≡ Some usage)
     × ((other : ℤ) → usage_chosen usages minimum maximum other ≡ Some usage → number ≤ℤ other)
@@ -21,13 +20,13 @@ is_null width is_signed minimum maximum number =
     && ((int_lt number minimum || int_lt maximum number) && fits width is_signed number)
 
 -- the number stands for no usage, and so many bits hold it
-abbrev pub is_unchosen : List Usage → ℕ → Bool → ℤ → ℤ → ℤ → Bool
+abbrev pub is_unchosen : {A : Type 0} → List A → ℕ → Bool → ℤ → ℤ → ℤ → Bool
 is_unchosen usages width is_signed minimum maximum number =
     (nat_lt 0 width && nat_le width 32)
     && (is_none (usage_chosen usages minimum maximum number) && fits width is_signed number)
 
 -- the least such number; none where there is none
-abbrev pub IsLeastUnchosen : List Usage → ℕ → Bool → ℤ → ℤ → Option ℤ → Type 0
+abbrev pub IsLeastUnchosen : {A : Type 0} → List A → ℕ → Bool → ℤ → ℤ → Option ℤ → Type 0
 IsLeastUnchosen usages width is_signed minimum maximum (Some number) =
     (is_unchosen usages width is_signed minimum maximum number ≡ true)
     × ((other : ℤ) → is_unchosen usages width is_signed minimum maximum other ≡ true
@@ -45,7 +44,7 @@ null_number width is_signed minimum maximum =
     else None))
 
 -- one outside the bounds where there is one, else the least within them that has no usage
-abbrev pub IsNullNumber : List Usage → ℕ → Bool → ℤ → ℤ → Option ℤ → Type 0
+abbrev pub IsNullNumber : {A : Type 0} → List A → ℕ → Bool → ℤ → ℤ → Option ℤ → Type 0
 IsNullNumber usages width is_signed minimum maximum null =
     MatchOption (null_number width is_signed minimum maximum)
     (IsLeastUnchosen usages width is_signed minimum maximum null)

@@ -2,6 +2,7 @@
 use Rattle.std.specs.Prelude.{ℕ, ◌+◌, ◌*◌, ◌/◌, ◌%◌}
 use Rattle.hidreport.specs.declared.field.usage.Usage.{Usage}
 
+-- a usage as one number, the page above: of page 1 and id 0x30 0x00010030
 abbrev pub usage_number : Usage → ℕ
 usage_number u = u.usage_page * 65536 + u.usage_id
 

@@ -5,6 +5,7 @@ use Rattle.std.specs.Prelude.{List, [], ◌∷◌, length, Contains, Option, Non
 use Rattle.hidreport.specs.Usages.{make_usage}
 use Rattle.hidreport.specs.declared.field.usage.Usage.{Usage}
 
+-- a range of usages by its ends
 pub record RangeRecord : Type 0 where
   pub first : Usage
   pub last : Usage

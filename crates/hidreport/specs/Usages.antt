@@ -3,7 +3,7 @@ use Rattle.std.specs.Prelude.{ℕ, ◌+◌, ◌-◌, ◌%◌, zero, suc, Bool, t
 use Rattle.std.specs.Prelude.{None, Some, Result, Ok, Err, flat_map, unwrap_or}
 use Rattle.hidreport_items.specs.declared.local.LocalItem.{LocalItem}
 use Rattle.hidreport_items.specs.declared.local.LocalItem.TheVariants as local
-use Rattle.hidreport.specs.HostUsages.{host_spans, is_lone, usages_in}
+use Rattle.hidreport.specs.HostUsages.{host_spans, is_lone, span_usages}
 use Rattle.hidreport.specs.ItemState.{ItemState, first_of, local_items}
 use Rattle.hidreport.specs.MeaningFault.{MeaningFault, MissingUsageMaximum, MissingUsagePage}
 use Rattle.hidreport.specs.declared.field.usage.Usage.{Usage}
@@ -17,10 +17,12 @@ pub record UsageList : Type 0 where
   pub usages : List Usage
   pub is_range : Bool
 
+-- the usage minimum that a local item sets: of `19 01` 1
 abbrev pub minimum_of : LocalItem → Option ℕ
 minimum_of (local.UsageMinimum n) = Some n
 minimum_of _ = None
 
+-- the usage maximum: of `29 03` 3
 abbrev pub maximum_of : LocalItem → Option ℕ
 maximum_of (local.UsageMaximum n) = Some n
 maximum_of _ = None
@@ -30,6 +32,7 @@ abbrev pub last_local : (LocalItem → Option ℕ) → List LocalItem → Option
 last_local tag [] = None
 last_local tag (x ∷ xs) = first_of (last_local tag xs) (tag x)
 
+-- the usage with this page and id
 abbrev pub make_usage : ℕ → ℕ → Usage
 make_usage page id = record { usage_page = page; usage_id = id }
 
@@ -38,11 +41,13 @@ abbrev pub range_from : ℕ → ℕ → ℕ → List Usage
 range_from page n zero = []
 range_from page n (suc more) = make_usage page (n % 65536) ∷ range_from page (n + 1) more
 
+-- a usage before others, unless these have a fault
 abbrev pub before_usages : Usage → Result (List Usage) MeaningFault
     → Result (List Usage) MeaningFault
 before_usages u (Ok us) = Ok (u ∷ us)
 before_usages u (Err fault) = Err fault
 
+-- a usage on the page in force before others; without a page a fault
 abbrev pub on_page : Option ℕ → ℕ → Result (List Usage) MeaningFault
     → Result (List Usage) MeaningFault
 on_page None id us = Err MissingUsagePage
@@ -63,6 +68,7 @@ range_usages low (Some high) None = Err MissingUsagePage
 range_usages low (Some high) (Some page) =
     Ok (record { usages = range_from page low (high + 1 - low); is_range = true })
 
+-- usages that are no range
 abbrev pub as_single : Result (List Usage) MeaningFault → Result UsageList MeaningFault
 as_single (Ok us) = Ok (record { usages = us; is_range = false })
 as_single (Err fault) = Err fault
@@ -78,12 +84,13 @@ standard_usages page xs = usages_with (last_local minimum_of xs) page xs
 
 -- the usages of spans, one after the other
 abbrev pub usages_of_spans : List UsageSpan → UsageList
-usages_of_spans ss = record { usages = flat_map usages_in ss; is_range = is_lone ss }
+usages_of_spans ss = record { usages = flat_map span_usages ss; is_range = is_lone ss }
 
 -- as hosts read them
 abbrev pub host_usages : Option ℕ → List PagedLocal → UsageList
 host_usages page ls = usages_of_spans (host_spans (unwrap_or page 0) ls)
 
+-- the usages in force by a rule: that of the standard, or that of hosts
 abbrev pub usages_under : UsagesBy → ItemState → Result UsageList MeaningFault
 usages_under usages_by.Standard f = standard_usages f.usage_page (local_items f.locals)
 usages_under usages_by.Hosts f = Ok (host_usages f.usage_page f.locals)

@@ -2,47 +2,22 @@
 use Rattle.std.specs.Prelude.{ℕ, List, []}
 use Rattle.std.specs.Arc.{arc_slice_items}
 use Rattle.std.specs.declared.ops.Range.{Range}
-use Rattle.hidreport_items.specs.Flags.{Flags}
 use Rattle.hidreport.specs.Fields.{Measures, attributes_with}
-use Rattle.hidreport.specs.Kinds.{Direction, Input, Output, Feature}
 use Rattle.hidreport.specs.Records.{CollectionRecord, FieldPlace, Attributes, FieldRecord}
 use Rattle.hidreport.specs.Records.{VariableRecord, ArrayRecord, ConstantRecord}
 use Rattle.hidreport.specs.declared.field.array_field.ArrayField.{ArrayField}
 use Rattle.hidreport.specs.declared.field.constant_field.ConstantField.{ConstantField}
 use Rattle.hidreport.specs.declared.field.Field.{Field}
 use Rattle.hidreport.specs.declared.field.Field.TheVariants as fields
-use Rattle.hidreport.specs.declared.field.data_item.DataItem.{DataItem}
-use Rattle.hidreport.specs.declared.field.data_item.Direction.{Direction as ItemDirection}
-use Rattle.hidreport.specs.declared.field.data_item.Direction.TheVariants as directions
 use Rattle.hidreport.specs.declared.field.variable_field.VariableField.{VariableField}
 
--- the direction of a field's item
-abbrev pub direction_of : ItemDirection → Direction
-direction_of directions.Input = Input
-direction_of directions.Output = Output
-direction_of directions.Feature = Feature
-
--- its flags
-abbrev pub item_flags : DataItem → Flags
-item_flags x = record {
-  constant = x.is_constant;
-  variable = x.is_variable;
-  relative = x.is_relative;
-  wrap = x.wraps;
-  nonlinear = x.is_nonlinear;
-  no_preferred_state = x.has_no_preferred_state;
-  null_state = x.has_null_state;
-  volatile = x.is_volatile;
-  buffered_bytes = x.is_buffered_bytes;
-}
-
+-- where a variable field lies
 abbrev pub variable_place : VariableField → FieldPlace
 variable_place f = record {
   id = f.id;
   report_id = f.report_id;
   first = f.bits.start;
-  end =
-      f.bits.end;
+  end = f.bits.end;
 }
 
 -- the numbers that it has from global items
@@ -56,21 +31,22 @@ variable_measures f = record {
   unit_exponent = f.unit_exponent;
 }
 
+-- its bounds, unit, flags and collections
 abbrev pub variable_attributes : VariableField → Attributes
-variable_attributes f = attributes_with (direction_of f.item.direction) (item_flags f.item)
+variable_attributes f = attributes_with f.item.direction f.item.flags
     (variable_measures f) (arc_slice_items f.collections)
 
 -- all parts of a variable field
 abbrev pub variable_record : VariableField → FieldRecord
 variable_record f = VariableRecord (variable_place f) f.usage (variable_attributes f)
 
+-- where an array lies
 abbrev pub array_place : ArrayField → FieldPlace
 array_place f = record {
   id = f.id;
   report_id = f.report_id;
   first = f.bits.start;
-  end =
-      f.bits.end;
+  end = f.bits.end;
 }
 
 -- the numbers that it has from global items
@@ -84,8 +60,9 @@ array_measures f = record {
   unit_exponent = f.unit_exponent;
 }
 
+-- its bounds, unit, flags and collections
 abbrev pub array_attributes : ArrayField → Attributes
-array_attributes f = attributes_with (direction_of f.item.direction) (item_flags f.item)
+array_attributes f = attributes_with f.item.direction f.item.flags
     (array_measures f) (arc_slice_items f.collections)
 
 -- all parts of an array field
@@ -93,13 +70,13 @@ abbrev pub array_record : ArrayField → FieldRecord
 array_record f = ArrayRecord (array_place f) f.usages.items f.is_usage_range f.report_count
     (array_attributes f)
 
+-- where padding lies
 abbrev pub constant_place : ConstantField → FieldPlace
 constant_place f = record {
   id = f.id;
   report_id = f.report_id;
   first = f.bits.start;
-  end =
-      f.bits.end;
+  end = f.bits.end;
 }
 
 -- all parts of a constant field
@@ -112,11 +89,13 @@ field_record (fields.Variable f) = variable_record f
 field_record (fields.Array f) = array_record f
 field_record (fields.Constant f) = constant_record f
 
+-- a field's number over the descriptor
 abbrev pub field_id : Field → ℕ
 field_id (fields.Variable f) = f.id
 field_id (fields.Array f) = f.id
 field_id (fields.Constant f) = f.id
 
+-- its bits
 abbrev pub field_bits : Field → Range ℕ
 field_bits (fields.Variable f) = f.bits
 field_bits (fields.Array f) = f.bits

@@ -52,12 +52,14 @@ value_count (VariableRecord place usage shared) = 1
 value_count (ArrayRecord place usages is_range count shared) = count
 value_count (ConstantRecord place) = 0
 
+-- how many bits each of its values has
 abbrev pub value_width : FieldRecord → ℕ
 value_width (VariableRecord place usage shared) = place.end - place.first
 value_width (ArrayRecord place usages is_range count shared) =
     element_width place.first place.end count
 value_width (ConstantRecord place) = 0
 
+-- its values can be below 0
 abbrev pub has_sign : FieldRecord → Bool
 has_sign (VariableRecord place usage shared) = is_signed shared
 has_sign (ArrayRecord place usages is_range count shared) = is_signed shared
@@ -68,6 +70,7 @@ abbrev pub begins_in_id : Option ℕ → ℕ → Bool
 begins_in_id None first = false
 begins_in_id (Some id) first = nat_lt first 8
 
+-- why a field that is not read is not written either
 abbrev pub insert_refusal : Refusal → InsertError
 insert_refusal (InvalidAt offset message) = refused.OutOfBounds
 insert_refusal Bounds = refused.OutOfBounds

@@ -9,6 +9,7 @@ pub(crate) mod array_field;
 pub(crate) mod collection;
 pub(crate) mod constant_field;
 pub(crate) mod data_item;
+pub(crate) mod element_numbers;
 pub(crate) mod field_attributes;
 pub(crate) mod fraction;
 pub(crate) mod insert_error;

@@ -80,8 +80,8 @@ pub mod hid {
         IBBuffered, IBConstant, IBData, IBLinear, IBNoNull, IBNoPreferred, IBNoWrap, IBNonLinear,
         IBNonVolatile, IBNull, IBPreferred, IBRelative, IBSAbs, IBSArr, IBSBit, IBSData, IBSLin,
         IBSNull, IBSPref, IBSVol, IBSWrap, IBState, IBUndefined, IBUnsaid, IBVariable, IBVolatile,
-        IBWrap, InputItem, ItemBuilder, ItemFault, ItemType, LocalItem, MainDataItem, MainItem,
-        OutputItem,
+        IBWrap, InputItem, ItemBuilder, ItemFault, ItemFlags, ItemType, LocalItem, MainDataItem,
+        MainItem, OutputItem,
     };
     pub use hidreport_lists::{
         AnyItem, FrontItem, Item, ItemData, LongItem, MayBuild, MayClose, MayOpen, MayPop, MayPush,
@@ -96,11 +96,18 @@ pub mod hid {
     };
 }
 
+/// Numbers in the bits of a report, for callers who keep fields in a form of their own (Section 5.8);
+/// `FieldValue::from_bits` reads them.
+pub mod bits {
+    pub use crate::field::written_bits::{all_fit, fits, put_values};
+}
+
 pub use descriptor::ReportDescriptor;
 pub use field::array_field::ArrayField;
 pub use field::collection::{Collection, CollectionId};
 pub use field::constant_field::ConstantField;
 pub use field::data_item::Direction;
+pub use field::element_numbers::ElementNumbers;
 pub use field::field_attributes::FieldAttributes;
 pub use field::fraction::Fraction;
 pub use field::insert_error::InsertError;

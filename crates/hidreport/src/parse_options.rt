@@ -1,7 +1,7 @@
 //! How a report descriptor is read.
 ghost use Rattle.std.specs.Prelude.{◌≡◌, None, Some};
 ghost use Rattle.hidreport.specs.Options.{default_options, past_longest};
-ghost use Rattle.hidreport.specs.declared.parser.push_keeps.PushKeeps.TheVariants as push_keeps;
+ghost use Rattle.hidreport.specs.declared.parser.push_keeps.PushKeeps.TheVariants as a_push_keeps;
 ghost use Rattle.hidreport.specs.declared.parser.usages_by.UsagesBy.TheVariants as usages_by;
 
 use crate::parser::push_keeps::PushKeeps;
@@ -63,7 +63,7 @@ impl ParseOptions {
     /// numbers.
     pub fn bounded() -> ParseOptions
         ensures { result ≡ record {
-          push_keeps = push_keeps.All;
+          push_keeps = a_push_keeps.All;
           usages = usages_by.Standard;
           limit = Some 65536;
           longest = Some 65536;

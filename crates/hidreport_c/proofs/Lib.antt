@@ -5,12 +5,10 @@ pub mod FrontItemsLemmas
 pub mod GroupLemmas
 pub mod InsertLemmas
 pub mod ListsLemmas
-pub mod NullLemmas
 pub mod ReadDescribedLemmas
 pub mod ReadingLemmas
 pub mod WritingLemmas
 pub mod RepairLemmas
-pub mod StandingLemmas
 pub mod UsageListsLemmas
 pub mod UsagesLemmas
 pub mod ValueLemmas

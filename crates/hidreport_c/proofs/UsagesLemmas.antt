@@ -10,7 +10,7 @@ use Rattle.hidreport.specs.Records.{ArrayRecord, Attributes, FieldPlace}
 use Rattle.hidreport.specs.UsageNumber.{usage_number}
 use Rattle.hidreport.specs.declared.field.usage.Usage.{Usage}
 use Rattle.hidreport_c.specs.Field.{as_c}
-use Rattle.hidreport_c.specs.Usages.{usage_meant, usage_within}
+use Rattle.hidreport_c.specs.Usages.{usage_meant}
 use Rattle.hidreport_c.specs.declared.field.HidreportField.{HidreportField}
 
 by-test : (b : Bool) (listed : List Usage) (i : ℕ)
@@ -30,7 +30,7 @@ pub meant-chosen : (place : FieldPlace) (listed : List Usage) (is_range : Bool) 
 meant-chosen place listed is_range count shared f usages value is all =
     let low = shared.logical_minimum in
     ap (λ z. usage_meant z usages value) is
-    ∙ ap (λ us. usage_within us low shared.logical_maximum value) all
+    ∙ ap (λ us. usage_chosen us low shared.logical_maximum value) all
     ∙ by-test (int_lt value low || int_lt shared.logical_maximum value) listed
     (nat_abs (value -ℤ low))
 

@@ -37,9 +37,11 @@ abbrev pub as_answer : {A : Type 0} → Result (List A) Refusal → HidreportAns
 as_answer (Ok xs) = counted (length xs)
 as_answer (Err refusal) = refusal_as_c refusal
 
+-- memory was refused
 abbrev pub no_memory : HidreportAnswer
 no_memory = refused 4
 
+-- an option has a number that it does not know
 abbrev pub unknown_option : HidreportAnswer
 unknown_option = refused 6
 

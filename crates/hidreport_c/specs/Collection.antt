@@ -17,6 +17,7 @@ collection_as_c c = record {
   usage = usage_number_at c.usages 0;
 }
 
+-- the collections of a field, if there is one
 abbrev pub collections_or_none : Option FieldRecord → List CollectionRecord
 collections_or_none None = []
 collections_or_none (Some field) = collections_of field
@@ -25,9 +26,11 @@ collections_or_none (Some field) = collections_of field
 abbrev pub carried : ℕ → DescriptorRecord → List CollectionRecord
 carried number d = collections_or_none (field_numbered number d)
 
+-- the collections of the field with this number, as C has them
 abbrev pub listed_collections : ℕ → DescriptorRecord → List HidreportCollection
 listed_collections number d = map collection_as_c (carried number d)
 
+-- the usages of a collection, if there is one
 abbrev pub usages_or_none : Option CollectionRecord → List Usage
 usages_or_none None = []
 usages_or_none (Some collection) = collection.usages

@@ -20,6 +20,7 @@ fields_as_c reports = map as_c (flat_map (λ r. r.fields) reports)
 abbrev pub described_fields : ℕ → DescriptorRecord → List HidreportField
 described_fields direction d = fields_as_c (reports_in_direction direction d)
 
+-- the fields of a report as C has them, if there is one
 abbrev pub fields_or_none : Option ReportRecord → List HidreportField
 fields_or_none None = []
 fields_or_none (Some report) = map as_c report.fields

@@ -43,12 +43,12 @@ measures_as_c shared = record {
 -- the flags of the field's item
 abbrev pub flags_as_c : Attributes → HidreportFlags
 flags_as_c shared = record {
-  is_relative = shared.relative;
-  wraps = shared.wrap;
-  is_nonlinear = shared.nonlinear;
-  has_no_preferred_state = shared.no_preferred_state;
-  has_null_state = shared.null_state;
-  is_buffered_bytes = shared.buffered_bytes;
+  is_relative = shared.flags.relative;
+  wraps = shared.flags.wrap;
+  is_nonlinear = shared.flags.nonlinear;
+  has_no_preferred_state = shared.flags.no_preferred_state;
+  has_null_state = shared.flags.null_state;
+  is_buffered_bytes = shared.flags.buffered_bytes;
   is_volatile = unwrap_or shared.volatile false;
 }
 
@@ -78,6 +78,7 @@ nothing_measured = record {
   has_unit_exponent = false;
 }
 
+-- no flag, as padding has
 abbrev pub nothing_set : HidreportFlags
 nothing_set = record {
   is_relative = false;
@@ -106,6 +107,7 @@ field_at place id kind values usages measures flags collections = record {
   report_id = unwrap_or id 0;
 }
 
+-- a field with data as C has it
 abbrev pub data_field : FieldPlace → ℕ → ℕ → List Usage → Bool → Attributes → HidreportField
 data_field place kind values usages is_range shared =
     field_at place place.report_id kind values (usages_as_c usages is_range)

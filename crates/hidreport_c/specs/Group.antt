@@ -37,9 +37,11 @@ usage_in g index =
 abbrev pub measures_in : GroupRecord → HidreportMeasures
 measures_in g = if g.flags.constant then nothing_measured else measures_as_c g.shared
 
+-- its flags; padding has none
 abbrev pub flags_in : GroupRecord → HidreportFlags
 flags_in g = if g.flags.constant then nothing_set else flags_as_c g.shared
 
+-- a group as C has it
 abbrev pub group_as_c : GroupRecord → HidreportGroup
 group_as_c g = record {
   kind = kind_in g;
@@ -55,9 +57,11 @@ group_as_c g = record {
   report_id = unwrap_or g.beginning.report_id 0;
 }
 
+-- groups as C has them
 abbrev pub groups_as_c : List GroupRecord → List HidreportGroup
 groups_as_c groups = map group_as_c groups
 
+-- the usage at an index of a group, if there is one
 abbrev pub one_or_none : Option GroupRecord → ℕ → List ℕ
 one_or_none None index = []
 one_or_none (Some g) index = usage_in g index ∷ []
@@ -66,6 +70,7 @@ one_or_none (Some g) index = usage_in g index ∷ []
 abbrev pub usage_listed : ℕ → ℕ → List GroupRecord → List ℕ
 usage_listed group index groups = one_or_none (slice_get groups group) index
 
+-- the field at an index of a group, if there is one
 abbrev pub field_in : Option GroupRecord → ℕ → List HidreportField
 field_in None index = []
 field_in (Some g) index = field_or_none (slice_get (group_fields g) index)
@@ -102,6 +107,7 @@ InGroupsWith parts direction None bytes old new told = (told ≡ unknown_option)
 InGroupsWith parts direction (Some options) bytes old new told =
     InGroupsBy parts direction (parse_as options bytes) old new told
 
+-- what is listed of the groups of a direction, by these options
 abbrev pub InGroupsOf : {A : Type 0} → (List GroupRecord → List A) → ℕ → HidreportOptions
     → List ℕ → List A → List A → HidreportAnswer → Type 0
 InGroupsOf parts direction options = InGroupsWith parts direction (options_of options)

@@ -16,6 +16,7 @@ use Rattle.hidreport_c.specs.declared.field.HidreportField.{HidreportField}
 abbrev pub width_of : HidreportField → ℕ
 width_of f = element_width f.first_bit f.end_bit f.value_count
 
+-- its values can be below 0: the logical minimum is
 abbrev pub is_signed_in : HidreportField → Bool
 is_signed_in f = int_lt f.measures.logical_minimum (pos 0)
 

@@ -11,6 +11,7 @@ use Rattle.hidreport_lists.specs.Itemising.{front_item}
 use Rattle.hidreport_usages.specs.FlagWords.{flag_text}
 use Rattle.hidreport_usages.specs.ItemWords.{collection_name, item_name}
 
+-- the name of the item in front; no text where there is none
 abbrev pub name_in_front : Result Spelled GrammarFault → List ℕ
 name_in_front (Ok spelled) = item_name spelled.item
 name_in_front (Err fault) = []
@@ -26,6 +27,7 @@ words_for (kind.Main (main.Output flags)) = flag_text flags
 words_for (kind.Main (main.Feature flags)) = flag_text flags
 words_for item = []
 
+-- its flags as words; no text where there is none
 abbrev pub words_in_front : Result Spelled GrammarFault → List ℕ
 words_in_front (Ok spelled) = words_for spelled.item
 words_in_front (Err fault) = []

@@ -7,9 +7,11 @@ use Rattle.hidreport.specs.Itemising.{item_at}
 use Rattle.hidreport.specs.Spelling.{following_length, item_of}
 use Rattle.hidreport_c.specs.declared.items.HidreportItem.{HidreportItem}
 
+-- an item as C has it: its offset, and how many bytes it has
 abbrev pub item_as_c : Entry → HidreportItem
 item_as_c e = record { offset = e.offset; size = length e.bytes }
 
+-- items as C has them
 abbrev pub items_as_c : List Entry → List HidreportItem
 items_as_c entries = map item_as_c entries
 

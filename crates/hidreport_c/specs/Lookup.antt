@@ -18,13 +18,16 @@ given_id has_id id = if has_id then Some id else None
 abbrev pub report_in : ℕ → Option ℕ → DescriptorRecord → Option ReportRecord
 report_in direction id d = report_with id (reports_in_direction direction d)
 
+-- a report as C has it, if there is one
 abbrev pub report_or_none : Option ReportRecord → List HidreportReport
 report_or_none None = []
 report_or_none (Some report) = report_as_c report ∷ []
 
+-- the report of a direction with this id
 abbrev pub report_listed : ℕ → Option ℕ → DescriptorRecord → List HidreportReport
 report_listed direction id d = report_or_none (report_in direction id d)
 
+-- a field as C has it, if there is one
 abbrev pub field_or_none : Option FieldRecord → List HidreportField
 field_or_none None = []
 field_or_none (Some field) = as_c field ∷ []
@@ -38,6 +41,7 @@ abbrev pub field_with_usage : ℕ → Option ReportRecord → Option FieldRecord
 field_with_usage usage None = None
 field_with_usage usage (Some report) = field_for (numbered_usage usage) report.fields
 
+-- the first field of a report with this usage
 abbrev pub field_for_listed : ℕ → Option ℕ → ℕ → DescriptorRecord → List HidreportField
 field_for_listed direction id usage d =
     field_or_none (field_with_usage usage (report_in direction id d))

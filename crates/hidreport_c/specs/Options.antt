@@ -2,7 +2,7 @@
 use Rattle.std.specs.Prelude.{ℕ, ◌==◌, ◌^◌, ◌-◌, if◌then◌else◌, Option, None, Some}
 use Rattle.hidreport.specs.declared.parse_options.ParseOptions.{ParseOptions}
 use Rattle.hidreport.specs.declared.parser.push_keeps.PushKeeps.{PushKeeps}
-use Rattle.hidreport.specs.declared.parser.push_keeps.PushKeeps.TheVariants as push_keeps
+use Rattle.hidreport.specs.declared.parser.push_keeps.PushKeeps.TheVariants as a_push_keeps
 use Rattle.hidreport.specs.declared.parser.usages_by.UsagesBy.{UsagesBy}
 use Rattle.hidreport.specs.declared.parser.usages_by.UsagesBy.TheVariants as usages_by
 use Rattle.hidreport_c.specs.declared.options.HidreportOptions.{HidreportOptions}
@@ -10,8 +10,8 @@ use Rattle.hidreport_c.specs.declared.options.HidreportOptions.{HidreportOptions
 -- what a Push keeps: 0 globals and locals, 1 globals alone
 abbrev pub push_keeps_of : ℕ → Option PushKeeps
 push_keeps_of push =
-    if push == 0 then Some push_keeps.All
-    else (if push == 1 then Some push_keeps.Globals else None)
+    if push == 0 then Some a_push_keeps.All
+    else (if push == 1 then Some a_push_keeps.Globals else None)
 
 -- by which rule usages are found: 0 by the letter of the standard, 1 as hosts read them
 abbrev pub usages_of : ℕ → Option UsagesBy
@@ -28,6 +28,7 @@ abbrev pub longest_of : Option ℕ → Option ℕ
 longest_of None = None
 longest_of (Some limit) = Some 65536
 
+-- options by a limit and what else is asked for; none where that is not known
 abbrev pub with_limit : Option ℕ → Option PushKeeps → Option UsagesBy → Option ParseOptions
 with_limit limit None usages = None
 with_limit limit (Some keeps) None = None

@@ -22,6 +22,7 @@ alone_at f bytes = each_alone (element_at f bytes) 0 f.value_count
 abbrev pub there_at : HidreportField → List ℕ → List ℤ
 there_at f bytes = numbers_before (alone_at f bytes)
 
+-- what each value of these fields reads by itself
 abbrev pub alone_in : List HidreportField → List ℕ → List (Result ValueRecord Refusal)
 alone_in fields bytes = flat_map (λ f. alone_at f bytes) fields
 

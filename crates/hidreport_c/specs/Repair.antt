@@ -43,6 +43,7 @@ change_as_c c = record {
   reason = reason_of c.mend;
 }
 
+-- the changes as C has them
 abbrev pub changes_as_c : RepairedRecord → List HidreportChange
 changes_as_c r = map change_as_c r.changes
 

@@ -22,6 +22,7 @@ normalized_of m v = on_line m.logical_minimum m.logical_maximum (negsuc 0) (pos 
 abbrev pub is_past : ℤ → Bool
 is_past n = int_lt n (negsuc (2 ^ 63 - 1)) || int_lt (pos (2 ^ 63 - 1)) n
 
+-- there is none
 abbrev pub no_fraction : HidreportFraction
 no_fraction = record { numerator = pos 0; denominator = pos 0; is_there = false }
 

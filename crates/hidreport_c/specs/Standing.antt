@@ -1,11 +1,9 @@
 -- The value of an array that stands for a usage, and one that stands for none (Section 6.2.2.5).
 use Rattle.std.specs.Prelude.{◌≡◌, ◌≢◌, ◌==◌, true, false, ◌≤ℤ◌, ℕ, ℤ, pos, MatchBool, List}
-use Rattle.std.specs.Prelude.{replicate, Option, None, Some}
-use Rattle.hidreport.specs.Standing.{IsNullNumber}
-use Rattle.hidreport.specs.UsageNumber.{numbered_usage}
+use Rattle.std.specs.Prelude.{length, Option, None, Some}
+use Rattle.hidreport.specs.Standing.{IsLeastFor, IsNullNumber}
 use Rattle.hidreport.specs.declared.field.usage.Usage.{Usage}
 use Rattle.hidreport_c.specs.Insert.{is_signed_in, width_of}
-use Rattle.hidreport_c.specs.Usages.{usage_meant}
 use Rattle.hidreport_c.specs.declared.field.HidreportField.{HidreportField}
 use Rattle.hidreport_c.specs.declared.standing.HidreportChoice.{HidreportChoice}
 
@@ -18,19 +16,17 @@ choice_as_c None = record { value = pos 0; is_there = false }
 abbrev pub Chooses : (Option ℤ → Type 0) → HidreportChoice → Type 0
 Chooses is told = (choice : Option ℤ) × (told ≡ choice_as_c choice) × is choice
 
--- the least value that stands for a usage; none where no value does
+-- the least value of an array that stands for a usage; none where no value does
 abbrev pub IsLeastMeant : HidreportField → List ℕ → ℕ → Option ℤ → Type 0
-IsLeastMeant f usages usage (Some value) = (usage_meant f usages value ≡ Some usage)
-    × ((other : ℤ) → usage_meant f usages other ≡ Some usage → value ≤ℤ other)
-IsLeastMeant f usages usage None = (other : ℤ) → usage_meant f usages other ≢ Some usage
+IsLeastMeant f usages usage choice = MatchBool (f.kind == 1)
+    (IsLeastFor usages f.measures.logical_minimum f.measures.logical_maximum usage choice)
+    (choice ≡ None)
 
--- so many usages, whichever they are
-abbrev pub unnamed : ℕ → List Usage
-unnamed count = replicate count (numbered_usage 0)
-
--- a value that stands for none of an array's usages; no other field chooses among usages
+-- a value that stands for none of an array's usages, whichever they are; no other field chooses
+-- among usages
 abbrev pub IsNullAt : HidreportField → Option ℤ → Type 0
 IsNullAt f choice = MatchBool (f.kind == 1)
-    (IsNullNumber (unnamed f.usages.count) (width_of f) (is_signed_in f)
+    ((usages : List Usage) → length usages ≡ f.usages.count
+    → IsNullNumber usages (width_of f) (is_signed_in f)
     f.measures.logical_minimum f.measures.logical_maximum choice)
     (choice ≡ None)

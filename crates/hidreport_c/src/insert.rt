@@ -11,9 +11,9 @@ ghost use Rattle.hidreport_c.specs.Insert.{is_signed_in, placed_at, status_after
 ghost use Rattle.hidreport_c.specs.Insert.{written_at};
 ghost use Rattle.hidreport_c.specs.Value.{id_of};
 
-use crate::bits::{all_fit, put_values};
 use crate::field::HidreportField;
 use crate::status::{ACCEPTED, DOES_NOT_FIT, OUT_OF_BOUNDS, WRONG_COUNT};
+use hidreport::bits::{all_fit, put_values};
 use std::slice;
 
 /// Writes value `index` of a field, counted from 0, into a report that has these bytes: its bits

@@ -4,7 +4,6 @@
 
 mod alike;
 mod answer;
-mod bits;
 mod blank;
 mod change;
 mod collection;

@@ -8,6 +8,7 @@ ghost use Rattle.hidreport_c.specs.Field.{as_c};
 ghost use Rattle.hidreport_c.specs.Scaling.{fraction_as_c, no_fraction, normalized_of, physical_of};
 
 use crate::field::HidreportField;
+use hidreport::Fraction;
 
 /// A number that isn't whole, exactly, if there is one (`struct hidreport_fraction`).
 #[repr(C)]
@@ -87,13 +88,10 @@ impl HidreportFraction {
     fn on_line(value: i64, low: i32, high: i32, first: i32, last: i32) -> HidreportFraction
         ensures { result ≡ fraction_as_c (on_line low high first last value) }
     {
-        if low >= high {
+        let Some(fraction) = Fraction::on_line(value, low, high, first, last) else {
             return HidreportFraction::none();
-        }
-        HidreportFraction::of(
-            numerator(value, low, high, first, last),
-            denominator(low, high),
-        )
+        };
+        HidreportFraction::of(fraction.numerator, denominator(low, high))
     }
 
     /// A fraction with this numerator, where 64 bits hold it.
@@ -114,54 +112,9 @@ impl HidreportFraction {
     }
 }
 
-/// The number above the line of the one at a value on the line that is `first` at `low` and `last`
-/// at `high`.
-fn numerator(value: i64, low: i32, high: i32, first: i32, last: i32) -> i128
-    ensures { result ≡ (value -ℤ low) *ℤ (last -ℤ first) +ℤ first *ℤ (high -ℤ low) }
-{
-    let above = product(distance(low, value), range(first, last));
-    let base = product(i128::from(first), range(low, high));
-    sum(above, base)
-}
-
-/// The number below it.
+/// The number below the line of a fraction between these bounds.
 fn denominator(low: i32, high: i32) -> i64
     ensures { result ≡ high -ℤ low }
 {
     i64::from(high) - i64::from(low)
-}
-
-/// How far a value is above a bound.
-fn distance(low: i32, value: i64) -> i128
-    ensures distance { result ≡ value -ℤ low }
-    ensures bound { unsigned_abs result ≤ 2 ^ 64 }
-{
-    i128::from(value) - i128::from(low)
-}
-
-/// How far one bound is above another.
-fn range(low: i32, high: i32) -> i128
-    ensures range { result ≡ high -ℤ low }
-    ensures bound { unsigned_abs result ≤ 2 ^ 32 }
-{
-    i128::from(high) - i128::from(low)
-}
-
-/// The product of a distance and a range.
-fn product(distance: i128, range: i128) -> i128
-    requires distance { unsigned_abs distance ≤ 2 ^ 64 }
-    requires range { unsigned_abs range ≤ 2 ^ 32 }
-    ensures product { result ≡ distance *ℤ range }
-    ensures bound { unsigned_abs result ≤ 2 ^ 96 }
-{
-    distance * range
-}
-
-/// The sum of two products.
-fn sum(a: i128, b: i128) -> i128
-    requires a { unsigned_abs a ≤ 2 ^ 96 }
-    requires b { unsigned_abs b ≤ 2 ^ 96 }
-    ensures { result ≡ a +ℤ b }
-{
-    a + b
 }

@@ -3,16 +3,14 @@ ghost use Rattle.std.specs.Prelude.{◌≡◌, ◌≢◌, ◌<◌, ◌≤ℤ◌,
 ghost use Rattle.std.specs.Prelude.{◌^◌, Some, false, true, int_lt, pos, slice_get, unsigned_abs};
 ghost use Rattle.hidreport.specs.Reading.{element_width};
 ghost use Rattle.hidreport.specs.Records.{ArrayRecord, Attributes, FieldPlace};
-ghost use Rattle.hidreport.specs.Standing.{IsLeastUnchosen, IsNullNumber, is_null, null_number};
-ghost use Rattle.hidreport.specs.WritingValues.{fits};
+ghost use Rattle.hidreport.specs.Standing.{IsNullNumber};
 ghost use Rattle.hidreport.specs.declared.field.usage.Usage.{Usage};
 ghost use Rattle.hidreport_c.specs.Field.{as_c};
 ghost use Rattle.hidreport_c.specs.Insert.{is_signed_in, width_of};
 ghost use Rattle.hidreport_c.specs.Standing.{Chooses, IsLeastMeant, IsNullAt, choice_as_c};
-ghost use Rattle.hidreport_c.specs.Standing.{unnamed};
 
-use crate::bits::fits;
 use crate::field::{ARRAY, HidreportField};
+use hidreport::ElementNumbers;
 
 /// A value of an array, if there is one (`struct hidreport_choice`).
 #[repr(C)]
@@ -85,12 +83,7 @@ impl HidreportField {
             return None;
         }
         let index = index_of(usage, usages)?;
-        let minimum = self.least();
-        let maximum = self.greatest();
-        if maximum < minimum || (maximum - minimum).unsigned_abs() < index as u64 {
-            return None;
-        }
-        Some(minimum + index as i64)
+        self.element_numbers().choosing(index)
     }
 
     /// A value that stands for no usage, if any.
@@ -100,96 +93,20 @@ impl HidreportField {
         if self.kind != ARRAY {
             return None;
         }
-        match self.outer_null() {
-            Some(number) => Some(number),
-            None => self.least_unchosen(),
-        }
+        self.element_numbers().null_value(self.usages.count)
     }
 
-    /// The logical minimum.
-    fn least(&self) -> i64
-        ensures least { result ≡ self.now.measures.logical_minimum }
-        ensures bound { unsigned_abs result ≤ 2 ^ 31 }
+    /// The numbers that a value can be.
+    fn element_numbers(&self) -> ElementNumbers
+        ensures width { result.width ≡ width_of self.now }
+        ensures minimum { result.minimum ≡ self.now.measures.logical_minimum }
+        ensures maximum { result.maximum ≡ self.now.measures.logical_maximum }
     {
-        i64::from(self.measures.logical_minimum)
-    }
-
-    /// The logical maximum.
-    fn greatest(&self) -> i64
-        ensures greatest { result ≡ self.now.measures.logical_maximum }
-        ensures bound { unsigned_abs result ≤ 2 ^ 31 }
-    {
-        i64::from(self.measures.logical_maximum)
-    }
-
-    /// Whether a number lies outside the logical bounds and a value's bits hold it.
-    fn is_null(&self, number: i64) -> bool
-        ensures { result ≡ is_null (width_of self.now) (is_signed_in self.now)
-            self.now.measures.logical_minimum self.now.measures.logical_maximum number }
-    {
-        let width = self.element_width();
-        if width == 0 || 32 < width {
-            return false;
+        ElementNumbers {
+            width: self.element_width(),
+            minimum: self.measures.logical_minimum,
+            maximum: self.measures.logical_maximum,
         }
-        let minimum = self.least();
-        let maximum = self.greatest();
-        (number < minimum || maximum < number) && fits(width, self.is_signed(), number)
-    }
-
-    /// The first of 0, the number below the logical minimum and the one above the logical maximum
-    /// that lies outside the bounds and that a value's bits hold; none where there is no number
-    /// outside that they hold.
-    fn outer_null(&self) -> Option<i64>
-        ensures first { result ≡ null_number (width_of self.now) (is_signed_in self.now)
-            self.now.measures.logical_minimum self.now.measures.logical_maximum }
-        ensures none { IsNone result → (number : ℤ) → is_null (width_of self.now)
-            (is_signed_in self.now) self.now.measures.logical_minimum
-            self.now.measures.logical_maximum number ≡ false }
-    {
-        let below = self.least() - 1;
-        let above = self.greatest() + 1;
-        if self.is_null(0) {
-            Some(0)
-        } else if self.is_null(below) {
-            Some(below)
-        } else if self.is_null(above) {
-            Some(above)
-        } else {
-            None
-        }
-    }
-
-    /// The least number that stands for no usage and that a value's bits hold, where none outside
-    /// the bounds does.
-    fn least_unchosen(&self) -> Option<i64>
-        ensures { ((number : ℤ) → is_null (width_of self.now) (is_signed_in self.now)
-            self.now.measures.logical_minimum self.now.measures.logical_maximum number ≡ false)
-            → IsLeastUnchosen (unnamed self.now.usages.count) (width_of self.now)
-            (is_signed_in self.now) self.now.measures.logical_minimum
-            self.now.measures.logical_maximum result }
-    {
-        let width = self.element_width();
-        if width == 0 || 32 < width {
-            return None;
-        }
-        let minimum = self.least();
-        let maximum = self.greatest();
-        if maximum < minimum {
-            return None;
-        }
-        let count = self.usages.count;
-        if (maximum - minimum).unsigned_abs() < count as u64 {
-            return None;
-        }
-        let is_signed = self.is_signed();
-        let number = (minimum + count as i64).max(least_held(width, is_signed));
-        if maximum < number {
-            return None;
-        }
-        if !fits(width, is_signed, number) {
-            return None;
-        }
-        Some(number)
     }
 }
 
@@ -206,14 +123,4 @@ fn index_of(usage: u32, usages: &[u32]) -> Option<usize>
         }
     }
     None
-}
-
-/// The least number that so many bits hold, signed or not.
-fn least_held(width: usize, is_signed: bool) -> i64
-    requires some { 0 < width }
-    requires narrow { width ≤ 32 }
-    ensures held { fits width is_signed result ≡ true }
-    ensures least { (number : ℤ) → fits width is_signed number ≡ true → result ≤ℤ number }
-{
-    if is_signed { -(1 << (width - 1)) } else { 0 }
 }

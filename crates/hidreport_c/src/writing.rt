@@ -15,10 +15,10 @@ ghost use Rattle.hidreport_c.specs.Value.{acceptance};
 ghost use Rattle.hidreport_c.specs.Writing.{HasRoomAt, IsNarrowAt, all_fit_at, begins_in_own_id_at};
 ghost use Rattle.hidreport_c.specs.Writing.{count_at, put_all_at, report_written_at};
 
-use crate::bits::{all_fit, put_values};
 use crate::field::HidreportField;
 use crate::reading::check_all;
 use crate::status::{ACCEPTED, DOES_NOT_FIT, OUT_OF_BOUNDS, WRONG_COUNT};
+use hidreport::bits::{all_fit, put_values};
 
 /// Writes the values of these fields, in order, into a report that has these bytes, as
 /// `hidreport_insert` says of one: what `hidreport_read` gives for the new bytes (Sections 5.6 and

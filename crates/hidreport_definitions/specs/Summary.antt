@@ -3,6 +3,7 @@ use Rattle.std.specs.Prelude.{ℕ, ℤ, Bool, pos, true, false, List, [], ◌∷
 use Rattle.std.specs.Prelude.{Some, option_map, Result, Ok, Err}
 use Rattle.hidreport.specs.Answer.{Refusal}
 use Rattle.hidreport.specs.Faults.{Counts}
+use Rattle.hidreport.specs.Flags.{Flags}
 use Rattle.hidreport.specs.GlobalItem.TheVariants as global
 use Rattle.hidreport.specs.ItemState.{ItemState}
 use Rattle.hidreport.specs.ItemType.TheVariants as item
@@ -50,8 +51,7 @@ report_summary r = Report r.id r.size (map field_summary r.fields)
 abbrev pub in_short : Result DescriptorRecord Refusal → Result DescriptorSummary Refusal
 in_short (Ok d) = Ok (record {
   input = map report_summary d.input;
-  output =
-      map report_summary d.output;
+  output = map report_summary d.output;
   feature = map report_summary d.feature;
 })
 in_short (Err refusal) = Err refusal
@@ -136,8 +136,25 @@ unsigned_value n = record { word = n; is_signed = false }
 abbrev pub signed_value : ℕ → ValueRecord
 signed_value n = record { word = n; is_signed = true }
 
--- what a field has that no item sets: bounds of 0, no physical bounds, no unit, no collections and
--- no flags
+-- no flag at all, and that of a variable item alone
+abbrev pub no_flags : Flags
+no_flags = record {
+  constant = false;
+  variable = false;
+  relative = false;
+  wrap = false;
+  nonlinear = false;
+  no_preferred_state = false;
+  null_state = false;
+  volatile = false;
+  buffered_bytes = false;
+}
+
+abbrev pub variable_flags : Flags
+variable_flags = record no_flags { variable = true }
+
+-- what a variable field has that no item sets: bounds of 0, no physical bounds, no unit, no
+-- collections and no other flag
 abbrev pub unset : Attributes
 unset = record {
   logical_minimum = pos 0;
@@ -147,14 +164,13 @@ unset = record {
   unit = None;
   unit_exponent = None;
   collections = [];
-  relative = false;
-  wrap = false;
-  nonlinear = false;
-  no_preferred_state = false;
-  null_state = false;
-  buffered_bytes = false;
+  flags = variable_flags;
   volatile = None;
 }
+
+-- the same of an array
+abbrev pub unset_array : Attributes
+unset_array = record unset { flags = no_flags }
 
 -- the place of a field without a report id: its number, its first bit and the bit behind its last
 abbrev pub place_at : ℕ → ℕ → ℕ → FieldPlace

@@ -5,7 +5,7 @@ use Rattle.hidreport.specs.Records.{Attributes, CollectionRecord, FieldRecord, V
 use Rattle.hidreport.specs.Records.{ArrayRecord, ConstantRecord, ReportRecord, DescriptorRecord}
 use Rattle.hidreport.specs.Usages.{make_usage, range_from}
 use Rattle.hidreport.specs.declared.field.usage.Usage.{Usage}
-use Rattle.hidreport_definitions.specs.Summary.{of_report, place_at, unset}
+use Rattle.hidreport_definitions.specs.Summary.{no_flags, of_report, place_at, unset}
 
 -- what fields share that lie in the Application collection of a keyboard
 abbrev pub in_keyboard : Attributes
@@ -26,7 +26,8 @@ two_reports = record {
       ∷ record {
         id = Some 2;
         size = 24;
-        fields = of_report 2 (ArrayRecord (place_at 2 8 24) (range_from 7 4 4) true 2 in_keyboard)
+        fields = of_report 2 (ArrayRecord (place_at 2 8 24) (range_from 7 4 4) true 2
+            (record in_keyboard { flags = no_flags }))
             ∷ [];
       }
       ∷ [];

@@ -5,6 +5,7 @@ ghost use Rattle.hidreport.specs.Records.{VariableRecord};
 ghost use Rattle.hidreport.specs.Usages.{make_usage};
 ghost use Rattle.hidreport_definitions.specs.Summary.{announced_by, feature_attributes};
 ghost use Rattle.hidreport_definitions.specs.Summary.{input_attributes, place_at, unset};
+ghost use Rattle.hidreport_definitions.specs.Summary.{variable_flags};
 
 /// Bounds, unit and flags are those in force; where one physical bound is set the other is 0.
 pub fn a_field_has_the_bounds_and_the_unit_in_force()
@@ -22,7 +23,7 @@ pub fn a_field_has_the_bounds_and_the_unit_in_force()
                   physical_maximum = Some (pos 0);
                   unit = Some 0x11;
                   unit_exponent = Some (pos 14);
-                  buffered_bytes = true;
+                  flags = record variable_flags { buffered_bytes = true; volatile = true };
                   volatile = Some true;
                 })
                 ∷ [];
@@ -69,18 +70,21 @@ pub fn logical_bounds_are_signed_by_their_width()
 /// Each flag of an item is one attribute of its fields, and no other.
 pub fn each_flag_is_its_own_attribute()
     ensures relative { input_attributes (codes "05 01 09 30 75 08 95 01 81 06")
-        ≡ Some (record unset { relative = true }) }
+        ≡ Some (record unset { flags = record variable_flags { relative = true } }) }
     ensures wrap { input_attributes (codes "05 01 09 30 75 08 95 01 81 0a")
-        ≡ Some (record unset { wrap = true }) }
+        ≡ Some (record unset { flags = record variable_flags { wrap = true } }) }
     ensures nonlinear { input_attributes (codes "05 01 09 30 75 08 95 01 81 12")
-        ≡ Some (record unset { nonlinear = true }) }
+        ≡ Some (record unset { flags = record variable_flags { nonlinear = true } }) }
     ensures no_preferred_state { input_attributes (codes "05 01 09 30 75 08 95 01 81 22")
-        ≡ Some (record unset { no_preferred_state = true }) }
+        ≡ Some (record unset { flags = record variable_flags { no_preferred_state = true } }) }
     ensures null_state { input_attributes (codes "05 01 09 30 75 08 95 01 81 42")
-        ≡ Some (record unset { null_state = true }) }
+        ≡ Some (record unset { flags = record variable_flags { null_state = true } }) }
     ensures buffered_bytes { input_attributes (codes "05 01 09 30 75 08 95 01 82 02 01")
-        ≡ Some (record unset { buffered_bytes = true }) }
+        ≡ Some (record unset { flags = record variable_flags { buffered_bytes = true } }) }
     ensures volatile { feature_attributes (codes "05 01 09 30 75 08 95 01 b1 82")
-        ≡ Some (record unset { volatile = Some true }) }
+        ≡ Some (record unset {
+          flags = record variable_flags { volatile = true };
+          volatile = Some true;
+        }) }
     ensures none { input_attributes (codes "05 01 09 30 75 08 95 01 81 02") ≡ Some unset }
 {}

@@ -53,7 +53,7 @@ pub fn an_index_behind_the_usages_chooses_none()
         ≡ Some (make_usage 9 3) }
     ensures behind { usage_chosen (range_from 9 1 3) (pos 0) (pos 255) (pos 3) ≡ None }
     ensures greatest { usage_chosen (range_from 9 1 3) (pos 0) (pos 255) (pos 255) ≡ None }
-    ensures no_usages { usage_chosen [] (pos 0) (pos 255) (pos 0) ≡ None }
+    ensures no_usages { usage_chosen {A = Usage} [] (pos 0) (pos 255) (pos 0) ≡ None }
 {}
 
 /// Where the maximum is below the minimum no value chooses a usage.

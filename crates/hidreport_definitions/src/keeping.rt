@@ -6,7 +6,7 @@ ghost use Rattle.hidreport.specs.ItemType.TheVariants as item;
 ghost use Rattle.hidreport.specs.Laws.{Spares};
 ghost use Rattle.hidreport.specs.LocalItem.TheVariants as local;
 ghost use Rattle.hidreport.specs.Segments.{HasNoLocal, HasNoPush};
-ghost use Rattle.hidreport.specs.declared.parser.push_keeps.PushKeeps.TheVariants as push_keeps;
+ghost use Rattle.hidreport.specs.declared.parser.push_keeps.PushKeeps.TheVariants as a_push_keeps;
 ghost use Rattle.hidreport_definitions.specs.Summary.{Report, Variable, globals_summary, inputs};
 ghost use Rattle.hidreport_definitions.specs.Summary.{summary};
 
@@ -57,7 +57,7 @@ pub fn items_may_have_no_local_and_no_push()
 
 /// A segment may have a local item just where its Push keeps these, too.
 pub fn a_segment_may_have_locals_where_a_push_keeps_them()
-    ensures locals { Spares push_keeps.All (item.Local (local.UsageId 9) ∷ []) }
-    ensures none { Spares push_keeps.Globals (item.Global (global.ReportSize 16) ∷ []) }
-    ensures globals { Spares push_keeps.Globals (item.Local (local.UsageId 9) ∷ []) → ⊥ }
+    ensures locals { Spares a_push_keeps.All (item.Local (local.UsageId 9) ∷ []) }
+    ensures none { Spares a_push_keeps.Globals (item.Global (global.ReportSize 16) ∷ []) }
+    ensures globals { Spares a_push_keeps.Globals (item.Local (local.UsageId 9) ∷ []) → ⊥ }
 {}

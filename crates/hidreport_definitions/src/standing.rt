@@ -3,6 +3,7 @@
 ghost use Rattle.std.specs.Prelude.{pos, negsuc, [], ◌∷◌, None, Some, true, false};
 ghost use Rattle.hidreport.specs.Standing.{IsLeastFor, IsLeastUnchosen, IsNullNumber};
 ghost use Rattle.hidreport.specs.Usages.{make_usage, range_from};
+ghost use Rattle.hidreport.specs.declared.field.usage.Usage.{Usage};
 
 /// Of eight buttons the third, also counted from -1, and the first of two that are one usage.
 pub fn a_usage_has_its_least_number()
@@ -51,12 +52,12 @@ pub fn a_number_without_a_usage_is_the_least()
 
 /// A number outside the bounds comes before one within them.
 pub fn a_number_outside_the_bounds_comes_first()
-    ensures zero { IsNullNumber [] 4 false (pos 1) (pos 8) (Some (pos 0)) }
-    ensures below { IsNullNumber [] 4 true (negsuc 0) (pos 7) (Some (negsuc 1)) }
-    ensures above { IsNullNumber [] 4 false (pos 0) (pos 8) (Some (pos 9)) }
+    ensures zero { IsNullNumber {A = Usage} [] 4 false (pos 1) (pos 8) (Some (pos 0)) }
+    ensures below { IsNullNumber {A = Usage} [] 4 true (negsuc 0) (pos 7) (Some (negsuc 1)) }
+    ensures above { IsNullNumber {A = Usage} [] 4 false (pos 0) (pos 8) (Some (pos 9)) }
     ensures within { IsNullNumber (range_from 9 1 2) 2 false (pos 0) (pos 3) (Some (pos 2)) }
-    ensures not_above { IsNullNumber [] 4 false (pos 1) (pos 8) (Some (pos 9)) → ⊥ }
+    ensures not_above { IsNullNumber {A = Usage} [] 4 false (pos 1) (pos 8) (Some (pos 9)) → ⊥ }
     ensures not_within { IsNullNumber (range_from 9 1 2) 2 false (pos 1) (pos 3) (Some (pos 3))
         → ⊥ }
-    ensures none { IsNullNumber [] 4 false (pos 1) (pos 8) None → ⊥ }
+    ensures none { IsNullNumber {A = Usage} [] 4 false (pos 1) (pos 8) None → ⊥ }
 {}

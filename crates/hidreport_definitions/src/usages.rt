@@ -9,7 +9,7 @@ ghost use Rattle.hidreport.specs.UsageRange.{HasExactly};
 ghost use Rattle.hidreport.specs.Usages.{make_usage, range_from};
 ghost use Rattle.hidreport_definitions.specs.Summary.{Report, Variable, announced_by, inputs};
 ghost use Rattle.hidreport_definitions.specs.Summary.{no_reports, four_keys, place_at, summary};
-ghost use Rattle.hidreport_definitions.specs.Summary.{unset};
+ghost use Rattle.hidreport_definitions.specs.Summary.{unset_array};
 
 /// Fields beyond the usages take the last one.
 pub fn the_last_usage_is_repeated()
@@ -50,7 +50,7 @@ pub fn a_range_wraps_within_its_page()
             size = 8;
             fields =
                 ArrayRecord (place_at 0 0 8) (make_usage 1 0xffff ∷ make_usage 1 0 ∷ make_usage 1 1
-                ∷ []) true 1 unset
+                ∷ []) true 1 unset_array
                 ∷ [];
           } ∷ [];
           output = [];
@@ -69,7 +69,7 @@ pub fn an_array_has_all_usages_of_a_range()
             size = 24;
             fields =
                 ArrayRecord (place_at 0 0 24) (range_from 1 1 255) true 3
-                (record unset {
+                (record unset_array {
                   logical_maximum = pos 255;
                   collections = record {
                     id = 0;

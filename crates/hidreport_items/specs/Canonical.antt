@@ -16,6 +16,8 @@ is_bare (item.Global global.Push) = true
 is_bare (item.Global global.Pop) = true
 is_bare _ = false
 
+-- these bytes are the item's canonical spelling: the shortest with data that spells it, or the
+-- header alone where it has no data
 pub record IsCanonical (bytes : List ℕ) (x : ItemType) : Type 0 where
   pub spells : Spells bytes x
   pub bare : IsTrue (is_bare x) → length bytes ≡ 1

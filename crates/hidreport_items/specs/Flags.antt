@@ -1,6 +1,7 @@
 -- The flags of a data item (Section 6.2.2.5).
 use Rattle.std.specs.Prelude.{ℕ, Bool, ◌/◌, ◌%◌, ◌^◌, ◌==◌}
 
+-- the nine flags, each by its name where it is 1
 pub record Flags : Type 0 where
   pub constant : Bool
   pub variable : Bool

@@ -6,6 +6,7 @@ use Rattle.hidreport_items.specs.declared.local.LocalItem.TheVariants as local
 use Rattle.hidreport_items.specs.declared.item.ItemType.{ItemType}
 use Rattle.hidreport_items.specs.declared.item.ItemType.TheVariants as item
 
+-- the item is one of those that mean something: neither long nor reserved
 abbrev pub is_kept : ItemType → Bool
 is_kept (item.Main x) = true
 is_kept (item.Global global.Reserved) = false

@@ -19,5 +19,6 @@ tag_message prefix = codes "Invalid item tag 0b" ++ six_digits prefix
 abbrev pub long_message : List ℕ
 long_message = codes "Item is a long item"
 
+-- the text for a short item where a long one is read
 abbrev pub not_long_message : List ℕ
 not_long_message = codes "Item is not a long item"

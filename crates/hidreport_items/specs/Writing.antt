@@ -25,6 +25,7 @@ with_header prefix bs = (prefix + size_code (length bs)) ∷ bs
 abbrev pub two_bytes : ℕ → List ℕ
 two_bytes n = n % 256 ∷ n / 256 % 256 ∷ []
 
+-- a number in four bytes, the lowest first
 abbrev pub four_bytes : ℕ → List ℕ
 four_bytes n = n % 256 ∷ n / 256 % 256 ∷ n / 65536 % 256 ∷ n / 16777216 % 256 ∷ []
 
@@ -86,6 +87,7 @@ global_prefix global.Push = 0xa4
 global_prefix global.Pop = 0xb4
 global_prefix global.Reserved = 0xc4
 
+-- the data of a global item
 abbrev pub global_data : GlobalItem → List ℕ
 global_data (global.UsagePage n) = unsigned_data n
 global_data (global.LogicalMinimum z) = signed_data z
@@ -101,6 +103,7 @@ global_data global.Push = []
 global_data global.Pop = []
 global_data global.Reserved = []
 
+-- its bytes: of the usage page 1 `05 01`
 abbrev pub global_bytes : GlobalItem → List ℕ
 global_bytes x = with_header (global_prefix x) (global_data x)
 
@@ -134,6 +137,7 @@ local_data (local.StringMaximum n) = unsigned_data n
 local_data (local.Delimiter n) = unsigned_data n
 local_data (local.Reserved value) = value ∷ []
 
+-- the bytes of a local item: of usage 2 `09 02`
 abbrev pub local_bytes : LocalItem → List ℕ
 local_bytes x = with_header (local_prefix x) (local_data x)
 

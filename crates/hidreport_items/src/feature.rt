@@ -102,37 +102,9 @@ impl FeatureItem {
 }
 
 impl MainDataItem for FeatureItem {
-    ghost flags = { λ flags. flags };
+    ghost item_flags = { λ flags. flags };
 
-    fn is_constant(&self) -> bool {
-        self.flags.is_constant
-    }
-
-    fn is_variable(&self) -> bool {
-        self.flags.is_variable
-    }
-
-    fn is_relative(&self) -> bool {
-        self.flags.is_relative
-    }
-
-    fn wraps(&self) -> bool {
-        self.flags.wraps
-    }
-
-    fn is_nonlinear(&self) -> bool {
-        self.flags.is_nonlinear
-    }
-
-    fn has_no_preferred_state(&self) -> bool {
-        self.flags.has_no_preferred_state
-    }
-
-    fn has_null_state(&self) -> bool {
-        self.flags.has_null_state
-    }
-
-    fn is_buffered_bytes(&self) -> bool {
-        self.flags.is_buffered_bytes
+    fn flags(&self) -> ItemFlags {
+        self.flags
     }
 }

@@ -10,75 +10,104 @@ use std::marker::Model;
 
 /// The flags of Input, Output and Feature items (Section 6.2.2.5).
 ///
-/// Each flag has two calls, one for each of its states: exactly one of them answers true.
+/// Each flag has two calls, one for each of its states: exactly one of them answers true. All come
+/// from `flags`, so a type of your own needs only that.
 pub trait MainDataItem {
     /// The flags of the item.
-    ghost flags: { Self → Flags };
+    ghost item_flags: { Self → Flags };
+
+    /// All nine flags of the item (Section 6.2.2.5).
+    fn flags(&self) -> ItemFlags
+        ensures { result ≡ item_flags self.now };
 
     /// Whether the fields are padding (Constant, flag 0): nothing is read from them or written to
     /// them.
     fn is_constant(&self) -> bool
-        ensures { result ≡ (flags self.now).constant };
+        ensures { result ≡ (item_flags self.now).constant }
+    {
+        self.flags().is_constant
+    }
 
     /// Whether each element is a field with a usage of its own (Variable, flag 1).
     fn is_variable(&self) -> bool
-        ensures { result ≡ (flags self.now).variable };
+        ensures { result ≡ (item_flags self.now).variable }
+    {
+        self.flags().is_variable
+    }
 
     /// Whether a value is a change since the last report (Relative, flag 2).
     fn is_relative(&self) -> bool
-        ensures { result ≡ (flags self.now).relative };
+        ensures { result ≡ (item_flags self.now).relative }
+    {
+        self.flags().is_relative
+    }
 
     /// Whether a value past one logical bound goes on at the other (Wrap, flag 3).
     fn wraps(&self) -> bool
-        ensures { result ≡ (flags self.now).wrap };
+        ensures { result ≡ (item_flags self.now).wrap }
+    {
+        self.flags().wraps
+    }
 
     /// Whether values aren't linear in what was measured (Non Linear, flag 4).
     fn is_nonlinear(&self) -> bool
-        ensures { result ≡ (flags self.now).nonlinear };
+        ensures { result ≡ (item_flags self.now).nonlinear }
+    {
+        self.flags().is_nonlinear
+    }
 
     /// Whether the control doesn't come back to a state when it is let go (No Preferred, flag 5).
     fn has_no_preferred_state(&self) -> bool
-        ensures { result ≡ (flags self.now).no_preferred_state };
+        ensures { result ≡ (item_flags self.now).no_preferred_state }
+    {
+        self.flags().has_no_preferred_state
+    }
 
     /// Whether the control has a state in which it sends no meaningful data (Null State, flag 6).
     fn has_null_state(&self) -> bool
-        ensures { result ≡ (flags self.now).null_state };
+        ensures { result ≡ (item_flags self.now).null_state }
+    {
+        self.flags().has_null_state
+    }
 
     /// Whether the field is a stream of bytes (Buffered Bytes, flag 8).
     fn is_buffered_bytes(&self) -> bool
-        ensures { result ≡ (flags self.now).buffered_bytes };
+        ensures { result ≡ (item_flags self.now).buffered_bytes }
+    {
+        self.flags().is_buffered_bytes
+    }
 
     /// Whether the fields carry data (Data): not `is_constant`.
     fn is_data(&self) -> bool
-        ensures { result ≡ not (flags self.now).constant }
+        ensures { result ≡ not (item_flags self.now).constant }
     {
         !self.is_constant()
     }
 
     /// Whether the elements are indexes into the usages (Array): not `is_variable`.
     fn is_array(&self) -> bool
-        ensures { result ≡ not (flags self.now).variable }
+        ensures { result ≡ not (item_flags self.now).variable }
     {
         !self.is_variable()
     }
 
     /// Whether a value is counted from a fixed origin (Absolute): not `is_relative`.
     fn is_absolute(&self) -> bool
-        ensures { result ≡ not (flags self.now).relative }
+        ensures { result ≡ not (item_flags self.now).relative }
     {
         !self.is_relative()
     }
 
     /// Whether a value stays within its logical bounds (No Wrap): not `wraps`.
     fn does_not_wrap(&self) -> bool
-        ensures { result ≡ not (flags self.now).wrap }
+        ensures { result ≡ not (item_flags self.now).wrap }
     {
         !self.wraps()
     }
 
     /// Whether values are linear in what was measured (Linear): not `is_nonlinear`.
     fn is_linear(&self) -> bool
-        ensures { result ≡ not (flags self.now).nonlinear }
+        ensures { result ≡ not (item_flags self.now).nonlinear }
     {
         !self.is_nonlinear()
     }
@@ -86,38 +115,57 @@ pub trait MainDataItem {
     /// Whether the control comes back to a state when it is let go (Preferred State): not
     /// `has_no_preferred_state`.
     fn has_preferred_state(&self) -> bool
-        ensures { result ≡ not (flags self.now).no_preferred_state }
+        ensures { result ≡ not (item_flags self.now).no_preferred_state }
     {
         !self.has_no_preferred_state()
     }
 
     /// Whether the control always sends meaningful data (No Null position): not `has_null_state`.
     fn has_no_null_state(&self) -> bool
-        ensures { result ≡ not (flags self.now).null_state }
+        ensures { result ≡ not (item_flags self.now).null_state }
     {
         !self.has_null_state()
     }
 
     /// Whether the field is a number of bits (Bit Field): not `is_buffered_bytes`.
     fn is_bitfield(&self) -> bool
-        ensures { result ≡ not (flags self.now).buffered_bytes }
+        ensures { result ≡ not (item_flags self.now).buffered_bytes }
     {
         !self.is_buffered_bytes()
     }
 }
 
-/// All nine flags (Section 6.2.2.5). An Input has no flag 7.
+/// All nine flags of a data item (Section 6.2.2.5).
+///
+/// `default` has none of them set.
 #[derive(Clone, Copy, Debug, Default, PartialEq)]
-pub(crate) struct ItemFlags {
-    pub(crate) is_constant: bool,
-    pub(crate) is_variable: bool,
-    pub(crate) is_relative: bool,
-    pub(crate) wraps: bool,
-    pub(crate) is_nonlinear: bool,
-    pub(crate) has_no_preferred_state: bool,
-    pub(crate) has_null_state: bool,
-    pub(crate) is_volatile: bool,
-    pub(crate) is_buffered_bytes: bool,
+pub struct ItemFlags {
+    /// The fields are padding (Constant, flag 0).
+    pub is_constant: bool,
+
+    /// Each element is a field with a usage of its own (Variable, flag 1).
+    pub is_variable: bool,
+
+    /// A value is a change since the last report (Relative, flag 2).
+    pub is_relative: bool,
+
+    /// A value past one logical bound goes on at the other (Wrap, flag 3).
+    pub wraps: bool,
+
+    /// Values aren't linear in what was measured (Non Linear, flag 4).
+    pub is_nonlinear: bool,
+
+    /// The control doesn't come back to a state when it is let go (No Preferred, flag 5).
+    pub has_no_preferred_state: bool,
+
+    /// The control has a state in which it sends no meaningful data (Null State, flag 6).
+    pub has_null_state: bool,
+
+    /// The value may change without the host (Volatile, flag 7); an Input has no such flag.
+    pub is_volatile: bool,
+
+    /// The field is a stream of bytes (Buffered Bytes, flag 8).
+    pub is_buffered_bytes: bool,
 }
 
 impl Model for ItemFlags {

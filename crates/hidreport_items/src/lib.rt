@@ -3,7 +3,7 @@
 //! - [`ItemType`]: any item; [`MainItem`], [`GlobalItem`] and [`LocalItem`] are its three types
 //!   (Sections 6.2.2.4, 6.2.2.7 and 6.2.2.8 of the standard, USB HID 1.11).
 //! - [`InputItem`], [`OutputItem`], [`FeatureItem`]: the data items, with their flags by
-//!   [`MainDataItem`]; [`CollectionItem`]: the kinds of collections.
+//!   [`MainDataItem`] as [`ItemFlags`]; [`CollectionItem`]: the kinds of collections.
 //! - [`ItemBuilder`]: makes a data item from its flags.
 //! - [`HidError`]: why an item can't be read or written.
 //!
@@ -40,7 +40,7 @@ pub use builder_state::{
 };
 pub use error::HidError;
 pub use feature::FeatureItem;
-pub use flags::MainDataItem;
+pub use flags::{ItemFlags, MainDataItem};
 pub use global::GlobalItem;
 pub use input::InputItem;
 pub use item::{ItemType, is_long_header, read_item, write_item};

@@ -11,6 +11,7 @@ use Rattle.hidreport_items.specs.Spelling.{first_or_zero}
 abbrev pub short_tag : List ℕ → ℕ
 short_tag bytes = first_or_zero bytes / 16
 
+-- the data of a short item: all but its header
 abbrev pub short_data : List ℕ → List ℕ
 short_data bytes = drop 1 bytes
 
@@ -18,6 +19,7 @@ short_data bytes = drop 1 bytes
 abbrev pub long_tag : List ℕ → ℕ
 long_tag bytes = first_or_zero (drop 2 bytes)
 
+-- the data of a long item: all but header, size and tag
 abbrev pub long_data : List ℕ → List ℕ
 long_data bytes = drop 3 bytes
 

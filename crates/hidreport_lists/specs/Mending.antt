@@ -58,6 +58,7 @@ piece_by offset h bs (Ok x) = holding None offset (h ∷ bs) (h ∷ bs) x
 piece_by offset h bs (Err fault) =
     zero_piece offset (h ∷ bs) (prefix h + 1) (item_of (prefix h + 1) (0 ∷ []))
 
+-- the piece of a whole item, or what hosts make of it
 abbrev pub whole_piece : ℕ → List ℕ → PieceRecord
 whole_piece offset [] = left_out mend.UnknownMainItem offset []
 whole_piece offset (h ∷ bs) = piece_by offset h bs (item_of h bs)
@@ -96,13 +97,15 @@ abbrev pub is_unknown : Option Mend → Bool
 is_unknown (Some mend.UnknownMainItem) = true
 is_unknown _ = false
 
-abbrev pub is_main : Option ItemType → Bool
-is_main (Some (item.Main x)) = true
-is_main _ = false
+-- a main item stands there
+abbrev pub has_main : Option ItemType → Bool
+has_main (Some (item.Main x)) = true
+has_main _ = false
 
-abbrev pub is_local : Option ItemType → Bool
-is_local (Some (item.Local x)) = true
-is_local _ = false
+-- a local item stands there
+abbrev pub has_local : Option ItemType → Bool
+has_local (Some (item.Local x)) = true
+has_local _ = false
 
 -- the item that stands there, if any
 abbrev pub item_in : PieceRecord → Option ItemType
@@ -112,23 +115,24 @@ item_in p = option_map (λ s. s.item) p.stands
 abbrev pub ends_unknown : List PieceRecord → Bool
 ends_unknown [] = false
 ends_unknown (p ∷ ps) =
-    is_unknown p.mend || (not (is_main (item_in p)) && ends_unknown ps)
+    is_unknown p.mend || (not (has_main (item_in p)) && ends_unknown ps)
 
 -- a local item is left out with the main item that it would be of
 abbrev pub ended : Bool → PieceRecord → PieceRecord
 ended unknown p =
-    if unknown && is_local (item_in p) then left_out mend.EndedLocal p.offset p.stood else p
+    if unknown && has_local (item_in p) then left_out mend.EndedLocal p.offset p.stood else p
 
 -- the pieces without local items that end with a main item which is left out
 abbrev pub without_ended : List PieceRecord → List PieceRecord
 without_ended [] = []
 without_ended (p ∷ ps) = ended (ends_unknown ps) p ∷ without_ended ps
 
-abbrev pub if_read : Result (List PieceRecord) (ℕ × GrammarFault)
+-- the same without local items of main items that are left out
+abbrev pub then_ended : Result (List PieceRecord) (ℕ × GrammarFault)
     → Result (List PieceRecord) (ℕ × GrammarFault)
-if_read (Ok ps) = Ok (without_ended ps)
-if_read (Err fault) = Err fault
+then_ended (Ok ps) = Ok (without_ended ps)
+then_ended (Err fault) = Err fault
 
 -- what hid-core reads of the bytes, or the first item that it can't read either
 abbrev pub pieces : Bool → List ℕ → Result (List PieceRecord) (ℕ × GrammarFault)
-pieces leave_out bytes = if_read (pieces_from leave_out 0 0 bytes)
+pieces leave_out bytes = then_ended (pieces_from leave_out 0 0 bytes)

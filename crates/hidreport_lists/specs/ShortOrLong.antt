@@ -23,10 +23,12 @@ is_long_one (any.Long bytes) = true
 abbrev pub IsByHeader : AnyItem → List ℕ → Type 0
 IsByHeader item bytes = is_long_one item ≡ is_long_header (first_or_zero bytes)
 
+-- the tag of an item
 abbrev pub any_tag : AnyItem → ℕ
 any_tag (any.Short item) = short_tag item.bytes
 any_tag (any.Long bytes) = long_tag bytes
 
+-- its data
 abbrev pub any_data : AnyItem → List ℕ
 any_data (any.Short item) = short_data item.bytes
 any_data (any.Long bytes) = long_data bytes

@@ -191,7 +191,7 @@ fn leave_out_ended(pieces: &mut [Piece])
 
 impl<'a> Piece<'a> {
     ghost use Rattle.std.specs.Prelude.{◌≡◌, length, Some};
-    ghost use Rattle.hidreport_lists.specs.Mending.{holding, is_local, is_main, is_unknown};
+    ghost use Rattle.hidreport_lists.specs.Mending.{holding, has_local, has_main, is_unknown};
     ghost use Rattle.hidreport_lists.specs.Mending.{item_in, standing_bytes};
 
     /// The offset of the piece: how many bytes of the descriptor stand before it.
@@ -260,14 +260,14 @@ impl<'a> Piece<'a> {
 
     /// Whether a main item stands there.
     fn holds_main(&self) -> bool
-        ensures { result ≡ is_main (item_in self.now) }
+        ensures { result ≡ has_main (item_in self.now) }
     {
         matches!(self.item(), Some(ItemType::Main(_)))
     }
 
     /// Whether a local item stands there.
     fn holds_local(&self) -> bool
-        ensures { result ≡ is_local (item_in self.now) }
+        ensures { result ≡ has_local (item_in self.now) }
     {
         matches!(self.item(), Some(ItemType::Local(_)))
     }

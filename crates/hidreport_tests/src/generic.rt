@@ -6,7 +6,7 @@ use hidreport::hid::MainDataItem;
 /// The item's fields are plain buttons: each is on while it is held, and no flag but `variable` is
 /// on, `volatile` aside.
 pub fn is_plain_button<M: MainDataItem>(item: &M) -> bool
-    ensures { let flags = M.flags item.now in
+    ensures { let flags = M.item_flags item.now in
         result ≡ (flags.variable && not (flags.constant || flags.relative || flags.wrap
         || flags.nonlinear || flags.no_preferred_state || flags.null_state
         || flags.buffered_bytes)) }

@@ -40,6 +40,7 @@ length_in SIRotation e = Radians e
 length_in EnglishLinear e = Inch e
 length_in EnglishRotation e = Degrees e
 
+-- the unit of mass by system, to this power
 abbrev pub mass_in : UnitSystem → ℤ → Units
 mass_in NoSystem e = NoUnit
 mass_in SILinear e = Gram e
@@ -47,6 +48,7 @@ mass_in SIRotation e = Gram e
 mass_in EnglishLinear e = Slug e
 mass_in EnglishRotation e = Slug e
 
+-- that of temperature
 abbrev pub temperature_in : UnitSystem → ℤ → Units
 temperature_in NoSystem e = NoUnit
 temperature_in SILinear e = Kelvin e
@@ -63,24 +65,31 @@ exponent_in number place =
 abbrev pub measure_of : ℕ → ℕ → (ℤ → Units) → Units
 measure_of number place unit = unwrap_or (option_map unit (exponent_in number place)) NoUnit
 
+-- a measure of a unit's number, by its nibble: length
 abbrev pub length_of : ℕ → Units
 length_of number = measure_of number 1 (length_in (system_of number))
 
+-- mass
 abbrev pub mass_of : ℕ → Units
 mass_of number = measure_of number 2 (mass_in (system_of number))
 
+-- time
 abbrev pub time_of : ℕ → Units
 time_of number = measure_of number 3 (λ e. Seconds e)
 
+-- temperature
 abbrev pub temperature_of : ℕ → Units
 temperature_of number = measure_of number 4 (temperature_in (system_of number))
 
+-- current
 abbrev pub current_of : ℕ → Units
 current_of number = measure_of number 5 (λ e. Ampere e)
 
+-- luminous intensity
 abbrev pub luminosity_of : ℕ → Units
 luminosity_of number = measure_of number 6 (λ e. Candela e)
 
+-- there is a unit
 abbrev pub is_unit : Units → Bool
 is_unit NoUnit = false
 is_unit (Centimeter e) = true
@@ -155,11 +164,12 @@ MakeUp units number =
     0 < nibble number 0 → nibble number 0 < 5 → number < 16 ^ 7 →
     with_units (system_number (system_of number)) units ≡ number
 
--- the power of ten of a UnitExponent item: a nibble as two's complement, or any other number cut to
--- its low byte
+-- a byte as two's complement
 abbrev pub low_byte : ℕ → ℤ
 low_byte n = if nat_lt n 128 then pos n else pos n -ℤ pos 256
 
+-- the power of ten of a UnitExponent item: a nibble as two's complement, or any other number cut to
+-- its low byte: of 14 it is -2
 abbrev pub exponent_of : ℤ → ℤ
 exponent_of (pos n) = if nat_lt n 16 then nibble_exponent n else low_byte (n % 256)
 exponent_of (negsuc n) = low_byte (255 - n % 256)

@@ -34,6 +34,7 @@ exponent_text (negsuc n) =
 abbrev pub power_text : List ℕ → ℤ → List ℕ
 power_text name e = unwrap_or (option_map (λ text. name ++ text) (exponent_text e)) []
 
+-- a unit with its power, `cm` or `s` with a superscript; nothing where there is none
 abbrev pub units_text : Units → List ℕ
 units_text NoUnit = []
 units_text (Centimeter e) = power_text (codes "cm") e

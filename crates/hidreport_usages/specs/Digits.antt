@@ -6,6 +6,7 @@ use Rattle.std.specs.Prelude.{Option, MatchOption}
 abbrev pub digit : ℕ → ℕ
 digit n = if nat_lt n 10 then 48 + n else 55 + n
 
+-- four hexadecimal digits: of 0xff00 `FF00`
 abbrev pub four_digits : ℕ → List ℕ
 four_digits n = digit (n / 4096) ∷ digit (n / 256 % 16) ∷ digit (n / 16 % 16) ∷ digit (n % 16) ∷ []
 

@@ -2,6 +2,7 @@
 use Rattle.std.specs.Prelude.{ℕ, if◌then◌else◌, List, ◌++◌, codes}
 use Rattle.hidreport_items.specs.Flags.{Flags}
 
+-- the words: of Variable and Relative `Data,Var,Rel,NoNull`
 abbrev pub flag_text : Flags → List ℕ
 flag_text f =
     (if f.constant then codes "Const" else codes "Data")

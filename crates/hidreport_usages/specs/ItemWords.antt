@@ -40,6 +40,7 @@ use Rattle.hidreport_types.specs.declared.unit_system.UnitSystem.TheVariants.{SI
 use Rattle.hidreport_types.specs.declared.unit_system.UnitSystem.TheVariants.{EnglishLinear}
 use Rattle.hidreport_types.specs.declared.unit_system.UnitSystem.TheVariants.{EnglishRotation}
 
+-- a main item's name
 abbrev pub main_name : MainItem → List ℕ
 main_name (Input i) = codes "Input"
 main_name (Output i) = codes "Output"
@@ -47,6 +48,7 @@ main_name (Feature i) = codes "Feature"
 main_name (Collection k) = codes "Collection"
 main_name EndCollection = codes "End Collection"
 
+-- a global item's name
 abbrev pub global_name : GlobalItem → List ℕ
 global_name (UsagePage n) = codes "Usage Page"
 global_name (LogicalMinimum n) = codes "Logical Minimum"
@@ -62,6 +64,7 @@ global_name Push = codes "Push"
 global_name Pop = codes "Pop"
 global_name ReservedGlobal = codes "Reserved"
 
+-- a local item's name
 abbrev pub local_name : LocalItem → List ℕ
 local_name (Usage p i) = codes "Usage"
 local_name (UsageId i) = codes "Usage"
@@ -76,6 +79,7 @@ local_name (StringMaximum n) = codes "String Maximum"
 local_name (Delimiter n) = codes "Delimiter"
 local_name (ReservedLocal n) = codes "Reserved"
 
+-- any item's name
 abbrev pub item_name : ItemType → List ℕ
 item_name (Main item) = main_name item
 item_name (Global item) = global_name item
@@ -83,6 +87,7 @@ item_name (Local item) = local_name item
 item_name Long = codes "Long Item"
 item_name ReservedType = codes "Reserved"
 
+-- the name of a kind of collection
 abbrev pub collection_name : CollectionItem → List ℕ
 collection_name Physical = codes "Physical"
 collection_name Application = codes "Application"
@@ -94,6 +99,7 @@ collection_name UsageModifier = codes "Usage Modifier"
 collection_name (Kinds.Reserved n) = codes "Reserved"
 collection_name (VendorDefined n) = codes "Vendor-defined"
 
+-- the name of a system of units
 abbrev pub system_name : UnitSystem → List ℕ
 system_name None = codes "None"
 system_name SILinear = codes "SI Linear"

@@ -20,6 +20,7 @@ use Rattle.hidreport_usages.specs.declared.page.PageName.TheVariants.{Vendor as 
 abbrev pub is_vendor_page : ℕ → Bool
 is_vendor_page page = nat_le 0xff00 page && nat_lt page 0x1_0000
 
+-- the name of a vendor's page: of page ff00 `Vendor-defined FF00`
 abbrev pub vendor_name : ℕ → Option (List ℕ)
 vendor_name page =
     if is_vendor_page page then Some (codes "Vendor-defined " ++ four_digits page) else None
@@ -46,6 +47,7 @@ abbrev pub numbered_by : Option Family → ℕ → Option (List ℕ)
 numbered_by (Some family) id = numbered_name family id
 numbered_by None id = None
 
+-- the name of a usage on a page that numbers its usages: `Button 3`
 abbrev pub numbered_text : ℕ → Option (List ℕ)
 numbered_text number = numbered_by (family_of (number / 65536)) (number % 65536)
 

@@ -4,7 +4,7 @@ ghost use Rattle.std.specs.Fmt.{WritesOnOk, WritesStyledOnOk};
 ghost use Rattle.hidreport_items.specs.Flags.{Flags};
 ghost use Rattle.hidreport_usages.specs.FlagWords.{flag_text};
 
-use hidreport_items::{FeatureItem, InputItem, MainDataItem, OutputItem};
+use hidreport_items::{FeatureItem, InputItem, ItemFlags, MainDataItem, OutputItem};
 use std::fmt;
 use std::marker::Model;
 
@@ -16,15 +16,7 @@ use std::marker::Model;
 /// stand in the order of the bits.
 #[derive(Clone, Copy)]
 pub struct FlagWords {
-    is_constant: bool,
-    is_variable: bool,
-    is_relative: bool,
-    wraps: bool,
-    is_nonlinear: bool,
-    has_no_preferred_state: bool,
-    has_null_state: bool,
-    is_volatile: bool,
-    is_buffered_bytes: bool,
+    flags: ItemFlags,
 }
 
 impl Model for FlagWords {
@@ -32,29 +24,9 @@ impl Model for FlagWords {
 
     ghost Value = { Flags };
 
-    ghost view = { λ f. record {
-      constant = f.is_constant;
-      variable = f.is_variable;
-      relative = f.is_relative;
-      wrap = f.wraps;
-      nonlinear = f.is_nonlinear;
-      no_preferred_state = f.has_no_preferred_state;
-      null_state = f.has_null_state;
-      volatile = f.is_volatile;
-      buffered_bytes = f.is_buffered_bytes;
-    } };
+    ghost view = { λ words. words.flags };
 
-    ghost inverse = { λ f. record {
-      is_constant = f.constant;
-      is_variable = f.variable;
-      is_relative = f.relative;
-      wraps = f.wrap;
-      is_nonlinear = f.nonlinear;
-      has_no_preferred_state = f.no_preferred_state;
-      has_null_state = f.null_state;
-      is_volatile = f.volatile;
-      is_buffered_bytes = f.buffered_bytes;
-    } };
+    ghost inverse = { λ flags. record { flags = flags } };
 }
 
 /// An Input has no flag 7, so `Vol` is never there.
@@ -62,7 +34,12 @@ impl From<&InputItem> for FlagWords {
     ghost from_gives = { λ item words. words ≡ record (item.now) { volatile = false } };
 
     fn from(item: &InputItem) -> FlagWords {
-        words_of(item, false)
+        FlagWords {
+            flags: ItemFlags {
+                is_volatile: false,
+                ..item.flags()
+            },
+        }
     }
 }
 
@@ -70,7 +47,9 @@ impl From<&OutputItem> for FlagWords {
     ghost from_gives = { λ item words. words ≡ item.now };
 
     fn from(item: &OutputItem) -> FlagWords {
-        words_of(item, item.is_volatile())
+        FlagWords {
+            flags: item.flags(),
+        }
     }
 }
 
@@ -78,24 +57,9 @@ impl From<&FeatureItem> for FlagWords {
     ghost from_gives = { λ item words. words ≡ item.now };
 
     fn from(item: &FeatureItem) -> FlagWords {
-        words_of(item, item.is_volatile())
-    }
-}
-
-/// The words for the flags of an item, which doesn't say itself whether it is volatile.
-fn words_of<I: MainDataItem>(item: &I, is_volatile: bool) -> FlagWords
-    ensures { result ≡ record (I.flags item.now) { volatile = is_volatile } }
-{
-    FlagWords {
-        is_constant: item.is_constant(),
-        is_variable: item.is_variable(),
-        is_relative: item.is_relative(),
-        wraps: item.wraps(),
-        is_nonlinear: item.is_nonlinear(),
-        has_no_preferred_state: item.has_no_preferred_state(),
-        has_null_state: item.has_null_state(),
-        is_volatile,
-        is_buffered_bytes: item.is_buffered_bytes(),
+        FlagWords {
+            flags: item.flags(),
+        }
     }
 }
 
@@ -107,16 +71,24 @@ impl fmt::Display for FlagWords {
     ghost styled_output = { λ words _. Some (flag_text words) };
 
     fn fmt<W: fmt::Write>(&self, f: &mut fmt::Formatter<W>) -> fmt::Result {
-        write_word(f, self.is_constant, "Const", "Data")?;
-        write_word(f, self.is_variable, ",Var", ",Arr")?;
-        write_word(f, self.is_relative, ",Rel", ",Abs")?;
-        write_word(f, self.wraps, ",Wrap", "")?;
-        write_word(f, self.is_nonlinear, ",NonLin", "")?;
-        write_word(f, self.has_no_preferred_state, ",NoPref", "")?;
-        write_word(f, self.has_null_state, ",Null", ",NoNull")?;
-        write_word(f, self.is_volatile, ",Vol", "")?;
-        write_word(f, self.is_buffered_bytes, ",Buf", "")
+        write_words(f, &self.flags)
     }
+}
+
+/// Writes the words for these flags.
+fn write_words<W: fmt::Write>(f: &mut fmt::Formatter<W>, flags: &ItemFlags) -> fmt::Result
+    ensures plain { WritesOnOk W.write_str_gives f.old result (flag_text flags.now) f.new }
+    ensures styled { WritesStyledOnOk W.write_str_gives f.old result (flag_text flags.now) f.new }
+{
+    write_word(f, flags.is_constant, "Const", "Data")?;
+    write_word(f, flags.is_variable, ",Var", ",Arr")?;
+    write_word(f, flags.is_relative, ",Rel", ",Abs")?;
+    write_word(f, flags.wraps, ",Wrap", "")?;
+    write_word(f, flags.is_nonlinear, ",NonLin", "")?;
+    write_word(f, flags.has_no_preferred_state, ",NoPref", "")?;
+    write_word(f, flags.has_null_state, ",Null", ",NoNull")?;
+    write_word(f, flags.is_volatile, ",Vol", "")?;
+    write_word(f, flags.is_buffered_bytes, ",Buf", "")
 }
 
 /// Writes the word for a flag.

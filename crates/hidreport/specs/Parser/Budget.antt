@@ -49,6 +49,7 @@ abbrev pub left_behind : Option ℕ → ℕ → Option ℕ
 left_behind None weight = None
 left_behind (Some left) weight = Some (left - weight)
 
+-- past the limit: `BudgetExceeded`
 abbrev pub past_fault : Bool → Option MeaningFault
 past_fault true = Some PastBudget
 past_fault false = None

@@ -1,12 +1,11 @@
 -- The fields of one item, not yet listed.
 use Rattle.std.specs.Prelude.{◌≡◌, ◌⊎◌, ℕ, map, flat_map, take, true, false}
 use Rattle.hidreport.specs.Groups.{GroupRecord}
-use Rattle.hidreport.specs.HostUsages.{usages_in}
+use Rattle.hidreport.specs.HostUsages.{span_usages}
 use Rattle.hidreport.specs.Parser.Layout.{beginning_of, extent_of, shared_of}
 use Rattle.hidreport.specs.Parser.Locals.{usage_under}
 use Rattle.hidreport.specs.Parser.Usages.{between}
 use Rattle.hidreport.specs.Usages.{UsageList}
-use Rattle.hidreport.specs.Views.{item_flags}
 use Rattle.hidreport.specs.declared.parser.group_usages.GroupUsages.{GroupUsages}
 use Rattle.hidreport.specs.declared.parser.group_usages.GroupUsages.TheVariants as usages
 use Rattle.hidreport.specs.declared.parser.layout.Layout.{Layout}
@@ -18,14 +17,14 @@ own_usages (usages.Single page us) = record {
   usages = map (usage_under page) us.items;
   is_range = false;
 }
-own_usages (usages.Spans ss) = record { usages = flat_map usages_in ss.items; is_range = false }
+own_usages (usages.Spans ss) = record { usages = flat_map span_usages ss.items; is_range = false }
 
 -- the fields of an item that the parser lays out so, with these usages
 abbrev pub group_of : Layout → UsageList → GroupRecord
 group_of l us = record {
   beginning = beginning_of l;
   extent = extent_of l;
-  flags = item_flags l.item;
+  flags = l.item.flags;
   usages = us;
   shared = shared_of l;
 }

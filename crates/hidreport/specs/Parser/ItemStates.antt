@@ -8,7 +8,7 @@ use Rattle.hidreport.specs.declared.parser.usages_by.UsagesBy.{UsagesBy}
 
 -- what a Push keeps, what is in force now, and what each open Push keeps, outermost first
 pub record ItemStates : Type 0 where
-  pub keeping : PushKeeps
+  pub push_keeps : PushKeeps
   pub now : ItemState
   pub stack : List ItemState
 

@@ -8,7 +8,6 @@ use Rattle.hidreport.specs.Fields.{Beginning, beginning_at, field_count, make_pl
 use Rattle.hidreport.specs.Fields.{usage_at, attributes_with}
 use Rattle.hidreport.specs.Records.{Attributes, CollectionRecord, FieldRecord, VariableRecord}
 use Rattle.hidreport.specs.Usages.{UsageList}
-use Rattle.hidreport.specs.Views.{direction_of, item_flags}
 use Rattle.hidreport.specs.declared.field.usage.Usage.{Usage}
 use Rattle.hidreport.specs.declared.parser.layout.Layout.{Layout}
 use Rattle.hidreport.specs.declared.parser.extent.Extent.{Extent}
@@ -20,7 +19,7 @@ shared_list (Some shared) = arc_slice_items shared
 
 -- what the item's fields share
 abbrev pub shared_of : Layout → Attributes
-shared_of l = attributes_with (direction_of l.item.direction) (item_flags l.item) l.measures
+shared_of l = attributes_with l.item.direction l.item.flags l.measures
     (shared_list l.collections)
 
 -- where they begin
@@ -33,7 +32,7 @@ extent_of l = record { size = l.size; count = l.count }
 
 -- the fields, with these usages
 abbrev pub laid_out : Layout → UsageList → List FieldRecord
-laid_out l us = make_fields (beginning_of l) (extent_of l) (item_flags l.item) us (shared_of l)
+laid_out l us = make_fields (beginning_of l) (extent_of l) l.item.flags us (shared_of l)
 
 -- field number c of a variable item, with this usage
 abbrev pub variable_with : Layout → Usage → ℕ → FieldRecord
@@ -46,7 +45,7 @@ variable_of l us c = variable_with l (usage_at us.usages c) c
 
 -- the fields have ids, their bits can be counted, and there are usages for them
 pub record IsPossible (l : Layout) (us : UsageList) : Type 0 where
-  pub ids : l.first_id + field_count (item_flags l.item) l.count ≤ 2 ^ 32
+  pub ids : l.first_id + field_count l.item.flags l.count ≤ 2 ^ 32
   pub bits : l.first_bit + l.size * l.count < 2 ^ 64
   pub count : l.report_count ≡ Some l.count
-  pub usages : l.item.is_constant ≡ false → 0 < length us.usages
+  pub usages : l.item.flags.constant ≡ false → 0 < length us.usages

@@ -8,6 +8,7 @@ use Rattle.hidreport_items.specs.declared.item.ItemType.{ItemType}
 use Rattle.hidreport.specs.Faults.{Counts, item_fault}
 use Rattle.hidreport.specs.Fields.{fields_of, fields_made, list_or_none}
 use Rattle.hidreport.specs.ItemState.{ItemState, first_of, paged_local}
+use Rattle.hidreport.specs.Lookup.{reports_of}
 use Rattle.hidreport.specs.Making.{extent, same_key}
 use Rattle.hidreport.specs.Meaning.{firsts_after}
 use Rattle.hidreport.specs.MeaningFault.{MeaningFault}
@@ -18,7 +19,7 @@ use Rattle.hidreport.specs.declared.parse_options.ParseOptions.{ParseOptions}
 use Rattle.hidreport.specs.declared.parser.paged_local.PagedLocal.{PagedLocal}
 use Rattle.hidreport.specs.declared.parser.usages_by.UsagesBy.{UsagesBy}
 use Rattle.hidreport.specs.declared.parser.push_keeps.PushKeeps.{PushKeeps}
-use Rattle.hidreport.specs.declared.parser.push_keeps.PushKeeps.TheVariants as push_keeps
+use Rattle.hidreport.specs.declared.parser.push_keeps.PushKeeps.TheVariants as a_push_keeps
 use Rattle.hidreport.specs.Kinds.{Indexed, Direction, Input, Output, Feature, data_of, goes}
 use Rattle.hidreport.specs.Kinds.{is_main, is_push, is_pop, is_end_collection, collection_kind_of}
 use Rattle.hidreport.specs.Kinds.{usage_page_of, logical_minimum_of, logical_maximum_of}
@@ -48,18 +49,18 @@ next_item_state f x = record {
 
 -- the report with this id that these items make, each adding bits and fields to the report of its
 -- key
-abbrev pub report_of : (Indexed → Option ℕ) → (Indexed → ℕ) → (Indexed → List FieldRecord)
+abbrev pub report_made : (Indexed → Option ℕ) → (Indexed → ℕ) → (Indexed → List FieldRecord)
     → List Indexed → Option ℕ → ReportRecord
-report_of key bits fields ms id = record {
+report_made key bits fields ms id = record {
   id = id;
   size = id_bits id + sum_by bits (filter (λ p. same_key (key p) id) ms);
   fields = flat_map fields (filter (λ p. same_key (key p) id) ms);
 }
 
 -- the reports that these items make
-abbrev pub reports_of : (Indexed → Option ℕ) → (Indexed → ℕ) → (Indexed → List FieldRecord)
+abbrev pub reports_made : (Indexed → Option ℕ) → (Indexed → ℕ) → (Indexed → List FieldRecord)
     → List Indexed → List ReportRecord
-reports_of key bits fields ms = map (report_of key bits fields ms) (firsts_after [] (map key ms))
+reports_made key bits fields ms = map (report_made key bits fields ms) (firsts_after [] (map key ms))
 
 -- where the report with this id ends so far
 abbrev pub size_in : Option ℕ → List ReportRecord → ℕ
@@ -88,19 +89,13 @@ added_to id bits fields (r ∷ rs) =
 -- outermost first, the reports so far and how many fields they have, the open collections,
 -- outermost first, and how many were opened
 pub record StateRecord : Type 0 where
-  pub keeping : PushKeeps
+  pub push_keeps : PushKeeps
   pub item_state : ItemState
   pub stack : List ItemState
   pub descriptor : DescriptorRecord
   pub fields : ℕ
   pub opened : List CollectionRecord
   pub collections : ℕ
-
--- the reports of a direction
-abbrev pub reports_in : Direction → DescriptorRecord → List ReportRecord
-reports_in Input r = r.input
-reports_in Output r = r.output
-reports_in Feature r = r.feature
 
 -- the descriptor with other reports of a direction
 abbrev pub with_reports : Direction → List ReportRecord → DescriptorRecord → DescriptorRecord
@@ -110,12 +105,13 @@ with_reports Feature rs r = record { input = r.input; output = r.output; feature
 
 -- the id of the report that a data item of a direction adds to
 abbrev pub key_in : Direction → StateRecord → Option ℕ
-key_in d h = first_of h.item_state.report_id (first_id (reports_in d h.descriptor))
+key_in d h = first_of h.item_state.report_id (first_id (reports_of d h.descriptor))
 
 -- where its fields begin
 abbrev pub start_in : Direction → StateRecord → ℕ
-start_in d h = size_in (key_in d h) (reports_in d h.descriptor)
+start_in d h = size_in (key_in d h) (reports_of d h.descriptor)
 
+-- where the fields of a data item begin; of another item 0
 abbrev pub start_for : Option (Direction × Flags) → StateRecord → ℕ
 start_for None h = 0
 start_for (Some x) h = start_in x.0 h
@@ -139,8 +135,8 @@ abbrev pub next_reports : Direction → StateRecord → ItemType → List Report
 next_reports d h x =
     if adds d h x then added_to (key_in d h) (bits_of (extent h.item_state))
     (fields_of h.item_state h.opened h.fields (start_in d h) (data_of x) (extent h.item_state))
-    (reports_in d h.descriptor)
-    else reports_in d h.descriptor
+    (reports_of d h.descriptor)
+    else reports_of d h.descriptor
 
 -- the collection that an item opens
 abbrev pub new_collection : StateRecord → Option CollectionItem → List CollectionRecord
@@ -164,18 +160,18 @@ last_item_state f (g ∷ gs) = last_item_state g gs
 
 -- what a Push keeps of what is in force
 abbrev pub pushed_copy : PushKeeps → ItemState → ItemState
-pushed_copy push_keeps.All now = now
-pushed_copy push_keeps.Globals now = record now { locals = [] }
+pushed_copy a_push_keeps.All now = now
+pushed_copy a_push_keeps.Globals now = record now { locals = [] }
 
 -- what a Pop brings back, from what is in force there and what its Push kept
 abbrev pub after_pop : PushKeeps → ItemState → ItemState → ItemState
-after_pop push_keeps.All now stack = stack
-after_pop push_keeps.Globals now stack = record stack { locals = now.locals }
+after_pop a_push_keeps.All now kept = kept
+after_pop a_push_keeps.Globals now kept = record kept { locals = now.locals }
 
 -- what is in force behind the item
 abbrev pub item_state_behind : StateRecord → ItemType → ItemState
 item_state_behind h x =
-    if is_pop x then after_pop h.keeping h.item_state (last_item_state h.item_state h.stack)
+    if is_pop x then after_pop h.push_keeps h.item_state (last_item_state h.item_state h.stack)
     else next_item_state
     h.item_state x
 
@@ -183,12 +179,12 @@ item_state_behind h x =
 abbrev pub next_stack : StateRecord → ItemType → List ItemState
 next_stack h x =
     if is_pop x then take (length h.stack - 1) h.stack
-    else (if is_push x then h.stack ++ pushed_copy h.keeping h.item_state ∷ [] else h.stack)
+    else (if is_push x then h.stack ++ pushed_copy h.push_keeps h.item_state ∷ [] else h.stack)
 
 -- what is held behind an item without a fault
 abbrev pub next_state : StateRecord → ItemType → StateRecord
 next_state h x = record {
-  keeping = h.keeping;
+  push_keeps = h.push_keeps;
   item_state = item_state_behind h x;
   stack = next_stack h x;
   descriptor = record {
@@ -201,6 +197,7 @@ next_state h x = record {
   collections = h.collections + length (new_collection h (collection_kind_of x));
 }
 
+-- what is held, unless the item has a fault
 abbrev pub unless_fault : Option MeaningFault → StateRecord → Result StateRecord MeaningFault
 unless_fault None h = Ok h
 unless_fault (Some f) h = Err f
@@ -237,8 +234,8 @@ no_item_state by = record {
 
 -- nor is anything kept, made or open
 abbrev pub start_by : PushKeeps → UsagesBy → StateRecord
-start_by keeping by = record {
-  keeping = keeping;
+start_by push_keeps by = record {
+  push_keeps = push_keeps;
   item_state = no_item_state by;
   stack = [];
   descriptor = record { input = []; output = []; feature = [] };
@@ -247,9 +244,11 @@ start_by keeping by = record {
   collections = 0;
 }
 
+-- what is held before the first item, as it is asked for
 abbrev pub first_state : ParseOptions → StateRecord
 first_state options = start_by options.push_keeps options.usages
 
+-- the rest of the walk, unless item k has a fault
 abbrev pub go_on : Result StateRecord MeaningFault → ℕ
     → (StateRecord → Result DescriptorRecord (ℕ × MeaningFault))
     → Result DescriptorRecord (ℕ × MeaningFault)

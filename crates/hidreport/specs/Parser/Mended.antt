@@ -4,6 +4,7 @@ use Rattle.hidreport_lists.specs.Mending.{PieceRecord, item_in}
 use Rattle.hidreport.specs.Parser.Machine.{StateRecord, fault_held}
 use Rattle.hidreport.specs.Repair.{padded_by, widened_in}
 
+-- made padding where the item that it would be lacks usages here
 abbrev pub padded_in : StateRecord → PieceRecord → PieceRecord
 padded_in h p = padded_by (fault_held h (item_in p)) p
 

@@ -3,7 +3,7 @@ use Rattle.std.specs.Prelude.{◌≡◌, ◌<◌, ◌+◌, ◌-◌, true, false,
 use Rattle.std.specs.Prelude.{Option, None, Ok, [], flat_map, unwrap_or}
 use Rattle.hidreport_items.specs.Flags.{Flags}
 use Rattle.hidreport.specs.Faults.{needed_usages_fault}
-use Rattle.hidreport.specs.HostUsages.{host_spans, usages_in}
+use Rattle.hidreport.specs.HostUsages.{host_spans, span_usages}
 use Rattle.hidreport.specs.ItemState.{ItemState}
 use Rattle.hidreport.specs.MeaningFault.{MeaningFault}
 use Rattle.hidreport.specs.Parser.Locals.{usage_under}
@@ -27,13 +27,14 @@ usage_list (usages.Single page us) = record {
   usages = map (usage_under page) us.now;
   is_range = false;
 }
-usage_list (usages.Spans ss) = record { usages = flat_map usages_in ss.now; is_range = false }
+usage_list (usages.Spans ss) = record { usages = flat_map span_usages ss.now; is_range = false }
 
 -- the spans of usages that an item has as hosts read them
 abbrev pub spans_by : UsagesBy → ItemState → List UsageSpan
 spans_by usages_by.Standard f = []
 spans_by usages_by.Hosts f = host_spans (unwrap_or f.usage_page 0) f.locals
 
+-- the spans of usages in force, by the rule in force
 abbrev pub spans_in : ItemState → List UsageSpan
 spans_in f = spans_by f.usages_by f
 

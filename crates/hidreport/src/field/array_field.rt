@@ -20,14 +20,16 @@ ghost use Rattle.hidreport.specs.Views.{array_attributes, array_record};
 use crate::field::FieldId;
 use crate::field::collection::Collection;
 use crate::field::data_item::DataItem;
+use crate::field::element_numbers::ElementNumbers;
 use crate::field::field_attributes::FieldAttributes;
 use crate::field::insert_error::InsertError;
 use crate::field::usage::Usage;
 use crate::field::usage_range::UsageRange;
 use crate::field::value::{FieldValue, are_readable, check_id, read_bits};
 use crate::field::written_bits::{
-    all_fit, begins_in_id, check_place, check_written_id, fits, least_held, put_bits, put_values,
+    all_fit, begins_in_id, check_place, check_written_id, fits, put_bits, put_values,
 };
+use hidreport_items::ItemFlags;
 use hidreport_lists::ParserError;
 use hidreport_types::{
     LogicalMaximum, LogicalMinimum, PhysicalMaximum, PhysicalMinimum, ReportCount, ReportId, Unit,
@@ -148,12 +150,7 @@ impl ArrayField {
             self.now.logical_minimum self.now.logical_maximum usage result }
     {
         let index = self.index_of(usage)?;
-        let minimum = i64::from(i32::from(self.logical_minimum));
-        let maximum = i64::from(i32::from(self.logical_maximum));
-        if maximum < minimum || (maximum - minimum).unsigned_abs() < index as u64 {
-            return None;
-        }
-        Some(minimum + index as i64)
+        self.element_numbers().choosing(index)
     }
 
     /// A value that stands for no usage, and that an element's bits hold (Section 6.2.2.5); takes
@@ -178,10 +175,7 @@ impl ArrayField {
             (int_lt self.now.logical_minimum (pos 0))
             self.now.logical_minimum self.now.logical_maximum number ≡ false }
     {
-        match self.outer_null() {
-            Some(number) => Some(number),
-            None => self.least_unchosen(),
-        }
+        self.element_numbers().null_value(self.usages.len())
     }
 
     /// Whether the values can be below 0: the logical minimum is (Section 6.2.2.7).
@@ -410,89 +404,18 @@ impl ArrayField {
         None
     }
 
-    /// Whether a number lies outside the logical bounds.
-    fn is_outside(&self, number: i64) -> bool
-        ensures { result ≡ (int_lt number self.now.logical_minimum
-            || int_lt self.now.logical_maximum number) }
+    /// The numbers that an element can have.
+    fn element_numbers(&self) -> ElementNumbers
+        ensures width { result.width
+            ≡ element_width self.now.bits.start self.now.bits.end self.now.report_count }
+        ensures minimum { result.minimum ≡ self.now.logical_minimum }
+        ensures maximum { result.maximum ≡ self.now.logical_maximum }
     {
-        number < i64::from(i32::from(self.logical_minimum))
-            || i64::from(i32::from(self.logical_maximum)) < number
-    }
-
-    /// Whether a number lies outside the logical bounds and an element's bits hold it.
-    fn is_null(&self, number: i64) -> bool
-        ensures { result ≡ is_null
-            (element_width self.now.bits.start self.now.bits.end self.now.report_count)
-            (int_lt self.now.logical_minimum (pos 0))
-            self.now.logical_minimum self.now.logical_maximum number }
-    {
-        let width = self.element_width();
-        if width == 0 || 32 < width {
-            return false;
+        ElementNumbers {
+            width: self.element_width(),
+            minimum: i32::from(self.logical_minimum),
+            maximum: i32::from(self.logical_maximum),
         }
-        self.is_outside(number) && fits(width, self.is_signed(), number)
-    }
-
-    /// The first of 0, the number below the logical minimum and the one above the logical maximum
-    /// that lies outside the bounds and that an element's bits hold; none where there is no number
-    /// outside that they hold.
-    fn outer_null(&self) -> Option<i64>
-        ensures first { result ≡ null_number
-            (element_width self.now.bits.start self.now.bits.end self.now.report_count)
-            (int_lt self.now.logical_minimum (pos 0))
-            self.now.logical_minimum self.now.logical_maximum }
-        ensures none { IsNone result → (number : ℤ) → is_null
-            (element_width self.now.bits.start self.now.bits.end self.now.report_count)
-            (int_lt self.now.logical_minimum (pos 0))
-            self.now.logical_minimum self.now.logical_maximum number ≡ false }
-    {
-        let below = i64::from(i32::from(self.logical_minimum)) - 1;
-        let above = i64::from(i32::from(self.logical_maximum)) + 1;
-        if self.is_null(0) {
-            Some(0)
-        } else if self.is_null(below) {
-            Some(below)
-        } else if self.is_null(above) {
-            Some(above)
-        } else {
-            None
-        }
-    }
-
-    /// The least number that stands for no usage and that an element's bits hold, where none
-    /// outside the bounds does.
-    fn least_unchosen(&self) -> Option<i64>
-        ensures { ((number : ℤ) → is_null
-            (element_width self.now.bits.start self.now.bits.end self.now.report_count)
-            (int_lt self.now.logical_minimum (pos 0))
-            self.now.logical_minimum self.now.logical_maximum number ≡ false)
-            → IsLeastUnchosen (usages_in (array_record self.now))
-            (element_width self.now.bits.start self.now.bits.end self.now.report_count)
-            (int_lt self.now.logical_minimum (pos 0))
-            self.now.logical_minimum self.now.logical_maximum result }
-    {
-        let width = self.element_width();
-        if width == 0 || 32 < width {
-            return None;
-        }
-        let minimum = i64::from(i32::from(self.logical_minimum));
-        let maximum = i64::from(i32::from(self.logical_maximum));
-        if maximum < minimum {
-            return None;
-        }
-        let count = self.usages.len();
-        if (maximum - minimum).unsigned_abs() < count as u64 {
-            return None;
-        }
-        let is_signed = self.is_signed();
-        let number = (minimum + count as i64).max(least_held(width, is_signed));
-        if maximum < number {
-            return None;
-        }
-        if !fits(width, is_signed, number) {
-            return None;
-        }
-        Some(number)
     }
 
     /// The values of all elements, whatever the report's id.
@@ -579,28 +502,8 @@ impl ArrayField {
 impl FieldAttributes for ArrayField {
     ghost attributes = { array_attributes };
 
-    fn is_relative(&self) -> bool {
-        self.item.is_relative
-    }
-
-    fn wraps(&self) -> bool {
-        self.item.wraps
-    }
-
-    fn is_nonlinear(&self) -> bool {
-        self.item.is_nonlinear
-    }
-
-    fn has_no_preferred_state(&self) -> bool {
-        self.item.has_no_preferred_state
-    }
-
-    fn has_null_state(&self) -> bool {
-        self.item.has_null_state
-    }
-
-    fn is_buffered_bytes(&self) -> bool {
-        self.item.is_buffered_bytes
+    fn flags(&self) -> ItemFlags {
+        self.item.flags
     }
 
     fn is_volatile(&self) -> Option<bool> {

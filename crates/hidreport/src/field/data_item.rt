@@ -4,9 +4,8 @@ ghost use Rattle.hidreport_items.specs.declared.item.ItemType.TheVariants as ite
 ghost use Rattle.hidreport_items.specs.declared.main_item.MainItem.TheVariants as main;
 ghost use Rattle.hidreport.specs.Fields.{field_count, volatile_in};
 ghost use Rattle.hidreport.specs.Parser.DataItem.{as_item};
-ghost use Rattle.hidreport.specs.Views.{direction_of, item_flags};
 
-use hidreport_items::{FeatureItem, InputItem, MainDataItem, OutputItem};
+use hidreport_items::{FeatureItem, InputItem, ItemFlags, MainDataItem, OutputItem};
 
 /// The three directions in which reports go (Section 6.2.2.4).
 #[derive(Clone, Copy, Debug, PartialEq, Eq)]
@@ -30,92 +29,37 @@ impl Direction {
 #[derive(Clone, Copy, Debug)]
 pub(crate) struct DataItem {
     pub(crate) direction: Direction,
-    pub(crate) is_constant: bool,
-    pub(crate) is_variable: bool,
-    pub(crate) is_relative: bool,
-    pub(crate) wraps: bool,
-    pub(crate) is_nonlinear: bool,
-    pub(crate) has_no_preferred_state: bool,
-    pub(crate) has_null_state: bool,
-    pub(crate) is_buffered_bytes: bool,
 
-    /// Off for an Input, which has no such flag.
-    pub(crate) is_volatile: bool,
+    /// Those of the item; Volatile is off for an Input, which has no such flag.
+    pub(crate) flags: ItemFlags,
 }
 
 impl DataItem {
-    /// The item of this direction with the flags of another.
-    fn new<M: MainDataItem>(direction: Direction, item: &M, is_volatile: bool) -> DataItem
-        ensures direction { result.direction ≡ direction }
-        ensures flags { item_flags result ≡ record (M.flags item.now) { volatile = is_volatile } }
-    {
-        DataItem {
-            direction,
-            is_constant: item.is_constant(),
-            is_variable: item.is_variable(),
-            is_relative: item.is_relative(),
-            wraps: item.wraps(),
-            is_nonlinear: item.is_nonlinear(),
-            has_no_preferred_state: item.has_no_preferred_state(),
-            has_null_state: item.has_null_state(),
-            is_buffered_bytes: item.is_buffered_bytes(),
-            is_volatile,
-        }
-    }
-
     /// The volatile flag; an Input has none.
     pub(crate) fn volatile(&self) -> Option<bool>
-        ensures { result ≡ volatile_in (direction_of self.now.direction) self.now.is_volatile }
+        ensures { result ≡ volatile_in self.now.direction self.now.flags.volatile }
     {
         match self.direction {
             Direction::Input => None,
-            Direction::Output | Direction::Feature => Some(self.is_volatile),
+            Direction::Output | Direction::Feature => Some(self.flags.is_volatile),
         }
     }
 
     /// Whether the fields of another item have the same flags.
     pub(crate) fn is_alike(&self, other: &DataItem) -> bool
-        ensures { IsTrue result ↔ ((self.now.is_relative ≡ other.now.is_relative)
-            × (self.now.wraps ≡ other.now.wraps)
-            × (self.now.is_nonlinear ≡ other.now.is_nonlinear)
-            × (self.now.has_no_preferred_state ≡ other.now.has_no_preferred_state)
-            × (self.now.has_null_state ≡ other.now.has_null_state)
-            × (self.now.is_buffered_bytes ≡ other.now.is_buffered_bytes)
-            × (volatile_in (direction_of self.now.direction) self.now.is_volatile
-            ≡ volatile_in (direction_of other.now.direction) other.now.is_volatile)) }
+        ensures { IsTrue result ↔ ((self.now.flags ≡ other.now.flags)
+            × (volatile_in self.now.direction self.now.flags.volatile
+            ≡ volatile_in other.now.direction other.now.flags.volatile)) }
     {
-        self.counts_as(other) && self.rests_as(other) && self.volatile() == other.volatile()
-    }
-
-    /// Whether values of another item are counted alike.
-    fn counts_as(&self, other: &DataItem) -> bool
-        ensures { IsTrue result ↔ ((self.now.is_relative ≡ other.now.is_relative)
-            × (self.now.wraps ≡ other.now.wraps)
-            × (self.now.is_nonlinear ≡ other.now.is_nonlinear)) }
-    {
-        self.is_relative == other.is_relative
-            && self.wraps == other.wraps
-            && self.is_nonlinear == other.is_nonlinear
-    }
-
-    /// Whether another item has the same states, and is a stream of bytes where this is one.
-    fn rests_as(&self, other: &DataItem) -> bool
-        ensures { IsTrue result ↔
-            ((self.now.has_no_preferred_state ≡ other.now.has_no_preferred_state)
-            × (self.now.has_null_state ≡ other.now.has_null_state)
-            × (self.now.is_buffered_bytes ≡ other.now.is_buffered_bytes)) }
-    {
-        self.has_no_preferred_state == other.has_no_preferred_state
-            && self.has_null_state == other.has_null_state
-            && self.is_buffered_bytes == other.is_buffered_bytes
+        self.flags == other.flags && self.volatile() == other.volatile()
     }
 
     /// How many fields the item makes where `count` elements are announced: one for padding and
     /// for an array, which has them all.
     pub(crate) fn field_count(&self, count: usize) -> usize
-        ensures { result ≡ field_count (item_flags self.now) count }
+        ensures { result ≡ field_count self.now.flags count }
     {
-        if self.is_variable && !self.is_constant {
+        if self.flags.is_variable && !self.flags.is_constant {
             count
         } else {
             1
@@ -128,7 +72,13 @@ impl From<InputItem> for DataItem {
         as_item x ≡ item.Main (main.Input (record i { volatile = false })) };
 
     fn from(item: InputItem) -> DataItem {
-        DataItem::new(Direction::Input, &item, false)
+        DataItem {
+            direction: Direction::Input,
+            flags: ItemFlags {
+                is_volatile: false,
+                ..item.flags()
+            },
+        }
     }
 }
 
@@ -136,7 +86,10 @@ impl From<OutputItem> for DataItem {
     ghost from_gives = { λ i x. as_item x ≡ item.Main (main.Output i) };
 
     fn from(item: OutputItem) -> DataItem {
-        DataItem::new(Direction::Output, &item, item.is_volatile())
+        DataItem {
+            direction: Direction::Output,
+            flags: item.flags(),
+        }
     }
 }
 
@@ -144,6 +97,9 @@ impl From<FeatureItem> for DataItem {
     ghost from_gives = { λ i x. as_item x ≡ item.Main (main.Feature i) };
 
     fn from(item: FeatureItem) -> DataItem {
-        DataItem::new(Direction::Feature, &item, item.is_volatile())
+        DataItem {
+            direction: Direction::Feature,
+            flags: item.flags(),
+        }
     }
 }

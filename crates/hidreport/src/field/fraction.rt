@@ -13,15 +13,11 @@ pub struct Fraction {
 }
 
 impl Fraction {
-    /// The number at a value on the line that is `first` at `low` and `last` at `high`; none where
-    /// `low` isn't below `high`.
-    pub(crate) fn on_line(
-        value: i64,
-        low: i32,
-        high: i32,
-        first: i32,
-        last: i32,
-    ) -> Option<Fraction>
+    /// The number at a value on the line that is `first` at `low` and `last` at `high`
+    /// (Section 6.2.2.7); `None` where `low` isn't below `high`.
+    ///
+    /// The denominator is the distance from `low` to `high`.
+    pub fn on_line(value: i64, low: i32, high: i32, first: i32, last: i32) -> Option<Fraction>
         ensures { result ≡ on_line low high first last value }
     {
         if low < high {

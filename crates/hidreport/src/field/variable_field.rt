@@ -19,6 +19,7 @@ use crate::field::insert_error::InsertError;
 use crate::field::usage::Usage;
 use crate::field::value::{FieldValue, check_id, read_bits};
 use crate::field::written_bits::{check_place, fits, put_bits};
+use hidreport_items::ItemFlags;
 use hidreport_lists::ParserError;
 use hidreport_types::{
     LogicalMaximum, LogicalMinimum, PhysicalMaximum, PhysicalMinimum, ReportId, Unit, UnitExponent,
@@ -264,28 +265,8 @@ fn are_unset(first: i32, last: i32) -> bool
 impl FieldAttributes for VariableField {
     ghost attributes = { variable_attributes };
 
-    fn is_relative(&self) -> bool {
-        self.item.is_relative
-    }
-
-    fn wraps(&self) -> bool {
-        self.item.wraps
-    }
-
-    fn is_nonlinear(&self) -> bool {
-        self.item.is_nonlinear
-    }
-
-    fn has_no_preferred_state(&self) -> bool {
-        self.item.has_no_preferred_state
-    }
-
-    fn has_null_state(&self) -> bool {
-        self.item.has_null_state
-    }
-
-    fn is_buffered_bytes(&self) -> bool {
-        self.item.is_buffered_bytes
+    fn flags(&self) -> ItemFlags {
+        self.item.flags
     }
 
     fn is_volatile(&self) -> Option<bool> {

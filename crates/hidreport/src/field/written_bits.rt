@@ -53,8 +53,8 @@ pub(crate) fn begins_in_id(report_id: &Option<ReportId>, first: usize) -> bool
     report_id.is_some() && first < 8
 }
 
-/// Whether so many bits hold the number, signed or not.
-pub(crate) fn fits(width: usize, is_signed: bool, number: i64) -> bool
+/// Whether so many bits, 1 to 32, hold the number, signed or not (Section 5.8).
+pub fn fits(width: usize, is_signed: bool, number: i64) -> bool
     requires some { 0 < width }
     requires narrow { width ≤ 32 }
     ensures { result ≡ fits width is_signed number }
@@ -77,8 +77,8 @@ pub(crate) fn least_held(width: usize, is_signed: bool) -> i64
     if is_signed { -(1 << (width - 1)) } else { 0 }
 }
 
-/// Whether so many bits hold each of these numbers, signed or not.
-pub(crate) fn all_fit(width: usize, is_signed: bool, numbers: &[i64]) -> bool
+/// Whether so many bits, 1 to 32, hold each of these numbers, signed or not (Section 5.8).
+pub fn all_fit(width: usize, is_signed: bool, numbers: &[i64]) -> bool
     requires some { length numbers.now ≢ 0 → 0 < width }
     requires narrow { length numbers.now ≢ 0 → width ≤ 32 }
     ensures { result ≡ list_all (fits width is_signed) numbers.now }
@@ -91,8 +91,11 @@ pub(crate) fn all_fit(width: usize, is_signed: bool, numbers: &[i64]) -> bool
     true
 }
 
-/// Puts numbers, each of so many bits, in place of the bits from `first` on; all others stay.
-pub(crate) fn put_values(bytes: &mut [u8], first: usize, width: usize, numbers: &[i64])
+/// Writes numbers, each in so many bits, 1 to 32, in place of the bits from `first` on, which all lie
+/// in the bytes; no other bit changes (Section 5.8).
+///
+/// Each number's bits are the low ones of its two's complement, the lowest first.
+pub fn put_values(bytes: &mut [u8], first: usize, width: usize, numbers: &[i64])
     requires some { length numbers.now ≢ 0 → 0 < width }
     requires narrow { length numbers.now ≢ 0 → width ≤ 32 }
     requires within { length numbers.now ≢ 0

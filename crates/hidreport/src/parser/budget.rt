@@ -3,7 +3,6 @@ ghost use Rattle.std.specs.Option.{SomeIff};
 ghost use Rattle.std.specs.Prelude.{◌≡◌, ◌*◌, ◌-◌, ◌≤◌, ◌^◌, length};
 ghost use Rattle.hidreport.specs.Parser.Budget.{weight_of_each};
 ghost use Rattle.hidreport.specs.Parser.Usages.{usage_list};
-ghost use Rattle.hidreport.specs.Views.{item_flags};
 
 use crate::field::data_item::DataItem;
 use crate::parser::fault::Fault;
@@ -68,11 +67,11 @@ fn left_behind(left: usize, count: usize, each: u128) -> Option<usize>
 pub(crate) fn weight_of_each(item: &DataItem, usages: &Usages, around: u128) -> u128
     requires { around ≤ 2 ^ 96 }
     ensures { result
-        ≡ weight_of_each (item_flags item.now) (length (usage_list usages.now).usages) around }
+        ≡ weight_of_each item.now.flags (length (usage_list usages.now).usages) around }
 {
-    if item.is_constant {
+    if item.flags.is_constant {
         1
-    } else if item.is_variable {
+    } else if item.flags.is_variable {
         1 + around
     } else {
         1 + (usages.count() + around)

@@ -33,7 +33,7 @@ impl GroupUsages {
     ghost use Rattle.std.specs.Prelude.{◌≡◌, ◌++◌, [], IfOk, IfSome, IsNone, OnOk, map, option_map};
     ghost use Rattle.std.specs.Prelude.{false, flat_map, slice_get};
     ghost use Rattle.hidreport.specs.Fields.{usage_at};
-    ghost use Rattle.hidreport.specs.HostUsages.{usages_in};
+    ghost use Rattle.hidreport.specs.HostUsages.{span_usages};
     ghost use Rattle.hidreport.specs.Parser.Groups.{HasFirst, own_usages};
     ghost use Rattle.hidreport.specs.Parser.Layout.{IsPossible, laid_out};
     ghost use Rattle.hidreport.specs.Parser.Usages.{usage_list};
@@ -55,7 +55,7 @@ impl GroupUsages {
     /// All usages of spans.
     fn of_spans(alloc: Global, spans: &[UsageSpan]) -> Result<GroupUsages, AllocError>
         ensures { IfOk result (λ own. own_usages own
-            ≡ record { usages = flat_map usages_in spans.now; is_range = false }) }
+            ≡ record { usages = flat_map span_usages spans.now; is_range = false }) }
     {
         if spans.len() <= FEW_SPANS {
             return Ok(GroupUsages::Spans(copied(alloc, spans)?));
@@ -103,7 +103,7 @@ impl GroupUsages {
         most: usize,
     ) -> Result<GroupUsages, AllocError>
         ensures { IfOk result (λ own. HasFirst most (own_usages own)
-            (record { usages = flat_map usages_in spans.now; is_range = false })) }
+            (record { usages = flat_map span_usages spans.now; is_range = false })) }
     {
         if spans.len() <= FEW_SPANS {
             return Ok(GroupUsages::Spans(copied(alloc, spans)?));

@@ -3,7 +3,7 @@ ghost use Rattle.std.specs.Prelude.{◌≡◌, ◌<◌, ◌≤◌, ◌++◌, ◌
 ghost use Rattle.std.specs.List.{list_any};
 ghost use Rattle.hidreport.specs.Fields.{usage_at};
 ghost use Rattle.hidreport.specs.HostUsages.{completed, first_set, host_spans, minimum_behind};
-ghost use Rattle.hidreport.specs.HostUsages.{opens_set, span_of, spans, usages_in};
+ghost use Rattle.hidreport.specs.HostUsages.{opens_set, span_of, spans, span_usages};
 
 use crate::field::usage::Usage;
 use crate::parser::paged_local::PagedLocal;
@@ -100,7 +100,7 @@ fn complete(page: UsagePage, spans: &mut [UsageSpan])
     let mut index = spans.len();
     while index > 0 {
         let span = spans[index - 1];
-        if span.is_on(page) {
+        if span.lies_on(page) {
             return;
         }
         spans[index - 1] = span.moved_to(page);
@@ -110,7 +110,7 @@ fn complete(page: UsagePage, spans: &mut [UsageSpan])
 
 /// How many usages they are.
 pub(crate) fn count(spans: &[UsageSpan]) -> u128
-    ensures count { result ≡ length (flat_map usages_in spans.now) }
+    ensures count { result ≡ length (flat_map span_usages spans.now) }
     ensures bound { result ≤ 2 ^ 96 }
 {
     let mut total = 0;
@@ -122,8 +122,8 @@ pub(crate) fn count(spans: &[UsageSpan]) -> u128
 
 /// Usage number `c`, or the last one where there are fewer.
 pub(crate) fn usage_at(spans: &[UsageSpan], c: usize) -> Usage
-    requires { 0 < length (flat_map usages_in spans.now) }
-    ensures { result ≡ usage_at (flat_map usages_in spans.now) c }
+    requires { 0 < length (flat_map span_usages spans.now) }
+    ensures { result ≡ usage_at (flat_map span_usages spans.now) c }
 {
     let mut before = c as u64;
     let mut last = Usage::from_page_and_id(UsagePage::from(0), UsageId::from(0));
@@ -142,7 +142,7 @@ pub(crate) fn usage_at(spans: &[UsageSpan], c: usize) -> Usage
 
 /// All of them in a list.
 pub(crate) fn list(alloc: Global, spans: &[UsageSpan]) -> Result<Vec<Usage>, AllocError>
-    ensures { IfOk result (λ list. list.items ≡ flat_map usages_in spans.now) }
+    ensures { IfOk result (λ list. list.items ≡ flat_map span_usages spans.now) }
 {
     let mut list = Vec::new(alloc);
     for span in spans {
@@ -157,7 +157,7 @@ pub(crate) fn list_first(
     spans: &[UsageSpan],
     most: usize,
 ) -> Result<Vec<Usage>, AllocError>
-    ensures { IfOk result (λ list. list.items ≡ take most (flat_map usages_in spans.now)) }
+    ensures { IfOk result (λ list. list.items ≡ take most (flat_map span_usages spans.now)) }
 {
     let mut list = Vec::new(alloc);
     let mut room = most as u64;
@@ -171,8 +171,8 @@ pub(crate) fn list_first(
 
 /// Adds so many usages of a span, the first ones.
 fn push_usages(list: &mut Vec<Usage>, span: &UsageSpan, count: u64) -> Result<(), AllocError>
-    requires { count ≤ length (usages_in span.now) }
-    ensures { OnOk result (list.new.items ≡ list.old.items ++ take count (usages_in span.now)) }
+    requires { count ≤ length (span_usages span.now) }
+    ensures { OnOk result (list.new.items ≡ list.old.items ++ take count (span_usages span.now)) }
 {
     list.reserve(count as usize)?;
     for behind in 0..count {

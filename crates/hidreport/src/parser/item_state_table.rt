@@ -1,6 +1,6 @@
 //! The item state table (Section 6.2.2.7), and what each open Push keeps of it.
 use crate::parser::globals::Globals;
-use crate::parser::journal::{Change, Journal};
+use crate::parser::journal::{Journal, Undo};
 use crate::parser::locals::Locals;
 use crate::parser::paged_local::PagedLocal;
 use crate::parser::push_keeps::PushKeeps;
@@ -14,7 +14,7 @@ use std::marker::Model;
 /// replaced inside open Pushes.
 #[derive(Drop)]
 pub(crate) struct ItemStateTable {
-    keeping: PushKeeps,
+    push_keeps: PushKeeps,
     usages_by: UsagesBy,
     globals: Globals,
     locals: Locals,
@@ -29,12 +29,12 @@ impl Model for ItemStateTable {
     ghost Value = { ItemStates };
 
     ghost view = { λ f. record {
-      keeping = f.keeping;
+      push_keeps = f.push_keeps;
       now = item_state_of f.usages_by f.globals f.locals;
-      stack = reverse (undone_stack f.keeping f.usages_by f.journal f.globals f.locals);
+      stack = reverse (undone_stack f.push_keeps f.usages_by f.journal f.globals f.locals);
     } };
 
-    ghost invariant = { λ f. Fits f.keeping f.journal f.locals };
+    ghost invariant = { λ f. Fits f.push_keeps f.journal f.locals };
 }
 
 impl ItemStateTable {
@@ -46,12 +46,12 @@ impl ItemStateTable {
     ghost use Rattle.hidreport.specs.Parser.Machine.{next_item_state, no_item_state};
 
     /// Before the first item.
-    pub(crate) fn new(alloc: Global, keeping: PushKeeps, usages_by: UsagesBy) -> ItemStateTable
+    pub(crate) fn new(alloc: Global, push_keeps: PushKeeps, usages_by: UsagesBy) -> ItemStateTable
         ensures { result
-            ≡ record { keeping = keeping; now = no_item_state usages_by; stack = [] } }
+            ≡ record { push_keeps = push_keeps; now = no_item_state usages_by; stack = [] } }
     {
         ItemStateTable {
-            keeping,
+            push_keeps,
             usages_by,
             globals: Globals::new(),
             locals: Locals::new(alloc),
@@ -115,7 +115,7 @@ impl ItemStateTable {
     /// Keeps for the Pop of a Push what is in force, of locals and globals or of globals alone.
     pub(crate) fn push(&mut self) -> Result<(), AllocError>
         ensures { OnOk result (self.new ≡ record self.old {
-          stack = self.old.stack ++ pushed_copy self.old.keeping self.old.now ∷ [];
+          stack = self.old.stack ++ pushed_copy self.old.push_keeps self.old.now ∷ [];
         }) }
     {
         self.journal.push(self.locals.len())
@@ -126,22 +126,22 @@ impl ItemStateTable {
     pub(crate) fn pop(&mut self) -> bool
         ensures open { IsTrue result → 0 < length self.old.stack }
         ensures back { IsTrue result → self.new ≡ record {
-          keeping = self.old.keeping;
-          now = after_pop self.old.keeping self.old.now (last_item_state self.old.now self.old.stack);
+          push_keeps = self.old.push_keeps;
+          now = after_pop self.old.push_keeps self.old.now (last_item_state self.old.now self.old.stack);
           stack = take (length self.old.stack - 1) self.old.stack;
         } }
         ensures none { result ≡ false → self.old.stack ≡ [] }
     {
-        let has_locals = self.keeping.has_locals();
+        let has_locals = self.push_keeps.has_locals();
         while let Some(entry) = self.journal.undo() {
             match entry {
-                Change::Globals(old) => self.globals = old,
-                Change::Locals(old) => {
+                Undo::Globals(old) => self.globals = old,
+                Undo::Locals(old) => {
                     if has_locals {
                         self.locals = old;
                     }
                 }
-                Change::Push(locals) => {
+                Undo::Push(locals) => {
                     if has_locals {
                         self.locals.truncate(locals);
                     }

@@ -8,12 +8,12 @@ use std::marker::Model;
 /// (Section 6.2.2.7). Outside every Push it is empty: nothing has to be taken back.
 #[derive(Drop)]
 pub(crate) struct Journal {
-    entries: Vec<Change>,
+    entries: Vec<Undo>,
 }
 
 /// What one change replaced, or where a Push stands.
 #[derive(Drop)]
-pub(crate) enum Change {
+pub(crate) enum Undo {
     /// A Push, and how many local items were in force there: where a Push keeps locals, those that
     /// are added behind it are cut off again. Its Pop drops it, last of all that it takes back.
     Push(usize),
@@ -26,17 +26,17 @@ pub(crate) enum Change {
 
 impl Model for Journal {
     ghost use Rattle.std.specs.Prelude.{List, map, reverse};
-    ghost use Rattle.hidreport.specs.Parser.Journal.{ChangeRecord, change_of};
+    ghost use Rattle.hidreport.specs.Parser.Journal.{UndoRecord, undo_record};
 
-    ghost Value = { List ChangeRecord };
+    ghost Value = { List UndoRecord };
 
-    ghost view = { λ j. reverse (map change_of j.entries.items) };
+    ghost view = { λ j. reverse (map undo_record j.entries.items) };
 }
 
 impl Journal {
     ghost use Rattle.std.specs.Prelude.{◌≡◌, [], ◌∷◌, Some, None, false, IfSome, OnErr, OnOk};
     ghost use Rattle.std.specs.Prelude.{IsNone, IsTrue};
-    ghost use Rattle.hidreport.specs.Parser.Journal.{change_of, with_change, Opened, WasGlobals};
+    ghost use Rattle.hidreport.specs.Parser.Journal.{undo_record, with_undo, Opened, WasGlobals};
     ghost use Rattle.hidreport.specs.Parser.Journal.{WasLocals};
 
     /// No Push is open.
@@ -61,24 +61,24 @@ impl Journal {
         ensures ok { OnOk result (self.new ≡ Opened locals ∷ self.old) }
         ensures err { OnErr result (self.new ≡ self.old) }
     {
-        self.entries.push(Change::Push(locals))?;
+        self.entries.push(Undo::Push(locals))?;
         Ok(())
     }
 
     /// Remembers the globals before one is set, where a Push is open.
     pub(crate) fn note_globals(&mut self, globals: Globals) -> Result<(), AllocError>
-        ensures ok { OnOk result (self.new ≡ with_change (WasGlobals globals) self.old) }
+        ensures ok { OnOk result (self.new ≡ with_undo (WasGlobals globals) self.old) }
         ensures err { OnErr result (self.new ≡ self.old) }
     {
         if self.is_open() {
-            self.entries.push(Change::Globals(globals))?;
+            self.entries.push(Undo::Globals(globals))?;
         }
         Ok(())
     }
 
     /// Ends the local items. Where a Push is open they are moved into the journal.
     pub(crate) fn end_locals(&mut self, locals: &mut Locals) -> Result<(), AllocError>
-        ensures ok { OnOk result (self.new ≡ with_change (WasLocals locals.old) self.old) }
+        ensures ok { OnOk result (self.new ≡ with_undo (WasLocals locals.old) self.old) }
         ensures ended { OnOk result (locals.new ≡ []) }
         ensures err { OnErr result ((self.new ≡ self.old) × (locals.new ≡ locals.old)) }
     {
@@ -87,13 +87,13 @@ impl Journal {
             return Ok(());
         }
         self.entries.reserve(1)?;
-        self.entries.push(Change::Locals(locals.take()))?;
+        self.entries.push(Undo::Locals(locals.take()))?;
         Ok(())
     }
 
     /// Takes the newest entry; none where no Push is open.
-    pub(crate) fn undo(&mut self) -> Option<Change>
-        ensures some { IfSome result (λ entry. self.old ≡ change_of entry ∷ self.new) }
+    pub(crate) fn undo(&mut self) -> Option<Undo>
+        ensures some { IfSome result (λ entry. self.old ≡ undo_record entry ∷ self.new) }
         ensures none { IsNone result → (self.old ≡ []) × (self.new ≡ []) }
     {
         self.entries.pop()

@@ -1,7 +1,6 @@
 //! Where the fields of a data item lie, and what they share (Sections 6.2.2.4 and 6.2.2.5).
 ghost use Rattle.std.specs.Prelude.{◌≡◌, ◌<◌, length};
 ghost use Rattle.hidreport.specs.Fields.{usage_at};
-ghost use Rattle.hidreport.specs.Views.{item_flags};
 
 use crate::field::array_field::ArrayField;
 use crate::field::collection::Collection;
@@ -80,9 +79,9 @@ impl Layout {
         ensures { OnOk result (map field_record fields.new.items
             ≡ map field_record fields.old.items ++ laid_out self.now (usage_list usages.now)) }
     {
-        if self.item.is_constant {
+        if self.item.flags.is_constant {
             fields.push(self.constant_field())?;
-        } else if self.item.is_variable {
+        } else if self.item.flags.is_variable {
             self.add_elements(alloc, usages, fields)?;
         } else {
             fields.push(self.array_field(alloc, usages)?)?;
@@ -105,10 +104,10 @@ impl Layout {
         if c >= item.field_count(self.count) {
             return Ok(None);
         }
-        if item.is_constant {
+        if item.flags.is_constant {
             return Ok(Some(self.constant_field()));
         }
-        if !item.is_variable {
+        if !item.flags.is_variable {
             return Ok(Some(self.array_field(alloc, usages)?));
         }
         let collections = self.shared_collections(alloc)?;

@@ -123,12 +123,12 @@ impl OpenCollections {
         item: &DataItem,
     ) -> Result<Option<ArcSlice<Collection>>, AllocError>
         ensures all { IfOk result (λ shared.
-            item.now.is_constant ≡ false → shared_list shared ≡ self.old.list) }
+            item.now.flags.constant ≡ false → shared_list shared ≡ self.old.list) }
         ensures list { IfOk result (λ shared.
             IfSome shared (λ list. arc_slice_items list ≡ self.old.list)) }
         ensures same { self.new ≡ self.old }
     {
-        if item.is_constant {
+        if item.flags.is_constant {
             return Ok(None);
         }
         if let Some(shared) = mem::replace(&mut self.shared, None) {

@@ -13,12 +13,12 @@ pub enum PushKeeps {
 
 impl PushKeeps {
     ghost use Rattle.std.specs.Prelude.{◌≡◌, false, IsTrue};
-    ghost use Rattle.hidreport.specs.declared.parser.push_keeps.PushKeeps.TheVariants as push_keeps;
+    ghost use Rattle.hidreport.specs.declared.parser.push_keeps.PushKeeps.TheVariants as a_push_keeps;
 
     /// Whether local items are kept, too.
     pub(crate) fn has_locals(self) -> bool
-        ensures all { IsTrue result → self ≡ push_keeps.All }
-        ensures globals { result ≡ false → self ≡ push_keeps.Globals }
+        ensures all { IsTrue result → self ≡ a_push_keeps.All }
+        ensures globals { result ≡ false → self ≡ a_push_keeps.Globals }
     {
         match self {
             PushKeeps::All => true,

@@ -2,7 +2,7 @@
 ghost use Rattle.std.specs.Prelude.{◌≡◌, ◌+◌, ◌<◌, ◌^◌, OnOk};
 
 use crate::parser::layout::Layout;
-use crate::parser::slot::{Slot, add_fields, size_at, slot_of, widened};
+use crate::parser::slot::{Room, Slot, add_fields, size_at, slot_of, widened};
 use crate::parser::usages::Usages;
 use crate::report::outline_report::OutlineReport;
 use hidreport_types::ReportId;
@@ -53,20 +53,15 @@ impl ReportList {
         }
     }
 
-    /// The report that a field with this id in force goes to: without one to the first.
-    pub(crate) fn slot_of(&self, id: Option<ReportId>) -> Slot
-        ensures key { result.key ≡ first_of id (first_id self.now) }
-        ensures index { result.index ≡ index_in result.key self.now }
+    /// Where fields with this id in force begin: without one in the first report.
+    pub(crate) fn begin(&self, id: Option<ReportId>) -> Room
+        ensures key { result.slot.key ≡ first_of id (first_id self.now) }
+        ensures index { result.slot.index ≡ index_in result.slot.key self.now }
+        ensures first { result.first_bit ≡ size_in result.slot.key self.now }
     {
-        slot_of(&self.reports, self.last, self.ids_below, id)
-    }
-
-    /// Where the report that `slot` names ends so far.
-    pub(crate) fn size_at(&self, slot: Slot) -> usize
-        requires { slot.index ≡ index_in slot.key self.now }
-        ensures { result ≡ size_in slot.key self.now }
-    {
-        size_at(&self.reports, slot)
+        let slot = slot_of(&self.reports, self.last, self.ids_below, id);
+        let first_bit = size_at(&self.reports, &slot);
+        Room { slot, first_bit }
     }
 
     /// Adds an item's fields, which take so many bits, to the report that `slot` names.

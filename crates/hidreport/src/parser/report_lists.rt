@@ -2,9 +2,10 @@
 use crate::field::data_item::Direction;
 use crate::parser::layout::Layout;
 use crate::parser::report_list::ReportList;
-use crate::parser::slot::Slot;
+use crate::parser::slot::{Room, Slot};
 use crate::parser::usages::Usages;
 use crate::report::outline_reports::OutlineReports;
+use hidreport_types::ReportId;
 use std::alloc::{AllocError, Global};
 use std::marker::Model;
 
@@ -26,11 +27,12 @@ impl Model for ReportLists {
 
 impl ReportLists {
     ghost use Rattle.std.specs.Prelude.{◌≡◌, ◌+◌, ◌<◌, ◌^◌, [], OnOk};
+    ghost use Rattle.hidreport.specs.ItemState.{first_of};
     ghost use Rattle.hidreport.specs.Parser.Layout.{IsPossible, laid_out};
-    ghost use Rattle.hidreport.specs.Parser.Machine.{added_to, index_in, reports_in, size_in};
+    ghost use Rattle.hidreport.specs.Lookup.{reports_of};
+    ghost use Rattle.hidreport.specs.Parser.Machine.{added_to, first_id, index_in, size_in};
     ghost use Rattle.hidreport.specs.Parser.Machine.{with_reports};
     ghost use Rattle.hidreport.specs.Parser.Usages.{usage_list};
-    ghost use Rattle.hidreport.specs.Views.{direction_of};
 
     /// There are none. It takes no memory.
     pub(crate) fn new(alloc: Global) -> ReportLists
@@ -43,14 +45,19 @@ impl ReportLists {
         }
     }
 
-    /// Those of a direction.
-    pub(crate) fn of(&self, direction: Direction) -> &ReportList
-        ensures { result.now ≡ reports_in (direction_of direction) self.now }
+    /// Where fields of a direction begin with this id in force: without one in the first report.
+    pub(crate) fn begin(&self, direction: Direction, id: Option<ReportId>) -> Room
+        ensures key { result.slot.key
+            ≡ first_of id (first_id (reports_of direction self.now)) }
+        ensures index { result.slot.index
+            ≡ index_in result.slot.key (reports_of direction self.now) }
+        ensures first { result.first_bit
+            ≡ size_in result.slot.key (reports_of direction self.now) }
     {
         match direction {
-            Direction::Input => &self.input,
-            Direction::Output => &self.output,
-            Direction::Feature => &self.feature,
+            Direction::Input => self.input.begin(id),
+            Direction::Output => self.output.begin(id),
+            Direction::Feature => self.feature.begin(id),
         }
     }
 
@@ -64,13 +71,13 @@ impl ReportLists {
         layout: &Layout,
         usages: &Usages,
     ) -> Result<(), AllocError>
-        requires slot { let old = reports_in (direction_of layout.now.item.direction) self.old in
+        requires slot { let old = reports_of layout.now.item.direction self.old in
             slot.index ≡ index_in slot.key old }
-        requires bits { let old = reports_in (direction_of layout.now.item.direction) self.old in
+        requires bits { let old = reports_of layout.now.item.direction self.old in
             size_in slot.key old + bits < 2 ^ 64 }
         requires possible { IsPossible layout.now (usage_list usages.now) }
-        ensures { let old = reports_in (direction_of layout.now.item.direction) self.old in
-            OnOk result (self.new ≡ with_reports (direction_of layout.now.item.direction)
+        ensures { let old = reports_of layout.now.item.direction self.old in
+            OnOk result (self.new ≡ with_reports layout.now.item.direction
             (added_to slot.key bits (laid_out layout.now (usage_list usages.now)) old) self.old) }
     {
         match layout.item.direction {

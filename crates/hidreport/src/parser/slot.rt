@@ -25,6 +25,13 @@ pub(crate) struct Slot {
     pub(crate) index: usize,
 }
 
+/// Where an item's fields begin: the report that they go to, and its first bit that is free.
+#[derive(Clone, Copy)]
+pub(crate) struct Room {
+    pub(crate) slot: Slot,
+    pub(crate) first_bit: usize,
+}
+
 /// The report that a field with this id in force goes to: without one to the first. The reports are
 /// gone over only where it is neither that of the last slot nor past all ids.
 pub(crate) fn slot_of(
@@ -124,9 +131,9 @@ fn id_bits(id: Option<ReportId>) -> usize
 }
 
 /// Where the report that `slot` names ends so far.
-pub(crate) fn size_at(reports: &[OutlineReport], slot: Slot) -> usize
-    requires { slot.index ≡ index_in slot.key reports.now }
-    ensures { result ≡ size_in slot.key reports.now }
+pub(crate) fn size_at(reports: &[OutlineReport], slot: &Slot) -> usize
+    requires { slot.now.index ≡ index_in slot.now.key reports.now }
+    ensures { result ≡ size_in slot.now.key reports.now }
 {
     if slot.index < reports.len() {
         let report = &reports[slot.index];

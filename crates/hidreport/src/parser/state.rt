@@ -3,7 +3,6 @@ ghost use Rattle.std.specs.Prelude.{◌≡◌, ◌≢◌, ◌+◌, ◌*◌, ◌<
 ghost use Rattle.std.specs.Prelude.{OnOk};
 ghost use Rattle.hidreport.specs.Parser.Refusals.{IsFaultOf, fault_named};
 ghost use Rattle.hidreport.specs.Parser.Usages.{HasUsages, spans_in, usages_fault};
-ghost use Rattle.hidreport.specs.Views.{item_flags};
 
 use crate::field::data_item::DataItem;
 use crate::parse_options::ParseOptions;
@@ -41,7 +40,7 @@ impl Model for State {
     ghost Value = { StateRecord };
 
     ghost view = { λ s. record {
-      keeping = s.item_states.keeping;
+      push_keeps = s.item_states.push_keeps;
       item_state = s.item_states.now;
       stack = s.item_states.stack;
       descriptor = s.reports;
@@ -207,10 +206,8 @@ impl State {
             Ok(usages) => usages,
             Err(fault) => return Err(fault),
         };
-        let reports = self.reports.of(item.direction);
-        let slot = reports.slot_of(globals.report_id);
-        let first_bit = reports.size_at(slot);
-        let bits = bits_within(first_bit, extent.size, extent.count)?;
+        let room = self.reports.begin(item.direction, globals.report_id);
+        let bits = bits_within(room.first_bit, extent.size, extent.count)?;
         let field_count = item.field_count(extent.count) as u64;
         if field_count > FIELD_IDS || self.field_count > FIELD_IDS - field_count {
             return Err(Fault::OutOfBounds);
@@ -224,11 +221,11 @@ impl State {
             item: *item,
             collections: self.collections.shared_by(alloc, item)?,
             first_id: self.field_count,
-            first_bit,
+            first_bit: room.first_bit,
             size: extent.size,
             count: extent.count,
         };
-        self.reports.add(alloc, slot, bits, &layout, &usages)?;
+        self.reports.add(alloc, room.slot, bits, &layout, &usages)?;
         self.collections.keep(layout.collections);
         self.field_count += field_count;
         Ok(())
@@ -296,13 +293,13 @@ fn needed_usages<'a>(
     spans: &'a [UsageSpan],
 ) -> Result<Usages<'a>, Fault>
     requires { spans.now ≡ spans_in item_states.now.now }
-    ensures faultless { OnOk result (usages_fault (item_flags item.now) item_states.now.now ≡ None) }
-    ensures usages { IfOk result (HasUsages (item_flags item.now) item_states.now.now) }
+    ensures faultless { OnOk result (usages_fault item.now.flags item_states.now.now ≡ None) }
+    ensures usages { IfOk result (HasUsages item.now.flags item_states.now.now) }
     ensures err { IfErr result (λ e.
-        IsFaultOf e (usages_fault (item_flags item.now) item_states.now.now)) }
+        IsFaultOf e (usages_fault item.now.flags item_states.now.now)) }
     ensures named { IfErr result (λ e. fault_named e ≢ None) }
 {
-    if item.is_constant {
+    if item.flags.is_constant {
         return Ok(Usages::none());
     }
     let usages = match usages_of(item_states, spans) {

@@ -23,8 +23,8 @@ pub(crate) struct UsageSpan {
 
 impl UsageSpan {
     ghost use Rattle.std.specs.Prelude.{◌≡◌, ◌+◌, ◌-◌, ◌≤◌, ◌^◌, length};
-    ghost use Rattle.hidreport.specs.HostUsages.{is_on, is_on_one_page, moved_to, own_span, span_to};
-    ghost use Rattle.hidreport.specs.HostUsages.{usage_in, usages_in};
+    ghost use Rattle.hidreport.specs.HostUsages.{lies_on, is_on_one_page, moved_to, own_span, span_to};
+    ghost use Rattle.hidreport.specs.HostUsages.{span_usage, span_usages};
 
     /// A usage with a page of its own.
     pub(crate) fn of_usage(page: UsagePage, id: UsageId) -> UsageSpan
@@ -57,15 +57,15 @@ impl UsageSpan {
     /// How many usages there are.
     pub(crate) fn count(&self) -> u64
         ensures number { result ≡ self.now.last + 1 - self.now.first }
-        ensures count { result ≡ length (usages_in self.now) }
+        ensures count { result ≡ length (span_usages self.now) }
         ensures bound { result ≤ 2 ^ 32 }
     {
         (u64::from(self.last) + 1).saturating_sub(u64::from(self.first))
     }
 
     /// Whether it names a usage, without a page of its own, on this page.
-    pub(crate) fn is_on(&self, page: UsagePage) -> bool
-        ensures { result ≡ is_on page self.now }
+    pub(crate) fn lies_on(&self, page: UsagePage) -> bool
+        ensures { result ≡ lies_on page self.now }
     {
         self.is_short && self.page == page && self.first <= self.last
     }
@@ -90,7 +90,7 @@ impl UsageSpan {
 
     /// The usage with this number.
     pub(crate) fn usage(&self, number: u32) -> Usage
-        ensures { result ≡ usage_in self.now number }
+        ensures { result ≡ span_usage self.now number }
     {
         let page = if self.is_short {
             self.page
@@ -103,7 +103,7 @@ impl UsageSpan {
     /// The usage that stands so far behind the first.
     pub(crate) fn at(&self, behind: u64) -> Usage
         requires { self.now.first + behind ≤ self.now.last }
-        ensures { result ≡ usage_in self.now (self.now.first + behind) }
+        ensures { result ≡ span_usage self.now (self.now.first + behind) }
     {
         let last = self.last;
         self.usage(last - (u64::from(last) - u64::from(self.first) - behind) as u32)

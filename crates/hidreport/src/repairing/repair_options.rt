@@ -1,6 +1,6 @@
 //! How a descriptor is repaired.
 ghost use Rattle.std.specs.Prelude.{◌≡◌, false, None};
-ghost use Rattle.hidreport.specs.declared.parser.push_keeps.PushKeeps.TheVariants as push_keeps;
+ghost use Rattle.hidreport.specs.declared.parser.push_keeps.PushKeeps.TheVariants as a_push_keeps;
 ghost use Rattle.hidreport.specs.declared.parser.usages_by.UsagesBy.TheVariants as usages_by;
 
 use crate::parse_options::ParseOptions;
@@ -28,7 +28,7 @@ pub struct RepairOptions {
 impl Default for RepairOptions {
     ghost is_default = { λ options. options ≡ record {
       parse = record {
-        push_keeps = push_keeps.Globals;
+        push_keeps = a_push_keeps.Globals;
         usages = usages_by.Hosts;
         limit = None;
         longest = None;

@@ -11,6 +11,7 @@ use crate::field::usage::Usage;
 use crate::parser::group_usages::GroupUsages;
 use crate::parser::layout::Layout;
 use crate::parser::usages::Usages;
+use hidreport_items::ItemFlags;
 use hidreport_types::{
     LogicalMaximum, LogicalMinimum, PhysicalMaximum, PhysicalMinimum, ReportId, Unit, UnitExponent,
 };
@@ -141,7 +142,7 @@ impl Group {
     pub fn is_constant(&self) -> bool
         ensures { result ≡ self.now.flags.constant }
     {
-        self.layout.item.is_constant
+        self.layout.item.flags.is_constant
     }
 
     /// Whether each element is a field of its own (Variable, Section 6.2.2.5), and else one field
@@ -149,7 +150,7 @@ impl Group {
     pub fn is_variable(&self) -> bool
         ensures { result ≡ self.now.flags.variable }
     {
-        self.layout.item.is_variable
+        self.layout.item.flags.is_variable
     }
 
     /// The usage of field `index`, counted from 0: the last one where there are fewer usages
@@ -226,10 +227,10 @@ fn usages_for(alloc: Global, layout: &Layout, usages: &Usages) -> Result<GroupUs
         laid_out layout.now (own_usages own) ≡ laid_out layout.now (usage_list usages.now)) }
     ensures possible { IfOk result (λ own. IsPossible layout.now (own_usages own)) }
 {
-    if layout.item.is_constant {
+    if layout.item.flags.is_constant {
         return GroupUsages::all(alloc, usages);
     }
-    if layout.item.is_variable {
+    if layout.item.flags.is_variable {
         let first = GroupUsages::first(alloc, usages, layout.count.max(1))?;
         return Ok(first);
     }
@@ -239,28 +240,8 @@ fn usages_for(alloc: Global, layout: &Layout, usages: &Usages) -> Result<GroupUs
 impl FieldAttributes for Group {
     ghost attributes = { λ g. g.shared };
 
-    fn is_relative(&self) -> bool {
-        self.layout.item.is_relative
-    }
-
-    fn wraps(&self) -> bool {
-        self.layout.item.wraps
-    }
-
-    fn is_nonlinear(&self) -> bool {
-        self.layout.item.is_nonlinear
-    }
-
-    fn has_no_preferred_state(&self) -> bool {
-        self.layout.item.has_no_preferred_state
-    }
-
-    fn has_null_state(&self) -> bool {
-        self.layout.item.has_null_state
-    }
-
-    fn is_buffered_bytes(&self) -> bool {
-        self.layout.item.is_buffered_bytes
+    fn flags(&self) -> ItemFlags {
+        self.layout.item.flags
     }
 
     fn is_volatile(&self) -> Option<bool> {

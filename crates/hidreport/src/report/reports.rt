@@ -31,8 +31,7 @@ impl Model for Reports {
 
 impl Reports {
     ghost use Rattle.std.specs.Prelude.{◌≡◌, ◌↔◌, [], IsTrue};
-    ghost use Rattle.hidreport.specs.Parser.Machine.{reports_in};
-    ghost use Rattle.hidreport.specs.Views.{direction_of};
+    ghost use Rattle.hidreport.specs.Lookup.{reports_of};
 
     /// There are none. It takes no memory.
     pub(crate) fn new(alloc: Global) -> Reports
@@ -56,7 +55,7 @@ impl Reports {
 
     /// Those of a direction.
     pub(crate) fn of(&self, direction: Direction) -> &[RDescReport]
-        ensures { result.now ≡ reports_in (direction_of direction) self.now }
+        ensures { result.now ≡ reports_of direction self.now }
     {
         match direction {
             Direction::Input => &self.input,

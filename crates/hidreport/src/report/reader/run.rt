@@ -7,7 +7,7 @@ ghost use Rattle.hidreport_items.specs.Numbers.{word};
 ghost use Rattle.hidreport_lists.specs.Answer.{IsOfReading, Refuses};
 ghost use Rattle.hidreport.specs.BitValue.{sum_of_bits, value};
 ghost use Rattle.hidreport.specs.Reader.{begins_otherwise, each_alone, numbers_before};
-ghost use Rattle.hidreport.specs.Runs.{IsNarrow, IsOpen, IsPlain, Joins, is_inside, numbers_from};
+ghost use Rattle.hidreport.specs.Runs.{HasNarrowValues, HasAllValues, IsPlain, Joins, is_inside, numbers_from};
 ghost use Rattle.hidreport.specs.Runs.{run_in_id, run_of, run_reads, run_value, set_from};
 ghost use Rattle.hidreport.specs.Views.{field_record};
 ghost use Rattle.hidreport.specs.WritingValues.{fits, put};
@@ -104,7 +104,7 @@ impl Run {
         ensures refused { IfErr result (λ e. Refuses e (run_reads self.now bytes.now)) }
         ensures named { IfErr result IsOfReading }
         ensures memory { result ≢ Err ParserError.OutOfMemory }
-        ensures there { OnOk result (IsOpen bytes.now self.now) }
+        ensures there { OnOk result (HasAllValues bytes.now self.now) }
     {
         check_id(self.report_id, bytes)?;
         if !self.lies_in(bytes.len()) {
@@ -236,7 +236,7 @@ impl Run {
 
     /// Whether the run's bits hold each of these numbers, as many as it has values.
     pub(crate) fn holds(&self, numbers: &[i64]) -> bool
-        requires narrow { IsNarrow self.now }
+        requires narrow { HasNarrowValues self.now }
         requires counted { length numbers.now ≡ self.now.count }
         ensures { result ≡ list_all (fits self.now.width self.now.is_signed) numbers.now }
     {

@@ -7,7 +7,7 @@ ghost use Rattle.hidreport_items.specs.Spelling.{AreBytes};
 ghost use Rattle.hidreport_lists.specs.Answer.{IsOfReading, Refuses};
 ghost use Rattle.hidreport.specs.Reader.{begins_otherwise, filled, numbers_before};
 ghost use Rattle.hidreport.specs.Reading.{with_id};
-ghost use Rattle.hidreport.specs.Runs.{IsNarrow, IsOpen, IsPlain, RunRecord, StandFor, all_numbers};
+ghost use Rattle.hidreport.specs.Runs.{HasNarrowValues, HasAllValues, IsPlain, RunRecord, StandFor, all_numbers};
 ghost use Rattle.hidreport.specs.Runs.{count_in, run_in_id, runs_alone, runs_fit, runs_of, runs_placed};
 ghost use Rattle.hidreport.specs.Runs.{runs_put, runs_read};
 ghost use Rattle.hidreport.specs.SameRuns.{SameRuns};
@@ -78,7 +78,7 @@ impl RunList {
         ensures refused { IfErr result (λ e. Refuses e (runs_read self.now bytes.now)) }
         ensures named { IfErr result IsOfReading }
         ensures memory { result ≢ Err ParserError.OutOfMemory }
-        ensures there { OnOk result (Each (IsOpen bytes.now) self.now) }
+        ensures there { OnOk result (Each (HasAllValues bytes.now) self.now) }
     {
         if self.has_all(bytes) {
             return Ok(());
@@ -89,7 +89,7 @@ impl RunList {
     /// Whether bytes have all values by their number and the id that they begin with.
     #[inline(always)]
     fn has_all(&self, bytes: &[u8]) -> bool
-        ensures { IsTrue result → Each (IsOpen bytes.now) self.now }
+        ensures { IsTrue result → Each (HasAllValues bytes.now) self.now }
     {
         match self.enough {
             Some(enough) => enough <= bytes.len() && begin_with(bytes, &self.report_id),
@@ -118,7 +118,7 @@ impl RunList {
 
     /// Puts the numbers of all runs in place of the first values, as far as there is room.
     pub(crate) fn put(&self, bytes: &[u8], values: &mut [i64])
-        requires there { Each (IsOpen bytes.now) self.now }
+        requires there { Each (HasAllValues bytes.now) self.now }
         requires counted { count_in self.now < 2 ^ 64 }
         ensures { values.new ≡ filled (all_numbers self.now bytes.now) values.old }
     {
@@ -129,7 +129,7 @@ impl RunList {
     pub(crate) fn check_written(&self, bytes: &[u8]) -> Result<(), InsertError>
         ensures refused { IfErr result (λ e. (answer : Result (List ℕ) InsertError)
             → where_read (runs_read self.now bytes.now) answer ≡ Err e) }
-        ensures there { OnOk result (Each (IsOpen bytes.now) self.now) }
+        ensures there { OnOk result (Each (HasAllValues bytes.now) self.now) }
         ensures bytes { AreBytes bytes.now }
     {
         match self.check(bytes) {
@@ -142,7 +142,7 @@ impl RunList {
     /// Refuses values, as many as the runs have, where a run begins in the byte of an id, and then
     /// where its bits don't hold one of them.
     pub(crate) fn check_values(&self, values: &[i64]) -> Result<(), InsertError>
-        requires narrow { Each IsNarrow self.now }
+        requires narrow { Each HasNarrowValues self.now }
         requires counted { length values.now ≡ count_in self.now }
         ensures refused { IfErr result (λ e. (bytes : List ℕ)
             → runs_placed self.now values.now bytes ≡ Err e) }
@@ -167,7 +167,7 @@ impl RunList {
 
     /// Puts values, as many as the runs have, in place of their bits; all others stay.
     pub(crate) fn put_numbers(&self, bytes: &mut [u8], values: &[i64])
-        requires there { Each (IsOpen bytes.now) self.now }
+        requires there { Each (HasAllValues bytes.now) self.now }
         requires counted { length values.now ≡ count_in self.now }
         ensures { bytes.new ≡ runs_put self.now values.now bytes.old }
     {
@@ -243,7 +243,7 @@ fn check_all(runs: &[Run], bytes: &[u8]) -> Result<(), ParserError>
     ensures refused { IfErr result (λ e. Refuses e (runs_read runs.now bytes.now)) }
     ensures named { IfErr result IsOfReading }
     ensures memory { result ≢ Err ParserError.OutOfMemory }
-    ensures there { OnOk result (Each (IsOpen bytes.now) runs.now) }
+    ensures there { OnOk result (Each (HasAllValues bytes.now) runs.now) }
 {
     for run in runs {
         run.check(bytes)?;
@@ -254,7 +254,7 @@ fn check_all(runs: &[Run], bytes: &[u8]) -> Result<(), ParserError>
 /// Puts the numbers of all runs in place of the first values, as far as there is room.
 fn put_all(runs: &[Run], bytes: &[u8], short: u64, values: &mut [i64])
     requires short { length bytes.now < 8 → short ≡ word bytes.now }
-    requires there { Each (IsOpen bytes.now) runs.now }
+    requires there { Each (HasAllValues bytes.now) runs.now }
     requires counted { count_in runs.now < 2 ^ 64 }
     ensures { values.new ≡ filled (all_numbers runs.now bytes.now) values.old }
 {
@@ -285,7 +285,7 @@ fn put_available(runs: &[Run], bytes: &[u8], values: &mut [i64]) -> usize
 
 /// Whether the bits of each run hold its values, the first of them those of the first run.
 fn all_fit(runs: &[Run], values: &[i64]) -> bool
-    requires narrow { Each IsNarrow runs.now }
+    requires narrow { Each HasNarrowValues runs.now }
     requires counted { length values.now ≡ count_in runs.now }
     ensures { result ≡ runs_fit runs.now values.now }
 {
@@ -302,7 +302,7 @@ fn all_fit(runs: &[Run], values: &[i64]) -> bool
 
 /// Puts values in place of the bits of runs, the first of them those of the first run.
 fn put_numbers(runs: &[Run], bytes: &mut [u8], values: &[i64])
-    requires there { Each (IsOpen bytes.now) runs.now }
+    requires there { Each (HasAllValues bytes.now) runs.now }
     requires counted { length values.now ≡ count_in runs.now }
     ensures { bytes.new ≡ runs_put runs.now values.now bytes.old }
 {

@@ -7,7 +7,6 @@ returns c = record {
   push = refl;
   usage = refl;
   later_global = refl;
-  later_local =
-      refl;
+  later_local = refl;
   long = refl;
 }

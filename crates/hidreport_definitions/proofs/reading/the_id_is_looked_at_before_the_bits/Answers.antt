@@ -7,8 +7,7 @@ returns c = record {
   own_id = refl;
   no_bytes = refl;
   read = refl;
-  without_id =
-      refl;
+  without_id = refl;
   index_first = refl;
   element_of_other_id = refl;
 }

@@ -6,8 +6,7 @@ returns c = record {
   shorter = refl;
   page_of_its_own = refl;
   idle_items_stay = refl;
-  nothing_kept =
-      refl;
+  nothing_kept = refl;
   no_item = refl;
   no_bytes = refl;
   signs = refl;

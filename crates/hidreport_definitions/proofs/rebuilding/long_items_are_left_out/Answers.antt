@@ -7,8 +7,7 @@ returns c = record {
   without_data = refl;
   in_front = refl;
   between = refl;
-  no_length =
-      refl;
+  no_length = refl;
   no_tag = refl;
   cut_data = refl;
 }

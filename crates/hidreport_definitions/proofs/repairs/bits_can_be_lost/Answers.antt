@@ -4,13 +4,14 @@ use Rattle.hidreport_lists.proofs.CutLemmas.{itemise-items}
 use Rattle.hidreport.specs.Entry.{Entry}
 use Rattle.hidreport.specs.ItemAnswer.{GrammarFault, Insufficient}
 use Rattle.hidreport.specs.ItemType.{ItemType}
-use Rattle.hidreport.specs.Kinds.{Direction, Input, Output}
+use Rattle.hidreport.specs.declared.field.data_item.Direction.{Direction}
+use Rattle.hidreport.specs.declared.field.data_item.Direction.TheVariants.{Input, Output}
 use Rattle.hidreport.specs.Making.{extent}
 use Rattle.hidreport.specs.Mending.{PieceRecord, item_in}
 use Rattle.hidreport.specs.Options.{default_options, reading_of}
 use Rattle.hidreport.specs.Places.{bits_of}
 use Rattle.hidreport.specs.Rebuilt.{items_of}
-use Rattle.hidreport.specs.RepairLaws.{direction_of}
+use Rattle.hidreport.specs.RepairLaws.{item_direction}
 use Rattle.hidreport.specs.Spelling.{item_of}
 use Rattle.hidreport_definitions.proofs.repairs.bits_can_be_lost.Goals as goal
 
@@ -19,11 +20,11 @@ cut_short = Err (0, Insufficient)
 
 -- the directions of what is read, and of what is written
 abbrev of_pieces : Result (List PieceRecord) (ℕ × GrammarFault) → List (Option Direction)
-of_pieces (Ok ps) = map direction_of (filter_map item_in ps)
+of_pieces (Ok ps) = map item_direction (filter_map item_in ps)
 of_pieces (Err fault) = []
 
 abbrev of_entries : Result (List Entry) (ℕ × GrammarFault) → List (Option Direction)
-of_entries (Ok entries) = map direction_of (items_of entries)
+of_entries (Ok entries) = map item_direction (items_of entries)
 of_entries (Err fault) = []
 
 -- the bits that the item at 2 would add

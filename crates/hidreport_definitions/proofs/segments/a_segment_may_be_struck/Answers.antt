@@ -6,7 +6,6 @@ returns c = record {
   with_it = refl;
   without_it = refl;
   fault_with_it = refl;
-  fault_without_it =
-      refl;
+  fault_without_it = refl;
   fault_before_it = refl;
 }

@@ -2,7 +2,7 @@ use Rattle.std.proofs.Common.{◌≡◌, ◌∙◌, ◌<◌, ℕ, List, Bool, tr
 use Rattle.std.proofs.Common.{length, subst}
 use Rattle.std.proofs.lemmas.Bool.Decides.{nat_tests}
 use Rattle.hidreport.specs.Answer.{Answers}
-use Rattle.hidreport.specs.Options.{parse_limited, past_longest, reading_of, unless_past}
+use Rattle.hidreport.specs.Options.{parse_limited, past_longest, reading_of, unless_too_long}
 use Rattle.hidreport.specs.declared.parse_options.ParseOptions.{ParseOptions}
 use Rattle.hidreport_example.proofs.limits.read_bounded.Goals as goal
 
@@ -14,8 +14,8 @@ returns-clause-long c = λ more.
     let longest : options.longest ≡ Some 65536 =
     ap (λ (o : ParseOptions). o.longest) c.bounded.ensures in
     subst (λ answer. Answers c.try_from_with.result answer)
-    (ap (λ l. unless_past (past_longest l (length bytes))
+    (ap (λ l. unless_too_long (past_longest l (length bytes))
     (parse_limited (reading_of options) options.limit bytes)) longest
-    ∙ ap (λ b. unless_past (cond b (Some 65536) None)
+    ∙ ap (λ b. unless_too_long (cond b (Some 65536) None)
     (parse_limited (reading_of options) options.limit bytes)) past)
     c.try_from_with.ensures.exact

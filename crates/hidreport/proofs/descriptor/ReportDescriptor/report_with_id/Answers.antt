@@ -2,7 +2,7 @@ use Rattle.std.proofs.Common.{◌≡◌, ◌∙◌, List, Some, ap, subst, sym}
 use Rattle.hidreport.specs.Lookup.{IsOneWith, reports_of}
 use Rattle.hidreport.specs.Records.{ReportRecord}
 use Rattle.hidreport.specs.Tiling.{IsTiled}
-use Rattle.hidreport.proofs.LookupLemmas.{own-found, own-ids, same-reports}
+use Rattle.hidreport.proofs.LookupLemmas.{own-found, own-ids}
 use Rattle.hidreport.proofs.descriptor.ReportDescriptor.report_with_id.Goals as goal
 
 pub returns-in-Some : goal.returns-in-Some
@@ -11,7 +11,7 @@ returns-in-Some c =
     let report : ReportRecord = c.in-Some.report.now in
     let reports : List ReportRecord = reports_of direction c.args.self.now in
     let is : c.of-reports.result.now ≡ reports = c.of-reports.ensures
-    ∙ same-reports direction c.self.inside.reports ∙ ap (reports_of direction) c.self.view_is in
+    ∙ ap (reports_of direction) c.self.view_is in
     let one : IsOneWith (Some c.args.id) reports report =
     subst (λ (rs : List ReportRecord). IsOneWith (Some c.args.id) rs report) is c.in-Some.ensures in
     sym (own-found (Some c.args.id) reports report

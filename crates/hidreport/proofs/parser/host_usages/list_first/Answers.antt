@@ -1,5 +1,5 @@
 use Rattle.std.proofs.Common.{rules, ◌≡◌, ◌∙◌, ◌+◌, ◌-◌, ◌++◌, List, ap, sym, drop, flat_map, length, min, take, append_assoc}
-use Rattle.hidreport.specs.HostUsages.{usages_in}
+use Rattle.hidreport.specs.HostUsages.{span_usages}
 use Rattle.hidreport.specs.declared.field.usage.Usage.{Usage}
 use Rattle.hidreport.proofs.HostUsageLemmas.{rest-of, take-split}
 use Rattle.hidreport.proofs.parser.host_usages.list_first.Goals as goal
@@ -9,8 +9,8 @@ loop-span-preserved c =
     let s = c.span-item.result in
     let i = c.loop-span.span-index in
     let ss = c.args.spans.now in
-    let us = usages_in s in
-    let rest = flat_map usages_in (drop (i + 1) ss) in
+    let us = span_usages s in
+    let rest = flat_map span_usages (drop (i + 1) ss) in
     let n = c.min-count.result in
     let room = c.loop-span.room in
     let capped : n ≡ min c.count.result room = search rules in

@@ -1,5 +1,5 @@
 use Rattle.std.proofs.Common.{◌≡◌, ◌<◌, ◌∙◌, ◌+◌, ◌-◌, ap, sym, drop, flat_map, arith}
-use Rattle.hidreport.specs.HostUsages.{usage_in, usages_in}
+use Rattle.hidreport.specs.HostUsages.{span_usage, span_usages}
 use Rattle.hidreport.proofs.HostUsageLemmas.{or-further, or-span, rest-of, usage_or}
 use Rattle.hidreport.proofs.parser.host_usages.usage_at.Goals as goal
 use Rattle.hidreport.proofs.parser.host_usages.usage_at.Goals.{then-count-gt0, else-count-gt0}
@@ -19,7 +19,7 @@ returns-then-before-count c =
     ∙ sym (c.loop-span.invariant
     ∙ ap (λ l. usage_or c.loop-span.last l c.loop-span.before)
     (rest-of ss i s c.loop-span-test.true c.span-item.is)
-    ∙ or-span c.loop-span.last s (flat_map usages_in (drop (i + 1) ss)) c.count-count.result
+    ∙ or-span c.loop-span.last s (flat_map span_usages (drop (i + 1) ss)) c.count-count.result
     c.loop-span.before c.count-count.ensures.number c.if-before-count.true)
 
 pub loop-span-preserved : goal.loop-span-preserved
@@ -28,7 +28,7 @@ loop-span-preserved c =
     let i = c.loop-span.span-index in
     let ss = c.args.spans.now in
     let n = c.count-count.result in
-    let more : 0 < n → c.if-count-gt0.last ≡ usage_in s (s.first + (n - 1)) =
+    let more : 0 < n → c.if-count-gt0.last ≡ span_usage s (s.first + (n - 1)) =
     λ some. elim c.if-count-gt0.branch [
       | then-count-gt0 w ↦ w.last-is ∙ w.at-last.ensures
       | else-count-gt0 w ↦ absurd (omega (arith, some, w.if-count-gt0.false))
@@ -41,5 +41,5 @@ loop-span-preserved c =
     c.loop-span.invariant
     ∙ ap (λ l. usage_or c.loop-span.last l c.loop-span.before)
     (rest-of ss i s c.loop-span-test.true c.span-item.is)
-    ∙ or-further c.loop-span.last c.if-count-gt0.last s (flat_map usages_in (drop (i + 1) ss)) n
+    ∙ or-further c.loop-span.last c.if-count-gt0.last s (flat_map span_usages (drop (i + 1) ss)) n
     c.loop-span.before c.count-count.ensures.number c.if-before-count.false more none

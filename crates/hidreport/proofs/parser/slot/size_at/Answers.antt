@@ -6,12 +6,12 @@ use Rattle.hidreport.proofs.parser.slot.size_at.Goals as goal
 
 pub returns-then-slot-reports : goal.returns-then-slot-reports
 returns-then-slot-reports c =
-    let found = added_to-found c.args.slot.key 0 [] c.args.reports.now c.args.slot.index
+    let found = added_to-found c.args.slot.now.key 0 [] c.args.reports.now c.args.slot.now.index
     c.index-reports-slot.result c.requires c.if-slot-reports.true c.index-reports-slot.is in
     ap (λ (r : ReportRecord). r.size) c.report.view_is ∙ sym found.1
 
 pub returns-else-slot-reports : goal.returns-else-slot-reports
 returns-else-slot-reports c =
-    let none : length c.args.reports.now ≤ index_in c.args.slot.key c.args.reports.now =
+    let none : length c.args.reports.now ≤ index_in c.args.slot.now.key c.args.reports.now =
     omega (arith, c.if-slot-reports.false, c.requires) in
-    c.id_bits.ensures ∙ sym (added_to-new c.args.slot.key 0 [] c.args.reports.now none).1
+    c.id_bits.ensures ∙ sym (added_to-new c.args.slot.now.key 0 [] c.args.reports.now none).1

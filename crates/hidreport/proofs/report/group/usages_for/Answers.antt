@@ -1,4 +1,4 @@
-use Rattle.std.proofs.Common.{◌<◌, ◌≤◌, rules}
+use Rattle.std.proofs.Common.{◌≡◌, ◌<◌, ◌≤◌, false, true, rules}
 use Rattle.hidreport.specs.Parser.Groups.{own_usages}
 use Rattle.hidreport.specs.Parser.Usages.{usage_list}
 use Rattle.hidreport.proofs.GroupLemmas.{first-laid, first-possible}
@@ -8,9 +8,11 @@ pub returns-then-layout-2-clause-laid : goal.returns-then-layout-2-clause-laid
 returns-then-layout-2-clause-laid c =
     let l = c.args.layout.now in
     let n = c.max.result in
+    let filled : l.item.flags.constant ≡ false = search rules in
+    let several : l.item.flags.variable ≡ true = search rules in
     let enough : l.count ≤ n = search rules in
     first-laid l (own_usages c.in_ok-first.first) (usage_list c.args.usages.now) n
-    c.if-layout.false c.if-layout-2.true enough c.in_ok-first.ensures
+    filled several enough c.in_ok-first.ensures
 
 pub returns-then-layout-2-clause-possible : goal.returns-then-layout-2-clause-possible
 returns-then-layout-2-clause-possible c =

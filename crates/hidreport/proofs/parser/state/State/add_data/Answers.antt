@@ -10,7 +10,6 @@ use Rattle.hidreport.specs.Parser.Machine.{StateRecord, first_id, next_state, si
 use Rattle.hidreport.specs.Parser.Opened.{Opened}
 use Rattle.hidreport.specs.ItemState.{first_of}
 use Rattle.hidreport.specs.Records.{ReportRecord}
-use Rattle.hidreport.specs.Views.{direction_of, item_flags}
 use Rattle.hidreport.proofs.DataLemmas.{data-held}
 use Rattle.hidreport.proofs.WeightLemmas.{data-faultless, data-weighs, stop-past}
 use Rattle.hidreport.proofs.parser.state.State.add_data.Goals as goal
@@ -20,7 +19,7 @@ returns-clause-held c =
     let s = c.self.inside in
     let x = c.args.item.now in
     let h : StateRecord = record {
-      keeping = s.item_states.keeping;
+      push_keeps = s.item_states.push_keeps;
       item_state = s.item_states.now;
       stack = s.item_states.stack;
       descriptor = s.reports;
@@ -30,7 +29,7 @@ returns-clause-held c =
     } in
     let count = c.field_count-field_count.result in
     let new : StateRecord = record {
-      keeping = s.item_states.keeping;
+      push_keeps = s.item_states.push_keeps;
       item_state = s.item_states.now;
       stack = s.item_states.stack;
       descriptor = c.add.new.self;
@@ -40,24 +39,18 @@ returns-clause-held c =
     } in
     let g = item_state_of s.item_states.now.usages_by c.globals-globals.result.now
     s.item_states.now.locals in
-    let key = c.slot_of-slot.ensures.key
-    ∙ ap (λ (rs : List ReportRecord). first_of c.globals-globals.result.now.report_id
-    (first_id rs)) c.of-reports.ensures in
     let cs = shared_list c.in_ok-shared_by.field-0 in
     let with = λ (m : Measures). make_fields (record {
       report_id = g.report_id;
       number = s.field_count;
-      first = c.size_at-first_bit.result;
-    }) c.in-Some.extent (item_flags x)
+      first = c.begin-room.result.first_bit;
+    }) c.in-Some.extent x.flags
     (usage_list c.in-Ok.usages)
-    (attributes_with (direction_of x.direction) (item_flags x) m cs) in
+    (attributes_with x.direction x.flags m cs) in
     let fields = with c.measures.result in
-    let first = c.size_at-first_bit.ensures
-    ∙ ap (size_in c.slot_of-slot.result.key) c.of-reports.ensures in
     subst (λ (z : StateRecord). new ≡ record z {
       descriptor = (next_state z (as_item x)).descriptor;
-      fields =
-          (next_state z (as_item x)).fields;
+      fields = (next_state z (as_item x)).fields;
     }) c.self.view_is
     (ap (λ (o : Opened). record h {
       descriptor = c.add.new.self;
@@ -65,12 +58,12 @@ returns-clause-held c =
       opened = o.list;
       collections = o.count;
     }) (c.keep.ensures ∙ c.in_ok-shared_by.ensures.same)
-    ∙ data-held h g (direction_of x.direction) (item_flags x) cs
+    ∙ data-held h g x.direction x.flags cs
     c.in-Some.extent c.in-Ok.usages
-    c.slot_of-slot.result.key c.size_at-first_bit.result c.in_ok-bits.bits fields c.add.new.self
+    c.begin-room.result.slot.key c.begin-room.result.first_bit c.in_ok-bits.bits fields c.add.new.self
     count
     c.globals-globals.ensures c.in_ok-shared_by.ensures.all (sym c.in-Some.ensures)
-    c.in-Ok.ensures.usages key first c.in_ok-bits.ensures.fits.0
+    c.in-Ok.ensures.usages c.begin-room.ensures.key c.begin-room.ensures.first c.in_ok-bits.ensures.fits.0
     (ap with (c.measures.ensures s.item_states.now.usages_by)) c.in_ok-add.ensures c.field_count-field_count.ensures)
 
 pub returns-clause-within : goal.returns-clause-within
@@ -79,7 +72,7 @@ returns-clause-within c =
     let x = c.args.item.now in
     let g = item_state_of s.item_states.now.usages_by c.globals-globals.result.now
     s.item_states.now.locals in
-    let weighs = data-weighs _ c.args.self.now g (direction_of x.direction) (item_flags x)
+    let weighs = data-weighs _ c.args.self.now g x.direction x.flags
     c.in-Some.extent c.in-Ok.usages
     c.field_count.result c.weight_of_each-each.result c.weight.result c.self.view_is
     c.globals-globals.ensures (sym c.in-Some.ensures) c.in-Ok.ensures.usages
@@ -92,7 +85,7 @@ returns-clause-left c =
     let x = c.args.item.now in
     let g = item_state_of s.item_states.now.usages_by c.globals-globals.result.now
     s.item_states.now.locals in
-    let weighs = data-weighs _ c.args.self.now g (direction_of x.direction) (item_flags x)
+    let weighs = data-weighs _ c.args.self.now g x.direction x.flags
     c.in-Some.extent c.in-Ok.usages
     c.field_count.result c.weight_of_each-each.result c.weight.result c.self.view_is
     c.globals-globals.ensures (sym c.in-Some.ensures) c.in-Ok.ensures.usages
@@ -105,19 +98,14 @@ returns-in_err-spend-clause-err c =
     let x = c.args.item.now in
     let g = item_state_of s.item_states.now.usages_by c.globals-globals.result.now
     s.item_states.now.locals in
-    let key = c.slot_of-slot.ensures.key
-    ∙ ap (λ (rs : List ReportRecord). first_of c.globals-globals.result.now.report_id
-    (first_id rs)) c.of-reports.ensures in
-    let first = c.size_at-first_bit.ensures
-    ∙ ap (size_in c.slot_of-slot.result.key) c.of-reports.ensures in
     let ids : s.field_count + c.field_count-field_count.result ≤ 2 ^ 32 =
     omega (arith, c.if-field_count-gt-FIELD_IDS.false, c.if-self-field_count.false) in
-    let faultless = data-faultless _ c.args.self.now g (direction_of x.direction) (item_flags x)
-    c.in-Some.extent c.slot_of-slot.result.key c.size_at-first_bit.result
+    let faultless = data-faultless _ c.args.self.now g x.direction x.flags
+    c.in-Some.extent c.begin-room.result.slot.key c.begin-room.result.first_bit
     c.field_count-field_count.result c.self.view_is
-    c.globals-globals.ensures (sym c.in-Some.ensures) c.in-Ok.ensures.faultless key first
+    c.globals-globals.ensures (sym c.in-Some.ensures) c.in-Ok.ensures.faultless c.begin-room.ensures.key c.begin-room.ensures.first
     c.in_ok-bits.ensures.fits.1 c.field_count-field_count.ensures ids in
-    let weighs = data-weighs _ c.args.self.now g (direction_of x.direction) (item_flags x)
+    let weighs = data-weighs _ c.args.self.now g x.direction x.flags
     c.in-Some.extent c.in-Ok.usages
     c.field_count.result c.weight_of_each-each.result c.weight.result c.self.view_is
     c.globals-globals.ensures (sym c.in-Some.ensures) c.in-Ok.ensures.usages
@@ -125,6 +113,6 @@ returns-in_err-spend-clause-err c =
     let p = err_from_is_err_and c.from_residual-in_err-spend.result
     c.from_residual-in_err-spend.ensures.1 in
     rw (p.1, p.2) (rw (c.in_err-spend.ensures.past.0)
-    (stop-past c.args.budget.now c.args.self.now (direction_of x.direction) (item_flags x)
+    (stop-past c.args.budget.now c.args.self.now x.direction x.flags
     (c.field_count.result * c.weight_of_each-each.result) faultless weighs
     c.in_err-spend.ensures.past.1))

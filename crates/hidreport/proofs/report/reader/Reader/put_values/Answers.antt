@@ -1,5 +1,5 @@
 use Rattle.std.proofs.Common.{◌≡◌, ◌∙◌, List, Err, Ok, ap, length, rules, sym, ℕ}
-use Rattle.hidreport.specs.Runs.{IsOpen, count_in, runs_placed, runs_put, runs_written}
+use Rattle.hidreport.specs.Runs.{HasAllValues, count_in, runs_placed, runs_put, runs_written}
 use Rattle.hidreport.specs.Tiling.{Each}
 use Rattle.hidreport.proofs.RunWriteLemmas.{written-open}
 use Rattle.hidreport.proofs.report.reader.Reader.put_values.Goals as goal
@@ -10,7 +10,7 @@ returns-in_err-check_values-clause-answer c =
     let values = c.args.values.now in
     let bytes = c.args.bytes.now in
     let size : length values ≡ count_in runs = search rules in
-    let has : Each (IsOpen bytes) runs = search rules in
+    let has : Each (HasAllValues bytes) runs = search rules in
     let placed : runs_placed runs values bytes ≡ Err c.in_err-check_values.field-0.0 = search rules in
     let refused : runs_written runs values bytes ≡ Err c.in_err-check_values.field-0.0 =
     written-open runs values bytes _ size has placed in
@@ -22,7 +22,7 @@ returns-clause-answer c =
     let values = c.args.values.now in
     let bytes = c.args.bytes.now in
     let size : length values ≡ count_in runs = search rules in
-    let has : Each (IsOpen bytes) runs = search rules in
+    let has : Each (HasAllValues bytes) runs = search rules in
     let placed : runs_placed runs values bytes ≡ Ok (runs_put runs values bytes) = search rules in
     let put : c.put_numbers.new.bytes ≡ runs_put runs values bytes = search rules in
     written-open runs values bytes _ size has (placed ∙ ap (λ (l : List ℕ). Ok l) (sym put))

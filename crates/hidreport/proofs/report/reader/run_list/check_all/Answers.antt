@@ -1,6 +1,6 @@
 use Rattle.std.proofs.Common.{rules}
 use Rattle.hidreport_lists.specs.Answer.{Refuses}
-use Rattle.hidreport.specs.Runs.{IsOpen, runs_read}
+use Rattle.hidreport.specs.Runs.{HasAllValues, runs_read}
 use Rattle.hidreport.proofs.RunListLemmas.{each-taken, refused-there}
 use Rattle.hidreport.proofs.report.reader.run_list.check_all.Goals as goal
 
@@ -14,5 +14,5 @@ returns-in_err-check-clause-refused c =
 
 pub loop-run-preserved : goal.loop-run-preserved
 loop-run-preserved c =
-    each-taken (IsOpen c.args.bytes.now) c.args.runs.now c.loop-run.run-index c.run-item.result
+    each-taken (HasAllValues c.args.bytes.now) c.args.runs.now c.loop-run.run-index c.run-item.result
     c.loop-run-test.true c.run-item.is c.loop-run.invariant c.in_ok-check.ensures.there
