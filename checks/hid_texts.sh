@@ -62,6 +62,7 @@ echo "hid_texts: $asked descriptors, $refused refused, decoded and compiled to t
 if command -v python3 > /dev/null; then
     cut -d ' ' -f 1 "$scratch/descriptors" | python3 "$top/checks/hid_written.py" "$program"
     cut -d ' ' -f 1 "$scratch/descriptors" | python3 "$top/checks/hid_fields.py" "$program"
+    python3 "$top/compare/usbmon.py" --check
 else
     echo 'hid_texts: no `python3` on the path, so nobody else reads what `hid convert` writes'
     echo 'hid_texts: nor is what `hid fields` folds compared with what `--all` shows'

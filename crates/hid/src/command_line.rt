@@ -256,7 +256,7 @@ fn arguments_of(name: &str) -> &'static [Argument] {
 /// What stands below the help.
 const AFTER: &str = "FILE is a report descriptor: a file, - for the standard input, or a node such \
 as /dev/hidraw0.\nIt holds bytes, hex text, a dump with offsets, C, Rust or Python source, or what \
-hid-recorder,\nusbhid-dump, libinput record, debugfs or lsusb -v write.\nThe status is 0, 1 where \
+hid-recorder,\nusbhid-dump, libinput record, debugfs or lsusb -v write, or a capture of usbmon.\nThe status is 0, 1 where \
 something is refused or can't be read, and 2 where the words are wrong.";
 
 /// `hid` with its commands.
