@@ -130,6 +130,15 @@ esac
 refused "$(echo 0501 | "$program" convert --form hex - 2>&1 > /dev/full)" \
     'hid: -: No space left on device (os error 28)'
 
+# Bytes are a capture where its mark and its version are there; a word less, and they are bytes.
+capture_of() {
+    printf "$1" | "$program" convert - 2>&1 | head -n 1
+}
+refused "$(capture_of '\324\303\262\241\2\0\4\0')" 'hid: -: the capture is cut short'
+refused "$(capture_of '\324\303\262\241\2\0\5\0')" 'hid: -: read as bytes'
+refused "$(capture_of '\n\r\r\n\0\0\0\0M<+\32')" 'hid: -: the block at byte 0 is cut short'
+refused "$(capture_of '\n\r\r\n\0\0\0\0M<+\33')" 'hid: -: read as bytes'
+
 # A stream in pieces that end within a line, within a character or behind an empty line is what it is
 # whole: its form, too.
 streamed() {

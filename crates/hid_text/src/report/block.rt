@@ -111,7 +111,13 @@ fn count_of(lines: &[FieldLine], length: usize) -> usize {
     let Some((block, rest)) = lines.split_at_checked(length) else {
         return 0;
     };
-    let (Some(first), Some(bits)) = (block.first(), bits_of(block)) else {
+    let (Some(first), Some(again)) = (block.first(), rest.first()) else {
+        return 0;
+    };
+    if !first.is_like(*again) {
+        return 0;
+    }
+    let Some(bits) = bits_of(block) else {
         return 0;
     };
     let depth = first.depth();
