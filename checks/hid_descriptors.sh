@@ -15,7 +15,7 @@ top=$(cd "$(dirname "$0")/.." && pwd)
         }
         within { asks(within, /^  refused/ ? 1 : 0); within = "" }
         /^(parse|shape) / { within = $0; sub(/^[a-z]* /, "", within) }
-        /^(parse-globals|list|rebuild|many) / { sub(/^[a-z-]* /, ""); asks($0, "-") }
+        /^(parse-globals|host-usages|list|rebuild|many) / { sub(/^[a-z-]* /, ""); asks($0, "-") }
         /^(parse|many)-within / { sub(/^[a-z-]* [0-9]+ /, ""); asks($0, "-") }
         /^(repair|alike) / {
             sub(/^repair [^\/]*\/|^alike /, "")

@@ -126,6 +126,31 @@ again debugfs_lines $length '05 01\nINPUT[INPUT]\n'
 {
     for ((n = 0; n < 4000; n++)); do printf 'D: %d\nR: 0\n' "$n"; done
 } > recorder_many
+# Fields that begin blocks again and again, and none that ends.
+{
+    echo '05 01 75 01 95 01'
+    for ((n = 0; n < 16000; n++)); do echo "09 3$((n * n % 1009 % 3)) 81 02"; done
+} > nearly_blocks
+# Reports that differ in their last field alone.
+{
+    echo '05 01 75 01 95 fc'
+    for ((n = 1; n < 256; n++)); do
+        printf '85 %02x 19 00 29 fb 81 02 09 %02x 09 00 09 00 09 00 81 02\n' "$n" "$n"
+    done
+} > nearly_reports
+# Captures: requests without an answer, and blocks of nothing.
+{
+    printf '\324\303\262\241\2\0\4\0\0\0\0\0\0\0\0\0\377\377\0\0\334\0\0\0'
+    for ((n = 0; n < 800; n++)); do
+        printf '\0\0\0\0\0\0\0\0\100\0\0\0\100\0\0\0'
+        printf "\\$(printf %o $((n % 256)))\\$(printf %o $((n / 256)))"
+        printf '\0\0\0\0\0\0S\2\200\3\1\0\0<\0\0\0\0\0\0\0\0\0\0\0\0\0\0\0\0\0\0\0\0\0\0\0\0'
+        printf '\201\6\0"\0\0\100\0\0\0\0\0\0\0\0\0\0\0\0\0\0\0\0\0'
+    done
+} > capture_requests
+again capture_blocks 65532 '\5\0\0\0\14\0\0\0\14\0\0\0'
+printf '\n\r\r\n\34\0\0\0M<+\32\1\0\0\0\377\377\377\377\377\377\377\377\34\0\0\0' |
+    cat - capture_blocks > capture_section
 # A megabyte.
 again long 1048576 '\244'
 again long_text 1048576 'a4 '
@@ -135,7 +160,8 @@ zeros pushes opened usages pages designators global_in_push ended_in_push long_i
 hex_lines hex_words recorder_reports recorder_devices recorder_names dump_heads dump_devices
 source_arrays source_numbers source_remarks blanks recorder_many long long_text marks offset_lines
 offset_heads dumped dumped_pushes python_lists python_numbers python_strings libinput_nodes
-libinput_numbers lsusb_items debugfs_lines'
+libinput_numbers lsusb_items debugfs_lines nearly_blocks nearly_reports capture_requests
+capture_section'
 
 head -c 64 zeros > report
 for shape in $shapes; do

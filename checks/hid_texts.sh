@@ -1,9 +1,10 @@
 #!/bin/bash
 # What `hid decode` writes is compiled to the same bytes: of each descriptor of the tree
 # (checks/hid_descriptors.sh), refused ones too. What `hid convert` writes of them is the same bytes
-# to others (checks/hid_written.py), what `hid uhid` writes is events (checks/hid_uhid.sh). Then what
-# no stored run shows (checks/hid_runs.sh): a stream's times, and refusals for which it takes more
-# than a file. Its argument is the program; else it is the one that ./hid built.
+# to others (checks/hid_written.py), what `hid fields` folds is what it shows line by line
+# (checks/hid_fields.py), what `hid uhid` writes is events (checks/hid_uhid.sh). Then what no stored run
+# shows (checks/hid_runs.sh): a stream's times, and refusals for which it takes more than a file. Its
+# argument is the program; else it is the one that ./hid built.
 set -eu
 
 top=$(cd "$(dirname "$0")/.." && pwd)
@@ -60,8 +61,11 @@ known=$(grep -c '[01]$' "$scratch/descriptors")
 echo "hid_texts: $asked descriptors, $refused refused, decoded and compiled to the same bytes"
 if command -v python3 > /dev/null; then
     cut -d ' ' -f 1 "$scratch/descriptors" | python3 "$top/checks/hid_written.py" "$program"
+    cut -d ' ' -f 1 "$scratch/descriptors" | python3 "$top/checks/hid_fields.py" "$program"
+    python3 "$top/compare/usbmon.py" --check
 else
     echo 'hid_texts: no `python3` on the path, so nobody else reads what `hid convert` writes'
+    echo 'hid_texts: nor is what `hid fields` folds compared with what `--all` shows'
 fi
 bash "$top/checks/hid_uhid.sh" "$program"
 
@@ -82,6 +86,24 @@ rows='05 01 09 30 75 08 96 04 10 81 02 75 08 95 01 81 01'
 [ "$(echo "$rows" | "$program" map - 2> /dev/null | tail -n 1)" = '5 more rows: --all shows them' ] &&
     [ "$(echo "$rows" | "$program" map --all - 2> /dev/null | wc -l)" -eq 4103 ] || {
     echo 'hid_texts: a map of 4,101 rows has others' >&2
+    exit 1
+}
+
+# A block of 64 lines is folded, one of 65 isn't; a report is looked for among 16 of its size.
+lines_of_fields() {
+    echo "$1" | "$program" fields - 2> /dev/null | wc -l
+}
+twice() {
+    echo "05 09 15 00 25 01 75 01 95 $1 19 01 29 $1 81 02 19 01 29 $1 81 02"
+}
+others() {
+    printf '05 01 75 08 95 01'
+    printf ' 85 %02x 09 %02x 81 02' $(for it in $(seq "$1"); do echo "$it" $((it + 47)); done) 99 48
+}
+counts="$(lines_of_fields "$(twice 40)") $(lines_of_fields "$(twice 41)")"
+counts="$counts $(lines_of_fields "$(others 16)") $(lines_of_fields "$(others 17)")"
+[ "$counts" = '66 131 32 36' ] || {
+    echo "hid_texts: blocks and reports are folded to $counts lines" >&2
     exit 1
 }
 
@@ -107,6 +129,15 @@ case $(ulimit -v 32768 && head -c 60000000 /dev/zero | tr '\0' '\n' | "$program"
 esac
 refused "$(echo 0501 | "$program" convert --form hex - 2>&1 > /dev/full)" \
     'hid: -: No space left on device (os error 28)'
+
+# Bytes are a capture where its mark and its version are there; a word less, and they are bytes.
+capture_of() {
+    printf "$1" | "$program" convert - 2>&1 | head -n 1
+}
+refused "$(capture_of '\324\303\262\241\2\0\4\0')" 'hid: -: the capture is cut short'
+refused "$(capture_of '\324\303\262\241\2\0\5\0')" 'hid: -: read as bytes'
+refused "$(capture_of '\n\r\r\n\0\0\0\0M<+\32')" 'hid: -: the block at byte 0 is cut short'
+refused "$(capture_of '\n\r\r\n\0\0\0\0M<+\33')" 'hid: -: read as bytes'
 
 # A stream in pieces that end within a line, within a character or behind an empty line is what it is
 # whole: its form, too.

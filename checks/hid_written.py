@@ -156,7 +156,7 @@ def main():
     descriptors = [bytes.fromhex(line) for line in sys.stdin]
     wholes = list(joined(filter(is_whole, descriptors)))
     others = [data for data in descriptors if not is_whole(data)]
-    targets = {**FORMS, 'zephyr': None, 'tinyusb': None}
+    targets = {**FORMS, 'zephyr': 'source', 'tinyusb': 'source'}
     answers = 0
 
     def compare(target, reader, asked, got):

@@ -116,8 +116,17 @@ const WRITTEN_AS: &str = "What the bytes are written as";
 
 const TARGET: Argument = ("to", Kind::Target, WRITTEN_AS);
 
-/// Of `decode`, `fields` and `check`.
+/// Of `decode` and `check`.
 static DECODE: [Argument; 1] = [FILE];
+
+static FIELDS: [Argument; 2] = [
+    FILE,
+    (
+        "all",
+        Kind::Flag,
+        "Show each field and each report by itself, also those that are alike",
+    ),
+];
 
 static VALUES: [Argument; 4] = [
     FILE,
@@ -230,6 +239,7 @@ static COMMANDS: [(&str, &str); 12] = [
 /// The arguments of a command.
 fn arguments_of(name: &str) -> &'static [Argument] {
     match name {
+        "fields" => &FIELDS,
         "values" => &VALUES,
         "record" => &RECORD,
         "uhid" => &UHID,
@@ -246,7 +256,7 @@ fn arguments_of(name: &str) -> &'static [Argument] {
 /// What stands below the help.
 const AFTER: &str = "FILE is a report descriptor: a file, - for the standard input, or a node such \
 as /dev/hidraw0.\nIt holds bytes, hex text, a dump with offsets, C, Rust or Python source, or what \
-hid-recorder,\nusbhid-dump, libinput record, debugfs or lsusb -v write.\nThe status is 0, 1 where \
+hid-recorder,\nusbhid-dump, libinput record, debugfs or lsusb -v write, or a capture of usbmon.\nThe status is 0, 1 where \
 something is refused or can't be read, and 2 where the words are wrong.";
 
 /// `hid` with its commands.

@@ -1,5 +1,6 @@
 //! What is read: descriptors and reports, in the forms that people have them.
 
+mod capture;
 mod form;
 mod given;
 mod machine;

@@ -3,6 +3,8 @@
 //! Licence: MIT (LICENSE).
 #![tactic(auto)]
 
+pub mod macros;
+
 use anyhow::Result;
 use serde::Serialize;
 use std::alloc::{AllocError, Global};

@@ -1,20 +1,26 @@
 //! Reports: what they are called, what their bytes say, and their bits as rows.
 
 mod alike_fields;
+mod block;
 mod choices;
+mod field_line;
+mod id_runs;
 mod line;
 mod reading;
 mod rows;
+mod same_reports;
 mod svg;
 
 use crate::words::title_of;
-pub use alike_fields::AlikeFields;
 use anyhow::Result;
+pub use block::Block;
 pub use choices::{add_choice, add_choices};
+pub use field_line::{FieldLine, field_lines};
 use hidreport::{Direction, RDescReport, Report, ReportDescriptor};
 pub use line::Lines;
 pub use reading::{Amount, Choice, amount_of, choice_of, element_width, is_outside, readable};
 pub use rows::{Cell, Row, rows_of};
+pub use same_reports::SameReports;
 use std::alloc::AllocError;
 use std::fmt::Write;
 pub use svg::Picture;

@@ -14,7 +14,9 @@ mod usage_list;
 pub use depth::{add_depth, add_spaces, indent_of};
 pub use direction::{direction_named, title_of, word_of};
 pub use field_flags::{FLAG_WORDS, FLAGS, flags_of};
-pub use field_words::{add_alike_fields, add_array_name, add_field, add_name, add_name_on_page};
+pub use field_words::{
+    add_alike_fields, add_array_name, add_bits, add_field, add_name, add_name_on_page,
+};
 pub use flag_table::FlagTable;
 pub use item_reading::{item_of_words, number_of, plain_number};
 pub use item_words::add_item;

@@ -21,8 +21,8 @@ complete -c hid -n "$none" -a help -d "Print this message or the help of the giv
 complete -c hid -n "__fish_seen_subcommand_from help" -a "$commands"
 
 # The options of all commands.
-complete -c hid -l form -x -a "bytes hex recorder dump source python offsets libinput debugfs lsusb" -d "What the descriptor's input holds, where it isn't to be guessed"
-complete -c hid -l report-form -x -a "bytes hex recorder dump source python offsets libinput debugfs lsusb" -d "What the reports' input holds, where it isn't to be guessed"
+complete -c hid -l form -x -a "bytes hex recorder dump source python offsets libinput debugfs lsusb usbmon" -d "What the descriptor's input holds, where it isn't to be guessed"
+complete -c hid -l report-form -x -a "bytes hex recorder dump source python offsets libinput debugfs lsusb usbmon" -d "What the reports' input holds, where it isn't to be guessed"
 complete -c hid -l device -x -d "The device that is meant, of an input that has several"
 complete -c hid -l limit -x -d "The most that a descriptor may list, 131072 where it isn't said"
 complete -c hid -l push -x -a "globals all" -d "What a Push keeps: globals, as hosts read, or all"
@@ -35,6 +35,7 @@ complete -c hid -s h -l help -d "Print help"
 complete -c hid -n "$none" -s V -l version -d "Print version"
 
 # Those of one.
+complete -c hid -n "__fish_seen_subcommand_from fields" -l all -d "Show each field and each report by itself, also those that are alike"
 complete -c hid -n "__fish_seen_subcommand_from values" -l direction -x -a "input output feature" -d "Which way the reports go"
 complete -c hid -n "__fish_seen_subcommand_from values" -l down -d "Show only the keys and buttons that are down, a name in each line"
 complete -c hid -n "__fish_seen_subcommand_from record" -l changes -d "Leave out what is as it was in the report before"

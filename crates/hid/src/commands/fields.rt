@@ -5,9 +5,8 @@ use anyhow::Result;
 use hid_input::settings::Settings;
 use hid_output::{flush, flush_piece};
 use hid_text::field_object::add_field_object;
-use hid_text::report::{AlikeFields, add_title};
-use hid_text::words::{add_collection, add_depth, add_spaces, indent_of};
-use hidreport::{Collection, Direction, Field, RDescReport, Report};
+use hid_text::report::{Block, SameReports, add_title, field_lines};
+use hidreport::{Direction, RDescReport, Report};
 use std::alloc::AllocError;
 use std::fmt::Write;
 use std::rt::Files;
@@ -17,6 +16,8 @@ use std::rt::Files;
 pub struct Fields<'a> {
     /// The descriptor's input.
     pub file: &'a str,
+    /// Whether each field has a line of its own, and each report is shown by itself.
+    pub shows_each: bool,
 }
 
 impl<'a> Fields<'a> {
@@ -29,102 +30,94 @@ impl<'a> Fields<'a> {
         let descriptor = descriptor_by(rt, settings, self.file)?;
         let mut text = String::new(rt.alloc());
         for direction in Direction::ALL {
-            for report in descriptor.reports(direction) {
-                show_report(rt, settings, &mut text, direction, report)?;
+            let reports = descriptor.reports(direction);
+            if settings.is_json {
+                show_objects(rt, &mut text, direction, reports)?;
+            } else {
+                self.show_reports(rt, &mut text, direction, reports)?;
             }
         }
         flush(rt, &mut text)?;
         Ok(Ending::Done)
     }
+
+    /// Shows reports, those with the same fields once.
+    fn show_reports<R: AllocGlobal + Print>(
+        &self,
+        rt: &R,
+        text: &mut String,
+        direction: Direction,
+        reports: &[RDescReport],
+    ) -> Result<()> {
+        let same = SameReports::of(rt.alloc(), reports, self.shows_each)?;
+        for (place, report) in reports.iter().enumerate() {
+            if same.is_first(place) {
+                add_head(text, direction, reports, report, &same, place)?;
+                self.show_fields(rt, text, report)?;
+            }
+        }
+        Ok(())
+    }
+
+    /// Shows the fields of a report, a line for those side by side that are alike but for their
+    /// bits, and one for a block that stands again.
+    fn show_fields<R: AllocGlobal + Print>(
+        &self,
+        rt: &R,
+        text: &mut String,
+        report: &RDescReport,
+    ) -> Result<()> {
+        let lines = field_lines(rt.alloc(), report, self.shows_each)?;
+        let mut next = 0usize;
+        for place in 0..lines.len() {
+            if place < next {
+                continue;
+            }
+            let rest = lines.get(place..).unwrap_or(&lines);
+            let block = if self.shows_each {
+                Block::line()
+            } else {
+                Block::at(rest)
+            };
+            block.add(text, rest)?;
+            flush_piece(rt, text)?;
+            next = place.saturating_add(block.len());
+        }
+        Ok(())
+    }
 }
 
-/// Shows a report: a line that names it, then its collections and fields, padding as deep as the
-/// field before; or its fields as JSON.
-fn show_report<R: Print>(
+/// Shows the fields of reports as JSON.
+fn show_objects<R: Print>(
     rt: &R,
-    settings: &Settings,
     text: &mut String,
     direction: Direction,
-    report: &RDescReport,
+    reports: &[RDescReport],
 ) -> Result<()> {
-    if settings.is_json {
+    for report in reports {
         for field in report.fields() {
             add_field_object(text, direction, report, field)?;
             flush_piece(rt, text)?;
         }
-        return Ok(());
     }
-    add_head(text, direction, report)?;
-    show_fields(rt, text, report)
+    Ok(())
 }
 
-/// Shows the fields of a report, a line for those side by side that are alike but for their bits.
-fn show_fields<R: Print>(rt: &R, text: &mut String, report: &RDescReport) -> Result<()> {
-    let mut open: &[Collection] = &[];
-    let mut run: Option<AlikeFields> = None;
-    for field in report.fields() {
-        if let Some(longer) = run.and_then(|run| run.with(field)) {
-            run = Some(longer);
-            continue;
-        }
-        if let Some(run) = run {
-            add_placed_fields(text, open, run)?;
-            open = around(open, run.first);
-            flush_piece(rt, text)?;
-        }
-        run = Some(AlikeFields::of(field));
-    }
-    match run {
-        Some(run) => Ok(add_placed_fields(text, open, run)?),
-        None => Ok(()),
-    }
-}
-
-/// Appends the line that names a report.
+/// Appends the line that names a report, and those with the same fields.
 fn add_head(
     text: &mut String,
     direction: Direction,
+    reports: &[RDescReport],
     report: &RDescReport,
+    same: &SameReports,
+    place: usize,
 ) -> Result<(), AllocError> {
-    add_title(text, direction, report)?;
     let (bits, bytes) = (report.size_in_bits(), report.size_in_bytes());
     let plural = if bytes == 1 { "" } else { "s" };
-    writeln!(text, ": {bits} bits, {bytes} byte{plural}")
-}
-
-/// Appends fields below the collections that they lie in, where those before them aren't these.
-fn add_placed_fields(
-    text: &mut String,
-    open: &[Collection],
-    run: AlikeFields,
-) -> Result<(), AllocError> {
-    let around = around(open, run.first);
-    add_opened(text, open, around)?;
-    let indent = indent_of(around.len().saturating_add(1));
-    add_spaces(text, indent)?;
-    run.add(text, indent)?;
-    text.push_str("\n")
-}
-
-/// The collections around a field: padding lies in those of the field before it.
-fn around<'a>(open: &'a [Collection], field: &'a Field) -> &'a [Collection] {
-    match field {
-        Field::Constant(_) => open,
-        _ => field.collections(),
+    if same.count(place) == 1 {
+        add_title(text, direction, report)?;
+        return writeln!(text, ": {bits} bits, {bytes} byte{plural}");
     }
-}
-
-/// Appends the collections that a field lies in and the one before it doesn't.
-fn add_opened(
-    text: &mut String,
-    before: &[Collection],
-    around: &[Collection],
-) -> Result<(), AllocError> {
-    let shared = Collection::shared(before, around);
-    for (depth, collection) in around.iter().enumerate().skip(shared) {
-        add_depth(text, depth.saturating_add(1))?;
-        add_collection(text, collection)?;
-        text.push_str("\n")?;
-    }
-    Ok(())
+    same.add_title(text, direction, reports, place)?;
+    writeln!(text, ": {bits} bits, {bytes} byte{plural} each")
 }

@@ -5,8 +5,10 @@ mod debugfs;
 mod dump;
 mod dump_line;
 mod hex_text;
+mod item_list;
 mod libinput;
 mod lsusb;
+mod macro_call;
 mod number_list;
 mod offsets;
 mod python;
@@ -61,12 +63,15 @@ pub enum Form {
 
     /// As lsusb's items.
     Lsusb,
+
+    /// As a capture of usbmon.
+    Usbmon,
 }
 
 /// The words for the forms on a command line.
-pub static FORM_WORDS: [&str; 10] = [
+pub static FORM_WORDS: [&str; 11] = [
     "bytes", "hex", "recorder", "dump", "source", "python", "offsets", "libinput", "debugfs",
-    "lsusb",
+    "lsusb", "usbmon",
 ];
 
 impl Form {
@@ -83,6 +88,7 @@ impl Form {
             "libinput" => Some(Form::Libinput),
             "debugfs" => Some(Form::Debugfs),
             "lsusb" => Some(Form::Lsusb),
+            "usbmon" => Some(Form::Usbmon),
             _ => None,
         }
     }
@@ -100,6 +106,7 @@ impl Form {
             Form::Libinput => "libinput record's text",
             Form::Debugfs => "debugfs's rdesc",
             Form::Lsusb => "lsusb's text",
+            Form::Usbmon => "a capture of usbmon",
         }
     }
 
@@ -165,7 +172,7 @@ impl Form {
 
     /// Whether it tells devices apart by a number or an address.
     pub fn tells_devices(self) -> bool {
-        matches!(self, Form::Recorder | Form::Dump)
+        matches!(self, Form::Recorder | Form::Dump | Form::Usbmon)
     }
 }
 
@@ -194,10 +201,10 @@ pub enum FormLines {
 }
 
 impl FormLines {
-    /// Before the first line; none of bytes, which have no lines.
+    /// Before the first line; none of bytes and captures, which have no lines.
     pub fn new(alloc: Global, form: Form, wanted: Wanted) -> Option<FormLines> {
         match form {
-            Form::Bytes => None,
+            Form::Bytes | Form::Usbmon => None,
             Form::Hex => Some(FormLines::Hex(HexLines::new(alloc, wanted))),
             Form::Recorder => Some(FormLines::Recorder(RecorderLines::new())),
             Form::Dump => Some(FormLines::Dump(DumpLines::new(alloc))),

@@ -15,6 +15,8 @@ pub struct Given {
     pub devices: Vec<Device>,
     /// The reports, in the order of the input.
     pub reports: Vec<GivenReport>,
+    /// What is left out of it.
+    pub notes: Vec<String>,
 }
 
 /// A device of an input.
@@ -57,7 +59,7 @@ impl Given {
                 _ => None,
             };
         }
-        if let (Form::Dump, Some(address)) = (self.form, &report.address) {
+        if let (Form::Dump | Form::Usbmon, Some(address)) = (self.form, &report.address) {
             return self
                 .devices
                 .iter()
@@ -96,6 +98,8 @@ pub struct Found {
     pub devices: Vec<Device>,
     /// The reports.
     pub reports: Vec<GivenReport>,
+    /// What is left out.
+    pub notes: Vec<String>,
 }
 
 impl Found {
@@ -104,6 +108,7 @@ impl Found {
         Found {
             devices: Vec::new(alloc),
             reports: Vec::new(alloc),
+            notes: Vec::new(alloc),
         }
     }
 
@@ -201,11 +206,16 @@ impl Found {
 
     /// All of it, in a form.
     pub fn given(self, form: Form) -> Given {
-        let Found { devices, reports } = self;
+        let Found {
+            devices,
+            reports,
+            notes,
+        } = self;
         Given {
             form,
             devices,
             reports,
+            notes,
         }
     }
 }

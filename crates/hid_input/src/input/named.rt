@@ -104,6 +104,7 @@ pub fn descriptors_named<R: AllocGlobal + Files + Input + Eprint>(
     if settings.form.is_none() {
         tell_form(rt, name, given.form)?;
     }
+    tell_notes(rt, name, &given)?;
     choose(&mut given, settings.device)?;
     if settings.is_lenient {
         mend(rt, settings, name, &mut given)?;
@@ -148,8 +149,18 @@ pub fn reports_named<R: AllocGlobal + Files + Input + Eprint>(
     if settings.report_form.is_none() {
         tell_form(rt, name, given.form)?;
     }
+    tell_notes(rt, name, &given)?;
     ensure!(!given.reports.is_empty(), "no report");
     Ok(given)
+}
+
+/// Says what of an input is left out.
+fn tell_notes<R: AllocGlobal + Eprint>(rt: &R, name: &str, given: &Given) -> Result<()> {
+    let name = escaped(rt.alloc(), name)?;
+    for note in given.notes.iter() {
+        eprintln!(rt; "hid: {name}: {note}")?;
+    }
+    Ok(())
 }
 
 /// Says which node a name means.

@@ -1,4 +1,5 @@
 //! The reports of a stream, of which pieces come one after the other.
+use crate::input::capture::is_capture;
 use crate::input::form::{Form, FormLines, Wanted, is_blank};
 use crate::input::given::{Found, GivenReport};
 use crate::input::named::tell_form;
@@ -23,6 +24,9 @@ enum Reading {
 
     /// Lines of a form.
     Lines(FormLines),
+
+    /// A capture, which isn't read as a stream.
+    Capture,
 }
 
 /// A stream, with what is left of its pieces so far.
@@ -185,6 +189,11 @@ impl Stream {
     /// too.
     fn look(&mut self, is_end: bool) -> Result<()> {
         let alloc = *self.pending.allocator();
+        if is_capture(&self.pending) {
+            self.form = Some(Form::Usbmon);
+            self.reading = Reading::Capture;
+            return Ok(());
+        }
         let Some(rest) = self.pending.get(self.line_at..) else {
             return Ok(());
         };
@@ -215,6 +224,7 @@ impl Stream {
             }
             Reading::Bytes => self.take_bytes(descriptor, piece),
             Reading::Lines(_) => self.take_lines(piece),
+            Reading::Capture => bail!("a capture is no stream: hid values shows its reports"),
         }
     }
 
@@ -275,6 +285,9 @@ fn reading_of(alloc: Global, form: Option<Form>) -> Reading {
     let Some(form) = form else {
         return Reading::Unknown;
     };
+    if form == Form::Usbmon {
+        return Reading::Capture;
+    }
     match FormLines::new(alloc, form, Wanted::Reports) {
         Some(lines) => Reading::Lines(lines),
         None => Reading::Bytes,

@@ -1,4 +1,5 @@
 //! A whole input, in the form that is named or the one that it has.
+use crate::input::capture::{is_capture, read_capture};
 use crate::input::form::{Form, FormLines, Wanted, is_blank};
 use crate::input::given::{Found, Given, GivenReport};
 use anyhow::{Context, Result, bail, ensure};
@@ -14,6 +15,9 @@ pub fn given_of(
 ) -> Result<Given> {
     if form == Some(Form::Bytes) {
         return plain(alloc, bytes, wanted);
+    }
+    if form == Some(Form::Usbmon) || form.is_none() && is_capture(&bytes) {
+        return captured(alloc, &bytes);
     }
     let Some(text) = text_of(&bytes) else {
         ensure!(form.is_none(), "isn't text");
@@ -38,6 +42,13 @@ fn said(alloc: Global, text: &str, form: Form, wanted: Wanted) -> Result<Given> 
         lines.end(&mut found)?;
     }
     Ok(found.given(form))
+}
+
+/// What the packets of a capture say.
+fn captured(alloc: Global, bytes: &[u8]) -> Result<Given> {
+    let mut found = Found::new(alloc);
+    read_capture(alloc, &mut found, bytes)?;
+    Ok(found.given(Form::Usbmon))
 }
 
 /// Bytes as they are.

@@ -1,7 +1,8 @@
 //! Fields side by side that are alike but for their bits.
 use crate::words::{add_alike_fields, add_field, flags_of};
-use hidreport::{Collection, Field, VariableField};
+use hidreport::{ArrayField, Collection, Field, VariableField};
 use std::alloc::AllocError;
+use std::ops::Range;
 
 /// A field, and those behind it that are alike: of the same usage, width, bounds, unit, flags and
 /// collections.
@@ -40,6 +41,21 @@ impl<'a> AlikeFields<'a> {
         })
     }
 
+    /// How many they are.
+    pub fn count(self) -> usize {
+        self.count
+    }
+
+    /// The bits of all of them.
+    pub fn bits(self) -> Range<usize> {
+        self.first.bits().start..self.end
+    }
+
+    /// Whether others are as many, and alike but for their bits and collections.
+    pub fn are_like(self, others: AlikeFields) -> bool {
+        self.count == others.count && are_fields_alike(self.first, others.first)
+    }
+
     /// Appends them in one line, without its end.
     pub fn add(self, text: &mut String, indent: usize) -> Result<(), AllocError> {
         match self.first {
@@ -51,13 +67,39 @@ impl<'a> AlikeFields<'a> {
     }
 }
 
+/// Whether two fields are the same but for their numbers, where their bits begin, and their
+/// collections.
+pub fn are_fields_alike(first: &Field, other: &Field) -> bool {
+    match (first, other) {
+        (Field::Variable(first), Field::Variable(other)) => are_variables_alike(first, other),
+        (Field::Array(first), Field::Array(other)) => are_arrays_alike(first, other),
+        (Field::Constant(first), Field::Constant(other)) => first.bits.len() == other.bits.len(),
+        _ => false,
+    }
+}
+
 /// Whether two fields are the same but for their numbers and their bits.
 fn are_alike(first: &VariableField, next: &VariableField) -> bool {
-    first.bits.len() == next.bits.len()
-        && first.usage == next.usage
-        && have_same_measures(first, next)
-        && flags_of(first) == flags_of(next)
+    are_variables_alike(first, next)
         && have_same_collections(first.collections.as_slice(), next.collections.as_slice())
+}
+
+fn are_variables_alike(first: &VariableField, other: &VariableField) -> bool {
+    first.bits.len() == other.bits.len()
+        && first.usage == other.usage
+        && have_same_measures(first, other)
+        && flags_of(first) == flags_of(other)
+}
+
+/// Whether two arrays are the same in what is shown of them.
+fn are_arrays_alike(first: &ArrayField, other: &ArrayField) -> bool {
+    first.bits.len() == other.bits.len()
+        && first.report_count == other.report_count
+        && first.logical_minimum == other.logical_minimum
+        && first.logical_maximum == other.logical_maximum
+        && flags_of(first) == flags_of(other)
+        && first.is_usage_range() == other.is_usage_range()
+        && first.usages() == other.usages()
 }
 
 /// Whether two fields have the same bounds and unit.

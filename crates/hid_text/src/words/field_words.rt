@@ -69,7 +69,7 @@ pub fn add_alike_fields(
 }
 
 /// Appends the bits that a line of a field begins with.
-fn add_bits(text: &mut String, start: usize, end: usize) -> Result<(), AllocError> {
+pub fn add_bits(text: &mut String, start: usize, end: usize) -> Result<(), AllocError> {
     write!(text, "{start:>4}..{end:<4} ")
 }
 

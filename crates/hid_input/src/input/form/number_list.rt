@@ -10,6 +10,8 @@ pub struct NumberList {
     bytes: Vec<u8>,
     /// Whether a number was last, and no comma.
     is_behind_number: bool,
+    /// Whether no comma has to stand behind it.
+    may_lack_comma: bool,
 }
 
 impl NumberList {
@@ -18,6 +20,7 @@ impl NumberList {
         NumberList {
             bytes: Vec::new(alloc),
             is_behind_number: false,
+            may_lack_comma: false,
         }
     }
 
@@ -43,20 +46,39 @@ impl NumberList {
     }
 
     /// Takes a comma.
-    fn take_comma(&mut self) -> Result<()> {
+    pub fn take_comma(&mut self) -> Result<()> {
         ensure!(self.is_behind_number, "no number stands before a comma");
         self.is_behind_number = false;
+        self.may_lack_comma = false;
+        Ok(())
+    }
+
+    /// Takes the bytes that a word writes.
+    pub fn take_item(&mut self, word: &str, bytes: &[u8]) -> Result<()> {
+        self.begin(word)?;
+        Ok(self.bytes.extend_from_slice(bytes)?)
+    }
+
+    /// Takes that behind the last bytes no comma has to stand.
+    pub fn needs_no_comma(&mut self) {
+        self.may_lack_comma = true;
+    }
+
+    /// Takes that a word stands where a comma came before it, if it needs one.
+    fn begin(&mut self, word: &str) -> Result<()> {
+        ensure!(
+            !self.is_behind_number || self.may_lack_comma,
+            "no comma stands before {word}"
+        );
+        self.is_behind_number = true;
+        self.may_lack_comma = false;
         Ok(())
     }
 
     /// Takes a number.
-    fn take_number(&mut self, word: &str) -> Result<()> {
-        ensure!(!self.is_behind_number, "no comma stands before {word}");
-        self.is_behind_number = true;
-        ensure!(
-            !is_octal(word),
-            "{word} begins with 0: it may be octal or decimal"
-        );
+    pub fn take_number(&mut self, word: &str) -> Result<()> {
+        self.begin(word)?;
+        check_digits(word)?;
         match byte_of(word) {
             Some(byte) => Ok(self.bytes.push(byte)?),
             None => bail!("{word} is no byte"),
@@ -67,8 +89,40 @@ impl NumberList {
     pub fn taken(&mut self) -> Vec<u8> {
         let alloc = *self.bytes.allocator();
         self.is_behind_number = false;
+        self.may_lack_comma = false;
         mem::replace(&mut self.bytes, Vec::new(alloc))
     }
+}
+
+/// Refuses a number that C may read as another.
+fn check_digits(word: &str) -> Result<()> {
+    ensure!(
+        !is_octal(word),
+        "{word} begins with 0: it may be octal or decimal"
+    );
+    Ok(())
+}
+
+/// The number that a word writes, with a sign or without.
+pub fn number_of(word: &str) -> Result<Option<i64>> {
+    let digits = word.strip_prefix("-").unwrap_or(word);
+    check_digits(digits)?;
+    if digits.starts_with(|letter: char| matches!(letter, '+' | '-')) {
+        return Ok(None);
+    }
+    let number = match without_prefix(digits) {
+        Some(digits) if digits.starts_with(|letter: char| matches!(letter, '+' | '-')) => None,
+        Some(digits) => u32::from_str_radix(digits, 16).ok(),
+        None => digits.parse::<u32>().ok(),
+    };
+    Ok(number.map(|number| {
+        let number = i64::from(number);
+        if digits.len() < word.len() {
+            -number
+        } else {
+            number
+        }
+    }))
 }
 
 /// Whether a number is another where C reads it: digits behind a 0, of which one digit alone is the

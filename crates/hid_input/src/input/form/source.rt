@@ -1,7 +1,7 @@
-//! Arrays of C and Rust, as `hid convert` writes them: a declaration with a list of numbers in
-//! braces or brackets, and remarks behind `//` or between `/*` and `*/`.
+//! Arrays of C and Rust, as `hid convert` writes them: a declaration with a list of numbers or
+//! macros in braces or brackets, and remarks behind `//` or between `/*` and `*/`.
 use crate::input::form::Wanted;
-use crate::input::form::number_list::NumberList;
+use crate::input::form::item_list::ItemList;
 use crate::input::given::{Found, GivenReport};
 use anyhow::{Result, bail, ensure};
 use std::alloc::{AllocError, Global};
@@ -14,10 +14,12 @@ pub struct SourceLines {
     read: usize,
     is_in_remark: bool,
     is_in_list: bool,
+    /// Whether the list of the declaration in the line before is still to begin.
+    is_declared: bool,
     /// The name of the array, and how many bytes it says that it has.
     name: String,
     said: Option<usize>,
-    numbers: NumberList,
+    items: ItemList,
     /// How many bytes the last array has.
     count: Option<usize>,
 }
@@ -28,9 +30,14 @@ pub fn is_source_line(line: &str) -> bool {
         return true;
     }
     match line.split_once("=") {
-        Some((_declared, list)) => begun_list(list).is_some(),
+        Some((declared, list)) => begun_list(list).is_some() || is_declaration(declared, list),
         None => false,
     }
+}
+
+/// Whether an array is declared whose list begins in the next line.
+fn is_declaration(declared: &str, list: &str) -> bool {
+    declared.trim().ends_with("]") && list.trim().is_empty()
 }
 
 /// What stands behind the brace or the bracket that begins a list.
@@ -51,9 +58,10 @@ impl SourceLines {
             read: 0,
             is_in_remark: false,
             is_in_list: false,
+            is_declared: false,
             name: String::new(alloc),
             said: None,
-            numbers: NumberList::new(alloc),
+            items: ItemList::new(alloc),
             count: None,
         }
     }
@@ -70,13 +78,30 @@ impl SourceLines {
         if self.is_in_list {
             return self.take_list(found, code);
         }
+        if self.is_declared {
+            return self.take_first(found, code);
+        }
         let Some((declared, list)) = code.split_once("=") else {
             bail!("is no declaration of bytes");
         };
-        let Some(list) = begun_list(list) else {
+        if is_declaration(declared, list) {
+            self.is_declared = true;
+            return self.begin(alloc, declared);
+        }
+        if begun_list(list).is_none() {
             return self.take_length(declared, list);
+        }
+        self.begin(alloc, declared)?;
+        self.take_first(found, list)
+    }
+
+    /// Takes the beginning of a list.
+    fn take_first(&mut self, found: &mut Found, code: &str) -> Result<()> {
+        let Some(list) = begun_list(code) else {
+            bail!("no list of bytes is behind =");
         };
-        self.begin(*found.devices.allocator(), declared)?;
+        self.is_declared = false;
+        self.is_in_list = true;
         self.take_list(found, list)
     }
 
@@ -89,7 +114,6 @@ impl SourceLines {
         let name = before.split_whitespace().last().unwrap_or("");
         self.name = String::from_str(alloc, name)?;
         self.said = said_in(declared);
-        self.is_in_list = true;
         Ok(())
     }
 
@@ -97,9 +121,9 @@ impl SourceLines {
     fn take_list(&mut self, found: &mut Found, code: &str) -> Result<()> {
         let Some((list, behind)) = code.split_once(|letter: char| matches!(letter, '}' | ']'))
         else {
-            return self.numbers.add(code);
+            return self.items.add(code);
         };
-        self.numbers.add(list)?;
+        self.items.add(list)?;
         ensure!(
             matches!(behind.trim(), "" | ";"),
             "something stands behind the list"
@@ -125,7 +149,7 @@ impl SourceLines {
     /// Takes an array as a descriptor or a report.
     fn take_array(&mut self, found: &mut Found) -> Result<()> {
         self.is_in_list = false;
-        let bytes = self.numbers.taken();
+        let bytes = self.items.taken()?;
         let got = bytes.len();
         self.count = Some(got);
         if let Some(said) = self.said {
@@ -142,6 +166,7 @@ impl SourceLines {
     /// Looks whether the last array is whole.
     pub fn end(&mut self) -> Result<()> {
         ensure!(!self.is_in_list, "the list of bytes has no end");
+        ensure!(!self.is_declared, "no list of bytes is behind =");
         Ok(())
     }
 }

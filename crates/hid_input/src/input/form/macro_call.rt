@@ -1,0 +1,126 @@
+//! An item of a descriptor in a macro of C, as `hid convert` writes it for Zephyr and TinyUSB.
+use crate::input::form::number_list::number_of;
+use anyhow::{Result, bail, ensure};
+use hid_output::macros::{Arguments, Macro, number_named};
+use std::alloc::Global;
+
+/// Whether a word begins as a name of C does.
+pub fn is_name(word: &str) -> bool {
+    word.starts_with(|letter: char| letter.is_ascii_alphabetic() || letter == '_')
+}
+
+/// Appends the bytes of a macro with its arguments.
+///
+/// # Errors
+///
+/// - the macro isn't known, or it has other arguments;
+/// - an argument is no known name and no number, or has no room in the item.
+pub fn add_call(bytes: &mut Vec<u8>, call: &str) -> Result<()> {
+    let (name, list) = match call.split_once("(") {
+        Some((name, list)) => (name.trim(), Some(list)),
+        None => (call, None),
+    };
+    let Some(known) = Macro::named(name) else {
+        bail!("{name} is no macro that is known");
+    };
+    let alloc = *bytes.allocator();
+    let values = values_of(alloc, name, list)?;
+    let (wanted, got) = (known.arguments.count(), values.len());
+    let plural = if wanted == 1 { "" } else { "s" };
+    ensure!(
+        wanted == got,
+        "{name} takes {wanted} argument{plural}, and has {got}"
+    );
+    add_item(bytes, known, &values)
+}
+
+/// The numbers of the arguments between parentheses.
+fn values_of(alloc: Global, name: &str, list: Option<&str>) -> Result<Vec<i64>> {
+    let mut values = Vec::new(alloc);
+    let Some(list) = list else {
+        return Ok(values);
+    };
+    let (list, behind) = list.split_once(")").unwrap_or((list, ""));
+    ensure!(behind.is_empty(), "something stands behind {name}( )");
+    for argument in list.split(",") {
+        values.push(value_of(argument)?)?;
+    }
+    Ok(values)
+}
+
+/// The number of an argument: numbers and names with `|` between them.
+fn value_of(argument: &str) -> Result<i64> {
+    let mut value = 0i64;
+    for part in argument.split("|") {
+        let part = part.trim();
+        ensure!(!part.is_empty(), "an argument says nothing");
+        let number = match number_named(part) {
+            Some(number) => Some(i64::from(number)),
+            None => number_of(part)?,
+        };
+        match number {
+            Some(number) => value |= number,
+            None => bail!("{part} is no number, and no name that is known"),
+        }
+    }
+    Ok(value)
+}
+
+/// Appends an item with the numbers of its macro's arguments.
+fn add_item(bytes: &mut Vec<u8>, known: Macro, values: &[i64]) -> Result<()> {
+    match (known.arguments, values) {
+        (Arguments::Sized, [value, size]) => {
+            let (code, count) = size_of(*size)?;
+            bytes.push(known.header | code)?;
+            add_number(bytes, *value, count)
+        }
+        (Arguments::Item, [tag, kind, size]) => {
+            let (tag, kind) = (part_of(*tag, 15)?, part_of(*kind, 3)?);
+            let size = part_of(*size, 3)?;
+            Ok(bytes.push(tag << 4 | kind << 2 | size)?)
+        }
+        _ => {
+            bytes.push(known.header)?;
+            for value in values {
+                add_number(bytes, *value, 1)?;
+            }
+            Ok(())
+        }
+    }
+}
+
+/// The size of an item's data as its first byte has it, and in bytes.
+fn size_of(size: i64) -> Result<(u8, usize)> {
+    match size {
+        1 => Ok((1, 1)),
+        2 => Ok((2, 2)),
+        3 => Ok((3, 4)),
+        _ => bail!("{size} is no size: 1, 2, or 3 for four bytes"),
+    }
+}
+
+/// A part of an item's first byte.
+fn part_of(value: i64, most: u8) -> Result<u8> {
+    match u8::try_from(value) {
+        Ok(part) if part <= most => Ok(part),
+        _ => bail!("{value} isn't 0 to {most}"),
+    }
+}
+
+/// Appends a number in so many bytes, the low one first, with a sign or without.
+fn add_number(bytes: &mut Vec<u8>, value: i64, count: usize) -> Result<()> {
+    let (low, high) = match count {
+        1 => (i64::from(i8::MIN), i64::from(u8::MAX)),
+        2 => (i64::from(i16::MIN), i64::from(u16::MAX)),
+        _ => (i64::from(i32::MIN), i64::from(u32::MAX)),
+    };
+    ensure!(
+        low <= value && value <= high,
+        "{value} has no room in {count} byte{}",
+        if count == 1 { "" } else { "s" }
+    );
+    for byte in value.to_le_bytes().iter().take(count) {
+        bytes.push(*byte)?;
+    }
+    Ok(())
+}
