@@ -47,7 +47,10 @@ impl<'a> Command<'a> {
         let file = matches.get_str("FILE").unwrap_or("-");
         Ok(match name {
             "decode" => Command::Decode(Decode { file }),
-            "fields" => Command::Fields(Fields { file }),
+            "fields" => {
+                let shows_linux = matches.get_flag("linux");
+                Command::Fields(Fields { file, shows_linux })
+            }
             "check" => Command::Check(Check { file }),
             "list" => Command::List(List),
             "values" => Command::Values(values_of(alloc, file, matches)?),

@@ -116,8 +116,17 @@ const WRITTEN_AS: &str = "What the bytes are written as";
 
 const TARGET: Argument = ("to", Kind::Target, WRITTEN_AS);
 
-/// Of `decode`, `fields` and `check`.
+/// Of `decode` and `check`.
 static DECODE: [Argument; 1] = [FILE];
+
+static FIELDS: [Argument; 2] = [
+    FILE,
+    (
+        "linux",
+        Kind::Flag,
+        "Show the event codes that Linux's hid-generic gives each field, without quirks",
+    ),
+];
 
 static VALUES: [Argument; 4] = [
     FILE,
@@ -230,6 +239,7 @@ static COMMANDS: [(&str, &str); 12] = [
 /// The arguments of a command.
 fn arguments_of(name: &str) -> &'static [Argument] {
     match name {
+        "fields" => &FIELDS,
         "values" => &VALUES,
         "record" => &RECORD,
         "uhid" => &UHID,

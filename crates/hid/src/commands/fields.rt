@@ -1,5 +1,6 @@
 //! `hid fields`: the reports of a descriptor with their fields, inside their collections.
 use crate::commands::descriptor_by;
+use crate::commands::linux_fields::show_linux;
 use crate::ending::Ending;
 use anyhow::Result;
 use hid_input::settings::Settings;
@@ -17,6 +18,8 @@ use std::rt::Files;
 pub struct Fields<'a> {
     /// The descriptor's input.
     pub file: &'a str,
+    /// Whether each field has the event codes of Linux behind it.
+    pub shows_linux: bool,
 }
 
 impl<'a> Fields<'a> {
@@ -26,6 +29,9 @@ impl<'a> Fields<'a> {
         rt: &R,
         settings: &Settings,
     ) -> Result<Ending> {
+        if self.shows_linux {
+            return show_linux(rt, settings, self.file);
+        }
         let descriptor = descriptor_by(rt, settings, self.file)?;
         let mut text = String::new(rt.alloc());
         for direction in Direction::ALL {
@@ -81,7 +87,7 @@ fn show_fields<R: Print>(rt: &R, text: &mut String, report: &RDescReport) -> Res
 }
 
 /// Appends the line that names a report.
-fn add_head(
+pub(crate) fn add_head(
     text: &mut String,
     direction: Direction,
     report: &RDescReport,
@@ -107,7 +113,7 @@ fn add_placed_fields(
 }
 
 /// The collections around a field: padding lies in those of the field before it.
-fn around<'a>(open: &'a [Collection], field: &'a Field) -> &'a [Collection] {
+pub(crate) fn around<'a>(open: &'a [Collection], field: &'a Field) -> &'a [Collection] {
     match field {
         Field::Constant(_) => open,
         _ => field.collections(),
@@ -115,7 +121,7 @@ fn around<'a>(open: &'a [Collection], field: &'a Field) -> &'a [Collection] {
 }
 
 /// Appends the collections that a field lies in and the one before it doesn't.
-fn add_opened(
+pub(crate) fn add_opened(
     text: &mut String,
     before: &[Collection],
     around: &[Collection],
