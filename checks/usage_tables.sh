@@ -181,3 +181,4 @@ for file in src/usage_table.rt src/page_table.rt src/type_table.rt specs/UsageRo
         cp "$fresh/$file" "$file"
     fi
 done
+bash ../../checks/event_tables.sh "$@"

@@ -49,7 +49,12 @@ impl<'a> Command<'a> {
             "decode" => Command::Decode(Decode { file }),
             "fields" => {
                 let shows_each = matches.get_flag("all");
-                Command::Fields(Fields { file, shows_each })
+                let shows_linux = matches.get_flag("linux");
+                Command::Fields(Fields {
+                    file,
+                    shows_each,
+                    shows_linux,
+                })
             }
             "check" => Command::Check(Check { file }),
             "list" => Command::List(List),

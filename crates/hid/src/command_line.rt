@@ -119,12 +119,17 @@ const TARGET: Argument = ("to", Kind::Target, WRITTEN_AS);
 /// Of `decode` and `check`.
 static DECODE: [Argument; 1] = [FILE];
 
-static FIELDS: [Argument; 2] = [
+static FIELDS: [Argument; 3] = [
     FILE,
     (
         "all",
         Kind::Flag,
         "Show each field and each report by itself, also those that are alike",
+    ),
+    (
+        "linux",
+        Kind::Flag,
+        "Show the event codes that Linux's hid-generic gives each field, without quirks",
     ),
 ];
 

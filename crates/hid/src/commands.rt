@@ -7,6 +7,8 @@ mod decode;
 mod diff;
 mod fields;
 mod findings;
+mod linux_fields;
+mod linux_reading;
 mod list;
 mod map;
 mod moved_usages;

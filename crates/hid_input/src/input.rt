@@ -12,6 +12,7 @@ mod whole;
 pub use form::{FORM_WORDS, Form, bytes_of_hex};
 pub use given::{Device, Given, GivenReport};
 pub use machine::{MachineDevice, folder_of, machine_devices};
+pub use mending::mend;
 pub use named::{
     bytes_named, descriptor_named, descriptors_named, is_node, node_named, reports_named,
     text_named,

@@ -1,4 +1,5 @@
 //! A field as JSON: all its public parts.
+use crate::linux::AnswerObject;
 use crate::words::{add_collection_kind, add_name, word_of};
 use anyhow::Result;
 use hid_output::add_json;
@@ -59,6 +60,8 @@ pub struct FieldObject {
     unit_exponent: Option<i8>,
     flags: Option<FlagsObject>,
     collections: Vec<CollectionObject>,
+    #[serde(skip_serializing_if = "Option::is_none")]
+    linux: Option<Vec<AnswerObject>>,
 }
 
 /// Appends a field as a line of JSON.
@@ -124,10 +127,16 @@ fn plain(
         unit_exponent: None,
         flags: None,
         collections: collections_of(alloc, field.collections())?,
+        linux: None,
     })
 }
 
 impl FieldObject {
+    /// Takes what Linux gives the field's usages.
+    pub fn add_linux(&mut self, answers: Vec<AnswerObject>) {
+        self.linux = Some(answers);
+    }
+
     /// Takes what a field with one value has.
     fn add_variable(&mut self, field: &VariableField) {
         self.usage = Some(u32::from(field.usage));

@@ -5,6 +5,7 @@
 
 pub mod diff;
 pub mod field_object;
+pub mod linux;
 pub mod nearest;
 pub mod report;
 pub mod value_object;

@@ -15,7 +15,7 @@ use crate::words::title_of;
 use anyhow::Result;
 pub use block::Block;
 pub use choices::{add_choice, add_choices};
-pub use field_line::{FieldLine, field_lines};
+pub use field_line::{FieldLine, around, field_lines};
 use hidreport::{Direction, RDescReport, Report, ReportDescriptor};
 pub use line::Lines;
 pub use reading::{Amount, Choice, amount_of, choice_of, element_width, is_outside, readable};

@@ -36,6 +36,7 @@ complete -c hid -n "$none" -s V -l version -d "Print version"
 
 # Those of one.
 complete -c hid -n "__fish_seen_subcommand_from fields" -l all -d "Show each field and each report by itself, also those that are alike"
+complete -c hid -n "__fish_seen_subcommand_from fields" -l linux -d "Show the event codes that Linux's hid-generic gives each field, without quirks"
 complete -c hid -n "__fish_seen_subcommand_from values" -l direction -x -a "input output feature" -d "Which way the reports go"
 complete -c hid -n "__fish_seen_subcommand_from values" -l down -d "Show only the keys and buttons that are down, a name in each line"
 complete -c hid -n "__fish_seen_subcommand_from record" -l changes -d "Leave out what is as it was in the report before"

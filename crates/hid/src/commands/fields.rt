@@ -1,5 +1,6 @@
 //! `hid fields`: the reports of a descriptor with their fields, inside their collections.
 use crate::commands::descriptor_by;
+use crate::commands::linux_fields::show_linux;
 use crate::ending::Ending;
 use anyhow::Result;
 use hid_input::settings::Settings;
@@ -18,6 +19,8 @@ pub struct Fields<'a> {
     pub file: &'a str,
     /// Whether each field has a line of its own, and each report is shown by itself.
     pub shows_each: bool,
+    /// Whether each field has the event codes of Linux behind it.
+    pub shows_linux: bool,
 }
 
 impl<'a> Fields<'a> {
@@ -27,6 +30,9 @@ impl<'a> Fields<'a> {
         rt: &R,
         settings: &Settings,
     ) -> Result<Ending> {
+        if self.shows_linux {
+            return show_linux(rt, settings, self.file);
+        }
         let descriptor = descriptor_by(rt, settings, self.file)?;
         let mut text = String::new(rt.alloc());
         for direction in Direction::ALL {
@@ -112,12 +118,28 @@ fn add_head(
     same: &SameReports,
     place: usize,
 ) -> Result<(), AllocError> {
-    let (bits, bytes) = (report.size_in_bits(), report.size_in_bytes());
-    let plural = if bytes == 1 { "" } else { "s" };
     if same.count(place) == 1 {
-        add_title(text, direction, report)?;
-        return writeln!(text, ": {bits} bits, {bytes} byte{plural}");
+        return add_head_of(text, direction, report);
     }
     same.add_title(text, direction, reports, place)?;
-    writeln!(text, ": {bits} bits, {bytes} byte{plural} each")
+    add_size(text, report)?;
+    text.push_str(" each\n")
+}
+
+/// Appends the line that names a report.
+pub(crate) fn add_head_of(
+    text: &mut String,
+    direction: Direction,
+    report: &RDescReport,
+) -> Result<(), AllocError> {
+    add_title(text, direction, report)?;
+    add_size(text, report)?;
+    text.push_str("\n")
+}
+
+/// Appends how many bits and bytes a report has.
+fn add_size(text: &mut String, report: &RDescReport) -> Result<(), AllocError> {
+    let (bits, bytes) = (report.size_in_bits(), report.size_in_bytes());
+    let plural = if bytes == 1 { "" } else { "s" };
+    write!(text, ": {bits} bits, {bytes} byte{plural}")
 }

@@ -1,0 +1,204 @@
+//! `hid fields --linux`: each field with the event codes that Linux gives its usages.
+use crate::commands::fields::add_head_of;
+use crate::commands::linux_reading::{Doubt, LinuxReading, with_arrays};
+use crate::commands::{descriptor_of, parsed};
+use crate::ending::Ending;
+use anyhow::Result;
+use hid_input::input::{descriptor_named, mend};
+use hid_input::settings::Settings;
+use hid_output::{add_json, flush, flush_piece};
+use hid_text::field_object::object_of;
+use hid_text::linux::{Answered, add_answers, add_lines, answers_of, objects_of};
+use hid_text::report::{FieldLine, around};
+use hid_text::words::{add_field, add_spaces, indent_of};
+use hidreport::{Collection, Direction, Field, Outline, OutlineReport, RDescReport, Report, Usage};
+use hidreport_linux::{Driver, InputDevices, Item, Unmapped};
+use std::alloc::AllocError;
+use std::rt::Files;
+
+/// How much deeper than its array's the usages of an array stand.
+const DEEPER: usize = 12;
+
+/// Shows the reports of a descriptor with their fields, and what Linux gives each.
+pub fn show_linux<R: AllocGlobal + Files + Input + Print + Eprint>(
+    rt: &R,
+    settings: &Settings,
+    file: &str,
+) -> Result<Ending> {
+    let mut given = descriptor_named(rt, &unmended(settings), file)?;
+    let reading = LinuxReading::of(rt.alloc(), descriptor_of(&given))?;
+    if settings.is_lenient {
+        mend(rt, settings, file, &mut given)?;
+    }
+    let bytes = descriptor_of(&given);
+    let descriptor = parsed(rt.alloc(), settings, bytes)?;
+    let arrays = with_arrays(rt.alloc(), bytes)?;
+    let named = parsed(rt.alloc(), settings, &arrays)?;
+    let outline = Outline::try_from_with(rt.alloc(), bytes, settings.parse)?;
+    let mut shown = Shown {
+        text: String::new(rt.alloc()),
+        devices: InputDevices::new(rt.alloc(), reading.applications, reading.unmapped()),
+        is_json: settings.is_json,
+    };
+    for direction in Direction::ALL {
+        let parts = outline
+            .reports(direction)
+            .iter()
+            .zip(named.reports(direction));
+        for (report, (outline, named)) in descriptor.reports(direction).iter().zip(parts) {
+            shown.show_report(rt, direction, report, (outline, named))?;
+        }
+    }
+    flush(rt, &mut shown.text)?;
+    let driver = if reading.has_sensors {
+        Some(Driver::SensorHub)
+    } else {
+        shown.devices.driver()
+    };
+    tell(rt, reading.doubt, driver)?;
+    Ok(Ending::Done)
+}
+
+/// The same options, by which a descriptor isn't mended when it is read.
+fn unmended<'a>(settings: &Settings<'a>) -> Settings<'a> {
+    Settings {
+        is_lenient: false,
+        ..*settings
+    }
+}
+
+/// Says why no codes are known, and which driver takes the device.
+fn tell<R: Eprint>(rt: &R, doubt: Option<Doubt>, driver: Option<Driver>) -> Result<()> {
+    if let Some(doubt) = doubt {
+        let (offset, reason) = (doubt.offset, doubt.reason);
+        match doubt.unmapped {
+            Unmapped::Refused => eprintln!(rt;
+                "hid: Linux refuses it at offset {offset}: {reason}"
+            )?,
+            _ => eprintln!(rt; "hid: the codes aren't known for offset {offset}: {reason}")?,
+        }
+    }
+    if let Some(driver) = driver {
+        let name = driver.name();
+        eprintln!(rt;
+            "hid: {name} takes such a device, with other codes than these of hid-generic"
+        )?;
+    }
+    Ok(())
+}
+
+/// What is shown so far.
+#[derive(Drop)]
+struct Shown {
+    text: String,
+    devices: InputDevices,
+    is_json: bool,
+}
+
+impl Shown {
+    /// Shows a report.
+    fn show_report<R: Print>(
+        &mut self,
+        rt: &R,
+        direction: Direction,
+        report: &RDescReport,
+        parts: (&OutlineReport, &RDescReport),
+    ) -> Result<()> {
+        let (outline, named) = parts;
+        if !self.is_json {
+            add_head_of(&mut self.text, direction, report)?;
+        }
+        self.devices.enter(outline)?;
+        let mut fields = report.fields();
+        let mut open: &[Collection] = &[];
+        for (group, all) in outline.groups().iter().zip(named.fields()) {
+            let (own, rest) = fields.split_at(group.field_count().min(fields.len()));
+            let mut item = self.devices.begin(direction, group);
+            open = self.show_item(rt, direction, report, &mut item, own, open)?;
+            fields = rest;
+            if group.is_variable() {
+                self.show_rest(&mut item, all.usages(), own.len(), open.len())?;
+            }
+        }
+        Ok(())
+    }
+
+    /// Shows the fields of an item, and answers the collections around the last.
+    fn show_item<'a, R: Print>(
+        &mut self,
+        rt: &R,
+        direction: Direction,
+        report: &RDescReport,
+        item: &mut Item,
+        fields: &'a [Field],
+        before: &'a [Collection],
+    ) -> Result<&'a [Collection]> {
+        let mut open = before;
+        for field in fields {
+            let alloc = *self.text.allocator();
+            let answers = answers_of(alloc, &mut self.devices, item, field.usages())?;
+            if self.is_json {
+                let mut object = object_of(alloc, direction, report, field)?;
+                object.add_linux(objects_of(alloc, &answers)?);
+                add_json(&mut self.text, &object)?;
+            } else {
+                add_placed(&mut self.text, open, field, &answers)?;
+                open = around(open, field);
+            }
+            flush_piece(rt, &mut self.text)?;
+        }
+        Ok(open)
+    }
+
+    /// Shows what the usages of an item get that are left when each field has one.
+    fn show_rest(
+        &mut self,
+        item: &mut Item,
+        usages: &[Usage],
+        fields: usize,
+        depth: usize,
+    ) -> Result<()> {
+        let Some((_own, rest)) = usages.split_at_checked(fields) else {
+            return Ok(());
+        };
+        let alloc = *self.text.allocator();
+        let answers = answers_of(alloc, &mut self.devices, item, rest)?;
+        if self.is_json || answers.is_empty() {
+            return Ok(());
+        }
+        let indent = indent_of(depth.saturating_add(1));
+        add_spaces(&mut self.text, indent)?;
+        self.text.push_str("usages without a field:")?;
+        add_lines(&mut self.text, &answers, indent.saturating_add(DEEPER))?;
+        Ok(self.text.push_str("\n")?)
+    }
+}
+
+/// Appends a field below the collections that it lies in, where the one before it doesn't.
+fn add_placed(
+    text: &mut String,
+    open: &[Collection],
+    field: &Field,
+    answers: &[Answered],
+) -> Result<(), AllocError> {
+    let around = around(open, field);
+    add_opened(text, open, around)?;
+    let indent = indent_of(around.len().saturating_add(1));
+    add_spaces(text, indent)?;
+    add_field(text, field, indent)?;
+    add_answers(text, field, answers, indent.saturating_add(DEEPER))?;
+    text.push_str("\n")
+}
+
+/// Appends the collections that a field lies in and the one before it doesn't.
+fn add_opened(
+    text: &mut String,
+    before: &[Collection],
+    around: &[Collection],
+) -> Result<(), AllocError> {
+    let shared = Collection::shared(before, around);
+    for (depth, collection) in around.iter().enumerate().skip(shared) {
+        FieldLine::Opens(depth, collection).add(text)?;
+    }
+    Ok(())
+}

@@ -1,0 +1,372 @@
+//! How Linux's hid-core reads a descriptor that `hid` reads, too: what it refuses, and where it may
+//! find other usages.
+use crate::items::ItemCursor;
+use hidreport_linux::{Unmapped, is_input_application};
+use std::alloc::{AllocError, Global};
+
+/// The most usages of an item.
+const MOST_USAGES: u32 = 12_288;
+
+/// The most elements of an item.
+const MOST_ELEMENTS: u32 = 12_288;
+
+/// The most bits of an element.
+const MOST_BITS: u32 = 256;
+
+/// The most Pushes that wait for their Pops.
+const MOST_PUSHES: usize = 4;
+
+/// Why no codes are known of a descriptor.
+#[derive(Clone, Copy, Debug, PartialEq, Eq)]
+pub struct Doubt {
+    /// The offset of the item.
+    pub offset: usize,
+    /// Whether Linux refuses it, or may find other usages.
+    pub unmapped: Unmapped,
+    /// What is the matter.
+    pub reason: &'static str,
+}
+
+/// The globals that matter, as hid-core keeps them.
+#[derive(Clone, Copy)]
+struct Globals {
+    minimum: i32,
+    maximum: i32,
+    shown_maximum: i32,
+    id: u32,
+    page: u32,
+}
+
+/// What hid-core has read so far.
+#[derive(Drop)]
+pub struct LinuxReading {
+    globals: Globals,
+    pushed: Vec<Globals>,
+    depth: usize,
+    usages: u32,
+    usage_minimum: u32,
+    is_in_set: bool,
+    has_ids: bool,
+    lacks_ids: bool,
+    first_usage: u32,
+    is_paged: bool,
+    sets: usize,
+    /// How many applications there are.
+    pub applications: usize,
+    /// Whether a collection makes it one of an input device.
+    pub has_input: bool,
+    /// Whether it has a collection of sensors.
+    pub has_sensors: bool,
+    /// The first thing that is the matter.
+    pub doubt: Option<Doubt>,
+}
+
+impl LinuxReading {
+    /// Reads a descriptor.
+    pub fn of(alloc: Global, bytes: &[u8]) -> Result<LinuxReading, AllocError> {
+        let mut reading = LinuxReading {
+            globals: Globals {
+                minimum: 0,
+                maximum: 0,
+                shown_maximum: 0,
+                id: 0,
+                page: 0,
+            },
+            pushed: Vec::new(alloc),
+            depth: 0,
+            usages: 0,
+            usage_minimum: 0,
+            is_in_set: false,
+            has_ids: false,
+            lacks_ids: false,
+            first_usage: 0,
+            is_paged: false,
+            sets: 0,
+            applications: 0,
+            has_input: false,
+            has_sensors: false,
+            doubt: None,
+        };
+        reading.pass_all(bytes)?;
+        Ok(reading)
+    }
+
+    /// Why no usage of the descriptor has an event, where none has.
+    pub fn unmapped(&self) -> Option<Unmapped> {
+        match self.doubt {
+            Some(doubt) => Some(doubt.unmapped),
+            None if self.has_input => None,
+            None => Some(Unmapped::NoInput),
+        }
+    }
+
+    /// Goes over all items; one that is cut short is refused.
+    fn pass_all(&mut self, bytes: &[u8]) -> Result<(), AllocError> {
+        let mut rest = bytes;
+        for _ in 0..bytes.len() {
+            let offset = bytes.len().saturating_sub(rest.len());
+            let Some((head, behind)) = rest.split_first() else {
+                break;
+            };
+            let Some((data, behind)) = behind.split_at_checked(size_of(*head)) else {
+                self.refuse(offset, "an item that is cut short");
+                break;
+            };
+            self.pass(offset, *head, data)?;
+            rest = behind;
+        }
+        self.end(bytes.len());
+        Ok(())
+    }
+
+    /// Keeps what is the matter, if it is the first.
+    fn tell(&mut self, offset: usize, unmapped: Unmapped, reason: &'static str) {
+        if self.doubt.is_none() {
+            self.doubt = Some(Doubt {
+                offset,
+                unmapped,
+                reason,
+            });
+        }
+    }
+
+    fn refuse(&mut self, offset: usize, reason: &'static str) {
+        self.tell(offset, Unmapped::Refused, reason);
+    }
+
+    /// Goes over an item.
+    fn pass(&mut self, offset: usize, head: u8, data: &[u8]) -> Result<(), AllocError> {
+        if head >= 0xf0 {
+            self.refuse(offset, "a long item");
+            return Ok(());
+        }
+        let number = unsigned(data);
+        match head & 0xfc {
+            0xa4 => self.push(offset)?,
+            0xb4 => self.pop(),
+            0x14 => self.globals.minimum = signed(data),
+            0x24 => self.pass_maximum(data),
+            0xa0 => self.open(number & 0xff),
+            0xc0 => self.close(),
+            0x80 | 0x90 | 0xb0 => self.pass_data(offset),
+            head => match head & 0x0c {
+                0x00 => self.end_locals(),
+                0x04 => self.pass_global(offset, head, number),
+                0x08 => self.pass_local(offset, head, number, data.len()),
+                _ => {}
+            },
+        }
+        Ok(())
+    }
+
+    fn push(&mut self, offset: usize) -> Result<(), AllocError> {
+        if self.pushed.len() >= MOST_PUSHES {
+            self.refuse(offset, "more than four Pushes wait for a Pop");
+        }
+        Ok(self.pushed.push(self.globals)?)
+    }
+
+    fn pop(&mut self) {
+        if let Some(globals) = self.pushed.pop() {
+            self.globals = globals;
+        }
+    }
+
+    /// A collection: what it is of is the first usage, on the page in force where it is the only one.
+    fn open(&mut self, kind: u32) {
+        self.depth = self.depth.saturating_add(1);
+        if kind == 1 {
+            self.applications = self.applications.saturating_add(1);
+        }
+        if kind <= 1 {
+            self.has_input = self.has_input || is_input_application(self.collection_usage());
+            self.has_sensors = self.has_sensors || self.globals.page == 0x20;
+        }
+        self.end_locals();
+    }
+
+    /// The usage of a collection, 0 where it has none.
+    fn collection_usage(&self) -> u32 {
+        match self.usages {
+            0 => 0,
+            1 if !self.is_paged => self.globals.page << 16 | self.first_usage & 0xffff,
+            _ => self.first_usage,
+        }
+    }
+
+    fn close(&mut self) {
+        self.depth = self.depth.saturating_sub(1);
+        self.end_locals();
+    }
+
+    fn end_locals(&mut self) {
+        self.usages = 0;
+        self.usage_minimum = 0;
+        self.is_in_set = false;
+        self.sets = 0;
+    }
+
+    /// A Logical Maximum has no sign where the minimum has none.
+    fn pass_maximum(&mut self, data: &[u8]) {
+        self.globals.shown_maximum = signed(data);
+        self.globals.maximum = if self.globals.minimum < 0 {
+            signed(data)
+        } else {
+            unsigned(data).cast_signed()
+        };
+    }
+
+    fn pass_global(&mut self, offset: usize, head: u8, number: u32) {
+        match head {
+            0x04 if number > 0xffff => self.doubt_usages(offset, "a page of more than 16 bits"),
+            0x04 => self.globals.page = number,
+            0x74 if number > MOST_BITS => self.refuse(offset, "a size of more than 256 bits"),
+            0x94 if number > MOST_ELEMENTS => self.refuse(offset, "a count of more than 12288"),
+            0x84 if number == 0 || number > 0xff => self.refuse(offset, "a report id that is none"),
+            0x84 => self.globals.id = number,
+            0xc4 | 0xd4 | 0xe4 => self.refuse(offset, "a global item that is none"),
+            _ => {}
+        }
+    }
+
+    fn doubt_usages(&mut self, offset: usize, reason: &'static str) {
+        self.tell(offset, Unmapped::NotKnown, reason);
+    }
+
+    /// A local item; usages of sets behind the first are left out.
+    fn pass_local(&mut self, offset: usize, head: u8, number: u32, size: usize) {
+        if head == 0xa8 {
+            self.pass_delimiter(offset, number != 0);
+            return;
+        }
+        if self.sets > 1 {
+            return;
+        }
+        match head {
+            0x08 => self.pass_usages(offset, number, 1, size),
+            0x18 => self.usage_minimum = number,
+            0x28 if number < self.usage_minimum => {
+                self.doubt_usages(offset, "a Usage Maximum below its minimum");
+            }
+            0x28 if size == 4 && number < 0x1_0000 => {
+                self.doubt_usages(offset, "a Usage Maximum of four bytes without a page");
+            }
+            0x28 => {
+                let first = self.usage_minimum;
+                let count = number.saturating_sub(first).saturating_add(1);
+                self.pass_usages(offset, first, count, size);
+            }
+            _ => {}
+        }
+    }
+
+    /// Usages from one on; those behind the most are left out, and none may come behind these.
+    fn pass_usages(&mut self, offset: usize, first: u32, count: u32, size: usize) {
+        if self.usages >= MOST_USAGES {
+            self.doubt_usages(offset, "usages behind the first 12288");
+        }
+        if self.usages == 0 {
+            self.is_paged = size > 2;
+            self.first_usage = if self.is_paged {
+                first
+            } else {
+                self.globals.page << 16 | first & 0xffff
+            };
+        }
+        self.usages = self.usages.saturating_add(count);
+    }
+
+    fn pass_delimiter(&mut self, offset: usize, opens: bool) {
+        if opens == self.is_in_set {
+            self.refuse(offset, "a Delimiter within a set, or that ends none");
+        }
+        self.is_in_set = opens;
+        if opens {
+            self.sets = self.sets.saturating_add(1);
+        }
+    }
+
+    /// An Input, Output or Feature.
+    fn pass_data(&mut self, offset: usize) {
+        let Globals {
+            minimum,
+            maximum,
+            shown_maximum,
+            id,
+            ..
+        } = self.globals;
+        let is_below = if minimum < 0 {
+            maximum < minimum
+        } else {
+            maximum.cast_unsigned() < minimum.cast_unsigned()
+        };
+        if is_below {
+            self.refuse(offset, "a Logical Maximum below its minimum");
+        }
+        if maximum != shown_maximum && shown_maximum >= minimum {
+            self.doubt_usages(offset, "a Logical Maximum that was set before its minimum");
+        }
+        self.has_ids = self.has_ids || id != 0;
+        self.lacks_ids = self.lacks_ids || id == 0;
+        if self.has_ids && self.lacks_ids {
+            self.doubt_usages(offset, "a report without an id beside others");
+        }
+        self.end_locals();
+    }
+
+    /// Behind the last item.
+    fn end(&mut self, offset: usize) {
+        if self.depth != 0 {
+            self.refuse(offset, "a collection that isn't closed");
+        }
+        if self.is_in_set {
+            self.refuse(offset, "a set of usages that isn't closed");
+        }
+    }
+}
+
+/// How many bytes of data an item has.
+fn size_of(head: u8) -> usize {
+    match head & 3 {
+        3 => 4,
+        size => usize::from(size),
+    }
+}
+
+/// The number of up to four bytes.
+fn unsigned(data: &[u8]) -> u32 {
+    match data {
+        [] => 0,
+        [a] => u32::from(*a),
+        [a, b] => u32::from(u16::from_le_bytes([*a, *b])),
+        [a, b, c, d, ..] => u32::from_le_bytes([*a, *b, *c, *d]),
+        _ => 0,
+    }
+}
+
+/// The same with a sign.
+fn signed(data: &[u8]) -> i32 {
+    match data {
+        [] => 0,
+        [a] => i32::from((*a).cast_signed()),
+        [a, b] => i32::from(u16::from_le_bytes([*a, *b]).cast_signed()),
+        [a, b, c, d, ..] => u32::from_le_bytes([*a, *b, *c, *d]).cast_signed(),
+        _ => 0,
+    }
+}
+
+/// The same descriptor with each item an array, whose fields have all usages that an item names.
+pub fn with_arrays(alloc: Global, bytes: &[u8]) -> Result<Vec<u8>, AllocError> {
+    let mut arrays = Vec::from_slice(alloc, bytes)?;
+    let mut cursor = ItemCursor::new(bytes);
+    for _ in 0..bytes.len() {
+        let Some(entry) = cursor.next_item() else {
+            break;
+        };
+        let is_data = matches!(entry.bytes, [0x80..=0x83 | 0x90..=0x93 | 0xb0..=0xb3, _, ..]);
+        if is_data && let Some(flags) = arrays.get_mut(entry.offset.saturating_add(1)) {
+            *flags &= 0xfd;
+        }
+    }
+    Ok(arrays)
+}

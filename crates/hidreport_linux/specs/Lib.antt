@@ -1,0 +1,3 @@
+pub mod Buttons
+pub mod Events
+pub mod Rows

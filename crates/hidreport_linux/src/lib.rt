@@ -1,0 +1,35 @@
+//! Which event codes Linux's hid-input gives the usages of a descriptor.
+//!
+//! - [`InputDevices`]: the input devices that Linux makes of a descriptor; [`InputDevices::event`]
+//!   answers the event of a usage, or why it has none.
+//! - [`Wanted`]: the code that a usage asks for, whatever lies before it.
+//! - [`EventCode`], [`EventType`]: codes and their names.
+//! - [`Axis`]: the bounds and the resolution of an absolute axis.
+//!
+//! The rules are those of Linux 6.12 for a device of hid-generic, without quirks: of hid-input, and
+//! of hid-core for what it reads of a descriptor. Other drivers have rules of their own.
+//!
+//! Licence: MIT (LICENSE).
+#![tactic(auto)]
+
+mod axis;
+mod code_rows;
+mod code_table;
+mod driver;
+mod event;
+mod event_code;
+mod input_device;
+mod input_devices;
+mod name_table;
+mod place;
+mod unmapped;
+mod wanted;
+
+pub use axis::Axis;
+pub use driver::Driver;
+pub use event::Event;
+pub use event_code::{EventCode, EventType};
+pub use input_devices::{InputDevices, Item, is_input_application};
+pub use place::Place;
+pub use unmapped::Unmapped;
+pub use wanted::{Role, Wanted};

@@ -1,0 +1,171 @@
+//! The code that a usage asks for.
+mod buttons;
+mod desktop;
+mod digitizers;
+mod pages;
+
+use crate::event_code::{EventCode, EventType};
+use crate::place::Place;
+use crate::unmapped::Unmapped;
+use hidreport::Direction;
+
+/// What a usage does beside its own code.
+#[derive(Clone, Copy, Debug, PartialEq, Eq)]
+pub enum Role {
+    /// Nothing.
+    Plain,
+
+    /// It also counts whole clicks, as `REL_WHEEL`.
+    Wheel,
+
+    /// It also counts whole clicks, as `REL_HWHEEL`.
+    SideWheel,
+
+    /// A hat, which also has `ABS_HAT0Y` where its bounds are apart.
+    Hat,
+
+    /// A direction of a D-pad, which also has `ABS_HAT0Y`.
+    Direction,
+
+    /// A pressure, which also says `BTN_TOUCH` where no switch does.
+    Pressure,
+
+    /// An eraser, which also says `BTN_TOOL_RUBBER`.
+    Eraser,
+
+    /// A volume, which says `KEY_VOLUMEUP` and `KEY_VOLUMEDOWN` instead where it is relative.
+    Volume,
+
+    /// A key of radios: all usages of its item from it on are taken for relative.
+    Radio,
+}
+
+impl Role {
+    /// The codes that a usage of this role also has.
+    pub fn beside(self) -> &'static [EventCode] {
+        match self {
+            Role::Wheel => &WHEEL,
+            Role::SideWheel => &SIDE_WHEEL,
+            Role::Hat | Role::Direction => &SECOND_AXIS,
+            Role::Eraser => &RUBBER,
+            Role::Volume => &VOLUME_KEYS,
+            Role::Plain | Role::Pressure | Role::Radio => &[],
+        }
+    }
+}
+
+static WHEEL: [EventCode; 1] = [EventCode {
+    event_type: EventType::Relative,
+    number: 0x08,
+}];
+
+static SIDE_WHEEL: [EventCode; 1] = [EventCode {
+    event_type: EventType::Relative,
+    number: 0x06,
+}];
+
+static SECOND_AXIS: [EventCode; 1] = [EventCode {
+    event_type: EventType::Absolute,
+    number: 0x11,
+}];
+
+static RUBBER: [EventCode; 1] = [EventCode {
+    event_type: EventType::Key,
+    number: 0x141,
+}];
+
+static VOLUME_KEYS: [EventCode; 2] = [
+    EventCode {
+        event_type: EventType::Key,
+        number: 0x72,
+    },
+    EventCode {
+        event_type: EventType::Key,
+        number: 0x73,
+    },
+];
+
+/// The code that a usage asks for, whatever lies before it.
+#[derive(Clone, Copy, Debug, PartialEq, Eq)]
+pub struct Wanted {
+    /// The code.
+    pub code: EventCode,
+
+    /// Whether it may be a code that a usage before it has, too.
+    pub is_shared: bool,
+
+    /// What else it does.
+    pub role: Role,
+}
+
+impl Wanted {
+    ghost use Rattle.std.specs.Prelude.{◌≡◌, true, false};
+    ghost use Rattle.hidreport_linux.specs.Events.{asks, in_output, own, shared, wanted};
+
+    /// What a usage asks for, or why it has no event wherever it lies.
+    ///
+    /// # Errors
+    ///
+    /// - `Constant`, `Output`, `Feature`: by its item.
+    /// - `Ignored`, `SystemControl`, `Battery`, `PastCodes`: by the usage.
+    pub fn of(usage: u32, place: &Place) -> Result<Wanted, Unmapped>
+        ensures { result ≡ wanted usage place.now }
+    {
+        if place.is_constant {
+            return Err(Unmapped::Constant);
+        }
+        let page = usage / 0x1_0000;
+        match place.direction {
+            Direction::Input => pages::wanted_of(page, usage, place),
+            Direction::Output => Wanted::in_output(page, usage, place),
+            Direction::Feature => Err(Unmapped::Feature),
+        }
+    }
+
+    /// The same of a usage in an output report: of LED alone.
+    fn in_output(page: u32, usage: u32, place: &Place) -> Result<Wanted, Unmapped>
+        ensures { result ≡ in_output page usage place.now }
+    {
+        if page == 0x08 {
+            pages::wanted_of(page, usage, place)
+        } else {
+            Err(Unmapped::Output)
+        }
+    }
+
+    /// A code that only one usage may have.
+    fn own(code: EventCode) -> Result<Wanted, Unmapped>
+        ensures { result ≡ own code }
+    {
+        Wanted::with_role(code, Role::Plain)
+    }
+
+    /// The same, of a usage that does more.
+    fn with_role(code: EventCode, role: Role) -> Result<Wanted, Unmapped>
+        ensures { result ≡ asks code false role }
+    {
+        Ok(Wanted {
+            code,
+            is_shared: false,
+            role,
+        })
+    }
+
+    /// A code that several usages may have.
+    fn shared(code: EventCode) -> Result<Wanted, Unmapped>
+        ensures { result ≡ shared code }
+    {
+        Wanted::shared_with_role(code, Role::Plain)
+    }
+
+    /// The same, of a usage that does more.
+    fn shared_with_role(code: EventCode, role: Role) -> Result<Wanted, Unmapped>
+        ensures { result ≡ asks code true role }
+    {
+        Ok(Wanted {
+            code,
+            is_shared: true,
+            role,
+        })
+    }
+}
