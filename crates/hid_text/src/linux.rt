@@ -1,7 +1,7 @@
 //! What Linux makes of a field: event codes in words and as JSON.
 use crate::words::{add_spaces, add_usage};
 use hidreport::{Field, Usage};
-use hidreport_linux::{Axis, Event, InputDevices, Item, Unmapped};
+use hidreport_linux::{Axis, Event, EventType, InputDevices, Item, Unmapped};
 use serde::Serialize;
 use std::alloc::{AllocError, Global};
 use std::fmt::Write;
@@ -104,6 +104,9 @@ fn add_event(text: &mut String, event: &Event) -> Result<(), AllocError> {
     }
     match event.axis {
         Some(axis) => add_axis(text, &axis),
+        None if event.code.event_type == EventType::Absolute => {
+            text.push_str(" (bounds not known without --lenient)")
+        }
         None => Ok(()),
     }
 }

@@ -28,6 +28,12 @@ pub struct Measures {
 }
 
 impl Measures {
+    /// Whether hid-core reads the same bounds: where a maximum is below its minimum, it reads the
+    /// maximum without a sign.
+    pub(crate) fn are_known(&self) -> bool {
+        self.minimum <= self.maximum && self.physical_minimum <= self.physical_maximum
+    }
+
     /// Those of an item.
     pub(crate) fn of(group: &Group) -> Measures {
         Measures {

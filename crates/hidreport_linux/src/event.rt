@@ -12,6 +12,7 @@ pub struct Event {
     /// What else it does.
     pub role: Role,
 
-    /// Of an absolute axis its bounds and resolution.
+    /// Of an absolute axis its bounds and resolution; `None` where a maximum is below its minimum,
+    /// since hid-core reads it without a sign.
     pub axis: Option<Axis>,
 }

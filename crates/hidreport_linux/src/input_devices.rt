@@ -114,6 +114,7 @@ impl InputDevices {
     /// - What `Wanted::of` refuses.
     /// - `Refused`, `NotKnown`, `NoInput`: by the descriptor.
     /// - `OtherDirection`, `Taken`, `PastCodes`: by the codes of the usages before it.
+    /// - `NotKnown`: a hat whose maximum is below its minimum.
     pub fn event(&mut self, item: &mut Item, usage: Usage) -> Result<Event, Unmapped> {
         let usage = u32::from(usage);
         self.pass_contact(&item.place, usage);
@@ -124,6 +125,9 @@ impl InputDevices {
         }
         if wanted.role == Role::Direction && item.has_direction {
             return Err(Unmapped::OtherDirection);
+        }
+        if wanted.role == Role::Hat && item.measures.maximum < item.measures.minimum {
+            return Err(Unmapped::NotKnown);
         }
         let role = item.role_of(wanted.role);
         let Some(device) = self.devices.get_mut(self.current) else {
@@ -178,7 +182,7 @@ impl Item {
 
     /// The event of a usage that has its code.
     fn event_of(&self, code: EventCode, role: Role) -> Event {
-        let axis = if code.event_type == EventType::Absolute {
+        let axis = if code.event_type == EventType::Absolute && self.measures.are_known() {
             Some(Axis::of(code, role, &self.place, &self.measures))
         } else {
             None

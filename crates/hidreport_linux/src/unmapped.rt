@@ -16,7 +16,7 @@ pub enum Unmapped {
     /// Linux refuses the descriptor.
     Refused,
 
-    /// Linux may find other usages in the descriptor.
+    /// Linux may read it otherwise.
     NotKnown,
 
     /// No collection is an input application, so there is no input device.
@@ -55,7 +55,7 @@ impl Unmapped {
             Unmapped::Feature => "in a feature report",
             Unmapped::Output => "in an output report, and no LED",
             Unmapped::Refused => "Linux refuses the descriptor",
-            Unmapped::NotKnown => "not known, since Linux may find other usages",
+            Unmapped::NotKnown => "not known, since Linux may read it otherwise",
             Unmapped::NoInput => "no collection is an input application",
             Unmapped::PastItems => "past the first 256 items of the report",
             Unmapped::PastUsages => "past the first 12288 usages of the item",
