@@ -1,6 +1,6 @@
 /* Asks the library what the lines of its input ask, and prints each question with its answer below
  * it, two spaces in: every member of every struct. c/cases.txt has such lines, and says how they
- * are written; checks/c_cases.sh compares. */
+ * are written; checks/c/cases.sh compares. */
 #include "cases_names.h"
 
 static void version(const char *first, const char *second)

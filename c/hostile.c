@@ -1,5 +1,5 @@
 /* Descriptors that ask for much, and long ones: each function answers them by the default limit.
- * checks/c_cases.sh runs this in 64 MB. It prints what is answered otherwise, and how many answers
+ * checks/c/cases.sh runs this in 64 MB. It prints what is answered otherwise, and how many answers
  * it looked at. */
 #include <stdio.h>
 #include <stdlib.h>

@@ -108,7 +108,7 @@ build() {
     export HIDREPORT_PROVED=$1 HIDREPORT_KEPT
     for processor in "${processors[@]}"; do
         mkdir -p "$scratch/built/$processor-linux"
-        bash checks/c_library.sh "$scratch/archive.a" "$processor-unknown-linux-gnu" \
+        bash checks/c/library.sh "$scratch/archive.a" "$processor-unknown-linux-gnu" \
             "$scratch/built/$processor-linux/hidreport.s" > "$scratch/said" 2>&1 || {
             tail -n 20 "$scratch/said" >&2
             wrong "nothing was built for $processor"
@@ -118,7 +118,7 @@ build() {
 
 write() {
     local program
-    . checks/needs.sh
+    . checks/common/needs.sh
     need_rt generated
     if [ "$1" = "$top" ]; then
         (cd crates/hidreport_c && rt lib) > "$scratch/said" 2>&1 || {
@@ -242,8 +242,8 @@ ask_program() {
         wrong "./$program isn't linked from generated/"
     cmp "$linked" "$tree/build/$program" || wrong "make links another $program"
     case $program in
-        hid) bash "$tree/checks/hid_runs.sh" "$linked" ;;
-        *) sh "$tree/checks/statuses.sh" "$linked" ;;
+        hid) bash "$tree/checks/hid/runs.sh" "$linked" ;;
+        *) sh "$tree/checks/hidreport/statuses.sh" "$linked" ;;
     esac > "$scratch/said" 2>&1 || {
         tail -n 20 "$scratch/said" >&2
         wrong "$program as it is linked goes otherwise"
@@ -258,7 +258,7 @@ ask_here() {
         wrong 'make fails'
     }
     shows_the_header "$1/build" || wrong 'a library shows other names than the header'
-    bash "$1/checks/c_cases.sh" "$scratch/prefix" > "$scratch/said" 2>&1 || {
+    bash "$1/checks/c/cases.sh" "$scratch/prefix" > "$scratch/said" 2>&1 || {
         cat "$scratch/said" >&2
         wrong 'the archive answers otherwise'
     }

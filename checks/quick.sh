@@ -5,7 +5,7 @@
 set -u
 top=$(cd "$(dirname "$0")/.." && pwd)
 cd "$top"
-. checks/needs.sh
+. checks/common/needs.sh
 need_rt quick
 scratch=$(mktemp -d)
 trap 'rm -rf "$scratch"' EXIT
@@ -35,7 +35,7 @@ try_program() {
 try_one() {
     begun=$SECONDS
     if [ "$1" = hid ]; then
-        bash "$top/checks/hid_runs.sh" > "$scratch/$1.said" 2>&1
+        bash "$top/checks/hid/runs.sh" > "$scratch/$1.said" 2>&1
     elif [ -f "$top/crates/$1/src/main.rt" ]; then
         try_program "$1"
     else
@@ -55,7 +55,7 @@ export -f try_tests try_program try_one
 for crate in crates/*; do
     (cd "$crate" && rt fmt) > /dev/null || exit 1
 done
-bash checks/static.sh && bash checks/hid_options.sh || exit 1
+bash checks/tree.sh || exit 1
 
 # What takes longest begins first.
 tried=(hid hidreport_cases hidreport_tests)

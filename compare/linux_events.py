@@ -5,7 +5,7 @@ which knows nothing of this library's code; the codes of keys alone it has from
 crates/hidreport_linux/data/events.txt, which --kernel compares with the kernel's own files.
 
     linux_events.py HID [WORDS ..]   compares it with `HID --json fields --linux` over all descriptors
-                                     that checks/hid_descriptors.sh and compare/devices.txt have
+                                     that checks/hid/descriptors.sh and compare/devices.txt have
     linux_events.py --model HEX      says the model's answers
     linux_events.py --kernel DIR     compares events.txt with the sources of a kernel
 """
@@ -577,7 +577,7 @@ def asked(program, raw, words):
 
 def descriptors():
     """All descriptors of the tree, each once."""
-    listed = subprocess.run(["bash", os.path.join(TOP, "checks/hid_descriptors.sh")],
+    listed = subprocess.run(["bash", os.path.join(TOP, "checks/hid/descriptors.sh")],
                             capture_output=True, check=True).stdout.decode()
     found = [line.split()[0] for line in listed.splitlines()]
     for line in open(os.path.join(TOP, "compare/devices.txt")):

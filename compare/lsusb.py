@@ -3,7 +3,7 @@
 `python3 compare/lsusb.py SOURCES` prints compare/lsusb.txt anew. lsusb shows the descriptors of
 devices that are plugged in, so its function for one descriptor is built by itself from SOURCES, the
 folder of the sources of usbutils 014 (`apt-get source usbutils`), and given those of
-compare/tshark.txt. No part of the gate: checks/beside.sh only reads the file.
+compare/tshark.txt. No part of the gate: checks/hid/beside.sh only reads the file.
 """
 
 import pathlib
@@ -44,7 +44,7 @@ HEADER = """\
 # in parentheses what it shows below the item, or else the number behind its bytes; behind ` = `
 # stands the number of an item for which it shows no name. It doesn't indent. Written by
 # compare/lsusb.py from the descriptors of compare/tshark.txt but those with a long item, which
-# lsusb doesn't know; checks/beside.sh compares what `hid decode` says."""
+# lsusb doesn't know; checks/hid/beside.sh compares what `hid decode` says."""
 
 
 def build(sources, program):

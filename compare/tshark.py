@@ -3,7 +3,7 @@
 `python3 compare/tshark.py` reads the descriptors that compare/tshark.txt has (each line that begins
 with `descriptor `, with the remark above it), has them shown by the `tshark` that is installed, and
 prints the file anew. A descriptor is added by writing such a line there. No part of the gate:
-checks/beside.sh only reads the file.
+checks/hid/beside.sh only reads the file.
 """
 
 import pathlib
@@ -25,7 +25,7 @@ HEADER = """\
 # item that has no parenthesis. Written by compare/tshark.py, which reads the lines `descriptor` of
 # this file, and those behind `## ` which say where they are from: a file of bench/descriptors or of
 # crates/hid/data, or a line of a file of crates/hidreport_cases/data; the last were written
-# for this file. checks/beside.sh compares what `hid decode` says."""
+# for this file. checks/hid/beside.sh compares what `hid decode` says."""
 
 
 def urb(is_answer, setup, data):

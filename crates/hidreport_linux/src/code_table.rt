@@ -1,5 +1,5 @@
 //! The usages that have one code wherever they lie.
-// Written by checks/event_tables.sh from data/events.txt: edit that.
+// Written by checks/tree/event_tables.sh from data/events.txt: edit that.
 use crate::code_rows::CodeRow;
 use crate::event_code::EventType;
 

@@ -1,5 +1,5 @@
 //! The names of event codes, by their numbers.
-// Written by checks/event_tables.sh from data/events.txt: edit that.
+// Written by checks/tree/event_tables.sh from data/events.txt: edit that.
 
 #[rattlefmt::skip]
 pub(crate) static LOW_KEYS: [&str; 256] = [

@@ -1,5 +1,5 @@
 //! The states of a descriptor's builder: each call is made in each state that has it. What a state
-//! lacks doesn't compile (`checks/builder_states.sh`).
+//! lacks doesn't compile (`checks/library/builder_states.sh`).
 use crate::written::are_bytes;
 use hidreport::hid::{
     CollectionItem, HidError, ItemBuilder, ItemType, ReportDescriptorBuilder,

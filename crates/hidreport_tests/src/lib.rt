@@ -1,6 +1,6 @@
 //! What no case is written for: readers and writers that fail, hashes and owners, builders, callers
 //! that are generic, and the names of usages both ways; refused memory is asked by
-//! checks/refused_memory.sh. Licence: MIT (LICENSE); a port of the Rust crate `hidreport` 0.6.0.
+//! checks/library/refused_memory.sh. Licence: MIT (LICENSE); a port of the Rust crate `hidreport` 0.6.0.
 #![tactic(auto)]
 
 #[cfg(test)]

@@ -1,4 +1,4 @@
--- Where each row stands in the order of names. Written by checks/usage_tables.sh.
+-- Where each row stands in the order of names. Written by checks/tree/usage_tables.sh.
 use Rattle.std.specs.Prelude.{ℕ, List, [], ◌∷◌}
 
 unfoldable pub usage_ranks : List ℕ

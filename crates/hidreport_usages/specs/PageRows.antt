@@ -1,5 +1,5 @@
 -- The table of usage pages.
--- Written by checks/usage_tables.sh from data/usages.txt: edit that.
+-- Written by checks/tree/usage_tables.sh from data/usages.txt: edit that.
 use Rattle.std.specs.Prelude.{List, [], ◌∷◌, codes}
 use Rattle.hidreport_usages.specs.Rows.{Row}
 

@@ -1,5 +1,5 @@
 -- The table of usages: the page in the upper 16 bits.
--- Written by checks/usage_tables.sh from data/usages.txt: edit that.
+-- Written by checks/tree/usage_tables.sh from data/usages.txt: edit that.
 use Rattle.std.specs.Prelude.{List, [], ◌∷◌, codes}
 use Rattle.hidreport_usages.specs.Rows.{Row}
 

@@ -1,5 +1,5 @@
 //! The table of usage pages.
-// Written by checks/usage_tables.sh from data/usages.txt: edit that.
+// Written by checks/tree/usage_tables.sh from data/usages.txt: edit that.
 
 #[rattlefmt::skip]
 pub(crate) static PAGE_NUMBERS: [u32; 35] = [

@@ -1,5 +1,5 @@
 //! Which usages hold values, by their types.
-// Written by checks/usage_tables.sh from data/usages.txt: edit that.
+// Written by checks/tree/usage_tables.sh from data/usages.txt: edit that.
 use crate::usage_type::TypedUsages;
 
 #[rattlefmt::skip]

@@ -1,5 +1,5 @@
 //! The table of usages.
-// Written by checks/usage_tables.sh from data/usages.txt: edit that.
+// Written by checks/tree/usage_tables.sh from data/usages.txt: edit that.
 
 #[rattlefmt::skip]
 pub(crate) static USAGE_NUMBERS: [u32; 2766] = [

@@ -1,0 +1,244 @@
+#!/bin/bash
+# No command of `hid` takes more than 64 MB and a second of processor time, whatever it reads: 13 bytes
+# that announce 2^32 - 1 fields, elements or bytes, 64 KB of one item or of one line of each form, a
+# megabyte of them, reports and lines without an end. What is too much is refused in words, by its own
+# bounds: never for want of memory. And no control character of an input reaches the terminal.
+# The argument, if any, is the program to look at; else the one that ./hid built.
+set -euo pipefail
+
+top=$(cd "$(dirname "$0")/../.." && pwd)
+program=$(readlink -f "${1:-$top/crates/hid/out/hid}")
+[ -x "$program" ] || {
+    echo "hid_hostile: no program $program" >&2
+    exit 2
+}
+kilobytes=64000
+seconds=1
+# The most that is written: what is shown of a field, an item or a byte is at most so long.
+most=$((128 * 1024 * 1024))
+scratch=$(mktemp -d)
+trap 'rm -rf "$scratch"' EXIT
+cd "$scratch"
+runs=0
+faults=0
+
+fault() {
+    echo "hid_hostile: $*"
+    faults=$((faults + 1))
+}
+
+# Runs the program; its status has to be 0 or 1.
+run() {
+    local status=0
+    runs=$((runs + 1))
+    (
+        ulimit -v "$kilobytes" -t "$seconds"
+        exec timeout -k 1 20 "$program" "$@"
+    ) > output 2> errors < "${input:-/dev/null}" || status=$?
+    [ "$status" -le 1 ] || fault "$* ends with $status: $(head -c 200 errors)"
+    ! grep -qi 'memory' errors || fault "$* wants memory"
+    [ "$(stat -c %s output)" -le "$most" ] || fault "$* writes $(stat -c %s output) bytes"
+}
+
+# The same, and what it says on standard error has to have these words.
+says() {
+    local wanted=$1
+    shift
+    run "$@"
+    grep -qF -- "$wanted" errors || fault "$* doesn't say '$wanted', but: $(tail -n 2 errors | head -c 300)"
+}
+
+# Files of so many bytes, in which what is printed stands again and again.
+again() {
+    printf -- "$3" > piece
+    while [ "$(stat -c %s piece)" -lt "$2" ]; do
+        cat piece piece > pieces
+        mv pieces piece
+    done
+    head -c "$2" piece > "$1"
+}
+
+# What announces much in few bytes.
+printf '\005\001\011\060\165\010\227\377\377\377\377\201\000' > elements
+printf '\005\001\011\060\165\001\227\377\377\377\377\201\002' > fields
+printf '\005\001\011\060\165\001\227\000\000\002\000\201\002' > many_fields
+printf '\165\040\227\377\377\377\037\201\001\005\001\011\060\165\010\225\001\201\002' > padding
+printf '\165\040\227\377\377\377\037\261\001' > feature
+{
+    printf '\005\001\033\000\000\000\000\053\377\377\377\000'
+    for ((n = 0; n < 1020; n++)); do printf '\244\241\000\264'; done
+} > collections
+{
+    printf '\005\001\031\000\052\377\177\025\000\046\377\177\165\020\225\001'
+    for ((n = 0; n < 100; n++)); do printf '\201\000'; done
+} > ranges
+{
+    printf '\005\014\011\001\241\001\025\000\045\377'
+    for ((n = 0; n < 4000; n++)); do printf '\011\342'; done
+    printf '\165\010\225\010\201\000\300'
+} > usages_of_array
+{
+    for ((n = 0; n < 4000; n++)); do printf '\241\000'; done
+    printf '\005\001\011\060\165\001\225\010\201\002'
+} > deep
+{
+    printf '\005\001'
+    for ((n = 1; n < 255; n++)); do printf "\\205\\$(printf %03o "$n")\\011\\060\\165\\010\\225\\377\\201\\002"; done
+} > reports
+cp "$top/crates/hid/data/mouse.hex" mouse
+
+# 64 KB of one item, and of what reads as none.
+length=65536
+again zeros $length '\000'
+again pushes $length '\244'
+again opened $length '\241\000'
+again usages $length '\011\060'
+again pages $length '\005\001'
+again designators $length '\071\001'
+again global_in_push $length '\244\024'
+again ended_in_push $length '\244\011\060\261\002'
+again long_items $length '\376\001\000\000'
+again inputs $length '\201\001'
+# 64 KB of one line of each form.
+again hex_lines $length '0\n'
+again hex_words $length 'a100'
+again recorder_reports $length 'E: 0 0\n'
+again recorder_devices $length 'D: 1\nR: 0\nN: x\n'
+again recorder_names $length 'N: \n'
+again dump_heads $length '1:1:1:STREAM 1\n'
+again dump_devices $length '1:1:1:DESCRIPTOR\n 00\n'
+again source_arrays $length 'a={0};\n'
+again source_numbers $length 'a={0,\n'
+again source_remarks $length '/*\n'
+again blanks $length '\n'
+again marks $length '05:01:'
+again offset_lines $length '0000 00\n'
+again offset_heads $length '00000000: 00\n'
+od -A x -t x1z -v zeros > dumped
+od -A d -t x1 -v pushes > dumped_pushes
+again python_lists $length '[0],\n'
+again python_numbers $length '[0,\n'
+again python_strings $length "b'\\\\x00'\\n"
+again libinput_nodes $length '- node: /dev/input/event0\n  hid: [\n    5, 1\n  ]\n'
+again libinput_numbers $length '  hid: [ 5,\n'
+again lsusb_items $length '            Item(Main  ): Input, data= [ 0x00 ] 0\n'
+again debugfs_lines $length '05 01\nINPUT[INPUT]\n'
+{
+    for ((n = 0; n < 4000; n++)); do printf 'D: %d\nR: 0\n' "$n"; done
+} > recorder_many
+# Fields that begin blocks again and again, and none that ends.
+{
+    echo '05 01 75 01 95 01'
+    for ((n = 0; n < 16000; n++)); do echo "09 3$((n * n % 1009 % 3)) 81 02"; done
+} > nearly_blocks
+# Reports that differ in their last field alone.
+{
+    echo '05 01 75 01 95 fc'
+    for ((n = 1; n < 256; n++)); do
+        printf '85 %02x 19 00 29 fb 81 02 09 %02x 09 00 09 00 09 00 81 02\n' "$n" "$n"
+    done
+} > nearly_reports
+# Captures: requests without an answer, and blocks of nothing.
+{
+    printf '\324\303\262\241\2\0\4\0\0\0\0\0\0\0\0\0\377\377\0\0\334\0\0\0'
+    for ((n = 0; n < 800; n++)); do
+        printf '\0\0\0\0\0\0\0\0\100\0\0\0\100\0\0\0'
+        printf "\\$(printf %o $((n % 256)))\\$(printf %o $((n / 256)))"
+        printf '\0\0\0\0\0\0S\2\200\3\1\0\0<\0\0\0\0\0\0\0\0\0\0\0\0\0\0\0\0\0\0\0\0\0\0\0\0'
+        printf '\201\6\0"\0\0\100\0\0\0\0\0\0\0\0\0\0\0\0\0\0\0\0\0'
+    done
+} > capture_requests
+again capture_blocks 65532 '\5\0\0\0\14\0\0\0\14\0\0\0'
+printf '\n\r\r\n\34\0\0\0M<+\32\1\0\0\0\377\377\377\377\377\377\377\377\34\0\0\0' |
+    cat - capture_blocks > capture_section
+# A megabyte.
+again long 1048576 '\244'
+again long_text 1048576 'a4 '
+
+shapes='elements fields many_fields padding feature collections ranges usages_of_array deep reports
+zeros pushes opened usages pages designators global_in_push ended_in_push long_items inputs
+hex_lines hex_words recorder_reports recorder_devices recorder_names dump_heads dump_devices
+source_arrays source_numbers source_remarks blanks recorder_many long long_text marks offset_lines
+offset_heads dumped dumped_pushes python_lists python_numbers python_strings libinput_nodes
+libinput_numbers lsusb_items debugfs_lines nearly_blocks nearly_reports capture_requests
+capture_section'
+
+head -c 64 zeros > report
+for shape in $shapes; do
+    for command in decode fields check map; do
+        run "$command" "$shape"
+    done
+    for command in decode fields check diff; do
+        run --json "$command" "$shape" $([ "$command" != diff ] || echo mouse)
+    done
+    run map --svg "$shape"
+    run diff "$shape" "$shape"
+    run diff mouse "$shape"
+    run set "$shape" - X=1
+    run --lenient fields "$shape"
+    for to in hex c rust bytes recording kernel zephyr tinyusb libinput; do
+        run convert --to "$to" "$shape"
+    done
+    for words in '' --json --down; do
+        run values $words "$shape" report
+        run values $words mouse "$shape"
+    done
+    for words in '' --json --raw --changes; do
+        run record $words "$shape" report
+        # What a stream holds is shown however long it is.
+        [ "${shape#long}" != "$shape" ] || run record $words mouse "$shape"
+    done
+    run compile "$shape"
+    run uhid "$shape"
+done
+
+# What lies behind a report's bytes is said once.
+printf '\005' > report
+for words in '' --json --down; do
+    run values $words elements report
+    [ "$(wc -l < errors)" -le 4 ] || fault "values $words of an endless array says $(wc -l < errors) lines"
+done
+run record elements report
+
+# A great report isn't made; one that comes in pieces is put together once.
+says 'more than 65536' set padding - X=1
+says 'more than 65536' set --direction feature feature -
+printf '\005\001\011\060\165\010\225\001\201\002\165\040\227\000\011\075\000\201\001' > great
+head -c 16000001 /dev/zero > great_report
+kilobytes=256000 run record great great_report
+[ "$(wc -l < output)" -eq 1 ] || fault "a report of 16 MB is shown in $(wc -l < output) lines"
+
+# A line without an end, and an input without one.
+again endless $((2 * 1048576)) '01 05 fb '
+says 'longer than 1 MiB' record --report-form hex mouse endless
+says 'without a line' record mouse endless
+kilobytes=400000 seconds=3 input=/dev/zero
+says 'longer than 64 MiB' decode -
+kilobytes=64000 seconds=1 input=/dev/null
+
+# Nothing of an input reaches the terminal that is no letter there.
+mark=$(printf '\342\200\256')
+printf 'D: 0\nR: 0\nN: a %s b\nD: 1\nR: 0\n' "$mark" > named
+printf 'Usage Page (Generic \033[31m Desktop)\n' > escaping
+printf 'Usage Page (Generic %s Desktop)\n' "$mark" > turning
+printf 'E: \033[2J 3 01 05 fb\n' > escaping_time
+printf 'E: 0%s0 3 01 05 fb\n' "$mark" > turning_time
+silent() {
+    run "$@"
+    ! cat output errors | grep -qP '\x1b|\xe2\x80[\xaa-\xae]|\xc2[\x80-\x9f]' ||
+        fault "$* lets a control character through"
+}
+silent fields named
+silent compile escaping
+silent compile turning
+for words in '' --json --raw; do
+    silent record $words --report-form recorder mouse escaping_time
+    silent record $words mouse turning_time
+done
+silent fields "$(printf 'no\033[31mfile')"
+
+[ "$faults" -eq 0 ] || {
+    echo "hid_hostile: $faults of $runs runs go wrong"
+    exit 1
+}
+echo "hid_hostile: $runs runs, each within $((kilobytes / 1000)) MB and $seconds second"

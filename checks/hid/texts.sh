@@ -1,0 +1,168 @@
+#!/bin/bash
+# What `hid decode` writes is compiled to the same bytes: of each descriptor of the tree
+# (checks/hid/descriptors.sh), refused ones too. What `hid convert` writes of them is the same bytes
+# to others (checks/hid/written.py), what `hid fields` folds is what it shows line by line
+# (checks/hid/fields.py), what `hid uhid` writes is events (checks/hid/uhid.sh). Then what no stored run
+# shows (checks/hid/runs.sh): a stream's times, and refusals for which it takes more than a file. Its
+# argument is the program; else it is the one that ./hid built.
+set -eu
+
+top=$(cd "$(dirname "$0")/../.." && pwd)
+program=${1:-$top/crates/hid/out/hid}
+[ -x "$program" ] || {
+    echo "hid_texts: no program $program" >&2
+    exit 2
+}
+scratch=$(mktemp -d)
+trap 'rm -rf "$scratch"' EXIT
+
+bash "$top/checks/hid/descriptors.sh" > "$scratch/descriptors"
+
+# The text of a descriptor, and the status.
+decode() {
+    status=0
+    echo "$digits" | "$program" decode --form hex "$@" - > "$scratch/text" 2> "$scratch/errors" ||
+        status=$?
+    [ "$status" -le 1 ] || {
+        cat "$scratch/errors" >&2
+        exit 1
+    }
+}
+
+# Each has the status of its case, and comes back, as hosts read it, too.
+comes_back() {
+    local got
+    got=$("$program" compile --to hex "$scratch/text" 2> "$scratch/errors" | tr -d ' \n')
+    if [ "$got" != "$digits" ] || [ -s "$scratch/errors" ]; then
+        echo "hid_texts: $digits is compiled to $got" >&2
+        cat "$scratch/errors" >&2
+        exit 1
+    fi
+}
+refused=0
+while read -r digits wanted; do
+    decode --push all --usages standard
+    [ "$wanted" = - ] || [ "$status" -eq "$wanted" ] || {
+        echo "hid_texts: $digits is decoded with the status $status" >&2
+        exit 1
+    }
+    refused=$((refused + status))
+    comes_back
+    mv "$scratch/text" "$scratch/standard"
+    decode
+    cmp -s "$scratch/text" "$scratch/standard" || comes_back
+done < "$scratch/descriptors"
+asked=$(wc -l < "$scratch/descriptors")
+known=$(grep -c '[01]$' "$scratch/descriptors")
+[ "$asked" -ge 2700 ] && [ "$known" -ge 2200 ] || {
+    echo "hid_texts: only $asked descriptors, $known of them with their status" >&2
+    exit 1
+}
+echo "hid_texts: $asked descriptors, $refused refused, decoded and compiled to the same bytes"
+if command -v python3 > /dev/null; then
+    cut -d ' ' -f 1 "$scratch/descriptors" | python3 "$top/checks/hid/written.py" "$program"
+    cut -d ' ' -f 1 "$scratch/descriptors" | python3 "$top/checks/hid/fields.py" "$program"
+    python3 "$top/compare/usbmon.py" --check
+else
+    echo 'hid_texts: no `python3` on the path, so nobody else reads what `hid convert` writes'
+    echo 'hid_texts: nor is what `hid fields` folds compared with what `--all` shows'
+fi
+bash "$top/checks/hid/uhid.sh" "$program"
+
+# hid-recorder's lines of a stream, whose time is its own.
+raw=$(echo 05 | "$program" record --raw "$top/crates/hid/data/axis.bytes" - 2> /dev/null |
+    sed 's/^E: 000000\.[0-9]\{6\} /E: TIME /')
+[ "$raw" = 'D: 0
+R: 14 05 01 09 30 15 81 25 7f 75 08 95 01 81 02
+N: unknown
+I: 3 0000 0000
+E: TIME 1 05' ] || {
+    echo "hid_texts: a stream is recorded as $raw" >&2
+    exit 1
+}
+
+# A map of 4,101 rows: the first 4,096, and all where that is asked for.
+rows='05 01 09 30 75 08 96 04 10 81 02 75 08 95 01 81 01'
+[ "$(echo "$rows" | "$program" map - 2> /dev/null | tail -n 1)" = '5 more rows: --all shows them' ] &&
+    [ "$(echo "$rows" | "$program" map --all - 2> /dev/null | wc -l)" -eq 4103 ] || {
+    echo 'hid_texts: a map of 4,101 rows has others' >&2
+    exit 1
+}
+
+# A block of 64 lines is folded, one of 65 isn't; a report is looked for among 16 of its size.
+lines_of_fields() {
+    echo "$1" | "$program" fields - 2> /dev/null | wc -l
+}
+twice() {
+    echo "05 09 15 00 25 01 75 01 95 $1 19 01 29 $1 81 02 19 01 29 $1 81 02"
+}
+others() {
+    printf '05 01 75 08 95 01'
+    printf ' 85 %02x 09 %02x 81 02' $(for it in $(seq "$1"); do echo "$it" $((it + 47)); done) 99 48
+}
+counts="$(lines_of_fields "$(twice 40)") $(lines_of_fields "$(twice 41)")"
+counts="$counts $(lines_of_fields "$(others 16)") $(lines_of_fields "$(others 17)")"
+[ "$counts" = '66 131 32 36' ] || {
+    echo "hid_texts: blocks and reports are folded to $counts lines" >&2
+    exit 1
+}
+
+# What no stored run shows: an input that is too long, too little memory, a device that is full.
+refused() {
+    [ "$1" = "$2" ] || {
+        echo "hid_texts: '$1' in place of '$2'" >&2
+        exit 1
+    }
+}
+refused "$(head -c 67108864 /dev/zero | "$program" decode --form bytes - 2>&1)" \
+    'hid: -: longer than 64 MiB'
+refused "$(
+    ulimit -v 65536
+    yes ab | tr -d '\n' | tr ab '\005\001' | head -c 8388608 | "$program" decode --form bytes - 2>&1
+)" 'hid: -: budget exceeded at offset 65536'
+refused "$(head -c 65537 /dev/zero | "$program" convert --form bytes - 2>&1 > /dev/null)" \
+    'hid: -: longer than 65536 bytes: say --limit 65537'
+refused "$(head -c 65536 /dev/zero | "$program" convert --form bytes - 2>&1 > /dev/null)" ''
+case $(ulimit -v 32768 && head -c 60000000 /dev/zero | tr '\0' '\n' | "$program" compile - 2>&1) in
+    'hid: -: '*memory*) ;;
+    *) refused 'too little memory' 'said with its input' ;;
+esac
+refused "$(echo 0501 | "$program" convert --form hex - 2>&1 > /dev/full)" \
+    'hid: -: No space left on device (os error 28)'
+
+# Bytes are a capture where its mark and its version are there; a word less, and they are bytes.
+capture_of() {
+    printf "$1" | "$program" convert - 2>&1 | head -n 1
+}
+refused "$(capture_of '\324\303\262\241\2\0\4\0')" 'hid: -: the capture is cut short'
+refused "$(capture_of '\324\303\262\241\2\0\5\0')" 'hid: -: read as bytes'
+refused "$(capture_of '\n\r\r\n\0\0\0\0M<+\32')" 'hid: -: the block at byte 0 is cut short'
+refused "$(capture_of '\n\r\r\n\0\0\0\0M<+\33')" 'hid: -: read as bytes'
+
+# A stream in pieces that end within a line, within a character or behind an empty line is what it is
+# whole: its form, too.
+streamed() {
+    local wanted=$1
+    shift
+    refused "$(
+        for piece; do
+            printf '%b' "$piece"
+            sleep 0.1
+        done | "$program" record "$top/crates/hid/data/axis.bytes" - 2>&1 | tail -n +2
+    )" "$(printf '%b' "$wanted")"
+}
+streamed 'hid: -: read as hex text\nX=5\nX=6' '0' '5\n06\n'
+streamed 'hid: -: read as hex text\nX=5\nX=6' '\n' '# \0342\0202' '\0254\n05' '\n06'
+streamed 'hid: -: read as bytes\nX=35\nX=10\nX=1' '#' '\n' '\0001'
+streamed 'hid: -: read as bytes\nX=-30\nX=-126\nX=10' '\0342' '\0202' '\n'
+
+# Colour where the environment forces it, and none where it wants none; a name that isn't UTF-8.
+coloured() {
+    env "$@" "$program" decode "$top/crates/hid/data/axis.bytes" 2> /dev/null | grep -c "$(printf '\033')" || true
+}
+refused "$(coloured CLICOLOR_FORCE=1)-$(coloured CLICOLOR_FORCE=0)-$(coloured CLICOLOR_FORCE=1 NO_COLOR=1)" '7-0-0'
+refused "$("$program" decode "$(printf 'a\351.hex')" 2>&1)" \
+    "hid: a word isn't UTF-8; a file with such a name is read as - (hid .. - < FILE)"
+echo 75 08 > "$scratch/$(printf 'a\351.hex')"
+refused "$("$program" convert /dev/fd/7 7< "$scratch/$(printf 'a\351.hex')" 2>&1)" \
+    "$(printf 'hid: /dev/fd/7: read as hex text\n75 08')"

@@ -1,0 +1,78 @@
+#!/bin/bash
+# What can be seen without a build, in a second: the tree's rules that no compiler knows.
+# Its status is 0 where all hold; each that doesn't is a line.
+set -u
+cd "$(dirname "$0")/../.."
+faults=0
+
+fault() {
+    echo "rules: $*"
+    faults=$((faults + 1))
+}
+
+[ "$(cat HANDLES)" = 'Handles allowed: none.' ] || fault 'HANDLES has another line'
+
+# Crates: each folder is listed, each listed one is there, and its root file asks for `auto`.
+listed=$(sed -n 's/^\([a-z0-9_]*\)[ :].*/\1/p' crates.txt | LC_ALL=C sort)
+[ "$listed" = "$(ls crates | LC_ALL=C sort)" ] || fault 'crates.txt and crates/ name other crates'
+for crate in $listed; do
+    root=$(ls crates/"$crate"/src/main.rt crates/"$crate"/src/lib.rt 2> /dev/null | head -n 1)
+    grep -qxF '#![tactic(auto)]' "$root" || fault "$root has no #![tactic(auto)]"
+done
+
+# Edits: each file that one names is there, and has each `old:` text just once.
+for edit in crates/*/must-fail/*.edit crates/*/more-edits/*.edit; do
+    file=
+    while IFS= read -r line; do
+        case $line in
+            'file: '*) file=${edit%/*/*}/${line#file: } ;;
+            'old: '*)
+                times=$(grep -oF -e "${line#old: }" "$file" 2> /dev/null | wc -l)
+                [ "$times" -eq 1 ] || fault "$edit: its text stands $times times in $file"
+                ;;
+        esac
+    done < "$edit"
+    [ -n "$file" ] || fault "$edit names no file"
+done
+tried=$(ls crates/*/must-fail/*.edit | wc -l)
+[ "$tried" -le 20 ] || fault "the gate would try $tried edits, more than 20"
+[ ! -d crates/hidreport/must-fail ] ||
+    fault 'edits of hidreport lie in more-edits: the gate would prove it once more, for 15 minutes'
+
+# Layout: each source is as `rt fmt` writes it.
+mapfile -t sources < <(find crates \( -name '*.rt' -path '*/src/*' -o -name '*.antt' \) \
+    -not -path '*/out/*'; find checks -name '*.rt')
+if command -v rattle > /dev/null; then
+    rattle fmt --check "${sources[@]}" > /dev/null 2>&1 || fault 'a source is not as rt fmt writes it'
+else
+    fault "no \`rattle\` on the path, so nothing is known of the sources' layout"
+fi
+
+# Cases: each file of them is asked.
+[ "$(ls crates/hidreport_cases/data)" = "$(cat crates/hidreport_cases/args)" ] ||
+    fault 'crates/hidreport_cases: args names other files than data/ has'
+
+# Version: the header has it, and each file that repeats it has the same.
+version=$(sed -n 's/^#define HIDREPORT_VERSION_[A-Z]* \([0-9][0-9]*\)$/\1/p' include/hidreport.h |
+    paste -sd . | sed 's/\.\([0-9]*\)$/-\1/')
+while read -r file text; do
+    grep -qF -e "$text" "$file" || fault "$file has another version than the header's $version"
+done << END_OF_FILES
+README.md Version $version (
+CHANGELOG.md ## $version (
+crates/hid/src/command_line.rt .version("$version")
+crates/hid/data/words.txt | hid $version
+share/help/version hid $version
+share/man/man1/hid.1 "hidreport $version"
+share/man/man1/hidreport.1 "hidreport $version"
+rust/Cargo.toml version = "$version"
+rust/Cargo.lock version = "$version"
+END_OF_FILES
+
+# Texts: 100 columns, tables apart.
+long=$(grep -nE '^[^|].{100,}' README.md CONTRIBUTING.md CHANGELOG.md docs/*.md compare/*.md \
+    bench/*.md | cut -d: -f1,2)
+[ -z "$long" ] || fault "lines past 100 columns:" $long
+
+[ "$faults" -eq 0 ] || exit 1
+echo 'rules: all rules of the tree hold'
