@@ -3,6 +3,6 @@
 # no good (hidreport/statuses.sh), and in how little memory and time it answers
 # (hidreport/little_memory.sh). The argument is the program; else it is the one that ./hidreport built.
 set -eu
-cd "$(dirname "$0")/hidreport"
-sh statuses.sh "$@"
-sh little_memory.sh "$@"
+parts=$(dirname "$0")/hidreport
+sh "$parts/statuses.sh" "$@"
+sh "$parts/little_memory.sh" "$@"
