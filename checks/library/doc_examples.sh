@@ -12,7 +12,7 @@ need_rt doc_examples
 repository=${1:-$(dirname "$0")/../..}
 crates=(hidreport_types hidreport_items hidreport_lists hidreport hidreport_usages)
 # At least so many are found.
-least=24
+least=26
 
 make_probe doc_examples "$repository" "${crates[@]}"
 

@@ -10,6 +10,17 @@ use crate::field::written_bits::{fits, least_held};
 /// Within the logical bounds each chooses the usage at the index that it is above the least.
 ///
 /// `ArrayField` has calls of its own; this is for callers who keep fields in another form.
+///
+/// # Examples
+///
+/// ```rust
+/// use hidreport::ElementNumbers;
+///
+/// // Eight buttons, by the numbers 1 to 8 in four bits.
+/// let buttons = ElementNumbers { width: 4, minimum: 1, maximum: 8 };
+/// assert_eq!(rt; buttons.choosing(2), Some(3));
+/// assert_eq!(rt; buttons.null_value(8), Some(0));
+/// ```
 #[derive(Clone, Copy, Debug)]
 pub struct ElementNumbers {
     /// How many bits an element has.

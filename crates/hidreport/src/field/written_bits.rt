@@ -95,6 +95,17 @@ pub fn all_fit(width: usize, is_signed: bool, numbers: &[i64]) -> bool
 /// in the bytes; no other bit changes (Section 5.8).
 ///
 /// Each number's bits are the low ones of its two's complement, the lowest first.
+///
+/// # Examples
+///
+/// ```rust
+/// use hidreport::bits::{all_fit, put_values};
+///
+/// let mut bytes = [0xff, 0xff];
+/// assert!(rt; all_fit(4, true, &[-3, 7]));
+/// put_values(&mut bytes, 4, 4, &[-3, 7]);
+/// assert_eq!(rt; bytes, [0xdf, 0xf7]);
+/// ```
 pub fn put_values(bytes: &mut [u8], first: usize, width: usize, numbers: &[i64])
     requires some { length numbers.now ≢ 0 → 0 < width }
     requires narrow { length numbers.now ≢ 0 → width ≤ 32 }
