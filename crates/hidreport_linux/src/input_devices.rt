@@ -114,7 +114,6 @@ impl InputDevices {
     /// - What `Wanted::of` refuses.
     /// - `Refused`, `NotKnown`, `NoInput`: by the descriptor.
     /// - `OtherDirection`, `Taken`, `PastCodes`: by the codes of the usages before it.
-    /// - `NotKnown`: a hat whose maximum is below its minimum.
     pub fn event(&mut self, item: &mut Item, usage: Usage) -> Result<Event, Unmapped> {
         let usage = u32::from(usage);
         self.pass_contact(&item.place, usage);
@@ -125,9 +124,6 @@ impl InputDevices {
         }
         if wanted.role == Role::Direction && item.has_direction {
             return Err(Unmapped::OtherDirection);
-        }
-        if wanted.role == Role::Hat && item.measures.maximum < item.measures.minimum {
-            return Err(Unmapped::NotKnown);
         }
         let role = item.role_of(wanted.role);
         let Some(device) = self.devices.get_mut(self.current) else {
@@ -163,7 +159,8 @@ impl Item {
 
     /// What a usage of the item does beside its own code.
     fn role_of(&self, role: Role) -> Role {
-        let is_apart = self.measures.minimum < self.measures.maximum;
+        // A maximum below the minimum is one that hid-core reads without a sign, above it.
+        let is_apart = self.measures.minimum != self.measures.maximum;
         match role {
             Role::Hat if !is_apart => Role::Plain,
             Role::Volume if !self.place.is_relative => Role::Plain,
@@ -182,7 +179,9 @@ impl Item {
 
     /// The event of a usage that has its code.
     fn event_of(&self, code: EventCode, role: Role) -> Event {
-        let axis = if code.event_type == EventType::Absolute && self.measures.are_known() {
+        let is_hat = role == Role::Hat || role == Role::Direction;
+        let is_known = is_hat || self.measures.are_known();
+        let axis = if code.event_type == EventType::Absolute && is_known {
             Some(Axis::of(code, role, &self.place, &self.measures))
         } else {
             None
