@@ -22,7 +22,7 @@ done
 # What is new: a line and a file.
 echo 'reader: hidreport anyhow' >> "$scratch/crates.txt"
 mkdir -p "$scratch/crates/reader/src"
-cp "$top/checks/library/from_elsewhere/main.rt" "$scratch/crates/reader/src"
+cp "$top/checks/library/from_elsewhere/main.source" "$scratch/crates/reader/src/main.rt"
 
 printf '00010030 5\n00010031 -5\n' > "$scratch/wanted"
 (cd "$scratch/crates/reader" && rt try) > "$scratch/shown" 2> "$scratch/said" || {

@@ -28,7 +28,9 @@ mod refusals;
 SOURCE
 
 # Calls by their names, and whether each answers what it is to answer: of descriptors and fields.
-cp "$(dirname "$0")"/item_allocations/*.rt "$scratch/crates/probe/src"
+for part in calls items; do
+    cp "$(dirname "$0")/item_allocations/$part.source" "$scratch/crates/probe/src/$part.rt"
+done
 
 # The same of items.
 

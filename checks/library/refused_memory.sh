@@ -1,6 +1,6 @@
 #!/bin/sh
-# Calls that take memory, over worked descriptors and items (refused_memory/memory.rt), and runs
-# of the program's commands (refused_memory/runs.rt): each of their allocations is refused in
+# Calls that take memory, over worked descriptors and items (refused_memory/memory.source), and runs
+# of the program's commands (refused_memory/runs.source): each of their allocations is refused in
 # turn, and each answers as with ample memory, or want of memory; where none is refused, as with ample
 # memory. There is a test for each allocation, which first makes as many others as bring it to the
 # number that is refused in every test, so that all run at once.
@@ -72,11 +72,11 @@ judge() {
     echo "refused memory, $2: $last allocations, $failed of them answered by want of memory, the others as where it is ample"
 }
 
-# The sources of the calls and the runs: those that memory.rt names are modules below it.
+# The sources of the calls and the runs: those that memory.source names are modules below it.
 sources="$(dirname "$0")/refused_memory"
 mkdir "$scratch/crates/probe/src/memory"
-for source in "$sources"/*.rt; do
-    part=$(basename "$source" .rt)
+for source in "$sources"/*.source; do
+    part=$(basename "$source" .source)
     case $part in
         memory | mouse | runs) ;;
         *) part=memory/$part ;;

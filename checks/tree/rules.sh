@@ -41,7 +41,14 @@ tried=$(ls crates/*/must-fail/*.edit | wc -l)
 
 # Layout: each source is as `rt fmt` writes it.
 mapfile -t sources < <(find crates \( -name '*.rt' -path '*/src/*' -o -name '*.antt' \) \
-    -not -path '*/out/*'; find checks -name '*.rt')
+    -not -path '*/out/*')
+# Those of checks/library are no crate's, so the kit wants no .rt there: copies are looked at.
+copies=$(mktemp -d)
+trap 'rm -rf "$copies"' EXIT
+while read -r source; do
+    sources+=("$copies/$(sed 's|/|_|g; s|source$|rt|' <<< "$source")")
+    cp "$source" "${sources[-1]}"
+done < <(find checks -name '*.source')
 if command -v rattle > /dev/null; then
     rattle fmt --check "${sources[@]}" > /dev/null 2>&1 || fault 'a source is not as rt fmt writes it'
 else
