@@ -550,6 +550,24 @@ def said_of(program, raw, words):
     return [json.loads(line) for line in run.stdout.decode().splitlines()], said
 
 
+# In place of an axis whose bounds `hid` reads otherwise than Linux, and doesn't say.
+UNSAID = "bounds that are not known"
+
+
+def has_reversed_bounds(field):
+    """Whether `hid` reads a maximum of a field below its minimum, as Linux may not."""
+    return any(field.get(f"{kind}_minimum") is not None
+               and field[f"{kind}_maximum"] < field[f"{kind}_minimum"]
+               for kind in ("logical", "physical"))
+
+
+def are_same(own, theirs):
+    """Whether two rows are the same, but for what `hid` doesn't say."""
+    if None not in (own, theirs) and None not in (own[4], theirs[4]) and own[4][2] == UNSAID:
+        return own[:4] == theirs[:4] and own[4][:2] == theirs[4][:2]
+    return own == theirs
+
+
 def asked(program, raw, words):
     """What `hid` answers, in the same rows."""
     fields, said = said_of(program, raw, words)
@@ -566,6 +584,8 @@ def asked(program, raw, words):
                 axis = answer.get("axis")
                 axis = axis and [axis[k] for k in ("minimum", "maximum", "fuzz", "flat",
                                                    "resolution")]
+                if axis is None and answer["event_type"] == "EV_ABS" and has_reversed_bounds(field):
+                    axis = UNSAID
                 event = (answer["event_type"], answer["code"], axis)
                 name = NAMES.get(event[:2])
                 assert answer.get("name") == name, (answer, name)
@@ -628,7 +648,7 @@ def compare_one(question):
     if ("takes such a device" in said) != bool(driver) or driver not in said:
         return "compared", count, f"{said}, and not {driver}"
     for own, theirs in itertools.zip_longest(rows, wanted):
-        if own != theirs:
+        if not are_same(own, theirs):
             return "compared", count, f"hid {own}, the model {theirs}"
     return "compared", count, ""
 
