@@ -1,10 +1,11 @@
 #!/bin/bash
 # hid.sh HID OTHER_HID HIDREPORT CASES
 # The program `hid` from outside: its stored runs, by both compilers' programs; its helps; devices; the
-# samples of the documents (of the program HIDREPORT, too); that what it writes is read back; bounds
-# of memory and time; the same answers as the library's (CASES is hidreport_cases, as it is built),
-# and the same event codes as a model of Linux's; and what it says beside TShark and lsusb. The parts
-# lie in hid/.
+# samples of the documents (of the program HIDREPORT, too); the names that shells complete; that what
+# it writes is read back; the pages of `hid page`; bounds of memory and time; the same answers as the
+# library's (CASES is hidreport_cases, as it is built), the same event codes as a model of Linux's and
+# the same collections as one of WebHID's; and what it says beside TShark and lsusb. The parts lie in
+# hid/.
 set -eu
 hid=$1 other=$2 hidreport=$3 cases=$4
 top=$(cd "$(dirname "$0")/.." && pwd)
@@ -13,11 +14,14 @@ bash "$parts/runs.sh" "$hid" "$other"
 bash "$parts/help.sh" "$hid"
 bash "$parts/devices.sh" "$hid"
 bash "$parts/samples.sh" "$hid" "$hidreport"
+bash "$parts/names.sh" "$hid"
 bash "$parts/texts.sh" "$hid"
+bash "$parts/page.sh" "$hid"
 bash "$parts/hostile.sh" "$hid"
 if command -v python3 > /dev/null; then
     python3 "$parts/questions.py" "$hid" "$cases"
     python3 "$top/compare/linux_events.py" "$hid"
+    python3 "$top/compare/webhid.py" "$hid"
 else
     echo 'hid: no `python3` on the path, so `hid`, the library and the models are not asked the same'
 fi

@@ -57,7 +57,7 @@ enum hidreport_direction { HIDREPORT_INPUT = 0, HIDREPORT_OUTPUT = 1, HIDREPORT_
 /* `kind` of a field */
 enum hidreport_kind { HIDREPORT_VARIABLE = 0, HIDREPORT_ARRAY = 1, HIDREPORT_CONSTANT = 2 };
 
-/* `kind` of a collection (Section 6.2.2.6); 0x07 to 0x7f are kept for later, 0x80 to 0xff are the
+/* `kind` of a collection (Section 6.2.2.6); 0x07 to 0x7f are reserved, 0x80 to 0xff are the
  * vendor's */
 enum hidreport_collection_kind {
     HIDREPORT_PHYSICAL = 0,

@@ -114,7 +114,10 @@ again blanks $length '\n'
 again marks $length '05:01:'
 again offset_lines $length '0000 00\n'
 again offset_heads $length '00000000: 00\n'
+again log_names $length 'kernel: [ 1.0] : 00000000: 00\n'
+again log_colons $length 'aaaaaaaa: '
 od -A x -t x1z -v zeros > dumped
+od -A x -t x1 -v zeros | sed '$d; s/^\(......\) /[   12.345678] rdesc: 00\1: /' > logged
 od -A d -t x1 -v pushes > dumped_pushes
 again python_lists $length '[0],\n'
 again python_numbers $length '[0,\n'
@@ -139,15 +142,17 @@ again debugfs_lines $length '05 01\nINPUT[INPUT]\n'
     done
 } > nearly_reports
 # Captures: requests without an answer, and blocks of nothing.
-{
-    printf '\324\303\262\241\2\0\4\0\0\0\0\0\0\0\0\0\377\377\0\0\334\0\0\0'
-    for ((n = 0; n < 800; n++)); do
+capture_head='\324\303\262\241\2\0\4\0\0\0\0\0\0\0\0\0\377\377\0\0\334\0\0\0'
+requests() {
+    printf "$capture_head"
+    for ((n = 0; n < $1; n++)); do
         printf '\0\0\0\0\0\0\0\0\100\0\0\0\100\0\0\0'
         printf "\\$(printf %o $((n % 256)))\\$(printf %o $((n / 256)))"
         printf '\0\0\0\0\0\0S\2\200\3\1\0\0<\0\0\0\0\0\0\0\0\0\0\0\0\0\0\0\0\0\0\0\0\0\0\0\0'
         printf '\201\6\0"\0\0\100\0\0\0\0\0\0\0\0\0\0\0\0\0\0\0\0\0'
     done
-} > capture_requests
+}
+requests 800 > capture_requests
 again capture_blocks 65532 '\5\0\0\0\14\0\0\0\14\0\0\0'
 printf '\n\r\r\n\34\0\0\0M<+\32\1\0\0\0\377\377\377\377\377\377\377\377\34\0\0\0' |
     cat - capture_blocks > capture_section
@@ -159,7 +164,7 @@ shapes='elements fields many_fields padding feature collections ranges usages_of
 zeros pushes opened usages pages designators global_in_push ended_in_push long_items inputs
 hex_lines hex_words recorder_reports recorder_devices recorder_names dump_heads dump_devices
 source_arrays source_numbers source_remarks blanks recorder_many long long_text marks offset_lines
-offset_heads dumped dumped_pushes python_lists python_numbers python_strings libinput_nodes
+offset_heads dumped dumped_pushes log_names log_colons logged python_lists python_numbers python_strings libinput_nodes
 libinput_numbers lsusb_items debugfs_lines nearly_blocks nearly_reports capture_requests
 capture_section'
 
@@ -168,18 +173,30 @@ for shape in $shapes; do
     for command in decode fields check map; do
         run "$command" "$shape"
     done
+    for host in linux windows; do
+        run check --for "$host" "$shape"
+        run --json check --for "$host" "$shape"
+    done
+    run fields --linux "$shape"
+    run --json fields --linux "$shape"
+    run fields --all "$shape"
     for command in decode fields check diff; do
         run --json "$command" "$shape" $([ "$command" != diff ] || echo mouse)
     done
     run map --svg "$shape"
+    run page "$shape"
+    run page "$shape" report
+    run page mouse "$shape"
+    run page "$shape" "$shape"
     run diff "$shape" "$shape"
     run diff mouse "$shape"
     run set "$shape" - X=1
+    run set --names "$shape" -
     run --lenient fields "$shape"
-    for to in hex c rust bytes recording kernel zephyr tinyusb libinput; do
+    for to in hex c rust bytes recording kernel zephyr tinyusb lufa libinput webhid; do
         run convert --to "$to" "$shape"
     done
-    for words in '' --json --down; do
+    for words in '' --json --down --times; do
         run values $words "$shape" report
         run values $words mouse "$shape"
     done
@@ -208,10 +225,41 @@ head -c 16000001 /dev/zero > great_report
 kilobytes=256000 run record great great_report
 [ "$(wc -l < output)" -eq 1 ] || fault "a report of 16 MB is shown in $(wc -l < output) lines"
 
+# What WebHID lists again in each collection.
+again listed_items 60000 '\011\060\201\002'
+printf '\005\001\241\001\165\001\225\001' | cat - listed_items > listed
+says 'bytes of JSON' convert --to webhid --form bytes listed
+
 # A line without an end, and an input without one.
 again endless $((2 * 1048576)) '01 05 fb '
 says 'longer than 1 MiB' record --report-form hex mouse endless
 says 'without a line' record mouse endless
+
+# Captures of more requests, endpoints and interfaces than are kept. Of each device 128 endpoints are
+# told: a request for its configuration, and the answer of 914 bytes.
+requests 4097 > many_requests
+says 'more than 4096 requests have no answer' decode many_requests
+{
+    printf "$capture_head"
+    for ((n = 1; n < 34; n++)); do
+        device="\\$(printf %o "$n")"
+        printf '\0\0\0\0\0\0\0\0\100\0\0\0\100\0\0\0\0\0\0\0\0\0\0\0'
+        printf "S\\2\\200$device"'\1\0\0<\0\0\0\0\0\0\0\0\0\0\0\0\0\0\0\0\0\0\0\0\0\0\0\0'
+        printf '\200\6\0\2\0\0\377\377\0\0\0\0\0\0\0\0\0\0\0\0\0\0\0\0'
+        printf '\0\0\0\0\0\0\0\0\322\3\0\0\322\3\0\0\0\0\0\0\0\0\0\0'
+        printf "C\\2\\200$device"'\1\0-\0\0\0\0\0\0\0\0\0\0\0\0\0\0\0\0\0\222\3\0\0\222\3\0\0'
+        printf '\0\0\0\0\0\0\0\0\0\0\0\0\0\0\0\0\0\0\0\0\0\0\0\0'
+        printf '\11\2\222\3\1\1\0\200\62\11\4\0\0\1\3\0\0\0'
+        for ((k = 128; k < 256; k++)); do
+            printf "\\7\\5\\$(printf %o "$k")"'\3\10\0\1'
+        done
+    done
+} > many_endpoints
+says 'more than 4096 endpoints' decode many_endpoints
+again many_blocks 81940 '\1\0\0\0\24\0\0\0\334\0\0\0\0\0\4\0\24\0\0\0'
+printf '\n\r\r\n\34\0\0\0M<+\32\1\0\0\0\377\377\377\377\377\377\377\377\34\0\0\0' |
+    cat - many_blocks > many_interfaces
+says 'more than 4096 interfaces' decode many_interfaces
 kilobytes=400000 seconds=3 input=/dev/zero
 says 'longer than 64 MiB' decode -
 kilobytes=64000 seconds=1 input=/dev/null
@@ -229,8 +277,10 @@ silent() {
         fault "$* lets a control character through"
 }
 silent fields named
+silent page --device 0 named
 silent compile escaping
 silent compile turning
+silent page mouse turning_time
 for words in '' --json --raw; do
     silent record $words --report-form recorder mouse escaping_time
     silent record $words mouse turning_time

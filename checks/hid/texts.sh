@@ -166,3 +166,13 @@ refused "$("$program" decode "$(printf 'a\351.hex')" 2>&1)" \
 echo 75 08 > "$scratch/$(printf 'a\351.hex')"
 refused "$("$program" convert /dev/fd/7 7< "$scratch/$(printf 'a\351.hex')" 2>&1)" \
     "$(printf 'hid: /dev/fd/7: read as hex text\n75 08')"
+
+# Pictures of reports that are 1,500 pixels high stand below each other; a row more, and beside: of
+# so many bytes the second one has, each with a row, the title and the numbers above, a gap below.
+columns_of() {
+    {
+        echo '05 01 09 02 a1 01 15 00 25 7f 75 08 09 30 95 1c 81 02 09 30'
+        printf '95 %02x 91 02 c0\n' "$1"
+    } | "$program" map --svg - 2> /dev/null | grep -c '<g' || true
+}
+refused "$(columns_of 29)-$(columns_of 30)" '1-2'

@@ -15,7 +15,7 @@ import subprocess
 import sys
 import tempfile
 
-# The macros of both headers: an item is its first byte, then its data, the low byte first.
+# The macros of the headers: an item is its first byte, then its data, the low byte first.
 ITEM = '#define ITEM(tag, type, size) ((tag) << 4 | (type) << 2 | (size))\n'
 ZEPHYR = ITEM + '#define HID_ITEM(a, b, c) ITEM((a) & 15, (b) & 3, (c) & 3)\n' + ''.join(
     f'#define {name}{suffix}{arguments} ITEM({tag}, {kind}, {size}){data}\n'
@@ -64,7 +64,34 @@ TINYUSB = ITEM + '''
         '''- DESKTOP SIMULATE VIRTUAL_REALITY SPORT GAME GENERIC_DEVICE KEYBOARD LED BUTTON ORDINAL
         TELEPHONY CONSUMER DIGITIZER'''.split()) if page
 ) + '#define HID_USAGE_PAGE_VENDOR 0xff00\n'
-HEADERS = {'c': '', 'kernel': 'typedef uint8_t __u8;\n', 'zephyr': ZEPHYR, 'tinyusb': TINYUSB}
+LUFA = ITEM + '''
+typedef uint8_t USB_Descriptor_HIDReport_Datatype_t;
+#define PROGMEM
+#define DATA_0
+#define DATA_8(x) , (uint8_t)(x)
+#define DATA_16(x) DATA_8(x), (uint8_t)((x) >> 8)
+#define DATA_32(x) DATA_16(x), (uint8_t)((uint32_t)(x) >> 16), (uint8_t)((uint32_t)(x) >> 24)
+#define SIZE_0 0
+#define SIZE_8 1
+#define SIZE_16 2
+#define SIZE_32 3
+''' + ''.join(
+    f'#define HID_RI_{name}(bits, ...) ITEM({tag}, {kind}, SIZE_##bits) DATA_##bits '
+    f'__VA_OPT__((__VA_ARGS__))\n'
+    for kind, names in enumerate([
+        '''- - - - - - - - INPUT OUTPUT COLLECTION FEATURE END_COLLECTION''',
+        '''USAGE_PAGE LOGICAL_MINIMUM LOGICAL_MAXIMUM PHYSICAL_MINIMUM PHYSICAL_MAXIMUM UNIT_EXPONENT
+        UNIT REPORT_SIZE REPORT_ID REPORT_COUNT PUSH POP''',
+        'USAGE USAGE_MINIMUM USAGE_MAXIMUM'])
+    for tag, name in enumerate(names.split()) if name != '-'
+) + ''.join(
+    f'#define HID_IOF_{name} (1 << {bit})\n' for bit, name in enumerate(
+        '''CONSTANT VARIABLE RELATIVE WRAP NON_LINEAR NO_PREFERRED_STATE NULLSTATE VOLATILE
+        BUFFERED_BYTES'''.split())
+) + ''.join(
+    f'#define HID_IOF_{name} 0\n' for name in ['DATA', 'ARRAY', 'ABSOLUTE'])
+HEADERS = {'c': '', 'kernel': 'typedef uint8_t __u8;\n', 'zephyr': ZEPHYR, 'tinyusb': TINYUSB,
+           'lufa': LUFA}
 FORMS = {'c': 'source', 'kernel': 'source', 'rust': 'source', 'python': 'python',
          'libinput': 'libinput', 'recording': 'recorder', 'hex': 'hex'}
 
@@ -156,7 +183,7 @@ def main():
     descriptors = [bytes.fromhex(line) for line in sys.stdin]
     wholes = list(joined(filter(is_whole, descriptors)))
     others = [data for data in descriptors if not is_whole(data)]
-    targets = {**FORMS, 'zephyr': 'source', 'tinyusb': 'source'}
+    targets = {**FORMS, 'zephyr': 'source', 'tinyusb': 'source', 'lufa': 'source'}
     answers = 0
 
     def compare(target, reader, asked, got):

@@ -34,6 +34,20 @@ for edit in crates/*/must-fail/*.edit crates/*/more-edits/*.edit; do
     done < "$edit"
     [ -n "$file" ] || fault "$edit names no file"
 done
+# Plants: each text stands just once in the file that is named, or in the law's.
+for plants in checks/mutations/planted/*.txt; do
+    files=()
+    while IFS= read -r line; do
+        case $line in
+            'file: '*) files=("crates/${line#file: }") ;;
+            'law: '*) mapfile -t files < <(ls crates/hidreport{_types,_items,_lists,}/specs/"${line#law: }.antt" 2> /dev/null) ;;
+            'old: '*)
+                times=$(cat "${files[@]}" 2> /dev/null | grep -oF -e "${line#old: }" | wc -l)
+                [ "$times" -eq 1 ] || fault "$plants: a text stands $times times: ${line#old: }"
+                ;;
+        esac
+    done < "$plants"
+done
 tried=$(ls crates/*/must-fail/*.edit | wc -l)
 [ "$tried" -le 20 ] || fault "the gate would try $tried edits, more than 20"
 [ ! -d crates/hidreport/must-fail ] ||

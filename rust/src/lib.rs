@@ -70,7 +70,7 @@ pub use error::{InsertError, ParserError};
 pub use field::{Field, FieldId};
 pub use field_attributes::FieldAttributes;
 pub use options::{ParseOptions, PushKeeps, UsagesBy};
-pub use repairing::{repair, Change, Mend, RepairOptions, Repaired};
+pub use repairing::{repair, Change, Reason, RepairOptions, Repaired};
 pub use report::{RDescReport, Report};
 pub use types::*;
 pub use usage::{Usage, UsageRange};

@@ -82,7 +82,7 @@ fn item(chance: &mut Chance, bytes: &mut Vec<u8>, prefix: u8, number: u32) {
     bytes.extend_from_slice(&number.to_le_bytes()[..width]);
 }
 
-/// Push, Pop, Collection, EndCollection and items that are kept for later, a few of each.
+/// Push, Pop, Collection, EndCollection and reserved items, a few of each.
 fn structure(chance: &mut Chance, bytes: &mut Vec<u8>) {
     for _ in 0..chance.below(3) {
         match chance.below(9) {

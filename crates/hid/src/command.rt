@@ -1,16 +1,16 @@
 //! What the words of a command line ask for.
 use crate::commands::{
-    Check, Compile, Convert, Decode, Diff, Fields, List, Map, Record, ReportTarget, Set, Target,
-    Uhid, Values, id_named,
+    Check, Compile, Convert, Decode, Diff, Fields, Host, List, Map, Page, Record, ReportTarget,
+    Set, Target, Uhid, Values, id_named,
 };
 use crate::ending::Ending;
+use crate::world::World;
 use anyhow::{Result, bail};
 use clap::ArgMatches;
 use hid_input::settings::Settings;
 use hid_text::words::direction_named;
 use hidreport::Direction;
 use std::alloc::{AllocError, Global};
-use std::rt::{Clock, Files};
 
 /// A command with its words.
 #[derive(Drop)]
@@ -33,6 +33,8 @@ pub enum Command<'a> {
     Compile(Compile<'a>),
     /// Draws the bits of each report.
     Map(Map<'a>),
+    /// Writes a page of HTML.
+    Page(Page<'a>),
     /// Shows what differs between two descriptors.
     Diff(Diff<'a>),
     /// Shows what is odd in a descriptor.
@@ -56,7 +58,10 @@ impl<'a> Command<'a> {
                     shows_linux,
                 })
             }
-            "check" => Command::Check(Check { file }),
+            "check" => {
+                let host = matches.get_str("for").and_then(Host::named);
+                Command::Check(Check { file, host })
+            }
             "list" => Command::List(List),
             "values" => Command::Values(values_of(alloc, file, matches)?),
             "record" => Command::Record(record_of(file, matches)),
@@ -71,6 +76,7 @@ impl<'a> Command<'a> {
                 Command::Compile(Compile { text, target })
             }
             "map" => Command::Map(map_of(file, matches)),
+            "page" => Command::Page(page_of(alloc, file, matches)?),
             "diff" => {
                 let other = matches.get_str("OTHER").unwrap_or("-");
                 Command::Diff(Diff { file, other })
@@ -91,6 +97,7 @@ impl<'a> Command<'a> {
             Command::Convert(command) => command.file,
             Command::Compile(command) => command.text,
             Command::Map(command) => command.file,
+            Command::Page(command) => command.file,
             Command::Diff(command) => command.file,
             Command::Check(command) => command.file,
             Command::List(_) => "list",
@@ -103,12 +110,20 @@ impl<'a> Command<'a> {
             Command::Values(command) if command.is_down && settings.is_json => {
                 Some("--down and --json can't both be met")
             }
+            Command::Values(command) if command.is_down && command.has_times => {
+                Some("--down and --times can't both be met")
+            }
+            Command::Set(command) if command.shows_names && !command.words.is_empty() => {
+                Some("--names takes no NAME=NUMBER")
+            }
             Command::Record(command) if command.is_raw && settings.is_json => {
                 Some("--raw and --json can't both be met")
             }
             Command::Record(command) if command.is_raw && command.only_changes => {
                 Some("--raw and --changes can't both be met")
             }
+            Command::Record(command) if command.has_times && (command.is_raw || settings.is_json) =>
+                { Some("--times is of lines of values: --raw and --json have times") }
             Command::Record(command) if command.only_changes && settings.is_json => {
                 Some("--changes and --json can't both be met")
             }
@@ -117,17 +132,14 @@ impl<'a> Command<'a> {
             | Command::Convert(_)
             | Command::Compile(_)
             | Command::Map(_)
+            | Command::Page(_)
                 if settings.is_json => { Some("this command has no JSON") }
             _ => None,
         }
     }
 
     /// Does what is asked for.
-    pub fn run<R: AllocGlobal + Clock + Files + Clone + Drop + Input + Print + Eprint>(
-        &self,
-        rt: &R,
-        settings: &Settings,
-    ) -> Result<Ending> {
+    pub fn run<R: World>(&self, rt: &R, settings: &Settings) -> Result<Ending> {
         match self {
             Command::Decode(command) => command.run(rt, settings),
             Command::Fields(command) => command.run(rt, settings),
@@ -138,6 +150,7 @@ impl<'a> Command<'a> {
             Command::Convert(command) => command.run(rt, settings),
             Command::Compile(command) => command.run(rt, settings),
             Command::Map(command) => command.run(rt, settings),
+            Command::Page(command) => command.run(rt, settings),
             Command::Diff(command) => command.run(rt, settings),
             Command::Check(command) => command.run(rt, settings),
             Command::List(command) => command.run(rt, settings),
@@ -155,6 +168,7 @@ fn values_of<'a>(
         reports: words_of(alloc, "REPORT", matches)?,
         direction: direction_of(matches),
         is_down: matches.get_flag("down"),
+        has_times: matches.get_flag("times"),
     })
 }
 
@@ -176,6 +190,7 @@ fn record_of<'a>(file: &'a str, matches: &ArgMatches<'a>) -> Record<'a> {
         stream: matches.get_str("STREAM").unwrap_or("-"),
         only_changes: matches.get_flag("changes"),
         is_raw: matches.get_flag("raw"),
+        has_times: matches.get_flag("times"),
     }
 }
 
@@ -187,6 +202,7 @@ fn set_of<'a>(alloc: Global, file: &'a str, matches: &ArgMatches<'a>) -> Result<
         direction: direction_of(matches),
         target: ReportTarget::named(matches.get_str("to")),
         is_zero: matches.get_flag("zero"),
+        shows_names: matches.get_flag("names"),
     })
 }
 
@@ -196,6 +212,19 @@ fn map_of<'a>(file: &'a str, matches: &ArgMatches<'a>) -> Map<'a> {
         is_svg: matches.get_flag("svg"),
         shows_all: matches.get_flag("all"),
     }
+}
+
+fn page_of<'a>(
+    alloc: Global,
+    file: &'a str,
+    matches: &ArgMatches<'a>,
+) -> Result<Page<'a>, AllocError> {
+    Ok(Page {
+        file,
+        reports: words_of(alloc, "REPORT", matches)?,
+        direction: direction_of(matches),
+        shows_all: matches.get_flag("all"),
+    })
 }
 
 /// What the words say that bytes are written as.

@@ -72,10 +72,24 @@ pub struct Globals {
     pub maximum: i32,
     /// Where the logical maximum stands.
     pub maximum_offset: usize,
+    /// The physical minimum, 0 where none was said.
+    pub physical_minimum: i32,
+    /// The physical maximum, 0 where none was said.
+    pub physical_maximum: i32,
+    /// The power of ten of the unit.
+    pub exponent: i8,
     /// The bits of a field.
     pub size: usize,
     /// The number of fields.
     pub count: usize,
+    /// Whether reports have an id from here on.
+    pub has_report_id: bool,
+    /// The report's id, or 0.
+    pub report_id: u8,
+    /// The unit.
+    pub unit: u32,
+    /// Where the unit stands.
+    pub unit_offset: usize,
 }
 
 /// What is in force at an item: globals, open collections and Pushes.
@@ -98,8 +112,15 @@ impl ItemState {
                 minimum: 0,
                 maximum: 0,
                 maximum_offset: 0,
+                physical_minimum: 0,
+                physical_maximum: 0,
+                exponent: 0,
                 size: 0,
                 count: 0,
+                has_report_id: false,
+                report_id: 0,
+                unit: 0,
+                unit_offset: 0,
             },
             open: Vec::new(alloc),
             pushed: Vec::new(alloc),
@@ -142,8 +163,19 @@ impl ItemState {
                 globals.maximum = i32::from(number);
                 globals.maximum_offset = offset;
             }
+            GlobalItem::PhysicalMinimum(number) => globals.physical_minimum = i32::from(number),
+            GlobalItem::PhysicalMaximum(number) => globals.physical_maximum = i32::from(number),
+            GlobalItem::UnitExponent(number) => globals.exponent = number.exponent(),
             GlobalItem::ReportSize(number) => globals.size = usize::from(number),
             GlobalItem::ReportCount(number) => globals.count = usize::from(number),
+            GlobalItem::ReportId(id) => {
+                globals.has_report_id = true;
+                globals.report_id = u8::from(id);
+            }
+            GlobalItem::Unit(unit) => {
+                globals.unit = u32::from(unit);
+                globals.unit_offset = offset;
+            }
             GlobalItem::Push => self.pushed.push((offset, self.globals))?,
             GlobalItem::Pop => {
                 if let Some((_offset, globals)) = self.pushed.pop() {

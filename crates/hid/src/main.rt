@@ -3,6 +3,7 @@
 //! Licence: MIT (LICENSE).
 #![tactic(auto)]
 
+mod arguments;
 mod command;
 mod command_line;
 mod commands;
@@ -10,18 +11,20 @@ mod ending;
 mod items;
 mod settings;
 mod wanted_usage;
+mod world;
 
 use crate::command::Command;
 use crate::command_line::command_line;
 use crate::ending::Ending;
 use crate::settings::settings_of;
+use crate::world::World;
 use anyhow::{Context, Result, bail};
 use clap::ArgMatches;
 use hid_output::escaped;
 use std::alloc::{AllocError, Global};
 use std::io::IsTerminal;
 use std::process::ExitCode;
-use std::rt::{Clock, Env, Files};
+use std::rt::Env;
 use std::{env, io};
 
 fn main(rt: HostRuntime) -> io::Result<ExitCode> {
@@ -30,10 +33,7 @@ fn main(rt: HostRuntime) -> io::Result<ExitCode> {
 }
 
 /// Does what the program's words ask for; says on standard error why it can't.
-fn run<R: AllocGlobal + Clock + Env + Files + Clone + Drop + Input + Print + Eprint>(
-    rt: &R,
-    is_terminal: bool,
-) -> Ending {
+fn run<R: World>(rt: &R, is_terminal: bool) -> Ending {
     match answer(rt, is_terminal) {
         Ok(ending) => ending,
         Err(error) => {
@@ -69,10 +69,7 @@ fn words_of<R: AllocGlobal + Env>(rt: &R) -> Result<Vec<String>> {
     }
 }
 
-fn answer<R: AllocGlobal + Clock + Env + Files + Clone + Drop + Input + Print + Eprint>(
-    rt: &R,
-    is_terminal: bool,
-) -> Result<Ending> {
+fn answer<R: World>(rt: &R, is_terminal: bool) -> Result<Ending> {
     let words = words_of(rt)?;
     let command = command_line(rt.alloc())?;
     match command.try_get_matches_from(&words) {
@@ -92,7 +89,7 @@ fn answer<R: AllocGlobal + Clock + Env + Files + Clone + Drop + Input + Print + 
 }
 
 /// Does what a command asks for.
-fn carry_out<R: AllocGlobal + Clock + Env + Files + Clone + Drop + Input + Print + Eprint>(
+fn carry_out<R: World>(
     rt: &R,
     is_terminal: bool,
     name: &str,

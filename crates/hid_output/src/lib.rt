@@ -1,8 +1,9 @@
-//! What the program `hid` writes: texts in pieces, bytes in digits, JSON, and what came from an
-//! input.
+//! What the program `hid` writes: texts in pieces, bytes in digits, JSON, HTML, and what came from
+//! an input.
 //! Licence: MIT (LICENSE).
 #![tactic(auto)]
 
+pub mod html;
 pub mod macros;
 
 use anyhow::Result;

@@ -1,7 +1,10 @@
 //! The macros that items are written by in C, which `hid` writes and reads by one table.
+mod lufa;
 mod tinyusb;
 mod zephyr;
 
+pub use lufa::{LUFA_FLAGS, lufa_name};
+use lufa::{lufa_macro, lufa_number};
 pub use tinyusb::{
     FLAGS, KINDS, OF_A_BYTE, OF_EACH_SIZE, PAGES, REPORT_ID, USAGE_PAGE, WITHOUT, name_in,
 };
@@ -18,6 +21,9 @@ pub enum Arguments {
     /// The number of the item's data, and their size as in its first byte: 3 means four bytes.
     Sized,
 
+    /// How many bits the item's data have, and behind them their number; nothing behind none.
+    Bits,
+
     /// The item's tag, its type and its size; its data stand behind.
     Item,
 }
@@ -27,7 +33,7 @@ impl Arguments {
     pub fn count(self) -> usize {
         match self {
             Arguments::Bytes(count) => usize::from(count),
-            Arguments::Sized => 2,
+            Arguments::Sized | Arguments::Bits => 2,
             Arguments::Item => 3,
         }
     }
@@ -48,13 +54,19 @@ impl Macro {
         Macro { header, arguments }
     }
 
-    /// The macro with this name, of TinyUSB or Zephyr: what both have writes the same.
+    /// The macro with this name, of TinyUSB, Zephyr or LUFA: what several have writes the same.
     pub fn named(name: &str) -> Option<Macro> {
+        if let Some(known) = lufa_macro(name) {
+            return Some(known);
+        }
         tinyusb_macro(name).or_else(|| zephyr_macro(name))
     }
 }
 
-/// The number that a name in an argument stands for, by TinyUSB's header or Zephyr's.
+/// The number that a name in an argument stands for, by the header of TinyUSB, Zephyr or LUFA.
 pub fn number_named(name: &str) -> Option<u32> {
+    if let Some(number) = lufa_number(name) {
+        return Some(number);
+    }
     tinyusb_number(name).or_else(|| zephyr_number(name))
 }

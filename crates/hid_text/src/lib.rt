@@ -5,8 +5,10 @@
 
 pub mod diff;
 pub mod field_object;
+pub mod line_object;
 pub mod linux;
 pub mod nearest;
 pub mod report;
+pub mod sample_object;
 pub mod value_object;
 pub mod words;

@@ -23,7 +23,7 @@ pub use rows::{Cell, Row, rows_of};
 pub use same_reports::SameReports;
 use std::alloc::AllocError;
 use std::fmt::Write;
-pub use svg::Picture;
+pub use svg::{Picture, height_of};
 
 /// Appends a report's direction and id.
 pub fn add_title(

@@ -8,7 +8,7 @@ use Rattle.std.proofs.Math.Nat.{div-add-mod, div-lt_iff_lt-mul, mod-lt, mul_comm
 use Rattle.std.proofs.lemmas.Bool.Decides.{nat_tests}
 use Rattle.std.proofs.lemmas.Nat.{pow_pos}
 use Rattle.hidreport_items.specs.Spelling.{AreBytes}
-use Rattle.hidreport_lists.specs.Answer.{Refusal, Bounds}
+use Rattle.hidreport_lists.specs.Answer.{Refusal, OutOfBounds}
 use Rattle.hidreport.specs.BitValue.{bit, sum_of_bits, value}
 use Rattle.hidreport.specs.Choosing.{value_number}
 use Rattle.hidreport.specs.Reading.{ValueRecord, before_values, each_value, element_width}
@@ -99,7 +99,7 @@ number-ok : (r : Result ValueRecord Refusal) (z : ℤ) → number_in r ≡ Ok z 
 number-ok (Ok x) z h = refl
 number-ok (Err e) z h = cc
 
-same-value : (b : Bool) (x y : ValueRecord) → cond b (Err Bounds) (Ok x) ≡ Ok y → x ≡ y
+same-value : (b : Bool) (x y : ValueRecord) → cond b (Err OutOfBounds) (Ok x) ≡ Ok y → x ≡ y
 same-value true x y h = cc
 same-value false x y h = cc
 
@@ -209,6 +209,20 @@ one-in : (r : Result ValueRecord Refusal) (numbers : List ℤ) → numbers_of (o
 one-in (Ok x) numbers h = (value_number x, (cc, refl))
 one-in (Err e) numbers h = cc
 
+-- a number alone is each of the numbers
+
+only-fit : (w : ℕ) (s : Bool) (z : ℤ) (k : ℕ) → k < 1 → fits w s z ≡ true
+    → fits w s (get_or (z ∷ []) k (pos 0)) ≡ true
+only-fit w s z zero lt h = h
+only-fit w s z (suc k) lt h = absurd (omega arith)
+
+only-bit : (first w : ℕ) (z : ℤ) (old : List ℕ) (k i : ℕ) → k < 1
+    → number_bit z i ≡ bit old (first + i)
+    → number_bit (get_or (z ∷ []) k (pos 0)) i ≡ bit old (first + w * k + i)
+only-bit first w z old zero i lt h =
+    let here : first + i ≡ first + w * 0 + i = omega arith in h ∙ ap (bit old) here
+only-bit first w z old (suc k) i lt h = absurd (omega arith)
+
 values-own : (field : FieldRecord) (numbers : List ℤ) (old : List ℕ) → AreBytes old
     → numbers_of (values_of field old) ≡ Ok numbers
     → (list_all (fits (value_width field) (has_sign field)) numbers ≡ true)
@@ -227,18 +241,7 @@ values-own (VariableRecord place usage shared) numbers old are h =
           ∙ put-own place.first w (z ∷ []) old are
           (λ k i lt below. only-bit place.first w z old k i lt
           (value-own-bits place.first w s old z i own below)),
-    ) where
-      only-fit : (w : ℕ) (s : Bool) (z : ℤ) (k : ℕ) → k < 1 → fits w s z ≡ true
-          → fits w s (get_or (z ∷ []) k (pos 0)) ≡ true
-      only-fit w s z zero lt h = h
-      only-fit w s z (suc k) lt h = absurd (omega arith)
-
-      only-bit : (first w : ℕ) (z : ℤ) (old : List ℕ) (k i : ℕ) → k < 1
-          → number_bit z i ≡ bit old (first + i)
-          → number_bit (get_or (z ∷ []) k (pos 0)) i ≡ bit old (first + w * k + i)
-      only-bit first w z old zero i lt h =
-          let here : first + i ≡ first + w * 0 + i = omega arith in h ∙ ap (bit old) here
-      only-bit first w z old (suc k) i lt h = absurd (omega arith)
+    )
 values-own (ArrayRecord place usages is_range n shared) numbers old are h =
     run-own place.first (element_width place.first place.«end» n) n (is_signed shared) numbers old are h
 values-own (ConstantRecord place) numbers old are h =
@@ -291,8 +294,8 @@ again field numbers old new (Err e) are h read =
     )
 
 element-in : (t : Bool) (id : Option ℕ) (old : List ℕ) (r : Result ValueRecord Refusal) (z : ℤ)
-    → number_in (cond t (with_id id old r) (Err Bounds)) ≡ Ok z
-    → (IsOk (cond t (with_id id old r) (Err Bounds))) × (number_in r ≡ Ok z)
+    → number_in (cond t (with_id id old r) (Err OutOfBounds)) ≡ Ok z
+    → (IsOk (cond t (with_id id old r) (Err OutOfBounds))) × (number_in r ≡ Ok z)
 element-in false id old r z h = cc
 element-in true id old r z h =
     let ok = number-ok (with_id id old r) z h in
@@ -324,23 +327,11 @@ again-element place usages is_range count shared index number old new result are
     let own : IsValue p w s old number =
     subst (λ v. IsValue p v s old number) width (own-value p (p + w) s old number e.1) in
     let fit : list_all (fits w s) (number ∷ []) ≡ true =
-    all-fit w s (number ∷ []) (λ k lt. only w s number k lt (value-own-fits p w s old number own)) in
+    all-fit w s (number ∷ []) (λ k lt. only-fit w s number k lt (value-own-fits p w s old number own)) in
     let same : put p w (number ∷ []) old ≡ old =
     put-own p w (number ∷ []) old are (λ k i lt below.
-    bit-at p w number old k i lt (value-own-bits p w s old number i own below)) in
+    only-bit p w number old k i lt (value-own-bits p w s old number i own below)) in
     by result h fit same e.0 where
-      only : (w : ℕ) (s : Bool) (z : ℤ) (k : ℕ) → k < 1 → fits w s z ≡ true
-          → fits w s (get_or (z ∷ []) k (pos 0)) ≡ true
-      only w s z zero lt h = h
-      only w s z (suc k) lt h = absurd (omega arith)
-
-      bit-at : (first w : ℕ) (z : ℤ) (old : List ℕ) (k i : ℕ) → k < 1
-          → number_bit z i ≡ bit old (first + i)
-          → number_bit (get_or (z ∷ []) k (pos 0)) i ≡ bit old (first + w * k + i)
-      bit-at first w z old zero i lt h =
-          let here : first + i ≡ first + w * 0 + i = omega arith in h ∙ ap (bit old) here
-      bit-at first w z old (suc k) i lt h = absurd (omega arith)
-
       by : (result : Result (Unit {0}) InsertError)
           → Inserts result old new
           (written_element (ArrayRecord place usages is_range count shared) index number old)

@@ -62,18 +62,23 @@ power-fits w narrow =
     let top : 2 ^ 32 ≡ 4294967296 = refl in
     omega (arith, bound, top)
 
+-- a sum below 1 shifted to the top place is below that power of 2
+pub below-top : (w sum : ℕ) → suc w ≤ 32 → sum < 1 * 2 ^ (suc w - 1) % 18446744073709551616
+    → sum < 2 ^ w
+below-top w sum narrow small =
+    let less : suc w - 1 ≡ w = omega arith in
+    subst (λ n. sum < n)
+    (ap (λ n. 1 * 2 ^ n % 18446744073709551616) less ∙ power-fits w (omega (arith, narrow))) small
+
 pub top-clear : (bytes : List ℕ) (first width sum : ℕ) → 0 < width → width ≤ 32
     → sum ≡ sum_of_bits bytes first width
     → sum < 1 * 2 ^ (width - 1) % 18446744073709551616
     → sum ≡ as_word (value bytes first width true)
 top-clear bytes first zero sum some narrow e small = absurd (omega (arith, some))
 top-clear bytes first (suc w) sum some narrow e small =
-    let less : suc w - 1 ≡ w = omega arith in
-    let below : sum < 2 ^ w = subst (λ n. sum < n)
-    (ap (λ n. 1 * 2 ^ n % 18446744073709551616) less ∙ power-fits w (omega (arith, narrow)))
-    small in
     top-by (sum_of_bits bytes first w) (2 ^ w) (bit bytes (first + w)) sum
-    (zero-or-one (bit bytes (first + w)) (bit-small bytes (first + w))) e below
+    (zero-or-one (bit bytes (first + w)) (bit-small bytes (first + w))) e
+    (below-top w sum narrow small)
 
 -- where it is set, 2 to the width is taken away
 set-by : (x P b sum : ℕ) → (b ≡ 0) ⊎ (b ≡ 1) → sum ≡ x + b * P → x < P → P ≤ sum

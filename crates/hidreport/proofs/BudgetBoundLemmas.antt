@@ -21,7 +21,7 @@ use Rattle.hidreport.specs.ItemState.{first_of}
 use Rattle.hidreport.specs.Kinds.{Indexed, Direction, Input, Output, Feature, data_of, goes}
 use Rattle.hidreport.specs.Making.{extent, same_key}
 use Rattle.hidreport.specs.Meaning.{InForce, at_offset, meaning_by, parse_by, parse_items}
-use Rattle.hidreport.specs.MeaningFault.{MeaningFault, PastBudget}
+use Rattle.hidreport.specs.MeaningFault.{MeaningFault, BudgetExceeded}
 use Rattle.hidreport.specs.Options.{parse_limited, reading_of}
 use Rattle.hidreport.specs.Parser.Budget.{past_fault, walk_within, weight_in, weight_made_in}
 use Rattle.hidreport.specs.Parser.Machine.{StateRecord, added_to, adds, fault_in, go_on, key_in}
@@ -77,21 +77,19 @@ next-by : (b : Bool) (d : Direction) (h : StateRecord) (x : ItemType) → adds d
     ≡ sum_by report_weight (reports_of d h.descriptor) + cond b
     (sum_by field_weight (fields_of h.item_state h.opened h.fields (start_in d h) (data_of x)
     (extent h.item_state))) 0
-next-by true d h x is =
+next-by b d h x is =
     let fields = fields_of h.item_state h.opened h.fields (start_in d h) (data_of x)
     (extent h.item_state) in
     ap (λ b. sum_by report_weight (cond b
     (added_to (key_in d h) (bits_of (extent h.item_state)) fields (reports_of d h.descriptor))
     (reports_of d h.descriptor))) is
-    ∙ added-weight (key_in d h) (bits_of (extent h.item_state)) fields (reports_of d h.descriptor)
-next-by false d h x is =
-    let fields = fields_of h.item_state h.opened h.fields (start_in d h) (data_of x)
-    (extent h.item_state) in
-    ap (λ b. sum_by report_weight (cond b
-    (added_to (key_in d h) (bits_of (extent h.item_state)) fields (reports_of d h.descriptor))
-    (reports_of d h.descriptor))) is
-    ∙ (let e : sum_by report_weight (reports_of d h.descriptor)
-    ≡ sum_by report_weight (reports_of d h.descriptor) + 0 = omega arith in e)
+    ∙ heavier b (key_in d h) (bits_of (extent h.item_state)) fields (reports_of d h.descriptor) where
+      heavier : (b : Bool) (id : Option ℕ) (bits : ℕ) (fields : List FieldRecord)
+          (rs : List ReportRecord)
+          → sum_by report_weight (cond b (added_to id bits fields rs) rs)
+          ≡ sum_by report_weight rs + cond b (sum_by field_weight fields) 0
+      heavier true id bits fields rs = added-weight id bits fields rs
+      heavier false id bits fields rs = omega arith
 
 -- the fields go to one direction
 abbrev made_in : Direction → StateRecord → Option (Direction × Flags) → ℕ
@@ -145,7 +143,7 @@ bounded-by (Some f) b h k left x xs d e past is later =
     (first_of o (past_fault (nat_lt left (weight_in h x)))) (next_state h x)) k
     (λ n. walk_within (Some (left - weight_in h x)) n (k + 1) xs)) e) ∙ is in cc
 bounded-by None true h k left x xs d e past is later =
-    let bad : Announces (Err (k, PastBudget)) d =
+    let bad : Announces (Err (k, BudgetExceeded)) d =
     sym (ap (λ o. go_on (unless_fault
     (first_of o (past_fault (nat_lt left (weight_in h x)))) (next_state h x)) k
     (λ n. walk_within (Some (left - weight_in h x)) n (k + 1) xs)) e
@@ -205,7 +203,7 @@ stack-by false r bad d e = cc
 plain-of : (o : Option Indexed) (r : Result DescriptorRecord (ℕ × MeaningFault))
     (d : DescriptorRecord) → Announces (unless_past o r) d → Announces r d
 plain-of None r d e = e
-plain-of (Some p) r d e = stack-by (is_faulty_by p.0 r) r (p.0, PastBudget) d e
+plain-of (Some p) r d e = stack-by (is_faulty_by p.0 r) r (p.0, BudgetExceeded) d e
 
 plain-items : (reading : InForce) (limit : ℕ) (r : Result (List Entry) (ℕ × GrammarFault))
     (d : DescriptorRecord) → parse_items_within reading limit r ≡ Ok d

@@ -18,7 +18,7 @@ use Rattle.hidreport.specs.ItemState.{ItemState, first_of}
 use Rattle.hidreport.specs.Kinds.{Indexed, Direction, collection_kind_of, data_of}
 use Rattle.hidreport.specs.Making.{extent}
 use Rattle.hidreport.specs.Meaning.{InForce, descriptor, fault_here, first_fault, unless_first}
-use Rattle.hidreport.specs.MeaningFault.{MeaningFault, PastBudget}
+use Rattle.hidreport.specs.MeaningFault.{MeaningFault, BudgetExceeded}
 use Rattle.hidreport.specs.Options.{meaning_as, meaning_limited, reading_of}
 use Rattle.hidreport.specs.Parser.Budget.{past_fault, walk_within, weight_in, weight_made_in}
 use Rattle.hidreport.specs.Parser.Budget.{weight_opened_in}
@@ -132,15 +132,15 @@ faulty-first : (o : Option Indexed) (k : ℕ) (f : MeaningFault) → IsFrom k o
 faulty-first None k f h = refl
 faulty-first (Some p) k f h =
     let before : nat_le k p.0 ≡ true = grind (arith, nat_tests) in
-    ap (λ b. cond b (ends_at k f) (ends_at p.0 PastBudget)) before
+    ap (λ b. cond b (ends_at k f) (ends_at p.0 BudgetExceeded)) before
 
 -- what is past the limit at k counts before a fault later on
 past-first : (o : Option (ℕ × MeaningFault)) (k : ℕ) (x : ItemType) (all : DescriptorRecord)
-    → IsFaultFrom (suc k) o → unless_past (Some (k, x)) (unless_first o all) ≡ ends_at k PastBudget
+    → IsFaultFrom (suc k) o → unless_past (Some (k, x)) (unless_first o all) ≡ ends_at k BudgetExceeded
 past-first None k x all h = refl
 past-first (Some f) k x all h =
     let behind : nat_le f.0 k ≡ false = grind (arith, nat_tests) in
-    ap (λ b. cond b (ends_at f.0 f.1) (ends_at k PastBudget)) behind
+    ap (λ b. cond b (ends_at f.0 f.1) (ends_at k BudgetExceeded)) behind
 
 -- the weight that passes what is left passes the limit with what was spent
 past-left : (limit spent w : ℕ) → spent ≤ limit

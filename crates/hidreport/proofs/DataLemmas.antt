@@ -136,49 +136,30 @@ data-held h g d flags cs e us key first bits fields rs n same around made has ke
 abbrev pub held_result : StateRecord → Result StateRecord MeaningFault
 held_result h = Ok h
 
+-- what is held, by its parts
+abbrev held_by : StateRecord → ItemState → List ItemState → ℕ → List CollectionRecord → ℕ
+    → StateRecord
+held_by h f stack fields opened collections = record {
+  push_keeps = h.push_keeps;
+  item_state = f;
+  stack = stack;
+  descriptor = h.descriptor;
+  fields = fields;
+  opened = opened;
+  collections = collections;
+}
+
 -- what is held behind an item that makes nothing and has no fault
 pub quiet : (h : StateRecord) (f : ItemState) (stack : List ItemState)
-    → held_result (record {
-      push_keeps = h.push_keeps;
-      item_state = f;
-      stack = stack;
-      descriptor = h.descriptor;
-      fields = h.fields + 0;
-      opened = h.opened ++ [];
-      collections = h.collections + 0;
-    })
+    → held_result (held_by h f stack (h.fields + 0) (h.opened ++ []) (h.collections + 0))
     ≡ held_result (record h { item_state = f; stack = stack })
 quiet h f stack =
-    ap (λ n. held_result (record {
-      push_keeps = h.push_keeps;
-      item_state = f;
-      stack = stack;
-      descriptor = h.descriptor;
-      fields = n;
-      opened = h.opened ++ [];
-      collections = h.collections + 0;
-    }))
+    ap (λ n. held_result (held_by h f stack n (h.opened ++ []) (h.collections + 0)))
     (add-zero h.fields)
-    ∙ ap (λ l. held_result (record {
-      push_keeps = h.push_keeps;
-      item_state = f;
-      stack = stack;
-      descriptor = h.descriptor;
-      fields = h.fields;
-      opened = l;
-      collections = h.collections + 0;
-    })) (append-nil h.opened)
-    ∙ ap (λ n. held_result (record {
-      push_keeps = h.push_keeps;
-      item_state = f;
-      stack = stack;
-      descriptor = h.descriptor;
-      fields = h.fields;
-      opened = h.opened;
-      collections = n;
-    })) (add-zero h.collections)
+    ∙ ap (λ l. held_result (held_by h f stack h.fields l (h.collections + 0)))
+    (append-nil h.opened)
+    ∙ ap (λ n. held_result (held_by h f stack h.fields h.opened n)) (add-zero h.collections)
 
--- a global item is set, where it is neither Push nor Pop
 pub step-global : (h : StateRecord) (g : GlobalItem) → g ≢ global.Push → g ≢ global.Pop
     → step h (item.Global g) ≡ Ok (record h {
       item_state = record (next_item_state h.item_state

@@ -4,40 +4,40 @@ use Rattle.std.proofs.Common.{◌||◌, nat_le, nat_lt, IsOk, List, [], ◌∷�
 use Rattle.std.proofs.Common.{not, Result, Ok, Err, refl, ap, sym, ◌∙◌, arith}
 use Rattle.std.proofs.Math.Nat.{mul-le-mul_left}
 use Rattle.std.proofs.lemmas.Bool.Decides.{nat_tests}
-use Rattle.hidreport_lists.specs.Answer.{Refusal, Bounds}
+use Rattle.hidreport_lists.specs.Answer.{Refusal, OutOfBounds}
 use Rattle.hidreport.specs.Reading.{ValueRecord, before_values, element, each_value}
 use Rattle.hidreport.specs.Reading.{element_width}
 use Rattle.hidreport.specs.WritingValues.{are_readable}
 
 -- an element is refused as out of bounds alone
-test_refusal : {A : Type 0} (b : Bool) (x : A) (r : Refusal) → cond b (Err Bounds) (Ok x) ≡ Err r
-    → r ≡ Bounds
+test_refusal : {A : Type 0} (b : Bool) (x : A) (r : Refusal) → cond b (Err OutOfBounds) (Ok x) ≡ Err r
+    → r ≡ OutOfBounds
 test_refusal true x r h = cc
 test_refusal false x r h = cc
 
 element_refusal : (first end count : ℕ) (s : Bool) (bytes : List ℕ) (i : ℕ) (r : Refusal)
-    → element first end count s bytes i ≡ Err r → r ≡ Bounds
+    → element first end count s bytes i ≡ Err r → r ≡ OutOfBounds
 element_refusal first end count s bytes i r h = test_refusal _ _ r h
 
 -- a refusal of the elements behind one refuses all, whatever that one is
 before_refused : (a : Result ValueRecord Refusal) (rest : Result (List ValueRecord) Refusal)
-    → ((r : Refusal) → a ≡ Err r → r ≡ Bounds) → rest ≡ Err Bounds
-    → before_values a rest ≡ Err Bounds
+    → ((r : Refusal) → a ≡ Err r → r ≡ OutOfBounds) → rest ≡ Err OutOfBounds
+    → before_values a rest ≡ Err OutOfBounds
 before_refused (Err e) rest only h = ap (λ (r : Refusal). Err r) (only e refl)
 before_refused (Ok x) (Err e) only h = h
 before_refused (Ok x) (Ok xs) only h = cc
 
 -- so does a refusal of the first
 refused_first : (a : Result ValueRecord Refusal) (rest : Result (List ValueRecord) Refusal)
-    → a ≡ Err Bounds → before_values a rest ≡ Err Bounds
-refused_first (Err e) rest h = let same : e ≡ Bounds = cc in ap (λ (r : Refusal). Err r) same
+    → a ≡ Err OutOfBounds → before_values a rest ≡ Err OutOfBounds
+refused_first (Err e) rest h = let same : e ≡ OutOfBounds = cc in ap (λ (r : Refusal). Err r) same
 refused_first (Ok x) rest h = cc
 
 -- where one element is refused, so are all
 elements-refused : (first end count : ℕ) (s : Bool) (bytes : List ℕ) (index more j : ℕ)
     → j < more
-    → element first end count s bytes (index + j) ≡ Err Bounds
-    → each_value (element first end count s bytes) index more ≡ Err Bounds
+    → element first end count s bytes (index + j) ≡ Err OutOfBounds
+    → each_value (element first end count s bytes) index more ≡ Err OutOfBounds
 elements-refused first end count s bytes index zero j within h = absurd (omega arith)
 elements-refused first end count s bytes index (suc more) zero within h =
     let here : index + 0 ≡ index = omega arith in
@@ -56,8 +56,8 @@ elements-refused first end count s bytes index (suc more) (suc j) within h =
 -- the same from the first element on
 pub elements-outside : (first end count : ℕ) (s : Bool) (bytes : List ℕ) (more j : ℕ)
     → j < more
-    → element first end count s bytes j ≡ Err Bounds
-    → each_value (element first end count s bytes) 0 more ≡ Err Bounds
+    → element first end count s bytes j ≡ Err OutOfBounds
+    → each_value (element first end count s bytes) 0 more ≡ Err OutOfBounds
 elements-outside first end count s bytes more j within h =
     let here : 0 + j ≡ j = omega arith in
     elements-refused first end count s bytes 0 more j within
@@ -122,7 +122,7 @@ refused_before a w x y n le h = grind (arith, nat_tests)
 
 -- what is refused under a stronger test only is given where the weaker test lets it through
 is_ok_unless : {A : Type 0} (b c : Bool) (x y : A) → (b ≡ true → c ≡ true)
-    → IsOk (cond c (Err Bounds) (Ok y)) → IsOk (cond b (Err Bounds) (Ok x))
+    → IsOk (cond c (Err OutOfBounds) (Ok y)) → IsOk (cond b (Err OutOfBounds) (Ok x))
 is_ok_unless true true x y h ok = ok
 is_ok_unless true false x y h ok = let no : false ≡ true = h refl in cc
 is_ok_unless false c x y h ok = refl
@@ -162,13 +162,23 @@ elements-from-last first end count s bytes n last e readable =
     (λ k below. element-before first end count s bytes k last (omega arith) readable)
 
 -- an element by the test of its bits
-readable-by : {A : Type 0} (t : Bool) (x : A) → not t ≡ true → IsOk (cond t (Err Bounds) (Ok x))
+readable-by : {A : Type 0} (t : Bool) (x : A) → not t ≡ true → IsOk (cond t (Err OutOfBounds) (Ok x))
 readable-by true x h = cc
 readable-by false x h = refl
 
-refused-by : {A : Type 0} (t : Bool) (x : A) → not t ≡ false → cond t (Err Bounds) (Ok x) ≡ Err Bounds
+refused-by : {A : Type 0} (t : Bool) (x : A) → not t ≡ false → cond t (Err OutOfBounds) (Ok x) ≡ Err OutOfBounds
 refused-by true x h = refl
 refused-by false x h = cc
+
+-- the bits of the last element, by its width and its place as they were computed
+last-bits : (first end count : ℕ) (bytes : List ℕ) (last w p : ℕ) (t : Bool)
+    → w ≡ element_width first end count → p ≡ first + w * last → are_readable p (p + w) bytes ≡ t
+    → are_readable (first + element_width first end count * last)
+    (first + element_width first end count * last + element_width first end count) bytes ≡ t
+last-bits first end count bytes last w p t ew ep read =
+    sym (ap (λ k. are_readable k (k + w) bytes) (ep ∙ ap (λ k. first + k * last) ew)
+    ∙ ap (λ k. are_readable (first + element_width first end count * last)
+    (first + element_width first end count * last + k) bytes) ew) ∙ read
 
 -- where the last element's bits can be read, so can all elements
 pub elements-readable-by : (first end count : ℕ) (s : Bool) (bytes : List ℕ) (n last w p : ℕ)
@@ -176,26 +186,16 @@ pub elements-readable-by : (first end count : ℕ) (s : Bool) (bytes : List ℕ)
     → are_readable p (p + w) bytes ≡ true
     → IsOk (each_value (element first end count s bytes) 0 n)
 elements-readable-by first end count s bytes n last w p e ew ep t =
-    let at = ap (λ k. first + k * last) ew in
-    let same : are_readable (first + element_width first end count * last)
-    (first + element_width first end count * last + element_width first end count) bytes ≡ true =
-    sym (ap (λ k. are_readable k (k + w) bytes) (ep ∙ at)
-    ∙ ap (λ k. are_readable (first + element_width first end count * last)
-    (first + element_width first end count * last + k) bytes) ew) ∙ t in
-    elements-from-last first end count s bytes n last e (readable-by _ _ same)
+    elements-from-last first end count s bytes n last e
+    (readable-by _ _ (last-bits first end count bytes last w p true ew ep t))
 
 pub elements-refused-by : (first end count : ℕ) (s : Bool) (bytes : List ℕ) (n last w p : ℕ)
     → n ≡ last + 1 → w ≡ element_width first end count → p ≡ first + w * last
     → are_readable p (p + w) bytes ≡ false
-    → each_value (element first end count s bytes) 0 n ≡ Err Bounds
+    → each_value (element first end count s bytes) 0 n ≡ Err OutOfBounds
 elements-refused-by first end count s bytes n last w p e ew ep t =
-    let at = ap (λ k. first + k * last) ew in
-    let same : are_readable (first + element_width first end count * last)
-    (first + element_width first end count * last + element_width first end count) bytes ≡ false =
-    sym (ap (λ k. are_readable k (k + w) bytes) (ep ∙ at)
-    ∙ ap (λ k. are_readable (first + element_width first end count * last)
-    (first + element_width first end count * last + k) bytes) ew) ∙ t in
-    elements-outside first end count s bytes n last (omega (arith, e)) (refused-by _ _ same)
+    elements-outside first end count s bytes n last (omega (arith, e))
+    (refused-by _ _ (last-bits first end count bytes last w p false ew ep t))
 
 -- what can be read has some bits, at most 32, and all of them in the bytes
 pub readable-bits : (p w : ℕ) (bytes : List ℕ) → are_readable p (p + w) bytes ≡ true

@@ -1,6 +1,6 @@
 -- The fields of an item, one after the other.
 use Rattle.std.proofs.Common.{◌≡◌, ℕ, zero, suc, ◌+◌, ◌-◌, ◌<◌, min, List, [], ◌∷◌, ◌++◌, length}
-use Rattle.std.proofs.Common.{get_or, refl, ap, ◌∙◌, arith}
+use Rattle.std.proofs.Common.{get_or, refl, sym, ap, ◌∙◌, add-one, zero-add, append_assoc, arith}
 use Rattle.hidreport.specs.Fields.{each_from, usage_at}
 use Rattle.hidreport.specs.declared.field.usage.Usage.{Usage}
 
@@ -12,6 +12,18 @@ each_from-next f c (suc n) =
     ap (λ l. f c ∷ l) (each_from-next f (c + 1) n)
     ∙ ap (λ k. f c ∷ (each_from f (c + 1) n ++ f k ∷ []))
     (let e : c + 1 + n ≡ c + suc n = omega arith in e)
+
+-- one more behind others
+pub each_from-behind : {A : Type 0} (made : ℕ → A) (before now : List A) (n : ℕ) (x : A)
+    → now ≡ before ++ each_from made 0 n → x ≡ made n
+    → now ++ x ∷ [] ≡ before ++ each_from made 0 (n + 1)
+each_from-behind {A = A} made before now n x are is =
+    ap (λ (l : List A). l ++ x ∷ []) are
+    ∙ append_assoc before (each_from made 0 n) (x ∷ [])
+    ∙ ap (λ y. before ++ (each_from made 0 n ++ y ∷ [])) is
+    ∙ ap (λ k. before ++ (each_from made 0 n ++ made k ∷ [])) (sym (zero-add n))
+    ∙ ap (λ (l : List A). before ++ l)
+    (sym (each_from-next made 0 n) ∙ ap (each_from made 0) (sym (add-one n)))
 
 -- usage c, or the last one
 pub usage_at-min : (us : List Usage) (c n : ℕ) (d : Usage) → 0 < length us

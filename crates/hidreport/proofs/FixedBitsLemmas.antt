@@ -7,7 +7,7 @@ use Rattle.std.proofs.Math.Pow.{pow_mono}
 use Rattle.std.proofs.Math.Nat.{mul-add}
 use Rattle.std.proofs.lemmas.Bool.Decides.{nat_tests}
 use Rattle.std.proofs.lemmas.Grind.{common_steps}
-use Rattle.hidreport_lists.specs.Answer.{Refusal, Bounds, Mismatch}
+use Rattle.hidreport_lists.specs.Answer.{Refusal, OutOfBounds, MismatchingReportId}
 use Rattle.hidreport.specs.BitValue.{as_word, bit, sum_of_bits, value}
 use Rattle.hidreport.specs.Reading.{ValueRecord, before_values, element, element_width}
 use Rattle.hidreport.specs.Reading.{each_value, is_signed, one_value, read_bits}
@@ -126,7 +126,7 @@ abbrev record_of : List ℕ → ℕ → ℕ → Bool → ValueRecord
 record_of bytes s w signed = record { word = as_word (value bytes s w signed); is_signed = signed }
 
 read-by : (a b c : Bool) (width : ℕ) (x y : ValueRecord) → nat_lt 32 width ≡ b
-    → cond (a || (b || c)) (Err Bounds) (Ok x) ≡ Ok y → (x ≡ y) × (width ≤ 32)
+    → cond (a || (b || c)) (Err OutOfBounds) (Ok x) ≡ Ok y → (x ≡ y) × (width ≤ 32)
 read-by true b c width x y e r = cc
 read-by false true c width x y e r = cc
 read-by false false true width x y e r = cc
@@ -250,7 +250,7 @@ elements-fix first end count signed bytes other index (suc more) xs ys p q =
 -- a field
 
 strip-by : (b : Bool) (answer : Result (List ValueRecord) Refusal) (xs : List ValueRecord)
-    → cond b answer (Err Mismatch) ≡ Ok xs → answer ≡ Ok xs
+    → cond b answer (Err MismatchingReportId) ≡ Ok xs → answer ≡ Ok xs
 strip-by true answer xs e = e
 strip-by false answer xs e = cc
 

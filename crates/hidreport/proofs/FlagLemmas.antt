@@ -1,5 +1,5 @@
 -- Flags that are compared one by one.
-use Rattle.std.proofs.Common.{◌≡◌, Bool, true, false, ◌&&◌, refl, ap, sym, ◌∙◌, subst}
+use Rattle.std.proofs.Common.{◌≡◌, Bool, true, false, ◌&&◌, refl, ap, ◌∙◌, subst}
 use Rattle.std.proofs.Common.{Option, None, Some}
 use Rattle.std.specs.Bool.{beq}
 use Rattle.std.specs.Option.{option_eq}
@@ -44,47 +44,23 @@ equal-flags f g e1 =
     let e7 = rest _ _ e6 in
     let e8 = rest _ _ e7 in
     let e9 = rest _ _ e8 in
+    let h1 : Flags = record f { constant = g.constant } in
+    let h2 : Flags = record h1 { variable = g.variable } in
+    let h3 : Flags = record h2 { relative = g.relative } in
+    let h4 : Flags = record h3 { wrap = g.wrap } in
+    let h5 : Flags = record h4 { nonlinear = g.nonlinear } in
+    let h6 : Flags = record h5 { no_preferred_state = g.no_preferred_state } in
+    let h7 : Flags = record h6 { null_state = g.null_state } in
+    let h8 : Flags = record h7 { volatile = g.volatile } in
     ap (λ b. record f { constant = b }) (same _ _ (front _ _ e1))
-    ∙ ap (λ b. record f { constant = g.constant; variable = b }) (same _ _ (front _ _ e2))
-    ∙ ap (λ b. record g {
-      relative = b;
-      wrap = f.wrap;
-      nonlinear = f.nonlinear;
-      no_preferred_state = f.no_preferred_state;
-      null_state = f.null_state;
-      volatile = f.volatile;
-      buffered_bytes = f.buffered_bytes;
-    }) (same _ _ (front _ _ e3))
-    ∙ ap (λ b. record g {
-      wrap = b;
-      nonlinear = f.nonlinear;
-      no_preferred_state = f.no_preferred_state;
-      null_state = f.null_state;
-      volatile = f.volatile;
-      buffered_bytes = f.buffered_bytes;
-    }) (same _ _ (front _ _ e4))
-    ∙ ap (λ b. record g {
-      nonlinear = b;
-      no_preferred_state = f.no_preferred_state;
-      null_state = f.null_state;
-      volatile = f.volatile;
-      buffered_bytes = f.buffered_bytes;
-    })
-    (same _ _ (front _ _ e5))
-    ∙ ap (λ b. record g {
-      no_preferred_state = b;
-      null_state = f.null_state;
-      volatile = f.volatile;
-      buffered_bytes = f.buffered_bytes;
-    }) (same _ _ (front _ _ e6))
-    ∙ ap (λ b. record g {
-      null_state = b;
-      volatile = f.volatile;
-      buffered_bytes = f.buffered_bytes;
-    }) (same _ _ (front _ _ e7))
-    ∙ ap (λ b. record g { volatile = b; buffered_bytes = f.buffered_bytes })
-    (same _ _ (front _ _ e8))
-    ∙ ap (λ b. record g { buffered_bytes = b }) (same _ _ e9)
+    ∙ ap (λ b. record h1 { variable = b }) (same _ _ (front _ _ e2))
+    ∙ ap (λ b. record h2 { relative = b }) (same _ _ (front _ _ e3))
+    ∙ ap (λ b. record h3 { wrap = b }) (same _ _ (front _ _ e4))
+    ∙ ap (λ b. record h4 { nonlinear = b }) (same _ _ (front _ _ e5))
+    ∙ ap (λ b. record h5 { no_preferred_state = b }) (same _ _ (front _ _ e6))
+    ∙ ap (λ b. record h6 { null_state = b }) (same _ _ (front _ _ e7))
+    ∙ ap (λ b. record h7 { volatile = b }) (same _ _ (front _ _ e8))
+    ∙ ap (λ b. record h8 { buffered_bytes = b }) (same _ _ e9)
 
 pub flags-equal : (f g : Flags) → f ≡ g → are_equal f g ≡ true
 flags-equal f g e = subst (λ h. are_equal f h ≡ true) e

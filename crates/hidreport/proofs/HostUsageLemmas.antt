@@ -1,7 +1,7 @@
 -- Usages as hosts read them: what a lone maximum gives, and what is no usage changes nothing.
 use Rattle.std.proofs.Common.{◌≡◌, ℕ, zero, suc, ◌+◌, ◌-◌, ◌*◌, ◌%◌, ◌<◌, ◌≤◌, Bool, true, false, cond}
-use Rattle.std.proofs.Common.{◌&&◌, ◌||◌, List, [], ◌∷◌, ◌++◌, length, filter, Option, unwrap_or}
-use Rattle.std.proofs.Common.{Err, Ok, OnOk, Result, drop, get_or, min, take, option_to_list, flat_map, refl, sym, ap, ◌∙◌, append-nil, arith, length-append}
+use Rattle.std.proofs.Common.{◌&&◌, ◌||◌, List, [], ◌∷◌, ◌++◌, length, filter, Option, None, Some, unwrap_or}
+use Rattle.std.proofs.Common.{IfSome, drop, subst, get_or, min, take, option_to_list, flat_map, refl, sym, ap, ◌∙◌, append-nil, arith, length-append}
 use Rattle.std.specs.Prelude.{◌==◌, ◌/◌}
 use Rattle.std.proofs.lemmas.Bool.Decides.{nat_tests}
 use Rattle.hidreport_items.specs.Kept.{is_kept}
@@ -269,20 +269,6 @@ take-split (suc room) (u ∷ us) vs =
     ∙ ap (λ k. take (suc (min (length us) room)) (u ∷ us) ++ take k vs) (sym rest)
     ∙ ap (λ k. take k (u ∷ us) ++ take (suc room - k) vs) (sym one)
 
--- usage c of a list, or the last one, where it is looked up
-pub at-listed : (us : List Usage) (c n : ℕ) (d : Usage) → 0 < length us
-    → n ≡ min c (length us - 1) → get_or us n d ≡ usage_at us c
-at-listed [] c n d some e = absurd (omega arith)
-at-listed (u ∷ []) c n d some e =
-    let first : n ≡ 0 = omega arith in ap (λ k. get_or (u ∷ []) k d) first
-at-listed (u ∷ v ∷ us) zero n d some e =
-    let first : n ≡ 0 = omega arith in ap (λ k. get_or (u ∷ v ∷ us) k d) first
-at-listed (u ∷ v ∷ us) (suc c) n d some e =
-    let later : n ≡ suc (min c (length (v ∷ us) - 1)) = omega arith in
-    let more : 0 < length (v ∷ us) = omega arith in
-    ap (λ k. get_or (u ∷ v ∷ us) k d) later
-    ∙ at-listed (v ∷ us) c (min c (length (v ∷ us) - 1)) d more refl
-
 -- the first of a list, and the rest
 pub only : (ss : List UsageSpan) (s : UsageSpan) → length ss ≡ 1 → s ≡ get_or ss 0 s
     → ss ≡ s ∷ []
@@ -308,6 +294,16 @@ pub some-first : (n : ℕ) (us : List Usage) → 0 < n → 0 < length us → 0 <
 some-first n [] pos some = absurd (omega (arith, some))
 some-first zero (u ∷ us) pos some = absurd (omega (arith, pos))
 some-first (suc n) (u ∷ us) pos some = omega arith
+
+-- usage c is in a list of as many of the first ones, if there is one
+pub found-listed : {V : Type 0} (items : V → List Usage) (o : Option V) (n c : ℕ)
+    (us : List Usage) → c < n → 0 < length us → IfSome o (λ v. items v ≡ take n us)
+    → IfSome o (λ v. (0 < length (items v)) × (usage_at (items v) c ≡ usage_at us c))
+found-listed items None n c us lt some are = tt
+found-listed items (Some v) n c us lt some are = (
+  subst (λ (l : List Usage). 0 < length l) (sym are) (some-first n us (omega (arith, lt)) some),
+  ap (λ (l : List Usage). usage_at l c) are ∙ at-first n c us lt,
+)
 
 -- the usages from a span on
 pub rest-of : (ss : List UsageSpan) (i : ℕ) (s : UsageSpan) → i < length ss → s ≡ get_or ss i s
@@ -399,12 +395,6 @@ pub front-at : (page : ℕ) (old : List UsageSpan) (i : ℕ) (d : UsageSpan) →
 front-at page [] i d lt = absurd (omega arith)
 front-at page (t ∷ old) zero d lt = refl
 front-at page (t ∷ old) (suc i) d lt = front-at page old i d (omega (arith, lt))
-
--- the same fields added, where an addition succeeds
-pub on-listed : {A E : Type 0} (r : Result A E) (new old more others : List FieldRecord)
-    → more ≡ others → OnOk r (new ≡ old ++ more) → OnOk r (new ≡ old ++ others)
-on-listed (Ok x) new old more others same is = is ∙ ap (λ l. old ++ l) same
-on-listed (Err e) new old more others same is = tt
 
 -- as many usages as before, and a span's
 pub length-taken : (ss : List UsageSpan) (i : ℕ) (s : UsageSpan) → i < length ss

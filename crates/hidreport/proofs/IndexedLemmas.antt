@@ -1,5 +1,7 @@
 -- Lists of placed items: counted, filtered, cut.
-use Rattle.std.proofs.Common.{◌≡◌, ℕ, zero, suc, ◌+◌, ◌<◌, ◌≤◌, Bool, true, false, cond, ◌&&◌, List}
+use Rattle.std.proofs.Common.{◌≡◌, ℕ, zero, suc, ◌+◌, ◌-◌, ◌<◌, ◌≤◌, Bool, true, false, cond, ◌&&◌}
+use Rattle.std.proofs.Common.{nat_lt, List}
+use Rattle.std.proofs.lemmas.Grind.{common_steps}
 use Rattle.std.proofs.Common.{[], ◌∷◌, ◌++◌, length, take, filter, refl, sym, ap, ◌∙◌, subst, arith}
 use Rattle.hidreport_items.specs.declared.item.ItemType.{ItemType}
 use Rattle.hidreport.specs.Kinds.{Indexed}
@@ -68,6 +70,37 @@ and_last false s d = refl
 pub and_true : (b : Bool) → (b && true) ≡ b
 and_true true = refl
 and_true false = refl
+
+-- what stays as long as each place behind j passes a test, one place further
+pub stays-further : (stays : ℕ → Bool) (holds : ℕ → Bool) (j k : ℕ)
+    → ((m : ℕ) → stays (suc m) ≡ (holds (j + suc m) && stays m)) → j < k
+    → (nat_lt j (suc k) && stays (suc k - j)) ≡ ((nat_lt j k && stays (k - j)) && holds (suc k))
+stays-further stays holds j k step lt =
+    let further : suc k - j ≡ suc (k - j) = omega arith in
+    let there : j + suc (k - j) ≡ suc k = omega arith in
+    let before_next : nat_lt j (suc k) ≡ true = grind (arith, common_steps) in
+    let before_now : nat_lt j k ≡ true = grind (arith, common_steps) in
+    ap (λ b. b && stays (suc k - j)) before_next
+    ∙ ap stays further
+    ∙ step (k - j)
+    ∙ ap (λ n. holds n && stays (k - j)) there
+    ∙ and_last true (stays (k - j)) (holds (suc k))
+    ∙ ap (λ b. (b && stays (k - j)) && holds (suc k)) (sym before_now)
+
+-- the same of the place itself
+pub stays-new : (stays : ℕ → Bool) (holds : ℕ → Bool) (k : ℕ) → stays zero ≡ true
+    → ((m : ℕ) → stays (suc m) ≡ (holds (k + suc m) && stays m))
+    → (nat_lt k (suc k) && stays (suc k - k)) ≡ holds (suc k)
+stays-new stays holds k empty step =
+    let one : suc k - k ≡ suc zero = omega arith in
+    let there : k + suc zero ≡ suc k = omega arith in
+    let before_next : nat_lt k (suc k) ≡ true = grind (arith, common_steps) in
+    ap (λ b. b && stays (suc k - k)) before_next
+    ∙ ap stays one
+    ∙ step zero
+    ∙ ap (λ n. holds n && stays zero) there
+    ∙ ap (λ b. holds (suc k) && b) empty
+    ∙ and_true (holds (suc k))
 
 pub and_assoc : (a b c : Bool) → ((a && b) && c) ≡ (a && (b && c))
 and_assoc true b c = refl

@@ -7,7 +7,7 @@ use Rattle.std.proofs.Math.Nat.{mul-le-mul_left}
 use Rattle.std.proofs.lemmas.Bool.Decides.{nat_tests}
 use Rattle.std.proofs.lemmas.Grind.{common_steps}
 use Rattle.hidreport_items.specs.Spelling.{AreBytes}
-use Rattle.hidreport_lists.specs.Answer.{Refusal, Bounds}
+use Rattle.hidreport_lists.specs.Answer.{Refusal, OutOfBounds}
 use Rattle.hidreport.specs.BitValue.{bit}
 use Rattle.hidreport.specs.Choosing.{value_number}
 use Rattle.hidreport.specs.Reading.{ValueRecord, element_width, is_signed}
@@ -20,7 +20,7 @@ use Rattle.hidreport.specs.declared.field.insert_error.InsertError.{InsertError}
 use Rattle.hidreport.specs.declared.field.insert_error.InsertError.TheVariants as refused
 use Rattle.hidreport.specs.declared.field.usage.Usage.{Usage}
 use Rattle.hidreport.proofs.ApartLemmas.{leaves-others}
-use Rattle.hidreport.proofs.IsWrittenLemmas.{put-over}
+use Rattle.hidreport.proofs.IsWrittenLemmas.{placed-parts, put-over}
 use Rattle.hidreport.proofs.KeptBitsLemmas.{away-from-id, element-within, put-id, put-keeps, read-kept}
 use Rattle.hidreport.proofs.ReadBackLemmas.{ReadsAs, bits-read, fit-at, id-passes, put-element}
 use Rattle.hidreport.proofs.IsWrittenLemmas.{room-of}
@@ -36,13 +36,11 @@ record ElementParts (count index : ℕ) (id : Option ℕ) (p w : ℕ) (s : Bool)
   is : put p w (number ∷ []) old ≡ new
 
 pub parts-by : (t b a : Bool) (r : Result ValueRecord Refusal) (p new : List ℕ)
-    → where_read (cond t r (Err Bounds)) (cond b (Err refused.OutOfBounds)
+    → where_read (cond t r (Err OutOfBounds)) (cond b (Err refused.OutOfBounds)
     (cond a (Ok p) (Err refused.DoesNotFit))) ≡ Ok new
     → (t ≡ true) × (IsOk r) × (b ≡ false) × (a ≡ true) × (p ≡ new)
-parts-by true false true (Ok x) p new h = (refl, refl, refl, refl, cc)
-parts-by true false false (Ok x) p new h = cc
-parts-by true true a (Ok x) p new h = cc
-parts-by true b a (Err e) p new h = cc
+parts-by true b a r p new h =
+    let q = placed-parts b a r p new h in (refl, q.0, q.1, q.2, q.3)
 parts-by false b a r p new h = cc
 
 -- elements of two numbers don't share a bit
@@ -122,7 +120,7 @@ other-element place usages is_range count shared index j number old are differ o
     (put-keeps p w (number ∷ []) old) in
     let out = elements-apart first w index j (λ e. differ (sym e)) in
     let same = read-kept p w (first + w * j) (first + w * j + w) s old new keeps out in
-    ap (λ r. cond (nat_lt j count) r (Err Bounds))
+    ap (λ r. cond (nat_lt j count) r (Err OutOfBounds))
     (put-id place.report_id p w (number ∷ []) old (read_bits (first + w * j) (first + w * j + w) s new)
     are (away-from-id place.report_id p off) ∙ ap (with_id place.report_id old) same)
 
@@ -145,9 +143,9 @@ is-element-written place usages is_range count shared index number old new are h
     let back = number-back id p w s number old are t.1 t.2 t.3 in
     let counted : nat_lt index count ≡ true = t.0 in
     let reads_new : reads_element field new' index ≡ with_id id new' (read_bits p (p + w) s new') =
-    ap (λ b. cond b (with_id id new' (read_bits p (p + w) s new')) (Err Bounds)) counted in
+    ap (λ b. cond b (with_id id new' (read_bits p (p + w) s new')) (Err OutOfBounds)) counted in
     let reads_old : reads_element field old index ≡ with_id id old (read_bits p (p + w) s old) =
-    ap (λ b. cond b (with_id id old (read_bits p (p + w) s old)) (Err Bounds)) counted in
+    ap (λ b. cond b (with_id id old (read_bits p (p + w) s old)) (Err OutOfBounds)) counted in
     subst (λ l. IsElementWritten field index number old l) t.4 (record {
       read = ap number_in reads_new
           ∙ number-of-read (with_id id new' (read_bits p (p + w) s new')) number back;

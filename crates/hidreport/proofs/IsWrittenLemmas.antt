@@ -35,14 +35,22 @@ pub record Parts (field : FieldRecord) (numbers : List ℤ) (old new : List ℕ)
   pub fit : list_all (fits (value_width field) (has_sign field)) numbers ≡ true
   pub is : put (place_of field).first (value_width field) numbers old ≡ new
 
-parts-by : (t b a : Bool) (r : Result (List ValueRecord) Refusal) (p new : List ℕ)
+-- what is placed where something is read, taken apart: each test passed
+pub placed-parts : {A : Type 0} (b a : Bool) (r : Result A Refusal) (p new : List ℕ)
+    → where_read r (cond b (Err refused.OutOfBounds) (cond a (Ok p) (Err refused.DoesNotFit))) ≡ Ok new
+    → (IsOk r) × (b ≡ false) × (a ≡ true) × (p ≡ new)
+placed-parts false true (Ok xs) p new h = (refl, refl, refl, cc)
+placed-parts false false (Ok xs) p new h = cc
+placed-parts true a (Ok xs) p new h = cc
+placed-parts b a (Err e) p new h = cc
+
+-- the same of an answer of writing, which asks for a count first
+pub parts-by : {A : Type 0} (t b a : Bool) (r : Result A Refusal) (p new : List ℕ)
     → cond t (where_read r (cond b (Err refused.OutOfBounds) (cond a (Ok p) (Err refused.DoesNotFit))))
     (Err refused.WrongCount) ≡ Ok new
     → (t ≡ true) × (IsOk r) × (b ≡ false) × (a ≡ true) × (p ≡ new)
-parts-by true false true (Ok xs) p new h = (refl, refl, refl, refl, cc)
-parts-by true false false (Ok xs) p new h = cc
-parts-by true true a (Ok xs) p new h = cc
-parts-by true b a (Err e) p new h = cc
+parts-by true b a r p new h =
+    let q = placed-parts b a r p new h in (refl, q.0, q.1, q.2, q.3)
 parts-by false b a r p new h = cc
 
 pub written-parts : (field : FieldRecord) (numbers : List ℤ) (old new : List ℕ)

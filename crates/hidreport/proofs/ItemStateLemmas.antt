@@ -69,6 +69,14 @@ count-next p items front rest x e =
     ap (count_by p) next ∙ sum_by-append (λ y. cond (p y) 1 0) front (x ∷ [])
     ∙ ap (λ n. count_by p front + n) one ∙ ap (λ l. count_by p l + cond (p x) 1 0) (sym now)
 
+-- how many items pass a test, one item further
+pub counted : (test : ItemType → Bool) (b : Bool) (items front rest : List ItemType) (x : ItemType)
+    → items ≡ front ++ x ∷ rest → test x ≡ b
+    → count_by test (take (suc (length front)) items)
+    ≡ count_by test (take (length front) items) + cond b 1 0
+counted test b items front rest x e is = count-next test items front rest x e
+    ∙ ap (λ b. count_by test (take (length front) items) + cond b 1 0) is
+
 -- the last item's value counts
 pub first_of-none : {A : Type 0} (o : Option A) → first_of o None ≡ o
 first_of-none None = refl

@@ -9,7 +9,7 @@ use Rattle.std.proofs.lemmas.Bool.Decides.{nat_tests}
 use Rattle.std.proofs.lemmas.Grind.{common_steps}
 use Rattle.std.proofs.lemmas.List.{length-take-le}
 use Rattle.std.proofs.lemmas.List.Folds.{list_all-append}
-use Rattle.hidreport_lists.specs.Answer.{Mismatch, Refusal}
+use Rattle.hidreport_lists.specs.Answer.{MismatchingReportId, Refusal}
 use Rattle.hidreport.specs.Choosing.{value_number}
 use Rattle.hidreport.specs.Reader.{before_numbers, begins_otherwise, each_alone}
 use Rattle.hidreport.specs.Reading.{ValueRecord, before_values, each_value, read_bits, with_id}
@@ -61,8 +61,8 @@ with-parts : (id : Option ℕ) (bytes : List ℕ) (a b c : Result (List ValueRec
 with-parts None bytes a b c h = h
 with-parts (Some id) [] a b c h = refl
 with-parts (Some id) (byte ∷ bytes) a b c h = by (byte == id) where
-  by : (t : Bool) → numbers_of (cond t a (Err Mismatch))
-      ≡ before_numbers (numbers_of (cond t b (Err Mismatch))) (numbers_of (cond t c (Err Mismatch)))
+  by : (t : Bool) → numbers_of (cond t a (Err MismatchingReportId))
+      ≡ before_numbers (numbers_of (cond t b (Err MismatchingReportId))) (numbers_of (cond t c (Err MismatchingReportId)))
   by true = h
   by false = refl
 
@@ -232,37 +232,24 @@ longer-same run n = record {
       put-taken-parts run.first run.width run.count n numbers bytes;
 }
 
+abbrev run_by : Option ℕ → ℕ → ℕ → ℕ → Bool → RunRecord
+run_by id first width count is_signed = record {
+  id = id;
+  first = first;
+  width = width;
+  count = count;
+  is_signed = is_signed;
+}
+
 -- the runs by what joins them
 back-is : (front back run : RunRecord) → Joins front back run → back ≡ later front back.count
 back-is front back run j =
-    ap (λ (i : Option ℕ). record {
-      id = i;
-      first = back.first;
-      width = back.width;
-      count = back.count;
-      is_signed = back.is_signed;
-    }) j.id
-    ∙ ap (λ (p : ℕ). record {
-      id = front.id;
-      first = p;
-      width = back.width;
-      count = back.count;
-      is_signed = back.is_signed;
-    }) j.first
-    ∙ ap (λ (w : ℕ). record {
-      id = front.id;
-      first = place_in front front.count;
-      width = w;
-      count = back.count;
-      is_signed = back.is_signed;
-    }) j.width
-    ∙ ap (λ (s : Bool). record {
-      id = front.id;
-      first = place_in front front.count;
-      width = front.width;
-      count = back.count;
-      is_signed = s;
-    }) j.is_signed
+    ap (λ (i : Option ℕ). run_by i back.first back.width back.count back.is_signed) j.id
+    ∙ ap (λ (p : ℕ). run_by front.id p back.width back.count back.is_signed) j.first
+    ∙ ap (λ (w : ℕ). run_by front.id (place_in front front.count) w back.count back.is_signed)
+    j.width
+    ∙ ap (λ (s : Bool). run_by front.id (place_in front front.count) front.width back.count s)
+    j.is_signed
 
 joined-same : (front back run : RunRecord) → Joins front back run
     → SameRuns (run ∷ []) (front ∷ back ∷ [])

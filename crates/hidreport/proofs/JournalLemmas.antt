@@ -5,7 +5,7 @@ use Rattle.std.proofs.lemmas.Grind.{common_steps}
 use Rattle.std.proofs.lemmas.List.{reverse-append}
 use Rattle.hidreport.specs.ItemState.{ItemState}
 use Rattle.hidreport.specs.Parser.ItemStates.{ItemStates, item_state_of}
-use Rattle.hidreport.specs.Parser.Journal.{UndoRecord, Opened, WasGlobals, WasLocals, Fits}
+use Rattle.hidreport.specs.Parser.Journal.{UndoRecord, Opened, WasGlobals, WasLocals}
 use Rattle.hidreport.specs.Parser.Journal.{IsCounted}
 use Rattle.hidreport.specs.Parser.Journal.{with_undo, undone_stack}
 use Rattle.hidreport.specs.Parser.Machine.{after_pop, pushed_copy, last_item_state}

@@ -6,7 +6,7 @@ use Rattle.std.proofs.Math.Nat.{mul-le-mul_left, div-mul-le_self, zero-div}
 use Rattle.std.proofs.lemmas.Bool.Decides.{nat_tests}
 use Rattle.std.proofs.lemmas.List.{get_or_past}
 use Rattle.hidreport_items.specs.Spelling.{AreBytes}
-use Rattle.hidreport_lists.specs.Answer.{Refusal, Bounds, Mismatch}
+use Rattle.hidreport_lists.specs.Answer.{Refusal, OutOfBounds, MismatchingReportId}
 use Rattle.hidreport.specs.BitValue.{as_word, bit, value}
 use Rattle.hidreport.specs.Reading.{ValueRecord, before_values, each_value, element, element_width}
 use Rattle.hidreport.specs.Reading.{is_signed, one_value, read_bits, values_of, with_id}
@@ -58,7 +58,7 @@ put-id None first w numbers old answer are away = refl
 put-id (Some id) first w numbers [] answer are away = refl
 put-id (Some id) first w numbers (b ∷ bs) answer are (inl none) = cc
 put-id (Some id) first w numbers (b ∷ bs) answer are (inr behind) =
-    ap (λ k. cond (k == id) answer (Err Mismatch))
+    ap (λ k. cond (k == id) answer (Err MismatchingReportId))
     (first-byte first w numbers b bs behind (are 0 0 (omega arith)))
 
 pub away-from-id : (id : Option ℕ) (first : ℕ) → begins_in_id id first ≡ false
@@ -74,10 +74,10 @@ read-kept p c first end s old new keeps out =
     let same : value new first (end - first) s ≡ value old first (end - first) s =
     word-same new old first (end - first) s
     (λ i lt. keeps.bits (first + i) (elsewhere p c first end i lt out)) in
-    ap (λ k. cond (nat_le end first || (nat_lt 32 (end - first) || nat_lt (8 * k) end)) (Err Bounds)
+    ap (λ k. cond (nat_le end first || (nat_lt 32 (end - first) || nat_lt (8 * k) end)) (Err OutOfBounds)
     (Ok (record { word = as_word (value new first (end - first) s); is_signed = s }))) size
     ∙ ap (λ z. cond (nat_le end first || (nat_lt 32 (end - first) || nat_lt (8 * length old) end))
-    (Err Bounds) (Ok (record { word = as_word z; is_signed = s }))) same where
+    (Err OutOfBounds) (Ok (record { word = as_word z; is_signed = s }))) same where
       elsewhere : (p c first end i : ℕ) → i < end - first → (end ≤ p) ⊎ (p + c ≤ first)
           → (first + i < p) ⊎ (p + c ≤ first + i)
       elsewhere p c first end i lt (inl le) = inl (omega arith)

@@ -1,4 +1,4 @@
--- Long items, and those of kinds that the standard keeps for later, are no step of the walk: it is
+-- Long items and reserved ones are no step of the walk: it is
 -- the walk over the kept items. A reserved local item stands among the locals, so what is held is
 -- compared without these.
 use Rattle.std.proofs.Common.{◌≡◌, ◌≢◌, ℕ, ◌+◌, ◌-◌, Bool, true, false, cond, List, [], ◌∷◌, ◌++◌}
@@ -94,19 +94,12 @@ none-second : (o : Option ℕ) → o ≡ first_of o None
 none-second None = refl
 none-second (Some n) = refl
 
-minimum-thin : (xs : List LocalItem)
-    → last_local minimum_of (filter is_kept_local xs) ≡ last_local minimum_of xs
-minimum-thin [] = refl
-minimum-thin (local.Reserved n ∷ xs) = minimum-thin xs ∙ none-second (last_local minimum_of xs)
-minimum-thin (local.UsageMinimum n ∷ xs) = ap (λ o. first_of o (Some n)) (minimum-thin xs)
-minimum-thin (x ∷ xs) = ap (λ o. first_of o None) (minimum-thin xs)
-
-maximum-thin : (xs : List LocalItem)
-    → last_local maximum_of (filter is_kept_local xs) ≡ last_local maximum_of xs
-maximum-thin [] = refl
-maximum-thin (local.Reserved n ∷ xs) = maximum-thin xs ∙ none-second (last_local maximum_of xs)
-maximum-thin (local.UsageMaximum n ∷ xs) = ap (λ o. first_of o (Some n)) (maximum-thin xs)
-maximum-thin (x ∷ xs) = ap (λ o. first_of o None) (maximum-thin xs)
+named-thin : (of : LocalItem → Option ℕ) → ((n : ℕ) → of (local.Reserved n) ≡ None)
+    → (xs : List LocalItem) → last_local of (filter is_kept_local xs) ≡ last_local of xs
+named-thin of none [] = refl
+named-thin of none (local.Reserved n ∷ xs) = named-thin of none xs ∙ none-second (last_local of xs)
+    ∙ ap (first_of (last_local of xs)) (sym (none n))
+named-thin of none (x ∷ xs) = ap (λ o. first_of o (of x)) (named-thin of none xs)
 
 single-thin : (page : Option ℕ) (xs : List LocalItem)
     → single_usages page (filter is_kept_local xs) ≡ single_usages page xs
@@ -118,7 +111,7 @@ single-thin page (x ∷ xs) = single-thin page xs
 
 usages-with : (low page : Option ℕ) (xs : List LocalItem)
     → usages_with low page (filter is_kept_local xs) ≡ usages_with low page xs
-usages-with (Some low) page xs = ap (λ m. range_usages low m page) (maximum-thin xs)
+usages-with (Some low) page xs = ap (λ m. range_usages low m page) (named-thin maximum_of (λ n. refl) xs)
 usages-with None page xs = ap as_single (single-thin page xs)
 
 standard-thin : (page : Option ℕ) (ls : List PagedLocal)
@@ -127,7 +120,7 @@ standard-thin : (page : Option ℕ) (ls : List PagedLocal)
 standard-thin page ls =
     let xs = local_items ls in
     ap (standard_usages page) (items-thin ls)
-    ∙ ap (λ o. usages_with o page (filter is_kept_local xs)) (minimum-thin xs)
+    ∙ ap (λ o. usages_with o page (filter is_kept_local xs)) (named-thin minimum_of (λ n. refl) xs)
     ∙ usages-with (last_local minimum_of xs) page xs
 
 usages-by : (by : UsagesBy) (f : ItemState)

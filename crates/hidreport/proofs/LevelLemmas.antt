@@ -1,7 +1,7 @@
 -- Visible items go on item by item: a Pop hides again what stands above the level that it comes
 -- back to.
 use Rattle.std.proofs.Common.{◌≡◌, ℕ, zero, suc, ◌+◌, ◌-◌, ◌<◌, ◌≤◌, Bool, true, false, cond, ◌&&◌}
-use Rattle.std.proofs.Common.{nat_lt, nat_le, List, [], ◌∷◌, ◌++◌, length, take, map, filter}
+use Rattle.std.proofs.Common.{nat_le, List, [], ◌∷◌, ◌++◌, length, take, map, filter}
 use Rattle.std.proofs.Common.{count_by, refl, sym, ap, ◌∙◌, subst, append-nil, arith, zero-add}
 use Rattle.std.proofs.lemmas.Grind.{common_steps}
 use Rattle.std.proofs.lemmas.List.{map-append, take-map}
@@ -14,9 +14,9 @@ use Rattle.hidreport.specs.Visibility.{before, level, stays_up, is_visible, visi
 use Rattle.hidreport.specs.declared.parser.usages_by.UsagesBy.{UsagesBy}
 use Rattle.hidreport.proofs.DataLemmas.{last_item_state-end}
 use Rattle.hidreport.proofs.IndexedLemmas.{count_up, length-count_up, count_up-next, take-count_up}
-use Rattle.hidreport.proofs.IndexedLemmas.{filter-both, filter-same-below, and_last, and_true}
-use Rattle.hidreport.proofs.IndexedLemmas.{subst-below}
-use Rattle.hidreport.proofs.ItemStateLemmas.{before-next, count-next, item_states, item_states-next}
+use Rattle.hidreport.proofs.IndexedLemmas.{filter-both, filter-same-below}
+use Rattle.hidreport.proofs.IndexedLemmas.{stays-further, stays-new, subst-below}
+use Rattle.hidreport.proofs.ItemStateLemmas.{before-next, counted, item_states, item_states-next}
 use Rattle.hidreport.proofs.ItemStateLemmas.{AreBelow}
 
 -- whether an item is visible one place further
@@ -24,29 +24,8 @@ is_visible-next : (items : List ItemType) (j k : ℕ) → j < k
     → is_visible items j (suc k) ≡ (is_visible items j k
     && nat_le (level items j) (level items (suc k)))
 is_visible-next items j k lt =
-    let further : suc k - j ≡ suc (k - j) = omega arith in
-    let there : j + suc (k - j) ≡ suc k = omega arith in
-    let before_next : nat_lt j (suc k) ≡ true = grind (arith, common_steps) in
-    let before_now : nat_lt j k ≡ true = grind (arith, common_steps) in
-    ap (λ b. b && stays_up items (level items j) j (suc k - j)) before_next
-    ∙ ap (λ n. stays_up items (level items j) j n) further
-    ∙ ap (λ n. nat_le (level items j) (level items n) && stays_up items (level items j) j (k - j))
-    there
-    ∙ and_last true (stays_up items (level items j) j (k - j))
-    (nat_le (level items j) (level items (suc k)))
-    ∙ ap (λ b. (b && stays_up items (level items j) j (k - j))
-    && nat_le (level items j) (level items (suc k))) (sym before_now)
-
-is_visible-new : (items : List ItemType) (k : ℕ)
-    → is_visible items k (suc k) ≡ nat_le (level items k) (level items (suc k))
-is_visible-new items k =
-    let one : suc k - k ≡ suc zero = omega arith in
-    let there : k + suc zero ≡ suc k = omega arith in
-    let before_next : nat_lt k (suc k) ≡ true = grind (arith, common_steps) in
-    ap (λ b. b && stays_up items (level items k) k (suc k - k)) before_next
-    ∙ ap (λ n. stays_up items (level items k) k n) one
-    ∙ ap (λ n. nat_le (level items k) (level items n) && true) there
-    ∙ and_true (nat_le (level items k) (level items (suc k)))
+    stays-further (stays_up items (level items j) j)
+    (λ n. nat_le (level items j) (level items n)) j k (λ m. refl) lt
 
 -- the items of this level or below
 abbrev pub up_to : List ItemType → ℕ → List Indexed → List Indexed
@@ -71,7 +50,8 @@ visible-next items front rest x e =
     (before items k) below)
     ∙ ap (λ l. l ++ filter next ((k, x) ∷ [])) (filter-both now low (before items k))
     ∙ ap (λ b. up_to items (level items (suc k)) (visible items k) ++ cond b ((k, x) ∷ []) [])
-    (is_visible-new items k)
+    (stays-new (stays_up items (level items k) k) (λ n. nat_le (level items k) (level items n)) k
+    refl (λ m. refl))
 
 -- no level of these is above n
 abbrev pub AreLow : List ItemType → ℕ → List Indexed → Type 0
@@ -240,10 +220,8 @@ pub plain-step : (by : UsagesBy) (items front rest : List ItemType) (x : ItemTyp
     (stack by items (length front))
 plain-step by items front rest x e r no_push no_pop =
     let k = length front in
-    let pushes = count-next is_push items front rest x e
-    ∙ ap (λ b. count_by is_push (take k items) + cond b 1 0) no_push in
-    let pops = count-next is_pop items front rest x e
-    ∙ ap (λ b. count_by is_pop (take k items) + cond b 1 0) no_pop in
+    let pushes = counted is_push false items front rest x e no_push in
+    let pops = counted is_pop false items front rest x e no_pop in
     let same : level items (suc k) ≡ level items k = omega (arith, pushes, pops) in
     let up = risen by items front rest x e r (omega (arith, same))
     (omega (arith, pushes, pops, r.balanced)) in
@@ -263,10 +241,8 @@ pub push-step : (by : UsagesBy) (items front rest : List ItemType) (x : ItemType
     (stack by items (length front) ++ item_state by items (length front) ∷ [])
 push-step by items front rest x e r push no_pop unchanged =
     let k = length front in
-    let pushes = count-next is_push items front rest x e
-    ∙ ap (λ b. count_by is_push (take k items) + cond b 1 0) push in
-    let pops = count-next is_pop items front rest x e
-    ∙ ap (λ b. count_by is_pop (take k items) + cond b 1 0) no_pop in
+    let pushes = counted is_push true items front rest x e push in
+    let pops = counted is_pop false items front rest x e no_pop in
     let higher : level items (suc k) ≡ suc (level items k) =
     omega (arith, pushes, pops, r.balanced) in
     let up = risen by items front rest x e r (omega (arith, higher))
@@ -300,10 +276,8 @@ pub pop-step : (by : UsagesBy) (items front rest : List ItemType) (x : ItemType)
     (take (length (stack by items (length front)) - 1) (stack by items (length front)))
 pop-step by items front rest x e r no_push pop deep f =
     let k = length front in
-    let pushes = count-next is_push items front rest x e
-    ∙ ap (λ b. count_by is_push (take k items) + cond b 1 0) no_push in
-    let pops = count-next is_pop items front rest x e
-    ∙ ap (λ b. count_by is_pop (take k items) + cond b 1 0) pop in
+    let pushes = counted is_push false items front rest x e no_push in
+    let pops = counted is_pop true items front rest x e pop in
     let lower : level items (suc k) ≡ level items k - 1 = omega (arith, pushes, pops, r.balanced) in
     let more : level items k ≡ suc (level items (suc k)) = omega (arith, lower, deep) in
     let hidden : nat_le (level items k) (level items (suc k)) ≡ false =

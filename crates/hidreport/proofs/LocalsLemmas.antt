@@ -47,6 +47,12 @@ last_local-last tag [] = refl
 last_local-last tag (x ∷ xs) =
     last-cons (tag x) (filter_map tag xs) ∙ ap (λ o. first_of o (tag x)) (last_local-last tag xs)
 
+-- the same of a list by another name
+pub last_local-in : (tag : LocalItem → Option ℕ) {items locals : List PagedLocal} → items ≡ locals
+    → last_of (filter_map tag (local_items items)) ≡ last_local tag (local_items locals)
+last_local-in tag {items = items} is =
+    last_local-last tag (local_items items) ∙ ap (λ ls. last_local tag (local_items ls)) is
+
 -- the single usages with a page in force
 pub single-on : (page : ℕ) (xs : List LocalItem)
     → single_usages (Some page) xs ≡ Ok (map (usage_under page) (filter_map local_usage xs))

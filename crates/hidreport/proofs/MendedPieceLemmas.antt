@@ -8,8 +8,8 @@ use Rattle.hidreport_items.specs.declared.item.ItemType.{ItemType}
 use Rattle.hidreport_lists.specs.Entry.{Spelled}
 use Rattle.hidreport_lists.specs.Itemising.{Reads}
 use Rattle.hidreport_lists.specs.Mending.{PieceRecord, item_in}
-use Rattle.hidreport_lists.specs.declared.mending.Mend.{Mend}
-use Rattle.hidreport_lists.specs.declared.mending.Mend.TheVariants as mend
+use Rattle.hidreport_lists.specs.declared.mending.Reason.{Reason}
+use Rattle.hidreport_lists.specs.declared.mending.Reason.TheVariants as reason
 use Rattle.hidreport.specs.Repair.{constant_bytes, rewritten, rewritten_as, set_constant, wider_bytes}
 use Rattle.hidreport.proofs.KindLemmas.{kind, kind-again, kind-outline, kind-short, wider-one}
 use Rattle.hidreport.proofs.KindLemmas.{wider-two}
@@ -34,7 +34,7 @@ record IsAgain (h : ℕ) (bs : List ℕ) (other : ℕ) (cs : List ℕ) : Type 0 
   bytes : AreBytes (other ∷ cs)
   size : length cs ≡ data_length other
 
-again-by : (why : Mend) (p : PieceRecord) (h other : ℕ) (bs cs : List ℕ) (x z : ItemType)
+again-by : (why : Reason) (p : PieceRecord) (h other : ℕ) (bs cs : List ℕ) (x z : ItemType)
     (r : Result ItemType GrammarFault)
     → p.stands ≡ Some (record { bytes = h ∷ bs; item = x }) → Stands p → item_of h bs ≡ Ok x
     → kind x ≡ Some z → IsAgain h bs other cs → item_of other cs ≡ r
@@ -54,7 +54,7 @@ again-by why p h other bs cs x z (Ok y) is stands read known again got =
       );
     }
 
-mends-again : (why : Mend) (p : PieceRecord) (h other : ℕ) (bs cs : List ℕ) (x z : ItemType)
+mends-again : (why : Reason) (p : PieceRecord) (h other : ℕ) (bs cs : List ℕ) (x z : ItemType)
     → p.stands ≡ Some (record { bytes = h ∷ bs; item = x }) → Stands p → item_of h bs ≡ Ok x
     → kind x ≡ Some z → IsAgain h bs other cs → Mends p (rewritten why p (other ∷ cs))
 mends-again why p h other bs cs x z is stands read known again =
@@ -79,19 +79,19 @@ constant-again h b bs are size = record {
 
 pub mends-constant : (p : PieceRecord) (bytes : List ℕ) (x z : ItemType)
     → p.stands ≡ Some (record { bytes = bytes; item = x }) → Reads item_of bytes x
-    → kind x ≡ Some z → Stands p → Mends p (rewritten mend.NoUsage p (constant_bytes bytes))
+    → kind x ≡ Some z → Stands p → Mends p (rewritten reason.NoUsage p (constant_bytes bytes))
 mends-constant p [] x z is read known stands = absurd read
 mends-constant p (h ∷ []) x z is read known stands = mends-itself p stands
 mends-constant p (h ∷ b ∷ []) x z is read known stands =
-    mends-again mend.NoUsage p h h (b ∷ []) (set_constant b ∷ []) x z is stands read.2 known
+    mends-again reason.NoUsage p h h (b ∷ []) (set_constant b ∷ []) x z is stands read.2 known
     (constant-again h b [] read.0 (read.1 ∙ kind-short h (b ∷ []) x z read.2 known))
 mends-constant p (h ∷ b ∷ c ∷ []) x z is read known stands =
-    mends-again mend.NoUsage p h h (b ∷ c ∷ []) (set_constant b ∷ c ∷ []) x z is stands read.2
+    mends-again reason.NoUsage p h h (b ∷ c ∷ []) (set_constant b ∷ c ∷ []) x z is stands read.2
     known (constant-again h b (c ∷ []) read.0
     (read.1 ∙ kind-short h (b ∷ c ∷ []) x z read.2 known))
 mends-constant p (h ∷ b ∷ c ∷ d ∷ []) x z is read known stands = mends-itself p stands
 mends-constant p (h ∷ b ∷ c ∷ d ∷ e ∷ []) x z is read known stands =
-    mends-again mend.NoUsage p h h (b ∷ c ∷ d ∷ e ∷ []) (set_constant b ∷ c ∷ d ∷ e ∷ []) x z is
+    mends-again reason.NoUsage p h h (b ∷ c ∷ d ∷ e ∷ []) (set_constant b ∷ c ∷ d ∷ e ∷ []) x z is
     stands read.2 known (constant-again h b (c ∷ d ∷ e ∷ []) read.0
     (read.1 ∙ kind-short h (b ∷ c ∷ d ∷ e ∷ []) x z read.2 known))
 mends-constant p (h ∷ b ∷ c ∷ d ∷ e ∷ f ∷ bs) x z is read known stands = mends-itself p stands
@@ -106,13 +106,13 @@ zeros bs are = All-cons (λ c. c < 256) 0 bs (omega arith) are
 
 pub mends-wider : (p : PieceRecord) (bytes : List ℕ) (x z : ItemType)
     → p.stands ≡ Some (record { bytes = bytes; item = x }) → Reads item_of bytes x
-    → kind x ≡ Some z → Stands p → Mends p (rewritten mend.UnsignedMaximum p (wider_bytes bytes))
+    → kind x ≡ Some z → Stands p → Mends p (rewritten reason.UnsignedMaximum p (wider_bytes bytes))
 mends-wider p [] x z is read known stands = absurd read
 mends-wider p (h ∷ []) x z is read known stands = mends-itself p stands
 mends-wider p (h ∷ a ∷ []) x z is read known stands =
     let small : h < 256 = read.0 0 0 (omega arith) in
     let wide = wider-one h in
-    mends-again mend.UnsignedMaximum p h (prefix h + 2) (a ∷ []) (a ∷ 0 ∷ []) x z is stands read.2
+    mends-again reason.UnsignedMaximum p h (prefix h + 2) (a ∷ []) (a ∷ 0 ∷ []) x z is stands read.2
     known (record {
       types = wide.0;
       prefixes = wide.1;
@@ -123,7 +123,7 @@ mends-wider p (h ∷ a ∷ []) x z is read known stands =
 mends-wider p (h ∷ a ∷ b ∷ []) x z is read known stands =
     let small : h < 256 = read.0 0 0 (omega arith) in
     let wide = wider-two h in
-    mends-again mend.UnsignedMaximum p h (prefix h + 3) (a ∷ b ∷ []) (a ∷ b ∷ 0 ∷ 0 ∷ []) x z is
+    mends-again reason.UnsignedMaximum p h (prefix h + 3) (a ∷ b ∷ []) (a ∷ b ∷ 0 ∷ 0 ∷ []) x z is
     stands read.2 known (record {
       types = wide.0;
       prefixes = wide.1;

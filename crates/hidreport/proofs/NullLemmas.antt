@@ -41,26 +41,32 @@ choose-none false true d x y z p q r = cc
 choose-none false false true x y z p q r = cc
 choose-none false false false x y z p q r = refl
 
-pub null-third : (w : ℕ) (s : Bool) (low high x y : ℤ) → x ≡ low -ℤ pos 1 → y ≡ high +ℤ pos 1
-    → is_null w s low high (pos 0) ≡ false → is_null w s low high x ≡ false
+-- 0 and the number below the bounds are not; the numbers beside the bounds
+pub record IsBeside (w : ℕ) (s : Bool) (low high x y : ℤ) : Type 0 where
+  pub below : x ≡ low -ℤ pos 1
+  pub above : y ≡ high +ℤ pos 1
+  pub zero_not : is_null w s low high (pos 0) ≡ false
+  pub below_not : is_null w s low high x ≡ false
+
+pub null-third : {w : ℕ} {s : Bool} {low high x y : ℤ} → IsBeside w s low high x y
     → is_null w s low high y ≡ true → Some y ≡ null_number w s low high
-null-third w s low high x y p q zero-not below above =
-    ap (λ (z : ℤ). Some z) q ∙ choose-third _ _ _ (pos 0) (low -ℤ pos 1) (high +ℤ pos 1) zero-not
-    (sym (ap (is_null w s low high) p) ∙ below) (sym (ap (is_null w s low high) q) ∙ above)
+null-third {w = w} {s = s} {low = low} {high = high} b above =
+    ap (λ (z : ℤ). Some z) b.above
+    ∙ choose-third _ _ _ (pos 0) (low -ℤ pos 1) (high +ℤ pos 1) b.zero_not
+    (sym (ap (is_null w s low high) b.below) ∙ b.below_not)
+    (sym (ap (is_null w s low high) b.above) ∙ above)
 
-pub null-none : (w : ℕ) (s : Bool) (low high x y : ℤ) → x ≡ low -ℤ pos 1 → y ≡ high +ℤ pos 1
-    → is_null w s low high (pos 0) ≡ false → is_null w s low high x ≡ false
+pub null-none : {w : ℕ} {s : Bool} {low high x y : ℤ} → IsBeside w s low high x y
     → is_null w s low high y ≡ false → None ≡ null_number w s low high
-null-none w s low high x y p q zero-not below above =
-    choose-none _ _ _ (pos 0) (low -ℤ pos 1) (high +ℤ pos 1) zero-not
-    (sym (ap (is_null w s low high) p) ∙ below) (sym (ap (is_null w s low high) q) ∙ above)
+null-none {w = w} {s = s} {low = low} {high = high} b above =
+    choose-none _ _ _ (pos 0) (low -ℤ pos 1) (high +ℤ pos 1) b.zero_not
+    (sym (ap (is_null w s low high) b.below) ∙ b.below_not)
+    (sym (ap (is_null w s low high) b.above) ∙ above)
 
-pub null-all : (w : ℕ) (low high n x y : ℤ) → x ≡ low -ℤ pos 1 → y ≡ high +ℤ pos 1
-    → is_null w (int_lt low (pos 0)) low high (pos 0) ≡ false
-    → is_null w (int_lt low (pos 0)) low high x ≡ false
+pub null-all : {w : ℕ} {low high x y : ℤ} → IsBeside w (int_lt low (pos 0)) low high x y
     → is_null w (int_lt low (pos 0)) low high y ≡ false
-    → is_null w (int_lt low (pos 0)) low high n ≡ false
-null-all w low high n x y p q zero-not below above =
-    null-complete w low high n zero-not
-    (sym (ap (is_null w (int_lt low (pos 0)) low high) p) ∙ below)
-    (sym (ap (is_null w (int_lt low (pos 0)) low high) q) ∙ above)
+    → (n : ℤ) → is_null w (int_lt low (pos 0)) low high n ≡ false
+null-all {w = w} {low = low} {high = high} b above n =
+    null-complete w low high n b.zero_not
+    (sym (ap (is_null w (int_lt low (pos 0)) low high) b.below) ∙ b.below_not)
+    (sym (ap (is_null w (int_lt low (pos 0)) low high) b.above) ∙ above)

@@ -9,10 +9,10 @@ use Rattle.hidreport_items.specs.declared.item.ItemType.{ItemType}
 use Rattle.hidreport.specs.Kinds.{Indexed, is_collection, is_end_collection}
 use Rattle.hidreport.specs.OpenCollections.{depth, is_open, stays_deep, open_at}
 use Rattle.hidreport.specs.Visibility.{before}
-use Rattle.hidreport.proofs.ItemStateLemmas.{before-next, count-next, AreBelow}
+use Rattle.hidreport.proofs.ItemStateLemmas.{before-next, counted, AreBelow}
 use Rattle.hidreport.proofs.IndexedLemmas.{count_up, length-count_up, count_up-next, take-count_up}
 use Rattle.hidreport.proofs.IndexedLemmas.{take-nil, take-all, filter-both, filter-same-below}
-use Rattle.hidreport.proofs.IndexedLemmas.{and_last, and_true, and_assoc, subst-below}
+use Rattle.hidreport.proofs.IndexedLemmas.{and_assoc, stays-further, stays-new, subst-below}
 
 head_of : (a b : ℕ) (xs ys : List ℕ) → a ∷ xs ≡ b ∷ ys → a ≡ b
 head_of a b xs ys h = cc
@@ -52,29 +52,14 @@ below-first d t a (suc n) (p ∷ ps) h =
 is_open-next : (items : List ItemType) (j k : ℕ) → j < k
     → is_open items j (suc k) ≡ (is_open items j k && nat_lt (depth items j) (depth items (suc k)))
 is_open-next items j k lt =
-    let further : suc k - j ≡ suc (k - j) = omega arith in
-    let there : j + suc (k - j) ≡ suc k = omega arith in
-    let before_next : nat_lt j (suc k) ≡ true = grind (arith, common_steps) in
-    let before_now : nat_lt j k ≡ true = grind (arith, common_steps) in
-    ap (λ b. b && stays_deep items (depth items j) j (suc k - j)) before_next
-    ∙ ap (λ n. stays_deep items (depth items j) j n) further
-    ∙ ap (λ n. nat_lt (depth items j) (depth items n) && stays_deep items (depth items j) j (k - j))
-    there
-    ∙ and_last true (stays_deep items (depth items j) j (k - j))
-    (nat_lt (depth items j) (depth items (suc k)))
-    ∙ ap (λ b. (b && stays_deep items (depth items j) j (k - j))
-    && nat_lt (depth items j) (depth items (suc k))) (sym before_now)
+    stays-further (stays_deep items (depth items j) j)
+    (λ n. nat_lt (depth items j) (depth items n)) j k (λ m. refl) lt
 
 is_open-new : (items : List ItemType) (k : ℕ)
     → is_open items k (suc k) ≡ nat_lt (depth items k) (depth items (suc k))
 is_open-new items k =
-    let one : suc k - k ≡ suc zero = omega arith in
-    let there : k + suc zero ≡ suc k = omega arith in
-    let before_next : nat_lt k (suc k) ≡ true = grind (arith, common_steps) in
-    ap (λ b. b && stays_deep items (depth items k) k (suc k - k)) before_next
-    ∙ ap (λ n. stays_deep items (depth items k) k n) one
-    ∙ ap (λ n. nat_lt (depth items k) (depth items n) && true) there
-    ∙ and_true (nat_lt (depth items k) (depth items (suc k)))
+    stays-new (stays_deep items (depth items k) k) (λ n. nat_lt (depth items k) (depth items n)) k
+    refl (λ m. refl)
 
 -- no two open collections have the same depth, and every depth up to that of the place has one; no
 -- more were closed than opened
@@ -131,10 +116,8 @@ pub plain-next : (items front rest : List ItemType) (x : ItemType) → items ≡
     (suc (length front))
 plain-next items front rest x e s no_collection no_end =
     let k = length front in
-    let begins = count-next is_collection items front rest x e
-    ∙ ap (λ b. count_by is_collection (take k items) + cond b 1 0) no_collection in
-    let ends = count-next is_end_collection items front rest x e
-    ∙ ap (λ b. count_by is_end_collection (take k items) + cond b 1 0) no_end in
+    let begins = counted is_collection false items front rest x e no_collection in
+    let ends = counted is_end_collection false items front rest x e no_end in
     let same : depth items (suc k) ≡ depth items k = omega (arith, begins, ends) in
     let all : open_at items (suc k) ≡ open_at items k =
     open-next items front rest x e s
@@ -159,10 +142,8 @@ pub opened-next : (items front rest : List ItemType) (x : ItemType) → items �
     × Stands items (suc (length front))
 opened-next items front rest x e s opens no_end =
     let k = length front in
-    let begins = count-next is_collection items front rest x e
-    ∙ ap (λ b. count_by is_collection (take k items) + cond b 1 0) opens in
-    let ends = count-next is_end_collection items front rest x e
-    ∙ ap (λ b. count_by is_end_collection (take k items) + cond b 1 0) no_end in
+    let begins = counted is_collection true items front rest x e opens in
+    let ends = counted is_end_collection false items front rest x e no_end in
     let deeper : depth items (suc k) ≡ suc (depth items k) =
     omega (arith, begins, ends, s.balanced) in
     let below : nat_lt (depth items k) (depth items (suc k)) ≡ true = grind (arith, common_steps) in
@@ -193,10 +174,8 @@ pub closed-next : (items front rest : List ItemType) (x : ItemType) → items �
     (open_at items (length front))) × Stands items (suc (length front))
 closed-next items front rest x e s no_collection closes deep =
     let k = length front in
-    let begins = count-next is_collection items front rest x e
-    ∙ ap (λ b. count_by is_collection (take k items) + cond b 1 0) no_collection in
-    let ends = count-next is_end_collection items front rest x e
-    ∙ ap (λ b. count_by is_end_collection (take k items) + cond b 1 0) closes in
+    let begins = counted is_collection false items front rest x e no_collection in
+    let ends = counted is_end_collection true items front rest x e closes in
     let higher : depth items (suc k) ≡ depth items k - 1 =
     omega (arith, begins, ends, s.balanced) in
     let fewer : depth items (suc k) ≡ length (open_at items k) - 1 =

@@ -10,7 +10,7 @@ use Rattle.hidreport_items.specs.declared.global.GlobalItem.TheVariants as globa
 use Rattle.hidreport_items.specs.declared.item.ItemType.{ItemType}
 use Rattle.hidreport_items.specs.declared.item.ItemType.TheVariants as item
 use Rattle.hidreport_items.specs.declared.main_item.MainItem.TheVariants as main
-use Rattle.hidreport.specs.ItemState.{ItemState, first_of, last_value}
+use Rattle.hidreport.specs.ItemState.{first_of, last_value}
 use Rattle.hidreport.specs.ItemState.{global as in_force}
 use Rattle.hidreport.specs.Kinds.{Direction, Indexed, data_of, goes, is_pop, is_push}
 use Rattle.hidreport.specs.Kinds.{report_count_of, report_id_of, report_size_of}
@@ -21,7 +21,6 @@ use Rattle.hidreport.specs.Places.{bits_of, end_before, id_bits, start}
 use Rattle.hidreport.specs.RepairLaws.{SamePlaces, item_direction}
 use Rattle.hidreport.specs.Visibility.{before, is_visible, level, stays_up, visible}
 use Rattle.hidreport.proofs.PushReadings.{IsRead, reading-globals}
-use Rattle.hidreport.specs.declared.parser.usages_by.UsagesBy.{UsagesBy}
 use Rattle.hidreport.specs.declared.parse_options.ParseOptions.{ParseOptions}
 
 -- flags and maxima are blanked
@@ -33,71 +32,35 @@ outline (item.Global (global.LogicalMaximum n)) = item.Global (global.LogicalMax
 outline (item.Global (global.PhysicalMaximum n)) = item.Global (global.PhysicalMaximum (pos 0))
 outline x = x
 
--- this is the same of both
-record Alike (x y : ItemType) : Type 0 where
-  push : is_push x ≡ is_push y
-  pop : is_pop x ≡ is_pop y
-  size : report_size_of x ≡ report_size_of y
-  id : report_id_of x ≡ report_id_of y
-  count : report_count_of x ≡ report_count_of y
-  direction : item_direction x ≡ item_direction y
-  goes_too : (d : Direction) → goes d (data_of x) ≡ goes d (data_of y)
+-- what places ask of an item
+record Asked : Type 0 where
+  push : Bool
+  pop : Bool
+  size : Option ℕ
+  id : Option ℕ
+  count : Option ℕ
+  direction : Option Direction
+  goes_too : Direction → Bool
 
-alike : (x : ItemType) → Alike (outline x) x
-alike (item.Main (main.Input flags)) = record {
-  push = refl;
-  pop = refl;
-  size = refl;
-  id = refl;
-  count = refl;
-  direction = refl;
-  goes_too = λ d. refl;
+abbrev asked : ItemType → Asked
+asked x = record {
+  push = is_push x;
+  pop = is_pop x;
+  size = report_size_of x;
+  id = report_id_of x;
+  count = report_count_of x;
+  direction = item_direction x;
+  goes_too = λ d. goes d (data_of x);
 }
-alike (item.Main (main.Output flags)) = record {
-  push = refl;
-  pop = refl;
-  size = refl;
-  id = refl;
-  count = refl;
-  direction = refl;
-  goes_too = λ d. refl;
-}
-alike (item.Main (main.Feature flags)) = record {
-  push = refl;
-  pop = refl;
-  size = refl;
-  id = refl;
-  count = refl;
-  direction = refl;
-  goes_too = λ d. refl;
-}
-alike (item.Global (global.LogicalMaximum n)) = record {
-  push = refl;
-  pop = refl;
-  size = refl;
-  id = refl;
-  count = refl;
-  direction = refl;
-  goes_too = λ d. refl;
-}
-alike (item.Global (global.PhysicalMaximum n)) = record {
-  push = refl;
-  pop = refl;
-  size = refl;
-  id = refl;
-  count = refl;
-  direction = refl;
-  goes_too = λ d. refl;
-}
-alike x = record {
-  push = refl;
-  pop = refl;
-  size = refl;
-  id = refl;
-  count = refl;
-  direction = refl;
-  goes_too = λ d. refl;
-}
+
+-- it is the same of both
+alike : (x : ItemType) → asked (outline x) ≡ asked x
+alike (item.Main (main.Input flags)) = refl
+alike (item.Main (main.Output flags)) = refl
+alike (item.Main (main.Feature flags)) = refl
+alike (item.Global (global.LogicalMaximum n)) = refl
+alike (item.Global (global.PhysicalMaximum n)) = refl
+alike x = refl
 
 abbrev outlines : List ItemType → List ItemType
 outlines items = map outline items
@@ -150,9 +113,9 @@ count-same p same items k = ap (count_by p) (take-map outline k items)
 level-same : (items : List ItemType) (k : ℕ) → level (outlines items) k ≡ level items k
 level-same items k =
     ap (λ n. n - count_by is_pop (take k (outlines items)))
-    (count-same is_push (λ x. (alike x).push) items k)
+    (count-same is_push (λ x. ap (λ (a : Asked). a.push) (alike x)) items k)
     ∙ ap (λ n. count_by is_push (take k items) - n)
-    (count-same is_pop (λ x. (alike x).pop) items k)
+    (count-same is_pop (λ x. ap (λ (a : Asked). a.pop) (alike x)) items k)
 
 stays-same : (items : List ItemType) (floor j n : ℕ)
     → stays_up (outlines items) floor j n ≡ stays_up items floor j n
@@ -200,14 +163,14 @@ extent-same options items k =
     let now = is-read options (outlines items) k in
     let was = is-read options items k in
     ap (λ o. both_set o f.report_count) (now.size
-    ∙ force-same report_size_of (λ x. (alike x).size) items k ∙ sym was.size)
+    ∙ force-same report_size_of (λ x. ap (λ (a : Asked). a.size) (alike x)) items k ∙ sym was.size)
     ∙ ap (λ o. both_set g.report_size o) (now.count
-    ∙ force-same report_count_of (λ x. (alike x).count) items k ∙ sym was.count)
+    ∙ force-same report_count_of (λ x. ap (λ (a : Asked). a.count) (alike x)) items k ∙ sym was.count)
 
 id-same : (options : ParseOptions) (items : List ItemType) (k : ℕ)
     → (reading_of options (outlines items) k).report_id ≡ (reading_of options items k).report_id
 id-same options items k = (is-read options (outlines items) k).id
-    ∙ force-same report_id_of (λ x. (alike x).id) items k ∙ sym (is-read options items k).id
+    ∙ force-same report_id_of (λ x. ap (λ (a : Asked). a.id) (alike x)) items k ∙ sym (is-read options items k).id
 
 -- what makes fields, and where
 
@@ -216,7 +179,7 @@ makes-same : (options : ParseOptions) (items : List ItemType) (d : Direction) (p
     ≡ makes (reading_of options items) d p
 makes-same options items d p =
     ap (λ b. b && is_some (extent (reading_of options (outlines items) p.0)))
-    ((alike p.1).goes_too d)
+    (ap (λ (a : Asked). a.goes_too d) (alike p.1))
     ∙ ap (λ o. goes d (data_of p.1) && is_some o) (extent-same options items p.0)
 
 makers-same : (options : ParseOptions) (items : List ItemType) (d : Direction) (k : ℕ)
@@ -279,7 +242,7 @@ start-same options items d k =
 directions-same : (items : List ItemType) → map item_direction (outlines items) ≡ map item_direction items
 directions-same [] = refl
 directions-same (x ∷ xs) =
-    ap (λ o. o ∷ map item_direction (outlines xs)) (alike x).direction
+    ap (λ o. o ∷ map item_direction (outlines xs)) (ap (λ (a : Asked). a.direction) (alike x))
     ∙ ap (λ l. item_direction x ∷ l) (directions-same xs)
 
 -- items with the same outlines lie in the same places

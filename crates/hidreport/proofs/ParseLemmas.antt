@@ -7,7 +7,7 @@ use Rattle.std.proofs.lemmas.Bool.Decides.{nat_tests}
 use Rattle.hidreport_items.specs.Answer.{GrammarFault}
 use Rattle.hidreport_items.specs.Spelling.{item_of}
 use Rattle.hidreport_items.specs.declared.item.ItemType.{ItemType}
-use Rattle.hidreport_lists.specs.Answer.{Refusal, InvalidAt, Bounds, OverBudget, Refuses}
+use Rattle.hidreport_lists.specs.Answer.{Refusal, InvalidData, OutOfBounds, BudgetExceeded, Refuses}
 use Rattle.hidreport_lists.specs.Entry.{Entry}
 use Rattle.hidreport_lists.specs.Itemising.{itemise, items_from}
 use Rattle.hidreport_lists.proofs.ItemLemmas.{with_front}
@@ -32,6 +32,16 @@ use Rattle.hidreport.specs.Options.{parse_limited, reading_of}
 use Rattle.hidreport.specs.Records.{DescriptorRecord}
 use Rattle.hidreport.proofs.ReadingLemmas.{walk-meaning}
 use Rattle.hidreport.proofs.BudgetWalkLemmas.{walk-unlimited, walk-within}
+use Rattle.std.proofs.Common.{◌<◌, drop, length, length-drop}
+use Rattle.hidreport_lists.specs.FrontItem.{IsAtFront}
+use Rattle.hidreport_lists.specs.declared.front.FrontItem.{FrontItem}
+use Rattle.hidreport_lists.proofs.FrontLemmas.{front-first}
+
+-- what stands behind an item is shorter
+pub shorter : (rest : List ℕ) (front : FrontItem) → IsAtFront front rest
+    → length (drop front.size rest) < length rest
+shorter rest front is =
+    simp length-drop (omega (arith, (front-first 0 rest front is).0, is.0))
 
 -- the items of the entries
 abbrev pub items_of : List Entry → List ItemType
@@ -111,12 +121,12 @@ meaning-fault e left h f (Ok entries) read stops =
 pub refuses-as : {A : Type 0} (e : ParserError) (r : Refusal) (answer : Result A Refusal)
     → IsRefusal e r → answer ≡ Err r → Refuses e answer
 refuses-as (errors.InvalidData offset message) r answer says is =
-    let same : r ≡ InvalidAt offset _ = cc in is ∙ ap Err same
-refuses-as errors.OutOfBounds r answer says is = let same : r ≡ Bounds = cc in is ∙ ap Err same
+    let same : r ≡ InvalidData offset _ = cc in is ∙ ap Err same
+refuses-as errors.OutOfBounds r answer says is = let same : r ≡ OutOfBounds = cc in is ∙ ap Err same
 refuses-as errors.MismatchingReportId r answer says is = let same : r ≡ _ = cc in is ∙ ap Err same
 refuses-as errors.OutOfMemory r answer says is = tt
 refuses-as (errors.BudgetExceeded offset) r answer says is =
-    let same : r ≡ OverBudget offset = cc in is ∙ ap Err same
+    let same : r ≡ BudgetExceeded offset = cc in is ∙ ap Err same
 
 -- the parser's fault at its item's offset is the answer
 refuses-named : {A : Type 0} (o : Option MeaningFault) (offset : ℕ) (e : ParserError)
@@ -141,12 +151,12 @@ refuses-fault fault offset e found answer is named memory given =
 pub stopped : (e : Entry) (left : Option ℕ) (h : StateRecord) (fault : Fault) (error : ParserError)
     (r : Result (List Entry) (ℕ × GrammarFault)) → IsFaultOf fault (stop_in left h e.item)
     → ((g : ℕ × GrammarFault) → r ≡ Err g
-    → IsRefusal error (InvalidAt g.0 (grammar_message g.1)))
+    → IsRefusal error (InvalidData g.0 (grammar_message g.1)))
     → (IsOk r → IfSome (fault_named fault) (λ f. IsRefusal error (refusal_at e.offset f)))
     → (IsOk r → fault_named fault ≡ None → error ≡ errors.OutOfMemory)
     → Refuses error (walk_items left h (with_front (e ∷ []) r))
 stopped e left h fault error (Err g) is grammar meaning memory =
-    refuses-as error (InvalidAt g.0 (grammar_message g.1))
+    refuses-as error (InvalidData g.0 (grammar_message g.1))
     (walk_items left h (with_front (e ∷ []) (Err g))) (grammar g refl) refl
 stopped e left h fault error (Ok entries) is grammar meaning memory =
     refuses-fault fault e.offset error (stop_in left h e.item)
@@ -197,7 +207,7 @@ some-as None reading b bs = refl
 some-as (Some limit) reading b bs = refl
 
 none-as : (limit : Option ℕ) (reading : InForce)
-    → Err (InvalidAt 0 empty_descriptor) ≡ parse_limited reading limit []
+    → Err (InvalidData 0 empty_descriptor) ≡ parse_limited reading limit []
 none-as None reading = refl
 none-as (Some limit) reading = refl
 

@@ -8,7 +8,7 @@ use Rattle.std.proofs.Math.Nat.{mul-le-mul_left}
 use Rattle.std.proofs.lemmas.Bool.Decides.{nat_tests}
 use Rattle.std.proofs.lemmas.Nat.{div-mul-add, mod-mul-add}
 use Rattle.std.proofs.Math.Nat.{mul_comm}
-use Rattle.hidreport_lists.specs.Answer.{Refusal, Bounds, Mismatch}
+use Rattle.hidreport_lists.specs.Answer.{Refusal, OutOfBounds, MismatchingReportId}
 use Rattle.hidreport.specs.BitValue.{as_word, bit, value}
 use Rattle.hidreport.specs.Choosing.{value_number}
 use Rattle.hidreport.specs.Reading.{ValueRecord, before_values, each_value}
@@ -26,7 +26,7 @@ pub record ReadsAs (answer : Result ValueRecord Refusal) (number : ℤ) : Type 0
   pub says : value_number value ≡ number
 
 -- the test of a range that is read
-pub readable : (b : Bool) (x : ValueRecord) → IsOk (cond b (Err Bounds) (Ok x)) → b ≡ false
+pub readable : (b : Bool) (x : ValueRecord) → IsOk (cond b (Err OutOfBounds) (Ok x)) → b ≡ false
 readable true x ok = cc
 readable false x ok = refl
 
@@ -44,7 +44,7 @@ bits-read first end s old new z size ok fit each =
     ≡ false = ap (λ k. nat_le end first || (nat_lt 32 (end - first) || nat_lt (8 * k) end)) size ∙ t
     in record {
       value = record { word = as_word (value new first (end - first) s); is_signed = s };
-      is = ap (λ b. cond b (Err Bounds)
+      is = ap (λ b. cond b (Err OutOfBounds)
           (Ok (record { word = as_word (value new first (end - first) s); is_signed = s }))) same;
       says = number-read new first (end - first) s narrow
           ∙ value-of-bits new first (end - first) s z (omega arith) fit each;
@@ -69,6 +69,17 @@ put-element first w numbers old k i within lt room =
       turned : (first w k i : ℕ) → w * k ≡ k * w → first + w * k + i - first ≡ k * w + i
       turned first w k i e = omega arith
 
+-- a number that is read, before others
+pub number-before : (a : Result ValueRecord Refusal) (rest : Result (List ValueRecord) Refusal)
+    (x : ValueRecord) (z : ℤ) (numbers : List ℤ) → a ≡ Ok x → value_number x ≡ z
+    → numbers_of rest ≡ Ok numbers → numbers_of (before_values a rest) ≡ Ok (z ∷ numbers)
+number-before (Err e) rest x z numbers p q r = cc
+number-before (Ok y) (Err e) x z numbers p q r = cc
+number-before (Ok y) (Ok ys) x z numbers p q r =
+    let same : y ≡ x = cc in
+    let more : map value_number ys ≡ numbers = cc in
+    ap (λ n. Ok (n ∷ map value_number ys)) (ap value_number same ∙ q) ∙ ap (λ l. Ok (z ∷ l)) more
+
 -- values that are read one by one are these numbers
 pub each-read : (f : ℕ → Result ValueRecord Refusal) (numbers : List ℤ) (index : ℕ)
     → ((i : ℕ) → i < length numbers → ReadsAs (f (index + i)) (get_or numbers i (pos 0)))
@@ -81,18 +92,8 @@ each-read f (z ∷ numbers) index each =
     let rest = each-read f numbers (index + 1) (λ i lt.
     let next : index + suc i ≡ index + 1 + i = omega arith in
     subst (λ k. ReadsAs (f k) (get_or numbers i (pos 0))) next (each (suc i) (omega arith))) in
-    join (f index) (each_value f (index + 1) (length numbers)) head.value z numbers first head.says
-    rest where
-      join : (a : Result ValueRecord Refusal) (rest : Result (List ValueRecord) Refusal)
-          (x : ValueRecord) (z : ℤ) (numbers : List ℤ) → a ≡ Ok x → value_number x ≡ z
-          → numbers_of rest ≡ Ok numbers → numbers_of (before_values a rest) ≡ Ok (z ∷ numbers)
-      join (Err e) rest x z numbers p q r = cc
-      join (Ok y) (Err e) x z numbers p q r = cc
-      join (Ok y) (Ok ys) x z numbers p q r =
-          let same : y ≡ x = cc in
-          let more : map value_number ys ≡ numbers = cc in
-          ap (λ n. Ok (n ∷ map value_number ys)) (ap value_number same ∙ q)
-          ∙ ap (λ l. Ok (z ∷ l)) more
+    number-before (f index) (each_value f (index + 1) (length numbers)) head.value z numbers first head.says
+    rest
 
 -- where all elements are read, so is each
 pub each-readable : (f : ℕ → Result ValueRecord Refusal) (index more k : ℕ)
@@ -138,6 +139,6 @@ id-passes None bytes a b ok = refl
 id-passes (Some id) [] a b ok = cc
 id-passes (Some id) (c ∷ bytes) a b ok = by (c == id) a b ok where
   by : {A B : Type 0} (t : Bool) (a : Result A Refusal) (b : Result B Refusal)
-      → IsOk (cond t a (Err Mismatch)) → cond t b (Err Mismatch) ≡ b
+      → IsOk (cond t a (Err MismatchingReportId)) → cond t b (Err MismatchingReportId) ≡ b
   by true a b ok = refl
   by false a b ok = cc

@@ -17,7 +17,7 @@ use Rattle.hidreport_lists.specs.Itemising.{as_refusal}
 use Rattle.hidreport_lists.specs.Mending.{PieceRecord, item_in, pieces, standing_bytes}
 use Rattle.hidreport_lists.specs.Rebuilt.{items_of}
 use Rattle.hidreport_lists.specs.declared.error.ParserError.{ParserError}
-use Rattle.hidreport_lists.specs.declared.mending.Mend.TheVariants as mend
+use Rattle.hidreport_lists.specs.declared.mending.Reason.TheVariants as reason
 use Rattle.hidreport.specs.Faults.{Counts, id_count, item_fault}
 use Rattle.hidreport.specs.ItemState.{ItemState}
 use Rattle.hidreport.specs.Meaning.{InForce}
@@ -89,7 +89,7 @@ data-known n f item.Reserved e = cc
 
 widens-by : (b : Bool) (f : ItemState) (p : PieceRecord) (o : Option Spelled) → p.stands ≡ o
     → is_meant_unsigned f (item_in p) ≡ b → Stands p
-    → Mends p (cond b (rewritten mend.UnsignedMaximum p (wider_bytes (standing_bytes p.stands))) p)
+    → Mends p (cond b (rewritten reason.UnsignedMaximum p (wider_bytes (standing_bytes p.stands))) p)
 widens-by false f p o is meant stands = mends-itself p stands
 widens-by true f p None is meant stands =
     let none : is_meant_unsigned f (item_in p) ≡ false =
@@ -100,7 +100,7 @@ widens-by true f p (Some s) is meant stands =
     (sym (ap (λ (t : Option Spelled). is_meant_unsigned f (option_map (λ (u : Spelled). u.item) t))
     is) ∙ meant) in
     subst (λ (t : Option Spelled). Mends p
-    (rewritten mend.UnsignedMaximum p (wider_bytes (standing_bytes t)))) (sym is)
+    (rewritten reason.UnsignedMaximum p (wider_bytes (standing_bytes t)))) (sym is)
     (mends-wider p s.bytes s.item known.0 is (subst IsSpelled is stands) known.1 stands)
 
 widens : (asked : Bool) (f : ItemState) (p : PieceRecord) → Stands p
@@ -110,7 +110,7 @@ widens false f p stands = mends-itself p stands
 
 pads-by : (b : Bool) (left : Option ℕ) (h : StateRecord) (p : PieceRecord) (o : Option Spelled)
     → p.stands ≡ o → is_missing_usages (fault_held h (item_in p)) ≡ b → Stands p
-    → Mends p (cond b (rewritten mend.NoUsage p (constant_bytes (standing_bytes p.stands))) p)
+    → Mends p (cond b (rewritten reason.NoUsage p (constant_bytes (standing_bytes p.stands))) p)
 pads-by false left h p o is missing stands = mends-itself p stands
 pads-by true left h p None is missing stands =
     let none : is_missing_usages (fault_held h (item_in p)) ≡ false =
@@ -121,7 +121,7 @@ pads-by true left h p (Some s) is missing stands =
     (sym (ap (λ (t : Option Spelled). is_missing_usages
     (fault_held h (option_map (λ (u : Spelled). u.item) t))) is) ∙ missing) in
     subst (λ (t : Option Spelled). Mends p
-    (rewritten mend.NoUsage p (constant_bytes (standing_bytes t)))) (sym is)
+    (rewritten reason.NoUsage p (constant_bytes (standing_bytes t)))) (sym is)
     (mends-constant p s.bytes s.item known.0 is (subst IsSpelled is stands) known.1 stands)
 
 pads : (options : ParseOptions) (before : List ItemType) (left : Option ℕ) (h : StateRecord)

@@ -17,8 +17,8 @@ use Rattle.hidreport_lists.specs.Mending.{pieces_from, whole_piece, with_piece}
 use Rattle.hidreport_lists.specs.Mending.{without_ended, zero_piece}
 use Rattle.hidreport_lists.specs.Mending.{then_ended}
 use Rattle.hidreport_lists.specs.declared.error.ParserError.{ParserError}
-use Rattle.hidreport_lists.specs.declared.mending.Mend.{Mend}
-use Rattle.hidreport_lists.specs.declared.mending.Mend.TheVariants as mend
+use Rattle.hidreport_lists.specs.declared.mending.Reason.{Reason}
+use Rattle.hidreport_lists.specs.declared.mending.Reason.TheVariants as reason
 use Rattle.hidreport_items.proofs.FollowingLemmas.{following-cut}
 use Rattle.hidreport_lists.proofs.ItemLemmas.{enough}
 use Rattle.hidreport_lists.proofs.MendingLemmas.{all-inside}
@@ -105,10 +105,10 @@ laid-front true true offset h bs p ps short e rest laid =
     let less : length bs < n = grind (arith, common_steps, short) in
     let inside : length bs ≤ n = omega (arith, less) in
     let found : front_piece true offset (h ∷ bs)
-    ≡ Ok (left_out mend.CutShort offset (h ∷ bs)) =
+    ≡ Ok (left_out reason.CutShort offset (h ∷ bs)) =
     ap (λ b. cond b (cut_short true offset (h ∷ bs))
     (Ok (whole_piece offset (h ∷ take n bs)))) short in
-    let is : p ≡ left_out mend.CutShort offset (h ∷ bs) = cc in
+    let is : p ≡ left_out reason.CutShort offset (h ∷ bs) = cc in
     let nothing : pieces_from true (offset + 1) n bs ≡ Ok [] =
     all-inside true (offset + 1) n bs inside in
     let none : ps ≡ [] = cc in
@@ -178,13 +178,13 @@ keeps-choice : (b : Bool) (p q : PieceRecord) → Keeps p q → Keeps p (cond b 
 keeps-choice true p q keeps = keeps
 keeps-choice false p q keeps = keeps-itself p
 
-keeps-rewritten : (why : Mend) (p : PieceRecord) (bytes : List ℕ)
+keeps-rewritten : (why : Reason) (p : PieceRecord) (bytes : List ℕ)
     (r : Result ItemType GrammarFault) → Keeps p (rewritten_as why p bytes r)
 keeps-rewritten why p bytes (Ok x) =
     record { offset = refl; stood = refl; stands = λ s m. cc }
 keeps-rewritten why p bytes (Err fault) = keeps-itself p
 
-keeps-left_out : (why : Mend) (p : PieceRecord) → Keeps p (left_out why p.offset p.stood)
+keeps-left_out : (why : Reason) (p : PieceRecord) → Keeps p (left_out why p.offset p.stood)
 keeps-left_out why p = record { offset = refl; stood = refl; stands = λ s m. cc }
 
 -- so are all of a list
@@ -242,7 +242,7 @@ ended-keep : (ps : List PieceRecord) → AllKeep ps (without_ended ps)
 ended-keep [] = tt
 ended-keep (p ∷ ps) = (
   keeps-choice (ends_unknown ps && has_local (item_in p)) p
-      (left_out mend.EndedLocal p.offset p.stood) (keeps-left_out mend.EndedLocal p),
+      (left_out reason.EndedLocal p.offset p.stood) (keeps-left_out reason.EndedLocal p),
   ended-keep ps,
 )
 
@@ -251,8 +251,8 @@ mended-keeps : (options : RepairOptions) (before : List ItemType) (p : PieceReco
 mended-keeps options before p =
     let w = widened options before p in
     keeps-both p w (mended options before p)
-    (keeps-choice _ p _ (keeps-rewritten mend.UnsignedMaximum p _ _))
-    (keeps-choice _ w _ (keeps-rewritten mend.NoUsage w _ _))
+    (keeps-choice _ p _ (keeps-rewritten reason.UnsignedMaximum p _ _))
+    (keeps-choice _ w _ (keeps-rewritten reason.NoUsage w _ _))
 
 all-keep : (options : RepairOptions) (before : List ItemType) (ps qs : List PieceRecord)
     → all_mended options before ps ≡ Ok qs → AllKeep ps qs

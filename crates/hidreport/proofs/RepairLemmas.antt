@@ -10,7 +10,7 @@ use Rattle.std.proofs.lemmas.Grind.{common_steps}
 use Rattle.hidreport_items.specs.declared.item.ItemType.{ItemType}
 use Rattle.hidreport_lists.specs.Answer.{Refusal}
 use Rattle.hidreport_lists.specs.Mending.{PieceRecord, item_in, standing_bytes}
-use Rattle.hidreport_lists.specs.declared.mending.Mend.TheVariants as mend
+use Rattle.hidreport_lists.specs.declared.mending.Reason.TheVariants as reason
 use Rattle.hidreport.specs.ItemState.{ItemState, first_of}
 use Rattle.hidreport.specs.Meaning.{InForce, refusal_at}
 use Rattle.hidreport.specs.MeaningFault.{MeaningFault}
@@ -188,7 +188,7 @@ missing-stop left h (Some x) = missing-past (fault_in h x) (is_past left (weight
 
 padded-same : (a b : Option MeaningFault) (w : PieceRecord)
     → is_missing_usages a ≡ is_missing_usages b → padded_by a w ≡ padded_by b w
-padded-same a b w missing = ap (λ c. cond c (rewritten mend.NoUsage w
+padded-same a b w missing = ap (λ c. cond c (rewritten reason.NoUsage w
     (constant_bytes (standing_bytes w.stands))) w) missing
 
 -- what the parser makes of a piece is what is defined

@@ -215,6 +215,10 @@ adding-none key id (m ∷ ms) n =
     ap (λ b. cond b (m ∷ adding key id ms) (adding key id ms)) (same_key-sym (key m) id ∙ both.0)
     ∙ adding-none key id ms both.1
 
+-- a report with more bits and fields
+abbrev extended : ReportRecord → Option ℕ → ℕ → List FieldRecord → ReportRecord
+extended r k bits fields = record { id = k; size = r.size + bits; fields = r.fields ++ fields }
+
 -- where the id isn't among these keys their reports stay, and the new one stands behind them
 absent : (key : Indexed → Option ℕ) (bits : Indexed → ℕ) (fields : Indexed → List FieldRecord)
     (ms : List Indexed) (m : Indexed) (ks : List (Option ℕ))
@@ -230,13 +234,8 @@ absent key bits fields ms m (k ∷ ks) n =
     ap (λ (r : ReportRecord). r ∷ (map (report_made key bits fields (ms ++ m ∷ [])) ks ++ record
     { id = key m; size = id_bits (key m) + bits m; fields = fields m } ∷ [])) here
     ∙ ap (λ l. report_made key bits fields ms k ∷ l) rest
-    ∙ ap (λ b. cond b (record {
-      id = k;
-      size = (report_made key bits fields ms k).size + bits m;
-      fields = (report_made key bits fields ms k).fields ++ fields m;
-    } ∷ map
-    (report_made key bits fields ms) ks)
-    (report_made key bits fields ms k ∷ added_to (key m) (bits m) (fields m)
+    ∙ ap (λ b. cond b (extended (report_made key bits fields ms k) k (bits m) (fields m)
+    ∷ map (report_made key bits fields ms) ks) (report_made key bits fields ms k ∷ added_to (key m) (bits m) (fields m)
     (map (report_made key bits fields ms) ks)))
     (sym (same_key-sym k (key m) ∙ both.0))
 
@@ -266,32 +265,18 @@ present-by true key bits fields ms m k ks s d n rest =
     let none : is_among (key m) ks ≡ false = subst (λ z. is_among z ks ≡ false) (sym same) d.0 in
     ap (λ (r : ReportRecord). r ∷ map (report_made key bits fields (ms ++ m ∷ [])) ks)
     (report-extended key bits fields ms m k s)
-    ∙ ap (λ l. record {
-      id = k;
-      size = (report_made key bits fields ms k).size + bits m;
-      fields = (report_made key bits fields ms k).fields ++ fields m;
-    } ∷ l)
+    ∙ ap (λ l. extended (report_made key bits fields ms k) k (bits m) (fields m) ∷ l)
     (others key bits fields ms m ks none)
-    ∙ ap (λ b. cond b (record {
-      id = k;
-      size = (report_made key bits fields ms k).size + bits m;
-      fields = (report_made key bits fields ms k).fields ++ fields m;
-    } ∷ map
-    (report_made key bits fields ms) ks)
-    (report_made key bits fields ms k ∷ added_to (key m) (bits m) (fields m)
+    ∙ ap (λ b. cond b (extended (report_made key bits fields ms k) k (bits m) (fields m)
+    ∷ map (report_made key bits fields ms) ks) (report_made key bits fields ms k ∷ added_to (key m) (bits m) (fields m)
     (map (report_made key bits fields ms) ks)))
     (sym (same_key-sym k (key m) ∙ s))
 present-by false key bits fields ms m k ks s d n rest =
     ap (λ (r : ReportRecord). r ∷ map (report_made key bits fields (ms ++ m ∷ [])) ks)
     (report-other key bits fields ms m k s)
     ∙ ap (λ l. report_made key bits fields ms k ∷ l) (rest n)
-    ∙ ap (λ b. cond b (record {
-      id = k;
-      size = (report_made key bits fields ms k).size + bits m;
-      fields = (report_made key bits fields ms k).fields ++ fields m;
-    } ∷ map
-    (report_made key bits fields ms) ks)
-    (report_made key bits fields ms k ∷ added_to (key m) (bits m) (fields m)
+    ∙ ap (λ b. cond b (extended (report_made key bits fields ms k) k (bits m) (fields m)
+    ∷ map (report_made key bits fields ms) ks) (report_made key bits fields ms k ∷ added_to (key m) (bits m) (fields m)
     (map (report_made key bits fields ms) ks)))
     (sym (same_key-sym k (key m) ∙ s))
 

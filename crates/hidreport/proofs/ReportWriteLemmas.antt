@@ -24,7 +24,7 @@ use Rattle.hidreport.specs.WritingValues.{Inserts, fits, has_sign, put}
 use Rattle.hidreport.specs.WritingValues.{value_count, value_width, where_read, written}
 use Rattle.hidreport.specs.declared.field.insert_error.InsertError.{InsertError}
 use Rattle.hidreport.specs.declared.field.insert_error.InsertError.TheVariants as refused
-use Rattle.hidreport.proofs.IsWrittenLemmas.{covered, is-written}
+use Rattle.hidreport.proofs.IsWrittenLemmas.{covered, is-written, parts-by}
 use Rattle.hidreport.proofs.KeptBitsLemmas.{put-keeps}
 use Rattle.hidreport.proofs.WholeLemmas.{is-whole, put-are}
 
@@ -35,16 +35,6 @@ record Parts (fields : List FieldRecord) (numbers : List ℤ) (old new : List �
   away : list_any begins_in_own_id fields ≡ false
   fit : all_fit fields numbers ≡ true
   is : put_all fields numbers old ≡ new
-
-parts-by : (t b a : Bool) (r : Result (List ℤ) Refusal) (p new : List ℕ)
-    → cond t (where_read r (cond b (Err refused.OutOfBounds) (cond a (Ok p) (Err refused.DoesNotFit))))
-    (Err refused.WrongCount) ≡ Ok new
-    → (t ≡ true) × (IsOk r) × (b ≡ false) × (a ≡ true) × (p ≡ new)
-parts-by true false true (Ok xs) p new h = (refl, refl, refl, refl, cc)
-parts-by true false false (Ok xs) p new h = cc
-parts-by true true a (Ok xs) p new h = cc
-parts-by true b a (Err e) p new h = cc
-parts-by false b a r p new h = cc
 
 parts-of : (fields : List FieldRecord) (numbers : List ℤ) (old new : List ℕ)
     → report_written fields numbers old ≡ Ok new → Parts fields numbers old new

@@ -7,7 +7,7 @@ use Rattle.std.proofs.lemmas.Bool.Decides.{nat_tests}
 use Rattle.std.proofs.lemmas.Grind.{common_steps, flat_map-append}
 use Rattle.std.proofs.lemmas.List.Sums.{sum_by-append}
 use Rattle.std.specs.List.{list_any}
-use Rattle.hidreport_lists.specs.Answer.{Refusal, Mismatch}
+use Rattle.hidreport_lists.specs.Answer.{Refusal, MismatchingReportId}
 use Rattle.hidreport.specs.Reader.{available_numbers, before_numbers, begins_otherwise, each_alone}
 use Rattle.hidreport.specs.Reader.{numbers_before, report_numbers, value_alone, values_alone}
 use Rattle.hidreport.specs.Reading.{ValueRecord, before_values, one_value, read_bits}
@@ -139,9 +139,9 @@ runs-another (ConstantRecord place ∷ fields) bytes =
 runs-has : (fields : List FieldRecord) (bytes : List ℕ)
     → runs_available (runs_of fields) bytes ≡ available_numbers fields bytes
 runs-has fields bytes =
-    ap (λ b. cond b (Err Mismatch) (Ok (numbers_before (runs_alone (runs_of fields) bytes))))
+    ap (λ b. cond b (Err MismatchingReportId) (Ok (numbers_before (runs_alone (runs_of fields) bytes))))
     (runs-another fields bytes)
-    ∙ ap (λ l. cond (list_any (λ field. begins_otherwise bytes (own_id field)) fields) (Err Mismatch)
+    ∙ ap (λ l. cond (list_any (λ field. begins_otherwise bytes (own_id field)) fields) (Err MismatchingReportId)
     (Ok (numbers_before l))) (runs-alone fields bytes)
 
 -- so they stand for them

@@ -1,22 +1,21 @@
 -- The numbers of a run: where all its bits are there, and where they aren't.
 use Rattle.std.proofs.Common.{◌≡◌, ℕ, zero, suc, ◌+◌, ◌-◌, ◌*◌, ◌<◌, ◌≤◌, Bool, true, false, cond}
-use Rattle.std.proofs.Common.{◌||◌, ◌&&◌, ◌==◌, nat_lt, nat_le, List, [], ◌∷◌, ◌++◌, length, map}
+use Rattle.std.proofs.Common.{◌||◌, ◌&&◌, ◌==◌, nat_lt, nat_le, List, [], ◌∷◌, ◌++◌, length}
 use Rattle.std.proofs.Common.{refl, sym, ap, subst, ◌∙◌, arith, ℤ, Result, Ok, Err, IsOk, Option}
 use Rattle.std.proofs.Math.Nat.{mul-le-mul_left}
 use Rattle.std.proofs.lemmas.Bool.Decides.{nat_tests}
 use Rattle.std.proofs.lemmas.Grind.{common_steps}
-use Rattle.hidreport_lists.specs.Answer.{Refusal, Bounds, Refuses}
+use Rattle.hidreport_lists.specs.Answer.{Refusal, OutOfBounds, Refuses}
 use Rattle.hidreport_lists.specs.declared.error.ParserError.{ParserError}
 use Rattle.hidreport_lists.specs.declared.error.ParserError.TheVariants as errors
 use Rattle.hidreport.specs.BitValue.{as_word, value}
-use Rattle.hidreport.specs.Choosing.{value_number}
 use Rattle.hidreport.specs.Reader.{ReadsInto, before_numbers, filled}
 use Rattle.hidreport.specs.Reading.{ValueRecord, before_values, each_value, read_bits, with_id}
 use Rattle.hidreport.specs.Runs.{HasAllValues, RunRecord, all_numbers, count_in, is_inside, number_at}
 use Rattle.hidreport.specs.Runs.{numbers_from, place_in, run_reads, run_value, runs_read}
 use Rattle.hidreport.specs.Tiling.{Each}
 use Rattle.hidreport.specs.WritingLaws.{numbers_of}
-use Rattle.hidreport.proofs.ReadBackLemmas.{ReadsAs, id-passes}
+use Rattle.hidreport.proofs.ReadBackLemmas.{ReadsAs, id-passes, number-before}
 use Rattle.hidreport.proofs.ValueBitsLemmas.{number-read}
 
 -- a value whose bits are there
@@ -27,7 +26,7 @@ readable p w s bytes some narrow within =
     let t : (nat_le (p + w) p || (nat_lt 32 (p + w - p) || nat_lt (8 * length bytes) (p + w)))
     ≡ false = grind (arith, nat_tests) in record {
       value = record { word = as_word (value bytes p (p + w - p) s); is_signed = s };
-      is = ap (λ b. cond b (Err Bounds)
+      is = ap (λ b. cond b (Err OutOfBounds)
           (Ok (record { word = as_word (value bytes p (p + w - p) s); is_signed = s }))) t;
       says = number-read bytes p (p + w - p) s (omega arith) ∙ ap (λ k. value bytes p k s) width;
     }
@@ -41,18 +40,8 @@ each-numbers run bytes index zero each = refl
 each-numbers run bytes index (suc more) each =
     let head = each index (omega arith) in
     let rest = each-numbers run bytes (index + 1) more (λ k lt. each k (omega (arith, lt))) in
-    join (run_value run bytes index) (each_value (run_value run bytes) (index + 1) more) head.value
-    (number_at run bytes index) (numbers_from run bytes (index + 1) more) head.is head.says rest where
-      join : (a : Result ValueRecord Refusal) (rest : Result (List ValueRecord) Refusal)
-          (x : ValueRecord) (z : ℤ) (numbers : List ℤ) → a ≡ Ok x → value_number x ≡ z
-          → numbers_of rest ≡ Ok numbers → numbers_of (before_values a rest) ≡ Ok (z ∷ numbers)
-      join (Err e) rest x z numbers p q r = cc
-      join (Ok y) (Err e) x z numbers p q r = cc
-      join (Ok y) (Ok ys) x z numbers p q r =
-          let same : y ≡ x = cc in
-          let more : map value_number ys ≡ numbers = cc in
-          ap (λ n. Ok (n ∷ map value_number ys)) (ap value_number same ∙ q)
-          ∙ ap (λ l. Ok (z ∷ l)) more
+    number-before (run_value run bytes index) (each_value (run_value run bytes) (index + 1) more) head.value
+    (number_at run bytes index) (numbers_from run bytes (index + 1) more) head.is head.says rest
 
 -- what the test of a run says
 pub record Inside (run : RunRecord) (room : ℕ) : Type 0 where
@@ -123,7 +112,7 @@ length-all (run ∷ runs) bytes =
 
 -- where a value isn't there, none of the run is given
 outside-value : (run : RunRecord) (bytes : List ℕ) (last : ℕ) → run.count ≡ last + 1
-    → is_inside run (8 * length bytes) ≡ false → run_value run bytes last ≡ Err Bounds
+    → is_inside run (8 * length bytes) ≡ false → run_value run bytes last ≡ Err OutOfBounds
 outside-value run bytes last e t =
     let p = place_in run last in
     let w = run.width in
@@ -133,7 +122,7 @@ outside-value run bytes last e t =
     ≡ true = tested p w (8 * length bytes) run.count (omega arith)
     (sym (ap (λ n. (run.count == 0) || (nat_lt 0 w && (nat_le w 32 && nat_le n (8 * length bytes)))) end)
     ∙ t) in
-    ap (λ b. cond b (Err Bounds)
+    ap (λ b. cond b (Err OutOfBounds)
     (Ok (record { word = as_word (value bytes p (p + w - p) run.is_signed); is_signed = run.is_signed }))) test
   where
     tested : (p w n count : ℕ) → 0 < count
@@ -141,21 +130,21 @@ outside-value run bytes last e t =
         → (nat_le (p + w) p || (nat_lt 32 (p + w - p) || nat_lt n (p + w))) ≡ true
     tested p w n count some t = grind (arith, nat_tests)
 
-bounds-only : {A : Type 0} (b : Bool) (x : A) (r : Refusal) → cond b (Err Bounds) (Ok x) ≡ Err r
-    → r ≡ Bounds
+bounds-only : {A : Type 0} (b : Bool) (x : A) (r : Refusal) → cond b (Err OutOfBounds) (Ok x) ≡ Err r
+    → r ≡ OutOfBounds
 bounds-only true x r h = cc
 bounds-only false x r h = cc
 
 behind-refused : (a : Result ValueRecord Refusal) (rest : Result (List ValueRecord) Refusal)
-    → ((r : Refusal) → a ≡ Err r → r ≡ Bounds) → rest ≡ Err Bounds
-    → before_values a rest ≡ Err Bounds
+    → ((r : Refusal) → a ≡ Err r → r ≡ OutOfBounds) → rest ≡ Err OutOfBounds
+    → before_values a rest ≡ Err OutOfBounds
 behind-refused (Err e) rest only h = ap (λ (r : Refusal). Err r) (only e refl)
 behind-refused (Ok x) (Err e) only h = h
 behind-refused (Ok x) (Ok xs) only h = cc
 
 last-refused : (run : RunRecord) (bytes : List ℕ) (index more : ℕ)
-    → run_value run bytes (index + more) ≡ Err Bounds
-    → each_value (run_value run bytes) index (suc more) ≡ Err Bounds
+    → run_value run bytes (index + more) ≡ Err OutOfBounds
+    → each_value (run_value run bytes) index (suc more) ≡ Err OutOfBounds
 last-refused run bytes index zero h =
     let here : index + 0 ≡ index = omega arith in
     ap (λ a. before_values a (Ok [])) (sym (ap (run_value run bytes) here) ∙ h)
@@ -166,9 +155,9 @@ last-refused run bytes index (suc more) h =
     (last-refused run bytes (index + 1) more (ap (run_value run bytes) next ∙ h))
 
 pub outside-run : (run : RunRecord) (bytes : List ℕ) → is_inside run (8 * length bytes) ≡ false
-    → each_value (run_value run bytes) 0 run.count ≡ Err Bounds
+    → each_value (run_value run bytes) 0 run.count ≡ Err OutOfBounds
 outside-run run bytes t = by run.count refl where
-  by : (n : ℕ) → run.count ≡ n → each_value (run_value run bytes) 0 run.count ≡ Err Bounds
+  by : (n : ℕ) → run.count ≡ n → each_value (run_value run bytes) 0 run.count ≡ Err OutOfBounds
   by zero e =
       let no : is_inside run (8 * length bytes) ≡ true = grind (arith, nat_tests) in cc
   by (suc n) e =

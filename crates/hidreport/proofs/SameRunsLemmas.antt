@@ -8,7 +8,7 @@ use Rattle.std.proofs.lemmas.List.{drop-drop, map-append}
 use Rattle.std.proofs.lemmas.List.Folds.{list_any-append}
 use Rattle.std.proofs.lemmas.List.Sums.{sum_by-append, sum_by-cons}
 use Rattle.hidreport_items.specs.Spelling.{AreBytes}
-use Rattle.hidreport_lists.specs.Answer.{Mismatch, Refusal}
+use Rattle.hidreport_lists.specs.Answer.{MismatchingReportId, Refusal}
 use Rattle.hidreport.specs.Reading.{ValueRecord}
 use Rattle.hidreport.specs.Reader.{before_numbers, each_alone, numbers_before}
 use Rattle.hidreport.specs.Records.{FieldRecord}
@@ -136,8 +136,8 @@ same-stand fields runs s =
     let stand = runs-stand fields in record {
       reads = λ bytes. s.reads bytes ∙ stand.reads bytes;
       has = λ bytes.
-          ap (λ b. cond b (Err Mismatch) (Ok (numbers_before (runs_alone runs bytes)))) (s.ids bytes)
-          ∙ ap (λ l. cond (list_any (of_another bytes) own) (Err Mismatch) (Ok (numbers_before l)))
+          ap (λ b. cond b (Err MismatchingReportId) (Ok (numbers_before (runs_alone runs bytes)))) (s.ids bytes)
+          ∙ ap (λ l. cond (list_any (of_another bytes) own) (Err MismatchingReportId) (Ok (numbers_before l)))
           (s.alone bytes) ∙ stand.has bytes;
       count = s.count ∙ stand.count;
       writes = λ numbers bytes are.

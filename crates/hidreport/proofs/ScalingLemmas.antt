@@ -116,28 +116,29 @@ times low high first last v x n p = ap (λ y. n *ℤ y) p.denominator
 
 between : (low high first last v : ℤ) (x : Fraction) → low ≤ℤ v → v ≤ℤ high
     → OnLine low high first last v x → IsBetween x first last
-between low high first last v x from upto p = by (int_lt last first) refl where
-  by : (b : Bool) → int_lt last first ≡ b → IsBetween x first last
-  by true e =
-      let le : last ≤ℤ first = grind (arith, nat_tests, ints, e) in
-      let ends = falling (v -ℤ low) (high -ℤ low) first last (omega (arith, ints, from))
-      (omega (arith, ints, upto)) le in
-      let one = times low high first last v x first p in
-      let other = times low high first last v x last p in
-      inr (
-        omega (arith, ints, ends.0, other, p.numerator),
-        omega (arith, ints, ends.1, one, p.numerator),
-      )
-  by false e =
-      let le : first ≤ℤ last = grind (arith, nat_tests, ints, e) in
-      let ends = rising (v -ℤ low) (high -ℤ low) first last (omega (arith, ints, from))
-      (omega (arith, ints, upto)) le in
-      let one = times low high first last v x first p in
-      let other = times low high first last v x last p in
-      inl (
-        omega (arith, ints, ends.0, one, p.numerator),
-        omega (arith, ints, ends.1, other, p.numerator),
-      )
+between low high first last v x from upto p =
+    by (int_lt last first) refl (times low high first last v x first p)
+    (times low high first last v x last p) where
+      start : pos 0 ≤ℤ (v -ℤ low)
+      start = omega (arith, ints, from)
+
+      stop : (v -ℤ low) ≤ℤ (high -ℤ low)
+      stop = omega (arith, ints, upto)
+
+      by : (b : Bool) → int_lt last first ≡ b → first *ℤ x.denominator ≡ first *ℤ (high -ℤ low)
+          → last *ℤ x.denominator ≡ last *ℤ (high -ℤ low) → IsBetween x first last
+      by true e one other =
+          let ends = falling _ _ first last start stop (grind (arith, nat_tests, ints, e)) in
+          inr (
+            omega (arith, ints, ends.0, other, p.numerator),
+            omega (arith, ints, ends.1, one, p.numerator),
+          )
+      by false e one other =
+          let ends = rising _ _ first last start stop (grind (arith, nat_tests, ints, e)) in
+          inl (
+            omega (arith, ints, ends.0, one, p.numerator),
+            omega (arith, ints, ends.1, other, p.numerator),
+          )
 
 -- two on the same line
 both : (low high first last v w : ℤ) (x y : Fraction) → OnLine low high first last v x

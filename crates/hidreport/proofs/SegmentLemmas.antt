@@ -1,18 +1,17 @@
 -- A segment without main items is as if it weren't there.
 use Rattle.std.proofs.Common.{◌≡◌, ℕ, suc, ◌+◌, ◌-◌, ◌<◌, ◌≤◌, Bool, true, false, cond, nat_lt}
-use Rattle.std.proofs.Common.{List, [], ◌∷◌, ◌++◌, length, take, map, count_by, is_some, Option}
-use Rattle.std.proofs.Common.{None, Some, option_to_list, Result, Ok, Err, refl, sym, ap, ◌∙◌}
-use Rattle.std.proofs.Common.{subst, append-nil, append_assoc, arith, option_map}
+use Rattle.std.proofs.Common.{List, [], ◌∷◌, ◌++◌, length, take, map, count_by, Option}
+use Rattle.std.proofs.Common.{None, Some, Result, Ok, Err, refl, sym, ap, ◌∙◌}
+use Rattle.std.proofs.Common.{subst, append-nil, append_assoc, arith}
 use Rattle.std.specs.List.{list_any}
 use Rattle.std.proofs.Math.Seq.{take-append-add}
 use Rattle.std.proofs.lemmas.Grind.{common_steps}
 use Rattle.hidreport_items.specs.declared.global.GlobalItem.TheVariants as global
 use Rattle.hidreport_items.specs.declared.item.ItemType.{ItemType}
-use Rattle.hidreport_items.specs.declared.local.LocalItem.{LocalItem}
 use Rattle.hidreport_items.specs.declared.item.ItemType.TheVariants as item
 use Rattle.hidreport.specs.MeaningFault.{MeaningFault}
-use Rattle.hidreport.specs.ItemState.{ItemState, with_page}
-use Rattle.hidreport.specs.Kinds.{is_main, is_push, is_pop, local_of}
+use Rattle.hidreport.specs.ItemState.{ItemState}
+use Rattle.hidreport.specs.Kinds.{is_main, is_push, is_pop}
 use Rattle.hidreport.specs.Parser.Machine.{StateRecord, after_pop, pushed_copy, fault_in, step}
 use Rattle.hidreport.specs.Parser.Machine.{go_on}
 use Rattle.hidreport.specs.Parser.Machine.{last_item_state, next_item_state, next_state}
@@ -33,7 +32,6 @@ use Rattle.hidreport.proofs.ReportLemmas.{or_cases}
 use Rattle.hidreport.specs.Laws.{Spares, parse_any}
 use Rattle.hidreport.specs.Options.{meaning_as, meaning_limited, parse_limited, reading_of}
 use Rattle.hidreport.specs.declared.parse_options.ParseOptions.{ParseOptions}
-use Rattle.hidreport.specs.declared.parser.paged_local.PagedLocal.{PagedLocal}
 use Rattle.hidreport.proofs.BudgetWalkLemmas.{meaning-walk}
 use Rattle.hidreport.proofs.ParseLemmas.{goes-on, nothing-spent, nothing-within}
 use Rattle.hidreport.proofs.PushReadings.{Returns, returns-back, returns-next, returns-own}
@@ -163,21 +161,11 @@ plain-inside h item.Reserved a b c = quiet h (next_item_state h.item_state item.
 
 is-push : (x : ItemType) → is_push x ≡ true → x ≡ item.Global global.Push
 is-push (item.Global global.Push) e = refl
-is-push (item.Global global.Pop) e = cc
-is-push (item.Global g) e = cc
-is-push (item.Main y) e = cc
-is-push (item.Local y) e = cc
-is-push item.Long e = cc
-is-push item.Reserved e = cc
+is-push x e = cc
 
 is-pop : (x : ItemType) → is_pop x ≡ true → x ≡ item.Global global.Pop
 is-pop (item.Global global.Pop) e = refl
-is-pop (item.Global global.Push) e = cc
-is-pop (item.Global g) e = cc
-is-pop (item.Main y) e = cc
-is-pop (item.Local y) e = cc
-is-pop item.Long e = cc
-is-pop item.Reserved e = cc
+is-pop x e = cc
 
 -- the conditions on the rest, behind one item
 closes-next : (push_keeps : PushKeeps) (n m : ℕ) (x : ItemType) (xs : List ItemType)

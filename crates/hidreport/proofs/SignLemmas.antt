@@ -9,7 +9,7 @@ use Rattle.std.proofs.lemmas.Bool.Decides.{nat_tests}
 use Rattle.std.proofs.lemmas.Int.{ints}
 use Rattle.std.proofs.lemmas.Nat.{pow_pos}
 use Rattle.hidreport.specs.BitValue.{bit, sum_of_bits, value}
-use Rattle.hidreport.proofs.BitLemmas.{bit-small, power-fits, sum-small, zero-or-one}
+use Rattle.hidreport.proofs.BitLemmas.{below-top, bit-small, power-fits, sum-small, zero-or-one}
 use Rattle.hidreport.proofs.ValueBitsLemmas.{top-clear}
 
 -- a small number as 64 bits
@@ -51,13 +51,10 @@ pub clear-number : (bytes : List ℕ) (first width sum : ℕ) → 0 < width → 
     → to_z w64 sum ≡ value bytes first width true
 clear-number bytes first zero sum some narrow e small = absurd (omega (arith, some))
 clear-number bytes first (suc w) sum some narrow e small =
-    let less : suc w - 1 ≡ w = omega arith in
-    let below : sum < 2 ^ w = subst (λ n. sum < n)
-    (ap (λ n. 1 * 2 ^ n % 18446744073709551616) less ∙ power-fits w (omega (arith, narrow)))
-    small in
     small-number sum (sum-narrow bytes first (suc w) sum narrow e)
     ∙ clear-by (sum_of_bits bytes first w) (2 ^ w) (bit bytes (first + w)) sum
-    (zero-or-one (bit bytes (first + w)) (bit-small bytes (first + w))) e below
+    (zero-or-one (bit bytes (first + w)) (bit-small bytes (first + w))) e
+    (below-top w sum narrow small)
 
 set-by : (x P b sum : ℕ) → (b ≡ 0) ⊎ (b ≡ 1) → sum ≡ x + b * P → x < P → P ≤ sum
     → pos sum -ℤ pos (P + P) ≡ pos x -ℤ pos (b * P)

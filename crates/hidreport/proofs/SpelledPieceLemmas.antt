@@ -19,7 +19,7 @@ use Rattle.hidreport_lists.specs.Mending.{standing_bytes, whole_piece, with_piec
 use Rattle.hidreport_lists.specs.Mending.{zero_piece}
 use Rattle.hidreport_lists.specs.Mending.{then_ended}
 use Rattle.hidreport_lists.specs.Rebuilt.{items_of}
-use Rattle.hidreport_lists.specs.declared.mending.Mend.TheVariants as mend
+use Rattle.hidreport_lists.specs.declared.mending.Reason.TheVariants as reason
 use Rattle.hidreport_lists.proofs.ItemLemmas.{enough}
 use Rattle.hidreport.specs.Repair.{joined}
 use Rattle.hidreport.specs.Tiling.{Each}
@@ -73,10 +73,10 @@ stands-front false leave_out offset h bs p are long e =
 stands-front true true offset h bs p are short e =
     let n = following_length h bs in
     let found : front_piece true offset (h ∷ bs)
-    ≡ Ok (left_out mend.CutShort offset (h ∷ bs)) =
+    ≡ Ok (left_out reason.CutShort offset (h ∷ bs)) =
     ap (λ b. cond b (cut_short true offset (h ∷ bs))
     (Ok (whole_piece offset (h ∷ take n bs)))) short in
-    let is : left_out mend.CutShort offset (h ∷ bs) ≡ p = cc in
+    let is : left_out reason.CutShort offset (h ∷ bs) ≡ p = cc in
     subst Stands is tt
 stands-front true false offset h bs p are short e =
     let found : front_piece false offset (h ∷ bs) ≡ Err Insufficient =
@@ -114,7 +114,7 @@ stands-ended [] each = tt
 stands-ended (p ∷ ps) each =
     (by (ends_unknown ps && has_local (item_in p)), stands-ended ps each.1)
   where
-    by : (b : Bool) → Stands (cond b (left_out mend.EndedLocal p.offset p.stood) p)
+    by : (b : Bool) → Stands (cond b (left_out reason.EndedLocal p.offset p.stood) p)
     by true = tt
     by false = each.0
 

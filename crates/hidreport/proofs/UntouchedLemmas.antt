@@ -5,7 +5,7 @@ use Rattle.std.proofs.Common.{Some, Result, Ok, Err, refl, sym, ap, ◌∙◌, i
 use Rattle.hidreport_items.specs.Answer.{GrammarFault, Insufficient}
 use Rattle.hidreport_items.specs.Spelling.{AreBytes, following_length, item_of}
 use Rattle.hidreport_items.specs.declared.item.ItemType.{ItemType}
-use Rattle.hidreport_lists.specs.Answer.{AnswersBy, OverBudget, Refusal}
+use Rattle.hidreport_lists.specs.Answer.{AnswersBy, BudgetExceeded, Refusal}
 use Rattle.hidreport_lists.specs.Entry.{Entry}
 use Rattle.hidreport_lists.specs.Itemising.{all_bytes, as_refusal, item_at, items_from, itemise}
 use Rattle.hidreport_lists.specs.Itemising.{with_entry}
@@ -243,7 +243,7 @@ by-past None options bytes d are signed within parsed =
     ∙ by-bytes options bytes d are signed
     (bytes-as options.parse bytes ∙ limited) parsed
 by-past (Some offset) options bytes d are signed within parsed =
-    let bad : parse_as options.parse bytes ≡ Err (OverBudget offset) =
+    let bad : parse_as options.parse bytes ≡ Err (BudgetExceeded offset) =
     ap (λ o. unless_too_long o (parse_limited
     (reading_of options.parse) options.parse.limit bytes)) within in cc
 

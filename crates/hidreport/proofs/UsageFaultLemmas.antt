@@ -6,7 +6,7 @@ use Rattle.hidreport_items.specs.declared.local.LocalItem.TheVariants as local
 use Rattle.hidreport.specs.Faults.{limit_fault, usage_fault}
 use Rattle.hidreport.specs.ItemState.{ItemState, first_of, local_items}
 use Rattle.hidreport.specs.MeaningFault.{MeaningFault, MissingUsageMaximum, MissingUsagePage}
-use Rattle.hidreport.specs.MeaningFault.{MissingUsages, PastBounds, PastBudget, TooManyEnds}
+use Rattle.hidreport.specs.MeaningFault.{MissingUsages, OutOfBounds, BudgetExceeded, TooManyEnds}
 use Rattle.hidreport.specs.MeaningFault.{TooManyPops}
 use Rattle.hidreport.specs.Repair.{is_missing_usages}
 use Rattle.hidreport.specs.Usages.{UsageList, as_single, before_usages, last_local, maximum_of}
@@ -80,8 +80,8 @@ other-by TooManyEnds never = refl
 other-by MissingUsageMaximum never = refl
 other-by MissingUsagePage never = refl
 other-by MissingUsages never = absurd (never refl)
-other-by PastBounds never = refl
-other-by PastBudget never = refl
+other-by OutOfBounds never = refl
+other-by BudgetExceeded never = refl
 
 usage-other : (r : Result UsageList MeaningFault) (more : Option MeaningFault)
     → r ≢ Err MissingUsages → is_missing_usages more ≡ false

@@ -338,15 +338,16 @@ not_both_kinds (item.Local y) k h = cc
 not_both_kinds item.Long k h = cc
 not_both_kinds item.Reserved k h = cc
 
-some-deep : (b : Bool) (n : ℕ) → (n == 0) ≡ b → cond b (Some TooManyEnds) None ≡ None → 0 < n
-some-deep true n e h = cc
-some-deep false n e h = grind (arith, nat_tests)
+some-there : (f : MeaningFault) (b : Bool) (n : ℕ) → (n == 0) ≡ b → cond b (Some f) None ≡ None
+    → 0 < n
+some-there f true n e h = cc
+some-there f false n e h = grind (arith, nat_tests)
 
 -- an EndCollection without a fault closes a collection
 end-deep : (h : StateRecord) (x : ItemType) → is_end_collection x ≡ true → fault_in h x ≡ None
     → 0 < length h.opened
 end-deep h (item.Main main.EndCollection) e faultless =
-    some-deep (length h.opened == 0) (length h.opened) refl faultless
+    some-there TooManyEnds (length h.opened == 0) (length h.opened) refl faultless
 end-deep h (item.Main (main.Input flags)) e faultless = cc
 end-deep h (item.Main (main.Output flags)) e faultless = cc
 end-deep h (item.Main (main.Feature flags)) e faultless = cc
@@ -433,15 +434,11 @@ one-opened : (h : StateRecord) (o : Option CollectionItem)
 one-opened h None = refl
 one-opened h (Some kind) = refl
 
-some-stack : (b : Bool) (n : ℕ) → (n == 0) ≡ b → cond b (Some TooManyPops) None ≡ None → 0 < n
-some-stack true n e h = cc
-some-stack false n e h = grind (arith, nat_tests)
-
 -- a Pop without a fault has an open Push
 pop-deep : (h : StateRecord) (x : ItemType) → is_pop x ≡ true → fault_in h x ≡ None
     → 0 < length h.stack
 pop-deep h (item.Global global.Pop) e faultless =
-    some-stack (length h.stack == 0) (length h.stack) refl faultless
+    some-there TooManyPops (length h.stack == 0) (length h.stack) refl faultless
 pop-deep h (item.Global global.Push) e faultless = cc
 pop-deep h (item.Global g) e faultless = cc
 pop-deep h (item.Main y) e faultless = cc

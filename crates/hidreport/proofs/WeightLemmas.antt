@@ -12,7 +12,7 @@ use Rattle.hidreport.specs.Fields.{Beginning, beginning_at, make_fields, make_pl
 use Rattle.hidreport.specs.ItemState.{ItemState, first_of}
 use Rattle.hidreport.specs.Kinds.{Direction, Input, Output, Feature}
 use Rattle.hidreport.specs.Making.{extent}
-use Rattle.hidreport.specs.MeaningFault.{PastBudget}
+use Rattle.hidreport.specs.MeaningFault.{BudgetExceeded}
 use Rattle.hidreport.specs.Parser.Budget.{is_past, left_behind, past_fault, stop_in, weight_in}
 use Rattle.hidreport.specs.Parser.Budget.{weight_of_each}
 use Rattle.hidreport.specs.Parser.DataItem.{item_with}
@@ -166,7 +166,7 @@ nothing-spent (Some n) = ap (λ m. Some m) (let e : n - 0 ≡ n = omega arith in
 pub stop-past : (left : Option ℕ) (h : StateRecord) (d : Direction) (flags : Flags) (w : ℕ)
     → fault_in h (item_with d flags) ≡ None → weight_in h (item_with d flags) ≡ w
     → is_past left w ≡ true
-    → stop_in left h (item_with d flags) ≡ Some PastBudget
+    → stop_in left h (item_with d flags) ≡ Some BudgetExceeded
 stop-past left h d flags w faultless weighs past =
     ap (λ o. first_of o (past_fault (is_past left (weight_in h (item_with d flags))))) faultless
     ∙ ap (λ n. past_fault (is_past left n)) weighs ∙ ap past_fault past

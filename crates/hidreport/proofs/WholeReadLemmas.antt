@@ -3,7 +3,7 @@ use Rattle.std.proofs.Common.{◌≡◌, ℕ, zero, suc, ◌+◌, Bool, true, fa
 use Rattle.std.proofs.Common.{◌++◌, Option, None, Some, Result, Ok, Err, refl, ap, ◌∙◌, ℤ, map, arith}
 use Rattle.std.specs.List.{list_any}
 use Rattle.std.proofs.lemmas.Grind.{common_steps}
-use Rattle.hidreport_lists.specs.Answer.{Refusal, Mismatch}
+use Rattle.hidreport_lists.specs.Answer.{Refusal, MismatchingReportId}
 use Rattle.hidreport.specs.Choosing.{value_number}
 use Rattle.hidreport.specs.Reader.{before_numbers, begins_otherwise, each_alone, numbers_before}
 use Rattle.hidreport.specs.Reading.{ValueRecord, before_values, each_value, with_id}
@@ -58,7 +58,7 @@ pub passes : (id : Option ℕ) (bytes : List ℕ) (answer : Result (List ValueRe
 passes None bytes answer numbers h = (refl, h)
 passes (Some id) [] answer numbers h = cc
 passes (Some id) (b ∷ bytes) answer numbers h = by (b == id) h where
-  by : (t : Bool) → numbers_of (cond t answer (Err Mismatch)) ≡ Ok numbers
+  by : (t : Bool) → numbers_of (cond t answer (Err MismatchingReportId)) ≡ Ok numbers
       → (not t ≡ false) × (numbers_of answer ≡ Ok numbers)
   by true h = (refl, h)
   by false h = cc
@@ -100,5 +100,5 @@ pub whole-available : (runs : List RunRecord) (bytes : List ℕ) (numbers : List
     → runs_read runs bytes ≡ Ok numbers → runs_available runs bytes ≡ Ok numbers
 whole-available runs bytes numbers h =
     let w = whole runs bytes numbers h in
-    ap (λ b. cond b (Err Mismatch) (Ok (numbers_before (runs_alone runs bytes)))) w.0
+    ap (λ b. cond b (Err MismatchingReportId) (Ok (numbers_before (runs_alone runs bytes)))) w.0
     ∙ ap (λ (l : List ℤ). Ok l) w.1

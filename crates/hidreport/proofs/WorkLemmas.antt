@@ -2,15 +2,15 @@
 -- written.
 use Rattle.std.proofs.Common.{◌≡◌, ℕ, zero, suc, ◌+◌, ◌*◌, ◌-◌, ◌<◌, ◌≤◌, ◌⊎◌, inl, inr, Bool, true}
 use Rattle.std.proofs.Common.{◌&&◌}
-use Rattle.std.proofs.Common.{false, cond, nat_le, nat_lt, ◌||◌, List, [], ◌∷◌, ◌++◌, length, Option}
-use Rattle.std.proofs.Common.{None, Some, IfSome, IsOk, Result, Ok, Err, ℤ, refl, ap, arith}
-use Rattle.std.specs.Prelude.{◌==◌, find}
+use Rattle.std.proofs.Common.{false, cond, nat_le, nat_lt, ◌||◌, List, [], ◌∷◌, length, Option}
+use Rattle.std.proofs.Common.{None, Some, IfSome, IsOk, Result, Ok, Err, ℤ, refl, sym, subst, ap}
+use Rattle.std.proofs.Common.{arith}
+use Rattle.std.specs.Prelude.{◌==◌}
 use Rattle.std.specs.List.{list_all}
 use Rattle.std.proofs.lemmas.Bool.Decides.{nat_tests}
 use Rattle.std.proofs.lemmas.Grind.{common_steps}
-use Rattle.hidreport_lists.specs.Answer.{Refusal, Bounds, Mismatch}
-use Rattle.hidreport.specs.Lookup.{find_by, find_report, reports_of}
-use Rattle.hidreport.specs.Making.{same_key}
+use Rattle.hidreport_lists.specs.Answer.{Refusal, OutOfBounds, MismatchingReportId}
+use Rattle.hidreport.specs.Lookup.{find_report, reports_of}
 use Rattle.hidreport.specs.Places.{id_bits}
 use Rattle.hidreport.specs.Reading.{ValueRecord, before_values, element, element_width, each_value}
 use Rattle.hidreport.specs.Reading.{is_signed, one_value, read_bits, reads, values_of, with_id}
@@ -24,9 +24,7 @@ use Rattle.hidreport.specs.WritingValues.{begins_in_id, fits, has_sign, placed, 
 use Rattle.hidreport.specs.WritingValues.{value_width, where_read, written}
 use Rattle.hidreport.specs.declared.field.insert_error.InsertError.TheVariants as refused
 use Rattle.hidreport.specs.declared.field.data_item.Direction.{Direction}
-use Rattle.hidreport.specs.declared.field.data_item.Direction.TheVariants as direction
-use Rattle.hidreport.proofs.OwnReportsLemmas.{each-back, each-front, of-none, of-some}
-use Rattle.hidreport.proofs.ReportLemmas.{same_key-equal}
+use Rattle.hidreport.proofs.OwnReportsLemmas.{HoldsOfOwn, filled-of, found-holds}
 
 else-ok : {A E : Type 0} (c : Bool) (x y : Result A E) → c ≡ false → IsOk y → IsOk (cond c x y)
 else-ok true x y e ok = cc
@@ -44,7 +42,7 @@ bits-ok first end signed bytes some narrow within =
     || (nat_lt 32 (end - first) || nat_lt (8 * length bytes) end)) ≡ false =
     grind (arith, nat_tests) in
     else-ok (nat_le end first || (nat_lt 32 (end - first) || nat_lt (8 * length bytes) end))
-    (Err Bounds) (Ok _) clear refl
+    (Err OutOfBounds) (Ok _) clear refl
 
 one-ok : (r : Result ValueRecord Refusal) → IsOk r → IsOk (one_value r)
 one-ok (Ok x) ok = refl
@@ -125,7 +123,7 @@ with-ok (Some n) b bytes answer (inl none) ok = cc
 with-ok (Some n) b bytes answer (inr some) ok =
     let is : n ≡ b = cc in
     let same : (b == n) ≡ true = grind (arith, common_steps, is) in
-    then-ok (b == n) answer (Err Mismatch) same ok
+    then-ok (b == n) answer (Err MismatchingReportId) same ok
 
 reads-ok : (f : FieldRecord) (b : ℕ) (bytes : List ℕ) → (own_id f ≡ None) ⊎ (own_id f ≡ Some b)
     → IsOk (values_of f (b ∷ bytes)) → IsOk (reads f (b ∷ bytes))
@@ -137,7 +135,7 @@ reads-one-ok : (f : FieldRecord) (b : ℕ) (bytes : List ℕ) (index : ℕ)
 reads-one-ok f b bytes index own there ok =
     let within : nat_lt index (element_count f) ≡ true = grind (arith, nat_tests, there) in
     then-ok (nat_lt index (element_count f))
-    (with_id (own_id f) (b ∷ bytes) (element_of f (b ∷ bytes) index)) (Err Bounds) within
+    (with_id (own_id f) (b ∷ bytes) (element_of f (b ∷ bytes) index)) (Err OutOfBounds) within
     (with-ok (own_id f) b bytes (element_of f (b ∷ bytes) index) own ok)
 
 -- what is read is written, where it doesn't begin in the id
@@ -212,49 +210,17 @@ fields-work id b bytes first end (f ∷ fields) own from within covers whole are
       fields-work id b bytes (place_of f).«end» end fields own after within covers.2 whole.1 are.1,
     )
 
-report-works : (r : ReportRecord) (b : ℕ) (bytes : List ℕ) → IsFilled r
-    → ((f : FieldRecord) → IsOf r.id f → (own_id f ≡ None) ⊎ (own_id f ≡ Some b))
-    → AllWork (b ∷ bytes) r
-report-works r b bytes filled own enough =
+report-works : (b : ℕ) (bytes : List ℕ) → HoldsOfOwn (AllWork (b ∷ bytes)) b
+report-works b bytes r filled own enough =
     fields-work r.id b bytes (id_bits r.id) r.size r.fields own (omega arith) enough filled.covers
     filled.elements filled.own
 
-found-by : (c : Bool) (b : ℕ) (bytes : List ℕ) (r : ReportRecord) (rest : Option ReportRecord)
-    → same_key r.id (Some b) ≡ c → IsFilled r → IfSome rest (AllWork (b ∷ bytes))
-    → IfSome (cond c (Some r) rest) (AllWork (b ∷ bytes))
-found-by true b bytes r rest e filled later = report-works r b bytes filled
-    (λ f own. of-some f r.id b (same_key-equal r.id (Some b) e) own)
-found-by false b bytes r rest e filled later = later
-
-found : (b : ℕ) (bytes : List ℕ) (rs : List ReportRecord) → Each IsFilled rs
-    → IfSome (find (λ (r : ReportRecord). same_key r.id (Some b)) rs) (AllWork (b ∷ bytes))
-found b bytes [] filled = tt
-found b bytes (r ∷ rs) filled =
-    found-by (same_key r.id (Some b)) b bytes r
-    (find (λ (r : ReportRecord). same_key r.id (Some b)) rs) refl filled.0
-    (found b bytes rs filled.1)
-
-first-by : (id : Option ℕ) (b : ℕ) (bytes : List ℕ) (r : ReportRecord) (rs : List ReportRecord)
-    → r.id ≡ id → IsFilled r → Each IsFilled rs
-    → IfSome (find_by id (r ∷ rs) r b) (AllWork (b ∷ bytes))
-first-by None b bytes r rs e filled more =
-    report-works r b bytes filled (λ f own. inl (of-none f r.id e own))
-first-by (Some id) b bytes r rs e filled more = found b bytes (r ∷ rs) (filled, more)
-
 found-works : (rs : List ReportRecord) (bytes : List ℕ) → Each IsFilled rs
     → IfSome (find_report rs bytes) (AllWork bytes)
-found-works rs [] filled = tt
-found-works [] (b ∷ bytes) filled = tt
-found-works (r ∷ rs) (b ∷ bytes) filled = first-by r.id b bytes r rs refl filled.0 filled.1
+found-works rs bytes filled = found-holds (AllWork bytes) bytes rs
+    (λ b more e. subst (λ l. HoldsOfOwn (AllWork l) b) (sym e) (report-works b more)) filled
 
 -- those of any direction
 pub works-of : (way : Direction) (d : DescriptorRecord) (bytes : List ℕ) → IsTiled d
     → IfSome (find_report (reports_of way d) bytes) (AllWork bytes)
-works-of direction.Input d bytes t = found-works d.input bytes
-    (each-front IsFilled d.input (d.output ++ d.feature) t.filled)
-works-of direction.Output d bytes t = found-works d.output bytes
-    (each-front IsFilled d.output d.feature
-    (each-back IsFilled d.input (d.output ++ d.feature) t.filled))
-works-of direction.Feature d bytes t = found-works d.feature bytes
-    (each-back IsFilled d.output d.feature
-    (each-back IsFilled d.input (d.output ++ d.feature) t.filled))
+works-of way d bytes t = found-works (reports_of way d) bytes (filled-of way d t)

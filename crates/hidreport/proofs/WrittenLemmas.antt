@@ -3,7 +3,7 @@ use Rattle.std.proofs.Common.{◌≡◌, ℕ, Bool, true, false, cond, ◌==◌,
 use Rattle.std.proofs.Common.{Option, Some, None, Result, Ok, Err, IsOk, refl, ap, ◌∙◌, arith}
 use Rattle.std.specs.List.{list_all}
 use Rattle.std.proofs.lemmas.Bool.Decides.{nat_tests}
-use Rattle.hidreport_lists.specs.Answer.{Refusal, Mismatch}
+use Rattle.hidreport_lists.specs.Answer.{Refusal, MismatchingReportId}
 use Rattle.hidreport.specs.Reading.{ValueRecord, reads, values_of, with_id}
 use Rattle.hidreport.specs.Records.{Attributes, FieldPlace, FieldRecord, ArrayRecord, own_id}
 use Rattle.hidreport.specs.WritingValues.{begins_in_id, fits, has_sign, placed, put, value_width}
@@ -19,8 +19,8 @@ ready = Ok (tt {0})
 -- bytes are as an id wants them, so what is read of them counts
 read-by : (b : Bool) (answer : Result (List ValueRecord) Refusal)
     (x : Result (List ℕ) InsertError)
-    → where_read (cond b (Ok (tt {0})) (Err Mismatch)) ready ≡ ready
-    → IsOk answer → where_read (cond b answer (Err Mismatch)) x ≡ x
+    → where_read (cond b (Ok (tt {0})) (Err MismatchingReportId)) ready ≡ ready
+    → IsOk answer → where_read (cond b answer (Err MismatchingReportId)) x ≡ x
 read-by true (Ok values) x h ok = refl
 read-by true (Err e) x h ok = cc
 read-by false answer x h ok = cc

@@ -5,14 +5,14 @@ use Rattle.std.specs.Prelude.{None, Some, Result, Ok, Err}
 use Rattle.hidreport_items.specs.Answer.{GrammarFault}
 use Rattle.hidreport_items.specs.Spelling.{item_of}
 use Rattle.hidreport_items.specs.declared.item.ItemType.{ItemType}
-use Rattle.hidreport_lists.specs.Answer.{Refusal, InvalidAt}
+use Rattle.hidreport_lists.specs.Answer.{Refusal, InvalidData}
 use Rattle.hidreport_lists.specs.Entry.{Entry}
 use Rattle.hidreport_lists.specs.Itemising.{itemise}
 use Rattle.hidreport_lists.specs.Messages.{grammar_message}
 use Rattle.hidreport.specs.ItemState.{item_state}
 use Rattle.hidreport.specs.Kinds.{Indexed}
 use Rattle.hidreport.specs.Meaning.{InForce, at_offset, empty_descriptor, meaning_by}
-use Rattle.hidreport.specs.MeaningFault.{MeaningFault, PastBudget}
+use Rattle.hidreport.specs.MeaningFault.{MeaningFault, BudgetExceeded}
 use Rattle.hidreport.specs.Records.{DescriptorRecord}
 use Rattle.hidreport.specs.Weight.{first_past}
 use Rattle.hidreport.specs.declared.parser.usages_by.UsagesBy.TheVariants as usages_by
@@ -26,7 +26,7 @@ is_faulty_by k (Err first) = nat_le first.0 k
 abbrev pub unless_past : Option Indexed → Result DescriptorRecord (ℕ × MeaningFault)
     → Result DescriptorRecord (ℕ × MeaningFault)
 unless_past None answer = answer
-unless_past (Some p) answer = if is_faulty_by p.0 answer then answer else Err (p.0, PastBudget)
+unless_past (Some p) answer = if is_faulty_by p.0 answer then answer else Err (p.0, BudgetExceeded)
 
 -- the reports, or the first item with a fault or past the limit
 abbrev pub meaning_within_by : InForce → ℕ → List ItemType
@@ -38,14 +38,14 @@ meaning_within_by reading limit items =
 abbrev pub parse_items_within : InForce → ℕ → Result (List Entry) (ℕ × GrammarFault)
     → Result DescriptorRecord Refusal
 parse_items_within reading limit (Err fault) =
-    Err (InvalidAt fault.0 (grammar_message fault.1))
+    Err (InvalidData fault.0 (grammar_message fault.1))
 parse_items_within reading limit (Ok entries) =
     at_offset entries (meaning_within_by reading limit (map (λ e. e.item) entries))
 
 -- the reports that the bytes of a descriptor announce, or their first fault, or the item that is
 -- past the limit
 abbrev pub parse_within_by : InForce → ℕ → List ℕ → Result DescriptorRecord Refusal
-parse_within_by reading limit [] = Err (InvalidAt 0 empty_descriptor)
+parse_within_by reading limit [] = Err (InvalidData 0 empty_descriptor)
 parse_within_by reading limit (b ∷ bs) =
     parse_items_within reading limit (itemise item_of (b ∷ bs))
 

@@ -11,7 +11,7 @@ use Rattle.hidreport.specs.ItemState.{ItemState, first_of}
 use Rattle.hidreport.specs.Kinds.{Direction, data_of}
 use Rattle.hidreport.specs.Making.{extent}
 use Rattle.hidreport.specs.MeaningFault.{MeaningFault, TooManyPops, TooManyEnds, MissingUsages}
-use Rattle.hidreport.specs.MeaningFault.{PastBounds}
+use Rattle.hidreport.specs.MeaningFault.{OutOfBounds}
 use Rattle.hidreport.specs.OpenCollections.{depth, collections_before}
 use Rattle.hidreport.specs.Places.{start}
 use Rattle.hidreport.specs.Usages.{UsageList, usages_of}
@@ -53,7 +53,7 @@ needed_usages_fault (Err fault) = Some fault
 
 -- past a limit: `OutOfBounds`
 abbrev pub limit_fault : Bool → Option MeaningFault
-limit_fault true = Some PastBounds
+limit_fault true = Some OutOfBounds
 limit_fault false = None
 
 -- a data item that makes fields: its usages unless it is constant, then its report's end and the
@@ -67,30 +67,30 @@ data_fault n f flags (Some e) = first_of
 
 -- the fault of an item where so much was counted and this is in force
 abbrev pub item_fault : Counts → ItemState → ItemType → Option MeaningFault
-item_fault n f (item.Global global.Pop) = if n.level == 0 then Some TooManyPops else None
-item_fault n f (item.Main main.EndCollection) = if n.depth == 0 then Some TooManyEnds else None
-item_fault n f (item.Main (main.Collection kind)) =
-    first_of (usage_fault (usages_of f)) (limit_fault (nat_le id_count n.collections))
-item_fault n f (item.Main (main.Input flags)) = data_fault n f flags (extent f)
-item_fault n f (item.Main (main.Output flags)) = data_fault n f flags (extent f)
-item_fault n f (item.Main (main.Feature flags)) = data_fault n f flags (extent f)
-item_fault n f _ = None
+item_fault n state (item.Global global.Pop) = if n.level == 0 then Some TooManyPops else None
+item_fault n state (item.Main main.EndCollection) = if n.depth == 0 then Some TooManyEnds else None
+item_fault n state (item.Main (main.Collection kind)) =
+    first_of (usage_fault (usages_of state)) (limit_fault (nat_le id_count n.collections))
+item_fault n state (item.Main (main.Input flags)) = data_fault n state flags (extent state)
+item_fault n state (item.Main (main.Output flags)) = data_fault n state flags (extent state)
+item_fault n state (item.Main (main.Feature flags)) = data_fault n state flags (extent state)
+item_fault n state _ = None
 
 -- where the fields of a data item begin; other items have none
 abbrev pub start_of : (ℕ → ItemState) → Option (Direction × Flags) → List ItemType → ℕ → ℕ
-start_of item_state None items k = 0
-start_of item_state (Some x) items k = start item_state x.0 items k
+start_of state_at None items k = 0
+start_of state_at (Some x) items k = start state_at x.0 items k
 
 -- the counts at k, where x stands
 abbrev pub counts : (ℕ → ItemState) → List ItemType → ℕ → ItemType → Counts
-counts item_state items k x = record {
+counts state_at items k x = record {
   level = level items k;
   depth = depth items k;
   collections = collections_before items k;
-  fields = fields_before item_state items k;
-  start = start_of item_state (data_of x) items k;
+  fields = fields_before state_at items k;
+  start = start_of state_at (data_of x) items k;
 }
 
 -- the fault of the item x at k, if it has one
 abbrev pub fault : (ℕ → ItemState) → List ItemType → ℕ → ItemType → Option MeaningFault
-fault item_state items k x = item_fault (counts item_state items k x) (item_state k) x
+fault state_at items k x = item_fault (counts state_at items k x) (state_at k) x

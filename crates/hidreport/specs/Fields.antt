@@ -17,6 +17,7 @@ use Rattle.hidreport.specs.Records.{VariableRecord, ArrayRecord, ConstantRecord}
 use Rattle.hidreport.specs.Usages.{UsageList, usages_of, make_usage}
 use Rattle.hidreport.specs.declared.field.usage.Usage.{Usage}
 use Rattle.hidreport.specs.declared.parser.extent.Extent.{Extent}
+use Rattle.hidreport.specs.declared.field.measures.Measures.{Measures}
 
 -- one field for a constant item or an array, `count` for a variable item
 abbrev pub field_count : Flags → ℕ → ℕ
@@ -30,14 +31,14 @@ fields_made None e = 0
 
 -- how many fields the items before k made in a direction
 abbrev pub fields_in : (ℕ → ItemState) → Direction → List ItemType → ℕ → ℕ
-fields_in item_state d items k =
-    sum_by (λ p. fields_made (data_of p.1) (extent (item_state p.0))) (makers item_state d items k)
+fields_in state_at d items k =
+    sum_by (λ p. fields_made (data_of p.1) (extent (state_at p.0))) (makers state_at d items k)
 
 -- how many fields the items before k made, in all directions
 abbrev pub fields_before : (ℕ → ItemState) → List ItemType → ℕ → ℕ
-fields_before item_state items k =
-    fields_in item_state Input items k +
-    (fields_in item_state Output items k + fields_in item_state Feature items k)
+fields_before state_at items k =
+    fields_in state_at Input items k +
+    (fields_in state_at Output items k + fields_in state_at Feature items k)
 
 -- the usages, none for a fault
 abbrev pub list_or_none : Result UsageList MeaningFault → UsageList
@@ -46,15 +47,15 @@ list_or_none (Err fault) = record { usages = []; is_range = false }
 
 -- a Collection as the fields inside it carry it
 abbrev pub collection_record : (ℕ → ItemState) → List ItemType → Indexed → CollectionRecord
-collection_record item_state items p = record {
+collection_record state_at items p = record {
   id = collections_before items p.0;
   kind = unwrap_or (collection_kind_of p.1) kind.Physical;
-  usages = (list_or_none (usages_of (item_state p.0))).usages;
+  usages = (list_or_none (usages_of (state_at p.0))).usages;
 }
 
 -- the collections that a field made at k lies in, outermost first
 abbrev pub collections_at : (ℕ → ItemState) → List ItemType → ℕ → List CollectionRecord
-collections_at item_state items k = map (collection_record item_state items) (open_at items k)
+collections_at state_at items k = map (collection_record state_at items) (open_at items k)
 
 -- where just one physical bound is set the other is 0
 abbrev pub physical_bound : Option ℤ → Option ℤ → Option ℤ
@@ -68,24 +69,15 @@ volatile_in Input flag = None
 volatile_in Output flag = Some flag
 volatile_in Feature flag = Some flag
 
--- the numbers that a field with data has from global items
-pub record Measures : Type 0 where
-  pub logical_minimum : ℤ
-  pub logical_maximum : ℤ
-  pub physical_minimum : Option ℤ
-  pub physical_maximum : Option ℤ
-  pub unit : Option ℕ
-  pub unit_exponent : Option ℤ
-
--- logical bounds that aren't set are 0
+-- the numbers that a field with data has from global items; logical bounds that aren't set are 0
 abbrev pub measures : ItemState → Measures
-measures f = record {
-  logical_minimum = unwrap_or f.logical_minimum (pos 0);
-  logical_maximum = unwrap_or f.logical_maximum (pos 0);
-  physical_minimum = physical_bound f.physical_minimum f.physical_maximum;
-  physical_maximum = physical_bound f.physical_maximum f.physical_minimum;
-  unit = f.unit;
-  unit_exponent = f.unit_exponent;
+measures state = record {
+  logical_minimum = unwrap_or state.logical_minimum (pos 0);
+  logical_maximum = unwrap_or state.logical_maximum (pos 0);
+  physical_minimum = physical_bound state.physical_minimum state.physical_maximum;
+  physical_maximum = physical_bound state.physical_maximum state.physical_minimum;
+  unit = state.unit;
+  unit_exponent = state.unit_exponent;
 }
 
 -- what a field with data has from these numbers, from its item's flags and from the collections
@@ -105,7 +97,7 @@ attributes_with d flags m collections = record {
 
 -- what the fields of one item share
 abbrev pub attributes : ItemState → List CollectionRecord → Direction → Flags → Attributes
-attributes f collections d flags = attributes_with d flags (measures f) collections
+attributes state collections d flags = attributes_with d flags (measures state) collections
 
 -- usage c of a list, or the last one where there are fewer
 abbrev pub usage_at : List Usage → ℕ → Usage
@@ -155,14 +147,14 @@ make_fields b e flags us shared =
 -- the same where the item makes fields, the first with number `number` and from bit `first` on
 abbrev pub fields_of : ItemState → List CollectionRecord → ℕ → ℕ
     → Option (Direction × Flags) → Option Extent → List FieldRecord
-fields_of f collections number first (Some x) (Some e) =
-    make_fields (record { report_id = f.report_id; number = number; first = first }) e x.1
-    (list_or_none (usages_of f)) (attributes f collections x.0 x.1)
-fields_of f collections number first (Some x) None = []
-fields_of f collections number first None e = []
+fields_of state collections number first (Some x) (Some e) =
+    make_fields (record { report_id = state.report_id; number = number; first = first }) e x.1
+    (list_or_none (usages_of state)) (attributes state collections x.0 x.1)
+fields_of state collections number first (Some x) None = []
+fields_of state collections number first None e = []
 
 -- the fields that an item of direction d makes
 abbrev pub fields_at : (ℕ → ItemState) → Direction → List ItemType → Indexed → List FieldRecord
-fields_at item_state d items p = fields_of (item_state p.0) (collections_at item_state items p.0)
-    (fields_before item_state items p.0) (start item_state d items p.0) (data_of p.1)
-    (extent (item_state p.0))
+fields_at state_at d items p = fields_of (state_at p.0) (collections_at state_at items p.0)
+    (fields_before state_at items p.0) (start state_at d items p.0) (data_of p.1)
+    (extent (state_at p.0))

@@ -17,26 +17,26 @@ both_set (Some size) None = None
 
 -- the size and the count that make fields of a data item
 abbrev pub extent : ItemState → Option Extent
-extent f = both_set f.report_size f.report_count
+extent state = both_set state.report_size state.report_count
 
 -- the item is of direction d and makes fields
 abbrev pub makes : (ℕ → ItemState) → Direction → Indexed → Bool
-makes item_state d p = goes d (data_of p.1) && is_some (extent (item_state p.0))
+makes state_at d p = goes d (data_of p.1) && is_some (extent (state_at p.0))
 
 -- the items of direction d before k that make fields, in order
 abbrev pub makers : (ℕ → ItemState) → Direction → List ItemType → ℕ → List Indexed
-makers item_state d items k = filter (makes item_state d) (before items k)
+makers state_at d items k = filter (makes state_at d) (before items k)
 
 -- the report id in force at the first of these items
 abbrev pub first_report_id : (ℕ → ItemState) → List Indexed → Option ℕ
-first_report_id item_state [] = None
-first_report_id item_state (p ∷ ps) = (item_state p.0).report_id
+first_report_id state_at [] = None
+first_report_id state_at (p ∷ ps) = (state_at p.0).report_id
 
 -- The report that an item of direction d at k adds to: that with the id in force; without one, the
 -- report of the first item of its direction that makes fields.
 abbrev pub key : (ℕ → ItemState) → Direction → List ItemType → ℕ → Option ℕ
-key item_state d items k = first_of (item_state k).report_id
-    (first_report_id item_state (makers item_state d items k))
+key state_at d items k = first_of (state_at k).report_id
+    (first_report_id state_at (makers state_at d items k))
 
 -- two keys are the same
 abbrev pub same_key : Option ℕ → Option ℕ → Bool
@@ -47,5 +47,5 @@ same_key (Some a) None = false
 
 -- the items of direction d before k that add to this report
 abbrev pub makers_of : (ℕ → ItemState) → Direction → Option ℕ → List ItemType → ℕ → List Indexed
-makers_of item_state d id items k =
-    filter (λ p. same_key (key item_state d items p.0) id) (makers item_state d items k)
+makers_of state_at d id items k =
+    filter (λ p. same_key (key state_at d items p.0) id) (makers state_at d items k)

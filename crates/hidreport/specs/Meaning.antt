@@ -5,7 +5,7 @@ use Rattle.std.specs.List.{enumerate_from, list_any}
 use Rattle.hidreport_items.specs.Answer.{GrammarFault}
 use Rattle.hidreport_items.specs.Spelling.{item_of}
 use Rattle.hidreport_items.specs.declared.item.ItemType.{ItemType}
-use Rattle.hidreport_lists.specs.Answer.{Refusal, InvalidAt, Bounds, OverBudget}
+use Rattle.hidreport_lists.specs.Answer.{Refusal, InvalidData, OutOfBounds, BudgetExceeded}
 use Rattle.hidreport_lists.specs.Entry.{Entry}
 use Rattle.hidreport_lists.specs.Itemising.{itemise}
 use Rattle.hidreport_lists.specs.Messages.{grammar_message}
@@ -14,7 +14,8 @@ use Rattle.hidreport.specs.Fields.{fields_at}
 use Rattle.hidreport.specs.ItemState.{ItemState, item_state, item_state_globals_only}
 use Rattle.hidreport.specs.Kinds.{Indexed, Direction, Input, Output, Feature}
 use Rattle.hidreport.specs.Making.{key, makers, makers_of, same_key}
-use Rattle.hidreport.specs.MeaningFault.{MeaningFault, PastBudget, text}
+use Rattle.hidreport.specs.MeaningFault.{MeaningFault, text}
+use Rattle.hidreport.specs.MeaningFault as meaning_fault
 use Rattle.hidreport.specs.Places.{end_before}
 use Rattle.hidreport.specs.Records.{ReportRecord, DescriptorRecord}
 use Rattle.hidreport.specs.declared.parser.usages_by.UsagesBy.TheVariants as usages_by
@@ -31,28 +32,28 @@ firsts_after seen (x ∷ xs) =
 
 -- the keys of direction d, in order of first appearance
 abbrev pub keys : (ℕ → ItemState) → Direction → List ItemType → List (Option ℕ)
-keys item_state d items =
-    firsts_after [] (map (λ p. key item_state d items p.0)
-    (makers item_state d items (length items)))
+keys state_at d items =
+    firsts_after [] (map (λ p. key state_at d items p.0)
+    (makers state_at d items (length items)))
 
 -- the report with this key: the fields of the items that add to it, and the end of the last one
 abbrev pub report : (ℕ → ItemState) → Direction → List ItemType → Option ℕ → ReportRecord
-report item_state d items id = record {
+report state_at d items id = record {
   id = id;
-  size = end_before item_state d id items (length items);
-  fields = flat_map (fields_at item_state d items) (makers_of item_state d id items (length items));
+  size = end_before state_at d id items (length items);
+  fields = flat_map (fields_at state_at d items) (makers_of state_at d id items (length items));
 }
 
 -- the reports of direction d
 abbrev pub reports : (ℕ → ItemState) → Direction → List ItemType → List ReportRecord
-reports item_state d items = map (report item_state d items) (keys item_state d items)
+reports state_at d items = map (report state_at d items) (keys state_at d items)
 
 -- the reports of the three directions
 abbrev pub descriptor : (ℕ → ItemState) → List ItemType → DescriptorRecord
-descriptor item_state items = record {
-  input = reports item_state Input items;
-  output = reports item_state Output items;
-  feature = reports item_state Feature items;
+descriptor state_at items = record {
+  input = reports state_at Input items;
+  output = reports state_at Output items;
+  feature = reports state_at Feature items;
 }
 
 -- the fault of item k, or else the first behind it
@@ -63,9 +64,9 @@ fault_here None k later = later
 
 -- the first of these items that has a fault, with its index
 abbrev pub first_fault : (ℕ → ItemState) → List ItemType → List Indexed → Option (ℕ × MeaningFault)
-first_fault item_state items [] = None
-first_fault item_state items (p ∷ ps) =
-    fault_here (fault item_state items p.0 p.1) p.0 (first_fault item_state items ps)
+first_fault state_at items [] = None
+first_fault state_at items (p ∷ ps) =
+    fault_here (fault state_at items p.0 p.1) p.0 (first_fault state_at items ps)
 
 -- the reports, unless there is a fault
 abbrev pub unless_first : Option (ℕ × MeaningFault) → DescriptorRecord
@@ -92,12 +93,12 @@ offset_at entries k = unwrap_or (option_map (λ e. e.offset) (slice_get entries 
 
 -- a fault with a text is invalid data at its item's offset; a count past its limit has no offset
 abbrev pub refusal_by : ℕ → Option (List ℕ) → Refusal
-refusal_by offset (Some message) = InvalidAt offset message
-refusal_by offset None = Bounds
+refusal_by offset (Some message) = InvalidData offset message
+refusal_by offset None = OutOfBounds
 
 -- a fault of meaning as a parser says it
 abbrev pub refusal_at : ℕ → MeaningFault → Refusal
-refusal_at offset PastBudget = OverBudget offset
+refusal_at offset meaning_fault.BudgetExceeded = BudgetExceeded offset
 refusal_at offset fault = refusal_by offset (text fault)
 
 -- a fault with its item's offset in place of its index
@@ -109,7 +110,7 @@ at_offset entries (Err first) = Err (refusal_at (offset_at entries first.0) firs
 -- a grammar fault, or else the meaning of the items
 abbrev pub parse_items : InForce → Result (List Entry) (ℕ × GrammarFault)
     → Result DescriptorRecord Refusal
-parse_items reading (Err fault) = Err (InvalidAt fault.0 (grammar_message fault.1))
+parse_items reading (Err fault) = Err (InvalidData fault.0 (grammar_message fault.1))
 parse_items reading (Ok entries) =
     at_offset entries (meaning_by reading (map (λ e. e.item) entries))
 
@@ -119,7 +120,7 @@ empty_descriptor = codes "Empty report descriptor"
 
 -- the reports that the bytes of a descriptor announce, or their first fault, grammar before meaning
 abbrev pub parse_by : InForce → List ℕ → Result DescriptorRecord Refusal
-parse_by reading [] = Err (InvalidAt 0 empty_descriptor)
+parse_by reading [] = Err (InvalidData 0 empty_descriptor)
 parse_by reading (b ∷ bs) = parse_items reading (itemise item_of (b ∷ bs))
 
 -- the same where Push keeps globals and locals

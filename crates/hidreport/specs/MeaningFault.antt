@@ -6,7 +6,7 @@ use Rattle.std.specs.Prelude.{ℕ, List, Option, None, Some, codes}
 -- usages that are missing, and more bits, fields or collections than can be counted, or than the
 -- limit allows
 pub data MeaningFault : Type 0 where
-  TooManyPops TooManyEnds MissingUsageMaximum MissingUsagePage MissingUsages PastBounds PastBudget :
+  TooManyPops TooManyEnds MissingUsageMaximum MissingUsagePage MissingUsages OutOfBounds BudgetExceeded :
       MeaningFault
 
 -- what a parser says of it; a count or a budget past its limit has no text
@@ -16,5 +16,5 @@ text TooManyEnds = Some (codes "Too many EndCollection")
 text MissingUsageMaximum = Some (codes "Missing UsageMaximum in locals")
 text MissingUsagePage = Some (codes "Missing UsagePage in globals")
 text MissingUsages = Some (codes "Missing Usages for main item")
-text PastBounds = None
-text PastBudget = None
+text OutOfBounds = None
+text BudgetExceeded = None

@@ -1,6 +1,6 @@
 -- Parsing as it is asked for: by a reading of Push and Pop, and under a limit, if any.
 use Rattle.std.specs.Prelude.{ℕ, nat_lt, if◌then◌else◌, List, length, Option, None, Some, Result, Err}
-use Rattle.hidreport_lists.specs.Answer.{OverBudget, Refusal}
+use Rattle.hidreport_lists.specs.Answer.{BudgetExceeded, Refusal}
 use Rattle.hidreport_items.specs.declared.item.ItemType.{ItemType}
 use Rattle.hidreport.specs.Budget.{meaning_within_by, parse_within_by}
 use Rattle.hidreport.specs.ItemState.{item_state, item_state_globals_only}
@@ -59,7 +59,7 @@ past_longest (Some longest) size = if nat_lt longest size then Some longest else
 -- the answer, unless the budget is exceeded here
 abbrev pub unless_too_long : {A : Type 0} → Option ℕ → Result A Refusal → Result A Refusal
 unless_too_long None answer = answer
-unless_too_long (Some offset) answer = Err (OverBudget offset)
+unless_too_long (Some offset) answer = Err (BudgetExceeded offset)
 
 -- the reports that the bytes of a descriptor announce, or their first fault, or the item that is
 -- past the limit; of bytes that aren't too many

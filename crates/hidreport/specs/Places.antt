@@ -19,9 +19,9 @@ bits_of (Some e) = e.size * e.count
 -- where the report ends behind the items before k: the id's bits and those of each item that adds
 -- to it
 abbrev pub end_before : (ℕ → ItemState) → Direction → Option ℕ → List ItemType → ℕ → ℕ
-end_before item_state d id items k =
-    id_bits id + sum_by (λ p. bits_of (extent (item_state p.0))) (makers_of item_state d id items k)
+end_before state_at d id items k =
+    id_bits id + sum_by (λ p. bits_of (extent (state_at p.0))) (makers_of state_at d id items k)
 
 -- where the fields of an item of direction d at k begin
 abbrev pub start : (ℕ → ItemState) → Direction → List ItemType → ℕ → ℕ
-start item_state d items k = end_before item_state d (key item_state d items k) items k
+start state_at d items k = end_before state_at d (key state_at d items k) items k

@@ -2,7 +2,7 @@
 use Rattle.std.specs.Prelude.{◌≡◌, ◌+◌, ◌==◌, ℕ, zero, suc, ℤ, Bool, false, not, if◌then◌else◌, List}
 use Rattle.std.specs.Prelude.{[], ◌∷◌, ◌++◌, length, flat_map, Option, None, Some, Result, Ok, Err}
 use Rattle.std.specs.List.{list_any}
-use Rattle.hidreport_lists.specs.Answer.{Refusal, Bounds, Mismatch, Refuses}
+use Rattle.hidreport_lists.specs.Answer.{Refusal, OutOfBounds, MismatchingReportId, Refuses}
 use Rattle.hidreport_lists.specs.declared.error.ParserError.{ParserError}
 use Rattle.hidreport.specs.Choosing.{value_number}
 use Rattle.hidreport.specs.Reading.{ValueRecord, element, is_signed, read_bits}
@@ -48,7 +48,7 @@ value_alone (VariableRecord place usage shared) bytes index =
     read_bits place.first place.end (is_signed shared) bytes
 value_alone (ArrayRecord place usages is_range count shared) bytes index =
     element place.first place.end count (is_signed shared) bytes index
-value_alone (ConstantRecord place) bytes index = Err Bounds
+value_alone (ConstantRecord place) bytes index = Err OutOfBounds
 
 -- what is read at `index` and behind it, so many, each by itself
 abbrev pub each_alone : (ℕ → Result ValueRecord Refusal) → ℕ → ℕ → List (Result ValueRecord Refusal)
@@ -70,5 +70,5 @@ numbers_before (Err refusal ∷ values) = []
 -- bytes of another report are refused
 abbrev pub available_numbers : List FieldRecord → List ℕ → Result (List ℤ) Refusal
 available_numbers fields bytes =
-    if list_any (λ field. begins_otherwise bytes (own_id field)) fields then Err Mismatch
+    if list_any (λ field. begins_otherwise bytes (own_id field)) fields then Err MismatchingReportId
     else Ok (numbers_before (values_alone fields bytes))

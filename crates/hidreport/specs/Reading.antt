@@ -3,7 +3,7 @@
 use Rattle.std.specs.Prelude.{ℕ, ◌+◌, ◌-◌, ◌*◌, ◌/◌, ◌==◌, nat_lt, nat_le, ◌||◌, zero, suc}
 use Rattle.std.specs.Prelude.{Bool, if◌then◌else◌, List, [], ◌∷◌, length, Option, None, Some}
 use Rattle.std.specs.Prelude.{Result, Ok, Err, int_lt, pos}
-use Rattle.hidreport_lists.specs.Answer.{Refusal, Bounds, Mismatch}
+use Rattle.hidreport_lists.specs.Answer.{Refusal, OutOfBounds, MismatchingReportId}
 use Rattle.hidreport.specs.BitValue.{value, as_word}
 use Rattle.hidreport.specs.Records.{Attributes, FieldRecord, VariableRecord, ArrayRecord}
 use Rattle.hidreport.specs.Records.{ConstantRecord, element_count, own_id}
@@ -16,14 +16,14 @@ pub record ValueRecord : Type 0 where
 -- a field with an id is read only from bytes that begin with it
 abbrev pub with_id : {A : Type 0} → Option ℕ → List ℕ → Result A Refusal → Result A Refusal
 with_id None bytes answer = answer
-with_id (Some id) [] answer = Err Bounds
-with_id (Some id) (b ∷ bytes) answer = if b == id then answer else Err Mismatch
+with_id (Some id) [] answer = Err OutOfBounds
+with_id (Some id) (b ∷ bytes) answer = if b == id then answer else Err MismatchingReportId
 
 -- the bits from `first` up to `end`: at least one, at most 32, and all in the bytes
 abbrev pub read_bits : ℕ → ℕ → Bool → List ℕ → Result ValueRecord Refusal
 read_bits first end is_signed bytes =
     if nat_le end first
-    || (nat_lt 32 (end - first) || nat_lt (8 * length bytes) end) then Err Bounds
+    || (nat_lt 32 (end - first) || nat_lt (8 * length bytes) end) then Err OutOfBounds
     else Ok (record {
       word = as_word (value bytes first (end - first) is_signed);
       is_signed = is_signed;
@@ -75,14 +75,14 @@ reads field bytes = with_id (own_id field) bytes (values_of field bytes)
 
 -- an element of an array, whatever the report's id
 abbrev pub element_of : FieldRecord → List ℕ → ℕ → Result ValueRecord Refusal
-element_of (VariableRecord place usage shared) bytes index = Err Bounds
+element_of (VariableRecord place usage shared) bytes index = Err OutOfBounds
 element_of (ArrayRecord place usages is_range count shared) bytes index =
     element place.first place.end count (is_signed shared) bytes index
-element_of (ConstantRecord place) bytes index = Err Bounds
+element_of (ConstantRecord place) bytes index = Err OutOfBounds
 
 -- the value that a report's bytes give one element, or the first refusal
 abbrev pub reads_element : FieldRecord → List ℕ → ℕ → Result ValueRecord Refusal
 reads_element field bytes index =
     if nat_lt index (element_count field) then with_id (own_id field) bytes
     (element_of field bytes index)
-    else Err Bounds
+    else Err OutOfBounds

@@ -11,8 +11,8 @@ use Rattle.hidreport_items.specs.declared.item.ItemType.TheVariants as item
 use Rattle.hidreport_lists.specs.Answer.{Refusal}
 use Rattle.hidreport_lists.specs.Itemising.{as_refusal}
 use Rattle.hidreport_lists.specs.Mending.{PieceRecord, holding, item_in, pieces, standing_bytes}
-use Rattle.hidreport_lists.specs.declared.mending.Mend.{Mend}
-use Rattle.hidreport_lists.specs.declared.mending.Mend.TheVariants as mend
+use Rattle.hidreport_lists.specs.declared.mending.Reason.{Reason}
+use Rattle.hidreport_lists.specs.declared.mending.Reason.TheVariants as reason
 use Rattle.hidreport.specs.ItemState.{ItemState}
 use Rattle.hidreport.specs.Meaning.{refusal_at}
 use Rattle.hidreport.specs.MeaningFault.{MeaningFault, MissingUsages}
@@ -42,12 +42,12 @@ wider_bytes (h ∷ a ∷ b ∷ []) = (prefix h + 3) ∷ a ∷ b ∷ 0 ∷ 0 ∷ 
 wider_bytes _ = []
 
 -- the piece with these bytes in it, where they are an item
-abbrev pub rewritten_as : Mend → PieceRecord → List ℕ → Result ItemType GrammarFault → PieceRecord
+abbrev pub rewritten_as : Reason → PieceRecord → List ℕ → Result ItemType GrammarFault → PieceRecord
 rewritten_as why p bytes (Ok x) = holding (Some why) p.offset p.stood bytes x
 rewritten_as why p bytes (Err fault) = p
 
 -- the piece with other bytes, and why
-abbrev pub rewritten : Mend → PieceRecord → List ℕ → PieceRecord
+abbrev pub rewritten : Reason → PieceRecord → List ℕ → PieceRecord
 rewritten why p bytes = rewritten_as why p bytes (read_with item_of bytes)
 
 -- the bound that is in force, if any, is negative
@@ -57,17 +57,17 @@ is_below_zero (Some n) = int_lt n (pos 0)
 
 -- a negative maximum where no negative minimum is in force
 abbrev pub is_meant_unsigned : ItemState → Option ItemType → Bool
-is_meant_unsigned f (Some (item.Global (global.LogicalMaximum n))) =
-    int_lt n (pos 0) && not (is_below_zero f.logical_minimum)
-is_meant_unsigned f (Some (item.Global (global.PhysicalMaximum n))) =
-    int_lt n (pos 0) && not (is_below_zero f.physical_minimum)
-is_meant_unsigned f _ = false
+is_meant_unsigned state (Some (item.Global (global.LogicalMaximum n))) =
+    int_lt n (pos 0) && not (is_below_zero state.logical_minimum)
+is_meant_unsigned state (Some (item.Global (global.PhysicalMaximum n))) =
+    int_lt n (pos 0) && not (is_below_zero state.physical_minimum)
+is_meant_unsigned state _ = false
 
 -- where it is asked for, such a maximum is written without a sign
 abbrev pub widened_in : Bool → ItemState → PieceRecord → PieceRecord
-widened_in asked f p =
-    if asked && is_meant_unsigned f (item_in p)
-    then rewritten mend.UnsignedMaximum p (wider_bytes (standing_bytes p.stands))
+widened_in asked state p =
+    if asked && is_meant_unsigned state (item_in p)
+    then rewritten reason.UnsignedMaximum p (wider_bytes (standing_bytes p.stands))
     else p
 
 -- the fault is that usages are missing
@@ -79,7 +79,7 @@ is_missing_usages _ = false
 abbrev pub padded_by : Option MeaningFault → PieceRecord → PieceRecord
 padded_by fault p =
     if is_missing_usages fault
-    then rewritten mend.NoUsage p (constant_bytes (standing_bytes p.stands))
+    then rewritten reason.NoUsage p (constant_bytes (standing_bytes p.stands))
     else p
 
 -- the items, and that of one more piece
@@ -117,7 +117,8 @@ abbrev pub with_mended : PieceRecord → Result (List PieceRecord) Refusal
 with_mended p (Ok ps) = Ok (p ∷ ps)
 with_mended p (Err refusal) = Err refusal
 
--- each piece in turn is mended behind those before it, and has to mean something there
+-- Each piece in turn is mended behind those before it, and has to mean something there: of
+-- `05 01 75 08 95 01 81 02` the last, which lacks usages, becomes `81 03`; `c0` alone is a fault.
 abbrev pub all_mended : RepairOptions → List ItemType → List PieceRecord
     → Result (List PieceRecord) Refusal
 all_mended options before [] = Ok []
@@ -142,20 +143,20 @@ pub record ChangeRecord : Type 0 where
   pub offset : ℕ
   pub stood : List ℕ
   pub stands : List ℕ
-  pub mend : Mend
+  pub reason : Reason
 
 -- the change that a piece shows
-abbrev pub change_of : Mend → PieceRecord → ChangeRecord
+abbrev pub change_of : Reason → PieceRecord → ChangeRecord
 change_of why p = record {
   offset = p.offset;
   stood = p.stood;
   stands = standing_bytes p.stands;
-  mend = why;
+  reason = why;
 }
 
 -- none where nothing was changed
 abbrev pub change_in : PieceRecord → Option ChangeRecord
-change_in p = option_map (λ why. change_of why p) p.mend
+change_in p = option_map (λ why. change_of why p) p.reason
 
 -- a repaired descriptor, and what was changed
 pub record RepairedRecord : Type 0 where
@@ -193,7 +194,7 @@ change_view c = record {
   offset = c.offset;
   stood = c.stood.items;
   stands = c.stands.items;
-  mend = c.mend;
+  reason = c.reason;
 }
 
 -- the answer of `repair` as plain data

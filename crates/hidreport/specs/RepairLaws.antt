@@ -25,7 +25,7 @@ AreInPlace offset (p ∷ ps) = (p.offset ≡ offset) × AreInPlace (offset + len
 
 -- where no change is named, what stood there stands there
 abbrev pub StandsAsItStood : PieceRecord → Type 0
-StandsAsItStood p = p.mend ≡ None → standing_bytes p.stands ≡ p.stood
+StandsAsItStood p = p.reason ≡ None → standing_bytes p.stands ≡ p.stood
 
 -- the bytes are no more than one item: a header, and at most what follows it
 abbrev pub IsOneItem : List ℕ → Type 0
@@ -63,8 +63,7 @@ pub record SamePlaces (options : ParseOptions) (items others : List ItemType) : 
 
 -- Each field keeps its bits: the repaired bytes are items that lie where those lie which hid-core
 -- reads of the bytes.
-pub record KeepsBits (options : RepairOptions) (bytes : List ℕ) (r : RepairedRecord)
-    : Type 0 where
+pub record KeepsBits (options : RepairOptions) (bytes : List ℕ) (r : RepairedRecord) : Type 0 where
   pub read : List PieceRecord
   pub reads : pieces options.leave_out_cut_short bytes ≡ Ok read
   pub entries : List Entry

@@ -4,7 +4,7 @@ use Rattle.std.specs.Prelude.{Bool, List, [], ◌∷◌, Option, None, Result, O
 use Rattle.std.specs.Prelude.{slice_set, take, drop, true}
 use Rattle.std.specs.List.{list_all, list_any}
 use Rattle.hidreport_items.specs.Spelling.{AreBytes}
-use Rattle.hidreport_lists.specs.Answer.{Refusal, Mismatch}
+use Rattle.hidreport_lists.specs.Answer.{Refusal, MismatchingReportId}
 use Rattle.hidreport.specs.BitValue.{value}
 use Rattle.hidreport.specs.Reader.{available_numbers, before_numbers, begins_otherwise, each_alone}
 use Rattle.hidreport.specs.Reader.{numbers_before, report_numbers}
@@ -73,7 +73,7 @@ runs_alone runs bytes = flat_map (λ run. each_alone (run_value run bytes) 0 run
 -- the numbers of runs up to the first that isn't there
 abbrev pub runs_available : List RunRecord → List ℕ → Result (List ℤ) Refusal
 runs_available runs bytes =
-    if list_any (λ (run : RunRecord). begins_otherwise bytes run.id) runs then Err Mismatch
+    if list_any (λ (run : RunRecord). begins_otherwise bytes run.id) runs then Err MismatchingReportId
     else Ok (numbers_before (runs_alone runs bytes))
 
 -- all values of a run have some bits, at most 32, and lie in so many

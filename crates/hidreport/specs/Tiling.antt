@@ -66,8 +66,10 @@ pub record HaveOwnIds (reports : List ReportRecord) : Type 0 where
 abbrev pub HaveOwnNumbers : List FieldRecord → Type 0
 HaveOwnNumbers fields = (n : ℕ) → count_by (λ f. (place_of f).id == n) fields ≤ 1
 
--- carried collections of one number are one: opened at the same depth, inside the same collections;
--- so no field carries two of one number
+-- Carried collections of one number are one: where field f has the collection c at its place i and
+-- field g has d at its place j, and their numbers are the same, f and g carry the same collections up
+-- to there. So no field carries two of one number; of `a1 01 a1 00 .. c0 a1 00 .. c0 c0` the fields
+-- of the two inner ones carry the outer one alike, and nothing else.
 abbrev pub HaveOwnCollections : List FieldRecord → Type 0
 HaveOwnCollections fields = (m n i j : ℕ) (f g : FieldRecord) (c d : CollectionRecord)
     → slice_get fields m ≡ Some f → slice_get fields n ≡ Some g

@@ -92,9 +92,9 @@ host_usages page ls = usages_of_spans (host_spans (unwrap_or page 0) ls)
 
 -- the usages in force by a rule: that of the standard, or that of hosts
 abbrev pub usages_under : UsagesBy → ItemState → Result UsageList MeaningFault
-usages_under usages_by.Standard f = standard_usages f.usage_page (local_items f.locals)
-usages_under usages_by.Hosts f = Ok (host_usages f.usage_page f.locals)
+usages_under usages_by.Standard state = standard_usages state.usage_page (local_items state.locals)
+usages_under usages_by.Hosts state = Ok (host_usages state.usage_page state.locals)
 
 -- the usages that what is in force gives an item, or their fault
 abbrev pub usages_of : ItemState → Result UsageList MeaningFault
-usages_of f = usages_under f.usages_by f
+usages_of state = usages_under state.usages_by state

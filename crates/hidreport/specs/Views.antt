@@ -1,8 +1,9 @@
 -- A field of the library as plain data.
-use Rattle.std.specs.Prelude.{ℕ, List, []}
+use Rattle.std.specs.Prelude.{ℕ, ℤ, Option, List, []}
 use Rattle.std.specs.Arc.{arc_slice_items}
 use Rattle.std.specs.declared.ops.Range.{Range}
-use Rattle.hidreport.specs.Fields.{Measures, attributes_with}
+use Rattle.hidreport.specs.Fields.{attributes_with}
+use Rattle.hidreport.specs.declared.field.measures.Measures.{Measures}
 use Rattle.hidreport.specs.Records.{CollectionRecord, FieldPlace, Attributes, FieldRecord}
 use Rattle.hidreport.specs.Records.{VariableRecord, ArrayRecord, ConstantRecord}
 use Rattle.hidreport.specs.declared.field.array_field.ArrayField.{ArrayField}
@@ -11,25 +12,34 @@ use Rattle.hidreport.specs.declared.field.Field.{Field}
 use Rattle.hidreport.specs.declared.field.Field.TheVariants as fields
 use Rattle.hidreport.specs.declared.field.variable_field.VariableField.{VariableField}
 
+-- a place in a report
+abbrev pub placed_at : ℕ → Option ℕ → Range ℕ → FieldPlace
+placed_at id report_id bits = record {
+  id = id;
+  report_id = report_id;
+  first = bits.start;
+  end = bits.end;
+}
+
+-- bounds, a unit and its exponent
+abbrev pub measured : ℤ × ℤ → Option ℤ × Option ℤ → Option ℕ × Option ℤ → Measures
+measured logical physical unit = record {
+  logical_minimum = logical.0;
+  logical_maximum = logical.1;
+  physical_minimum = physical.0;
+  physical_maximum = physical.1;
+  unit = unit.0;
+  unit_exponent = unit.1;
+}
+
 -- where a variable field lies
 abbrev pub variable_place : VariableField → FieldPlace
-variable_place f = record {
-  id = f.id;
-  report_id = f.report_id;
-  first = f.bits.start;
-  end = f.bits.end;
-}
+variable_place f = placed_at f.id f.report_id f.bits
 
 -- the numbers that it has from global items
 abbrev pub variable_measures : VariableField → Measures
-variable_measures f = record {
-  logical_minimum = f.logical_minimum;
-  logical_maximum = f.logical_maximum;
-  physical_minimum = f.physical_minimum;
-  physical_maximum = f.physical_maximum;
-  unit = f.unit;
-  unit_exponent = f.unit_exponent;
-}
+variable_measures f = measured (f.logical_minimum, f.logical_maximum)
+    (f.physical_minimum, f.physical_maximum) (f.unit, f.unit_exponent)
 
 -- its bounds, unit, flags and collections
 abbrev pub variable_attributes : VariableField → Attributes
@@ -42,23 +52,12 @@ variable_record f = VariableRecord (variable_place f) f.usage (variable_attribut
 
 -- where an array lies
 abbrev pub array_place : ArrayField → FieldPlace
-array_place f = record {
-  id = f.id;
-  report_id = f.report_id;
-  first = f.bits.start;
-  end = f.bits.end;
-}
+array_place f = placed_at f.id f.report_id f.bits
 
 -- the numbers that it has from global items
 abbrev pub array_measures : ArrayField → Measures
-array_measures f = record {
-  logical_minimum = f.logical_minimum;
-  logical_maximum = f.logical_maximum;
-  physical_minimum = f.physical_minimum;
-  physical_maximum = f.physical_maximum;
-  unit = f.unit;
-  unit_exponent = f.unit_exponent;
-}
+array_measures f = measured (f.logical_minimum, f.logical_maximum)
+    (f.physical_minimum, f.physical_maximum) (f.unit, f.unit_exponent)
 
 -- its bounds, unit, flags and collections
 abbrev pub array_attributes : ArrayField → Attributes
@@ -72,12 +71,7 @@ array_record f = ArrayRecord (array_place f) f.usages.items f.is_usage_range f.r
 
 -- where padding lies
 abbrev pub constant_place : ConstantField → FieldPlace
-constant_place f = record {
-  id = f.id;
-  report_id = f.report_id;
-  first = f.bits.start;
-  end = f.bits.end;
-}
+constant_place f = placed_at f.id f.report_id f.bits
 
 -- all parts of a constant field
 abbrev pub constant_record : ConstantField → FieldRecord

@@ -28,14 +28,14 @@ field_weight (ConstantRecord place) = 1
 
 -- the collection that an item opens
 abbrev pub weight_opened : (ℕ → ItemState) → Option CollectionItem → List ItemType → Indexed → ℕ
-weight_opened item_state None items p = 0
-weight_opened item_state (Some kind) items p = collection_weight
-    (collection_record item_state items p)
+weight_opened state_at None items p = 0
+weight_opened state_at (Some kind) items p =
+    collection_weight (collection_record state_at items p)
 
 -- the fields that a data item makes
 abbrev pub weight_made : (ℕ → ItemState) → Option (Direction × Flags) → List ItemType → Indexed → ℕ
-weight_made item_state None items p = 0
-weight_made item_state (Some x) items p = sum_by field_weight (fields_at item_state x.0 items p)
+weight_made state_at None items p = 0
+weight_made state_at (Some x) items p = sum_by field_weight (fields_at state_at x.0 items p)
 
 -- an item with a fault weighs nothing
 abbrev pub unless_faulty : Option MeaningFault → ℕ → ℕ
@@ -44,19 +44,18 @@ unless_faulty (Some fault) weight = 0
 
 -- the weight of the item x at k
 abbrev pub weight : (ℕ → ItemState) → List ItemType → ℕ → ItemType → ℕ
-weight item_state items k x = unless_faulty (fault item_state items k x)
-    (weight_opened item_state (collection_kind_of x) items (k, x) + weight_made item_state
-    (data_of x) items
-    (k, x))
+weight state_at items k x = unless_faulty (fault state_at items k x)
+    (weight_opened state_at (collection_kind_of x) items (k, x)
+    + weight_made state_at (data_of x) items (k, x))
 
 -- the weight of the items before k
 abbrev pub weight_before : (ℕ → ItemState) → List ItemType → ℕ → ℕ
-weight_before item_state items k = sum_by (λ p. weight item_state items p.0 p.1) (before items k)
+weight_before state_at items k = sum_by (λ p. weight state_at items p.0 p.1) (before items k)
 
 -- the first item with which the weight passes the limit
 abbrev pub first_past : (ℕ → ItemState) → ℕ → List ItemType → Option Indexed
-first_past item_state limit items =
-    find (λ p. nat_lt limit (weight_before item_state items (suc p.0))) (enumerate_from 0 items)
+first_past state_at limit items =
+    find (λ p. nat_lt limit (weight_before state_at items (suc p.0))) (enumerate_from 0 items)
 
 -- the fields of a report together
 abbrev pub report_weight : ReportRecord → ℕ

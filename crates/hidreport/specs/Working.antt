@@ -1,6 +1,8 @@
 -- What works for a report that is found and as many bytes as it has (Sections 5.6 and 5.8).
-use Rattle.std.specs.Prelude.{◌≡◌, ◌*◌, ◌<◌, ◌≤◌, ℕ, ℤ, true, List, [], ◌∷◌, length, IsOk}
+use Rattle.std.specs.Prelude.{◌≡◌, ◌≢◌, ◌*◌, ◌<◌, ◌≤◌, ℕ, ℤ, true, List, [], ◌∷◌, length, IsOk}
+use Rattle.std.specs.Prelude.{Err}
 use Rattle.std.specs.List.{list_all}
+use Rattle.hidreport_lists.specs.Answer.{MismatchingReportId}
 use Rattle.hidreport.specs.Reading.{reads as read, reads_element}
 use Rattle.hidreport.specs.Records.{FieldRecord, ReportRecord, element_count}
 use Rattle.hidreport.specs.Tiling.{Each, IsFilled}
@@ -24,6 +26,11 @@ pub record FieldWorks (bytes : List ℕ) (field : FieldRecord) : Type 0 where
   pub writes_one : IsNarrow field → (index : ℕ) (number : ℤ) → index < element_count field
       → fits (value_width field) (has_sign field) number ≡ true
       → IsOk (written_element field index number bytes)
+
+-- none of its fields is refused as another report's than the one that the bytes are of
+abbrev pub AllOwn : List ℕ → ReportRecord → Type 0
+AllOwn bytes report =
+    Each (λ (field : FieldRecord). read field bytes ≢ Err MismatchingReportId) report.fields
 
 -- all of its fields do, where there are as many bytes as it has
 abbrev pub AllWork : List ℕ → ReportRecord → Type 0

@@ -5,7 +5,7 @@ use Rattle.std.specs.Prelude.{Bool, true, false, if◌then◌else◌, ℤ, pos, 
 use Rattle.std.specs.Prelude.{length, get_or, Option, None, Some, Result, Ok, Err, ◌≡◌}
 use Rattle.std.specs.List.{list_all}
 use Rattle.std.specs.Int.{bit_at}
-use Rattle.hidreport_lists.specs.Answer.{Refusal, InvalidAt, Bounds, Mismatch, OverBudget}
+use Rattle.hidreport_lists.specs.Answer.{Refusal, InvalidData, OutOfBounds, MismatchingReportId, BudgetExceeded}
 use Rattle.hidreport.specs.BitValue.{bit}
 use Rattle.hidreport.specs.Reading.{element_width, is_signed, reads, reads_element, with_id}
 use Rattle.hidreport.specs.Records.{FieldRecord, VariableRecord, ArrayRecord, ConstantRecord}
@@ -72,10 +72,10 @@ begins_in_id (Some id) first = nat_lt first 8
 
 -- why a field that is not read is not written either
 abbrev pub insert_refusal : Refusal → InsertError
-insert_refusal (InvalidAt offset message) = refused.OutOfBounds
-insert_refusal Bounds = refused.OutOfBounds
-insert_refusal Mismatch = refused.MismatchingReportId
-insert_refusal (OverBudget offset) = refused.OutOfBounds
+insert_refusal (InvalidData offset message) = refused.OutOfBounds
+insert_refusal OutOfBounds = refused.OutOfBounds
+insert_refusal MismatchingReportId = refused.MismatchingReportId
+insert_refusal (BudgetExceeded offset) = refused.OutOfBounds
 
 -- the bits from `first` up to `end` can be read: at least one, at most 32, and all in the bytes
 abbrev pub are_readable : ℕ → ℕ → List ℕ → Bool
@@ -88,13 +88,16 @@ abbrev pub where_read : {A B : Type 0} → Result A Refusal → Result B InsertE
 where_read (Ok values) answer = answer
 where_read (Err refusal) answer = Err (insert_refusal refusal)
 
--- numbers from a bit on, where they don't lie in the id and each fits
-abbrev pub placed : FieldRecord → ℕ → List ℤ → List ℕ → Result (List ℕ) InsertError
-placed field first numbers bytes =
-    if begins_in_id (own_id field) first then Err refused.OutOfBounds
-    else (if list_all (fits (value_width field) (has_sign field)) numbers
-    then Ok (put first (value_width field) numbers bytes)
+-- numbers of a width and a sign from a bit on, where they don't lie in the id and each fits
+abbrev pub placed_by : Option ℕ → ℕ → Bool → ℕ → List ℤ → List ℕ → Result (List ℕ) InsertError
+placed_by id width sign first numbers bytes =
+    if begins_in_id id first then Err refused.OutOfBounds
+    else (if list_all (fits width sign) numbers then Ok (put first width numbers bytes)
     else Err refused.DoesNotFit)
+
+-- those of a field's values
+abbrev pub placed : FieldRecord → ℕ → List ℤ → List ℕ → Result (List ℕ) InsertError
+placed field = placed_by (own_id field) (value_width field) (has_sign field)
 
 -- the bytes with these values of a field, or the first refusal
 abbrev pub written : FieldRecord → List ℤ → List ℕ → Result (List ℕ) InsertError
@@ -118,5 +121,5 @@ Inserts (Err e) old new answer = (answer ≡ Err e) × (new ≡ old)
 -- the bits from `first` up to `end` can be written by a field with this id, whatever the value
 abbrev pub place_check : Option ℕ → ℕ → ℕ → List ℕ → Result (Unit {0}) InsertError
 place_check id first end bytes = where_read
-    (with_id id bytes (if are_readable first end bytes then Ok (tt {0}) else Err Bounds))
+    (with_id id bytes (if are_readable first end bytes then Ok (tt {0}) else Err OutOfBounds))
     (if begins_in_id id first then Err refused.OutOfBounds else Ok (tt {0}))

@@ -2,7 +2,7 @@
 ghost use Rattle.std.specs.Prelude.{◌≡◌, ◌≢◌, ◌≤◌, ℕ, [], None, Some, Err, Ok, IfOk, IfSome, List};
 ghost use Rattle.std.specs.Prelude.{◌↔◌, IsTrue, option_copied};
 ghost use Rattle.hidreport_items.specs.Spelling.{item_of};
-ghost use Rattle.hidreport_lists.specs.Answer.{Answers, Mismatch};
+ghost use Rattle.hidreport_lists.specs.Answer.{Answers};
 ghost use Rattle.hidreport_lists.specs.Entry.{Entry};
 ghost use Rattle.hidreport_lists.specs.Itemising.{itemise};
 ghost use Rattle.hidreport_lists.specs.Rebuilt.{items_of};
@@ -11,12 +11,10 @@ ghost use Rattle.hidreport.specs.Laws.{KeptItemsMean, RebuiltBytesMean, Segments
 ghost use Rattle.hidreport.specs.Lookup.{find_report, report_with, reports_of};
 ghost use Rattle.hidreport.specs.Meaning.{parse, parse_by, parse_globals_only};
 ghost use Rattle.hidreport.specs.Options.{default_options, globals_only_options, parse_as, reading_of};
-ghost use Rattle.hidreport.specs.Reading.{reads};
-ghost use Rattle.hidreport.specs.Records.{FieldRecord};
 ghost use Rattle.hidreport.specs.Segments.{HasNoPush};
-ghost use Rattle.hidreport.specs.Tiling.{Each, IsTiled};
+ghost use Rattle.hidreport.specs.Tiling.{IsTiled};
 ghost use Rattle.hidreport.specs.Weight.{descriptor_weight};
-ghost use Rattle.hidreport.specs.Working.{AllWork};
+ghost use Rattle.hidreport.specs.Working.{AllOwn, AllWork};
 
 use crate::field::data_item::Direction;
 use crate::outline::Outline;
@@ -70,9 +68,9 @@ impl ReportDescriptor {
     /// In each report the fields have all bits after the id, and each bit has one field; each
     /// report, field and collection has an id of its own; and a range gave just its usages
     /// (`tiled`). A Push, items without a main item in which each Push has its Pop, and the Pop of
-    /// that Push change nothing (`struck`). Long items, and those of kinds that the standard keeps
-    /// for later, change nothing either (`kept`), and the bytes that `hid::rebuild` writes for the
-    /// others are read as the same reports, or have the same fault at the same item (`rebuilt`).
+    /// that Push change nothing (`struck`). Long items and reserved ones change nothing either
+    /// (`kept`), and the bytes that `hid::rebuild` writes for the others are read as the same
+    /// reports, or have the same fault at the same item (`rebuilt`).
     ///
     /// # Errors
     ///
@@ -300,8 +298,7 @@ impl ReportDescriptor {
     pub fn find_report(&self, direction: Direction, bytes: &[u8]) -> Option<&RDescReport>
         ensures found { option_copied result
             ≡ find_report (reports_of direction self.now) bytes.now }
-        ensures own { IsTiled self.now → IfSome (option_copied result) (λ report.
-            Each (λ (field : FieldRecord). reads field bytes.now ≢ Err Mismatch) report.fields) }
+        ensures own { IsTiled self.now → IfSome (option_copied result) (AllOwn bytes.now) }
         ensures works { IsTiled self.now → IfSome (option_copied result) (AllWork bytes.now) }
     {
         self.report_of(direction, bytes)
@@ -343,30 +340,27 @@ impl ReportDescriptor {
     /// ```
     pub fn find_input_report(&self, bytes: &[u8]) -> Option<&RDescReport>
         ensures found { option_copied result ≡ find_report self.now.input bytes.now }
-        ensures own { IsTiled self.now → IfSome (option_copied result) (λ report.
-            Each (λ (field : FieldRecord). reads field bytes.now ≢ Err Mismatch) report.fields) }
+        ensures own { IsTiled self.now → IfSome (option_copied result) (AllOwn bytes.now) }
         ensures works { IsTiled self.now → IfSome (option_copied result) (AllWork bytes.now) }
     {
-        self.report_of(Direction::Input, bytes)
+        self.find_report(Direction::Input, bytes)
     }
 
     /// Finds the output report that the bytes are of, as `find_input_report` does (Section 5.6).
     pub fn find_output_report(&self, bytes: &[u8]) -> Option<&RDescReport>
         ensures found { option_copied result ≡ find_report self.now.output bytes.now }
-        ensures own { IsTiled self.now → IfSome (option_copied result) (λ report.
-            Each (λ (field : FieldRecord). reads field bytes.now ≢ Err Mismatch) report.fields) }
+        ensures own { IsTiled self.now → IfSome (option_copied result) (AllOwn bytes.now) }
         ensures works { IsTiled self.now → IfSome (option_copied result) (AllWork bytes.now) }
     {
-        self.report_of(Direction::Output, bytes)
+        self.find_report(Direction::Output, bytes)
     }
 
     /// Finds the feature report that the bytes are of, as `find_input_report` does (Section 5.6).
     pub fn find_feature_report(&self, bytes: &[u8]) -> Option<&RDescReport>
         ensures found { option_copied result ≡ find_report self.now.feature bytes.now }
-        ensures own { IsTiled self.now → IfSome (option_copied result) (λ report.
-            Each (λ (field : FieldRecord). reads field bytes.now ≢ Err Mismatch) report.fields) }
+        ensures own { IsTiled self.now → IfSome (option_copied result) (AllOwn bytes.now) }
         ensures works { IsTiled self.now → IfSome (option_copied result) (AllWork bytes.now) }
     {
-        self.report_of(Direction::Feature, bytes)
+        self.find_report(Direction::Feature, bytes)
     }
 }

@@ -117,7 +117,7 @@ pub use field::value::FieldValue;
 pub use field::variable_field::VariableField;
 pub use field::{Field, FieldId};
 pub use hid::CollectionItem as CollectionType;
-pub use hidreport_lists::{Mend, ParserError};
+pub use hidreport_lists::{ParserError, Reason};
 pub use laws::{
     blank_reports_have_their_id_alone, built_bytes_mean_their_items, scaled_values_lie_on_a_line,
     shared_collections_are_a_common_front,

@@ -2,7 +2,7 @@
 ghost use Rattle.std.specs.Prelude.{◌≡◌, ◌+◌, ◌<◌, ◌^◌, ℕ, length, Err, IfSome, IsOk, None};
 ghost use Rattle.hidreport_items.specs.Answer.{GrammarFault};
 ghost use Rattle.hidreport_items.specs.Spelling.{item_of};
-ghost use Rattle.hidreport_lists.specs.Answer.{Answers, InvalidAt};
+ghost use Rattle.hidreport_lists.specs.Answer.{Answers, InvalidData};
 ghost use Rattle.hidreport_lists.specs.Itemising.{items_from};
 ghost use Rattle.hidreport_lists.specs.Messages.{grammar_message};
 ghost use Rattle.hidreport.specs.Meaning.{empty_descriptor, refusal_at};
@@ -74,7 +74,7 @@ pub(crate) fn parse(
 
 /// The refusal of no bytes at all.
 fn empty_descriptor(alloc: Global) -> ParserError
-    ensures { IsRefusal result (InvalidAt 0 empty_descriptor) }
+    ensures { IsRefusal result (InvalidData 0 empty_descriptor) }
 {
     invalid_data(alloc, 0, "Empty report descriptor")
 }
@@ -84,7 +84,7 @@ fn empty_descriptor(alloc: Global) -> ParserError
 fn refusal(alloc: Global, offset: usize, fault: Fault, behind: usize, rest: &[u8]) -> ParserError
     requires { behind + length rest.now < 2 ^ 64 }
     ensures grammar { (first : ℕ × GrammarFault) → items_from item_of behind 0 rest.now ≡ Err first
-        → IsRefusal result (InvalidAt first.0 (grammar_message first.1)) }
+        → IsRefusal result (InvalidData first.0 (grammar_message first.1)) }
     ensures meaning { IsOk (items_from item_of behind 0 rest.now)
         → IfSome (fault_named fault) (λ f. IsRefusal result (refusal_at offset f)) }
     ensures memory { IsOk (items_from item_of behind 0 rest.now)

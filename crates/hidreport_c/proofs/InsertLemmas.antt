@@ -5,7 +5,7 @@ use Rattle.std.proofs.Common.{Option, None, Some, Result, Ok, Err, IsOk}
 use Rattle.std.proofs.Common.{refl, sym, subst, ◌∙◌, arith}
 use Rattle.std.proofs.lemmas.Bool.Decides.{nat_tests}
 use Rattle.std.specs.Prelude.{◌==◌}
-use Rattle.hidreport.specs.Answer.{Refusal, Bounds, Mismatch}
+use Rattle.hidreport.specs.Answer.{Refusal, OutOfBounds, MismatchingReportId}
 use Rattle.hidreport.specs.Reading.{ValueRecord, before_values, element, each_value, with_id}
 use Rattle.hidreport.specs.WritingValues.{insert_refusal, where_read}
 use Rattle.hidreport.specs.declared.field.insert_error.InsertError.{InsertError}
@@ -29,7 +29,7 @@ id-ok : {A : Type 0} (id : Option ℕ) (bytes : List ℕ) (a : Result A Refusal)
     → IsOk (with_id id bytes a) → IsOk a
 id-ok None bytes a ok = ok
 id-ok (Some id) [] a ok = cc
-id-ok (Some id) (b ∷ bytes) a ok = (test-ok (b == id) a Mismatch ok).1
+id-ok (Some id) (b ∷ bytes) a ok = (test-ok (b == id) a MismatchingReportId ok).1
 
 -- what is known of a value that can be read
 pub record Room (f : HidreportField) (bytes : List ℕ) (index : ℕ) : Type 0 where
@@ -52,7 +52,7 @@ pub value-room : (f : HidreportField) (bytes : List ℕ) (index : ℕ)
     → IsOk (value_at f bytes index) → (index < f.value_count) × (Room f bytes index)
 value-room f bytes index ok =
     let parts = test-ok (nat_lt index f.value_count)
-    (with_id (id_of f) bytes (element_at f bytes index)) Bounds ok in (
+    (with_id (id_of f) bytes (element_at f bytes index)) OutOfBounds ok in (
       grind (arith, nat_tests, parts.0),
       element-room f bytes index (id-ok (id_of f) bytes (element_at f bytes index) parts.1),
     )
@@ -89,7 +89,7 @@ abbrev pub IsPlain : {A : Type 0} → Result A Refusal → Type 0
 IsPlain (Ok x) = Unit {0}
 IsPlain (Err r) = insert_status (insert_refusal r) ≡ status_of r
 
-test-plain : {A : Type 0} (t : Bool) (a : A) → IsPlain (cond t (Err Bounds) (Ok a))
+test-plain : {A : Type 0} (t : Bool) (a : A) → IsPlain (cond t (Err OutOfBounds) (Ok a))
 test-plain true a = refl
 test-plain false a = tt
 
@@ -108,7 +108,7 @@ elements-plain first end count s bytes index (suc more) =
     (test-plain _ _) (elements-plain first end count s bytes (index + 1) more)
 
 mismatch-plain : {A : Type 0} (t : Bool) (a : Result A Refusal) → IsPlain a
-    → IsPlain (cond t a (Err Mismatch))
+    → IsPlain (cond t a (Err MismatchingReportId))
 mismatch-plain true a plain = plain
 mismatch-plain false a plain = refl
 
@@ -119,7 +119,7 @@ id-plain (Some id) [] a plain = refl
 id-plain (Some id) (b ∷ bytes) a plain = mismatch-plain (b == id) a plain
 
 bounds-plain : {A : Type 0} (t : Bool) (a : Result A Refusal) → IsPlain a
-    → IsPlain (cond t a (Err Bounds))
+    → IsPlain (cond t a (Err OutOfBounds))
 bounds-plain true a plain = plain
 bounds-plain false a plain = refl
 

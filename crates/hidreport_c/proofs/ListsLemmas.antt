@@ -13,7 +13,7 @@ use Rattle.std.proofs.lemmas.List.{drop_all, length-drop, length-map, length-tak
 use Rattle.std.proofs.lemmas.List.{take_rest}
 use Rattle.std.specs.Prelude.{min}
 use Rattle.std.proofs.Math.Seq.{drop-nil, take-nil}
-use Rattle.hidreport.specs.Answer.{Refusal, Refuses, InvalidAt, Bounds, Mismatch, OverBudget}
+use Rattle.hidreport.specs.Answer.{Refusal, Refuses, InvalidData, OutOfBounds, MismatchingReportId, BudgetExceeded}
 use Rattle.hidreport.specs.Options.{parse_as}
 use Rattle.hidreport.specs.Records.{DescriptorRecord}
 use Rattle.hidreport.specs.ParserError.{ParserError}
@@ -107,6 +107,19 @@ part-joined xs ys old array new n sofar least is =
     ∙ ap (λ a. take n a ++ array_after ys (drop n a)) sofar
     ∙ written-behind xs ys old n most (omega (arith, room, whole)) (past-in past whole)
 
+-- the same with the count of what is listed
+pub more-joined : {A : Type 0} (before own old : List A) {all array new : List A}
+    {count there n total : ℕ} → all ≡ before ++ own → count ≡ length before
+    → there ≡ length own → total ≡ count + there → array ≡ array_after before old
+    → n ≡ min count (length array)
+    → new ≡ array_after own (take (length array - n) (drop n array))
+    → (total ≡ length all) × (put_mid n (length array - n) array new ≡ array_after all old)
+more-joined before own old {array = array} {new = new} {n = n} is size more sum sofar least fresh = (
+  omega (arith, sum, size, more, length-append before own, ap length is),
+  part-joined before own old array new n sofar (least ∙ ap (λ k. min k (length array)) size) fresh
+      ∙ ap (λ l. array_after l old) (sym is),
+)
+
 -- one part more behind those that were listed before
 next-part : {P A : Type 0} (f : P → A) (parts : List P) (i : ℕ) (p : P) (before : List A)
     → i < length parts → p ≡ get_or parts i p
@@ -198,14 +211,14 @@ pub says-refusal : {A : Type 0} (error : ParserError) (answer : Result A Refusal
     (old new : List ℕ) (told : HidreportAnswer) → Refuses error answer
     → Says (words_of error) old new told → Lists (message_in answer) old new told
 says-refusal (errors.InvalidData offset message) answer old new told h says =
-    says-as answer (InvalidAt offset (string_bytes message)) old new told h says
+    says-as answer (InvalidData offset (string_bytes message)) old new told h says
 says-refusal errors.OutOfBounds answer old new told h says =
-    says-as answer Bounds old new told h says
+    says-as answer OutOfBounds old new told h says
 says-refusal errors.MismatchingReportId answer old new told h says =
-    says-as answer Mismatch old new told h says
+    says-as answer MismatchingReportId old new told h says
 says-refusal errors.OutOfMemory answer old new told h says = inr says
 says-refusal (errors.BudgetExceeded offset) answer old new told h says =
-    says-as answer (OverBudget offset) old new told h says
+    says-as answer (BudgetExceeded offset) old new told h says
 
 -- what is told by the options that were chosen
 pub lists-chosen : {A O : Type 0} (chosen : Option O) (options : O)

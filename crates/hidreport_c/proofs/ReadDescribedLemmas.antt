@@ -2,7 +2,7 @@
 use Rattle.std.proofs.Common.{◌≡◌, ℕ, ℤ, Bool, cond, ◌||◌, List, [], ◌∷◌, ◌++◌, map}
 use Rattle.std.proofs.Common.{Result, Ok, Err, refl, ap, ◌∙◌}
 use Rattle.std.specs.List.{list_any}
-use Rattle.hidreport.specs.Answer.{Refusal, Mismatch}
+use Rattle.hidreport.specs.Answer.{Refusal, MismatchingReportId}
 use Rattle.hidreport.specs.Reader.{available_numbers, before_numbers, begins_otherwise, each_alone}
 use Rattle.hidreport.specs.Reader.{numbers_before, report_numbers, value_alone, values_alone}
 use Rattle.hidreport.specs.Reading.{ValueRecord, before_values, element, is_signed, reads}
@@ -42,9 +42,9 @@ listed-read (f ∷ read) bytes =
     ap (λ a. before_numbers a (numbers_in (map as_c read) bytes)) one
     ∙ ap (before_numbers (reads_numbers f bytes)) (listed-read read bytes)
 
-pub described-read : (fields : List HidreportField) (read : List FieldRecord) (bytes : List ℕ)
+pub described_read : (fields : List HidreportField) (read : List FieldRecord) (bytes : List ℕ)
     → fields ≡ map as_c read → numbers_in fields bytes ≡ report_numbers read bytes
-described-read fields read bytes is = ap (λ l. numbers_in l bytes) is ∙ listed-read read bytes
+described_read fields read bytes is = ap (λ l. numbers_in l bytes) is ∙ listed-read read bytes
 
 pub same-id : (f : FieldRecord) → id_of (as_c f) ≡ own_id f
 same-id (VariableRecord place usage shared) = id-again place.report_id
@@ -79,12 +79,12 @@ same-any (f ∷ read) bytes =
     ∙ ap (λ b. begins_otherwise bytes (own_id f) || b) (same-any read bytes)
 
 abbrev test : Bool → List ℤ → Result (List ℤ) Refusal
-test b numbers = cond b (Err Mismatch) (Ok numbers)
+test b numbers = cond b (Err MismatchingReportId) (Ok numbers)
 
-pub described-available : (fields : List HidreportField) (read : List FieldRecord)
+pub described_available : (fields : List HidreportField) (read : List FieldRecord)
     (bytes : List ℕ) → fields ≡ map as_c read
     → available_in fields bytes ≡ available_numbers read bytes
-described-available fields read bytes is =
+described_available fields read bytes is =
     ap (λ l. available_in l bytes) is
     ∙ ap (λ b. test b (numbers_before (alone_in (map as_c read) bytes))) (same-any read bytes)
     ∙ ap (λ l. test (list_any (otherwise_in bytes) read) (numbers_before l))

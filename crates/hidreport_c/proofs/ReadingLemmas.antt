@@ -8,7 +8,7 @@ use Rattle.std.proofs.Math.Dec.{leb}
 use Rattle.std.proofs.lemmas.Bool.Decides.{leb_tells}
 use Rattle.std.proofs.lemmas.List.{drop_more, get_or_default, length-map, take-append-drop, take_more}
 use Rattle.std.specs.Prelude.{◌==◌}
-use Rattle.hidreport.specs.Answer.{Refusal, Mismatch}
+use Rattle.hidreport.specs.Answer.{Refusal, MismatchingReportId}
 use Rattle.hidreport.specs.Choosing.{value_number}
 use Rattle.hidreport.specs.Reader.{before_numbers}
 use Rattle.hidreport.specs.Reading.{ValueRecord, with_id}
@@ -136,7 +136,7 @@ pub record IsAmong (bytes : List ℕ) (f : HidreportField) (ns all : List ℤ) :
   pub parts : (ns ++ map value_number values) ++ rest ≡ all
 
 by-id : (b : Bool) (a : Result (List ValueRecord) Refusal) (vs : List ValueRecord)
-    → cond b a (Err Mismatch) ≡ Ok vs → a ≡ Ok vs
+    → cond b a (Err MismatchingReportId) ≡ Ok vs → a ≡ Ok vs
 by-id true a vs h = h
 by-id false a vs h = cc
 

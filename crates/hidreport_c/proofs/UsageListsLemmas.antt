@@ -2,13 +2,14 @@
 use Rattle.std.proofs.Common.{◌≡◌, ℕ, ◌+◌, ◌<◌, ◌≤◌, List, [], ◌∷◌, ◌++◌, length, take, map, get_or}
 use Rattle.std.proofs.Common.{refl, ap, sym, ◌∙◌, arith, append-nil}
 use Rattle.std.proofs.lemmas.Grind.{flat_map-append}
-use Rattle.std.proofs.lemmas.List.{map-append, take_more}
+use Rattle.std.proofs.lemmas.List.{map-append, take_all, take_more}
 use Rattle.std.proofs.lemmas.List.Folds.{length-flat_map-take}
 use Rattle.std.specs.Prelude.{flat_map}
 use Rattle.hidreport.specs.Records.{FieldRecord, ReportRecord, fields_in_all, usages_in}
 use Rattle.hidreport.specs.UsageNumber.{usage_number}
 use Rattle.hidreport.specs.Views.{field_record}
 use Rattle.hidreport.specs.declared.field.Field.{Field}
+use Rattle.hidreport_c.specs.Answer.{array_after}
 use Rattle.hidreport_c.specs.UsageLists.{usages_in_all}
 
 -- the numbers of a field's usages, and of those of a report's fields
@@ -51,3 +52,12 @@ pub flat-within : {X B : Type 0} (g : X → List B) (xs : List X) (i : ℕ) (x :
 flat-within g xs i x within is =
     let one : length (g (get_or xs i x)) ≡ length (g x) = ap (λ y. length (g y)) (sym is) in
     omega (arith, length-flat_map-take g xs i x within, one)
+
+-- where all have been gone over, what is listed so far is all
+pub flat-all : {X : Type 0} (g : X → List ℕ) (xs : List X) (old : List ℕ) {i count : ℕ}
+    {new all : List ℕ} → flat_map g xs ≡ all → length xs ≤ i
+    → count ≡ length (flat_map g (take i xs)) → new ≡ array_after (flat_map g (take i xs)) old
+    → (count ≡ length all) × (new ≡ array_after all old)
+flat-all g xs old {i = i} whole past size is =
+    let e = ap (flat_map g) (take_all i xs past) ∙ whole in
+    (size ∙ ap length e, is ∙ ap (λ l. array_after l old) e)

@@ -6,7 +6,7 @@ use Rattle.std.proofs.Math.Dec.{leb}
 use Rattle.std.proofs.lemmas.Bool.{le-leb}
 use Rattle.std.proofs.lemmas.Bool.Decides.{leb_tells}
 use Rattle.std.specs.Prelude.{◌==◌, unwrap_or, if◌then◌else◌}
-use Rattle.hidreport.specs.Answer.{Refusal, Bounds, Mismatch}
+use Rattle.hidreport.specs.Answer.{Refusal, OutOfBounds, MismatchingReportId}
 use Rattle.hidreport.specs.Reading.{ValueRecord, element, is_signed, one_value, read_bits, with_id}
 use Rattle.hidreport.specs.Records.{FieldRecord, VariableRecord, ArrayRecord, ConstantRecord}
 use Rattle.hidreport_c.specs.Field.{as_c}
@@ -22,7 +22,7 @@ only-one (Ok v) = refl
 only-one (Err refusal) = refl
 
 only-test : (b : Bool) (r : Result ValueRecord Refusal)
-    → only (cond b (one_value r) (Err Mismatch)) ≡ cond b r (Err Mismatch)
+    → only (cond b (one_value r) (Err MismatchingReportId)) ≡ cond b r (Err MismatchingReportId)
 only-test true r = only-one r
 only-test false r = refl
 
@@ -38,7 +38,7 @@ first-test false c x y is = cc
 
 -- a range that ends where it begins, or before, is refused
 reversed : (first end : ℕ) (s : Bool) (bytes : List ℕ) → end ≤ first
-    → read_bits first end s bytes ≡ Err Bounds
+    → read_bits first end s bytes ≡ Err OutOfBounds
 reversed first end s bytes not_above =
     first-test (nat_le end first) _ _ _ (le-leb end first not_above)
 
@@ -85,5 +85,5 @@ value_at-described (VariableRecord place usage shared) bytes (suc n) =
 value_at-described (ArrayRecord place usages is_range count shared) bytes index =
     ap (λ id. cond (nat_lt index count)
     (with_id id bytes (element place.first place.end count (is_signed shared) bytes index))
-    (Err Bounds)) (id-again place.report_id)
+    (Err OutOfBounds)) (id-again place.report_id)
 value_at-described (ConstantRecord place) bytes index = past-count index 0 _ _ (omega arith)

@@ -7,7 +7,7 @@ use Rattle.std.proofs.Math.Dec.{leb}
 use Rattle.std.proofs.Math.Seq.{drop-nil, take-nil}
 use Rattle.std.proofs.lemmas.Bool.Decides.{nat_tests}
 use Rattle.std.specs.Prelude.{◌==◌, slice_get}
-use Rattle.hidreport.specs.Answer.{Refusal, Bounds, Mismatch}
+use Rattle.hidreport.specs.Answer.{Refusal, OutOfBounds, MismatchingReportId}
 use Rattle.hidreport.proofs.ElementLemmas.{elements-outside, elements-readable-by}
 use Rattle.hidreport.specs.Reading.{ValueRecord, before_values, element, each_value, with_id}
 use Rattle.hidreport.specs.Reading.{element_width}
@@ -70,7 +70,7 @@ elements-length first end count s bytes index (suc more) all h =
     ∙ ap suc (elements-length first end count s bytes (index + 1) more parts.1 parts.3)
 
 refused-where : (b : Bool) (x : ValueRecord) → b ≡ true
-    → cond b (Err Bounds) (Ok x) ≡ Err Bounds
+    → cond b (Err OutOfBounds) (Ok x) ≡ Err OutOfBounds
 refused-where true x h = refl
 refused-where false x h = cc
 
@@ -100,7 +100,7 @@ elements-accepted first end count last s bytes w counts is some narrow within =
 pub elements-past : (first end count last : ℕ) (s : Bool) (bytes : List ℕ) (w : ℕ)
     → count ≡ last + 1 → w ≡ element_width first end count
     → (0 < w → w ≤ 32 → 8 * length bytes < first + w * last + w)
-    → each_value (element first end count s bytes) 0 count ≡ Err Bounds
+    → each_value (element first end count s bytes) 0 count ≡ Err OutOfBounds
 elements-past first end count last s bytes w counts is past =
     let width = element_width first end count in
     elements-outside first end count s bytes count last (omega (arith, counts))
@@ -135,13 +135,13 @@ element-listed first end count s bytes index (suc more) all (suc j) x h within f
     (omega (arith, within)) (ap (λ i. element first end count s bytes i) here ∙ found)
 
 pub refused-not-ok : (r : Result (List ValueRecord) Refusal) (all : List ValueRecord)
-    → r ≡ Err Bounds → r ≡ Ok all → ⊥
+    → r ≡ Err OutOfBounds → r ≡ Ok all → ⊥
 refused-not-ok (Ok xs) all refused ok = cc
 refused-not-ok (Err e) all refused ok = cc
 
-test-place : {A : Type 0} (b : Bool) (x : A) (r : Refusal) → cond b (Err Bounds) (Ok x) ≡ Err r
+test-place : {A : Type 0} (b : Bool) (x : A) (r : Refusal) → cond b (Err OutOfBounds) (Ok x) ≡ Err r
     → offset_of r ≡ 0
-test-place true x r h = let is : Bounds ≡ r = cc in ap offset_of (sym is)
+test-place true x r h = let is : OutOfBounds ≡ r = cc in ap offset_of (sym is)
 test-place false x r h = cc
 
 first-place : (a : Result ValueRecord Refusal) (rest : Result (List ValueRecord) Refusal)
@@ -153,9 +153,9 @@ first-place (Ok x) (Err e) r h one more =
 first-place (Ok x) (Ok xs) r h one more = cc
 
 byte-place : (b : Bool) (a : Result (List ValueRecord) Refusal) (r : Refusal)
-    → cond b a (Err Mismatch) ≡ Err r → (a ≡ Err r → offset_of r ≡ 0) → offset_of r ≡ 0
+    → cond b a (Err MismatchingReportId) ≡ Err r → (a ≡ Err r → offset_of r ≡ 0) → offset_of r ≡ 0
 byte-place true a r h more = more h
-byte-place false a r h more = let is : Mismatch ≡ r = cc in ap offset_of (sym is)
+byte-place false a r h more = let is : MismatchingReportId ≡ r = cc in ap offset_of (sym is)
 
 elements-place : (first end count : ℕ) (s : Bool) (bytes : List ℕ) (index more : ℕ) (r : Refusal)
     → each_value (element first end count s bytes) index more ≡ Err r → offset_of r ≡ 0
@@ -168,7 +168,7 @@ elements-place first end count s bytes index (suc more) r h =
 id-place : (id : Option ℕ) (bytes : List ℕ) (a : Result (List ValueRecord) Refusal) (r : Refusal)
     → with_id id bytes a ≡ Err r → (a ≡ Err r → offset_of r ≡ 0) → offset_of r ≡ 0
 id-place None bytes a r h more = more h
-id-place (Some id) [] a r h more = let is : Bounds ≡ r = cc in ap offset_of (sym is)
+id-place (Some id) [] a r h more = let is : OutOfBounds ≡ r = cc in ap offset_of (sym is)
 id-place (Some id) (b ∷ bytes) a r h more = byte-place (b == id) a r h more
 
 told : (a : Result (List ValueRecord) Refusal) (status : ℕ)

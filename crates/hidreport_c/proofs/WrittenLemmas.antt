@@ -5,7 +5,7 @@ use Rattle.std.proofs.Common.{refl, ap, sym, ◌∙◌, arith}
 use Rattle.std.proofs.lemmas.Bool.Decides.{nat_tests}
 use Rattle.std.specs.Prelude.{◌==◌}
 use Rattle.std.specs.List.{list_all}
-use Rattle.hidreport.specs.Answer.{Refusal, Mismatch}
+use Rattle.hidreport.specs.Answer.{Refusal, MismatchingReportId}
 use Rattle.hidreport.specs.Reading.{ValueRecord, element, element_width, is_signed, one_value}
 use Rattle.hidreport.specs.Reading.{before_values, read_bits, reads, reads_element, values_of}
 use Rattle.hidreport.specs.Reading.{with_id}
@@ -38,7 +38,7 @@ where-one (Ok v) x = refl
 where-one (Err e) x = refl
 
 where-test : (b : Bool) (r : Result ValueRecord Refusal) (x : Result (List ℕ) InsertError)
-    → where_read (cond b (one_value r) (Err Mismatch)) x ≡ where_read (cond b r (Err Mismatch)) x
+    → where_read (cond b (one_value r) (Err MismatchingReportId)) x ≡ where_read (cond b r (Err MismatchingReportId)) x
 where-test true r x = where-one r x
 where-test false r x = refl
 

@@ -1,7 +1,7 @@
 -- Lists as C gets them: into an array of the caller's, which may be too short.
 use Rattle.std.specs.Prelude.{◌≡◌, ◌⊎◌, ℕ, List, [], ◌++◌, length, take, drop, Result, Ok, Err}
 use Rattle.std.specs.Prelude.{Option, None, Some}
-use Rattle.hidreport.specs.Answer.{Refusal, InvalidAt, Bounds, Mismatch, OverBudget}
+use Rattle.hidreport.specs.Answer.{Refusal, InvalidData, OutOfBounds, MismatchingReportId, BudgetExceeded}
 use Rattle.hidreport.specs.Options.{parse_as}
 use Rattle.hidreport.specs.Records.{DescriptorRecord}
 use Rattle.hidreport.specs.ParserError.{ParserError}
@@ -14,10 +14,10 @@ use Rattle.hidreport_c.specs.declared.options.HidreportOptions.{HidreportOptions
 
 -- where the refused item stands in the descriptor, 0 for a refusal without a place
 abbrev pub offset_of : Refusal → ℕ
-offset_of (InvalidAt offset message) = offset
-offset_of Bounds = 0
-offset_of Mismatch = 0
-offset_of (OverBudget offset) = offset
+offset_of (InvalidData offset message) = offset
+offset_of OutOfBounds = 0
+offset_of MismatchingReportId = 0
+offset_of (BudgetExceeded offset) = offset
 
 -- so many, and no refusal
 abbrev pub counted : ℕ → HidreportAnswer

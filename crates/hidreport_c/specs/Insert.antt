@@ -1,11 +1,10 @@
 -- Values of a field written into a report's bytes, by the field as C has it (Sections 5.6 and 5.8).
 use Rattle.std.specs.Prelude.{◌≡◌, ℕ, ◌+◌, ◌*◌, ◌==◌, pos, int_lt, zero, suc, if◌then◌else◌, Bool}
 use Rattle.std.specs.Prelude.{ℤ, List, [], ◌∷◌, length, Result, Ok, Err}
-use Rattle.std.specs.List.{list_all}
 use Rattle.hidreport.specs.Reading.{element_width}
 use Rattle.hidreport.specs.Records.{FieldRecord, VariableRecord, ArrayRecord, ConstantRecord}
 use Rattle.hidreport.specs.WritingLaws.{IsElementWritten, IsWritten}
-use Rattle.hidreport.specs.WritingValues.{begins_in_id, fits, put, where_read, written}
+use Rattle.hidreport.specs.WritingValues.{placed_by, where_read, written}
 use Rattle.hidreport.specs.WritingValues.{written_element}
 use Rattle.hidreport.specs.declared.field.insert_error.InsertError.{InsertError}
 use Rattle.hidreport.specs.declared.field.insert_error.InsertError.TheVariants as refused
@@ -22,11 +21,7 @@ is_signed_in f = int_lt f.measures.logical_minimum (pos 0)
 
 -- numbers from a bit on, where they don't lie in the id and each fits
 abbrev pub placed_at : HidreportField → ℕ → List ℤ → List ℕ → Result (List ℕ) InsertError
-placed_at f first numbers bytes =
-    if begins_in_id (id_of f) first then Err refused.OutOfBounds
-    else (if list_all (fits (width_of f) (is_signed_in f)) numbers
-    then Ok (put first (width_of f) numbers bytes)
-    else Err refused.DoesNotFit)
+placed_at f = placed_by (id_of f) (width_of f) (is_signed_in f)
 
 -- the bytes with all values of the field, or the first refusal
 abbrev pub written_at : HidreportField → List ℤ → List ℕ → Result (List ℕ) InsertError

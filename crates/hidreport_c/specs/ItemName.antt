@@ -11,14 +11,14 @@ use Rattle.hidreport_lists.specs.Itemising.{front_item}
 use Rattle.hidreport_usages.specs.FlagWords.{flag_text}
 use Rattle.hidreport_usages.specs.ItemWords.{collection_name, item_name}
 
--- the name of the item in front; no text where there is none
-abbrev pub name_in_front : Result Spelled GrammarFault → List ℕ
-name_in_front (Ok spelled) = item_name spelled.item
-name_in_front (Err fault) = []
+-- a text of the item in front; none where there is no item
+abbrev pub in_front : (ItemType → List ℕ) → Result Spelled GrammarFault → List ℕ
+in_front text (Ok spelled) = text spelled.item
+in_front text (Err fault) = []
 
 -- the name of the item that bytes begin with, if it can be read
 abbrev pub item_named : List ℕ → List ℕ
-item_named bytes = name_in_front (front_item item_of bytes)
+item_named bytes = in_front item_name (front_item item_of bytes)
 
 -- the flags of an Input, Output or Feature; an Input has no flag 7
 abbrev pub words_for : ItemType → List ℕ
@@ -27,14 +27,9 @@ words_for (kind.Main (main.Output flags)) = flag_text flags
 words_for (kind.Main (main.Feature flags)) = flag_text flags
 words_for item = []
 
--- its flags as words; no text where there is none
-abbrev pub words_in_front : Result Spelled GrammarFault → List ℕ
-words_in_front (Ok spelled) = words_for spelled.item
-words_in_front (Err fault) = []
-
--- those of the item that bytes begin with
+-- the words for the item that bytes begin with
 abbrev pub flags_named : List ℕ → List ℕ
-flags_named bytes = words_in_front (front_item item_of bytes)
+flags_named bytes = in_front words_for (front_item item_of bytes)
 
 -- the name of a kind of collection, by its number
 abbrev pub kind_named : ℕ → List ℕ

@@ -1,7 +1,7 @@
 -- What is wrong with a descriptor, as text.
 use Rattle.std.specs.Prelude.{◌≡◌, ℕ, List, [], codes, length, string_bytes, Result, Ok, Err}
 use Rattle.std.specs.Prelude.{Option, None, Some}
-use Rattle.hidreport.specs.Answer.{Refusal, InvalidAt, Bounds, Mismatch, OverBudget}
+use Rattle.hidreport.specs.Answer.{Refusal, InvalidData, OutOfBounds, MismatchingReportId, BudgetExceeded}
 use Rattle.hidreport.specs.ParserError.{ParserError}
 use Rattle.hidreport.specs.ParserError.TheVariants as errors
 use Rattle.hidreport_c.specs.Answer.{array_after, counted, no_memory}
@@ -9,10 +9,10 @@ use Rattle.hidreport_c.specs.declared.answer.HidreportAnswer.{HidreportAnswer}
 
 -- the words of a refusal, without where it stands
 abbrev pub message_of : Refusal → List ℕ
-message_of (InvalidAt offset message) = message
-message_of Bounds = codes "out of bounds"
-message_of Mismatch = codes "the bytes are of another report"
-message_of (OverBudget offset) = codes "budget exceeded"
+message_of (InvalidData offset message) = message
+message_of OutOfBounds = codes "out of bounds"
+message_of MismatchingReportId = codes "the bytes are of another report"
+message_of (BudgetExceeded offset) = codes "budget exceeded"
 
 -- what is refused is refused with its words; nothing is said of what isn't
 abbrev pub message_in : {A : Type 0} → Result A Refusal → Result (List ℕ) Refusal
@@ -22,10 +22,10 @@ message_in (Err refusal) = Ok (message_of refusal)
 -- the words of an error; none where memory was refused
 abbrev pub words_of : ParserError → Option (List ℕ)
 words_of (errors.InvalidData offset message) = Some (string_bytes message)
-words_of errors.OutOfBounds = Some (message_of Bounds)
-words_of errors.MismatchingReportId = Some (message_of Mismatch)
+words_of errors.OutOfBounds = Some (message_of OutOfBounds)
+words_of errors.MismatchingReportId = Some (message_of MismatchingReportId)
 words_of errors.OutOfMemory = None
-words_of (errors.BudgetExceeded offset) = Some (message_of (OverBudget offset))
+words_of (errors.BudgetExceeded offset) = Some (message_of (BudgetExceeded offset))
 
 -- these words are written, or it is told that memory was refused
 abbrev pub Says : Option (List ℕ) → List ℕ → List ℕ → HidreportAnswer → Type 0

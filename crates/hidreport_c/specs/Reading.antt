@@ -2,7 +2,7 @@
 use Rattle.std.specs.Prelude.{ℕ, ℤ, ◌^◌, nat_lt, if◌then◌else◌, List, [], ◌∷◌, length, flat_map}
 use Rattle.std.specs.Prelude.{Result, Ok, Err}
 use Rattle.std.specs.List.{list_any}
-use Rattle.hidreport.specs.Answer.{Refusal, Bounds, Mismatch}
+use Rattle.hidreport.specs.Answer.{Refusal, OutOfBounds, MismatchingReportId}
 use Rattle.hidreport.specs.Reader.{before_numbers, begins_otherwise, each_alone, numbers_before}
 use Rattle.hidreport.specs.Reading.{ValueRecord}
 use Rattle.hidreport_c.specs.Value.{element_at, id_of, value_numbers, values_at}
@@ -33,10 +33,10 @@ there_in fields bytes = numbers_before (alone_in fields bytes)
 -- bytes of another report are refused
 abbrev pub available_in : List HidreportField → List ℕ → Result (List ℤ) Refusal
 available_in fields bytes =
-    if list_any (λ (f : HidreportField). begins_otherwise bytes (id_of f)) fields then Err Mismatch
+    if list_any (λ (f : HidreportField). begins_otherwise bytes (id_of f)) fields then Err MismatchingReportId
     else Ok (there_in fields bytes)
 
 -- so are more numbers than 64 bits count
 abbrev pub if_countable : Result (List ℤ) Refusal → Result (List ℤ) Refusal
-if_countable (Ok numbers) = if nat_lt (length numbers) (2 ^ 64) then Ok numbers else Err Bounds
+if_countable (Ok numbers) = if nat_lt (length numbers) (2 ^ 64) then Ok numbers else Err OutOfBounds
 if_countable (Err refusal) = Err refusal

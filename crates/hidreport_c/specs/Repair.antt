@@ -4,8 +4,8 @@ use Rattle.std.specs.Prelude.{Option, None, Some}
 use Rattle.hidreport.specs.Repair.{ChangeRecord, RepairedRecord, repaired}
 use Rattle.hidreport.specs.declared.parse_options.ParseOptions.{ParseOptions}
 use Rattle.hidreport.specs.declared.repairing.repair_options.RepairOptions.{RepairOptions}
-use Rattle.hidreport_lists.specs.declared.mending.Mend.{Mend}
-use Rattle.hidreport_lists.specs.declared.mending.Mend.TheVariants as mend
+use Rattle.hidreport_lists.specs.declared.mending.Reason.{Reason}
+use Rattle.hidreport_lists.specs.declared.mending.Reason.TheVariants as reason
 use Rattle.hidreport_c.specs.Answer.{ListsBy, listed}
 use Rattle.hidreport_c.specs.Options.{options_of}
 use Rattle.hidreport_c.specs.declared.answer.HidreportAnswer.{HidreportAnswer}
@@ -26,13 +26,13 @@ repair_options_of mends (Some parse) =
     else None
 
 -- a number for each reason of a change
-abbrev pub reason_of : Mend → ℕ
-reason_of mend.NoData = 0
-reason_of mend.UnknownMainItem = 1
-reason_of mend.EndedLocal = 2
-reason_of mend.NoUsage = 3
-reason_of mend.UnsignedMaximum = 4
-reason_of mend.CutShort = 5
+abbrev pub reason_of : Reason → ℕ
+reason_of reason.NoData = 0
+reason_of reason.UnknownMainItem = 1
+reason_of reason.EndedLocal = 2
+reason_of reason.NoUsage = 3
+reason_of reason.UnsignedMaximum = 4
+reason_of reason.CutShort = 5
 
 -- where it is, how many bytes stood and stand there, and why
 abbrev pub change_as_c : ChangeRecord → HidreportChange
@@ -40,7 +40,7 @@ change_as_c c = record {
   offset = c.offset;
   stood = length c.stood;
   stands = length c.stands;
-  reason = reason_of c.mend;
+  reason = reason_of c.reason;
 }
 
 -- the changes as C has them

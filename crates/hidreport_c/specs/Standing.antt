@@ -1,5 +1,5 @@
 -- The value of an array that stands for a usage, and one that stands for none (Section 6.2.2.5).
-use Rattle.std.specs.Prelude.{◌≡◌, ◌≢◌, ◌==◌, true, false, ◌≤ℤ◌, ℕ, ℤ, pos, MatchBool, List}
+use Rattle.std.specs.Prelude.{◌≡◌, ◌==◌, true, false, ℕ, ℤ, pos, MatchBool, List}
 use Rattle.std.specs.Prelude.{length, Option, None, Some}
 use Rattle.hidreport.specs.Standing.{IsLeastFor, IsNullNumber}
 use Rattle.hidreport.specs.declared.field.usage.Usage.{Usage}

@@ -1,7 +1,7 @@
 -- A value of a field, read by the field as C has it (Sections 5.6 and 5.8).
 use Rattle.std.specs.Prelude.{ℕ, pos, int_lt, nat_lt, zero, suc, if◌then◌else◌, List, [], ◌∷◌, map}
 use Rattle.std.specs.Prelude.{ℤ, Option, None, Some, Result, Ok, Err}
-use Rattle.hidreport.specs.Answer.{Refusal, Bounds}
+use Rattle.hidreport.specs.Answer.{Refusal, OutOfBounds}
 use Rattle.hidreport.specs.Choosing.{value_number}
 use Rattle.hidreport.specs.Reading.{ValueRecord, element, each_value, reads, reads_element}
 use Rattle.hidreport.specs.Reading.{with_id}
@@ -24,7 +24,7 @@ element_at f bytes index =
 abbrev pub value_at : HidreportField → List ℕ → ℕ → Result ValueRecord Refusal
 value_at f bytes index =
     if nat_lt index f.value_count then with_id (id_of f) bytes (element_at f bytes index)
-    else Err Bounds
+    else Err OutOfBounds
 
 -- its number, or the number of the refusal
 abbrev pub as_value : Result ValueRecord Refusal → HidreportValue
@@ -33,7 +33,7 @@ as_value (Err refusal) = record { number = pos 0; status = status_of refusal }
 
 -- the value of a list that has one
 abbrev pub only : Result (List ValueRecord) Refusal → Result ValueRecord Refusal
-only (Ok []) = Err Bounds
+only (Ok []) = Err OutOfBounds
 only (Ok (v ∷ vs)) = Ok v
 only (Err refusal) = Err refusal
 
@@ -41,10 +41,10 @@ only (Err refusal) = Err refusal
 abbrev pub extracted_value : FieldRecord → List ℕ → ℕ → Result ValueRecord Refusal
 extracted_value (VariableRecord place usage shared) bytes zero =
     only (reads (VariableRecord place usage shared) bytes)
-extracted_value (VariableRecord place usage shared) bytes (suc n) = Err Bounds
+extracted_value (VariableRecord place usage shared) bytes (suc n) = Err OutOfBounds
 extracted_value (ArrayRecord place usages is_range count shared) bytes index =
     reads_element (ArrayRecord place usages is_range count shared) bytes index
-extracted_value (ConstantRecord place) bytes index = Err Bounds
+extracted_value (ConstantRecord place) bytes index = Err OutOfBounds
 
 -- the numbers of values
 abbrev pub value_numbers : Result (List ValueRecord) Refusal → Result (List ℤ) Refusal

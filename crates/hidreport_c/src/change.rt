@@ -7,7 +7,7 @@ use crate::answer::{HidreportAnswer, refusal};
 use crate::options::HidreportOptions;
 use crate::part::{Part, write};
 use crate::status::UNKNOWN_OPTION;
-use hidreport::{Change, Mend, repair};
+use hidreport::{Change, Reason, repair};
 use std::alloc::Global;
 
 /// A place of a descriptor where something else stands after its repair (`struct
@@ -37,22 +37,22 @@ impl Part for Change {
             offset: self.offset,
             stood: self.stood.len(),
             stands: self.stands.len(),
-            reason: reason_of(self.mend),
+            reason: reason_of(self.reason),
         }
     }
 }
 
 /// The number of a reason.
-fn reason_of(mend: Mend) -> u32
-    ensures { result ≡ reason_of mend }
+fn reason_of(reason: Reason) -> u32
+    ensures { result ≡ reason_of reason }
 {
-    match mend {
-        Mend::NoData => 0,
-        Mend::UnknownMainItem => 1,
-        Mend::EndedLocal => 2,
-        Mend::NoUsage => 3,
-        Mend::UnsignedMaximum => 4,
-        Mend::CutShort => 5,
+    match reason {
+        Reason::NoData => 0,
+        Reason::UnknownMainItem => 1,
+        Reason::EndedLocal => 2,
+        Reason::NoUsage => 3,
+        Reason::UnsignedMaximum => 4,
+        Reason::CutShort => 5,
     }
 }
 

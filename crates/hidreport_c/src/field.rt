@@ -244,50 +244,14 @@ pub(crate) fn measures(
     HidreportMeasures {
         logical_minimum: i32::from(logical.0),
         logical_maximum: i32::from(logical.1),
-        physical_minimum: minimum_or_0(physical.0),
-        physical_maximum: maximum_or_0(physical.1),
-        unit: unit_or_0(unit.0),
-        unit_exponent: exponent_or_0(unit.1),
+        physical_minimum: physical.0.map_or(0, i32::from),
+        physical_maximum: physical.1.map_or(0, i32::from),
+        unit: unit.0.map_or(0, u32::from),
+        unit_exponent: unit.1.map_or(0, i32::from),
         has_physical_minimum: physical.0.is_some(),
         has_physical_maximum: physical.1.is_some(),
         has_unit: unit.0.is_some(),
         has_unit_exponent: unit.1.is_some(),
-    }
-}
-
-fn minimum_or_0(minimum: Option<PhysicalMinimum>) -> i32
-    ensures { result ≡ unwrap_or minimum (pos 0) }
-{
-    match minimum {
-        Some(minimum) => i32::from(minimum),
-        None => 0,
-    }
-}
-
-fn maximum_or_0(maximum: Option<PhysicalMaximum>) -> i32
-    ensures { result ≡ unwrap_or maximum (pos 0) }
-{
-    match maximum {
-        Some(maximum) => i32::from(maximum),
-        None => 0,
-    }
-}
-
-fn unit_or_0(unit: Option<Unit>) -> u32
-    ensures { result ≡ unwrap_or unit 0 }
-{
-    match unit {
-        Some(unit) => u32::from(unit),
-        None => 0,
-    }
-}
-
-fn exponent_or_0(exponent: Option<UnitExponent>) -> i32
-    ensures { result ≡ unwrap_or exponent (pos 0) }
-{
-    match exponent {
-        Some(exponent) => i32::from(exponent),
-        None => 0,
     }
 }
 

@@ -99,7 +99,7 @@ fn write_at(item: HidreportItem, place: usize, items: &mut [HidreportItem])
 }
 
 /// A descriptor written anew (Section 6.2.2.2), as `hid::rebuild` does: its items without long ones
-/// and those of a kind that the standard keeps for later, each in its canonical bytes. They are
+/// and reserved ones, each in its canonical bytes. They are
 /// written and counted as `hidreport_describe` says, and refused as `hidreport_items` says.
 #[unsafe(no_mangle)]
 pub extern "C" fn hidreport_rebuild(

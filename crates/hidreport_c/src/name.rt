@@ -42,7 +42,7 @@ pub extern "C" fn hidreport_usage_name(
 }
 
 /// The name of a usage page (Section 6.2.2.7), likewise; empty for a page that the HID Usage Tables
-/// keep for later.
+/// reserve.
 #[unsafe(no_mangle)]
 pub extern "C" fn hidreport_page_name(alloc: Global, page: u16, text: &mut [u8]) -> HidreportAnswer
     ensures { Lists (Ok (or_nothing (page_name page))) text.old text.new result }

@@ -23,6 +23,7 @@ use crate::status::{MISMATCHING_REPORT_ID, OUT_OF_BOUNDS};
 /// than can be counted, and then nothing is written. Of the fields of a report that the library
 /// described they are the numbers that its `Reader::read` reads (`reader`).
 #[unsafe(no_mangle)]
+#[tactic(auto, using(crate::proofs::ReadDescribedLemmas::described_read))]
 pub extern "C" fn hidreport_read(
     fields: &[HidreportField],
     report: &[u8],
@@ -55,6 +56,7 @@ pub extern "C" fn hidreport_read(
 /// than can be counted with 2; then nothing is written. Of the fields of a report that the library
 /// described they are the numbers that its `Reader::read_available` reads (`reader`).
 #[unsafe(no_mangle)]
+#[tactic(auto, using(crate::proofs::ReadDescribedLemmas::described_available))]
 pub extern "C" fn hidreport_read_available(
     fields: &[HidreportField],
     report: &[u8],

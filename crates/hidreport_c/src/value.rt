@@ -1,6 +1,6 @@
 ghost use Rattle.std.specs.Prelude.{◌≡◌, ◌+◌, ◌*◌, ◌<◌, ◌≤◌, ◌^◌, false, Err, Ok, IfSome};
 ghost use Rattle.std.specs.Prelude.{IsNone, IsOk, IsTrue};
-ghost use Rattle.hidreport.specs.Answer.{Bounds};
+ghost use Rattle.hidreport.specs.Answer.{OutOfBounds};
 ghost use Rattle.hidreport.specs.Spelling.{AreBytes};
 ghost use Rattle.hidreport.specs.Reading.{element_width, reads, with_id};
 ghost use Rattle.hidreport.specs.Records.{FieldRecord};
@@ -171,7 +171,7 @@ impl HidreportField {
             ≡ element_width self.now.first_bit self.now.end_bit self.now.value_count }
         requires counted { self.now.first_bit + width * self.now.value_count < 2 ^ 64 }
         ensures value { IfSome result (λ value. element_at self.now report.now index ≡ Ok value) }
-        ensures outside { IsNone result → element_at self.now report.now index ≡ Err Bounds }
+        ensures outside { IsNone result → element_at self.now report.now index ≡ Err OutOfBounds }
     {
         let first = self.first_bit + width * index;
         let bits = first..first + width;

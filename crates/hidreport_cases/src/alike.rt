@@ -6,7 +6,8 @@ use std::alloc::Global;
 
 /// Answers `alike BYTES / BYTES`: whether both descriptors are the same in all parts, which is the
 /// same asked either way.
-pub fn add_is_alike(alloc: Global, text: &mut String, words: &str) -> Result<(), Malformed> {
+pub fn add_is_alike(text: &mut String, words: &str) -> Result<(), Malformed> {
+    let alloc = *text.allocator();
     let (first, second) = parts_of(words)?;
     let first = read(alloc, first)?;
     let second = read(alloc, second)?;

@@ -14,27 +14,26 @@ const LONGEST: usize = 2048;
 /// Flips each bit of a report behind its id, in each direction in which the report is found with
 /// all its bits. Appends a line for each bit that changes another value than its own.
 pub fn add_flips(
-    alloc: Global,
     text: &mut String,
     tally: &mut Tally,
     descriptor: &ReportDescriptor,
     bytes: &[u8],
 ) -> Result<(), AllocError> {
     let found = descriptor.find_input_report(bytes);
-    add_flips_of(alloc, text, tally, found, bytes)?;
+    add_flips_of(text, tally, found, bytes)?;
     let found = descriptor.find_output_report(bytes);
-    add_flips_of(alloc, text, tally, found, bytes)?;
+    add_flips_of(text, tally, found, bytes)?;
     let found = descriptor.find_feature_report(bytes);
-    add_flips_of(alloc, text, tally, found, bytes)
+    add_flips_of(text, tally, found, bytes)
 }
 
 fn add_flips_of(
-    alloc: Global,
     text: &mut String,
     tally: &mut Tally,
     found: Option<&RDescReport>,
     bytes: &[u8],
 ) -> Result<(), AllocError> {
+    let alloc = *text.allocator();
     let Some(report) = found else {
         return Ok(());
     };

@@ -88,7 +88,7 @@ fn answer_to(
     question: &str,
 ) -> Result<String, AllocError> {
     let mut text = String::new(alloc);
-    match add_answer(alloc, &mut text, tally, asked, question) {
+    match add_answer(&mut text, tally, asked, question) {
         Ok(()) => Ok(text),
         Err(Malformed::Memory) => Err(AllocError),
         Err(malformed) => format!(in alloc; "{MALFORMED}{malformed}\n"),

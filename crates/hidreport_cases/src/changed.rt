@@ -5,7 +5,7 @@ use crate::readings::{add_all, add_element, add_value};
 use crate::words::{bytes_of, first_of, number_of, parts_of, signed_of};
 use hidreport::types::{LogicalMinimum, ReportCount};
 use hidreport::{ArrayField, Field, FieldValue, ParserError, VariableField};
-use std::alloc::{AllocError, Global};
+use std::alloc::AllocError;
 use std::fmt::Write;
 
 /// The range of bits, the count and the logical minimum that a field is given.
@@ -19,12 +19,8 @@ pub struct Parts {
 
 /// Answers `changed FIELD FIRST..END COUNT MINIMUM / BYTES`: what the field with this number reads
 /// of a report's bytes once its parts are these. The count of a variable field counts for nothing.
-pub fn add_changed(
-    alloc: Global,
-    text: &mut String,
-    asked: &Asked,
-    words: &str,
-) -> Result<(), Malformed> {
+pub fn add_changed(text: &mut String, asked: &Asked, words: &str) -> Result<(), Malformed> {
+    let alloc = *text.allocator();
     let (words, bytes) = parts_of(words)?;
     let (number, words) = number_and_words(words)?;
     let parts = parts_in(words)?;
@@ -56,6 +52,14 @@ pub fn number_and_words(words: &str) -> Result<(u32, &str), Malformed> {
         Ok(number) => Ok((number, words)),
         Err(_large) => Err(Malformed::Number),
     }
+}
+
+/// The field that a question names, the parts that it gets, what is written, and the bytes.
+pub fn asked_parts(words: &str) -> Result<(u32, Parts, &str, &str), Malformed> {
+    let (words, behind) = parts_of(words)?;
+    let (written, bytes) = parts_of(behind)?;
+    let (number, words) = number_and_words(words)?;
+    Ok((number, parts_in(words)?, written, bytes))
 }
 
 /// The parts that words write.
@@ -101,12 +105,8 @@ fn add_some(text: &mut String, field: &ArrayField, bytes: &[u8]) -> Result<(), A
 
 /// Answers `low-bits FIELD / BYTES`: a line for each value, whether it is signed, and its low bits
 /// as each number.
-pub fn add_low_bits(
-    alloc: Global,
-    text: &mut String,
-    asked: &Asked,
-    words: &str,
-) -> Result<(), Malformed> {
+pub fn add_low_bits(text: &mut String, asked: &Asked, words: &str) -> Result<(), Malformed> {
+    let alloc = *text.allocator();
     let (number, bytes) = parts_of(words)?;
     let Ok(number) = u32::try_from(number_of(number)?) else {
         return Err(Malformed::Number);

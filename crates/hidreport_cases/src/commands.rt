@@ -12,9 +12,9 @@ use std::fmt::Write;
 /// Answers `command NAME DESCRIPTOR`, `command NAME DESCRIPTOR / REPORT` and
 /// `command values-within LIMIT DESCRIPTOR / REPORT`: the status, and each line that is written,
 /// behind a bar.
-pub fn add_command(alloc: Global, text: &mut String, words: &str) -> Result<(), Malformed> {
+pub fn add_command(text: &mut String, words: &str) -> Result<(), Malformed> {
     let (command, words) = command_in(words)?;
-    let written = run_on(alloc, text, command, words)?;
+    let written = run_on(text, command, words)?;
     Ok(add_lines(text, &written)?)
 }
 
@@ -42,16 +42,12 @@ fn limited_command_in<'a>(name: &str, words: &'a str) -> Result<(Command, &'a st
 }
 
 /// Appends the status that a command ends with on these bytes. Gives what it writes.
-fn run_on(
-    alloc: Global,
-    text: &mut String,
-    command: Command,
-    words: &str,
-) -> Result<String, Malformed> {
+fn run_on(text: &mut String, command: Command, words: &str) -> Result<String, Malformed> {
+    let alloc = *text.allocator();
     let (descriptor, report) = words.split_once(" / ").unwrap_or((words, "-"));
     let descriptor = bytes_of(alloc, descriptor)?;
     let report = bytes_of(alloc, report)?;
-    written_by(alloc, text, command, &descriptor, &report)
+    written_by(text, command, &descriptor, &report)
 }
 
 /// Appends each line of a text behind a bar.
@@ -66,12 +62,12 @@ fn add_lines(text: &mut String, written: &str) -> Result<(), AllocError> {
 
 /// Appends the status that a run ends with. Gives what it writes, or the line of its fault.
 fn written_by(
-    alloc: Global,
     text: &mut String,
     command: Command,
     descriptor: &[u8],
     report: &[u8],
 ) -> Result<String, Malformed> {
+    let alloc = *text.allocator();
     let mut descriptor = FromRead::new(descriptor);
     let mut report = FromRead::new(report);
     let mut written = Vec::new(alloc);
@@ -91,7 +87,8 @@ fn written_by(
 
 /// Answers `words WORD..`: the command and the files that the words ask for; `''` is the empty
 /// word.
-pub fn add_words(alloc: Global, text: &mut String, words: &str) -> Result<(), Malformed> {
+pub fn add_words(text: &mut String, words: &str) -> Result<(), Malformed> {
+    let alloc = *text.allocator();
     let words = owned(alloc, words)?;
     Ok(add_answer(text, &words)?)
 }

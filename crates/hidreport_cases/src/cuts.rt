@@ -20,12 +20,8 @@ struct Front {
 
 /// Cuts a descriptor to its first byte, its first two, and so on up to all. Appends a line for each
 /// cut that is answered otherwise than its items are.
-pub fn add_cuts(
-    alloc: Global,
-    text: &mut String,
-    tally: &mut Tally,
-    bytes: &[u8],
-) -> Result<(), AllocError> {
+pub fn add_cuts(text: &mut String, tally: &mut Tally, bytes: &[u8]) -> Result<(), AllocError> {
+    let alloc = *text.allocator();
     let mut front = Front {
         end: 0,
         refusal: String::new(alloc),

@@ -71,14 +71,13 @@ pub fn options_of(way: Way) -> ParseOptions {
 /// Appends the refusal of a descriptor, or its reports with their fields. Gives back the
 /// descriptor.
 pub fn add_descriptor(
-    alloc: Global,
     text: &mut String,
     ids: Ids,
     answer: Result<ReportDescriptor, ParserError>,
 ) -> Result<Option<ReportDescriptor>, AllocError> {
     match answer {
         Ok(descriptor) => {
-            add_directions(alloc, text, ids, &descriptor)?;
+            add_directions(text, ids, &descriptor)?;
             Ok(Some(descriptor))
         }
         Err(error) => {
@@ -89,7 +88,6 @@ pub fn add_descriptor(
 }
 
 fn add_directions(
-    alloc: Global,
     text: &mut String,
     ids: Ids,
     descriptor: &ReportDescriptor,
@@ -97,9 +95,9 @@ fn add_directions(
     if has_no_reports(descriptor) {
         return text.push_str("no reports\n");
     }
-    add_reports(alloc, text, ids, "input", descriptor.input_reports())?;
-    add_reports(alloc, text, ids, "output", descriptor.output_reports())?;
-    add_reports(alloc, text, ids, "feature", descriptor.feature_reports())
+    add_reports(text, ids, "input", descriptor.input_reports())?;
+    add_reports(text, ids, "output", descriptor.output_reports())?;
+    add_reports(text, ids, "feature", descriptor.feature_reports())
 }
 
 pub fn has_no_reports(descriptor: &ReportDescriptor) -> bool {
@@ -109,7 +107,6 @@ pub fn has_no_reports(descriptor: &ReportDescriptor) -> bool {
 }
 
 fn add_reports(
-    alloc: Global,
     text: &mut String,
     ids: Ids,
     direction: &str,
@@ -118,7 +115,7 @@ fn add_reports(
     for report in reports {
         add_heading(text, direction, report)?;
         for field in report.fields() {
-            add_field_and_copy(alloc, text, ids, field)?;
+            add_field_and_copy(text, ids, field)?;
         }
     }
     Ok(())
@@ -135,12 +132,8 @@ fn add_heading(text: &mut String, direction: &str, report: &RDescReport) -> Resu
 }
 
 /// Appends a field's line, and says so where its copy has another.
-fn add_field_and_copy(
-    alloc: Global,
-    text: &mut String,
-    ids: Ids,
-    field: &Field,
-) -> Result<(), AllocError> {
+fn add_field_and_copy(text: &mut String, ids: Ids, field: &Field) -> Result<(), AllocError> {
+    let alloc = *text.allocator();
     let mut line = String::new(alloc);
     add_field(&mut line, field, ids)?;
     text.push_str(line.as_str())?;
@@ -169,7 +162,8 @@ pub fn add_refusal(text: &mut String, error: &ParserError) -> Result<(), AllocEr
 
 /// Appends how many reports, bits and fields a great descriptor announces in each direction, and in
 /// how many collections the first and the last of the fields lie.
-pub fn add_many(alloc: Global, text: &mut String, way: Way, words: &str) -> Result<(), Malformed> {
+pub fn add_many(text: &mut String, way: Way, words: &str) -> Result<(), Malformed> {
+    let alloc = *text.allocator();
     let bytes = bytes_of(alloc, words)?;
     match read(alloc, way, &bytes) {
         Ok(descriptor) => add_counts(text, &descriptor)?,

@@ -1,55 +1,42 @@
 //! Usages as hosts read them.
 use crate::descriptors::{Way, add_refusal, has_no_reports, read};
+use crate::directions::{DIRECTIONS, add_title};
 use crate::malformed::Malformed;
 use crate::words::bytes_of;
-use hidreport::{Field, RDescReport, Report, ReportDescriptor, Usage};
-use std::alloc::{AllocError, Global};
+use hidreport::{Field, Report, ReportDescriptor, Usage};
+use std::alloc::AllocError;
 use std::fmt::Write;
 
 /// Answers `host-usages BYTES`: a line for each report, with the usage of each field; those of an
 /// array in brackets, more that count up as their first and last; `-` for padding; of fields that
 /// are alike and follow each other how many there are.
-pub fn add_host_usages(alloc: Global, text: &mut String, words: &str) -> Result<(), Malformed> {
+pub fn add_host_usages(text: &mut String, words: &str) -> Result<(), Malformed> {
+    let alloc = *text.allocator();
     let bytes = bytes_of(alloc, words)?;
     match read(alloc, Way::Hosts, &bytes) {
-        Ok(descriptor) => add_directions(alloc, text, &descriptor)?,
+        Ok(descriptor) => add_directions(text, &descriptor)?,
         Err(error) => add_refusal(text, &error)?,
     }
     Ok(())
 }
 
-fn add_directions(
-    alloc: Global,
-    text: &mut String,
-    descriptor: &ReportDescriptor,
-) -> Result<(), AllocError> {
+fn add_directions(text: &mut String, descriptor: &ReportDescriptor) -> Result<(), AllocError> {
     if has_no_reports(descriptor) {
         return text.push_str("no reports\n");
     }
-    add_reports(alloc, text, "input", descriptor.input_reports())?;
-    add_reports(alloc, text, "output", descriptor.output_reports())?;
-    add_reports(alloc, text, "feature", descriptor.feature_reports())
-}
-
-fn add_reports(
-    alloc: Global,
-    text: &mut String,
-    direction: &str,
-    reports: &[RDescReport],
-) -> Result<(), AllocError> {
-    for report in reports {
-        text.push_str(direction)?;
-        if let Some(id) = report.report_id() {
-            write!(text, " id {id}")?;
+    for (name, direction) in &DIRECTIONS {
+        for report in descriptor.reports(*direction) {
+            add_title(text, name, report)?;
+            text.push_str(":")?;
+            add_fields(text, report.fields())?;
+            text.push_str("\n")?;
         }
-        text.push_str(":")?;
-        add_fields(alloc, text, report.fields())?;
-        text.push_str("\n")?;
     }
     Ok(())
 }
 
-fn add_fields(alloc: Global, text: &mut String, fields: &[Field]) -> Result<(), AllocError> {
+fn add_fields(text: &mut String, fields: &[Field]) -> Result<(), AllocError> {
+    let alloc = *text.allocator();
     let mut last = String::new(alloc);
     let mut count: usize = 0;
     for field in fields {

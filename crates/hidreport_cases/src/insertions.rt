@@ -1,34 +1,28 @@
 //! Values that are written into reports' bytes.
 use crate::asked::Asked;
-use crate::changed::{number_and_words, parts_in, with_bits, with_elements};
+use crate::changed::{asked_parts, number_and_words, with_bits, with_elements};
+use crate::directions::DIRECTIONS;
 use crate::kinds::add_bytes;
 use crate::malformed::Malformed;
-use crate::words::{bytes_of, first_of, number_of, parts_of, word_of};
-use hidreport::{ArrayField, Field, InsertError, RDescReport, Report, Usage, VariableField};
+use crate::words::{bytes_of, first_of, number_of, word_of};
+use hidreport::{ArrayField, Field, InsertError, Report, Usage, VariableField};
 use std::alloc::{AllocError, Global};
 use std::fmt::Write;
 
 /// Answers `insert FIELD FIRST..END COUNT MINIMUM / NUMBER .. / BYTES`: the bytes once the field,
 /// with these parts, has the numbers. The count of a variable field counts for nothing.
-pub fn add_inserted(
-    alloc: Global,
-    text: &mut String,
-    asked: &Asked,
-    words: &str,
-) -> Result<(), Malformed> {
-    let (words, behind) = parts_of(words)?;
-    let (numbers, bytes) = parts_of(behind)?;
-    let (number, words) = number_and_words(words)?;
-    let parts = parts_in(words)?;
+pub fn add_inserted(text: &mut String, asked: &Asked, words: &str) -> Result<(), Malformed> {
+    let alloc = *text.allocator();
+    let (number, parts, numbers, bytes) = asked_parts(words)?;
     let field = asked.field(number)?;
     let numbers = numbers_of(alloc, numbers)?;
     let bytes = bytes_of(alloc, bytes)?;
     match field {
         Field::Variable(field) => {
-            add_with_value(alloc, text, &with_bits(field, parts)?, &bytes, &numbers)
+            add_with_value(text, &with_bits(field, parts)?, &bytes, &numbers)
         }
         Field::Array(field) => {
-            add_with_values(alloc, text, &with_elements(field, parts)?, &bytes, &numbers)?;
+            add_with_values(text, &with_elements(field, parts)?, &bytes, &numbers)?;
             Ok(())
         }
         Field::Constant(_) => Err(Malformed::Field),
@@ -37,31 +31,32 @@ pub fn add_inserted(
 
 /// Appends a report's bytes once a variable field has the number.
 fn add_with_value(
-    alloc: Global,
     text: &mut String,
     field: &VariableField,
     before: &[u8],
     numbers: &[i64],
 ) -> Result<(), Malformed> {
+    let alloc = *text.allocator();
     let Some(value) = numbers.first() else {
         return Err(Malformed::Number);
     };
     let mut bytes = Vec::from_slice(alloc, before)?;
     let answer = field.insert(&mut bytes, *value);
     add_outcome(text, answer, before, &bytes)?;
-    add_reading(text, answer, field, &bytes, *value)?;
+    let read = field.extract(&bytes).ok().map(i64::from);
+    add_reading(text, answer, read, *value)?;
     text.push_str("\n")?;
     Ok(())
 }
 
 /// The same of an array that has all the numbers.
 fn add_with_values(
-    alloc: Global,
     text: &mut String,
     field: &ArrayField,
     before: &[u8],
     numbers: &[i64],
 ) -> Result<(), AllocError> {
+    let alloc = *text.allocator();
     let mut bytes = Vec::from_slice(alloc, before)?;
     let answer = field.insert(&mut bytes, numbers);
     add_outcome(text, answer, before, &bytes)?;
@@ -71,38 +66,32 @@ fn add_with_values(
 
 /// Answers `insert-one FIELD FIRST..END COUNT MINIMUM / INDEX NUMBER / BYTES`: the bytes once this
 /// element of the array, with these parts, has the number.
-pub fn add_inserted_one(
-    alloc: Global,
-    text: &mut String,
-    asked: &Asked,
-    words: &str,
-) -> Result<(), Malformed> {
-    let (words, behind) = parts_of(words)?;
-    let (element, bytes) = parts_of(behind)?;
-    let (number, words) = number_and_words(words)?;
-    let parts = parts_in(words)?;
+pub fn add_inserted_one(text: &mut String, asked: &Asked, words: &str) -> Result<(), Malformed> {
+    let alloc = *text.allocator();
+    let (number, parts, element, bytes) = asked_parts(words)?;
     let (index, value) = first_of(element)?;
     let place = (number_of(index)?, wide_of(value)?);
     let Field::Array(field) = asked.field(number)? else {
         return Err(Malformed::Field);
     };
     let bytes = bytes_of(alloc, bytes)?;
-    add_with_element(alloc, text, &with_elements(field, parts)?, &bytes, place)?;
+    add_with_element(text, &with_elements(field, parts)?, &bytes, place)?;
     Ok(())
 }
 
 /// Appends a report's bytes once an element of an array has the number.
 fn add_with_element(
-    alloc: Global,
     text: &mut String,
     field: &ArrayField,
     before: &[u8],
     (index, value): (usize, i64),
 ) -> Result<(), AllocError> {
+    let alloc = *text.allocator();
     let mut bytes = Vec::from_slice(alloc, before)?;
     let answer = field.insert_one(&mut bytes, index, value);
     add_outcome(text, answer, before, &bytes)?;
-    add_element_reading(text, answer, field, &bytes, (index, value))?;
+    let read = field.extract_one(&bytes, index).ok().map(i64::from);
+    add_reading(text, answer, read, value)?;
     text.push_str("\n")
 }
 
@@ -135,29 +124,14 @@ fn add_hex(text: &mut String, bytes: &[u8]) -> Result<(), AllocError> {
     }
 }
 
-/// Appends what the field reads, where that isn't what was written.
+/// Says so where what is read isn't what was written.
 fn add_reading(
     text: &mut String,
     answer: Result<(), InsertError>,
-    field: &VariableField,
-    bytes: &[u8],
-    value: i64,
+    read: Option<i64>,
+    written: i64,
 ) -> Result<(), AllocError> {
-    if answer.is_ok() && field.extract(bytes).ok().map(i64::from) != Some(value) {
-        text.push_str(" and reads otherwise")?;
-    }
-    Ok(())
-}
-
-/// The same of an element.
-fn add_element_reading(
-    text: &mut String,
-    answer: Result<(), InsertError>,
-    field: &ArrayField,
-    bytes: &[u8],
-    (index, value): (usize, i64),
-) -> Result<(), AllocError> {
-    if answer.is_ok() && field.extract_one(bytes, index).ok().map(i64::from) != Some(value) {
+    if answer.is_ok() && read != Some(written) {
         text.push_str(" and reads otherwise")?;
     }
     Ok(())
@@ -172,7 +146,8 @@ fn add_readings(
     numbers: &[i64],
 ) -> Result<(), AllocError> {
     for (index, value) in numbers.iter().enumerate() {
-        add_element_reading(text, answer, field, bytes, (index, *value))?;
+        let read = field.extract_one(bytes, index).ok().map(i64::from);
+        add_reading(text, answer, read, *value)?;
     }
     Ok(())
 }
@@ -217,25 +192,15 @@ fn add_value(text: &mut String, value: Option<i64>) -> Result<(), AllocError> {
 }
 
 /// Answers `blank`: the bytes without values of each report of the last descriptor.
-pub fn add_blanks(alloc: Global, text: &mut String, asked: &Asked) -> Result<(), Malformed> {
+pub fn add_blanks(text: &mut String, asked: &Asked) -> Result<(), Malformed> {
     let descriptor = asked.descriptor()?;
-    add_blanks_of(alloc, text, "input", descriptor.input_reports())?;
-    add_blanks_of(alloc, text, "output", descriptor.output_reports())?;
-    add_blanks_of(alloc, text, "feature", descriptor.feature_reports())?;
-    Ok(())
-}
-
-fn add_blanks_of(
-    alloc: Global,
-    text: &mut String,
-    direction: &str,
-    reports: &[RDescReport],
-) -> Result<(), AllocError> {
-    for report in reports {
-        let bytes = report.blank(alloc)?;
-        write!(text, "{direction} ")?;
-        add_hex(text, &bytes)?;
-        text.push_str("\n")?;
+    for (name, direction) in &DIRECTIONS {
+        for report in descriptor.reports(*direction) {
+            let bytes = report.blank(*text.allocator())?;
+            write!(text, "{name} ")?;
+            add_hex(text, &bytes)?;
+            text.push_str("\n")?;
+        }
     }
     Ok(())
 }

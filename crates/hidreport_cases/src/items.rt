@@ -11,25 +11,25 @@ use std::fmt::Write;
 
 /// Appends a line of what the reader of items makes of a slice: the item and the bytes that it
 /// writes, or the refusal.
-pub fn add_item(alloc: Global, text: &mut String, bytes: &[u8]) -> Result<(), AllocError> {
+pub fn add_item(text: &mut String, bytes: &[u8]) -> Result<(), AllocError> {
+    let alloc = *text.allocator();
     match ItemType::try_from(alloc, bytes) {
-        Ok(item) => add_whole(alloc, text, &item),
-        Err(error) => {
-            add_item_refusal(text, &error)?;
-            text.push_str("\n")
-        }
+        Ok(item) => add_whole(text, &item),
+        Err(error) => add_refused(text, &error),
     }
 }
 
 /// Appends a line of an item: its name and its parts, and the bytes that it writes.
-pub fn add_whole(alloc: Global, text: &mut String, item: &ItemType) -> Result<(), AllocError> {
+pub fn add_whole(text: &mut String, item: &ItemType) -> Result<(), AllocError> {
+    let alloc = *text.allocator();
     add_name(text, item)?;
     text.push_str(" = ")?;
     add_written(text, item.as_bytes(alloc))
 }
 
 /// Appends the bytes of the short item that an item is written as, without any memory.
-pub fn add_short_of(alloc: Global, text: &mut String, bytes: &[u8]) -> Result<(), AllocError> {
+pub fn add_short_of(text: &mut String, bytes: &[u8]) -> Result<(), AllocError> {
+    let alloc = *text.allocator();
     match ItemType::try_from(alloc, bytes) {
         Ok(item) => match ShortItem::from_item_type(&item) {
             Ok(short) => add_bytes(text, short.bytes())?,
@@ -49,6 +49,12 @@ pub fn add_written(
         Ok(bytes) => add_bytes(text, &bytes)?,
         Err(error) => add_item_refusal(text, &error)?,
     }
+    text.push_str("\n")
+}
+
+/// Appends a line of a refusal.
+pub fn add_refused(text: &mut String, error: &HidError) -> Result<(), AllocError> {
+    add_item_refusal(text, error)?;
     text.push_str("\n")
 }
 
@@ -177,13 +183,14 @@ fn add_local_name(text: &mut String, item: &LocalItem) -> Result<(), AllocError>
 }
 
 /// Appends the items that a descriptor is cut into, a line each, or the fault.
-pub fn add_list(alloc: Global, text: &mut String, bytes: &[u8]) -> Result<(), AllocError> {
+pub fn add_list(text: &mut String, bytes: &[u8]) -> Result<(), AllocError> {
+    let alloc = *text.allocator();
     match ReportDescriptorItems::try_from(alloc, bytes) {
         Ok(items) => {
             for item in items.as_slice() {
                 let offset = item.offset();
                 write!(text, "{offset} ")?;
-                add_parts(alloc, text, item.item())?;
+                add_parts(text, item.item())?;
             }
             Ok(())
         }

@@ -1,18 +1,12 @@
 //! Reports by their direction and id, and what their fields are for.
 use crate::asked::Asked;
+use crate::directions::DIRECTIONS;
 use crate::kinds::add_usages;
 use crate::malformed::Malformed;
 use crate::words::number_of;
 use hidreport::{Collection, Direction, Report, ReportDescriptor, ReportId};
 use std::alloc::AllocError;
 use std::fmt::Write;
-
-/// The directions with their names.
-static DIRECTIONS: [(&str, Direction); 3] = [
-    ("input", Direction::Input),
-    ("output", Direction::Output),
-    ("feature", Direction::Feature),
-];
 
 /// Answers `by-id ID ..`: for each id, `-` for none, the reports of the last descriptor that have
 /// it, each with its direction, its bits, and the usages of each field in brackets.

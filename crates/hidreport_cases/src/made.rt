@@ -11,15 +11,14 @@ use hidreport::types::{
     StringIndex, StringMaximum, StringMinimum, Unit, UnitExponent, UsageId, UsageMaximum,
     UsageMinimum, UsagePage,
 };
-use std::alloc::Global;
 use std::fmt::Write;
 
 /// Answers `made NAME NUMBER`: the item of this name, made of the number, and the bytes that it
 /// writes.
-pub fn add_made(alloc: Global, text: &mut String, words: &str) -> Result<(), Malformed> {
+pub fn add_made(text: &mut String, words: &str) -> Result<(), Malformed> {
     let (name, number) = kind_of(words);
     match item_of(name, number) {
-        Ok(item) => Ok(add_whole(alloc, text, &item)?),
+        Ok(item) => Ok(add_whole(text, &item)?),
         Err(malformed) => Err(malformed),
     }
 }

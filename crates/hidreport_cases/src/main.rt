@@ -11,6 +11,7 @@ mod changed;
 mod commands;
 mod cuts;
 mod descriptors;
+mod directions;
 mod fields;
 mod host_usages;
 mod insertions;

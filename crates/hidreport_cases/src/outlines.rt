@@ -9,12 +9,12 @@ use std::alloc::{AllocError, Global};
 /// Appends a line where an outline of these bytes isn't what was read, or isn't refused as `text`
 /// says.
 pub fn add_outline(
-    alloc: Global,
     text: &mut String,
     way: Way,
     bytes: &[u8],
     read: Option<&ReportDescriptor>,
 ) -> Result<(), AllocError> {
+    let alloc = *text.allocator();
     let is_same = match (Outline::try_from_with(alloc, bytes, options_of(way)), read) {
         (Ok(outline), Some(descriptor)) => has_all(alloc, &outline, descriptor)?,
         (Err(error), None) => {

@@ -6,7 +6,8 @@ use hidreport::hid::rebuild;
 use std::alloc::{AllocError, Global};
 
 /// Appends the bytes that are rebuilt, `-` for none, or the refusal.
-pub fn add_rebuilt(alloc: Global, text: &mut String, bytes: &[u8]) -> Result<(), AllocError> {
+pub fn add_rebuilt(text: &mut String, bytes: &[u8]) -> Result<(), AllocError> {
+    let alloc = *text.allocator();
     match rebuild(alloc, bytes) {
         Ok(rebuilt) => {
             if rebuilt.is_empty() {
@@ -21,7 +22,8 @@ pub fn add_rebuilt(alloc: Global, text: &mut String, bytes: &[u8]) -> Result<(),
 
 /// Appends a line where rebuilt bytes aren't answered as those that they are rebuilt from, or
 /// aren't rebuilt as themselves.
-pub fn add_alike(alloc: Global, text: &mut String, bytes: &[u8]) -> Result<(), AllocError> {
+pub fn add_alike(text: &mut String, bytes: &[u8]) -> Result<(), AllocError> {
+    let alloc = *text.allocator();
     if is_alike(alloc, bytes)? {
         Ok(())
     } else {
@@ -59,7 +61,7 @@ fn is_answered_so(alloc: Global, rebuilt: &[u8], answer: &str) -> Result<bool, A
 fn shape_of(alloc: Global, bytes: &[u8]) -> Result<String, AllocError> {
     let mut text = String::new(alloc);
     let answer = read(alloc, Way::All, bytes);
-    add_descriptor(alloc, &mut text, Ids::LeftOut, answer)?;
+    add_descriptor(&mut text, Ids::LeftOut, answer)?;
     Ok(text)
 }
 

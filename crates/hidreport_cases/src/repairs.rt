@@ -3,14 +3,15 @@ use crate::descriptors::add_refusal;
 use crate::kinds::add_bytes;
 use crate::malformed::Malformed;
 use crate::words::{bytes_of, number_of, parts_of};
-use hidreport::{Change, Mend, PushKeeps, RepairOptions, UsagesBy, repair};
-use std::alloc::{AllocError, Global};
+use hidreport::{Change, PushKeeps, Reason, RepairOptions, UsagesBy, repair};
+use std::alloc::AllocError;
 use std::fmt::Write;
 
 /// Answers `repair WORD .. / BYTES`: the repaired bytes, and a line for each change, or the
 /// refusal. A word is `as-usual`, `all`, `globals`, `standard`, `hosts`, `cut-short`, `unsigned`,
 /// `within=NUMBER` or `longest=NUMBER`.
-pub fn add_repaired(alloc: Global, text: &mut String, words: &str) -> Result<(), Malformed> {
+pub fn add_repaired(text: &mut String, words: &str) -> Result<(), Malformed> {
+    let alloc = *text.allocator();
     let (words, bytes) = parts_of(words)?;
     let options = options_of(words)?;
     let bytes = bytes_of(alloc, bytes)?;
@@ -59,13 +60,13 @@ fn add_change(text: &mut String, change: &Change) -> Result<(), AllocError> {
         text.push_str("-")?;
     }
     add_bytes(text, &change.stands)?;
-    let why = match change.mend {
-        Mend::NoData => "no data",
-        Mend::UnknownMainItem => "unknown main item",
-        Mend::EndedLocal => "local of an unknown main item",
-        Mend::NoUsage => "no usage",
-        Mend::UnsignedMaximum => "unsigned maximum",
-        Mend::CutShort => "cut short",
+    let why = match change.reason {
+        Reason::NoData => "no data",
+        Reason::UnknownMainItem => "unknown main item",
+        Reason::EndedLocal => "local of an unknown main item",
+        Reason::NoUsage => "no usage",
+        Reason::UnsignedMaximum => "unsigned maximum",
+        Reason::CutShort => "cut short",
     };
     text.push_str(" ")?;
     text.push_str(why)?;

@@ -2,12 +2,13 @@
 use crate::malformed::Malformed;
 use crate::words::{bytes_of, parts_of};
 use hidreport::{Field, Fraction, Report, ReportDescriptor, VariableField};
-use std::alloc::{AllocError, Global};
+use std::alloc::AllocError;
 use std::fmt::Write;
 
 /// Answers `scaled BYTES / NUMBER ..`: what each number stands for in the descriptor's first input
 /// field, between its physical bounds and between -1 and 1.
-pub fn add_scaled(alloc: Global, text: &mut String, words: &str) -> Result<(), Malformed> {
+pub fn add_scaled(text: &mut String, words: &str) -> Result<(), Malformed> {
+    let alloc = *text.allocator();
     let (bytes, numbers) = parts_of(words)?;
     let bytes = bytes_of(alloc, bytes)?;
     let Ok(descriptor) = ReportDescriptor::try_from(alloc, &bytes) else {

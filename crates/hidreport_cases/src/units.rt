@@ -4,12 +4,13 @@ use crate::question::kind_of;
 use crate::words::{signed_of, word_of};
 use hidreport::Usage;
 use hidreport::types::{Unit, UnitExponent, Units, UsageMaximum, UsageMinimum};
-use std::alloc::{AllocError, Global};
+use std::alloc::AllocError;
 use std::fmt::Write;
 
 /// Answers `unit NUMBER`: the unit's text, the number of its system and its own; what stands at
 /// each place; and the units that it has.
-pub fn add_unit(alloc: Global, text: &mut String, words: &str) -> Result<(), Malformed> {
+pub fn add_unit(text: &mut String, words: &str) -> Result<(), Malformed> {
+    let alloc = *text.allocator();
     let unit = Unit::from(word_of(words)?);
     let (system, number) = (u32::from(unit.system()), u32::from(unit));
     writeln!(text, "'{unit}' system {system} number {number:08x}")?;

@@ -4,7 +4,7 @@ use crate::changed::number_and_words;
 use crate::malformed::Malformed;
 use crate::words::{bytes_of, number_of, parts_of, word_of};
 use hidreport::{ArrayField, Field, Usage, UsageRange};
-use std::alloc::{AllocError, Global};
+use std::alloc::AllocError;
 use std::fmt::Write;
 
 /// The array with this number.
@@ -54,12 +54,8 @@ fn add_usage(text: &mut String, usage: Option<&Usage>) -> Result<(), AllocError>
 }
 
 /// Answers `usage-of FIELD / BYTES`: the usages that the array's values stand for.
-pub fn add_chosen(
-    alloc: Global,
-    text: &mut String,
-    asked: &Asked,
-    words: &str,
-) -> Result<(), Malformed> {
+pub fn add_chosen(text: &mut String, asked: &Asked, words: &str) -> Result<(), Malformed> {
+    let alloc = *text.allocator();
     let (number, bytes) = parts_of(words)?;
     let Ok(number) = u32::try_from(number_of(number)?) else {
         return Err(Malformed::Number);

@@ -1,77 +1,38 @@
 //! The values of whole reports, read in one pass.
 use crate::asked::Asked;
+use crate::directions::{DIRECTIONS, add_title};
 use crate::malformed::Malformed;
 use crate::words::{bytes_of, number_of, parts_of};
-use hidreport::{Field, ParserError, RDescReport, Reader, Report, ReportDescriptor};
+use hidreport::{Direction, Field, ParserError, RDescReport, Reader, Report, ReportDescriptor};
 use std::alloc::{AllocError, Global};
 use std::fmt::Write;
 
 /// Answers `reader ROOM / BYTES`: a line for each report of the last descriptor, with how many values
 /// it has, then for `read` and for `read_available` how many there are, or why not, and in brackets
 /// what then stands in a room of so many values that were -9.
-pub fn add_read_at_once(
-    alloc: Global,
-    text: &mut String,
-    asked: &Asked,
-    words: &str,
-) -> Result<(), Malformed> {
+pub fn add_read_at_once(text: &mut String, asked: &Asked, words: &str) -> Result<(), Malformed> {
+    let alloc = *text.allocator();
     let (room, digits) = parts_of(words)?;
     let room = number_of(room)?;
     let bytes = bytes_of(alloc, digits)?;
     let descriptor = asked.descriptor()?;
-    add_reports(
-        alloc,
-        text,
-        "input",
-        descriptor.input_reports(),
-        room,
-        &bytes,
-    )?;
-    add_reports(
-        alloc,
-        text,
-        "output",
-        descriptor.output_reports(),
-        room,
-        &bytes,
-    )?;
-    add_reports(
-        alloc,
-        text,
-        "feature",
-        descriptor.feature_reports(),
-        room,
-        &bytes,
-    )?;
-    Ok(())
-}
-
-fn add_reports(
-    alloc: Global,
-    text: &mut String,
-    direction: &str,
-    reports: &[RDescReport],
-    room: usize,
-    bytes: &[u8],
-) -> Result<(), AllocError> {
-    for report in reports {
-        text.push_str(direction)?;
-        if let Some(id) = report.report_id() {
-            write!(text, " id {id}")?;
+    for (name, direction) in &DIRECTIONS {
+        for report in descriptor.reports(*direction) {
+            add_title(text, name, report)?;
+            add_report(text, report, room, &bytes)?;
+            text.push_str("\n")?;
         }
-        add_report(alloc, text, report, room, bytes)?;
-        text.push_str("\n")?;
     }
     Ok(())
 }
 
 fn add_report(
-    alloc: Global,
     text: &mut String,
     report: &RDescReport,
     room: usize,
     bytes: &[u8],
 ) -> Result<(), AllocError> {
+    let alloc = *text.allocator();
     let reader = Reader::new(alloc, report)?;
     let count = reader.value_count();
     write!(text, " {count} values:")?;
@@ -104,22 +65,22 @@ fn add_answer(
 
 /// Appends a line for each report that is read in one pass otherwise than field by field.
 pub fn add_read_otherwise(
-    alloc: Global,
     text: &mut String,
     descriptor: &ReportDescriptor,
     bytes: &[u8],
 ) -> Result<(), AllocError> {
-    add_otherwise(alloc, text, descriptor.input_reports(), bytes)?;
-    add_otherwise(alloc, text, descriptor.output_reports(), bytes)?;
-    add_otherwise(alloc, text, descriptor.feature_reports(), bytes)
+    for direction in Direction::ALL {
+        add_otherwise(text, descriptor.reports(direction), bytes)?;
+    }
+    Ok(())
 }
 
 fn add_otherwise(
-    alloc: Global,
     text: &mut String,
     reports: &[RDescReport],
     bytes: &[u8],
 ) -> Result<(), AllocError> {
+    let alloc = *text.allocator();
     for report in reports {
         let reader = Reader::new(alloc, report)?;
         let room = reader.value_count().min(bytes.len().saturating_mul(8));

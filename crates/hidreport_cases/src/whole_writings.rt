@@ -1,67 +1,57 @@
 //! The values of whole reports, written in one pass.
 use crate::asked::Asked;
+use crate::directions::{DIRECTIONS, add_title};
 use crate::insertions::{add_outcome, numbers_of};
 use crate::malformed::Malformed;
 use crate::words::{bytes_of, parts_of};
-use hidreport::{Field, InsertError, RDescReport, Reader, Report, ReportDescriptor};
+use hidreport::{Direction, Field, InsertError, RDescReport, Reader, Report, ReportDescriptor};
 use std::alloc::{AllocError, Global};
 use std::fmt::Write;
 
 /// Answers `writer NUMBER .. / BYTES`: a line for each report of the last descriptor, with the bytes
 /// once they have the numbers, or why not.
-pub fn add_written_at_once(
-    alloc: Global,
-    text: &mut String,
-    asked: &Asked,
-    words: &str,
-) -> Result<(), Malformed> {
+pub fn add_written_at_once(text: &mut String, asked: &Asked, words: &str) -> Result<(), Malformed> {
+    let alloc = *text.allocator();
     let (numbers, digits) = parts_of(words)?;
     let numbers = numbers_of(alloc, numbers)?;
     let bytes = bytes_of(alloc, digits)?;
     let descriptor = asked.descriptor()?;
-    let inputs = descriptor.input_reports();
-    add_reports(alloc, text, "input", inputs, &numbers, &bytes)?;
-    let outputs = descriptor.output_reports();
-    add_reports(alloc, text, "output", outputs, &numbers, &bytes)?;
-    let features = descriptor.feature_reports();
-    add_reports(alloc, text, "feature", features, &numbers, &bytes)?;
+    for (name, direction) in &DIRECTIONS {
+        for report in descriptor.reports(*direction) {
+            add_title(text, name, report)?;
+            add_report(text, report, &numbers, &bytes)?;
+        }
+    }
     Ok(())
 }
 
-fn add_reports(
-    alloc: Global,
+fn add_report(
     text: &mut String,
-    direction: &str,
-    reports: &[RDescReport],
+    report: &RDescReport,
     numbers: &[i64],
     before: &[u8],
 ) -> Result<(), AllocError> {
-    for report in reports {
-        text.push_str(direction)?;
-        if let Some(id) = report.report_id() {
-            write!(text, " id {id}")?;
-        }
-        text.push_str(": ")?;
-        let mut bytes = Vec::from_slice(alloc, before)?;
-        let answer = Reader::new(alloc, report)?.write(&mut bytes, numbers);
-        add_outcome(text, answer, before, &bytes)?;
-        text.push_str("\n")?;
-    }
-    Ok(())
+    let alloc = *text.allocator();
+    text.push_str(": ")?;
+    let mut bytes = Vec::from_slice(alloc, before)?;
+    let answer = Reader::new(alloc, report)?.write(&mut bytes, numbers);
+    add_outcome(text, answer, before, &bytes)?;
+    text.push_str("\n")
 }
 
 /// Appends a line for each report that is written in one pass otherwise than field by field: with
 /// what is read of the bytes, over these and over others.
 pub fn add_written_otherwise(
-    alloc: Global,
     text: &mut String,
     descriptor: &ReportDescriptor,
     bytes: &[u8],
 ) -> Result<(), AllocError> {
+    let alloc = *text.allocator();
     let turned = turned(alloc, bytes)?;
-    add_otherwise(alloc, text, descriptor.input_reports(), bytes, &turned)?;
-    add_otherwise(alloc, text, descriptor.output_reports(), bytes, &turned)?;
-    add_otherwise(alloc, text, descriptor.feature_reports(), bytes, &turned)
+    for direction in Direction::ALL {
+        add_otherwise(text, descriptor.reports(direction), bytes, &turned)?;
+    }
+    Ok(())
 }
 
 /// Bytes whose bits behind the first byte are turned round.
@@ -76,12 +66,12 @@ fn turned(alloc: Global, bytes: &[u8]) -> Result<Vec<u8>, AllocError> {
 }
 
 fn add_otherwise(
-    alloc: Global,
     text: &mut String,
     reports: &[RDescReport],
     bytes: &[u8],
     turned: &[u8],
 ) -> Result<(), AllocError> {
+    let alloc = *text.allocator();
     for report in reports {
         let reader = Reader::new(alloc, report)?;
         let room = reader.value_count().min(bytes.len().saturating_mul(8));

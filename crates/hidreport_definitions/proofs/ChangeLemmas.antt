@@ -6,7 +6,7 @@ use Rattle.std.specs.Prelude.{option_map}
 use Rattle.std.specs.List.{cons_option}
 use Rattle.std.proofs.Math.Seq.{drop-append-add, drop-append_seam, take-append-add}
 use Rattle.std.proofs.Math.Seq.{take-append_seam}
-use Rattle.hidreport_lists.specs.declared.mending.Mend.{Mend}
+use Rattle.hidreport_lists.specs.declared.mending.Reason.{Reason}
 use Rattle.hidreport.specs.Mending.{PieceRecord}
 use Rattle.hidreport.specs.Repair.{ChangeRecord, RepairedRecord, change_in, change_of, joined}
 use Rattle.hidreport.specs.RepairLaws.{AreInPlace, IsOneItem, IsRepairOf, StandsAsItStood}
@@ -101,19 +101,19 @@ all-made : (offset : ℕ) (ps : List PieceRecord) → AreInPlace offset ps → E
     → AreMade offset (stood_in ps) (joined ps) (changes_in ps)
 all-made offset [] places same = record { behind = tt; stood = tt; written = refl }
 all-made offset (p ∷ ps) places same =
-    by-mend p.mend refl (all-made (offset + length p.stood) ps places.1 same.1)
+    by-reason p.reason refl (all-made (offset + length p.stood) ps places.1 same.1)
   where
-    by-mend : (m : Option Mend) → p.mend ≡ m
+    by-reason : (m : Option Reason) → p.reason ≡ m
         → AreMade (offset + length p.stood) (stood_in ps) (joined ps) (changes_in ps)
         → AreMade offset (stood_in (p ∷ ps)) (joined (p ∷ ps)) (changes_in (p ∷ ps))
-    by-mend None e rest =
+    by-reason None e rest =
         let named : changes_in (p ∷ ps) ≡ changes_in ps =
         ap (λ m. cons_option (option_map (λ why. change_of why p) m) (changes_in ps)) e in
         subst (AreMade offset (stood_in (p ∷ ps)) (joined (p ∷ ps))) (sym named)
         (subst (λ l. AreMade offset (stood_in (p ∷ ps)) (l ++ joined ps) (changes_in ps))
         (sym (same.0 e))
         (in-front offset p.stood (stood_in ps) (joined ps) (changes_in ps) rest))
-    by-mend (Some why) e rest =
+    by-reason (Some why) e rest =
         let named : changes_in (p ∷ ps) ≡ change_of why p ∷ changes_in ps =
         ap (λ m. cons_option (option_map (λ why. change_of why p) m) (changes_in ps)) e in
         subst (AreMade offset (stood_in (p ∷ ps)) (joined (p ∷ ps))) (sym named)
@@ -135,16 +135,16 @@ repair-made bytes r is =
 one-each : (ps : List PieceRecord) → Each StoodAsOne ps
     → Each (λ (c : ChangeRecord). IsOneItem c.stood) (changes_in ps)
 one-each [] one = tt
-one-each (p ∷ ps) one = by-mend p.mend refl (one-each ps one.1)
+one-each (p ∷ ps) one = by-reason p.reason refl (one-each ps one.1)
   where
-    by-mend : (m : Option Mend) → p.mend ≡ m
+    by-reason : (m : Option Reason) → p.reason ≡ m
         → Each (λ (c : ChangeRecord). IsOneItem c.stood) (changes_in ps)
         → Each (λ (c : ChangeRecord). IsOneItem c.stood) (changes_in (p ∷ ps))
-    by-mend None e rest =
+    by-reason None e rest =
         let named : changes_in (p ∷ ps) ≡ changes_in ps =
         ap (λ m. cons_option (option_map (λ why. change_of why p) m) (changes_in ps)) e in
         subst (λ l. Each (λ (c : ChangeRecord). IsOneItem c.stood) l) (sym named) rest
-    by-mend (Some why) e rest =
+    by-reason (Some why) e rest =
         let named : changes_in (p ∷ ps) ≡ change_of why p ∷ changes_in ps =
         ap (λ m. cons_option (option_map (λ why. change_of why p) m) (changes_in ps)) e in
         subst (λ l. Each (λ (c : ChangeRecord). IsOneItem c.stood) l) (sym named) (one.0, rest)

@@ -7,7 +7,7 @@ use Rattle.hidreport.specs.ItemType.{ItemType}
 use Rattle.hidreport.specs.OpenCollections.{depth, IsOpen, stays_deep, is_open}
 use Rattle.hidreport.specs.Visibility.{level, IsVisible, stays_up, is_visible}
 
-both : (a b : Bool) → (a && b) ≡ true → (a ≡ true) × (b ≡ true)
+pub both : (a b : Bool) → (a && b) ≡ true → (a ≡ true) × (b ≡ true)
 both true b e = (refl, e)
 both false b e = cc
 

@@ -1,6 +1,6 @@
 -- Repaired descriptors, and lists of items, whose laws rows tell.
 use Rattle.std.specs.Prelude.{ℕ, false, List, [], ◌∷◌}
-use Rattle.hidreport_lists.specs.declared.mending.Mend.TheVariants as mend
+use Rattle.hidreport_lists.specs.declared.mending.Reason.TheVariants as reason
 use Rattle.hidreport.specs.Flags.{flags_of}
 use Rattle.hidreport.specs.GlobalItem.TheVariants as global
 use Rattle.hidreport.specs.ItemType.{ItemType}
@@ -18,12 +18,12 @@ repaired_to text changes = record { bytes = hex text; changes = changes }
 -- at an offset a text's bytes became those of another, for want of usages
 abbrev pub padded_at : ℕ → List ℕ → List ℕ → ChangeRecord
 padded_at offset stood stands =
-    record { offset = offset; stood = hex stood; stands = hex stands; mend = mend.NoUsage }
+    record { offset = offset; stood = hex stood; stands = hex stands; reason = reason.NoUsage }
 
 -- at an offset a text's bytes were left out, as an unknown main item
 abbrev pub left_out_at : ℕ → List ℕ → ChangeRecord
 left_out_at offset stood =
-    record { offset = offset; stood = hex stood; stands = []; mend = mend.UnknownMainItem }
+    record { offset = offset; stood = hex stood; stands = []; reason = reason.UnknownMainItem }
 
 -- what Linux's hid-core reads without asking
 abbrev pub as_hid_core : RepairOptions
@@ -35,11 +35,7 @@ as_hid_core = record {
 
 -- the same where a Push keeps globals alone
 abbrev pub by_globals : RepairOptions
-by_globals = record {
-  parse = globals_only_options;
-  leave_out_cut_short = false;
-  unsigned_maxima = false;
-}
+by_globals = record as_hid_core { parse = globals_only_options }
 
 -- an Input and an Output with the flags of a number
 abbrev pub input : ℕ → ItemType

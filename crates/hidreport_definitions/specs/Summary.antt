@@ -1,7 +1,8 @@
 -- What a descriptor announces, in short, for the rows.
 use Rattle.std.specs.Prelude.{ℕ, ℤ, Bool, pos, true, false, List, [], ◌∷◌, map, flat_map, Option, None}
-use Rattle.std.specs.Prelude.{Some, option_map, Result, Ok, Err}
-use Rattle.hidreport.specs.Answer.{Refusal}
+use Rattle.std.specs.Prelude.{Some, option_map, Result, Ok, Err, codes}
+use Rattle.hidreport.specs.Answer.{InvalidData, Refusal}
+use Rattle.hidreport.specs.CollectionItem.{CollectionItem}
 use Rattle.hidreport.specs.Faults.{Counts}
 use Rattle.hidreport.specs.Flags.{Flags}
 use Rattle.hidreport.specs.GlobalItem.TheVariants as global
@@ -19,7 +20,9 @@ use Rattle.hidreport.specs.Records.{DescriptorRecord}
 use Rattle.hidreport.specs.Runs.{RunRecord}
 use Rattle.hidreport.specs.UsageNumber.{usage_number}
 use Rattle.hidreport.specs.UsageRange.{RangeRecord}
-use Rattle.hidreport.specs.Usages.{make_usage}
+use Rattle.hidreport.specs.Choosing.{usage_chosen}
+use Rattle.hidreport.specs.Usages.{make_usage, range_from}
+use Rattle.hidreport.specs.declared.field.usage.Usage.{Usage}
 use Rattle.hidreport_definitions.specs.Hex.{hex}
 
 -- a field: its first bit, the bit behind its last, and its usages, each as one number
@@ -84,6 +87,34 @@ host_summary = summary_as host_options
 abbrev pub inputs : List ReportSummary → Result DescriptorSummary Refusal
 inputs reports = Ok (record { input = reports; output = []; feature = [] })
 
+-- refused at this offset: a main item has no usages
+abbrev pub no_usages : {A : Type 0} → ℕ → Result A Refusal
+no_usages offset = Err (InvalidData offset (codes "Missing Usages for main item"))
+
+-- a usage has no page
+abbrev pub no_page : {A : Type 0} → ℕ → Result A Refusal
+no_page offset = Err (InvalidData offset (codes "Missing UsagePage in globals"))
+
+-- a minimum has no maximum
+abbrev pub no_maximum : {A : Type 0} → ℕ → Result A Refusal
+no_maximum offset = Err (InvalidData offset (codes "Missing UsageMaximum in locals"))
+
+-- a Pop has no Push
+abbrev pub no_push : {A : Type 0} → ℕ → Result A Refusal
+no_push offset = Err (InvalidData offset (codes "Too many Pops, not enough Pushes"))
+
+-- one input report without an id, of so many bits and with these fields
+abbrev pub one_input : ℕ → List FieldRecord → Result DescriptorRecord Refusal
+one_input size fields = Ok (record {
+  input = record { id = None; size = size; fields = fields } ∷ [];
+  output = [];
+  feature = [];
+})
+
+-- the first collection, with one usage
+abbrev pub one_collection : CollectionItem → Usage → List CollectionRecord
+one_collection kind usage = record { id = 0; kind = kind; usages = usage ∷ [] } ∷ []
+
 -- accepted, and no reports
 abbrev pub no_reports : Result DescriptorSummary Refusal
 no_reports = Ok (record { input = []; output = []; feature = [] })
@@ -135,6 +166,10 @@ unsigned_value n = record { word = n; is_signed = false }
 
 abbrev pub signed_value : ℕ → ValueRecord
 signed_value n = record { word = n; is_signed = true }
+
+-- the usage that a value chooses among eight buttons, between these bounds
+abbrev pub of_eight : ℤ → ℤ → ℤ → Option Usage
+of_eight minimum maximum number = usage_chosen (range_from 9 1 8) minimum maximum number
 
 -- no flag at all, and that of a variable item alone
 abbrev pub no_flags : Flags

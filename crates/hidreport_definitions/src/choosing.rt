@@ -4,47 +4,36 @@ ghost use Rattle.std.specs.Prelude.{None, Some};
 ghost use Rattle.hidreport.specs.Choosing.{usage_chosen, value_number};
 ghost use Rattle.hidreport.specs.Usages.{make_usage, range_from};
 ghost use Rattle.hidreport.specs.declared.field.usage.Usage.{Usage};
-ghost use Rattle.hidreport_definitions.specs.Summary.{signed_value, unsigned_value};
+ghost use Rattle.hidreport_definitions.specs.Summary.{signed_value, unsigned_value, of_eight};
 
 /// Of eight buttons, with bounds 0 and 3, the first four are chosen, and none beside the bounds.
 pub fn a_value_within_the_bounds_chooses_a_usage()
-    ensures lowest { usage_chosen (range_from 9 1 8) (pos 0) (pos 3) (pos 0)
-        ≡ Some (make_usage 9 1) }
-    ensures highest { usage_chosen (range_from 9 1 8) (pos 0) (pos 3) (pos 3)
-        ≡ Some (make_usage 9 4) }
-    ensures below { usage_chosen (range_from 9 1 8) (pos 0) (pos 3) (negsuc 0) ≡ None }
-    ensures above { usage_chosen (range_from 9 1 8) (pos 0) (pos 3) (pos 4) ≡ None }
+    ensures lowest { of_eight (pos 0) (pos 3) (pos 0) ≡ Some (make_usage 9 1) }
+    ensures highest { of_eight (pos 0) (pos 3) (pos 3) ≡ Some (make_usage 9 4) }
+    ensures below { of_eight (pos 0) (pos 3) (negsuc 0) ≡ None }
+    ensures above { of_eight (pos 0) (pos 3) (pos 4) ≡ None }
 {}
 
 /// Usages are counted from the minimum on, also where that isn't 0.
 pub fn usages_are_counted_from_the_minimum()
-    ensures lowest { usage_chosen (range_from 9 1 8) (pos 2) (pos 5) (pos 2)
-        ≡ Some (make_usage 9 1) }
-    ensures next { usage_chosen (range_from 9 1 8) (pos 2) (pos 5) (pos 3)
-        ≡ Some (make_usage 9 2) }
-    ensures highest { usage_chosen (range_from 9 1 8) (pos 2) (pos 5) (pos 5)
-        ≡ Some (make_usage 9 4) }
-    ensures below { usage_chosen (range_from 9 1 8) (pos 2) (pos 5) (pos 1) ≡ None }
-    ensures zero { usage_chosen (range_from 9 1 8) (pos 2) (pos 5) (pos 0) ≡ None }
-    ensures above { usage_chosen (range_from 9 1 8) (pos 2) (pos 5) (pos 6) ≡ None }
+    ensures lowest { of_eight (pos 2) (pos 5) (pos 2) ≡ Some (make_usage 9 1) }
+    ensures next { of_eight (pos 2) (pos 5) (pos 3) ≡ Some (make_usage 9 2) }
+    ensures highest { of_eight (pos 2) (pos 5) (pos 5) ≡ Some (make_usage 9 4) }
+    ensures below { of_eight (pos 2) (pos 5) (pos 1) ≡ None }
+    ensures zero { of_eight (pos 2) (pos 5) (pos 0) ≡ None }
+    ensures above { of_eight (pos 2) (pos 5) (pos 6) ≡ None }
 {}
 
 /// A minimum below 0: from -2 up to 3 the first six are chosen.
 pub fn usages_are_counted_from_a_negative_minimum()
-    ensures lowest { usage_chosen (range_from 9 1 8) (negsuc 1) (pos 3) (negsuc 1)
-        ≡ Some (make_usage 9 1) }
-    ensures minus_one { usage_chosen (range_from 9 1 8) (negsuc 1) (pos 3) (negsuc 0)
-        ≡ Some (make_usage 9 2) }
-    ensures zero { usage_chosen (range_from 9 1 8) (negsuc 1) (pos 3) (pos 0)
-        ≡ Some (make_usage 9 3) }
-    ensures highest { usage_chosen (range_from 9 1 8) (negsuc 1) (pos 3) (pos 3)
-        ≡ Some (make_usage 9 6) }
-    ensures below { usage_chosen (range_from 9 1 8) (negsuc 1) (pos 3) (negsuc 2) ≡ None }
-    ensures above { usage_chosen (range_from 9 1 8) (negsuc 1) (pos 3) (pos 4) ≡ None }
-    ensures both_negative { usage_chosen (range_from 9 1 8) (negsuc 4) (negsuc 2) (negsuc 2)
-        ≡ Some (make_usage 9 3) }
-    ensures above_both_negative { usage_chosen (range_from 9 1 8) (negsuc 4) (negsuc 2) (negsuc 1)
-        ≡ None }
+    ensures lowest { of_eight (negsuc 1) (pos 3) (negsuc 1) ≡ Some (make_usage 9 1) }
+    ensures minus_one { of_eight (negsuc 1) (pos 3) (negsuc 0) ≡ Some (make_usage 9 2) }
+    ensures zero { of_eight (negsuc 1) (pos 3) (pos 0) ≡ Some (make_usage 9 3) }
+    ensures highest { of_eight (negsuc 1) (pos 3) (pos 3) ≡ Some (make_usage 9 6) }
+    ensures below { of_eight (negsuc 1) (pos 3) (negsuc 2) ≡ None }
+    ensures above { of_eight (negsuc 1) (pos 3) (pos 4) ≡ None }
+    ensures both_negative { of_eight (negsuc 4) (negsuc 2) (negsuc 2) ≡ Some (make_usage 9 3) }
+    ensures above_both_negative { of_eight (negsuc 4) (negsuc 2) (negsuc 1) ≡ None }
 {}
 
 /// A value within the bounds whose index lies behind the usages chooses none.
@@ -64,8 +53,8 @@ pub fn reversed_bounds_choose_none()
         → usage_chosen usages (pos 0) (negsuc 0) number ≡ None }
     ensures always { (usages : List Usage) (minimum maximum number : ℤ)
         → IsTrue (int_lt maximum minimum) → usage_chosen usages minimum maximum number ≡ None }
-    ensures at_the_minimum { usage_chosen (range_from 9 1 8) (pos 4) (pos 3) (pos 4) ≡ None }
-    ensures at_the_maximum { usage_chosen (range_from 9 1 8) (pos 4) (pos 3) (pos 3) ≡ None }
+    ensures at_the_minimum { of_eight (pos 4) (pos 3) (pos 4) ≡ None }
+    ensures at_the_maximum { of_eight (pos 4) (pos 3) (pos 3) ≡ None }
 {}
 
 /// The number of a value is below 0 only where the value is signed and has its top bit set.

@@ -1,10 +1,9 @@
 //! Which collections a field lies in.
 ghost use Rattle.std.specs.Prelude.{◌≡◌, map, List, [], ◌∷◌, Option, Some, option_map, codes};
-ghost use Rattle.hidreport.specs.Answer.{InvalidAt};
 ghost use Rattle.hidreport.specs.CollectionItem.TheVariants as kind;
 ghost use Rattle.hidreport.specs.Records.{CollectionRecord};
 ghost use Rattle.hidreport.specs.Usages.{make_usage};
-ghost use Rattle.hidreport_definitions.specs.Summary.{collections_around, summary};
+ghost use Rattle.hidreport_definitions.specs.Summary.{collections_around, summary, no_usages};
 
 /// A collection has all the usages in force at it, in order, and ends them.
 pub fn a_collection_has_all_its_usages()
@@ -22,14 +21,12 @@ pub fn a_collection_has_all_its_usages()
           usages = make_usage 1 1 ∷ make_usage 1 2
               ∷ make_usage 1 3 ∷ [];
         } ∷ []) }
-    ensures ended { summary (codes "05 01 09 30 a1 00 75 08 95 01 81 02")
-        ≡ Err (InvalidAt 10 (codes "Missing Usages for main item")) }
+    ensures ended { summary (codes "05 01 09 30 a1 00 75 08 95 01 81 02") ≡ no_usages 10 }
 {}
 
 /// An EndCollection ends the locals as each main item does.
 pub fn the_end_of_a_collection_ends_the_locals()
-    ensures ended { summary (codes "05 01 a1 00 09 31 c0 75 08 95 01 81 02")
-        ≡ Err (InvalidAt 11 (codes "Missing Usages for main item")) }
+    ensures ended { summary (codes "05 01 a1 00 09 31 c0 75 08 95 01 81 02") ≡ no_usages 11 }
 {}
 
 /// Open collections are listed outermost first, a closed one not at all; numbers count all that

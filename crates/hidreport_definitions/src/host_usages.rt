@@ -1,9 +1,9 @@
 //! Which usages the fields of an item have as hosts read them (Section 6.2.2.8).
 ghost use Rattle.std.specs.Prelude.{◌≡◌, List, [], ◌∷◌, Option, None};
 ghost use Rattle.std.specs.Prelude.{codes, false, true};
-ghost use Rattle.hidreport.specs.Answer.{InvalidAt};
 ghost use Rattle.hidreport_definitions.specs.Summary.{Array, Constant, Report, Variable};
 ghost use Rattle.hidreport_definitions.specs.Summary.{host_range, host_summary, inputs, summary};
+ghost use Rattle.hidreport_definitions.specs.Summary.{no_usages};
 
 /// A usage without a page of its own lies on the page in force where it stands, unless it stands
 /// behind the last that lies on the main item's page.
@@ -52,10 +52,8 @@ pub fn a_maximum_counts_from_the_minimum_in_force()
     ensures twice { host_summary (codes "05 09 19 02 29 02 29 03 75 01 95 03 81 02")
         ≡ inputs (Report None 3 (Variable 0 1 0x00090002 ∷ Variable 1 2 0x00090002
         ∷ Variable 2 3 0x00090003 ∷ []) ∷ []) }
-    ensures minimum { host_summary (codes "05 01 19 05 75 01 95 01 81 02")
-        ≡ Err (InvalidAt 8 (codes "Missing Usages for main item")) }
-    ensures below { host_summary (codes "05 01 19 05 29 02 75 01 95 01 81 02")
-        ≡ Err (InvalidAt 10 (codes "Missing Usages for main item")) }
+    ensures minimum { host_summary (codes "05 01 19 05 75 01 95 01 81 02") ≡ no_usages 8 }
+    ensures below { host_summary (codes "05 01 19 05 29 02 75 01 95 01 81 02") ≡ no_usages 10 }
     ensures padding { host_summary (codes "05 01 19 05 75 01 95 01 81 03")
         ≡ inputs (Report None 1 (Constant 0 1 ∷ []) ∷ []) }
 {}

@@ -23,7 +23,7 @@ pub fn bytes_are_short_items()
     ensures { ItemisesShort item_of (0x05 ∷ 0x01 ∷ 0xb4 ∷ []) page_and_pop }
 {}
 
-/// Items that are kept, those of kinds that the standard keeps for later, and long ones.
+/// Items that are kept, reserved ones, and long ones.
 pub fn items_are_kept()
     ensures page { IsTrue (is_kept (item.Global (global.UsagePage 1))) }
     ensures push { IsTrue (is_kept (item.Global global.Push)) }

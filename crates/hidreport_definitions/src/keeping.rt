@@ -1,6 +1,5 @@
 //! What a Push keeps: descriptors that tell the two readings apart, and some that don't.
 ghost use Rattle.std.specs.Prelude.{◌≡◌, List, [], ◌∷◌, Option, None, codes};
-ghost use Rattle.hidreport.specs.Answer.{InvalidAt};
 ghost use Rattle.hidreport.specs.GlobalItem.TheVariants as global;
 ghost use Rattle.hidreport.specs.ItemType.TheVariants as item;
 ghost use Rattle.hidreport.specs.Laws.{Spares};
@@ -8,7 +7,7 @@ ghost use Rattle.hidreport.specs.LocalItem.TheVariants as local;
 ghost use Rattle.hidreport.specs.Segments.{HasNoLocal, HasNoPush};
 ghost use Rattle.hidreport.specs.declared.parser.push_keeps.PushKeeps.TheVariants as a_push_keeps;
 ghost use Rattle.hidreport_definitions.specs.Summary.{Report, Variable, globals_summary, inputs};
-ghost use Rattle.hidreport_definitions.specs.Summary.{summary};
+ghost use Rattle.hidreport_definitions.specs.Summary.{summary, no_push, no_usages};
 
 /// A usage that is used between a Push and its Pop comes back only where the Push keeps locals.
 pub fn a_usage_used_inside_comes_back_with_locals_alone()
@@ -16,29 +15,26 @@ pub fn a_usage_used_inside_comes_back_with_locals_alone()
         ≡ inputs (Report None 16 (Variable 0 8 0x00010030 ∷ Variable 8 16 0x00010030 ∷ []) ∷ []) }
     ensures globals { globals_summary
         (codes "05 01 09 30 15 00 25 7f 75 08 95 01 a4 81 02 b4 81 02")
-        ≡ Err (InvalidAt 16 (codes "Missing Usages for main item")) }
+        ≡ no_usages 16 }
 {}
 
 /// A usage that is set there stays behind the Pop only where the Push keeps globals alone.
 pub fn a_usage_set_inside_stays_with_globals_alone()
-    ensures locals { summary (codes "05 01 75 08 95 01 a4 09 30 b4 81 02")
-        ≡ Err (InvalidAt 10 (codes "Missing Usages for main item")) }
+    ensures locals { summary (codes "05 01 75 08 95 01 a4 09 30 b4 81 02") ≡ no_usages 10 }
     ensures globals { globals_summary (codes "05 01 75 08 95 01 a4 09 30 b4 81 02")
         ≡ inputs (Report None 8 (Variable 0 8 0x00010030 ∷ []) ∷ []) }
 {}
 
 /// The page that was set with it doesn't stay: the usage is of the page in force at the data item.
 pub fn a_page_set_inside_is_taken_back()
-    ensures locals { summary (codes "05 09 75 01 95 01 a4 05 01 09 30 b4 81 02")
-        ≡ Err (InvalidAt 12 (codes "Missing Usages for main item")) }
+    ensures locals { summary (codes "05 09 75 01 95 01 a4 05 01 09 30 b4 81 02") ≡ no_usages 12 }
     ensures globals { globals_summary (codes "05 09 75 01 95 01 a4 05 01 09 30 b4 81 02")
         ≡ inputs (Report None 1 (Variable 0 1 0x00090030 ∷ []) ∷ []) }
 {}
 
 /// By both readings a Pop needs a Push, and a size set inside holds only there.
 pub fn globals_come_back_by_both()
-    ensures fault { globals_summary (codes "b4")
-        ≡ Err (InvalidAt 0 (codes "Too many Pops, not enough Pushes")) }
+    ensures fault { globals_summary (codes "b4") ≡ no_push 0 }
     ensures size { globals_summary (codes "05 01 75 08 95 01 a4 75 10 b4 09 30 81 02")
         ≡ inputs (Report None 8 (Variable 0 8 0x00010030 ∷ []) ∷ []) }
 {}

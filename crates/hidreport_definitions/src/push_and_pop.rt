@@ -2,35 +2,29 @@
 ghost use Rattle.std.specs.Prelude.{◌≡◌, pos, List, [], ◌∷◌, Option, None, Some, codes, true};
 ghost use Rattle.std.specs.Prelude.{false};
 ghost use Rattle.hidreport.specs.CollectionItem.TheVariants as kind;
-ghost use Rattle.hidreport.specs.Answer.{InvalidAt, Mismatch};
+ghost use Rattle.hidreport.specs.Answer.{InvalidData, MismatchingReportId};
 ghost use Rattle.hidreport.specs.Records.{VariableRecord};
 ghost use Rattle.hidreport.specs.Usages.{make_usage};
 ghost use Rattle.hidreport_definitions.specs.Summary.{Report, Variable, announced_by, report_found};
 ghost use Rattle.hidreport_definitions.specs.Summary.{inputs, no_reports, place_at, readings};
 ghost use Rattle.hidreport_definitions.specs.Summary.{summary, unset, unsigned_value};
+ghost use Rattle.hidreport_definitions.specs.Summary.{one_collection, one_input};
 
 /// A usage that is used between a Push and its Pop is there again behind the Pop.
 pub fn a_usage_used_inside_comes_back()
     ensures { announced_by (codes "05 01 09 30 15 00 25 7f 75 08 95 01 a4 81 02 b4 81 02")
-        ≡ Ok (record {
-          input = record {
-            id = None;
-            size = 16;
-            fields =
-                VariableRecord (place_at 0 0 8) (make_usage 1 0x30) (record unset { logical_maximum = pos 127 })
-                ∷ VariableRecord (place_at 1 8 16) (make_usage 1 0x30)
-                (record unset { logical_maximum = pos 127 })
-                ∷ [];
-          } ∷ [];
-          output = [];
-          feature = [];
-        }) }
+        ≡ one_input 16
+        (VariableRecord (place_at 0 0 8) (make_usage 1 0x30)
+        (record unset { logical_maximum = pos 127 })
+        ∷ VariableRecord (place_at 1 8 16) (make_usage 1 0x30)
+        (record unset { logical_maximum = pos 127 })
+        ∷ []) }
 {}
 
 /// Push and Pop leave open collections as they are, also one that was opened between them.
 pub fn a_collection_opened_inside_stays_open()
     ensures stays { summary (codes "a4 a1 00 b4 c0") ≡ no_reports }
-    ensures needed { summary (codes "c0") ≡ Err (InvalidAt 0 (codes "Too many EndCollection")) }
+    ensures needed { summary (codes "c0") ≡ Err (InvalidData 0 (codes "Too many EndCollection")) }
 {}
 
 /// A size set between a Push and its Pop holds only there.
@@ -52,7 +46,7 @@ pub fn a_report_id_set_inside_is_taken_back()
         ≡ None }
     ensures values { readings (codes "05 01 75 08 95 01 a4 85 05 09 30 81 02 b4 09 31 81 02")
         (codes "07 11 22")
-        ≡ Err Mismatch ∷ Ok (unsigned_value 0x22 ∷ []) ∷ [] }
+        ≡ Err MismatchingReportId ∷ Ok (unsigned_value 0x22 ∷ []) ∷ [] }
 {}
 
 /// Pushes nest, and a Pop brings back the usages that its own Push kept.
@@ -72,24 +66,10 @@ pub fn nested_pushes_keep_their_own_usages()
 /// what is in force.
 pub fn a_collection_keeps_its_usages()
     ensures { announced_by (codes "05 01 75 08 95 01 a4 09 30 a1 00 b4 09 31 81 02 c0")
-        ≡ Ok (record {
-          input = record {
-            id = None;
-            size = 8;
-            fields =
-                VariableRecord (place_at 0 0 8) (make_usage 1 0x31)
-                (record unset {
-                  collections = record {
-                    id = 0;
-                    kind = kind.Physical;
-                    usages = make_usage 1 0x30 ∷ [];
-                  } ∷ [];
-                })
-                ∷ [];
-          } ∷ [];
-          output = [];
-          feature = [];
-        }) }
+        ≡ one_input 8
+        (VariableRecord (place_at 0 0 8) (make_usage 1 0x31)
+        (record unset { collections = one_collection kind.Physical (make_usage 1 0x30) })
+        ∷ []) }
 {}
 
 /// A size that was set and taken back isn't in force in a later segment: the data item there makes

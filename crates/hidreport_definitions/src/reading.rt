@@ -1,6 +1,6 @@
 //! The values that a report's bytes give.
 ghost use Rattle.std.specs.Prelude.{◌≡◌, List, [], ◌∷◌, Option, None, pos, negsuc, codes};
-ghost use Rattle.hidreport.specs.Answer.{Bounds, Mismatch};
+ghost use Rattle.hidreport.specs.Answer.{OutOfBounds, MismatchingReportId};
 ghost use Rattle.hidreport.specs.Reading.{reads, reads_element};
 ghost use Rattle.hidreport_definitions.specs.Hex.{hex};
 ghost use Rattle.hidreport_definitions.specs.Summary.{Variable, Array, Constant, Report, summary};
@@ -15,8 +15,8 @@ pub fn array_elements_are_signed_one_by_one()
         ≡ inputs (Report None 8 (Array 0 8 (0x00010030 ∷ []) ∷ []) ∷ []) }
     ensures values { readings (codes "05 01 15 ff 25 07 75 04 95 02 09 30 81 00") (codes "f1")
         ≡ Ok (signed_value 1 ∷ signed_value 0xffffffff ∷ []) ∷ [] }
-    ensures past_the_count { reads_element (array_at 0 8 2 (negsuc 0)) [] 2 ≡ Err Bounds }
-    ensures past_the_bytes { reads_element (array_at 0 8 2 (negsuc 0)) [] 0 ≡ Err Bounds }
+    ensures past_the_count { reads_element (array_at 0 8 2 (negsuc 0)) [] 2 ≡ Err OutOfBounds }
+    ensures past_the_bytes { reads_element (array_at 0 8 2 (negsuc 0)) [] 0 ≡ Err OutOfBounds }
 {}
 
 /// A field may lie across five bytes; one byte less, or one bit more than 32, and it isn't read.
@@ -34,12 +34,12 @@ pub fn a_field_across_five_bytes_is_read()
         ≡ Ok [] ∷ Ok (unsigned_value 0x978ab5e1 ∷ []) ∷ [] }
     ensures one_byte_less { readings (codes "05 01 75 04 95 01 81 01 75 20 09 30 81 02")
         (codes "0f 5e ab 78")
-        ≡ Ok [] ∷ Err Bounds ∷ [] }
+        ≡ Ok [] ∷ Err OutOfBounds ∷ [] }
     ensures one_bit_more { summary (codes "05 01 75 04 95 01 81 01 75 21 09 30 81 02")
         ≡ inputs (Report None 37 (Constant 0 4 ∷ Variable 4 37 0x00010030 ∷ []) ∷ []) }
     ensures one_bit_too_wide { readings (codes "05 01 75 04 95 01 81 01 75 21 09 30 81 02")
         (codes "0f 5e ab 78 09")
-        ≡ Ok [] ∷ Err Bounds ∷ [] }
+        ≡ Ok [] ∷ Err OutOfBounds ∷ [] }
 {}
 
 /// The elements of a range are as wide as the count goes into it; what is left over is read by
@@ -60,9 +60,9 @@ pub fn ranges_of_bits_are_read()
         ≡ Ok (unsigned_value 0xb5e0 ∷ []) }
     ensures all_bits { reads (variable_at 0 32 (pos 0)) (hex (codes "0f 5e ab 78"))
         ≡ Ok (unsigned_value 0x78ab5e0f ∷ []) }
-    ensures no_bits { reads (variable_at 8 8 (pos 0)) (hex (codes "0f 5e ab 78")) ≡ Err Bounds }
+    ensures no_bits { reads (variable_at 8 8 (pos 0)) (hex (codes "0f 5e ab 78")) ≡ Err OutOfBounds }
     ensures too_many_bits { reads (variable_at 0 33 (pos 0)) (hex (codes "0f 5e ab 78"))
-        ≡ Err Bounds }
+        ≡ Err OutOfBounds }
 {}
 
 /// Two bytes of a report are two values, of which a signed one may be below 0.
@@ -75,17 +75,17 @@ pub fn signed_bytes_are_read()
 /// at.
 pub fn the_id_is_looked_at_before_the_bits()
     ensures other_id { reads (of_report 5 (variable_at 8 41 (pos 0))) (hex (codes "06"))
-        ≡ Err Mismatch }
+        ≡ Err MismatchingReportId }
     ensures own_id { reads (of_report 5 (variable_at 8 41 (pos 0))) (hex (codes "05"))
-        ≡ Err Bounds }
-    ensures no_bytes { reads (of_report 5 (variable_at 8 16 (pos 0))) [] ≡ Err Bounds }
+        ≡ Err OutOfBounds }
+    ensures no_bytes { reads (of_report 5 (variable_at 8 16 (pos 0))) [] ≡ Err OutOfBounds }
     ensures read { reads (of_report 5 (variable_at 8 16 (pos 0))) (hex (codes "05 2a"))
         ≡ Ok (unsigned_value 0x2a ∷ []) }
     ensures without_id { reads (variable_at 8 16 (pos 0)) (hex (codes "06 2a"))
         ≡ Ok (unsigned_value 0x2a ∷ []) }
     ensures index_first { reads_element (of_report 5 (array_at 8 16 2 (pos 0))) (hex (codes "06")) 2
-        ≡ Err Bounds }
+        ≡ Err OutOfBounds }
     ensures element_of_other_id { reads_element (of_report 5 (array_at 8 16 2 (pos 0))) (hex
         (codes "06")) 1
-        ≡ Err Mismatch }
+        ≡ Err MismatchingReportId }
 {}

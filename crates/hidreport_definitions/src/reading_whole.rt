@@ -1,6 +1,6 @@
 //! The values of a whole report, read in one pass.
 ghost use Rattle.std.specs.Prelude.{◌≡◌, [], ◌∷◌, codes, pos, negsuc, Ok, Err};
-ghost use Rattle.hidreport.specs.Answer.{Bounds, Mismatch};
+ghost use Rattle.hidreport.specs.Answer.{OutOfBounds, MismatchingReportId};
 ghost use Rattle.hidreport.specs.ParserError.TheVariants as errors;
 ghost use Rattle.hidreport.specs.Reader.{ReadsInto, available_numbers, filled, report_numbers};
 ghost use Rattle.hidreport.specs.Runs.{StandFor};
@@ -19,11 +19,11 @@ pub fn the_numbers_of_a_report_stand_in_order()
 /// The first field that refuses does so for the report.
 pub fn the_first_refusal_counts()
     ensures other_id { report_numbers (variable_at 0 8 (pos 0) ∷ of_report 5 (variable_at 0 16
-        (pos 0)) ∷ []) (hex (codes "06")) ≡ Err Mismatch }
+        (pos 0)) ∷ []) (hex (codes "06")) ≡ Err MismatchingReportId }
     ensures bounds_first { report_numbers (variable_at 0 16 (pos 0) ∷ of_report 5 (variable_at 0 8
-        (pos 0)) ∷ []) (hex (codes "06")) ≡ Err Bounds }
+        (pos 0)) ∷ []) (hex (codes "06")) ≡ Err OutOfBounds }
     ensures too_wide { report_numbers (variable_at 0 8 (pos 0) ∷ variable_at 0 33 (pos 0) ∷ [])
-        (hex (codes "06 00 00 00 00")) ≡ Err Bounds }
+        (hex (codes "06 00 00 00 00")) ≡ Err OutOfBounds }
 {}
 
 /// Numbers stand in place of the first values, as many as there is room for.
@@ -32,10 +32,10 @@ pub fn numbers_stand_where_there_is_room()
     ensures no_room { filled (pos 1 ∷ pos 2 ∷ []) (pos 7 ∷ []) ≡ pos 1 ∷ [] }
     ensures counted { ReadsInto (Ok 2) (pos 7 ∷ []) (pos 1 ∷ []) (Ok (pos 1 ∷ pos 2 ∷ [])) }
     ensures miscounted { ReadsInto (Ok 1) (pos 7 ∷ []) (pos 1 ∷ []) (Ok (pos 1 ∷ pos 2 ∷ [])) → ⊥ }
-    ensures refused { ReadsInto (Err errors.OutOfBounds) (pos 7 ∷ []) (pos 7 ∷ []) (Err Bounds) }
-    ensures changed { ReadsInto (Err errors.OutOfBounds) (pos 7 ∷ []) (pos 1 ∷ []) (Err Bounds)
+    ensures refused { ReadsInto (Err errors.OutOfBounds) (pos 7 ∷ []) (pos 7 ∷ []) (Err OutOfBounds) }
+    ensures changed { ReadsInto (Err errors.OutOfBounds) (pos 7 ∷ []) (pos 1 ∷ []) (Err OutOfBounds)
         → ⊥ }
-    ensures given { ReadsInto (Ok 0) [] [] (Err Bounds) → ⊥ }
+    ensures given { ReadsInto (Ok 0) [] [] (Err OutOfBounds) → ⊥ }
 {}
 
 /// Of a report that is cut short there is what stands before the first value that isn't there.
@@ -47,7 +47,7 @@ pub fn values_before_the_cut_are_there()
     ensures element { available_numbers (array_at 0 16 2 (pos 0) ∷ []) (hex (codes "05"))
         ≡ Ok (pos 5 ∷ []) }
     ensures other_id { available_numbers (variable_at 8 16 (pos 0) ∷ of_report 5 (variable_at 0 8
-        (pos 0)) ∷ []) (hex (codes "06")) ≡ Err Mismatch }
+        (pos 0)) ∷ []) (hex (codes "06")) ≡ Err MismatchingReportId }
     ensures no_bytes { available_numbers (of_report 5 (variable_at 0 8 (pos 0)) ∷ []) [] ≡ Ok [] }
 {}
 

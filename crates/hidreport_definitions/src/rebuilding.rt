@@ -1,8 +1,7 @@
 //! Descriptors written anew, and what they mean.
 ghost use Rattle.std.specs.Prelude.{◌≡◌, List, [], ◌∷◌, Option, None, Ok, Err, codes};
-ghost use Rattle.hidreport.specs.Answer.{InvalidAt};
 ghost use Rattle.hidreport.specs.ItemAnswer.{Insufficient};
-ghost use Rattle.hidreport_definitions.specs.Summary.{Variable, Report, summary, inputs};
+ghost use Rattle.hidreport_definitions.specs.Summary.{Variable, Report, summary, inputs, no_push};
 ghost use Rattle.hidreport_definitions.specs.Rebuilt.{again, kept_bytes};
 
 /// An item of a reserved kind is left out, every other is written in its shortest spelling with
@@ -33,12 +32,9 @@ pub fn long_items_are_left_out()
 
 /// Both read as the same reports, or have the same fault at the same item, each at its offset.
 pub fn the_meaning_stays()
-    ensures fault_before { summary (codes "06 01 00 b4")
-        ≡ Err (InvalidAt 3 (codes "Too many Pops, not enough Pushes")) }
-    ensures fault_behind { summary (codes "05 01 b4")
-        ≡ Err (InvalidAt 2 (codes "Too many Pops, not enough Pushes")) }
-    ensures long_item_before { summary (codes "05 01 fe 01 00 aa b4")
-        ≡ Err (InvalidAt 6 (codes "Too many Pops, not enough Pushes")) }
+    ensures fault_before { summary (codes "06 01 00 b4") ≡ no_push 3 }
+    ensures fault_behind { summary (codes "05 01 b4") ≡ no_push 2 }
+    ensures long_item_before { summary (codes "05 01 fe 01 00 aa b4") ≡ no_push 6 }
     ensures reserved_among_the_locals { summary (codes "05 01 75 08 95 01 09 30 f9 01 c4 fc 81 02")
         ≡ inputs (Report None 8 (Variable 0 8 0x00010030 ∷ []) ∷ []) }
     ensures rebuilt { again (codes "05 01 75 08 95 01 09 30 f9 01 c4 fc 81 02")

@@ -2,14 +2,14 @@
 ghost use Rattle.std.specs.Prelude.{◌≡◌, pos, List, [], ◌∷◌, Option, None};
 ghost use Rattle.std.specs.Prelude.{codes, true, false};
 ghost use Rattle.hidreport.specs.CollectionItem.TheVariants as kind;
-ghost use Rattle.hidreport.specs.Answer.{InvalidAt};
 ghost use Rattle.hidreport.specs.Records.{ArrayRecord};
 ghost use Rattle.hidreport.specs.Tiling.{IsRangeOf};
 ghost use Rattle.hidreport.specs.UsageRange.{HasExactly};
 ghost use Rattle.hidreport.specs.Usages.{make_usage, range_from};
 ghost use Rattle.hidreport_definitions.specs.Summary.{Report, Variable, announced_by, inputs};
 ghost use Rattle.hidreport_definitions.specs.Summary.{no_reports, four_keys, place_at, summary};
-ghost use Rattle.hidreport_definitions.specs.Summary.{unset_array};
+ghost use Rattle.hidreport_definitions.specs.Summary.{unset_array, no_maximum, no_page, no_usages};
+ghost use Rattle.hidreport_definitions.specs.Summary.{one_collection, one_input};
 
 /// Fields beyond the usages take the last one.
 pub fn the_last_usage_is_repeated()
@@ -20,42 +20,29 @@ pub fn the_last_usage_is_repeated()
 
 /// A minimum above its maximum gives no usages: a data item needs some, a Collection none.
 pub fn a_reversed_range_has_no_usages()
-    ensures data_item { summary (codes "05 01 19 05 29 02 75 08 95 01 81 02")
-        ≡ Err (InvalidAt 10 (codes "Missing Usages for main item")) }
+    ensures data_item { summary (codes "05 01 19 05 29 02 75 08 95 01 81 02") ≡ no_usages 10 }
     ensures collection { summary (codes "05 01 19 05 29 02 a1 00") ≡ no_reports }
 {}
 
 /// A minimum needs its maximum where the usages are looked at, and a data item of no size doesn't
 /// look.
 pub fn a_minimum_needs_its_maximum()
-    ensures data_item { summary (codes "05 01 19 05 75 08 95 01 81 02")
-        ≡ Err (InvalidAt 8 (codes "Missing UsageMaximum in locals")) }
+    ensures data_item { summary (codes "05 01 19 05 75 08 95 01 81 02") ≡ no_maximum 8 }
     ensures no_count { summary (codes "05 01 19 05 75 08 95 00 81 02") ≡ no_reports }
 {}
 
 /// Usages need a page, also a range that has none in it.
 pub fn a_usage_needs_a_page()
-    ensures single { summary (codes "09 02 a1 01")
-        ≡ Err (InvalidAt 2 (codes "Missing UsagePage in globals")) }
-    ensures reversed_range { summary (codes "19 05 29 02 a1 00")
-        ≡ Err (InvalidAt 4 (codes "Missing UsagePage in globals")) }
+    ensures single { summary (codes "09 02 a1 01") ≡ no_page 2 }
+    ensures reversed_range { summary (codes "19 05 29 02 a1 00") ≡ no_page 4 }
 {}
 
 /// A range that passes 0xffff goes on from 0 on the same page.
 pub fn a_range_wraps_within_its_page()
     ensures { announced_by (codes "05 01 1b ff ff 00 00 2b 01 00 01 00 75 08 95 01 81 00")
-        ≡ Ok (record {
-          input = record {
-            id = None;
-            size = 8;
-            fields =
-                ArrayRecord (place_at 0 0 8) (make_usage 1 0xffff ∷ make_usage 1 0 ∷ make_usage 1 1
-                ∷ []) true 1 unset_array
-                ∷ [];
-          } ∷ [];
-          output = [];
-          feature = [];
-        }) }
+        ≡ one_input 8
+        (ArrayRecord (place_at 0 0 8) (make_usage 1 0xffff ∷ make_usage 1 0 ∷ make_usage 1 1 ∷ [])
+        true 1 unset_array ∷ []) }
 {}
 
 /// An array has a long range of usages, each with the page that its minimum and maximum name or
@@ -63,25 +50,13 @@ pub fn a_range_wraps_within_its_page()
 pub fn an_array_has_all_usages_of_a_range()
     ensures { announced_by
         (codes "05 01 09 02 a1 01 15 00 26 ff 00 75 08 95 03 1b 01 00 01 00 2b ff 00 01 00 81 00 c0")
-        ≡ Ok (record {
-          input = record {
-            id = None;
-            size = 24;
-            fields =
-                ArrayRecord (place_at 0 0 24) (range_from 1 1 255) true 3
-                (record unset_array {
-                  logical_maximum = pos 255;
-                  collections = record {
-                    id = 0;
-                    kind = kind.Application;
-                    usages = make_usage 1 2 ∷ [];
-                  } ∷ [];
-                })
-                ∷ [];
-          } ∷ [];
-          output = [];
-          feature = [];
-        }) }
+        ≡ one_input 24
+        (ArrayRecord (place_at 0 0 24) (range_from 1 1 255) true 3
+        (record unset_array {
+          logical_maximum = pos 255;
+          collections = one_collection kind.Application (make_usage 1 2);
+        })
+        ∷ []) }
 {}
 
 /// Of several minima and of several maxima the last one counts.
@@ -103,10 +78,8 @@ pub fn a_range_hides_single_usages()
 
 /// A range without its maximum and without a page lacks the maximum first.
 pub fn the_maximum_is_asked_for_before_the_page()
-    ensures both { summary (codes "19 01 75 08 95 01 81 02")
-        ≡ Err (InvalidAt 6 (codes "Missing UsageMaximum in locals")) }
-    ensures page { summary (codes "19 01 29 02 75 08 95 01 81 02")
-        ≡ Err (InvalidAt 8 (codes "Missing UsagePage in globals")) }
+    ensures both { summary (codes "19 01 75 08 95 01 81 02") ≡ no_maximum 6 }
+    ensures page { summary (codes "19 01 29 02 75 08 95 01 81 02") ≡ no_page 8 }
 {}
 
 /// A usage in two bytes takes the page in force at the data item; one in four bytes has its own.

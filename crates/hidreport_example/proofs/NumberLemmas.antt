@@ -5,7 +5,7 @@ use Rattle.std.proofs.Common.{append-nil, append_assoc}
 use Rattle.std.proofs.Math.Seq.{drop-cons}
 use Rattle.std.proofs.lemmas.List.{map-append, map_more, take-append-drop}
 use Rattle.std.specs.Prelude.{ℤ}
-use Rattle.hidreport.specs.Answer.{Refusal, InvalidAt, Bounds, Mismatch, OverBudget, Refuses}
+use Rattle.hidreport.specs.Answer.{Refusal, InvalidData, OutOfBounds, MismatchingReportId, BudgetExceeded, Refuses}
 use Rattle.hidreport.specs.ParserError.{ParserError}
 use Rattle.hidreport.specs.ParserError.TheVariants as errors
 use Rattle.hidreport.specs.Views.{field_record}
@@ -82,11 +82,11 @@ pub values-fail : (bytes : List ℕ) (fs : List Field) (i : ℕ) (x : Field) (e 
     → Refuses e (numbers_at bytes (field_record x))
     → Refuses e (numbers_of bytes (map field_record fs))
 values-fail bytes fs i x (errors.InvalidData offset message) ns lt here so_far r =
-    fails-with bytes fs i x (InvalidAt offset (string_bytes message)) ns lt here so_far r
+    fails-with bytes fs i x (InvalidData offset (string_bytes message)) ns lt here so_far r
 values-fail bytes fs i x errors.OutOfBounds ns lt here so_far r =
-    fails-with bytes fs i x Bounds ns lt here so_far r
+    fails-with bytes fs i x OutOfBounds ns lt here so_far r
 values-fail bytes fs i x errors.MismatchingReportId ns lt here so_far r =
-    fails-with bytes fs i x Mismatch ns lt here so_far r
+    fails-with bytes fs i x MismatchingReportId ns lt here so_far r
 values-fail bytes fs i x errors.OutOfMemory ns lt here so_far r = tt
 values-fail bytes fs i x (errors.BudgetExceeded offset) ns lt here so_far r =
-    fails-with bytes fs i x (OverBudget offset) ns lt here so_far r
+    fails-with bytes fs i x (BudgetExceeded offset) ns lt here so_far r

@@ -2,7 +2,7 @@
 ghost use Rattle.std.specs.Prelude.{◌≡◌, ◌≢◌, ◌↔◌, [], ◌∷◌, List, ℕ, ℤ, Err, IfErr, IfOk, IfSome};
 ghost use Rattle.std.specs.Prelude.{◌+◌, ◌*◌, ◌≤◌, IsNone, OnOk, Ok, false, int_lt, length};
 ghost use Rattle.std.specs.Prelude.{option_copied, pos, true};
-ghost use Rattle.hidreport.specs.Answer.{IsOfReading, Mismatch};
+ghost use Rattle.hidreport.specs.Answer.{IsOfReading, MismatchingReportId};
 ghost use Rattle.hidreport.specs.Bits.{AgreeOn, covered_bits};
 ghost use Rattle.hidreport.specs.Reading.{ValueRecord, element_width, reads, reads_element};
 ghost use Rattle.hidreport.specs.Records.{FieldRecord, place_of, usages_in};
@@ -133,7 +133,8 @@ pub fn begin(alloc: Global, report: &RDescReport) -> Result<Vec<u8>, AllocError>
 pub fn report_of<'a>(descriptor: &'a ReportDescriptor, bytes: &[u8]) -> Option<&'a RDescReport>
     requires { IsTiled descriptor.now }
     ensures own { IfSome (option_copied result) (λ report.
-        Each (λ (field : FieldRecord). reads field bytes.now ≢ Err Mismatch) report.fields) }
+        Each (λ (field : FieldRecord). reads field bytes.now ≢ Err MismatchingReportId)
+        report.fields) }
     ensures works { IfSome (option_copied result) (λ report.
         report.size ≤ 8 * length bytes.now → Each (FieldWorks bytes.now) report.fields) }
 {

@@ -1,6 +1,6 @@
 //! What a caller proves of the errors that can come, and of what a descriptor may ask for.
 ghost use Rattle.std.specs.Prelude.{◌≡◌, ◌≢◌, ◌<◌, ◌≤◌, Err, IfErr, IfOk, IfSome, Ok, length};
-ghost use Rattle.hidreport.specs.Answer.{Answers, OverBudget};
+ghost use Rattle.hidreport.specs.Answer.{Answers, BudgetExceeded};
 ghost use Rattle.hidreport.specs.Meaning.{parse, parse_by};
 ghost use Rattle.hidreport.specs.Options.{reading_of};
 ghost use Rattle.hidreport.specs.Weight.{descriptor_weight};
@@ -70,7 +70,7 @@ pub fn read_by_options(
 /// list, and the most bytes that it may have.
 pub fn read_bounded(alloc: Global, bytes: &[u8]) -> Result<ReportDescriptor, ParserError>
     ensures light { IfOk result (λ descriptor. descriptor_weight descriptor ≤ 65536) }
-    ensures long { 65536 < length bytes.now → Answers result (Err (OverBudget 65536)) }
+    ensures long { 65536 < length bytes.now → Answers result (Err (BudgetExceeded 65536)) }
 {
     ReportDescriptor::try_from_with(alloc, bytes, ParseOptions::bounded())
 }

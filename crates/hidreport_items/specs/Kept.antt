@@ -1,5 +1,5 @@
--- Items that a standard of today gives a meaning: all but long ones (Section 6.2.2.3) and those of
--- kinds that it keeps for later.
+-- Items that a standard of today gives a meaning: all but long ones (Section 6.2.2.3) and reserved
+-- ones.
 use Rattle.std.specs.Prelude.{Bool, true, false}
 use Rattle.hidreport_items.specs.declared.global.GlobalItem.TheVariants as global
 use Rattle.hidreport_items.specs.declared.local.LocalItem.TheVariants as local

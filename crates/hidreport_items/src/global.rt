@@ -56,7 +56,7 @@ pub enum GlobalItem {
     /// Brings back what the matching Push kept.
     Pop,
 
-    /// A tag that the standard keeps for later.
+    /// A reserved tag.
     Reserved,
 }
 

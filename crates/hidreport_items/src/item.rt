@@ -31,7 +31,7 @@ pub enum ItemType {
     /// A long item (Section 6.2.2.3), whatever its tag and data.
     Long,
 
-    /// An item of the type that the standard keeps for later.
+    /// An item of the reserved type.
     Reserved,
 }
 
@@ -40,7 +40,7 @@ impl ItemType {
     ///
     /// The first byte is the header; all bytes after it are the data, however many the header
     /// announces. The header's type chooses the reader: that of `MainItem`, `GlobalItem` or
-    /// `LocalItem`. An item of the type that the standard keeps for later is `Reserved`, or with
+    /// `LocalItem`. An item of the reserved type is `Reserved`, or with
     /// the header FE `Long` (Section 6.2.2.3), whatever the data.
     ///
     /// # Errors

@@ -53,7 +53,7 @@ pub enum LocalItem {
     /// Opens or closes a set of alternatives.
     Delimiter(Delimiter),
 
-    /// A tag that the standard keeps for later.
+    /// A reserved tag.
     Reserved {
         /// The header without its size code.
         value: u8,

@@ -60,7 +60,7 @@ pub enum CollectionItem {
     /// 6: a control that modifies the meaning of its enclosing one.
     UsageModifier,
 
-    /// 07 to 7F: kept for later by the standard.
+    /// 07 to 7F: reserved by the standard.
     Reserved {
         /// The kind's number.
         value: u8,

@@ -1,3 +1,4 @@
 pub mod Buttons
 pub mod Events
 pub mod Rows
+pub mod Types

@@ -11,8 +11,13 @@ pub enum Driver {
 }
 
 impl Driver {
+    ghost use Rattle.std.specs.Prelude.{◌≡◌};
+    ghost use Rattle.hidreport_linux.specs.Types.{driver_name};
+
     /// The driver's name.
-    pub fn name(self) -> &'static str {
+    pub fn name(self) -> &'static str
+        ensures { result.now ≡ driver_name self }
+    {
         match self {
             Driver::Multitouch => "hid-multitouch",
             Driver::SensorHub => "hid-sensor-hub",

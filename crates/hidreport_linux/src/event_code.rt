@@ -22,8 +22,13 @@ pub enum EventType {
 }
 
 impl EventType {
+    ghost use Rattle.std.specs.Prelude.{◌≡◌};
+    ghost use Rattle.hidreport_linux.specs.Types.{type_name, type_number};
+
     /// The type's number.
-    pub fn number(self) -> u16 {
+    pub fn number(self) -> u16
+        ensures { result ≡ type_number self }
+    {
         match self {
             EventType::Key => 0x01,
             EventType::Relative => 0x02,
@@ -34,7 +39,9 @@ impl EventType {
     }
 
     /// The type's name, such as `EV_KEY`.
-    pub fn name(self) -> &'static str {
+    pub fn name(self) -> &'static str
+        ensures { result.now ≡ type_name self }
+    {
         match self {
             EventType::Key => "EV_KEY",
             EventType::Relative => "EV_REL",

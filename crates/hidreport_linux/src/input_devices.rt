@@ -1,4 +1,7 @@
 //! The input devices of a descriptor.
+ghost use Rattle.std.specs.Prelude.{◌≡◌};
+ghost use Rattle.hidreport_linux.specs.Types.{is_input_application};
+
 use crate::axis::{Axis, Measures};
 use crate::driver::Driver;
 use crate::event::Event;
@@ -204,7 +207,9 @@ fn lies_in_collections(group: &Group) -> bool {
 
 /// Whether an application or a physical collection of this usage makes its descriptor one of an
 /// input device.
-pub fn is_input_application(usage: u32) -> bool {
+pub fn is_input_application(usage: u32) -> bool
+    ensures { result ≡ is_input_application usage }
+{
     match usage {
         0x0001_0000..=0x0001_0008 | 0x0001_000c | 0x0001_0080 => true,
         0x000c_0001 | 0x000d_0001..=0x000d_0006 => true,

@@ -12,7 +12,7 @@ use Rattle.hidreport_items.specs.Answer.{GrammarFault, Insufficient}
 use Rattle.hidreport_items.specs.Spelling.{following_length, AreBytes}
 use Rattle.hidreport_items.proofs.FollowingLemmas.{following-cut, following-more, following-within}
 use Rattle.hidreport_items.specs.declared.item.ItemType.{ItemType}
-use Rattle.hidreport_lists.specs.Answer.{InvalidAt, Bounds, Mismatch, OverBudget, Answers}
+use Rattle.hidreport_lists.specs.Answer.{InvalidData, OutOfBounds, MismatchingReportId, BudgetExceeded, Answers}
 use Rattle.hidreport_lists.specs.Entry.{Entry}
 use Rattle.hidreport_lists.specs.Itemising.{Reader, Reads, all_bytes, AreAtOffsets, AreRead}
 use Rattle.hidreport_lists.specs.Itemising.{Itemises}
@@ -294,22 +294,22 @@ refusal-ok (Ok y) x e = cc
 refusal-ok (Err f) x e = cc
 
 refusal-err : {A : Type 0} (r : Result A (ℕ × GrammarFault)) (offset : ℕ) (message : List ℕ)
-    → as_refusal r ≡ Err (InvalidAt offset message)
+    → as_refusal r ≡ Err (InvalidData offset message)
     → (fault : GrammarFault) × (r ≡ Err (offset, fault)) × (message ≡ grammar_message fault)
 refusal-err (Ok y) offset message e = cc
 refusal-err (Err f) offset message e =
     (f.1, ap (λ n. Err (n, f.1)) (let s : f.0 ≡ offset = cc in s), (cc))
 
-not_bounds : {A : Type 0} (r : Result A (ℕ × GrammarFault)) → as_refusal r ≡ Err Bounds → ⊥
+not_bounds : {A : Type 0} (r : Result A (ℕ × GrammarFault)) → as_refusal r ≡ Err OutOfBounds → ⊥
 not_bounds (Ok x) e = cc
 not_bounds (Err f) e = cc
 
-not_mismatch : {A : Type 0} (r : Result A (ℕ × GrammarFault)) → as_refusal r ≡ Err Mismatch → ⊥
+not_mismatch : {A : Type 0} (r : Result A (ℕ × GrammarFault)) → as_refusal r ≡ Err MismatchingReportId → ⊥
 not_mismatch (Ok x) e = cc
 not_mismatch (Err f) e = cc
 
 not_over_budget : {A : Type 0} (r : Result A (ℕ × GrammarFault)) (offset : ℕ)
-    → as_refusal r ≡ Err (OverBudget offset) → ⊥
+    → as_refusal r ≡ Err (BudgetExceeded offset) → ⊥
 not_over_budget (Ok x) offset e = cc
 not_over_budget (Err f) offset e = cc
 
@@ -362,7 +362,7 @@ answer-fault read bytes (Err (parser.BudgetExceeded offset)) are exact some =
 pub answer-only_fault : (read : Reader) (bytes : List ℕ) (answer : Result (List Entry) ParserError)
     → Answers answer (as_refusal (itemise read bytes)) → (offset : ℕ) (fault : GrammarFault)
     → IsFaultAt read bytes offset fault
-    → Answers answer (Err (InvalidAt offset (grammar_message fault)))
+    → Answers answer (Err (InvalidData offset (grammar_message fault)))
 answer-only_fault read bytes answer exact offset fault f =
     subst (λ (r : Result (List Entry) (ℕ × GrammarFault)). Answers answer (as_refusal r))
     (itemise-fault read bytes offset fault f) exact

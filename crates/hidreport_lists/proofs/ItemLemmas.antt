@@ -18,7 +18,7 @@ use Rattle.hidreport_items.specs.Spelling.{item_of, read_as}
 use Rattle.hidreport_items.specs.Writing.{item_bytes}
 use Rattle.hidreport_items.specs.declared.item.ItemType.{ItemType}
 use Rattle.hidreport_lists.specs.Entry.{Spelled, Entry}
-use Rattle.hidreport_lists.specs.Answer.{Refusal, InvalidAt, Refuses, IsInvalidAt, fault_of}
+use Rattle.hidreport_lists.specs.Answer.{Refusal, InvalidData, Refuses, IsInvalidAt, fault_of}
 use Rattle.hidreport_lists.specs.Itemising.{Reader, item_at, with_entry, items_from, itemise}
 use Rattle.hidreport_lists.specs.Itemising.{as_refusal, front_item, short_item}
 use Rattle.hidreport_lists.specs.Messages.{grammar_message}
@@ -203,11 +203,11 @@ items_from-item offset (h ∷ bs) s e =
 -- an error that names the offset and the message is this answer
 pub refuses-invalid : {A : Type 0} (error : ParserError) (offset : ℕ) (message : List ℕ)
     (answer : Result A Refusal)
-    → IsInvalidAt error offset message → answer ≡ Err (InvalidAt offset message)
+    → IsInvalidAt error offset message → answer ≡ Err (InvalidData offset message)
     → Refuses error answer
 refuses-invalid (parser.InvalidData at text) offset message answer named e = e
-    ∙ ap (λ o. Err (InvalidAt o message)) (sym named.0)
-    ∙ ap (λ m. Err (InvalidAt at m)) (sym named.1)
+    ∙ ap (λ o. Err (InvalidData o message)) (sym named.0)
+    ∙ ap (λ m. Err (InvalidData at m)) (sym named.1)
 refuses-invalid parser.OutOfBounds offset message answer named e = absurd named
 refuses-invalid parser.MismatchingReportId offset message answer named e = absurd named
 refuses-invalid parser.OutOfMemory offset message answer named e = tt
@@ -225,7 +225,7 @@ fault-whole : (bytes rest : List ℕ) (front : List Entry) (offset : ℕ) (fault
     → rest ≢ []
     → with_front front (items_from item_of offset 0 rest) ≡ items_from item_of 0 0 bytes
     → front_item item_of rest ≡ Err fault
-    → as_refusal (itemise item_of bytes) ≡ Err (InvalidAt offset (grammar_message fault))
+    → as_refusal (itemise item_of bytes) ≡ Err (InvalidData offset (grammar_message fault))
 fault-whole bytes rest front offset fault some more same e =
     ap as_refusal (itemise-some item_of bytes some ∙ sym same
     ∙ ap (with_front front) (items_from-fault offset rest fault more e))

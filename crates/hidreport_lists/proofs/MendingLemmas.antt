@@ -9,7 +9,7 @@ use Rattle.hidreport_items.specs.Spelling.{following_length, item_of, prefix}
 use Rattle.hidreport_items.specs.declared.item.ItemType.{ItemType}
 use Rattle.hidreport_lists.specs.Mending.{PieceRecord, cut_short, front_piece, left_out, piece_by}
 use Rattle.hidreport_lists.specs.Mending.{pieces_from, whole_piece, with_piece, zero_piece}
-use Rattle.hidreport_lists.specs.declared.mending.Mend.TheVariants as mend
+use Rattle.hidreport_lists.specs.declared.mending.Reason.TheVariants as reason
 use Rattle.hidreport_lists.proofs.ItemLemmas.{enough, not_short}
 
 ok-is : (r : Result PieceRecord GrammarFault) (p q : PieceRecord) → r ≡ Ok p → r ≡ Ok q → q ≡ p
@@ -122,8 +122,8 @@ first-by : (b leave_out : Bool) (offset h : ℕ) (bs : List ℕ) (p : PieceRecor
     → front_piece leave_out offset (h ∷ bs) ≡ Ok p → IsFirst leave_out offset (h ∷ bs) p
 first-by true true offset h bs p short e =
     let less : length bs < following_length h bs = grind (arith, common_steps, short) in
-    let is : p ≡ left_out mend.CutShort offset (h ∷ bs) =
-    ok-is (front_piece true offset (h ∷ bs)) (left_out mend.CutShort offset (h ∷ bs)) p
+    let is : p ≡ left_out reason.CutShort offset (h ∷ bs) =
+    ok-is (front_piece true offset (h ∷ bs)) (left_out reason.CutShort offset (h ∷ bs)) p
     (ap (λ b. cond b (cut_short true offset (h ∷ bs))
     (Ok (whole_piece offset (h ∷ take (following_length h bs) bs)))) short) e in
     let size : suc (length bs) ≡ length p.stood = ap (λ (q : PieceRecord). length q.stood) (sym is)

@@ -10,19 +10,19 @@ use Rattle.hidreport_lists.specs.declared.error.ParserError.TheVariants as error
 -- message gives; something passes what can be counted or lies outside the bytes; the bytes are of
 -- another report; the item at an offset passes the limit of a budget
 pub data Refusal : Type 0 where
-  InvalidAt : ℕ → List ℕ → Refusal
-  Bounds : Refusal
-  Mismatch : Refusal
-  OverBudget : ℕ → Refusal
+  InvalidData : ℕ → List ℕ → Refusal
+  OutOfBounds : Refusal
+  MismatchingReportId : Refusal
+  BudgetExceeded : ℕ → Refusal
 
 -- the error is this refusal; want of memory says nothing
 abbrev pub Refuses : {A : Type 0} → ParserError → Result A Refusal → Type 0
 Refuses (errors.InvalidData offset message) answer =
-    answer ≡ Err (InvalidAt offset (string_bytes message))
-Refuses errors.OutOfBounds answer = answer ≡ Err Bounds
-Refuses errors.MismatchingReportId answer = answer ≡ Err Mismatch
+    answer ≡ Err (InvalidData offset (string_bytes message))
+Refuses errors.OutOfBounds answer = answer ≡ Err OutOfBounds
+Refuses errors.MismatchingReportId answer = answer ≡ Err MismatchingReportId
 Refuses errors.OutOfMemory answer = Unit {0}
-Refuses (errors.BudgetExceeded offset) answer = answer ≡ Err (OverBudget offset)
+Refuses (errors.BudgetExceeded offset) answer = answer ≡ Err (BudgetExceeded offset)
 
 -- the answer is what the definition gives
 abbrev pub Answers : {A : Type 0} → Result A ParserError → Result A Refusal → Type 0

@@ -7,7 +7,7 @@ use Rattle.hidreport_items.specs.Answer.{GrammarFault, Invalid, Insufficient}
 use Rattle.hidreport_items.specs.Messages.{long_message, not_long_message}
 use Rattle.hidreport_items.specs.Spelling.{following_length, is_long_header, AreBytes, read_as}
 use Rattle.hidreport_items.specs.declared.item.ItemType.{ItemType}
-use Rattle.hidreport_lists.specs.Answer.{Refusal, InvalidAt}
+use Rattle.hidreport_lists.specs.Answer.{Refusal, InvalidData}
 use Rattle.hidreport_lists.specs.Entry.{Spelled, Entry}
 use Rattle.hidreport_lists.specs.Messages.{grammar_message}
 use Rattle.hidreport_lists.specs.declared.error.ParserError.{ParserError}
@@ -100,7 +100,7 @@ itemise read (b ∷ bs) = items_from read 0 0 (b ∷ bs)
 -- a grammar fault as a parser says it
 abbrev pub as_refusal : {A : Type 0} → Result A (ℕ × GrammarFault) → Result A Refusal
 as_refusal (Ok x) = Ok x
-as_refusal (Err fault) = Err (InvalidAt fault.0 (grammar_message fault.1))
+as_refusal (Err fault) = Err (InvalidData fault.0 (grammar_message fault.1))
 
 -- the item at the front of the bytes, with the bytes that spell it
 abbrev pub front_item : Reader → List ℕ → Result Spelled GrammarFault

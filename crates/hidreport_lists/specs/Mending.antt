@@ -8,8 +8,8 @@ use Rattle.hidreport_items.specs.Spelling.{following_length, item_of, prefix}
 use Rattle.hidreport_items.specs.declared.item.ItemType.{ItemType}
 use Rattle.hidreport_items.specs.declared.item.ItemType.TheVariants as item
 use Rattle.hidreport_lists.specs.Entry.{Spelled}
-use Rattle.hidreport_lists.specs.declared.mending.Mend.{Mend}
-use Rattle.hidreport_lists.specs.declared.mending.Mend.TheVariants as mend
+use Rattle.hidreport_lists.specs.declared.mending.Reason.{Reason}
+use Rattle.hidreport_lists.specs.declared.mending.Reason.TheVariants as reason
 use Rattle.hidreport_lists.specs.declared.mending.Standing.{Standing}
 use Rattle.hidreport_lists.specs.declared.mending.Standing.TheVariants as standings
 
@@ -18,7 +18,7 @@ pub record PieceRecord : Type 0 where
   pub offset : ℕ
   pub stood : List ℕ
   pub stands : Option Spelled
-  pub mend : Option Mend
+  pub reason : Option Reason
 
 -- the item that stands where these bytes stood
 abbrev pub standing_in : List ℕ → Standing → Option Spelled
@@ -32,24 +32,25 @@ standing_bytes (Some s) = s.bytes
 standing_bytes None = []
 
 -- bytes that are left out
-abbrev pub left_out : Mend → ℕ → List ℕ → PieceRecord
+abbrev pub left_out : Reason → ℕ → List ℕ → PieceRecord
 left_out why offset stood =
-    record { offset = offset; stood = stood; stands = None; mend = Some why }
+    record { offset = offset; stood = stood; stands = None; reason = Some why }
 
 -- bytes in whose place an item stands, as it stood where nothing was mended
-abbrev pub holding : Option Mend → ℕ → List ℕ → List ℕ → ItemType → PieceRecord
+abbrev pub holding : Option Reason → ℕ → List ℕ → List ℕ → ItemType → PieceRecord
 holding why offset stood bytes x = record {
   offset = offset;
   stood = stood;
   stands = Some (record { bytes = bytes; item = x });
-  mend = why;
+  reason = why;
 }
 
--- with the data 0, where that is an item; else it was a main item whose tag is unknown
+-- a header alone with the data 0, where that is an item: `74` is read as `75 00`; else it was that
+-- of a main item whose tag is unknown, and is left out: `00`
 abbrev pub zero_piece : ℕ → List ℕ → ℕ → Result ItemType GrammarFault → PieceRecord
 zero_piece offset stood header (Ok x) =
-    holding (Some mend.NoData) offset stood (header ∷ 0 ∷ []) x
-zero_piece offset stood header (Err fault) = left_out mend.UnknownMainItem offset stood
+    holding (Some reason.NoData) offset stood (header ∷ 0 ∷ []) x
+zero_piece offset stood header (Err fault) = left_out reason.UnknownMainItem offset stood
 
 -- What stands at a header with all that follows it: the item that is read. One that can't be read
 -- needs data, of which it has none, and has the data 0; or it is left out.
@@ -60,12 +61,12 @@ piece_by offset h bs (Err fault) =
 
 -- the piece of a whole item, or what hosts make of it
 abbrev pub whole_piece : ℕ → List ℕ → PieceRecord
-whole_piece offset [] = left_out mend.UnknownMainItem offset []
+whole_piece offset [] = left_out reason.UnknownMainItem offset []
 whole_piece offset (h ∷ bs) = piece_by offset h bs (item_of h bs)
 
 -- an item that is cut short, which is left out with all behind it where that is asked for
 abbrev pub cut_short : Bool → ℕ → List ℕ → Result PieceRecord GrammarFault
-cut_short true offset bytes = Ok (left_out mend.CutShort offset bytes)
+cut_short true offset bytes = Ok (left_out reason.CutShort offset bytes)
 cut_short false offset bytes = Err Insufficient
 
 -- the first piece of the bytes, at the offset
@@ -93,8 +94,8 @@ pieces_from leave_out offset (suc inside) (b ∷ bs) =
     pieces_from leave_out (offset + 1) inside bs
 
 -- the piece was that of a main item whose tag is unknown
-abbrev pub is_unknown : Option Mend → Bool
-is_unknown (Some mend.UnknownMainItem) = true
+abbrev pub is_unknown : Option Reason → Bool
+is_unknown (Some reason.UnknownMainItem) = true
 is_unknown _ = false
 
 -- a main item stands there
@@ -111,16 +112,17 @@ has_local _ = false
 abbrev pub item_in : PieceRecord → Option ItemType
 item_in p = option_map (λ s. s.item) p.stands
 
--- the next main item of these pieces is one whose tag is unknown
+-- the next main item of these pieces is one whose tag is unknown: so of `09 30 00 81 02`, and not of
+-- `09 30 81 02 00`
 abbrev pub ends_unknown : List PieceRecord → Bool
 ends_unknown [] = false
 ends_unknown (p ∷ ps) =
-    is_unknown p.mend || (not (has_main (item_in p)) && ends_unknown ps)
+    is_unknown p.reason || (not (has_main (item_in p)) && ends_unknown ps)
 
 -- a local item is left out with the main item that it would be of
 abbrev pub ended : Bool → PieceRecord → PieceRecord
 ended unknown p =
-    if unknown && has_local (item_in p) then left_out mend.EndedLocal p.offset p.stood else p
+    if unknown && has_local (item_in p) then left_out reason.EndedLocal p.offset p.stood else p
 
 -- the pieces without local items that end with a main item which is left out
 abbrev pub without_ended : List PieceRecord → List PieceRecord

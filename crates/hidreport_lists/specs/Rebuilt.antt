@@ -13,7 +13,7 @@ use Rattle.hidreport_lists.specs.Entry.{Entry}
 abbrev pub items_of : List Entry → List ItemType
 items_of entries = map (λ e. e.item) entries
 
--- those of them that are neither long nor of a kind which the standard keeps for later
+-- those of them that are neither long nor reserved
 abbrev pub kept_entries : List Entry → List Entry
 kept_entries entries = filter (λ e. is_kept e.item) entries
 

@@ -198,9 +198,9 @@ impl<S: ReportDescriptorBuilderState> ReportDescriptorBuilder<S> {
 
     /// Writes the descriptor: the bytes of the items, joined in their order (Section 6.2.2.1).
     ///
-    /// What the items mean isn't looked at. Where each item is kept (neither long nor of a kind
-    /// that the standard keeps for later) and some bytes spell it, what is written is just these
-    /// items, each in its shortest spelling (`items`).
+    /// What the items mean isn't looked at. Where each item is kept (neither long nor reserved)
+    /// and some bytes spell it, what is written is just these items, each in its shortest spelling
+    /// (`items`).
     ///
     /// # Errors
     ///
@@ -236,7 +236,7 @@ impl<S: ReportDescriptorBuilderState> ReportDescriptorBuilder<S> {
     }
 }
 
-/// Whether none of these items is long or of the type that the standard keeps for later.
+/// Whether none of these items is long or of the reserved type.
 fn have_bytes(items: &[ItemType]) -> bool
     ensures { result ≡ list_all is_written items.now }
 {

@@ -47,6 +47,6 @@ pub use front::{FrontItem, PlacedFault, check_items, front_item};
 pub use laws::bytes_are_items_or_have_a_fault;
 pub use list::{ReportDescriptorItem, ReportDescriptorItems};
 pub use long_item::LongItem;
-pub use mending::{Mend, Piece, pieces};
+pub use mending::{Piece, Reason, pieces};
 pub use rebuilding::rebuild;
 pub use short_item::{Item, ShortItem};

@@ -2,7 +2,7 @@
 ghost use Rattle.std.specs.Prelude.{◌≡◌, ◌≢◌, ℕ, List, [], IfErr, IfOk};
 ghost use Rattle.hidreport_items.specs.Answer.{GrammarFault};
 ghost use Rattle.hidreport_items.specs.Spelling.{item_of};
-ghost use Rattle.hidreport_lists.specs.Answer.{Answers, InvalidAt, IsOfItems};
+ghost use Rattle.hidreport_lists.specs.Answer.{Answers, InvalidData, IsOfItems};
 ghost use Rattle.hidreport_lists.specs.Entry.{Entry};
 ghost use Rattle.hidreport_lists.specs.Headers.{headers_from};
 ghost use Rattle.hidreport_lists.specs.Itemising.{as_refusal, itemise, Itemises, IsFaultAt};
@@ -109,7 +109,7 @@ impl ReportDescriptorItems {
             → IfErr result (λ error. IsGrammarFault item_of bytes.now error) }
         ensures only_fault { (offset : ℕ) (fault : GrammarFault)
             → IsFaultAt item_of bytes.now offset fault
-            → Answers result (Err (InvalidAt offset (grammar_message fault))) }
+            → Answers result (Err (InvalidData offset (grammar_message fault))) }
         ensures short { (entries : List Entry)
             → ItemisesShort item_of bytes.now entries → Answers result (Ok entries) }
     {

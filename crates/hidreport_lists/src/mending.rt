@@ -15,7 +15,7 @@ use std::marker::Model;
 
 /// Why a repaired descriptor has other bytes at a place than before.
 #[derive(Clone, Copy, Debug, PartialEq, Eq)]
-pub enum Mend {
+pub enum Reason {
     /// An item that needs a data byte had none: its data is 0 now.
     NoData,
 
@@ -54,7 +54,7 @@ pub struct Piece<'a> {
     offset: usize,
     stood: &'a [u8],
     standing: Standing,
-    mend: Option<Mend>,
+    reason: Option<Reason>,
 }
 
 impl<'a> Model for Piece<'a> {
@@ -66,7 +66,7 @@ impl<'a> Model for Piece<'a> {
       offset = p.offset;
       stood = p.stood.now;
       stands = standing_in p.stood.now p.standing;
-      mend = p.mend;
+      reason = p.reason;
     } };
 }
 
@@ -126,7 +126,7 @@ fn front_piece<'a>(
         return Ok(whole_piece(offset, &bytes[..1 + following]));
     }
     if leave_out_cut_short {
-        Ok(left_out(Mend::CutShort, offset, bytes))
+        Ok(left_out(Reason::CutShort, offset, bytes))
     } else {
         Err(ItemFault::TooFew)
     }
@@ -137,14 +137,14 @@ fn whole_piece<'a>(offset: usize, stood: &'a [u8]) -> Piece<'a>
     ensures { result ≡ whole_piece offset stood.now }
 {
     let Some((header, data_bytes)) = stood.split_first() else {
-        return left_out(Mend::UnknownMainItem, offset, stood);
+        return left_out(Reason::UnknownMainItem, offset, stood);
     };
     if let Ok(item) = read_item(*header, data_bytes) {
         return Piece {
             offset,
             stood,
             standing: Standing::AsItStood(item),
-            mend: None,
+            reason: None,
         };
     }
     let header = header - header % 4 + 1;
@@ -153,21 +153,21 @@ fn whole_piece<'a>(offset: usize, stood: &'a [u8]) -> Piece<'a>
             offset,
             stood,
             standing: Standing::Written(ItemBytes::new(header, &[0]), item),
-            mend: Some(Mend::NoData),
+            reason: Some(Reason::NoData),
         },
-        Err(_) => left_out(Mend::UnknownMainItem, offset, stood),
+        Err(_) => left_out(Reason::UnknownMainItem, offset, stood),
     }
 }
 
 /// Bytes that are left out.
-fn left_out<'a>(mend: Mend, offset: usize, stood: &'a [u8]) -> Piece<'a>
-    ensures { result ≡ left_out mend offset stood.now }
+fn left_out<'a>(reason: Reason, offset: usize, stood: &'a [u8]) -> Piece<'a>
+    ensures { result ≡ left_out reason offset stood.now }
 {
     Piece {
         offset,
         stood,
         standing: Standing::LeftOut,
-        mend: Some(mend),
+        reason: Some(reason),
     }
 }
 
@@ -182,7 +182,7 @@ fn leave_out_ended(pieces: &mut [Piece])
         let piece = &mut pieces[index];
         if is_unknown && piece.holds_local() {
             piece.standing = Standing::LeftOut;
-            piece.mend = Some(Mend::EndedLocal);
+            piece.reason = Some(Reason::EndedLocal);
         } else {
             is_unknown = piece.is_unknown() || (is_unknown && !piece.holds_main());
         }
@@ -230,18 +230,18 @@ impl<'a> Piece<'a> {
     }
 
     /// Why other bytes stand there now; `None` where the same do.
-    pub fn mend(&self) -> Option<Mend>
-        ensures { result ≡ self.now.mend }
+    pub fn reason(&self) -> Option<Reason>
+        ensures { result ≡ self.now.reason }
     {
-        self.mend
+        self.reason
     }
 
     /// Puts another item there, which these bytes spell, for this reason.
-    pub fn write(&mut self, mend: Mend, bytes: ItemBytes, item: ItemType)
-        ensures { self.new ≡ holding (Some mend) self.old.offset self.old.stood bytes item }
+    pub fn write(&mut self, reason: Reason, bytes: ItemBytes, item: ItemType)
+        ensures { self.new ≡ holding (Some reason) self.old.offset self.old.stood bytes item }
     {
         self.standing = Standing::Written(bytes, item);
-        self.mend = Some(mend);
+        self.reason = Some(reason);
     }
 
     /// How many bytes stood there.
@@ -253,9 +253,9 @@ impl<'a> Piece<'a> {
 
     /// Whether a main item of an unknown tag stood there.
     fn is_unknown(&self) -> bool
-        ensures { result ≡ is_unknown self.now.mend }
+        ensures { result ≡ is_unknown self.now.reason }
     {
-        self.mend == Some(Mend::UnknownMainItem)
+        self.reason == Some(Reason::UnknownMainItem)
     }
 
     /// Whether a main item stands there.

@@ -18,10 +18,10 @@ use std::alloc::{AllocError, Global};
 /// Writes a descriptor anew, each item in its canonical spelling, the shortest with data
 /// (Section 6.2.2.2).
 ///
-/// The items stand in their order, without long ones and those of a kind that the standard keeps
-/// for later. The answer is empty where no item is kept. Where it isn't, it itemises to just the
-/// kept items (`again`), and is what rebuilding it gives (`itself`). Two descriptors are rebuilt
-/// alike just where they keep the same items (`alike`).
+/// The items stand in their order, without long ones and reserved ones. The answer is empty where
+/// no item is kept. Where it isn't, it itemises to just the kept items (`again`), and is what
+/// rebuilding it gives (`itself`). Two descriptors are rebuilt alike just where they keep the same
+/// items (`alike`).
 ///
 /// # Errors
 ///

@@ -34,20 +34,14 @@ AsksFor words Rebuild = HasForm words (codes "rebuild") 2
 -- the command reads a report beside the descriptor
 abbrev pub reads_report : Command → Bool
 reads_report Items = false
-reads_report Values = true
-reads_report (ValuesWithin limit) = true
-reads_report ValuesGlobals = true
-reads_report (ValuesGlobalsWithin limit) = true
 reads_report Rebuild = false
+reads_report command = true
 
 -- the command has a limit of what may be listed
 abbrev pub has_limit : Command → Bool
-has_limit Items = false
-has_limit Values = false
 has_limit (ValuesWithin limit) = true
-has_limit ValuesGlobals = false
 has_limit (ValuesGlobalsWithin limit) = true
-has_limit Rebuild = false
+has_limit command = false
 
 -- the index of the word that names the descriptor's file; a report's is next
 abbrev pub file_index : Command → ℕ

@@ -2,7 +2,7 @@
 use Rattle.std.specs.Prelude.{ℕ, ◌-◌, List, [], ◌∷◌, ◌++◌, flat_map, Option}
 use Rattle.std.specs.Prelude.{Some, None, Result, Ok, Err, length, replicate, codes, decimal, false}
 use Rattle.std.specs.Fmt.{radix_digits, signed_decimal}
-use Rattle.hidreport_lists.specs.Answer.{Refusal, InvalidAt, Bounds, Mismatch, OverBudget}
+use Rattle.hidreport_lists.specs.Answer.{Refusal, InvalidData, OutOfBounds, MismatchingReportId, BudgetExceeded}
 use Rattle.hidreport.specs.Choosing.{value_number}
 use Rattle.hidreport.specs.Reading.{ValueRecord, reads}
 use Rattle.hidreport.specs.Records.{FieldPlace, FieldRecord, VariableRecord, ArrayRecord}
@@ -56,12 +56,12 @@ report_line id size = codes "report " ++ (id_text id ++ (codes " " ++ (decimal s
 
 -- why the descriptor is refused; parsing never refuses bytes as another report's
 abbrev pub refusal_line : Refusal → List ℕ
-refusal_line (InvalidAt offset message) =
+refusal_line (InvalidData offset message) =
     codes "refused: invalid data at offset "
     ++ (decimal offset ++ (codes ": " ++ (message ++ newline)))
-refusal_line Bounds = codes "refused: out of bounds" ++ newline
-refusal_line Mismatch = codes "refused: out of bounds" ++ newline
-refusal_line (OverBudget offset) =
+refusal_line OutOfBounds = codes "refused: out of bounds" ++ newline
+refusal_line MismatchingReportId = codes "refused: out of bounds" ++ newline
+refusal_line (BudgetExceeded offset) =
     codes "refused: budget exceeded at offset " ++ (decimal offset ++ newline)
 
 -- no report has bytes like these

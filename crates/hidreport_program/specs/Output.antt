@@ -2,7 +2,7 @@
 use Rattle.std.specs.Prelude.{ℕ, List, ◌++◌, flat_map, Option, Some, None, Result, Ok, Err}
 use Rattle.std.specs.Prelude.{string_bytes}
 use Rattle.hidreport_items.specs.Spelling.{item_of}
-use Rattle.hidreport_lists.specs.Answer.{Refusal, InvalidAt, Bounds, Mismatch, OverBudget}
+use Rattle.hidreport_lists.specs.Answer.{Refusal, InvalidData, OutOfBounds, MismatchingReportId, BudgetExceeded}
 use Rattle.hidreport_lists.specs.Entry.{Entry}
 use Rattle.hidreport_lists.specs.Itemising.{as_refusal, itemise}
 use Rattle.hidreport_lists.specs.Rebuilt.{rebuild_answer}
@@ -69,8 +69,8 @@ output Rebuild descriptor bytes =
 
 -- what an error says of a descriptor; want of memory says nothing
 abbrev pub refusal_of : ParserError → Option Refusal
-refusal_of (errors.InvalidData offset message) = Some (InvalidAt offset (string_bytes message))
-refusal_of errors.OutOfBounds = Some Bounds
-refusal_of errors.MismatchingReportId = Some Mismatch
+refusal_of (errors.InvalidData offset message) = Some (InvalidData offset (string_bytes message))
+refusal_of errors.OutOfBounds = Some OutOfBounds
+refusal_of errors.MismatchingReportId = Some MismatchingReportId
 refusal_of errors.OutOfMemory = None
-refusal_of (errors.BudgetExceeded offset) = Some (OverBudget offset)
+refusal_of (errors.BudgetExceeded offset) = Some (BudgetExceeded offset)

@@ -70,7 +70,7 @@ static USAGES: [(u16, u16, &str); 56] = [
     (0xffff, 0xabcd, "Vendor Usage ABCD"),
 ];
 
-/// Usages that have no name: reserved ones, and those of pages that are kept for later.
+/// Usages that have no name: reserved ones, and those of reserved pages.
 static UNNAMED: [(u16, u16); 11] = [
     (0x00, 0x30),
     (0x01, 0x00),

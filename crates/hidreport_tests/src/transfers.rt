@@ -1,7 +1,7 @@
 //! Runs over slow, flaky and long inputs and outputs, and what the program ends with.
 use crate::failing::{FlakyWriter, SlowReader};
 use hidreport_program::program::{Command, Fault, Outcome, line_of, run, status_of};
-use hidreport_transfer::{Failed, FromRead, RunFault, Sink, ToWrite};
+use hidreport_transfer::{Failed, FromRead, RunFault, Sink, Source, ToWrite};
 use std::alloc::{AllocError, Global};
 
 const TWO_AXES: &[u8] = b"\x05\x01\x15\x81\x25\x7f\x75\x08\x95\x02\x09\x30\x09\x31\x81\x02";
@@ -101,19 +101,23 @@ fn padded(alloc: Global, bytes: &[u8], byte: u8, times: usize) -> Result<Vec<u8>
     Ok(all)
 }
 
+/// A run over two sources, to bytes in memory.
+fn run_values<D: Source, R: Source>(
+    alloc: Global,
+    descriptor: &mut D,
+    report: &mut R,
+    written: &mut Vec<u8>,
+) -> Result<Outcome, RunFault> {
+    let mut out = ToWrite::new(written);
+    run(alloc, Command::Values, descriptor, report, &mut out)
+}
+
 /// Whether the values of a report are written, all at once.
 fn is_run(alloc: Global, descriptor: &[u8], report: &[u8]) -> bool {
     let mut descriptor = FromRead::new(descriptor);
     let mut report = FromRead::new(report);
     let mut written = Vec::new(alloc);
-    let mut out = ToWrite::new(&mut written);
-    let answer = run(
-        alloc,
-        Command::Values,
-        &mut descriptor,
-        &mut report,
-        &mut out,
-    );
+    let answer = run_values(alloc, &mut descriptor, &mut report, &mut written);
     answer == Ok(Outcome::Done) && written.as_slice() == TWO_AXES_TEXT
 }
 
@@ -177,14 +181,7 @@ fn is_ended_by_read(alloc: Global, of_descriptor: usize, of_report: usize) -> bo
     let mut written = Vec::new(alloc);
     let mut descriptor = failing(TWO_AXES, of_descriptor);
     let mut report = failing(b"\x05\xfb", of_report);
-    let mut out = ToWrite::new(&mut written);
-    let answer = run(
-        alloc,
-        Command::Values,
-        &mut descriptor,
-        &mut report,
-        &mut out,
-    );
+    let answer = run_values(alloc, &mut descriptor, &mut report, &mut written);
     answer == Err(RunFault::Read) && written.is_empty()
 }
 

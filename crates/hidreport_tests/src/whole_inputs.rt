@@ -38,11 +38,16 @@ fn reads_all(rt: HostRuntime) {
     assert!(rt; is_read_whole(rt.alloc(), &MANY));
 }
 
+/// Whether reading a source fails, and the next time.
+fn stays_failed<S: Source>(alloc: Global, source: &mut S) -> bool {
+    is_fault(read_to_end(alloc, source), RunFault::Read)
+        && is_fault(read_to_end(alloc, source), RunFault::Read)
+}
+
 /// Whether a source that fails after so many reads fails then, and the next time.
 fn is_failed_read(alloc: Global, good_reads: usize) -> bool {
     let mut source = FailingSource::new(FromRead::new(WORDS), good_reads);
-    is_fault(read_to_end(alloc, &mut source), RunFault::Read)
-        && is_fault(read_to_end(alloc, &mut source), RunFault::Read)
+    stays_failed(alloc, &mut source)
 }
 
 // Seven reads give all the bytes, three a read, and an eighth the end.
@@ -138,8 +143,7 @@ fn reads_all_within_a_bound(rt: HostRuntime) {
 /// Whether nineteen bytes are more than may be read, and stay so.
 fn is_failed_past(alloc: Global, most: usize) -> bool {
     let mut source = Bounded::new(FromRead::new(WORDS), most);
-    is_fault(read_to_end(alloc, &mut source), RunFault::Read)
-        && is_fault(read_to_end(alloc, &mut source), RunFault::Read)
+    stays_failed(alloc, &mut source)
 }
 
 #[test]

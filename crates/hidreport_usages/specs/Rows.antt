@@ -39,7 +39,9 @@ order x y = ordering_then (slice_cmp nat_cmp x.1 y.1) (nat_cmp x.0 y.0)
 abbrev pub page_order : Row → Row → Ordering
 page_order x y = ordering_then (slice_cmp nat_cmp x.1 y.1) (nat_cmp (x.0 / 65536) (y.0 / 65536))
 
--- the places of all rows, as they stand by name; a name stands once on a page
+-- The places of all rows, as they stand by name: each is one of a row, each row has one, and they
+-- rise by name, those of one name by page; so a name stands once on a page, as `Select` does on Game
+-- Controls' page and on others.
 pub record IsNameOrder (rows : List Row) (places : List ℕ) : Type 0 where
   pub within : (k : ℕ) → k < length places → slice_index places k < length rows
   pub rising : (i j : ℕ) → i < j → j < length places

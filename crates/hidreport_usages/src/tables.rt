@@ -14,6 +14,7 @@ pub(crate) enum UsageNames {}
 /// The names of usage pages.
 pub(crate) enum PageNames {}
 
+#[tactic(auto, using(crate::proofs::UsageTable::pieces, crate::proofs::UsageTable::long, crate::proofs::UsageTable::named))]
 impl NameTable for UsageNames {
     ghost rows = { usage_rows };
 
@@ -30,6 +31,7 @@ impl NameTable for UsageNames {
     }
 }
 
+#[tactic(auto, using(crate::proofs::PageTable::pieces, crate::proofs::PageTable::long, crate::proofs::PageTable::named))]
 impl NameTable for PageNames {
     ghost rows = { page_rows };
 

@@ -157,7 +157,7 @@ pub enum CollectionKind {
     NamedArray,
     UsageSwitch,
     UsageModifier,
-    /// One that is kept for later, 0x07 to 0x7f.
+    /// One that is reserved, 0x07 to 0x7f.
     Reserved {
         value: u8,
     },

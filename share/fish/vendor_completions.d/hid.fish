@@ -1,5 +1,5 @@
 # Completions of `hid` for fish: an option in a line, with its values and what it is for.
-set -l commands decode fields values record uhid set convert compile map diff check list
+set -l commands decode fields values record uhid set convert compile map page diff check list
 
 # A command, where none stands yet, and behind help.
 set -l none "not __fish_seen_subcommand_from $commands help"
@@ -14,6 +14,7 @@ complete -c hid -n "$none" -a set -d "Writes the bytes of a report"
 complete -c hid -n "$none" -a convert -d "Writes a descriptor in another form"
 complete -c hid -n "$none" -a compile -d "Writes the descriptor that a text of hid decode says"
 complete -c hid -n "$none" -a map -d "Draws the bits of each report"
+complete -c hid -n "$none" -a page -d "Writes a page of HTML that shows a descriptor and reports"
 complete -c hid -n "$none" -a diff -d "Shows what differs between two descriptors"
 complete -c hid -n "$none" -a check -d "Shows what is odd in a descriptor, and what the standard says"
 complete -c hid -n "$none" -a list -d "Shows the HID devices of the machine"
@@ -39,12 +40,47 @@ complete -c hid -n "__fish_seen_subcommand_from fields" -l all -d "Show each fie
 complete -c hid -n "__fish_seen_subcommand_from fields" -l linux -d "Show the event codes that Linux's hid-generic gives each field, without quirks"
 complete -c hid -n "__fish_seen_subcommand_from values" -l direction -x -a "input output feature" -d "Which way the reports go"
 complete -c hid -n "__fish_seen_subcommand_from values" -l down -d "Show only the keys and buttons that are down, a name in each line"
+complete -c hid -n "__fish_seen_subcommand_from values" -l times -d "Show each report's number and its time in seconds"
 complete -c hid -n "__fish_seen_subcommand_from record" -l changes -d "Leave out what is as it was in the report before"
 complete -c hid -n "__fish_seen_subcommand_from record" -l raw -d "Write hid-recorder's lines"
+complete -c hid -n "__fish_seen_subcommand_from record" -l times -d "Show each report's number and its time in seconds"
 complete -c hid -n "__fish_seen_subcommand_from set" -l direction -x -a "input output feature" -d "Which way the reports go"
 complete -c hid -n "__fish_seen_subcommand_from set" -l to -x -a "hex c rust bytes recording python kernel" -d "What the bytes are written as"
 complete -c hid -n "__fish_seen_subcommand_from set" -l zero -d "Set all bits to 0 that no name sets, and not to what stands for no value"
-complete -c hid -n "__fish_seen_subcommand_from convert" -l to -x -a "hex c rust bytes recording python kernel zephyr tinyusb libinput" -d "What the bytes are written as"
-complete -c hid -n "__fish_seen_subcommand_from compile" -l to -x -a "hex c rust bytes recording python kernel zephyr tinyusb libinput" -d "What the bytes are written as"
+complete -c hid -n "__fish_seen_subcommand_from set" -l names -d "Show the names that it takes, one in each line, and write no report"
+complete -c hid -n "__fish_seen_subcommand_from convert" -l to -x -a "hex c rust bytes recording python kernel zephyr tinyusb lufa libinput webhid" -d "What the bytes are written as"
+complete -c hid -n "__fish_seen_subcommand_from compile" -l to -x -a "hex c rust bytes recording python kernel zephyr tinyusb lufa libinput webhid" -d "What the bytes are written as"
 complete -c hid -n "__fish_seen_subcommand_from map" -l svg -d "Write the picture as SVG"
 complete -c hid -n "__fish_seen_subcommand_from map" -l all -d "Draw all rows, past the first 4,096"
+complete -c hid -n "__fish_seen_subcommand_from page" -l direction -x -a "input output feature" -d "Which way the reports go"
+complete -c hid -n "__fish_seen_subcommand_from page" -l all -d "Leave nothing out: all items past 4,096, fields past 2,000 and reports past 4,000"
+complete -c hid -n "__fish_seen_subcommand_from check" -l for -x -a "linux windows" -d "Show also what this host refuses or may read otherwise, as far as it is known"
+
+# The names that `hid set` takes, where its file and its report's id stand before the word.
+function __hid_names
+    set -l tokens (commandline -opc)
+    set -l words
+    set -l options
+    set -l place 2
+    while test $place -le (count $tokens)
+        switch $tokens[$place]
+            case --form --report-form --device --limit --push --usages --direction --sysfs
+                set -a options $tokens[$place] $tokens[(math $place + 1)]
+                set place (math $place + 1)
+            case --color --to
+                set place (math $place + 1)
+            case --lenient
+                set -a options $tokens[$place]
+            case -
+                set -a words -
+            case '-*'
+            case '*'
+                set -a words $tokens[$place]
+        end
+        set place (math $place + 1)
+    end
+    if test (count $words) -ge 3; and test $words[1] = set
+        $tokens[1] set --names $options -- $words[2] $words[3] </dev/null 2>/dev/null
+    end
+end
+complete -c hid -n "__fish_seen_subcommand_from set" -a "(__hid_names)"

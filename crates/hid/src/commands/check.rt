@@ -1,7 +1,10 @@
 //! `hid check`: what is odd in a descriptor.
-use crate::commands::findings::{Finding, findings};
+use crate::commands::finding::Finding;
+use crate::commands::findings::findings;
+use crate::commands::host_findings::Host;
 use crate::commands::{check_length, descriptor_of};
 use crate::ending::Ending;
+use crate::world::World;
 use anyhow::{Result, bail};
 use hid_input::input::descriptor_named;
 use hid_input::settings::Settings;
@@ -10,13 +13,14 @@ use hidreport::{ParserError, ReportDescriptor};
 use serde::Serialize;
 use std::alloc::Global;
 use std::fmt::Write;
-use std::rt::Files;
 
 /// Shows what is odd in a descriptor.
 #[derive(Clone, Copy)]
 pub struct Check<'a> {
     /// The descriptor's input.
     pub file: &'a str,
+    /// The host whose refusals are shown, too.
+    pub host: Option<Host>,
 }
 
 /// Something odd, as JSON.
@@ -24,30 +28,32 @@ pub struct Check<'a> {
 struct OddObject<'a> {
     offset: Option<usize>,
     odd: &'a str,
+    source: &'a str,
 }
 
 impl<'a> Check<'a> {
     /// Shows each finding; something odd is refused.
-    pub fn run<R: AllocGlobal + Files + Input + Print + Eprint>(
-        &self,
-        rt: &R,
-        settings: &Settings,
-    ) -> Result<Ending> {
+    pub fn run<R: World>(&self, rt: &R, settings: &Settings) -> Result<Ending> {
         let given = descriptor_named(rt, settings, self.file)?;
         let bytes = descriptor_of(&given);
         check_length(settings, bytes)?;
-        let findings = checked(rt.alloc(), settings, bytes)?;
+        let findings = checked(rt.alloc(), settings, bytes, self.host)?;
         show_findings(rt, settings, &findings)
     }
 }
 
 /// What is odd in a descriptor.
-fn checked(alloc: Global, settings: &Settings, bytes: &[u8]) -> Result<Vec<Finding>> {
+fn checked(
+    alloc: Global,
+    settings: &Settings,
+    bytes: &[u8],
+    host: Option<Host>,
+) -> Result<Vec<Finding>> {
     let parsed = ReportDescriptor::try_from_with(alloc, bytes, settings.parse);
     if let Err(ParserError::OutOfMemory) = parsed {
         bail!("out of memory");
     }
-    Ok(findings(alloc, settings, bytes, &parsed)?)
+    Ok(findings(alloc, settings, bytes, &parsed, host)?)
 }
 
 fn show_findings<R: AllocGlobal + Print>(
@@ -70,14 +76,25 @@ fn show_findings<R: AllocGlobal + Print>(
 
 /// Appends the line of a finding.
 fn add_finding(text: &mut String, settings: &Settings, finding: &Finding) -> Result<()> {
-    let odd = finding.remark.as_str();
     let offset = finding.offset;
     if settings.is_json {
-        return add_json(text, &OddObject { offset, odd });
+        let mut said = String::new(*text.allocator());
+        finding.add(&mut said)?;
+        let (odd, source) = (said.as_str(), finding.source.name());
+        return add_json(
+            text,
+            &OddObject {
+                offset,
+                odd,
+                source,
+            },
+        );
     }
     match offset {
-        Some(offset) => writeln!(text, "{offset:>5}: {odd}")?,
-        None => writeln!(text, "       {odd}")?,
+        Some(offset) => write!(text, "{offset:>5}: ")?,
+        None => text.push_str("       ")?,
     }
+    finding.add(text)?;
+    text.push_str("\n")?;
     Ok(())
 }

@@ -3,6 +3,7 @@ use crate::commands::check_length;
 use crate::commands::target::Target;
 use crate::ending::Ending;
 use crate::items::{ItemCursor, ItemState, PlacedItem};
+use crate::world::World;
 use anyhow::{Context, Result, bail};
 use hid_input::input::{bytes_of_hex, text_named};
 use hid_input::settings::Settings;
@@ -10,7 +11,6 @@ use hid_output::escaped;
 use hid_text::words::{FlagTable, add_item, item_of_words, number_of, plain_number};
 use hidreport_items::write_item;
 use std::alloc::{AllocError, Global};
-use std::rt::Files;
 
 /// Writes the descriptor that a text says.
 #[derive(Clone, Copy)]
@@ -39,15 +39,11 @@ struct Line<'a> {
 
 impl<'a> Compile<'a> {
     /// Writes the bytes of all lines.
-    pub fn run<R: AllocGlobal + Files + Input + Print + Eprint>(
-        &self,
-        rt: &R,
-        settings: &Settings,
-    ) -> Result<Ending> {
+    pub fn run<R: World>(&self, rt: &R, settings: &Settings) -> Result<Ending> {
         let text = text_named(rt, self.text)?;
         let compiled = Compiled::of(rt.alloc(), &text)?;
         check_length(settings, &compiled.bytes)?;
-        self.target.write(rt, &compiled.bytes)?;
+        self.target.write(rt, settings, &compiled.bytes)?;
         Ok(Ending::Done)
     }
 }

@@ -2,10 +2,10 @@
 use crate::commands::target::Target;
 use crate::commands::{check_length, descriptor_of};
 use crate::ending::Ending;
+use crate::world::World;
 use anyhow::Result;
 use hid_input::input::descriptor_named;
 use hid_input::settings::Settings;
-use std::rt::Files;
 
 /// Writes a descriptor in another form.
 #[derive(Clone, Copy)]
@@ -18,15 +18,11 @@ pub struct Convert<'a> {
 
 impl<'a> Convert<'a> {
     /// Writes the bytes.
-    pub fn run<R: AllocGlobal + Files + Input + Print + Eprint>(
-        &self,
-        rt: &R,
-        settings: &Settings,
-    ) -> Result<Ending> {
+    pub fn run<R: World>(&self, rt: &R, settings: &Settings) -> Result<Ending> {
         let given = descriptor_named(rt, settings, self.file)?;
         let bytes = descriptor_of(&given);
         check_length(settings, bytes)?;
-        self.target.write(rt, bytes)?;
+        self.target.write(rt, settings, bytes)?;
         Ok(Ending::Done)
     }
 }

@@ -1,6 +1,7 @@
 //! `hid diff`: what differs between two descriptors.
 use crate::commands::descriptor_by;
 use crate::ending::Ending;
+use crate::world::World;
 use anyhow::{Context, Result};
 use hid_input::settings::Settings;
 use hid_output::{add_json, flush, flush_piece};
@@ -11,7 +12,6 @@ use hid_text::words::word_of;
 use hidreport::{Direction, Field, RDescReport, Report, ReportDescriptor};
 use serde::Serialize;
 use std::alloc::{AllocError, Global};
-use std::rt::Files;
 
 /// Shows what differs between two descriptors.
 #[derive(Clone, Copy)]
@@ -51,11 +51,7 @@ struct Showing<'a> {
 
 impl<'a> Diff<'a> {
     /// Shows the difference; there is none exactly where the two read the same.
-    pub fn run<R: AllocGlobal + Files + Input + Print + Eprint>(
-        &self,
-        rt: &R,
-        settings: &Settings,
-    ) -> Result<Ending> {
+    pub fn run<R: World>(&self, rt: &R, settings: &Settings) -> Result<Ending> {
         let first = descriptor_by(rt, settings, self.file)?;
         let second = descriptor_by(rt, settings, self.other).context(format_args!(
             "{}",

@@ -2,6 +2,7 @@
 use crate::commands::descriptor_by;
 use crate::commands::linux_fields::show_linux;
 use crate::ending::Ending;
+use crate::world::World;
 use anyhow::Result;
 use hid_input::settings::Settings;
 use hid_output::{flush, flush_piece};
@@ -10,7 +11,6 @@ use hid_text::report::{Block, SameReports, add_title, field_lines};
 use hidreport::{Direction, RDescReport, Report};
 use std::alloc::AllocError;
 use std::fmt::Write;
-use std::rt::Files;
 
 /// Shows the reports of a descriptor with their fields.
 #[derive(Clone, Copy)]
@@ -25,11 +25,7 @@ pub struct Fields<'a> {
 
 impl<'a> Fields<'a> {
     /// Shows the reports of the three directions.
-    pub fn run<R: AllocGlobal + Files + Input + Print + Eprint>(
-        &self,
-        rt: &R,
-        settings: &Settings,
-    ) -> Result<Ending> {
+    pub fn run<R: World>(&self, rt: &R, settings: &Settings) -> Result<Ending> {
         if self.shows_linux {
             return show_linux(rt, settings, self.file);
         }

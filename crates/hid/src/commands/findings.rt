@@ -1,21 +1,16 @@
 //! What is odd in a descriptor, and what the standard says.
-use crate::commands::decode::{offset_of, remark_of};
+use crate::commands::data_findings::{DataItem, tell_unit};
+use crate::commands::finding::{Finding, Source, tell};
+use crate::commands::host_findings::{Host, tell_host};
+use crate::commands::item_lines::{offset_of, remark_of};
+use crate::commands::local_usages::LocalUsages;
 use crate::commands::other_usages::tell_other_usages;
 use crate::commands::report_findings::tell_reports;
 use crate::items::{ItemCursor, ItemState, PlacedItem};
 use hid_input::settings::Settings;
-use hidreport::hid::{CollectionItem, GlobalItem, ItemType, LocalItem, MainDataItem, MainItem};
+use hidreport::hid::{CollectionItem, GlobalItem, ItemFlags, ItemType, MainDataItem, MainItem};
 use hidreport::{ParserError, ReportDescriptor};
 use std::alloc::{AllocError, Global};
-
-/// Something odd.
-#[derive(Drop)]
-pub struct Finding {
-    /// The offset of the item, where it is an item's.
-    pub offset: Option<usize>,
-    /// What is odd, and the section of the standard.
-    pub remark: String,
-}
 
 /// What the items so far say.
 #[derive(Drop)]
@@ -23,9 +18,8 @@ struct Watch {
     alloc: Global,
     findings: Vec<Finding>,
     state: ItemState,
-    usages: u64,
-    first_usage: usize,
-    range_start: u32,
+    usages: LocalUsages,
+    told_unit: Option<u32>,
 }
 
 /// All that is odd, in the order of the offsets; what is of no item comes last.
@@ -34,6 +28,7 @@ pub fn findings(
     settings: &Settings,
     bytes: &[u8],
     parsed: &Result<ReportDescriptor, ParserError>,
+    host: Option<Host>,
 ) -> Result<Vec<Finding>, AllocError> {
     let mut watch = Watch::new(alloc);
     watch.pass_all(bytes)?;
@@ -45,6 +40,9 @@ pub fn findings(
         Err(fault) => watch.tell_refusal(fault)?,
     }
     let mut findings = watch.findings;
+    if let Some(host) = host {
+        tell_host(bytes, parsed, host, &mut findings)?;
+    }
     findings.sort_by_key(|it| it.offset.unwrap_or(usize::MAX))?;
     Ok(findings)
 }
@@ -56,17 +54,14 @@ impl Watch {
             alloc,
             findings: Vec::new(alloc),
             state: ItemState::new(alloc),
-            usages: 0,
-            first_usage: 0,
-            range_start: 0,
+            usages: LocalUsages::new(),
+            told_unit: None,
         }
     }
 
     /// Notes what is odd at an offset.
-    fn tell(&mut self, offset: usize, remark: &str) -> Result<(), AllocError> {
-        let remark = String::from_str(self.alloc, remark)?;
-        let offset = Some(offset);
-        Ok(self.findings.push(Finding { offset, remark })?)
+    fn tell(&mut self, offset: usize, remark: &str, source: Source) -> Result<(), AllocError> {
+        tell(&mut self.findings, Some(offset), remark, source)
     }
 
     /// Goes over all items.
@@ -87,7 +82,7 @@ impl Watch {
         let remark = remark_of(fault);
         let remark = format!(in self.alloc; "refused: {remark}")?;
         let offset = offset_of(Some(fault));
-        Ok(self.findings.push(Finding { offset, remark })?)
+        tell(&mut self.findings, offset, &remark, Source::Refusal)
     }
 
     /// Goes over an item.
@@ -97,11 +92,11 @@ impl Watch {
             ItemType::Main(item) => self.pass_main(offset, item),
             ItemType::Global(item) => self.pass_global(offset, &item),
             ItemType::Local(item) => {
-                self.pass_local(offset, item);
+                self.usages.pass(offset, item);
                 Ok(())
             }
-            ItemType::Long => self.tell(offset, "a long item: none is defined (Section 6.2.2.3)"),
-            ItemType::Reserved => self.tell(offset, "its type is reserved (Section 6.2.2.2)"),
+            ItemType::Long => self.tell(offset, "a long item: none is defined", Source::LongItems),
+            ItemType::Reserved => self.tell(offset, "its type is reserved", Source::ItemTypes),
         }
     }
 
@@ -109,11 +104,11 @@ impl Watch {
         match item {
             MainItem::Collection(kind) => self.open_collection(offset, kind)?,
             MainItem::EndCollection => self.tell_unused()?,
-            MainItem::Input(item) => self.tell_data(offset, item.is_constant())?,
-            MainItem::Output(item) => self.tell_data(offset, item.is_constant())?,
-            MainItem::Feature(item) => self.tell_data(offset, item.is_constant())?,
+            MainItem::Input(item) => self.tell_data(offset, item.flags())?,
+            MainItem::Output(item) => self.tell_data(offset, item.flags())?,
+            MainItem::Feature(item) => self.tell_data(offset, item.flags())?,
         }
-        self.usages = 0;
+        self.usages = LocalUsages::new();
         Ok(())
     }
 
@@ -125,7 +120,8 @@ impl Watch {
         if self.state.open.is_empty() {
             self.tell(
                 offset,
-                "an outermost collection is an Application (Section 8.4)",
+                "an outermost collection is an Application",
+                Source::Reports,
             )?;
         }
         Ok(())
@@ -133,29 +129,37 @@ impl Watch {
 
     /// Notes that a collection which names what the device is has no usage.
     fn tell_no_usage(&mut self, offset: usize) -> Result<(), AllocError> {
-        if self.usages == 0 {
-            return self.tell(offset, "an Application has no usage (Section 6.2.2.6)");
+        if self.usages.count == 0 {
+            return self.tell(
+                offset,
+                "an Application has no usage",
+                Source::CollectionItems,
+            );
         }
         Ok(())
     }
 
     /// Notes what is odd at an Input, Output or Feature.
-    fn tell_data(&mut self, offset: usize, is_constant: bool) -> Result<(), AllocError> {
+    fn tell_data(&mut self, offset: usize, flags: ItemFlags) -> Result<(), AllocError> {
         self.tell_place(offset)?;
         self.tell_no_bits(offset)?;
-        if is_constant {
+        if flags.is_constant {
             return Ok(());
         }
-        self.tell_bounds()?;
-        self.tell_width()?;
-        self.tell_one_value(offset)?;
-        self.tell_usages()
+        let item = DataItem {
+            offset,
+            is_variable: flags.is_variable,
+            globals: self.state.globals,
+            usages: self.usages,
+        };
+        item.tell(&mut self.findings)?;
+        tell_unit(&mut self.findings, &item, &mut self.told_unit)
     }
 
     /// Notes that no collection is open.
     fn tell_place(&mut self, offset: usize) -> Result<(), AllocError> {
         if self.state.open.is_empty() {
-            return self.tell(offset, "it lies in no collection (Section 8.4)");
+            return self.tell(offset, "it lies in no collection", Source::Reports);
         }
         Ok(())
     }
@@ -163,99 +167,30 @@ impl Watch {
     /// Notes that there is nothing to hold a value.
     fn tell_no_bits(&mut self, offset: usize) -> Result<(), AllocError> {
         if self.state.globals.size == 0 || self.state.globals.count == 0 {
-            return self.tell(offset, "it has no bits (Section 6.2.2.7)");
+            return self.tell(offset, "it has no bits", Source::GlobalItems);
         }
         Ok(())
-    }
-
-    /// Notes that the logical maximum is below the minimum, and what may be meant.
-    fn tell_bounds(&mut self) -> Result<(), AllocError> {
-        let (low, high) = (self.state.globals.minimum, self.state.globals.maximum);
-        if low <= high {
-            return Ok(());
-        }
-        let hint = hint_of(low, high);
-        let remark = format!(in self.alloc;
-            "the maximum {high} is below the minimum {low}{hint} (Section 6.2.2.7)"
-        )?;
-        self.tell(self.state.globals.maximum_offset, &remark)
-    }
-
-    /// Notes that so few bits don't hold the logical maximum.
-    fn tell_width(&mut self) -> Result<(), AllocError> {
-        let (low, high) = (self.state.globals.minimum, self.state.globals.maximum);
-        let size = self.state.globals.size;
-        if high < low || holds(size, low < 0, high) {
-            return Ok(());
-        }
-        let plural = if size == 1 { "" } else { "s" };
-        let remark = format!(in self.alloc;
-            "the maximum {high} takes more than {size} bit{plural} (Section 6.2.2.7)"
-        )?;
-        self.tell(self.state.globals.maximum_offset, &remark)
-    }
-
-    /// Notes that the logical bounds are one number.
-    fn tell_one_value(&mut self, offset: usize) -> Result<(), AllocError> {
-        let (low, high) = (self.state.globals.minimum, self.state.globals.maximum);
-        if low != high || self.state.globals.size == 0 {
-            return Ok(());
-        }
-        let remark = format!(in self.alloc;
-            "its logical minimum and maximum are both {low} (Section 6.2.2.7)"
-        )?;
-        self.tell(offset, &remark)
-    }
-
-    /// Notes that there are more usages than buttons or keys of one bit.
-    fn tell_usages(&mut self) -> Result<(), AllocError> {
-        let (usages, count) = (self.usages, self.state.globals.count);
-        if usages <= count as u64 || self.state.globals.size != 1 {
-            return Ok(());
-        }
-        let remark = format!(in self.alloc;
-            "{usages} usages for {count} fields (Section 6.2.2.8)"
-        )?;
-        self.tell(self.first_usage, &remark)
     }
 
     fn pass_global(&mut self, offset: usize, item: &GlobalItem) -> Result<(), AllocError> {
         match item {
             GlobalItem::ReportId(id) if u8::from(id) == 0 => {
-                self.tell(offset, "the report id 0 is reserved (Section 6.2.2.7)")
+                self.tell(offset, "the report id 0 is reserved", Source::GlobalItems)
             }
-            GlobalItem::Reserved => self.tell(offset, "its tag is reserved (Section 6.2.2.7)"),
+            GlobalItem::Reserved => self.tell(offset, "its tag is reserved", Source::GlobalItems),
             _ => Ok(()),
         }
     }
 
-    fn pass_local(&mut self, offset: usize, item: LocalItem) {
-        let more = match item {
-            LocalItem::Usage(..) | LocalItem::UsageId(_) => 1,
-            LocalItem::UsageMinimum(start) => {
-                self.range_start = u32::from(start);
-                0
-            }
-            LocalItem::UsageMaximum(end) => {
-                let range = u64::from(u32::from(end)).saturating_sub(u64::from(self.range_start));
-                range.saturating_add(1)
-            }
-            _ => 0,
-        };
-        if self.usages == 0 {
-            self.first_usage = offset;
-        }
-        self.usages = self.usages.saturating_add(more);
-    }
-
     /// Notes that usages stand behind the last item that could use them.
     fn tell_unused(&mut self) -> Result<(), AllocError> {
-        if self.usages == 0 {
+        if self.usages.count == 0 {
             return Ok(());
         }
         self.tell(
-            self.first_usage,
-            "no item uses the usages from here on (Section 6.2.2.8)",
+            self.usages.first_offset,
+            "no item uses the usages from here on",
+            Source::LocalItems,
         )
     }
 
@@ -269,7 +204,7 @@ impl Watch {
     fn tell_open(&mut self) -> Result<(), AllocError> {
         for index in 0..self.state.open.len() {
             if let Some(offset) = self.state.open.get(index).copied() {
-                self.tell(offset, "the collection isn't closed (Section 6.2.2.4)")?;
+                self.tell(offset, "the collection isn't closed", Source::MainItems)?;
             }
         }
         Ok(())
@@ -280,30 +215,11 @@ impl Watch {
             if let Some((offset, _globals)) = self.state.pushed.get(index).copied() {
                 self.tell(
                     offset,
-                    "what is kept is never brought back (Section 6.2.2.7)",
+                    "what is kept is never brought back",
+                    Source::GlobalItems,
                 )?;
             }
         }
         Ok(())
     }
-}
-
-/// What may be meant by a maximum below the minimum.
-fn hint_of(low: i32, high: i32) -> &'static str {
-    if 0 <= low && high < 0 {
-        ": without a sign it takes a byte more"
-    } else {
-        ""
-    }
-}
-
-/// Whether so many bits, signed or not, hold a number above the least that they hold; no bits are
-/// told of elsewhere, and past 31 they hold all.
-fn holds(size: usize, is_signed: bool, number: i32) -> bool {
-    let bits = if is_signed {
-        size.saturating_sub(1)
-    } else {
-        size
-    };
-    size == 0 || 31 <= bits || number >> bits == 0 || number < 0
 }

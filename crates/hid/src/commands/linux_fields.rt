@@ -1,8 +1,10 @@
 //! `hid fields --linux`: each field with the event codes that Linux gives its usages.
 use crate::commands::fields::add_head_of;
-use crate::commands::linux_reading::{Doubt, LinuxReading, with_arrays};
+use crate::commands::linux_reading::{Doubt, LinuxReading};
 use crate::commands::{descriptor_of, parsed};
 use crate::ending::Ending;
+use crate::items::ItemCursor;
+use crate::world::World;
 use anyhow::Result;
 use hid_input::input::{descriptor_named, mend};
 use hid_input::settings::Settings;
@@ -13,18 +15,13 @@ use hid_text::report::{FieldLine, around};
 use hid_text::words::{add_field, add_spaces, indent_of};
 use hidreport::{Collection, Direction, Field, Outline, OutlineReport, RDescReport, Report, Usage};
 use hidreport_linux::{Driver, InputDevices, Item, Unmapped};
-use std::alloc::AllocError;
-use std::rt::Files;
+use std::alloc::{AllocError, Global};
 
 /// How much deeper than its array's the usages of an array stand.
 const DEEPER: usize = 12;
 
 /// Shows the reports of a descriptor with their fields, and what Linux gives each.
-pub fn show_linux<R: AllocGlobal + Files + Input + Print + Eprint>(
-    rt: &R,
-    settings: &Settings,
-    file: &str,
-) -> Result<Ending> {
+pub fn show_linux<R: World>(rt: &R, settings: &Settings, file: &str) -> Result<Ending> {
     let mut given = descriptor_named(rt, &unmended(settings), file)?;
     let reading = LinuxReading::of(rt.alloc(), descriptor_of(&given))?;
     if settings.is_lenient {
@@ -201,4 +198,20 @@ fn add_opened(
         FieldLine::Opens(depth, collection).add(text)?;
     }
     Ok(())
+}
+
+/// The same descriptor with each item an array, whose fields have all usages that an item names.
+fn with_arrays(alloc: Global, bytes: &[u8]) -> Result<Vec<u8>, AllocError> {
+    let mut arrays = Vec::from_slice(alloc, bytes)?;
+    let mut cursor = ItemCursor::new(bytes);
+    for _ in 0..bytes.len() {
+        let Some(entry) = cursor.next_item() else {
+            break;
+        };
+        let is_data = matches!(entry.bytes, [0x80..=0x83 | 0x90..=0x93 | 0xb0..=0xb3, _, ..]);
+        if is_data && let Some(flags) = arrays.get_mut(entry.offset.saturating_add(1)) {
+            *flags &= 0xfd;
+        }
+    }
+    Ok(arrays)
 }

@@ -1,6 +1,6 @@
 //! How Linux's hid-core reads a descriptor that `hid` reads, too: what it refuses, and where it may
 //! find other usages.
-use crate::items::ItemCursor;
+use crate::commands::item_number::{signed, size_of, unsigned};
 use hidreport_linux::{Unmapped, is_input_application};
 use std::alloc::{AllocError, Global};
 
@@ -59,6 +59,8 @@ pub struct LinuxReading {
     pub has_sensors: bool,
     /// The first thing that is the matter.
     pub doubt: Option<Doubt>,
+    /// The first for which it is refused.
+    pub refusal: Option<Doubt>,
 }
 
 impl LinuxReading {
@@ -86,6 +88,7 @@ impl LinuxReading {
             has_input: false,
             has_sensors: false,
             doubt: None,
+            refusal: None,
         };
         reading.pass_all(bytes)?;
         Ok(reading)
@@ -121,12 +124,16 @@ impl LinuxReading {
 
     /// Keeps what is the matter, if it is the first.
     fn tell(&mut self, offset: usize, unmapped: Unmapped, reason: &'static str) {
+        let doubt = Some(Doubt {
+            offset,
+            unmapped,
+            reason,
+        });
         if self.doubt.is_none() {
-            self.doubt = Some(Doubt {
-                offset,
-                unmapped,
-                reason,
-            });
+            self.doubt = doubt;
+        }
+        if self.refusal.is_none() && unmapped == Unmapped::Refused {
+            self.refusal = doubt;
         }
     }
 
@@ -143,11 +150,11 @@ impl LinuxReading {
         let number = unsigned(data);
         match head & 0xfc {
             0xa4 => self.push(offset)?,
-            0xb4 => self.pop(),
+            0xb4 => self.pop(offset),
             0x14 => self.globals.minimum = signed(data),
             0x24 => self.pass_maximum(data),
             0xa0 => self.open(number & 0xff),
-            0xc0 => self.close(),
+            0xc0 => self.close(offset),
             0x80 | 0x90 | 0xb0 => self.pass_data(offset),
             head => match head & 0x0c {
                 0x00 => self.end_locals(),
@@ -166,9 +173,10 @@ impl LinuxReading {
         Ok(self.pushed.push(self.globals)?)
     }
 
-    fn pop(&mut self) {
-        if let Some(globals) = self.pushed.pop() {
-            self.globals = globals;
+    fn pop(&mut self, offset: usize) {
+        match self.pushed.pop() {
+            Some(globals) => self.globals = globals,
+            None => self.refuse(offset, "a Pop without a Push"),
         }
     }
 
@@ -194,7 +202,10 @@ impl LinuxReading {
         }
     }
 
-    fn close(&mut self) {
+    fn close(&mut self, offset: usize) {
+        if self.depth == 0 {
+            self.refuse(offset, "an End Collection without a collection");
+        }
         self.depth = self.depth.saturating_sub(1);
         self.end_locals();
     }
@@ -323,50 +334,4 @@ impl LinuxReading {
             self.refuse(offset, "a set of usages that isn't closed");
         }
     }
-}
-
-/// How many bytes of data an item has.
-fn size_of(head: u8) -> usize {
-    match head & 3 {
-        3 => 4,
-        size => usize::from(size),
-    }
-}
-
-/// The number of up to four bytes.
-fn unsigned(data: &[u8]) -> u32 {
-    match data {
-        [] => 0,
-        [a] => u32::from(*a),
-        [a, b] => u32::from(u16::from_le_bytes([*a, *b])),
-        [a, b, c, d, ..] => u32::from_le_bytes([*a, *b, *c, *d]),
-        _ => 0,
-    }
-}
-
-/// The same with a sign.
-fn signed(data: &[u8]) -> i32 {
-    match data {
-        [] => 0,
-        [a] => i32::from((*a).cast_signed()),
-        [a, b] => i32::from(u16::from_le_bytes([*a, *b]).cast_signed()),
-        [a, b, c, d, ..] => u32::from_le_bytes([*a, *b, *c, *d]).cast_signed(),
-        _ => 0,
-    }
-}
-
-/// The same descriptor with each item an array, whose fields have all usages that an item names.
-pub fn with_arrays(alloc: Global, bytes: &[u8]) -> Result<Vec<u8>, AllocError> {
-    let mut arrays = Vec::from_slice(alloc, bytes)?;
-    let mut cursor = ItemCursor::new(bytes);
-    for _ in 0..bytes.len() {
-        let Some(entry) = cursor.next_item() else {
-            break;
-        };
-        let is_data = matches!(entry.bytes, [0x80..=0x83 | 0x90..=0x93 | 0xb0..=0xb3, _, ..]);
-        if is_data && let Some(flags) = arrays.get_mut(entry.offset.saturating_add(1)) {
-            *flags &= 0xfd;
-        }
-    }
-    Ok(arrays)
 }

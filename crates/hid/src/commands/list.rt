@@ -1,6 +1,7 @@
 //! `hid list`: the HID devices of the machine.
 use crate::commands::parsed;
 use crate::ending::Ending;
+use crate::world::World;
 use anyhow::{Context, Result};
 use hid_input::input::{MachineDevice, bytes_named, folder_of, machine_devices};
 use hid_input::settings::Settings;
@@ -41,11 +42,7 @@ struct DeviceObject<'a> {
 
 impl List {
     /// Shows each device.
-    pub fn run<R: AllocGlobal + Files + Clone + Drop + Input + Print>(
-        &self,
-        rt: &R,
-        settings: &Settings,
-    ) -> Result<Ending> {
+    pub fn run<R: World>(&self, rt: &R, settings: &Settings) -> Result<Ending> {
         let devices = machine_devices(rt, settings.sysfs)?;
         let mut text = String::new(rt.alloc());
         for device in devices.iter() {

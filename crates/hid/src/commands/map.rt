@@ -1,15 +1,15 @@
 //! `hid map`: the bits of each report, a row for each byte, bit 7 on the left.
 use crate::commands::descriptor_by;
 use crate::ending::Ending;
+use crate::world::World;
 use anyhow::Result;
 use hid_input::settings::Settings;
 use hid_output::{flush, flush_piece, show};
-use hid_text::report::{Cell, Picture, Row, add_title, rows_of};
+use hid_text::report::{Cell, Picture, Row, add_title, height_of, rows_of};
 use hid_text::words::{add_spaces, shortened};
 use hidreport::{Direction, RDescReport, ReportDescriptor};
 use std::alloc::AllocError;
 use std::fmt::Write;
-use std::rt::Files;
 use unicode_width::UnicodeWidthStr;
 
 /// How many letters a bit has.
@@ -31,11 +31,7 @@ pub struct Map<'a> {
 
 impl<'a> Map<'a> {
     /// Draws the pictures of all reports.
-    pub fn run<R: AllocGlobal + Files + Input + Print + Eprint>(
-        &self,
-        rt: &R,
-        settings: &Settings,
-    ) -> Result<Ending> {
+    pub fn run<R: World>(&self, rt: &R, settings: &Settings) -> Result<Ending> {
         let descriptor = descriptor_by(rt, settings, self.file)?;
         let most = if self.shows_all {
             usize::MAX
@@ -56,7 +52,13 @@ fn show_svg<R: AllocGlobal + Print>(
     descriptor: &ReportDescriptor,
     most: usize,
 ) -> Result<()> {
-    let mut picture = Picture::new(rt.alloc(), most);
+    let mut total = 0usize;
+    for direction in Direction::ALL {
+        for report in descriptor.reports(direction) {
+            total = total.saturating_add(height_of(rt.alloc(), report, most)?);
+        }
+    }
+    let mut picture = Picture::new(rt.alloc(), most, total);
     for direction in Direction::ALL {
         for report in descriptor.reports(direction) {
             picture.add(direction, report)?;
@@ -118,10 +120,10 @@ fn add_row(text: &mut String, row: &Row) -> Result<(), AllocError> {
 /// Appends a cell, its text in the middle.
 fn add_cell(text: &mut String, cell: &Cell) -> Result<(), AllocError> {
     let width = cell.bits.saturating_mul(WIDTH + 1).saturating_sub(1);
-    let shown = shortened(&cell.name, width);
-    let gap = width.saturating_sub(shown.width());
+    let shown = shortened(*text.allocator(), &cell.name, width)?;
+    let gap = width.saturating_sub(shown.as_str().width());
     add_spaces(text, gap / 2)?;
-    text.push_str(shown)?;
+    text.push_str(&shown)?;
     add_spaces(text, gap - gap / 2)?;
     text.push_str("|")
 }

@@ -1,6 +1,6 @@
 //! Where the letter of the standard gives fields other usages than hosts read.
-use crate::commands::decode::{offset_of, remark_of};
-use crate::commands::findings::Finding;
+use crate::commands::finding::{Finding, Source};
+use crate::commands::item_lines::{offset_of, remark_of};
 use hid_input::settings::Settings;
 use hid_text::report::add_title;
 use hid_text::words::add_name;
@@ -36,9 +36,13 @@ fn tell_fault(
     findings: &mut Vec<Finding>,
 ) -> Result<(), AllocError> {
     let mut remark = String::from_str(alloc, remark_of(fault))?;
-    remark.push_str(", by the letter of the standard; hosts read it (Section 6.2.2.8)")?;
+    remark.push_str(", by the letter of the standard; hosts read it")?;
     let offset = offset_of(Some(fault));
-    Ok(findings.push(Finding { offset, remark })?)
+    Ok(findings.push(Finding {
+        offset,
+        remark,
+        source: Source::LocalItems,
+    })?)
 }
 
 fn tell_reports(
@@ -86,6 +90,7 @@ fn tell_report(
     Ok(findings.push(Finding {
         offset: None,
         remark,
+        source: Source::LocalItems,
     })?)
 }
 
@@ -105,7 +110,7 @@ fn add_both(
     if more > 0 {
         write!(text, "; {more} more differ")?;
     }
-    text.push_str(" (Section 6.2.2.8)")
+    Ok(())
 }
 
 fn have_same_usages(field: &Field, other: &Field) -> bool {

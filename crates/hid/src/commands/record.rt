@@ -1,7 +1,9 @@
 //! `hid record`: the reports of a stream, each in a line as it comes.
 use crate::commands::all_parsed;
+use crate::commands::report_time::{add_stamp, add_time};
 use crate::commands::values::place_of;
 use crate::ending::Ending;
+use crate::world::World;
 use anyhow::{Context, Result, bail};
 use hid_input::input::{Form, Given, GivenReport, Stream, descriptors_named, is_node, node_named};
 use hid_input::settings::Settings;
@@ -13,7 +15,7 @@ use std::alloc::AllocError;
 use std::fmt::Write;
 use std::fs;
 use std::io::Read;
-use std::rt::{Clock, Files};
+use std::rt::Clock;
 use std::time::{Duration, Instant};
 
 /// How many bytes are read at once.
@@ -43,6 +45,8 @@ pub struct Record<'a> {
     pub only_changes: bool,
     /// Whether hid-recorder's lines are written.
     pub is_raw: bool,
+    /// Whether each line has the report's number and its time before it.
+    pub has_times: bool,
 }
 
 /// What is shown so far.
@@ -51,6 +55,8 @@ struct Recording<'a> {
     given: &'a Given,
     lines: Vec<Lines<'a>>,
     shown: Shown,
+    has_times: bool,
+    known: u64,
     unknown: u64,
     /// The device of the last report.
     device: usize,
@@ -59,11 +65,7 @@ struct Recording<'a> {
 
 impl<'a> Record<'a> {
     /// Shows each report as it comes, up to the end of the stream.
-    pub fn run<R: AllocGlobal + Clock + Files + Input + Print + Eprint>(
-        &self,
-        rt: &R,
-        settings: &Settings,
-    ) -> Result<Ending> {
+    pub fn run<R: World>(&self, rt: &R, settings: &Settings) -> Result<Ending> {
         let given = descriptors_named(rt, settings, self.file)?;
         let known = all_parsed(rt.alloc(), settings, &given)?;
         let mut recording = self.recording(rt, settings, &given, &known)?;
@@ -74,7 +76,7 @@ impl<'a> Record<'a> {
     }
 
     /// Shows what the stream's file or the standard input gives.
-    fn follow_named<R: AllocGlobal + Clock + Files + Input + Print + Eprint>(
+    fn follow_named<R: World>(
         &self,
         rt: &R,
         node: &str,
@@ -116,6 +118,8 @@ impl<'a> Record<'a> {
             given,
             lines,
             shown,
+            has_times: self.has_times,
+            known: 0,
             unknown: 0,
             device: 0,
             text,
@@ -207,12 +211,30 @@ impl<'a> Recording<'a> {
             return Ok(false);
         };
         tell_size(rt, own, &report.bytes)?;
+        self.known = self.known.saturating_add(1);
         if self.shown == Shown::Line {
-            return Ok(lines.add(&mut self.text, &report.bytes)?);
+            let mut line = String::new(*self.text.allocator());
+            lines.add(&mut line, &report.bytes)?;
+            self.add_line(report, time, &line)?;
+            return Ok(true);
         }
         let time = report.time.as_deref();
         add_value_objects(&mut self.text, Direction::Input, own, &report.bytes, time)?;
         Ok(true)
+    }
+
+    /// Appends the line of a report, where something is shown of it.
+    fn add_line(
+        &mut self,
+        report: &GivenReport,
+        time: Duration,
+        line: &str,
+    ) -> Result<(), AllocError> {
+        if self.has_times && !line.is_empty() {
+            let number = self.known;
+            add_stamp(&mut self.text, number, report, Some(time))?;
+        }
+        self.text.push_str(line)
     }
 
     /// Appends a line of hid-recorder, behind one that names its device where that is another.
@@ -222,15 +244,10 @@ impl<'a> Recording<'a> {
             self.device = device;
             writeln!(text, "D: {device}")?;
         }
-        match &report.time {
-            Some(time) => write!(text, "E: {time} ")?,
-            None => {
-                let (seconds, micros) = (time.as_secs(), time.subsec_micros());
-                write!(text, "E: {seconds:06}.{micros:06} ")?;
-            }
-        }
+        text.push_str("E: ")?;
+        add_time(text, report, time)?;
         let count = report.bytes.len();
-        write!(text, "{count} ")?;
+        write!(text, " {count} ")?;
         add_bytes(text, &report.bytes)?;
         text.push_str("\n")
     }

@@ -1,8 +1,11 @@
 //! What is odd in the reports of a descriptor, and what the standard says.
-use crate::commands::findings::Finding;
+use crate::commands::finding::{Finding, Source, tell};
 use hid_text::report::add_title;
 use hidreport::{Collection, Direction, Field, RDescReport, Report, ReportDescriptor};
 use std::alloc::AllocError;
+
+/// The most bytes of an interrupt transaction at full speed (USB 2.0, 5.7.3).
+const TRANSACTION: usize = 64;
 
 /// Notes what is odd in each report.
 pub fn tell_reports(
@@ -14,9 +17,10 @@ pub fn tell_reports(
         for report in descriptor.reports(direction) {
             tell_size(direction, report, findings)?;
             tell_fields(direction, report, findings)?;
+            tell_transactions(direction, report, findings)?;
             if have_ids && !has_id(report) {
-                let said = ": it has no id, and others have (Section 5.6)";
-                tell(direction, report, said, findings)?;
+                let said = ": it has no id, and others have";
+                tell_report(direction, report, said, Source::ReportIds, findings)?;
             }
         }
     }
@@ -46,8 +50,25 @@ fn tell_size(
     if report.size_in_bits() % 8 == 0 {
         return Ok(());
     }
-    let said = ": its bits are no whole number of bytes (Section 8.4)";
-    tell(direction, report, said, findings)
+    let said = ": its bits are no whole number of bytes";
+    tell_report(direction, report, said, Source::Reports, findings)
+}
+
+/// Notes an input report that takes more than one interrupt transaction at full speed.
+fn tell_transactions(
+    direction: Direction,
+    report: &RDescReport,
+    findings: &mut Vec<Finding>,
+) -> Result<(), AllocError> {
+    let bytes = report.size_in_bytes();
+    if direction != Direction::Input || bytes <= TRANSACTION {
+        return Ok(());
+    }
+    let alloc = *findings.allocator();
+    let said = format!(in alloc;
+        ": its {bytes} bytes are more than {TRANSACTION}, the most in a transaction at full speed"
+    )?;
+    tell_report(direction, report, &said, Source::Transactions, findings)
 }
 
 /// Notes fields that lie in too many bytes, and those of several outermost collections.
@@ -57,12 +78,12 @@ fn tell_fields(
     findings: &mut Vec<Finding>,
 ) -> Result<(), AllocError> {
     if report.fields().iter().any(is_in_five_bytes) {
-        let said = ": a field lies in more than four bytes (Section 8.4)";
-        tell(direction, report, said, findings)?;
+        let said = ": a field lies in more than four bytes";
+        tell_report(direction, report, said, Source::Reports, findings)?;
     }
     if are_apart(report.fields()) {
-        let said = ": its fields lie in several outermost collections (Section 8.4)";
-        tell(direction, report, said, findings)?;
+        let said = ": its fields lie in several outermost collections";
+        tell_report(direction, report, said, Source::Reports, findings)?;
     }
     Ok(())
 }
@@ -95,15 +116,15 @@ fn are_apart(fields: &[Field]) -> bool {
 }
 
 /// Notes what is odd in a report.
-fn tell(
+fn tell_report(
     direction: Direction,
     report: &RDescReport,
     said: &str,
+    source: Source,
     findings: &mut Vec<Finding>,
 ) -> Result<(), AllocError> {
     let mut remark = String::new(*findings.allocator());
     add_title(&mut remark, direction, report)?;
     remark.push_str(said)?;
-    let offset = None;
-    Ok(findings.push(Finding { offset, remark })?)
+    tell(findings, None, &remark, source)
 }

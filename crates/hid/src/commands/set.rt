@@ -1,8 +1,10 @@
 //! `hid set`: the bytes of a report, from names and numbers.
 use crate::commands::descriptor_by;
+use crate::commands::field_names::show_names;
 use crate::commands::target::ReportTarget;
 use crate::ending::Ending;
 use crate::wanted_usage::WantedUsage;
+use crate::world::World;
 use anyhow::{Context, Result, anyhow, bail};
 use hid_input::settings::Settings;
 use hid_output::escaped;
@@ -14,7 +16,6 @@ use hidreport::{
     Usage, VariableField,
 };
 use std::alloc::Global;
-use std::rt::Files;
 
 /// Writes the bytes of a report.
 #[derive(Drop)]
@@ -31,6 +32,8 @@ pub struct Set<'a> {
     pub target: ReportTarget,
     /// Whether all bits that no name sets are 0.
     pub is_zero: bool,
+    /// Whether the names that it takes are shown in place of a report.
+    pub shows_names: bool,
 }
 
 /// A report's bytes so far.
@@ -65,15 +68,15 @@ pub fn id_named(word: &str) -> Result<Option<ReportId>> {
 
 impl<'a> Set<'a> {
     /// Writes the report.
-    pub fn run<R: AllocGlobal + Files + Input + Print + Eprint>(
-        &self,
-        rt: &R,
-        settings: &Settings,
-    ) -> Result<Ending> {
+    pub fn run<R: World>(&self, rt: &R, settings: &Settings) -> Result<Ending> {
         let descriptor = descriptor_by(rt, settings, self.file)?;
         let Some(report) = descriptor.report(self.direction, self.id) else {
             return Err(no_report(rt.alloc(), &descriptor, self.direction));
         };
+        if self.shows_names {
+            show_names(rt, report)?;
+            return Ok(Ending::Done);
+        }
         self.write(rt, settings, report)?;
         Ok(Ending::Done)
     }

@@ -1,11 +1,16 @@
 //! What a descriptor's bytes are written as: hex text, source, bytes, or what other programs write.
+mod lufa;
 mod report_target;
 mod source;
 mod tinyusb;
+mod webhid;
 mod zephyr;
 
+use crate::commands::parsed;
 use crate::commands::target::source::Source;
+use crate::commands::target::webhid::collections_of;
 use anyhow::Result;
+use hid_input::settings::Settings;
 use hid_output::{add_bytes, flush, flush_piece};
 pub use report_target::{REPORT_TARGETS, ReportTarget};
 use std::alloc::AllocError;
@@ -14,7 +19,7 @@ use std::io;
 use std::io::Write;
 
 /// The names of the targets.
-pub static TARGETS: [&str; 10] = [
+pub static TARGETS: [&str; 12] = [
     "hex",
     "c",
     "rust",
@@ -24,7 +29,9 @@ pub static TARGETS: [&str; 10] = [
     "kernel",
     "zephyr",
     "tinyusb",
+    "lufa",
     "libinput",
+    "webhid",
 ];
 
 /// How many bytes stand in a line of text.
@@ -47,6 +54,9 @@ pub enum Target {
 
     /// The list of a node of `libinput record`.
     Libinput,
+
+    /// The collections of WebHID, as JSON.
+    WebHid,
 }
 
 impl Target {
@@ -61,13 +71,20 @@ impl Target {
             Some("kernel") => Target::Source(Source::Kernel),
             Some("zephyr") => Target::Source(Source::Zephyr),
             Some("tinyusb") => Target::Source(Source::TinyUsb),
+            Some("lufa") => Target::Source(Source::Lufa),
             Some("libinput") => Target::Libinput,
+            Some("webhid") => Target::WebHid,
             _ => Target::Hex,
         }
     }
 
     /// Writes a descriptor's bytes.
-    pub fn write<R: AllocGlobal + Print>(self, rt: &R, bytes: &[u8]) -> Result<()> {
+    pub fn write<R: AllocGlobal + Print>(
+        self,
+        rt: &R,
+        settings: &Settings,
+        bytes: &[u8],
+    ) -> Result<()> {
         let mut text = String::new(rt.alloc());
         match self {
             Target::Hex => add_hex(rt, &mut text, bytes)?,
@@ -75,6 +92,10 @@ impl Target {
             Target::Recording => add_counted(&mut text, "R:", bytes)?,
             Target::Source(source) => source.write(rt, bytes)?,
             Target::Libinput => add_libinput(rt, &mut text, bytes)?,
+            Target::WebHid => {
+                parsed(rt.alloc(), settings, bytes)?;
+                text = collections_of(rt.alloc(), bytes)?;
+            }
         }
         flush(rt, &mut text)
     }

@@ -1,13 +1,13 @@
 //! `hid uhid`: a device and its reports as events for Linux's `/dev/uhid`, whose bytes
 //! `linux/uhid.h` says.
 use crate::ending::Ending;
+use crate::world::World;
 use anyhow::{Result, bail, ensure};
 use hid_input::input::{Device, Given, GivenReport, descriptor_named};
 use hid_input::settings::Settings;
 use std::alloc::{AllocError, Global};
 use std::io;
 use std::io::Write;
-use std::rt::Files;
 
 /// The types of events: one that makes a device, one with an input report, and one that ends it.
 const CREATE2: u32 = 11;
@@ -46,11 +46,7 @@ struct Ids {
 
 impl<'a> Uhid<'a> {
     /// Writes an event that makes the device, one for each report, and one that ends the device.
-    pub fn run<R: AllocGlobal + Files + Input + Print + Eprint>(
-        &self,
-        rt: &R,
-        settings: &Settings,
-    ) -> Result<Ending> {
+    pub fn run<R: World>(&self, rt: &R, settings: &Settings) -> Result<Ending> {
         let given = descriptor_named(rt, settings, self.file)?;
         let Some(device) = given.devices.first() else {
             bail!("has no descriptor");

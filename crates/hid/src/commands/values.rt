@@ -1,6 +1,8 @@
 //! `hid values`: the values of reports, by name.
 use crate::commands::all_parsed;
+use crate::commands::report_time::add_stamp;
 use crate::ending::Ending;
+use crate::world::World;
 use anyhow::{Context, Result, anyhow, bail, ensure};
 use hid_input::input::{Form, Given, GivenReport, descriptors_named, reports_named};
 use hid_input::settings::Settings;
@@ -18,7 +20,6 @@ use hidreport::{
 };
 use std::alloc::AllocError;
 use std::fmt::Write;
-use std::rt::Files;
 
 /// What stands behind a value that no usage has.
 const UNLISTED: &str = ", which no usage has";
@@ -34,15 +35,13 @@ pub struct Values<'a> {
     pub direction: Direction,
     /// Whether only keys and buttons that are down are shown.
     pub is_down: bool,
+    /// Whether each report has its number and its time before it.
+    pub has_times: bool,
 }
 
 impl<'a> Values<'a> {
     /// Shows the values of all reports.
-    pub fn run<R: AllocGlobal + Files + Input + Print + Eprint>(
-        &self,
-        rt: &R,
-        settings: &Settings,
-    ) -> Result<Ending> {
+    pub fn run<R: World>(&self, rt: &R, settings: &Settings) -> Result<Ending> {
         let given = descriptors_named(rt, settings, self.file)?;
         if self.reports.is_empty() {
             ensure!(!given.reports.is_empty(), "no report");
@@ -70,11 +69,11 @@ impl<'a> Values<'a> {
     ) -> Result<()> {
         let mut text = String::new(rt.alloc());
         let known = all_parsed(rt.alloc(), settings, given)?;
-        for (report, number) in reports.reports.iter().zip(1usize..) {
+        for (report, number) in reports.reports.iter().zip(1u64..) {
             let place = place_of(given, reports.form, report);
             let shown = match place.and_then(|place| known.get(place)) {
                 Some(descriptor) => {
-                    self.add_report(rt, settings, descriptor, &report.bytes, &mut text, number)
+                    self.add_report(rt, settings, descriptor, report, &mut text, number)
                 }
                 None => Err(anyhow!("is of a device without a descriptor")),
             };
@@ -93,11 +92,11 @@ impl<'a> Values<'a> {
         rt: &R,
         settings: &Settings,
         descriptor: &ReportDescriptor,
-        bytes: &[u8],
+        given: &GivenReport,
         text: &mut String,
-        number: usize,
+        number: u64,
     ) -> Result<()> {
-        let direction = self.direction;
+        let (direction, bytes) = (self.direction, given.bytes.as_slice());
         let Some(report) = descriptor.find_report(direction, bytes) else {
             let mut known = String::new(*text.allocator());
             add_reports(&mut known, descriptor, direction)?;
@@ -114,11 +113,25 @@ impl<'a> Values<'a> {
             return Ok(add_down(text, report, bytes)?);
         }
         if settings.is_json {
-            return add_value_objects(text, direction, report, bytes, None);
+            return self.add_objects(text, report, given);
+        }
+        if self.has_times {
+            add_stamp(text, number, given, None)?;
         }
         add_title(text, direction, report)?;
         text.push_str("\n")?;
         Ok(add_values(text, report, bytes)?)
+    }
+
+    /// Appends a report's values as JSON, with its time where that is wanted.
+    fn add_objects(
+        &self,
+        text: &mut String,
+        report: &RDescReport,
+        given: &GivenReport,
+    ) -> Result<()> {
+        let time = given.time.as_deref().filter(|_time| self.has_times);
+        add_value_objects(text, self.direction, report, &given.bytes, time)
     }
 }
 

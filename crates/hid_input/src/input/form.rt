@@ -7,6 +7,7 @@ mod dump_line;
 mod hex_text;
 mod item_list;
 mod libinput;
+mod log_line;
 mod lsusb;
 mod macro_call;
 mod number_list;
@@ -21,6 +22,7 @@ use crate::input::form::dump::{DumpLines, is_head};
 use crate::input::form::dump_line::{goes_on, is_dump_line, may_be_dump_line};
 use crate::input::form::hex_text::{HexLines, is_hex_line};
 use crate::input::form::libinput::{LibinputLines, is_libinput_line};
+use crate::input::form::log_line::is_log_line;
 use crate::input::form::lsusb::{LsusbLines, is_lsusb_line};
 use crate::input::form::offsets::OffsetLines;
 use crate::input::form::python::{PythonLines, is_python_line};
@@ -151,7 +153,7 @@ impl Form {
             Some(Form::Recorder)
         } else if is_head(line) {
             Some(Form::Dump)
-        } else if is_dump_line(line) {
+        } else if is_dump_line(line) || is_log_line(line) {
             Some(Form::Offsets)
         } else if is_libinput_line(line) {
             Some(Form::Libinput)

@@ -3,7 +3,7 @@ use crate::input::given::Given;
 use crate::settings::Settings;
 use anyhow::Result;
 use hid_output::{add_bytes, escaped};
-use hidreport::{Change, Mend, repair};
+use hidreport::{Change, Reason, repair};
 
 /// Mends each descriptor, and says on standard error what was changed.
 pub fn mend<R: AllocGlobal + Eprint>(
@@ -25,7 +25,7 @@ pub fn mend<R: AllocGlobal + Eprint>(
 
 /// Says what was changed at one place.
 fn tell_change<R: AllocGlobal + Eprint>(rt: &R, name: &str, change: &Change) -> Result<()> {
-    let (offset, why) = (change.offset, why(change.mend));
+    let (offset, why) = (change.offset, why(change.reason));
     let mut text = String::new(rt.alloc());
     add_bytes(&mut text, &change.stood)?;
     if change.stands.is_empty() {
@@ -38,13 +38,13 @@ fn tell_change<R: AllocGlobal + Eprint>(rt: &R, name: &str, change: &Change) -> 
 }
 
 /// Why something was mended.
-fn why(mend: Mend) -> &'static str {
-    match mend {
-        Mend::NoData => "the item has no data",
-        Mend::UnknownMainItem => "no main item has this tag",
-        Mend::EndedLocal => "it stands before what was left out",
-        Mend::NoUsage => "data without a usage is padding",
-        Mend::UnsignedMaximum => "the maximum is meant without a sign",
-        Mend::CutShort => "the item is cut short",
+fn why(reason: Reason) -> &'static str {
+    match reason {
+        Reason::NoData => "the item has no data",
+        Reason::UnknownMainItem => "no main item has this tag",
+        Reason::EndedLocal => "it stands before what was left out",
+        Reason::NoUsage => "data without a usage is padding",
+        Reason::UnsignedMaximum => "the maximum is meant without a sign",
+        Reason::CutShort => "the item is cut short",
     }
 }

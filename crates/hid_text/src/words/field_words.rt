@@ -50,6 +50,7 @@ fn add_wrapped_name(
 pub fn add_field(text: &mut String, field: &Field, indent: usize) -> Result<(), AllocError> {
     add_bits(text, field.bits().start, field.bits().end)?;
     add_wrapped_name(text, field, Some(indent.saturating_add(NAME)))?;
+    text.push_str(", ")?;
     add_how(text, field)
 }
 
@@ -74,15 +75,15 @@ pub fn add_bits(text: &mut String, start: usize, end: usize) -> Result<(), Alloc
 }
 
 /// Appends how a field is read: its width, its bounds, its unit and its flags.
-fn add_how(text: &mut String, field: &Field) -> Result<(), AllocError> {
+pub fn add_how(text: &mut String, field: &Field) -> Result<(), AllocError> {
     let width = field.bits().len();
     match field {
         Field::Variable(field) => {
-            write!(text, ", {width} bit{}", plural(width))?;
+            write!(text, "{width} bit{}", plural(width))?;
             add_variable(text, field)
         }
         Field::Array(field) => add_array(text, field, width),
-        Field::Constant(_) => write!(text, ", {width} bit{}", plural(width)),
+        Field::Constant(_) => write!(text, "{width} bit{}", plural(width)),
     }
 }
 
@@ -104,7 +105,7 @@ fn add_array(text: &mut String, field: &ArrayField, width: usize) -> Result<(), 
     let (low, high) = (field.logical_minimum, field.logical_maximum);
     write!(
         text,
-        ", {count} of {width} bit{}, {low} to {high}",
+        "{count} of {width} bit{}, {low} to {high}",
         plural(width)
     )?;
     add_flags(text, field)

@@ -3,9 +3,12 @@ use hidreport::hid::CollectionItem;
 use hidreport::types::{UsageId, UsagePage};
 use hidreport::{Collection, Usage};
 use hidreport_usages::{collection_name, page_name, usage_name};
-use std::alloc::AllocError;
+use std::alloc::{AllocError, Global};
 use std::fmt::Write;
 use unicode_width::{UnicodeWidthChar, UnicodeWidthStr};
+
+/// What stands behind a name that is cut.
+pub const CUT: char = '…';
 
 /// Appends a page's name, or its number.
 pub fn add_page(text: &mut String, page: UsagePage) -> Result<(), AllocError> {
@@ -64,18 +67,28 @@ pub fn on_page(page: UsagePage, id: UsageId) -> Usage {
 }
 
 /// A name that takes no more columns than these: a longer one loses `Keyboard` before it, then its
-/// end.
-pub fn shortened(name: &str, columns: usize) -> &str {
+/// end, and `…` says so.
+pub fn shortened(alloc: Global, name: &str, columns: usize) -> Result<String, AllocError> {
     if name.width() <= columns {
-        return name;
+        return String::from_str(alloc, name);
     }
     let shown = name.strip_prefix("Keyboard ").unwrap_or(name);
+    if shown.width() <= columns {
+        return String::from_str(alloc, shown);
+    }
+    let mut cut = String::from_str(alloc, beginning(shown, columns.saturating_sub(1)))?;
+    cut.push(CUT)?;
+    Ok(cut)
+}
+
+/// The first letters of a name, in no more columns than these.
+fn beginning(name: &str, columns: usize) -> &str {
     let mut taken = 0usize;
-    for (place, letter) in shown.char_indices() {
+    for (place, letter) in name.char_indices() {
         taken = taken.saturating_add(letter.width().unwrap_or(0));
         if columns < taken {
-            return shown.get(..place).unwrap_or(shown);
+            return name.get(..place).unwrap_or(name).trim_end();
         }
     }
-    shown
+    name
 }

@@ -6,7 +6,7 @@ use Rattle.hidreport_items.specs.Flags.{Flags}
 use Rattle.hidreport_items.specs.Spelling.{item_of}
 use Rattle.hidreport_items.specs.declared.main_item.CollectionItem.{CollectionItem}
 use Rattle.hidreport_items.specs.declared.item.ItemType.{ItemType}
-use Rattle.hidreport_lists.specs.Answer.{Refusal, InvalidAt}
+use Rattle.hidreport_lists.specs.Answer.{Refusal, InvalidData}
 use Rattle.hidreport_lists.specs.Entry.{Entry}
 use Rattle.hidreport_lists.specs.Itemising.{itemise}
 use Rattle.hidreport_lists.specs.Messages.{grammar_message}
@@ -15,7 +15,7 @@ use Rattle.hidreport.specs.ItemState.{first_of}
 use Rattle.hidreport.specs.Kinds.{Direction, collection_kind_of, data_of}
 use Rattle.hidreport.specs.Making.{extent}
 use Rattle.hidreport.specs.Meaning.{at_offset, empty_descriptor}
-use Rattle.hidreport.specs.MeaningFault.{MeaningFault, PastBudget}
+use Rattle.hidreport.specs.MeaningFault.{MeaningFault, BudgetExceeded}
 use Rattle.hidreport.specs.Parser.Machine.{StateRecord, fault_in, go_on, next_state, first_state}
 use Rattle.hidreport.specs.Parser.Machine.{start_in}
 use Rattle.hidreport.specs.Parser.Machine.{unless_fault}
@@ -51,7 +51,7 @@ left_behind (Some left) weight = Some (left - weight)
 
 -- past the limit: `BudgetExceeded`
 abbrev pub past_fault : Bool → Option MeaningFault
-past_fault true = Some PastBudget
+past_fault true = Some BudgetExceeded
 past_fault false = None
 
 -- why the walk ends at the item: its fault, or else its weight
@@ -68,13 +68,13 @@ walk_within left h k (x ∷ xs) = go_on (unless_fault (stop_in left h x) (next_s
 -- a grammar fault, or else what the walk over the items gives, from what is held and left
 abbrev pub walk_items : Option ℕ → StateRecord → Result (List Entry) (ℕ × GrammarFault)
     → Result DescriptorRecord Refusal
-walk_items left h (Err fault) = Err (InvalidAt fault.0 (grammar_message fault.1))
+walk_items left h (Err fault) = Err (InvalidData fault.0 (grammar_message fault.1))
 walk_items left h (Ok entries) =
     at_offset entries (walk_within left h 0 (map (λ e. e.item) entries))
 
 -- the same of a descriptor's bytes
 abbrev pub walk_bytes : ParseOptions → List ℕ → Result DescriptorRecord Refusal
-walk_bytes options [] = Err (InvalidAt 0 empty_descriptor)
+walk_bytes options [] = Err (InvalidData 0 empty_descriptor)
 walk_bytes options (b ∷ bs) =
     walk_items options.limit (first_state options) (itemise item_of (b ∷ bs))
 

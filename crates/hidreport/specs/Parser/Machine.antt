@@ -32,19 +32,19 @@ next_locals page xs x = if is_main x then [] else xs ++ option_to_list (paged_lo
 
 -- what is in force behind one more item
 abbrev pub next_item_state : ItemState → ItemType → ItemState
-next_item_state f x = record {
-  usage_page = first_of (usage_page_of x) f.usage_page;
-  logical_minimum = first_of (logical_minimum_of x) f.logical_minimum;
-  logical_maximum = first_of (logical_maximum_of x) f.logical_maximum;
-  physical_minimum = first_of (physical_minimum_of x) f.physical_minimum;
-  physical_maximum = first_of (physical_maximum_of x) f.physical_maximum;
-  unit_exponent = first_of (unit_exponent_of x) f.unit_exponent;
-  unit = first_of (unit_of x) f.unit;
-  report_size = first_of (report_size_of x) f.report_size;
-  report_id = first_of (report_id_of x) f.report_id;
-  report_count = first_of (report_count_of x) f.report_count;
-  locals = next_locals f.usage_page f.locals x;
-  usages_by = f.usages_by;
+next_item_state state x = record {
+  usage_page = first_of (usage_page_of x) state.usage_page;
+  logical_minimum = first_of (logical_minimum_of x) state.logical_minimum;
+  logical_maximum = first_of (logical_maximum_of x) state.logical_maximum;
+  physical_minimum = first_of (physical_minimum_of x) state.physical_minimum;
+  physical_maximum = first_of (physical_maximum_of x) state.physical_maximum;
+  unit_exponent = first_of (unit_exponent_of x) state.unit_exponent;
+  unit = first_of (unit_of x) state.unit;
+  report_size = first_of (report_size_of x) state.report_size;
+  report_id = first_of (report_id_of x) state.report_id;
+  report_count = first_of (report_count_of x) state.report_count;
+  locals = next_locals state.usage_page state.locals x;
+  usages_by = state.usages_by;
 }
 
 -- the report with this id that these items make, each adding bits and fields to the report of its
@@ -155,8 +155,8 @@ next_opened h x =
 
 -- the last of a list, or else the first argument
 abbrev pub last_item_state : ItemState → List ItemState → ItemState
-last_item_state f [] = f
-last_item_state f (g ∷ gs) = last_item_state g gs
+last_item_state state [] = state
+last_item_state state (g ∷ gs) = last_item_state g gs
 
 -- what a Push keeps of what is in force
 abbrev pub pushed_copy : PushKeeps → ItemState → ItemState
@@ -172,8 +172,7 @@ after_pop a_push_keeps.Globals now kept = record kept { locals = now.locals }
 abbrev pub item_state_behind : StateRecord → ItemType → ItemState
 item_state_behind h x =
     if is_pop x then after_pop h.push_keeps h.item_state (last_item_state h.item_state h.stack)
-    else next_item_state
-    h.item_state x
+    else next_item_state h.item_state x
 
 -- what the open Pushes keep behind the item
 abbrev pub next_stack : StateRecord → ItemType → List ItemState

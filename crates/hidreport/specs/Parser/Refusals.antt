@@ -4,7 +4,7 @@ use Rattle.hidreport_lists.specs.Answer.{Refusal, Refuses}
 use Rattle.hidreport_lists.specs.declared.error.ParserError.{ParserError}
 use Rattle.hidreport.specs.MeaningFault.{MeaningFault, TooManyPops, TooManyEnds}
 use Rattle.hidreport.specs.MeaningFault.{MissingUsageMaximum, MissingUsagePage, MissingUsages}
-use Rattle.hidreport.specs.MeaningFault.{PastBounds, PastBudget}
+use Rattle.hidreport.specs.MeaningFault.{OutOfBounds, BudgetExceeded}
 use Rattle.hidreport.specs.declared.parser.fault.Fault.{Fault}
 use Rattle.hidreport.specs.declared.parser.fault.Fault.TheVariants as faults
 
@@ -15,8 +15,8 @@ fault_named faults.TooManyEnds = Some TooManyEnds
 fault_named faults.MissingUsageMaximum = Some MissingUsageMaximum
 fault_named faults.MissingUsagePage = Some MissingUsagePage
 fault_named faults.MissingUsages = Some MissingUsages
-fault_named faults.OutOfBounds = Some PastBounds
-fault_named faults.BudgetExceeded = Some PastBudget
+fault_named faults.OutOfBounds = Some OutOfBounds
+fault_named faults.BudgetExceeded = Some BudgetExceeded
 fault_named faults.OutOfMemory = None
 
 -- the fault of an item is this one; want of memory says nothing

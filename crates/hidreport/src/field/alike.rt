@@ -41,14 +41,11 @@ impl VariableField {
     fn measures(&self) -> Measures
         ensures { result ≡ variable_measures self.now }
     {
-        Measures {
-            logical_minimum: self.logical_minimum,
-            logical_maximum: self.logical_maximum,
-            physical_minimum: self.physical_minimum,
-            physical_maximum: self.physical_maximum,
-            unit: self.unit,
-            unit_exponent: self.unit_exponent,
-        }
+        Measures::of(
+            (self.logical_minimum, self.logical_maximum),
+            (self.physical_minimum, self.physical_maximum),
+            (self.unit, self.unit_exponent),
+        )
     }
 }
 
@@ -93,14 +90,11 @@ impl ArrayField {
     fn measures(&self) -> Measures
         ensures { result ≡ array_measures self.now }
     {
-        Measures {
-            logical_minimum: self.logical_minimum,
-            logical_maximum: self.logical_maximum,
-            physical_minimum: self.physical_minimum,
-            physical_maximum: self.physical_maximum,
-            unit: self.unit,
-            unit_exponent: self.unit_exponent,
-        }
+        Measures::of(
+            (self.logical_minimum, self.logical_maximum),
+            (self.physical_minimum, self.physical_maximum),
+            (self.unit, self.unit_exponent),
+        )
     }
 }
 

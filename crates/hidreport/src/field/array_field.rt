@@ -1,7 +1,7 @@
 //! Array fields.
 ghost use Rattle.std.specs.Prelude.{◌≡◌, ◌≢◌, ◌+◌, ◌*◌, ◌^◌, ◌<◌, ◌≤◌, length, pos, int_lt, IfErr, IfOk, IfSome};
 ghost use Rattle.std.specs.Prelude.{IsNone, IsOk, OnOk, Some, true, false, slice_get, ℕ, ℤ, ◌||◌};
-ghost use Rattle.hidreport_lists.specs.Answer.{Answers, AnswersBy, Bounds, IsOfReading, Refuses};
+ghost use Rattle.hidreport_lists.specs.Answer.{Answers, AnswersBy, OutOfBounds, IsOfReading, Refuses};
 ghost use Rattle.hidreport.specs.Bits.{FixesBits};
 ghost use Rattle.hidreport.specs.Choosing.{usage_chosen, value_number};
 ghost use Rattle.hidreport.specs.Reading.{element_of, element_width, reads, reads_element};
@@ -471,7 +471,7 @@ impl ArrayField {
         requires counted { self.now.bits.start + width * self.now.report_count < 2 ^ 64 }
         ensures readable { result ≡ true → IsOk (values_of (array_record self.now) bytes.now) }
         ensures outside { result ≡ false
-            → values_of (array_record self.now) bytes.now ≡ Err Bounds }
+            → values_of (array_record self.now) bytes.now ≡ Err OutOfBounds }
         ensures inside { result ≡ true → 0 < self.now.report_count → (0 < width) × (width ≤ 32)
             × (self.now.bits.start + width * self.now.report_count ≤ 8 * length bytes.now) }
     {
@@ -492,7 +492,7 @@ impl ArrayField {
         ensures value { IfSome result (λ value.
             element_of (array_record self.now) bytes.now idx ≡ Ok value) }
         ensures outside { IsNone result
-            → element_of (array_record self.now) bytes.now idx ≡ Err Bounds }
+            → element_of (array_record self.now) bytes.now idx ≡ Err OutOfBounds }
     {
         let first = self.element_first(width, idx);
         read_bits(bytes, &(first..first + width), self.is_signed())

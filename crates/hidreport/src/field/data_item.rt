@@ -35,6 +35,13 @@ pub(crate) struct DataItem {
 }
 
 impl DataItem {
+    /// The item of this direction with these flags.
+    fn of(direction: Direction, flags: ItemFlags) -> DataItem
+        ensures { result ≡ record { direction = direction; flags = flags } }
+    {
+        DataItem { direction, flags }
+    }
+
     /// The volatile flag; an Input has none.
     pub(crate) fn volatile(&self) -> Option<bool>
         ensures { result ≡ volatile_in self.now.direction self.now.flags.volatile }
@@ -86,10 +93,7 @@ impl From<OutputItem> for DataItem {
     ghost from_gives = { λ i x. as_item x ≡ item.Main (main.Output i) };
 
     fn from(item: OutputItem) -> DataItem {
-        DataItem {
-            direction: Direction::Output,
-            flags: item.flags(),
-        }
+        DataItem::of(Direction::Output, item.flags())
     }
 }
 
@@ -97,9 +101,6 @@ impl From<FeatureItem> for DataItem {
     ghost from_gives = { λ i x. as_item x ≡ item.Main (main.Feature i) };
 
     fn from(item: FeatureItem) -> DataItem {
-        DataItem {
-            direction: Direction::Feature,
-            flags: item.flags(),
-        }
+        DataItem::of(Direction::Feature, item.flags())
     }
 }

@@ -1,14 +1,14 @@
 //! The bounds and the unit of fields.
 ghost use Rattle.std.specs.Prelude.{◌≡◌, ◌↔◌, IsTrue};
+ghost use Rattle.hidreport.specs.Views.{measured};
 
 use hidreport_types::{
     LogicalMaximum, LogicalMinimum, PhysicalMaximum, PhysicalMinimum, Unit, UnitExponent,
 };
-use std::marker::Model;
 
 /// The numbers that fields with data have from global items (Section 6.2.2.7): those of one item
 /// have the same.
-#[derive(Drop)]
+#[derive(Clone, Copy)]
 pub(crate) struct Measures {
     pub(crate) logical_minimum: LogicalMinimum,
     pub(crate) logical_maximum: LogicalMaximum,
@@ -18,33 +18,22 @@ pub(crate) struct Measures {
     pub(crate) unit_exponent: Option<UnitExponent>,
 }
 
-impl Model for Measures {
-    ghost use Rattle.hidreport.specs.Fields.{Measures};
-
-    ghost Value = { Measures };
-
-    ghost view = { λ m. record {
-      logical_minimum = m.logical_minimum;
-      logical_maximum = m.logical_maximum;
-      physical_minimum = m.physical_minimum;
-      physical_maximum = m.physical_maximum;
-      unit = m.unit;
-      unit_exponent = m.unit_exponent;
-    } };
-}
-
 impl Measures {
-    /// The same numbers once more.
-    pub(crate) fn copy(&self) -> Measures
-        ensures { result ≡ self.now }
+    /// Those of these bounds and this unit with its exponent.
+    pub(crate) fn of(
+        logical: (LogicalMinimum, LogicalMaximum),
+        physical: (Option<PhysicalMinimum>, Option<PhysicalMaximum>),
+        unit: (Option<Unit>, Option<UnitExponent>),
+    ) -> Measures
+        ensures { result ≡ measured logical physical unit }
     {
         Measures {
-            logical_minimum: self.logical_minimum,
-            logical_maximum: self.logical_maximum,
-            physical_minimum: self.physical_minimum,
-            physical_maximum: self.physical_maximum,
-            unit: self.unit,
-            unit_exponent: self.unit_exponent,
+            logical_minimum: logical.0,
+            logical_maximum: logical.1,
+            physical_minimum: physical.0,
+            physical_maximum: physical.1,
+            unit: unit.0,
+            unit_exponent: unit.1,
         }
     }
 

@@ -3,7 +3,7 @@ ghost use Rattle.std.specs.Prelude.{◌≡◌, ◌≢◌, true, Err, Ok, ◌+◌
 ghost use Rattle.std.specs.Prelude.{length, IfErr, IfSome, IsNone};
 ghost use Rattle.std.specs.Int.{w8, w16, w32, cast_signed};
 ghost use Rattle.hidreport_items.specs.Numbers.{word};
-ghost use Rattle.hidreport_lists.specs.Answer.{Answers, Bounds, IsOfReading};
+ghost use Rattle.hidreport_lists.specs.Answer.{Answers, OutOfBounds, IsOfReading};
 ghost use Rattle.hidreport.specs.BitValue.{sum_of_bits, value, as_word};
 ghost use Rattle.hidreport.specs.Choosing.{value_number};
 ghost use Rattle.hidreport.specs.Reading.{read_bits, with_id};
@@ -52,7 +52,7 @@ impl FieldValue {
         ensures value { IfSome result (λ value.
             read_bits bits.now.start bits.now.end is_signed bytes.now ≡ Ok value) }
         ensures outside { IsNone result
-            → read_bits bits.now.start bits.now.end is_signed bytes.now ≡ Err Bounds }
+            → read_bits bits.now.start bits.now.end is_signed bytes.now ≡ Err OutOfBounds }
     {
         read_bits(bytes, bits, is_signed)
     }
@@ -237,7 +237,7 @@ pub(crate) fn read_bits(bytes: &[u8], bits: &Range<usize>, is_signed: bool) -> O
     ensures value { IfSome result (λ value.
         read_bits bits.now.start bits.now.end is_signed bytes.now ≡ Ok value) }
     ensures outside { IsNone result
-        → read_bits bits.now.start bits.now.end is_signed bytes.now ≡ Err Bounds }
+        → read_bits bits.now.start bits.now.end is_signed bytes.now ≡ Err OutOfBounds }
 {
     if !are_readable(bytes, bits) {
         return None;

@@ -1,6 +1,6 @@
 //! Faults of meaning, and the errors that they become.
 ghost use Rattle.std.specs.Prelude.{◌≡◌, IfSome, None};
-ghost use Rattle.hidreport_lists.specs.Answer.{InvalidAt};
+ghost use Rattle.hidreport_lists.specs.Answer.{InvalidData};
 ghost use Rattle.hidreport.specs.Meaning.{refusal_at};
 ghost use Rattle.hidreport.specs.Parser.Refusals.{IsRefusal, fault_named};
 ghost use Rattle.hidreport.specs.Repair.{is_missing_usages};
@@ -83,7 +83,7 @@ impl Fault {
 
 /// Invalid data at this offset, with this text.
 pub(crate) fn invalid_data(alloc: Global, offset: usize, text: &str) -> ParserError
-    ensures { IsRefusal result (InvalidAt offset text.now) }
+    ensures { IsRefusal result (InvalidData offset text.now) }
 {
     match String::from_str(alloc, text) {
         Ok(message) => ParserError::InvalidData { offset, message },

@@ -104,21 +104,15 @@ impl Globals {
     fn physical_minimum(&self) -> Option<PhysicalMinimum>
         ensures { result ≡ physical_bound self.now.physical_minimum self.now.physical_maximum }
     {
-        match (self.physical_minimum, self.physical_maximum) {
-            (Some(own), _) => Some(own),
-            (None, Some(_)) => Some(PhysicalMinimum::from(0)),
-            (None, None) => None,
-        }
+        self.physical_minimum
+            .or(self.physical_maximum.map(|_| PhysicalMinimum::from(0)))
     }
 
     /// The same of the physical maximum.
     fn physical_maximum(&self) -> Option<PhysicalMaximum>
         ensures { result ≡ physical_bound self.now.physical_maximum self.now.physical_minimum }
     {
-        match (self.physical_maximum, self.physical_minimum) {
-            (Some(own), _) => Some(own),
-            (None, Some(_)) => Some(PhysicalMaximum::from(0)),
-            (None, None) => None,
-        }
+        self.physical_maximum
+            .or(self.physical_minimum.map(|_| PhysicalMaximum::from(0)))
     }
 }

@@ -1,6 +1,7 @@
 //! Where the fields of a data item lie, and what they share (Sections 6.2.2.4 and 6.2.2.5).
-ghost use Rattle.std.specs.Prelude.{◌≡◌, ◌<◌, length};
+ghost use Rattle.std.specs.Prelude.{◌≡◌, ◌<◌, length, IfSome};
 ghost use Rattle.hidreport.specs.Fields.{usage_at};
+ghost use Rattle.hidreport.specs.Parser.Usages.{usage_list};
 
 use crate::field::array_field::ArrayField;
 use crate::field::collection::Collection;
@@ -58,7 +59,7 @@ impl Layout {
             collections,
             report_id: self.report_id,
             report_count: self.report_count,
-            measures: self.measures.copy(),
+            measures: self.measures,
             item: self.item,
             first_id: self.first_id,
             first_bit: self.first_bit,
@@ -128,8 +129,8 @@ impl Layout {
         })
     }
 
-    /// Adds the fields of a variable item. Of many spans its usages are listed first, as many as it
-    /// has fields, since each field would go over the spans.
+    /// Adds the fields of a variable item, for which the room is asked at once. Of many spans its
+    /// usages are listed first, as many as it has fields, since each field would go over the spans.
     fn add_elements(
         &self,
         alloc: Global,
@@ -142,51 +143,13 @@ impl Layout {
         ensures { OnOk result (map field_record fields.new.items ≡ map field_record fields.old.items
             ++ each_from (variable_of self.now (usage_list usages.now)) 0 self.now.count) }
     {
-        match usages.first_of_many(alloc, self.count.max(1))? {
-            Some(listed) => self.add_listed_fields(alloc, listed.as_slice(), fields),
-            None => self.add_variable_fields(alloc, usages, fields),
-        }
-    }
-
-    /// Adds the fields of a variable item with these usages.
-    fn add_listed_fields(
-        &self,
-        alloc: Global,
-        usages: &[Usage],
-        fields: &mut Vec<Field>,
-    ) -> Result<(), AllocError>
-        requires ids { self.now.first_id + self.now.count ≤ 2 ^ 32 }
-        requires bits { self.now.first_bit + self.now.size * self.now.count < 2 ^ 64 }
-        requires usages { 0 < length usages.now }
-        ensures { OnOk result (map field_record fields.new.items ≡ map field_record fields.old.items
-            ++ each_from (variable_of self.now (record { usages = usages.now; is_range = false }))
-            0 self.now.count) }
-    {
+        let found = usages.first_of_many(alloc, self.count.max(1))?;
+        let listed = &found;
         fields.reserve(self.count)?;
         for c in 0..self.count {
             let collections = self.shared_collections(alloc)?;
-            fields.push_reserved(self.variable_field(collections, usage_at(usages, c), c));
-        }
-        Ok(())
-    }
-
-    /// Adds the fields of a variable item, for which the room is asked at once.
-    fn add_variable_fields(
-        &self,
-        alloc: Global,
-        usages: &Usages,
-        fields: &mut Vec<Field>,
-    ) -> Result<(), AllocError>
-        requires ids { self.now.first_id + self.now.count ≤ 2 ^ 32 }
-        requires bits { self.now.first_bit + self.now.size * self.now.count < 2 ^ 64 }
-        requires usages { 0 < length (usage_list usages.now).usages }
-        ensures { OnOk result (map field_record fields.new.items ≡ map field_record fields.old.items
-            ++ each_from (variable_of self.now (usage_list usages.now)) 0 self.now.count) }
-    {
-        fields.reserve(self.count)?;
-        for c in 0..self.count {
-            let collections = self.shared_collections(alloc)?;
-            fields.push_reserved(self.variable_field(collections, usages.at(c), c));
+            let usage = usage_of(usages, listed, c);
+            fields.push_reserved(self.variable_field(collections, usage, c));
         }
         Ok(())
     }
@@ -272,6 +235,20 @@ impl Layout {
         ensures end { result.end ≡ self.now.first_bit + self.now.size * self.now.count }
     {
         self.first_bit..self.first_bit + self.size * self.count
+    }
+}
+
+/// Usage number `c`, or the last one where there are fewer, which is looked up in the list of them,
+/// if there is one.
+fn usage_of(usages: &Usages, listed: &Option<Vec<Usage>>, c: usize) -> Usage
+    requires some { 0 < length (usage_list usages.now).usages }
+    requires listed { IfSome listed.now (λ list. (0 < length list.items)
+        × (usage_at list.items c ≡ usage_at (usage_list usages.now).usages c)) }
+    ensures { result ≡ usage_at (usage_list usages.now).usages c }
+{
+    match listed {
+        Some(list) => usage_at(list.as_slice(), c),
+        None => usages.at(c),
     }
 }
 

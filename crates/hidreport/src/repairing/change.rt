@@ -2,7 +2,7 @@
 ghost use Rattle.std.specs.Prelude.{◌≡◌, IfOk, filter_map, map};
 ghost use Rattle.hidreport.specs.Repair.{change_in, change_of, change_view, joined};
 
-use hidreport_lists::{Mend, Piece};
+use hidreport_lists::{Piece, Reason};
 use std::alloc::{AllocError, Global};
 
 /// One change of a repair: other bytes at a place of the descriptor than before.
@@ -18,7 +18,7 @@ pub struct Change {
     pub stands: Vec<u8>,
 
     /// Why the bytes were changed.
-    pub mend: Mend,
+    pub reason: Reason,
 }
 
 /// A repaired descriptor, and what was changed.
@@ -75,23 +75,23 @@ fn changes(alloc: Global, pieces: &[Piece]) -> Result<Vec<Change>, AllocError>
 {
     let mut changes = Vec::new(alloc);
     for piece in pieces {
-        let mend = match piece.mend() {
-            Some(mend) => mend,
+        let reason = match piece.reason() {
+            Some(reason) => reason,
             None => continue,
         };
-        changes.push(change_of(alloc, piece, mend)?)?;
+        changes.push(change_of(alloc, piece, reason)?)?;
     }
     Ok(changes)
 }
 
 /// What was changed in a piece, for this reason.
-fn change_of(alloc: Global, piece: &Piece, mend: Mend) -> Result<Change, AllocError>
-    ensures { IfOk result (λ change. change_view change ≡ change_of mend piece.now) }
+fn change_of(alloc: Global, piece: &Piece, reason: Reason) -> Result<Change, AllocError>
+    ensures { IfOk result (λ change. change_view change ≡ change_of reason piece.now) }
 {
     Ok(Change {
         offset: piece.offset(),
         stood: Vec::from_slice(alloc, piece.stood())?,
         stands: Vec::from_slice(alloc, piece.bytes())?,
-        mend,
+        reason,
     })
 }

@@ -11,7 +11,7 @@ use crate::parser::budget::Budget;
 use crate::parser::state::State;
 use crate::repairing::repair_options::RepairOptions;
 use hidreport_items::{ItemBytes, read_item};
-use hidreport_lists::{Mend, ParserError, Piece};
+use hidreport_lists::{ParserError, Piece, Reason};
 use std::alloc::{AllocError, Global};
 
 /// Mends each piece behind those before it.
@@ -64,7 +64,7 @@ fn widen(state: &State, piece: &mut Piece)
     };
     if is_unsigned {
         let bytes = wider_bytes(piece.bytes());
-        rewrite(piece, Mend::UnsignedMaximum, bytes);
+        rewrite(piece, Reason::UnsignedMaximum, bytes);
     }
 }
 
@@ -79,21 +79,21 @@ fn pad(alloc: Global, state: &State, piece: &mut Piece) -> Result<(), AllocError
     };
     if lacks_usages {
         let bytes = constant_bytes(piece.bytes());
-        rewrite(piece, Mend::NoUsage, bytes);
+        rewrite(piece, Reason::NoUsage, bytes);
     }
     Ok(())
 }
 
 /// Puts these bytes into a piece, where they are an item.
-fn rewrite(piece: &mut Piece, mend: Mend, bytes: ItemBytes)
-    ensures { piece.new ≡ rewritten mend piece.old bytes }
+fn rewrite(piece: &mut Piece, reason: Reason, bytes: ItemBytes)
+    ensures { piece.new ≡ rewritten reason piece.old bytes }
 {
     let item = match bytes.as_slice() {
         [header, data_bytes @ ..] => read_item(*header, data_bytes),
         [] => return,
     };
     if let Ok(item) = item {
-        piece.write(mend, bytes, item);
+        piece.write(reason, bytes, item);
     }
 }
 

@@ -8,6 +8,7 @@ ghost use Rattle.hidreport.specs.Views.{field_record};
 use crate::field::Field;
 use crate::report::RDescReport;
 use crate::report::group::Group;
+use crate::report::reports::is_same_id;
 use hidreport_types::ReportId;
 use std::alloc::{AllocError, Global};
 use std::marker::Model;
@@ -95,11 +96,7 @@ pub(crate) fn find_with_id(
 fn has_id(report: &OutlineReport, id: Option<ReportId>) -> bool
     ensures { result ≡ same_key report.now.id id }
 {
-    match (report.id, id) {
-        (Some(own), Some(id)) => u8::from(own) == u8::from(id),
-        (None, None) => true,
-        _ => false,
-    }
+    is_same_id(report.id, id)
 }
 
 /// The fields of groups, for which the room is asked at once.

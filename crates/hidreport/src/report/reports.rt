@@ -91,8 +91,15 @@ pub(crate) fn find_with_id(reports: &[RDescReport], id: Option<ReportId>) -> Opt
 fn has_id(report: &RDescReport, id: Option<ReportId>) -> bool
     ensures { result ≡ same_key report.now.id id }
 {
-    match (report.id, id) {
-        (Some(own), Some(id)) => u8::from(own) == u8::from(id),
+    is_same_id(report.id, id)
+}
+
+/// Whether two ids are the same, or neither is there.
+pub(crate) fn is_same_id(own: Option<ReportId>, other: Option<ReportId>) -> bool
+    ensures { result ≡ same_key own other }
+{
+    match (own, other) {
+        (Some(own), Some(other)) => u8::from(own) == u8::from(other),
         (None, None) => true,
         _ => false,
     }

@@ -1,4 +1,5 @@
 //! A descriptor as a list in a program's source, an item in a line.
+use crate::commands::target::lufa::add_lufa_item;
 use crate::commands::target::tinyusb::add_tinyusb_item;
 use crate::commands::target::zephyr::add_zephyr_item;
 use crate::items::{ItemCursor, ItemState, PlacedItem};
@@ -31,6 +32,9 @@ pub enum Source {
 
     /// The macros of TinyUSB's `class/hid/hid.h`.
     TinyUsb,
+
+    /// The macros of LUFA's `HIDReportData.h`, which QMK has, too.
+    Lufa,
 }
 
 impl Source {
@@ -55,6 +59,9 @@ impl Source {
             Source::Python => text.push_str("report_descriptor = bytes([\n"),
             Source::Zephyr => text.push_str("static const uint8_t report_descriptor[] = {\n"),
             Source::TinyUsb => text.push_str("uint8_t const report_descriptor[] = {\n"),
+            Source::Lufa => text.push_str(
+                "const USB_Descriptor_HIDReport_Datatype_t PROGMEM report_descriptor[] = {\n",
+            ),
         }
     }
 
@@ -100,6 +107,7 @@ impl Source {
             Source::Kernel => text.push_str("\t"),
             Source::Zephyr => add_tabs(text, (indent_of(depth) / 2).saturating_add(1)),
             Source::TinyUsb => add_spaces(text, indent_of(depth).saturating_add(2)),
+            Source::Lufa => add_spaces(text, indent_of(depth).saturating_mul(2).saturating_add(4)),
         }
     }
 
@@ -116,6 +124,7 @@ impl Source {
             Source::Kernel | Source::Python => add_column(text, entry.bytes),
             Source::Zephyr => add_zephyr_item(text, entry.bytes),
             Source::TinyUsb => add_tinyusb_item(text, entry.bytes),
+            Source::Lufa => add_lufa_item(text, entry.bytes),
         }
     }
 

@@ -43,7 +43,7 @@ fn add_call(text: &mut String, name: &str, header: u8, data: &[u8]) -> Result<()
 }
 
 /// The number in an item's data, the low byte first.
-fn number_of(data: &[u8]) -> u32 {
+pub fn number_of(data: &[u8]) -> u32 {
     let mut bytes = [0u8; 4];
     for (own, byte) in bytes.iter_mut().zip(data) {
         *own = *byte;
@@ -74,7 +74,7 @@ fn add_flags(text: &mut String, number: u32) -> Result<(), AllocError> {
 }
 
 /// Appends the name of a flag, where it has one, behind those of the bits before it.
-fn add_flag(text: &mut String, flag: u32, name: &str) -> Result<(), AllocError> {
+pub fn add_flag(text: &mut String, flag: u32, name: &str) -> Result<(), AllocError> {
     if name.is_empty() {
         return Ok(());
     }

@@ -73,9 +73,8 @@ impl DumpLines {
     /// Takes which device a head is of, and what stands below it.
     fn take_head(&mut self, found: &mut Found, line: &str) -> Result<()> {
         let mut words = line.split_whitespace();
-        let Some((address, kind)) = words.next().unwrap_or("").rsplit_once(":") else {
-            bail!("is no head of usbhid-dump");
-        };
+        let head = words.next().unwrap_or("");
+        let (address, kind) = head.rsplit_once(":").unwrap_or(("", head));
         let time = words.next().unwrap_or("");
         let alloc = *self.bytes.allocator();
         self.time = String::from_str(alloc, time)?;

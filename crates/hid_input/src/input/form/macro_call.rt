@@ -1,4 +1,5 @@
-//! An item of a descriptor in a macro of C, as `hid convert` writes it for Zephyr and TinyUSB.
+//! An item of a descriptor in a macro of C, as `hid convert` writes it for Zephyr, TinyUSB
+//! and LUFA.
 use crate::input::form::number_list::number_of;
 use anyhow::{Result, bail, ensure};
 use hid_output::macros::{Arguments, Macro, number_named};
@@ -25,13 +26,21 @@ pub fn add_call(bytes: &mut Vec<u8>, call: &str) -> Result<()> {
     };
     let alloc = *bytes.allocator();
     let values = values_of(alloc, name, list)?;
-    let (wanted, got) = (known.arguments.count(), values.len());
+    let (wanted, got) = (wanted_count(known, &values), values.len());
     let plural = if wanted == 1 { "" } else { "s" };
     ensure!(
         wanted == got,
         "{name} takes {wanted} argument{plural}, and has {got}"
     );
     add_item(bytes, known, &values)
+}
+
+/// How many arguments a macro takes: behind 0 bits none is needed.
+fn wanted_count(known: Macro, values: &[i64]) -> usize {
+    match values {
+        [0] if known.arguments == Arguments::Bits => 1,
+        _ => known.arguments.count(),
+    }
 }
 
 /// The numbers of the arguments between parentheses.
@@ -74,6 +83,7 @@ fn add_item(bytes: &mut Vec<u8>, known: Macro, values: &[i64]) -> Result<()> {
             bytes.push(known.header | code)?;
             add_number(bytes, *value, count)
         }
+        (Arguments::Bits, [bits, rest @ ..]) => add_bits(bytes, known.header, *bits, rest),
         (Arguments::Item, [tag, kind, size]) => {
             let (tag, kind) = (part_of(*tag, 15)?, part_of(*kind, 3)?);
             let size = part_of(*size, 3)?;
@@ -86,6 +96,23 @@ fn add_item(bytes: &mut Vec<u8>, known: Macro, values: &[i64]) -> Result<()> {
             }
             Ok(())
         }
+    }
+}
+
+/// Appends an item whose data have so many bits.
+fn add_bits(bytes: &mut Vec<u8>, header: u8, bits: i64, rest: &[i64]) -> Result<()> {
+    let (code, count) = match bits {
+        0 => (0, 0),
+        8 => (1, 1),
+        16 => (2, 2),
+        32 => (3, 4),
+        _ => bail!("{bits} is no number of bits: 0, 8, 16 or 32"),
+    };
+    bytes.push(header | code)?;
+    match rest {
+        [value] if count > 0 => add_number(bytes, *value, count),
+        [_value, ..] => bail!("a number stands behind 0 bits"),
+        [] => Ok(()),
     }
 }
 

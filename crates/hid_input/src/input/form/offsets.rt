@@ -1,8 +1,10 @@
-//! Dumps with offsets, as `xxd`, `hexdump`, `od` and Wireshark write them. Each line's offset has
-//! to be the number of bytes before it, and the characters beside the bytes have to be theirs.
+//! Dumps with offsets, as `xxd`, `hexdump`, `od` and Wireshark write them, and the kernel in its
+//! log. Each line's offset has to be the number of bytes before it, and the characters beside the
+//! bytes have to be theirs.
 use crate::input::form::Wanted;
 use crate::input::form::dump_line::{DumpLine, Radix, are_characters};
 use crate::input::form::hex_text::is_digits;
+use crate::input::form::log_line::LogLine;
 use crate::input::given::{Found, GivenReport};
 use anyhow::{Result, bail, ensure};
 use std::alloc::Global;
@@ -30,6 +32,8 @@ pub struct OffsetLines {
     /// How many bytes the first line has, and the last so far.
     first: usize,
     last: usize,
+    /// What stands before each line in the kernel's log, without times; none elsewhere.
+    names: Option<(String, String)>,
     /// Whether the line was there that is the number of bytes alone.
     has_length: bool,
     bytes: Vec<u8>,
@@ -49,6 +53,7 @@ impl OffsetLines {
             is_told: false,
             first: 0,
             last: 0,
+            names: None,
             has_length: false,
             bytes: Vec::new(alloc),
         }
@@ -68,7 +73,7 @@ impl OffsetLines {
             !self.has_length,
             "stands behind the line that is the length alone"
         );
-        let Some(parts) = DumpLine::of(line) else {
+        let Some(parts) = DumpLine::of(self.without_names(line)?) else {
             bail!("has no offset");
         };
         self.take_shape(&parts)?;
@@ -77,6 +82,48 @@ impl OffsetLines {
         }
         self.take_offset(parts.offset)?;
         self.take_line(*found.devices.allocator(), &parts)
+    }
+
+    /// A line without what stands before it in the kernel's log, which is the same in all.
+    fn without_names<'a>(&mut self, line: &'a str) -> Result<&'a str> {
+        if self.names.is_none() && DumpLine::of(line).is_some() {
+            return Ok(line);
+        }
+        match LogLine::of(line) {
+            Some(parts) => {
+                self.take_names(parts.names)?;
+                Ok(parts.dump)
+            }
+            None => {
+                ensure!(
+                    self.names.is_none(),
+                    "is no line of the dump in the kernel's log"
+                );
+                Ok(line)
+            }
+        }
+    }
+
+    /// Takes the names of the first line, which the others must have.
+    fn take_names(&mut self, names: (&str, &str)) -> Result<()> {
+        let alloc = *self.bytes.allocator();
+        let (machine, name) = names;
+        match &self.names {
+            Some(known) => ensure!(
+                known.0.as_str() == machine && known.1.as_str() == name,
+                "other words stand before its offset than in the lines before it"
+            ),
+            None => {
+                ensure!(
+                    self.digits == 0,
+                    "words stand before its offset, and not in the lines before it"
+                );
+                let machine = String::from_str(alloc, machine)?;
+                let name = String::from_str(alloc, name)?;
+                self.names = Some((machine, name));
+            }
+        }
+        Ok(())
     }
 
     /// Takes the shape of the first line, which the others must have.
@@ -162,6 +209,10 @@ impl OffsetLines {
         ensure!(
             length <= 4,
             "{group} is more than two bytes: their order isn't sure (xxd -g1, od -t x1)"
+        );
+        ensure!(
+            length == 2 || self.names.is_none(),
+            "{group} is more than a byte: the kernel writes it in its processor's order"
         );
         if self.width == 0 {
             self.width = length;

@@ -1,10 +1,13 @@
-//! Arrays of C and Rust, as `hid convert` writes them: a declaration with a list of numbers or
+//! Arrays of C, Rust and Go, as `hid convert` writes them: a declaration with a list of numbers or
 //! macros in braces or brackets, and remarks behind `//` or between `/*` and `*/`.
 use crate::input::form::Wanted;
 use crate::input::form::item_list::ItemList;
 use crate::input::given::{Found, GivenReport};
 use anyhow::{Result, bail, ensure};
 use std::alloc::{AllocError, Global};
+
+/// What may stand before a list: in Rust a `&` or `vec!`, in Go its type.
+static BEFORE_LIST: [&str; 3] = ["&", "vec!", "[]byte"];
 
 /// What reads arrays.
 #[derive(Drop)]
@@ -42,8 +45,10 @@ fn is_declaration(declared: &str, list: &str) -> bool {
 
 /// What stands behind the brace or the bracket that begins a list.
 fn begun_list(text: &str) -> Option<&str> {
-    let text = text.trim();
-    let text = text.strip_prefix("&").unwrap_or(text);
+    let mut text = text.trim();
+    for word in BEFORE_LIST {
+        text = text.strip_prefix(word).unwrap_or(text);
+    }
     match text.strip_prefix("{") {
         Some(list) => Some(list),
         None => text.strip_prefix("["),
@@ -80,6 +85,9 @@ impl SourceLines {
         }
         if self.is_declared {
             return self.take_first(found, code);
+        }
+        if let Some(directive) = code.strip_prefix("#") {
+            return pass_directive(directive.trim());
         }
         let Some((declared, list)) = code.split_once("=") else {
             bail!("is no declaration of bytes");
@@ -169,6 +177,17 @@ impl SourceLines {
         ensure!(!self.is_declared, "no list of bytes is behind =");
         Ok(())
     }
+}
+
+/// Passes over a line before an array that changes none of its bytes: `#include`, `#pragma`, an
+/// attribute of Rust as `#[rustfmt::skip]`.
+fn pass_directive(directive: &str) -> Result<()> {
+    let word = directive.split_whitespace().next().unwrap_or("");
+    ensure!(
+        directive.starts_with("[") || matches!(word, "include" | "pragma"),
+        "#{word} may change what follows: leave it out, with what it is for"
+    );
+    Ok(())
 }
 
 /// The number of bytes that a declaration says in brackets: the last word in them.

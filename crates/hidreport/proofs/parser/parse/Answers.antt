@@ -1,17 +1,26 @@
 use Rattle.std.proofs.Common.{◌≡◌, ◌≢◌, ◌+◌, ◌∙◌, [], ap, arith, drop, length, length-drop, subst, sym}
-use Rattle.std.proofs.Common.{◌∷◌, take, Result}
+use Rattle.std.proofs.Common.{◌∷◌, ℕ, List, take, Result}
 use Rattle.hidreport_items.specs.ItemFaults.{told_fault}
 use Rattle.hidreport_items.specs.Spelling.{item_of}
 use Rattle.hidreport_lists.specs.Answer.{Refusal, Refuses}
 use Rattle.hidreport_lists.specs.Entry.{Entry}
 use Rattle.hidreport_lists.specs.Itemising.{items_from}
 use Rattle.hidreport_lists.specs.Messages.{grammar_message}
+use Rattle.hidreport_lists.specs.declared.front.FrontItem.{FrontItem}
 use Rattle.hidreport_lists.proofs.FrontLemmas.{front-first}
 use Rattle.hidreport_lists.proofs.ItemLemmas.{items_from-fault, refuses-invalid, with_front}
 use Rattle.hidreport.specs.Parser.Budget.{walk_items}
 use Rattle.hidreport.specs.Records.{DescriptorRecord}
-use Rattle.hidreport.proofs.ParseLemmas.{stopped, walk-some, walked-on}
+use Rattle.hidreport.proofs.ParseLemmas.{shorter, stopped, walk-some, walked-on}
 use Rattle.hidreport.proofs.parser.parse.Goals as goal
+
+-- the item in front of the rest
+abbrev entry_at : ℕ → FrontItem → List ℕ → Entry
+entry_at offset front rest = record {
+  offset = offset;
+  bytes = take front.size rest;
+  item = front.item;
+}
 
 pub returns-in-Err : goal.returns-in-Err
 returns-in-Err c =
@@ -34,11 +43,7 @@ returns-in-Err-take c =
     (arith, c.is_empty.ensures) in
     let rest = c.loop-rest.rest.now in
     let front = c.in-Ok.front in
-    let entry : Entry = record {
-      offset = c.loop-rest.offset;
-      bytes = take front.size rest;
-      item = front.item;
-    } in
+    let entry = entry_at c.loop-rest.offset front rest in
     let behind = items_from item_of (c.loop-rest.offset + front.size) 0 c.split_at.result.1.now in
     let first = (front-first c.loop-rest.offset rest front c.in-Ok.ensures.item).1 in
     subst (λ (r : Result DescriptorRecord Refusal). Refuses c.refusal-in-Err-take.result r)
@@ -54,19 +59,13 @@ returns-in-Err-take c =
 
 pub loop-rest-smaller : goal.loop-rest-smaller
 loop-rest-smaller c =
-    let some = (front-first c.loop-rest.offset c.loop-rest.rest.now c.in-Ok.front
-    c.in-Ok.ensures.item).0 in
-    rw c.split_at.ensures.back (simp length-drop (omega (arith, some, c.in-Ok.ensures.item.0)))
+    rw c.split_at.ensures.back (shorter c.loop-rest.rest.now c.in-Ok.front c.in-Ok.ensures.item)
 
 pub loop-rest-preserved : goal.loop-rest-preserved
 loop-rest-preserved c =
     let rest = c.loop-rest.rest.now in
     let front = c.in-Ok.front in
-    let entry : Entry = record {
-      offset = c.loop-rest.offset;
-      bytes = take front.size rest;
-      item = front.item;
-    } in
+    let entry = entry_at c.loop-rest.offset front rest in
     let first = (front-first c.loop-rest.offset rest front c.in-Ok.ensures.item).1 in
     record {
       place = rw c.split_at.ensures.back (simp length-drop

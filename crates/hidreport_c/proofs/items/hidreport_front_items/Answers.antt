@@ -1,4 +1,4 @@
-use Rattle.std.proofs.Common.{◌+◌, [], ◌∷◌, ◌++◌, length, ap, sym, ◌∙◌, arith}
+use Rattle.std.proofs.Common.{◌≡◌, ◌+◌, [], ◌∷◌, ◌++◌, length, ap, sym, ◌∙◌, arith}
 use Rattle.std.proofs.Common.{append-nil, append_assoc, length-append}
 use Rattle.hidreport_c.proofs.FrontItemsLemmas.{front-fault, front-more, front-none}
 use Rattle.hidreport_c.proofs.FrontItemsLemmas.{front-some, front-whole}
@@ -6,24 +6,25 @@ use Rattle.hidreport_c.specs.Answer.{array_after, counted}
 use Rattle.hidreport_c.specs.Items.{front_items}
 use Rattle.hidreport_c.specs.declared.items.HidreportItem.{HidreportItem}
 use Rattle.hidreport_c.proofs.items.hidreport_front_items.Goals as goal
+use Rattle.hidreport_c.proofs.items.hidreport_front_items.Goals.{In_default}
+
+-- what was listed is all
+listed : (c : In_default) → front_items 0 0 c.args.descriptor.now ≡ c.loop-rest.invariant.0
+listed c =
+    let inv = c.loop-rest.invariant in
+    inv.2 ∙ ap (λ l. inv.0 ++ l)
+    (front-none c.loop-rest.offset c.loop-rest.rest.now _ c.in_default.ensures.fault)
+    ∙ append-nil inv.0
 
 pub returns-in_default-clause-answer : goal.returns-in_default-clause-answer
 returns-in_default-clause-answer c =
-    let inv = c.loop-rest.invariant in
-    let all = inv.2
-    ∙ ap (λ l. inv.0 ++ l)
-    (front-none c.loop-rest.offset c.loop-rest.rest.now _ c.in_default.ensures.fault)
-    ∙ append-nil inv.0 in
-    c.counted.ensures ∙ ap counted (sym inv.1 ∙ ap length (sym all))
+    c.counted.ensures ∙ ap counted (sym c.loop-rest.invariant.1
+    ∙ ap length (sym (listed (goal.at.returns-in_default-clause-answer c).In_default)))
 
 pub returns-in_default-clause-written : goal.returns-in_default-clause-written
 returns-in_default-clause-written c =
-    let inv = c.loop-rest.invariant in
-    let all = inv.2
-    ∙ ap (λ l. inv.0 ++ l)
-    (front-none c.loop-rest.offset c.loop-rest.rest.now _ c.in_default.ensures.fault)
-    ∙ append-nil inv.0 in
-    inv.3 ∙ ap (λ l. array_after l c.args.items.now) (sym all)
+    c.loop-rest.invariant.3 ∙ ap (λ l. array_after l c.args.items.now)
+    (sym (listed (goal.at.returns-in_default-clause-written c).In_default))
 
 pub returns-in_default-clause-whole : goal.returns-in_default-clause-whole
 returns-in_default-clause-whole c = λ entries all. front-whole c.args.descriptor.now entries all

@@ -1,10 +1,8 @@
-use Rattle.std.proofs.Common.{length, min, ap, sym, ◌∙◌, arith, take, drop, ◌-◌, refl}
-use Rattle.std.proofs.Common.{length-append}
-use Rattle.std.proofs.lemmas.List.{take_all}
+use Rattle.std.proofs.Common.{◌≡◌, length, ap, ◌∙◌, arith, take, drop, ◌-◌, refl}
 use Rattle.std.specs.Prelude.{flat_map}
-use Rattle.hidreport_c.proofs.ListsLemmas.{part-joined}
+use Rattle.hidreport_c.proofs.ListsLemmas.{more-joined}
 use Rattle.hidreport_c.proofs.ReadingLemmas.{at-least}
-use Rattle.hidreport_c.proofs.UsageListsLemmas.{by-report, flat-next, flat-within, report_usages}
+use Rattle.hidreport_c.proofs.UsageListsLemmas.{by-report, flat-all, flat-next, flat-within, report_usages}
 use Rattle.hidreport_c.specs.Answer.{array_after}
 use Rattle.hidreport_c.specs.UsageLists.{usages_in_all}
 use Rattle.hidreport_c.proofs.usage_lists.put_all.Goals as goal
@@ -42,35 +40,17 @@ pub loop-report-preserved : goal.loop-report-preserved
 loop-report-preserved c =
     let reports = c.args.reports.now in
     let i = c.loop-report.report-index in
-    let before = flat_map report_usages (take i reports) in
-    let own = report_usages c.report-item.result in
     let listed = ap usages_in_all c.fields.ensures in
+    let size : c.in_ok-listed.listed ≡ length (report_usages c.report-item.result) =
+    omega (arith, c.in_ok-listed.ensures.some.0, ap length listed) in
     let rest = take (length c.loop-report.usages - c.min-begun.result)
     (drop c.min-begun.result c.loop-report.usages) in
-    let next = flat-next report_usages reports i c.report-item.result c.loop-report-test.true
-    c.report-item.is in (
-      c.in_ok-count.ensures.1 ∙ omega (
-        arith,
-        c.loop-report.invariant.0,
-        c.in_ok-listed.ensures.some.0,
-        ap length listed,
-        length-append before own,
-        ap length next,
-      ),
-      part-joined before own c.args.usages.now c.loop-report.usages c.put_usages.new.usages
-          c.min-begun.result c.loop-report.invariant.1
-          (c.min-begun.ensures
-          ∙ ap (λ n. min n (length c.loop-report.usages)) c.loop-report.invariant.0)
-          (c.in_ok-listed.ensures.some.1 ∙ ap (λ l. array_after l rest) listed)
-          ∙ ap (λ l. array_after l c.args.usages.now) (sym next),
-    )
+    more-joined (flat_map report_usages (take i reports)) (report_usages c.report-item.result) c.args.usages.now
+    (flat-next report_usages reports i c.report-item.result c.loop-report-test.true c.report-item.is)
+    c.loop-report.invariant.0 size c.in_ok-count.ensures.1 c.loop-report.invariant.1
+    c.min-begun.ensures (c.in_ok-listed.ensures.some.1 ∙ ap (λ l. array_after l rest) listed)
 
 pub returns-clause-some : goal.returns-clause-some
 returns-clause-some c =
-    let reports = c.args.reports.now in
-    let i = c.loop-report.report-index in
-    let all = ap (flat_map report_usages) (take_all i reports c.loop-report-test.false)
-    ∙ by-report reports in (
-      c.loop-report.invariant.0 ∙ ap length all,
-      c.loop-report.invariant.1 ∙ ap (λ l. array_after l c.args.usages.now) all,
-    )
+    flat-all report_usages c.args.reports.now c.args.usages.now (by-report c.args.reports.now)
+    c.loop-report-test.false c.loop-report.invariant.0 c.loop-report.invariant.1

@@ -1,11 +1,10 @@
-use Rattle.std.proofs.Common.{length, map, min, ap, sym, ◌∙◌, arith, take, drop, ◌-◌}
-use Rattle.std.proofs.Common.{length-append}
-use Rattle.std.proofs.lemmas.List.{length-map, take_all}
+use Rattle.std.proofs.Common.{◌≡◌, length, map, ap, ◌∙◌, arith, take, drop, ◌-◌}
+use Rattle.std.proofs.lemmas.List.{length-map}
 use Rattle.std.specs.Prelude.{flat_map}
 use Rattle.hidreport.specs.UsageNumber.{usage_number}
-use Rattle.hidreport_c.proofs.ListsLemmas.{part-joined}
+use Rattle.hidreport_c.proofs.ListsLemmas.{more-joined}
 use Rattle.hidreport_c.proofs.ReadingLemmas.{at-least}
-use Rattle.hidreport_c.proofs.UsageListsLemmas.{by-field, flat-next, flat-within, own_usages}
+use Rattle.hidreport_c.proofs.UsageListsLemmas.{by-field, flat-all, flat-next, flat-within, own_usages}
 use Rattle.hidreport_c.specs.Answer.{array_after}
 use Rattle.hidreport_c.proofs.usage_lists.put_usages.Goals as goal
 
@@ -29,35 +28,18 @@ pub loop-field-preserved : goal.loop-field-preserved
 loop-field-preserved c =
     let fields = c.args.fields.now in
     let i = c.loop-field.field-index in
-    let before = flat_map own_usages (take i fields) in
-    let own = own_usages c.field-item.result in
     let listed = ap (map usage_number) c.usages_of-listed.ensures in
+    let count = length-map c.usages_of-listed.result.now usage_number in
+    let size : length c.usages_of-listed.result.now ≡ length (own_usages c.field-item.result) =
+    omega (arith, ap length listed, count) in
     let rest = take (length c.loop-field.usages - c.min-begun.result)
     (drop c.min-begun.result c.loop-field.usages) in
-    let next = flat-next own_usages fields i c.field-item.result c.loop-field-test.true
-    c.field-item.is in (
-      c.in_ok-count.ensures.1 ∙ omega (
-        arith,
-        c.loop-field.invariant.0,
-        ap length listed,
-        length-map c.usages_of-listed.result.now usage_number,
-        length-append before own,
-        ap length next,
-      ),
-      part-joined before own c.args.usages.now c.loop-field.usages c.write.new.array
-          c.min-begun.result c.loop-field.invariant.1
-          (c.min-begun.ensures
-          ∙ ap (λ n. min n (length c.loop-field.usages)) c.loop-field.invariant.0)
-          (c.write.ensures.written ∙ ap (λ l. array_after l rest) listed)
-          ∙ ap (λ l. array_after l c.args.usages.now) (sym next),
-    )
+    more-joined (flat_map own_usages (take i fields)) (own_usages c.field-item.result) c.args.usages.now
+    (flat-next own_usages fields i c.field-item.result c.loop-field-test.true c.field-item.is)
+    c.loop-field.invariant.0 size c.in_ok-count.ensures.1 c.loop-field.invariant.1
+    c.min-begun.ensures (c.write.ensures.written ∙ ap (λ l. array_after l rest) listed)
 
 pub returns-clause-some : goal.returns-clause-some
 returns-clause-some c =
-    let fields = c.args.fields.now in
-    let i = c.loop-field.field-index in
-    let all = ap (flat_map own_usages) (take_all i fields c.loop-field-test.false)
-    ∙ by-field fields in (
-      c.loop-field.invariant.0 ∙ ap length all,
-      c.loop-field.invariant.1 ∙ ap (λ l. array_after l c.args.usages.now) all,
-    )
+    flat-all own_usages c.args.fields.now c.args.usages.now (by-field c.args.fields.now)
+    c.loop-field-test.false c.loop-field.invariant.0 c.loop-field.invariant.1

@@ -1,33 +1,28 @@
-use Rattle.std.proofs.Common.{ℕ, List, [], ◌∷◌, None, arith}
+use Rattle.std.proofs.Common.{List, [], ◌∷◌, None, arith}
 use Rattle.std.proofs.Common.{codes, refl}
 use Rattle.hidreport.specs.Entry.{Entry}
 use Rattle.hidreport.specs.GlobalItem.TheVariants as global
-use Rattle.hidreport.specs.ItemType.{ItemType}
 use Rattle.hidreport.specs.ItemType.TheVariants as item
 use Rattle.hidreport.specs.Itemising.{Itemises}
 use Rattle.hidreport.specs.Mending.{PieceRecord, holding}
 use Rattle.hidreport.specs.Options.{default_options, globals_only_options}
+use Rattle.hidreport.specs.RepairLaws.{KeepsBits}
 use Rattle.hidreport.specs.Spelling.{item_of}
+use Rattle.hidreport.specs.declared.parse_options.ParseOptions.{ParseOptions}
 use Rattle.hidreport.proofs.OutlineLemmas.{same-places}
 use Rattle.hidreport_definitions.specs.Hex.{hex}
-use Rattle.hidreport_definitions.specs.Repairs.{input}
+use Rattle.hidreport_definitions.specs.Repairs.{as_hid_core, input, padded_at, repaired_to}
 use Rattle.hidreport_definitions.proofs.ByteLemmas.{one, two}
+use Rattle.hidreport_definitions.proofs.PieceLemmas.{unchanged, written_at}
 use Rattle.hidreport_definitions.proofs.repairs.padding_behind_a_pop_keeps_its_bits.Goals as goal
 
--- an item of two bytes, as it is read and as it is written
-abbrev kept : ℕ → ℕ → ℕ → ItemType → PieceRecord
-kept offset a b x = holding None offset (a ∷ b ∷ []) (a ∷ b ∷ []) x
-
-abbrev written_at : ℕ → ℕ → ℕ → ItemType → Entry
-written_at offset a b x = record { offset = offset; bytes = a ∷ b ∷ []; item = x }
-
 abbrev what_is_read : List PieceRecord
-what_is_read = kept 0 0x75 8 (item.Global (global.ReportSize 8))
-    ∷ kept 2 0x95 1 (item.Global (global.ReportCount 1))
+what_is_read = unchanged 0 0x75 8 (item.Global (global.ReportSize 8))
+    ∷ unchanged 2 0x95 1 (item.Global (global.ReportCount 1))
     ∷ holding None 4 (0xa4 ∷ []) (0xa4 ∷ []) (item.Global global.Push)
-    ∷ kept 5 0x75 16 (item.Global (global.ReportSize 16))
+    ∷ unchanged 5 0x75 16 (item.Global (global.ReportSize 16))
     ∷ holding None 7 (0xb4 ∷ []) (0xb4 ∷ []) (item.Global global.Pop)
-    ∷ kept 8 0x81 2 (input 2) ∷ []
+    ∷ unchanged 8 0x81 2 (input 2) ∷ []
 
 abbrev what_is_written : List Entry
 what_is_written = written_at 0 0x75 8 (item.Global (global.ReportSize 8))
@@ -60,20 +55,21 @@ is-written = record {
   offsets = (refl, (refl, (refl, (refl, (refl, (refl, tt))))));
 }
 
-pub returns-clause-locals : goal.returns-clause-locals
-returns-clause-locals c = record {
+-- whatever a Push keeps
+kept : (parse : ParseOptions) → KeepsBits (record as_hid_core { parse = parse })
+    (hex (codes "75 08 95 01 a4 75 10 b4 81 02"))
+    (repaired_to (codes "75 08 95 01 a4 75 10 b4 81 03")
+    (padded_at 8 (codes "81 02") (codes "81 03") ∷ []))
+kept parse = record {
   read = what_is_read;
   reads = refl;
   entries = what_is_written;
   written = is-written;
-  places = same-places default_options _ _ refl;
+  places = same-places parse _ _ refl;
 }
 
+pub returns-clause-locals : goal.returns-clause-locals
+returns-clause-locals c = kept default_options
+
 pub returns-clause-globals : goal.returns-clause-globals
-returns-clause-globals c = record {
-  read = what_is_read;
-  reads = refl;
-  entries = what_is_written;
-  written = is-written;
-  places = same-places globals_only_options _ _ refl;
-}
+returns-clause-globals c = kept globals_only_options

@@ -1,8 +1,6 @@
-use Rattle.std.proofs.Common.{◌≡◌, ◌≤ℤ◌, ℤ, zero, suc, Option, Some, None, true, false, refl, arith}
-use Rattle.std.specs.Prelude.{pos, negsuc}
-use Rattle.std.proofs.lemmas.Int.{ints}
-use Rattle.hidreport.specs.Standing.{is_unchosen}
-use Rattle.hidreport.specs.Usages.{range_from}
+use Rattle.std.proofs.Common.{◌≡◌, ℤ, Option, Some, None, refl}
+use Rattle.std.specs.Prelude.{pos}
+use Rattle.hidreport_definitions.proofs.StandingLemmas.{least}
 use Rattle.hidreport_definitions.proofs.standing.a_number_outside_the_bounds_comes_first.Goals as goal
 
 abbrev it : ℤ → Option ℤ
@@ -10,13 +8,6 @@ it number = Some number
 
 abbrev nothing : Option ℤ
 nothing = None
-
-least : (other : ℤ) → is_unchosen (range_from 9 1 2) 2 false (pos 0) (pos 3) other ≡ true
-    → pos 2 ≤ℤ other
-least (pos zero) e = cc
-least (pos (suc zero)) e = cc
-least (pos (suc (suc n))) e = omega (arith, ints)
-least (negsuc n) e = cc
 
 pub returns-clause-zero : goal.returns-clause-zero
 returns-clause-zero c = refl

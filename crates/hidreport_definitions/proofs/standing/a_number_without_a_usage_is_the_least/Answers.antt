@@ -1,16 +1,8 @@
-use Rattle.std.proofs.Common.{◌≡◌, ◌≤ℤ◌, ℤ, zero, suc, true, false, refl, arith}
-use Rattle.std.specs.Prelude.{pos, negsuc}
+use Rattle.std.proofs.Common.{◌≡◌, true, false, refl, arith}
+use Rattle.std.specs.Prelude.{pos}
 use Rattle.std.proofs.lemmas.Int.{ints}
-use Rattle.hidreport.specs.Standing.{is_unchosen}
-use Rattle.hidreport.specs.Usages.{range_from}
+use Rattle.hidreport_definitions.proofs.StandingLemmas.{least}
 use Rattle.hidreport_definitions.proofs.standing.a_number_without_a_usage_is_the_least.Goals as goal
-
-least : (other : ℤ) → is_unchosen (range_from 9 1 2) 2 false (pos 0) (pos 3) other ≡ true
-    → pos 2 ≤ℤ other
-least (pos zero) e = cc
-least (pos (suc zero)) e = cc
-least (pos (suc (suc n))) e = omega (arith, ints)
-least (negsuc n) e = cc
 
 pub returns-clause-behind : goal.returns-clause-behind
 returns-clause-behind c = (refl, least)

@@ -1,8 +1,9 @@
-use Rattle.std.proofs.Common.{◌≢◌, ℕ, [], ◌∷◌, None, Some, inl, inr, refl, arith}
+use Rattle.std.proofs.Common.{[], ◌∷◌, None, Some, inl, inr, refl, arith}
 use Rattle.std.specs.Prelude.{pos}
 use Rattle.hidreport.specs.Tiling.{IsFilled}
 use Rattle.hidreport_definitions.specs.Summary.{of_report, variable_at}
 use Rattle.hidreport_definitions.specs.Tiled.{byte_field, report_with}
+use Rattle.hidreport_definitions.proofs.FilledLemmas.{one-zero, zero-one}
 use Rattle.hidreport_definitions.proofs.writing.other_fields_are_kept.Goals as goal
 
 plain : IsFilled (report_with None 16 (variable_at 0 8 (pos 0) ∷ variable_at 8 16 (pos 0) ∷ []))
@@ -23,12 +24,6 @@ with_id = record {
   own = (inr refl, (inr refl, tt));
   ranges = (tt, (tt, tt));
 }
-
-zero-one : ◌≢◌ {A = ℕ} 0 1
-zero-one e = omega (arith, e)
-
-one-zero : ◌≢◌ {A = ℕ} 1 0
-one-zero e = omega (arith, e)
 
 pub returns : goal.returns
 returns c = record {

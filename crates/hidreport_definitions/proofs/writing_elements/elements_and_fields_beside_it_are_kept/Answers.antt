@@ -1,8 +1,9 @@
-use Rattle.std.proofs.Common.{◌≢◌, ℕ, [], ◌∷◌, None, inl, refl, arith}
+use Rattle.std.proofs.Common.{[], ◌∷◌, None, inl, refl, arith}
 use Rattle.std.specs.Prelude.{pos}
 use Rattle.hidreport.specs.Tiling.{IsFilled}
 use Rattle.hidreport_definitions.specs.Summary.{array_at, variable_at}
 use Rattle.hidreport_definitions.specs.Tiled.{report_with}
+use Rattle.hidreport_definitions.proofs.FilledLemmas.{zero-one}
 use Rattle.hidreport_definitions.proofs.writing_elements.elements_and_fields_beside_it_are_kept.Goals as goal
 
 filled : IsFilled (report_with None 16 (array_at 0 8 2 (pos 0) ∷ variable_at 8 16 (pos 0) ∷ []))
@@ -13,9 +14,6 @@ filled = record {
   own = (inl refl, (inl refl, tt));
   ranges = (tt, (tt, tt));
 }
-
-zero-one : ◌≢◌ {A = ℕ} 0 1
-zero-one e = omega (arith, e)
 
 pub returns : goal.returns
 returns c = record {

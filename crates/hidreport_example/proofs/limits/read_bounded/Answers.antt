@@ -1,4 +1,4 @@
-use Rattle.std.proofs.Common.{◌≡◌, ◌∙◌, ◌<◌, ℕ, List, Bool, true, cond, nat_lt, None, Some, ap, arith}
+use Rattle.std.proofs.Common.{◌≡◌, ◌∙◌, true, cond, nat_lt, None, Some, ap, arith}
 use Rattle.std.proofs.Common.{length, subst}
 use Rattle.std.proofs.lemmas.Bool.Decides.{nat_tests}
 use Rattle.hidreport.specs.Answer.{Answers}

@@ -1,7 +1,7 @@
 use Rattle.std.proofs.Common.{IfSome, Option, subst, sym}
 use Rattle.hidreport.specs.Records.{ReportRecord}
-use Rattle.hidreport.specs.Working.{AllWork}
-use Rattle.hidreport.proofs.OwnReportsLemmas.{AllOwn, own-of}
+use Rattle.hidreport.specs.Working.{AllOwn, AllWork}
+use Rattle.hidreport.proofs.OwnReportsLemmas.{own-of}
 use Rattle.hidreport.proofs.WorkLemmas.{works-of}
 use Rattle.hidreport.proofs.descriptor.ReportDescriptor.find_report.Goals as goal
 

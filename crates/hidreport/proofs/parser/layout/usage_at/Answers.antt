@@ -1,5 +1,5 @@
 use Rattle.std.proofs.Common.{rules, ◌-◌, ◌≡◌, ◌∙◌, min, length}
-use Rattle.hidreport.proofs.HostUsageLemmas.{at-listed}
+use Rattle.hidreport.proofs.FieldLemmas.{usage_at-min}
 use Rattle.hidreport.proofs.parser.layout.usage_at.Goals as goal
 
 pub returns : goal.returns
@@ -7,4 +7,4 @@ returns c =
     let us = c.args.usages.now in
     let capped : c.min.result ≡ min c.args.c (length us - 1) = search rules in
     c.index-usages-min.is
-    ∙ at-listed us c.args.c c.min.result c.index-usages-min.result c.requires capped
+    ∙ usage_at-min us c.args.c c.min.result c.index-usages-min.result c.requires capped

@@ -1,7 +1,7 @@
 use Rattle.std.proofs.Common.{◌≡◌, ◌∙◌, [], ◌∷◌, ap, sym, length}
 use Rattle.std.proofs.Common.{slice_set, w64, refl, arith}
 use Rattle.std.proofs.lemmas.Int.{to_z-of_z}
-use Rattle.hidreport.specs.Answer.{Bounds}
+use Rattle.hidreport.specs.Answer.{OutOfBounds}
 use Rattle.hidreport.specs.Choosing.{value_number}
 use Rattle.hidreport.specs.Reader.{each_alone, numbers_before}
 use Rattle.hidreport.proofs.AvailableLemmas.{stops-there, there-count, there-next}
@@ -15,14 +15,14 @@ pub returns-in_default-clause-values : goal.returns-in_default-clause-values
 returns-in_default-clause-values c =
     let f = c.args.self.now in
     c.loop-index.invariant.1 ∙ ap (λ l. array_after l c.args.values.now)
-    (sym (stops-there (element_at f c.args.report.now) c.loop-index.index f.value_count Bounds
+    (sym (stops-there (element_at f c.args.report.now) c.loop-index.index f.value_count OutOfBounds
     c.loop-index-test.true c.loop-index.invariant.0 (c.in_default.ensures.outside refl)))
 
 pub returns-in_default-clause-count : goal.returns-in_default-clause-count
 returns-in_default-clause-count c =
     let f = c.args.self.now in
     sym (ap length (stops-there (element_at f c.args.report.now) c.loop-index.index f.value_count
-    Bounds c.loop-index-test.true c.loop-index.invariant.0 (c.in_default.ensures.outside refl))
+    OutOfBounds c.loop-index-test.true c.loop-index.invariant.0 (c.in_default.ensures.outside refl))
     ∙ c.loop-index.invariant.0)
 
 pub loop-index-preserved : goal.loop-index-preserved

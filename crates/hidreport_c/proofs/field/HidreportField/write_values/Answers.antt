@@ -14,7 +14,7 @@ use Rattle.hidreport_c.proofs.ValuesLemmas.{refused-not-ok, set-written, written
 use Rattle.hidreport_c.specs.Answer.{as_answer, counted, list_or_nothing, array_after}
 use Rattle.hidreport_c.specs.Value.{elements_at, value_numbers}
 use Rattle.hidreport_c.proofs.field.HidreportField.write_values.Goals as goal
-use Rattle.hidreport_c.proofs.field.HidreportField.write_values.Goals.{in-Some, in_default}
+use Rattle.hidreport_c.proofs.field.HidreportField.write_values.Goals.{After-counted, in-Some, in_default}
 
 pub loop-index-preserved : goal.loop-index-preserved
 loop-index-preserved c =
@@ -55,27 +55,28 @@ loop-index-preserved c =
           absurd (refused-not-ok (elements_at f bytes) all outside c.loop-index.invariant.1)
     ]
 
-pub returns-clause-answer : goal.returns-clause-answer
-returns-clause-answer c =
+-- all values are there
+count : (c : After-counted)
+    → length (map value_number c.loop-index.invariant.0) ≡ c.args.self.now.value_count
+count c =
     let f = c.args.self.now in
     let all = c.loop-index.invariant.0 in
-    let is_signed = int_lt f.measures.logical_minimum (pos 0) in
-    let count = length-map all value_number
-    ∙ elements-length f.first_bit f.end_bit f.value_count is_signed c.args.report.now 0
-    f.value_count all c.loop-index.invariant.1 in
-    c.counted.ensures ∙ ap counted (sym count)
+    length-map all value_number
+    ∙ elements-length f.first_bit f.end_bit f.value_count (int_lt f.measures.logical_minimum (pos 0))
+    c.args.report.now 0 f.value_count all c.loop-index.invariant.1
+
+pub returns-clause-answer : goal.returns-clause-answer
+returns-clause-answer c =
+    c.counted.ensures
+    ∙ ap counted (sym (count (goal.at.returns-clause-answer c).After-counted))
     ∙ ap (λ r. as_answer (value_numbers r)) (sym c.loop-index.invariant.1)
 
 pub returns-clause-written : goal.returns-clause-written
 returns-clause-written c =
-    let f = c.args.self.now in
     let all = c.loop-index.invariant.0 in
-    let is_signed = int_lt f.measures.logical_minimum (pos 0) in
-    let count = length-map all value_number
-    ∙ elements-length f.first_bit f.end_bit f.value_count is_signed c.args.report.now 0
-    f.value_count all c.loop-index.invariant.1 in
+    let size = count (goal.at.returns-clause-written c).After-counted in
     let past = past-least (length (map value_number all)) (length c.args.values.now)
-    c.loop-index.index (rw (count, sym c.min-index-end.ensures) c.loop-index-test.false) in
+    c.loop-index.index (rw (size, sym c.min-index-end.ensures) c.loop-index-test.false) in
     c.loop-index.invariant.2
     ∙ written-whole (map value_number all) c.args.values.now c.loop-index.index past
     ∙ ap (λ r. array_after (list_or_nothing (value_numbers r)) c.args.values.now)

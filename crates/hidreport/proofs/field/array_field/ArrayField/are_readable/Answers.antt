@@ -1,4 +1,4 @@
-use Rattle.std.proofs.Common.{◌≡◌, ℕ, ◌+◌, ◌-◌, ◌*◌, ◌≤◌, ◌∙◌, pos, int_lt, sym, subst}
+use Rattle.std.proofs.Common.{◌≡◌, ℕ, ◌+◌, ◌-◌, ◌*◌, ◌≤◌, ◌∙◌, sym, subst}
 use Rattle.std.proofs.Common.{length, arith}
 use Rattle.hidreport.proofs.ElementLemmas.{elements-readable-by, elements-refused-by}
 use Rattle.hidreport.proofs.ElementLemmas.{readable-bits}
@@ -6,21 +6,15 @@ use Rattle.hidreport.proofs.field.array_field.ArrayField.are_readable.Goals as g
 
 pub returns-clause-readable : goal.returns-clause-readable
 returns-clause-readable c = λ t.
-    let f = c.args.self.now in
-    let is_signed = int_lt f.logical_minimum (pos 0) in
-    let last : f.report_count ≡ c.from-count.result - 1 + 1 = omega arith in
-    elements-readable-by f.bits.start f.bits.end f.report_count is_signed c.args.bytes.now
-    f.report_count (c.from-count.result - 1) c.args.width c.element_first-last.result last
-    c.requires.width c.element_first-last.ensures.first (sym c.are_readable.ensures ∙ t)
+    let last : c.args.self.now.report_count ≡ c.from-count.result - 1 + 1 = omega arith in
+    elements-readable-by _ _ _ _ _ _ _ _ _ last c.requires.width c.element_first-last.ensures.first
+    (sym c.are_readable.ensures ∙ t)
 
 pub returns-clause-outside : goal.returns-clause-outside
 returns-clause-outside c = λ t.
-    let f = c.args.self.now in
-    let is_signed = int_lt f.logical_minimum (pos 0) in
-    let last : f.report_count ≡ c.from-count.result - 1 + 1 = omega arith in
-    elements-refused-by f.bits.start f.bits.end f.report_count is_signed c.args.bytes.now
-    f.report_count (c.from-count.result - 1) c.args.width c.element_first-last.result last
-    c.requires.width c.element_first-last.ensures.first (sym c.are_readable.ensures ∙ t)
+    let last : c.args.self.now.report_count ≡ c.from-count.result - 1 + 1 = omega arith in
+    elements-refused-by _ _ _ _ _ _ _ _ _ last c.requires.width c.element_first-last.ensures.first
+    (sym c.are_readable.ensures ∙ t)
 
 pub returns-clause-inside : goal.returns-clause-inside
 returns-clause-inside c = λ t some.

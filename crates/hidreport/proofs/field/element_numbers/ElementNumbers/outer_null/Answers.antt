@@ -1,44 +1,34 @@
-use Rattle.std.proofs.Common.{◌≡◌, ◌∙◌, ◌-ℤ◌, ◌+ℤ◌, sym, pos, int_lt, arith, to_z, of_z}
+use Rattle.std.proofs.Common.{◌∙◌, sym, pos, int_lt, arith, to_z, of_z, ◌-ℤ◌, ◌+ℤ◌}
 use Rattle.std.specs.Int.{w64}
 use Rattle.std.proofs.lemmas.Int.{ints}
-use Rattle.hidreport.proofs.NullLemmas.{null-all, null-none, null-third}
+use Rattle.hidreport.proofs.NullLemmas.{IsBeside, null-all, null-none, null-third}
 use Rattle.hidreport.proofs.field.element_numbers.ElementNumbers.outer_null.Goals as goal
+use Rattle.hidreport.proofs.field.element_numbers.ElementNumbers.outer_null.Goals.{After-is_null-else-is_null-2}
+
+-- the numbers beside the bounds, as they were computed
+beside : (c : After-is_null-else-is_null-2)
+    → IsBeside c.args.self.now.width (int_lt c.args.self.now.minimum (pos 0))
+    c.args.self.now.minimum c.args.self.now.maximum
+    (to_z w64 (of_z w64 (to_z w64 (of_z w64 c.from-below.result) -ℤ pos 1)))
+    (to_z w64 (of_z w64 (to_z w64 (of_z w64 c.from-above.result) +ℤ pos 1)))
+beside c = record {
+  below = omega (arith, ints);
+  above = omega (arith, ints);
+  zero_not = sym c.is_null.ensures ∙ c.if-is_null.false;
+  below_not = sym c.is_null-else-is_null.ensures ∙ c.if-is_null-2.false;
+}
 
 pub returns-then-is_null-3-clause-first : goal.returns-then-is_null-3-clause-first
 returns-then-is_null-3-clause-first c =
-    let f = c.args.self.now in
-    let below : to_z w64 (of_z w64 (to_z w64 (of_z w64 c.from-below.result) -ℤ pos 1))
-    ≡ f.minimum -ℤ pos 1 = omega (arith, ints) in
-    let above : to_z w64 (of_z w64 (to_z w64 (of_z w64 c.from-above.result) +ℤ pos 1))
-    ≡ f.maximum +ℤ pos 1 = omega (arith, ints) in
-    null-third f.width
-    (int_lt f.minimum (pos 0)) f.minimum f.maximum _ _ below above
-    (sym c.is_null.ensures ∙ c.if-is_null.false)
-    (sym c.is_null-else-is_null.ensures ∙ c.if-is_null-2.false)
+    null-third (beside (goal.at.returns-then-is_null-3-clause-first c).After-is_null-else-is_null-2)
     (sym c.is_null-else-is_null-2.ensures ∙ c.if-is_null-3.true)
 
 pub returns-else-is_null-3-clause-first : goal.returns-else-is_null-3-clause-first
 returns-else-is_null-3-clause-first c =
-    let f = c.args.self.now in
-    let below : to_z w64 (of_z w64 (to_z w64 (of_z w64 c.from-below.result) -ℤ pos 1))
-    ≡ f.minimum -ℤ pos 1 = omega (arith, ints) in
-    let above : to_z w64 (of_z w64 (to_z w64 (of_z w64 c.from-above.result) +ℤ pos 1))
-    ≡ f.maximum +ℤ pos 1 = omega (arith, ints) in
-    null-none f.width
-    (int_lt f.minimum (pos 0)) f.minimum f.maximum _ _ below above
-    (sym c.is_null.ensures ∙ c.if-is_null.false)
-    (sym c.is_null-else-is_null.ensures ∙ c.if-is_null-2.false)
+    null-none (beside (goal.at.returns-else-is_null-3-clause-first c).After-is_null-else-is_null-2)
     (sym c.is_null-else-is_null-2.ensures ∙ c.if-is_null-3.false)
 
 pub returns-else-is_null-3-clause-none : goal.returns-else-is_null-3-clause-none
 returns-else-is_null-3-clause-none c = λ none n.
-    let f = c.args.self.now in
-    let below : to_z w64 (of_z w64 (to_z w64 (of_z w64 c.from-below.result) -ℤ pos 1))
-    ≡ f.minimum -ℤ pos 1 = omega (arith, ints) in
-    let above : to_z w64 (of_z w64 (to_z w64 (of_z w64 c.from-above.result) +ℤ pos 1))
-    ≡ f.maximum +ℤ pos 1 = omega (arith, ints) in
-    null-all f.width
-    f.minimum f.maximum n _ _ below above
-    (sym c.is_null.ensures ∙ c.if-is_null.false)
-    (sym c.is_null-else-is_null.ensures ∙ c.if-is_null-2.false)
-    (sym c.is_null-else-is_null-2.ensures ∙ c.if-is_null-3.false)
+    null-all (beside (goal.at.returns-else-is_null-3-clause-none c).After-is_null-else-is_null-2)
+    (sym c.is_null-else-is_null-2.ensures ∙ c.if-is_null-3.false) n

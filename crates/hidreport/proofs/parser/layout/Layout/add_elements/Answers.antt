@@ -1,27 +1,48 @@
-use Rattle.std.proofs.Common.{◌<◌, ◌≤◌, ◌∙◌, List, ap, arith, sym, length, subst, rules}
+use Rattle.std.proofs.Common.{◌≡◌, ◌≤◌, ◌<◌, ◌++◌, ◌∙◌, ℕ, List, map, ap, sym, append-nil, arith, rules}
+use Rattle.std.proofs.lemmas.List.{map-append}
+use Rattle.std.proofs.Common.{[], ◌∷◌, Vec, Global}
 use Rattle.hidreport.specs.Fields.{each_from}
-use Rattle.hidreport.specs.Parser.Layout.{variable_of}
+use Rattle.hidreport.specs.Parser.Layout.{variable_of, variable_with}
 use Rattle.hidreport.specs.Parser.Usages.{usage_list}
+use Rattle.hidreport.specs.Views.{field_record}
+use Rattle.hidreport.specs.declared.field.Field.{Field}
 use Rattle.hidreport.specs.declared.field.usage.Usage.{Usage}
-use Rattle.hidreport.proofs.HostUsageLemmas.{each-first, listed, on-listed, some-first}
+use Rattle.hidreport.proofs.FieldLemmas.{each_from-behind}
+use Rattle.hidreport.proofs.HostUsageLemmas.{found-listed}
 use Rattle.hidreport.proofs.parser.layout.Layout.add_elements.Goals as goal
 
-pub add_listed_fields-requires-clause-usages : goal.add_listed_fields-requires-clause-usages
-add_listed_fields-requires-clause-usages c =
-    let us = (usage_list c.args.usages.now).usages in
-    let n = c.max.result in
-    let some : 0 < n = search rules in
-    let held = rw c.in-Some.is at c.in_ok-listed.ensures in
-    subst (λ (l : List Usage). 0 < length l) (sym (c.as_slice.ensures.value ∙ held))
-    (some-first n us some c.requires.usages)
+pub loop-c-init : goal.loop-c-init
+loop-c-init c = (
+  sym (append-nil (map field_record c.reserve.new.self.items)),
+  omega arith,
+  c.in_ok-reserve.ensures.ok,
+)
 
-pub returns-in-Some : goal.returns-in-Some
-returns-in-Some c =
-    let us = usage_list c.args.usages.now in
-    let l = c.args.self.now in
-    let n = c.max.result in
-    let enough : l.count ≤ n = search rules in
-    let held = rw c.in-Some.is at c.in_ok-listed.ensures in
-    let same = ap (λ (vs : List Usage). each_from (variable_of l (listed vs)) 0 l.count)
-    (c.as_slice.ensures.value ∙ held) ∙ each-first l us n 0 l.count (omega (arith, enough)) in
-    on-listed c.add_listed_fields.result _ _ _ _ same c.add_listed_fields.ensures
+pub usage_of-usage-requires-clause-listed : goal.usage_of-usage-requires-clause-listed
+usage_of-usage-requires-clause-listed c =
+    let enough : c.args.self.now.count ≤ c.max.result = search rules in
+    let lt : c.loop-c.c < c.max.result = omega (arith, enough, c.loop-c-test.true) in
+    found-listed (λ (v : Vec Usage Global). v.items) _ c.max.result c.loop-c.c
+    (usage_list c.args.usages.now).usages lt c.requires.usages c.in_ok-found.ensures
+
+pub loop-c-preserved : goal.loop-c-preserved
+loop-c-preserved c =
+    let made = variable_of c.args.self.now (usage_list c.args.usages.now) in (
+      ap (map field_record) c.push_reserved.ensures.items
+          ∙ map-append field_record c.loop-c.fields.items (c.variable_field.result ∷ [])
+          ∙ each_from-behind made _ _ c.loop-c.c _ c.loop-c.invariant.0
+          (c.variable_field.ensures
+          ∙ ap (λ (u : Usage). variable_with c.args.self.now u c.loop-c.c) c.usage_of-usage.ensures),
+      omega (arith, c.push_reserved.ensures.len, c.loop-c.invariant.1),
+      omega (arith, c.push_reserved.ensures.capacity, c.loop-c.invariant.2),
+    )
+
+pub returns : goal.returns
+returns c =
+    let made = variable_of c.args.self.now (usage_list c.args.usages.now) in
+    let all : c.loop-c.c ≡ c.args.self.now.count =
+    omega (arith, c.loop-c-test.false, c.loop-c.auto.c-end) in
+    c.loop-c.invariant.0
+    ∙ ap (λ (fs : List Field). map field_record fs ++ each_from made 0 c.loop-c.c)
+    c.in_ok-reserve.ensures.items
+    ∙ ap (λ (n : ℕ). map field_record c.args.fields.now.items ++ each_from made 0 n) all

@@ -1,18 +1,18 @@
-use Rattle.std.proofs.Common.{◌≡◌, ◌≤◌, ◌^◌, ◌+◌, ◌*◌, ◌∙◌, List, ap, sym, subst, arith}
+use Rattle.std.proofs.Common.{◌≡◌, ◌≤◌, ◌^◌, ◌+◌, ◌*◌, ◌∙◌, ap, sym, subst, arith}
 use Rattle.std.proofs.lemmas.Result.{err_from_is_err_and}
-use Rattle.hidreport.specs.Parser.Budget.{is_past, left_behind}
-use Rattle.hidreport.specs.Parser.DataItem.{as_item}
+use Rattle.hidreport.specs.Parser.Budget.{is_past, left_behind, weight_in}
+use Rattle.hidreport.specs.Parser.DataItem.{as_item, item_with}
 use Rattle.hidreport.specs.Parser.ItemStates.{item_state_of}
-use Rattle.hidreport.specs.Fields.{Measures, attributes_with, make_fields}
+use Rattle.hidreport.specs.Fields.{attributes_with, make_fields}
+use Rattle.hidreport.specs.declared.field.measures.Measures.{Measures}
 use Rattle.hidreport.specs.Parser.Layout.{shared_list}
 use Rattle.hidreport.specs.Parser.Usages.{usage_list}
-use Rattle.hidreport.specs.Parser.Machine.{StateRecord, first_id, next_state, size_in}
+use Rattle.hidreport.specs.Parser.Machine.{StateRecord, next_state}
 use Rattle.hidreport.specs.Parser.Opened.{Opened}
-use Rattle.hidreport.specs.ItemState.{first_of}
-use Rattle.hidreport.specs.Records.{ReportRecord}
 use Rattle.hidreport.proofs.DataLemmas.{data-held}
 use Rattle.hidreport.proofs.WeightLemmas.{data-faultless, data-weighs, stop-past}
 use Rattle.hidreport.proofs.parser.state.State.add_data.Goals as goal
+use Rattle.hidreport.proofs.parser.state.State.add_data.Goals.{After-spend}
 
 pub returns-clause-held : goal.returns-clause-held
 returns-clause-held c =
@@ -66,31 +66,29 @@ returns-clause-held c =
     c.in-Ok.ensures.usages c.begin-room.ensures.key c.begin-room.ensures.first c.in_ok-bits.ensures.fits.0
     (ap with (c.measures.ensures s.item_states.now.usages_by)) c.in_ok-add.ensures c.field_count-field_count.ensures)
 
-pub returns-clause-within : goal.returns-clause-within
-returns-clause-within c =
+-- the data item weighs what was counted
+weighs : (c : After-spend)
+    → weight_in c.args.self.now (item_with c.args.item.now.direction c.args.item.now.flags)
+    ≡ c.field_count.result * c.weight_of_each-each.result
+weighs c =
     let s = c.self.inside in
     let x = c.args.item.now in
-    let g = item_state_of s.item_states.now.usages_by c.globals-globals.result.now
-    s.item_states.now.locals in
-    let weighs = data-weighs _ c.args.self.now g x.direction x.flags
+    data-weighs _ c.args.self.now (item_state_of s.item_states.now.usages_by
+    c.globals-globals.result.now s.item_states.now.locals) x.direction x.flags
     c.in-Some.extent c.in-Ok.usages
     c.field_count.result c.weight_of_each-each.result c.weight.result c.self.view_is
     c.globals-globals.ensures (sym c.in-Some.ensures) c.in-Ok.ensures.usages
-    c.field_count.ensures c.weight_of_each-each.ensures c.weight.ensures.weight in
-    ap (is_past c.args.budget.now) weighs ∙ c.in_ok-spend.ensures.within
+    c.field_count.ensures c.weight_of_each-each.ensures c.weight.ensures.weight
+
+pub returns-clause-within : goal.returns-clause-within
+returns-clause-within c =
+    ap (is_past c.args.budget.now) (weighs (goal.at.returns-clause-within c).After-spend)
+    ∙ c.in_ok-spend.ensures.within
 
 pub returns-clause-left : goal.returns-clause-left
 returns-clause-left c =
-    let s = c.self.inside in
-    let x = c.args.item.now in
-    let g = item_state_of s.item_states.now.usages_by c.globals-globals.result.now
-    s.item_states.now.locals in
-    let weighs = data-weighs _ c.args.self.now g x.direction x.flags
-    c.in-Some.extent c.in-Ok.usages
-    c.field_count.result c.weight_of_each-each.result c.weight.result c.self.view_is
-    c.globals-globals.ensures (sym c.in-Some.ensures) c.in-Ok.ensures.usages
-    c.field_count.ensures c.weight_of_each-each.ensures c.weight.ensures.weight in
-    c.in_ok-spend.ensures.left ∙ ap (left_behind c.args.budget.now) (sym weighs)
+    c.in_ok-spend.ensures.left
+    ∙ ap (left_behind c.args.budget.now) (sym (weighs (goal.at.returns-clause-left c).After-spend))
 
 pub returns-in_err-spend-clause-err : goal.returns-in_err-spend-clause-err
 returns-in_err-spend-clause-err c =
@@ -105,11 +103,7 @@ returns-in_err-spend-clause-err c =
     c.field_count-field_count.result c.self.view_is
     c.globals-globals.ensures (sym c.in-Some.ensures) c.in-Ok.ensures.faultless c.begin-room.ensures.key c.begin-room.ensures.first
     c.in_ok-bits.ensures.fits.1 c.field_count-field_count.ensures ids in
-    let weighs = data-weighs _ c.args.self.now g x.direction x.flags
-    c.in-Some.extent c.in-Ok.usages
-    c.field_count.result c.weight_of_each-each.result c.weight.result c.self.view_is
-    c.globals-globals.ensures (sym c.in-Some.ensures) c.in-Ok.ensures.usages
-    c.field_count.ensures c.weight_of_each-each.ensures c.weight.ensures.weight in
+    let weighs = weighs (goal.at.returns-in_err-spend-clause-err c).After-spend in
     let p = err_from_is_err_and c.from_residual-in_err-spend.result
     c.from_residual-in_err-spend.ensures.1 in
     rw (p.1, p.2) (rw (c.in_err-spend.ensures.past.0)

@@ -1,4 +1,4 @@
-use Rattle.std.proofs.Common.{◌≡◌, ◌∙◌, ◌+◌, ◌%◌, ℕ, add-one, ap, sym, arith, map, take}
+use Rattle.std.proofs.Common.{◌≡◌, ◌∙◌, ◌+◌, ◌%◌, add-one, ap, sym, arith, map, take}
 use Rattle.std.proofs.lemmas.Bool.{eqb-true, not-false}
 use Rattle.hidreport.specs.Parser.Locals.{usage_under}
 use Rattle.hidreport.specs.Usages.{make_usage, range_from}

@@ -2,32 +2,37 @@ use Rattle.std.proofs.Common.{◌≡◌, ◌∙◌, ◌+◌, ◌<◌, List, ℤ,
 use Rattle.std.specs.Int.{w64}
 use Rattle.std.specs.Prelude.{slice_set}
 use Rattle.std.proofs.lemmas.Int.{to_z-of_z}
-use Rattle.hidreport_lists.specs.Answer.{Bounds}
+use Rattle.hidreport_lists.specs.Answer.{OutOfBounds}
 use Rattle.hidreport.specs.Choosing.{value_number}
 use Rattle.hidreport.specs.Reader.{each_alone, numbers_before}
 use Rattle.hidreport.specs.Runs.{run_value, set_from}
 use Rattle.hidreport.proofs.AvailableLemmas.{stops-there, there-count, there-next}
 use Rattle.hidreport.proofs.FilledLemmas.{set-next}
 use Rattle.hidreport.proofs.report.reader.run.Run.put_available.Goals as goal
+use Rattle.hidreport.proofs.report.reader.run.Run.put_available.Goals.{In_default}
+
+-- the values end before this one
+stops : (c : In_default)
+    → numbers_before (each_alone (run_value c.args.self.now c.args.bytes.now) 0
+    c.args.self.now.count)
+    ≡ numbers_before (each_alone (run_value c.args.self.now c.args.bytes.now) 0 c.loop-index.index)
+stops c =
+    let run = c.args.self.now in
+    let bytes = c.args.bytes.now in
+    let none : run_value run bytes c.loop-index.index ≡ Err OutOfBounds = search rules in
+    let lt : c.loop-index.index < run.count = search rules in
+    stops-there (run_value run bytes) c.loop-index.index run.count OutOfBounds
+    lt c.loop-index.invariant.0 none
 
 pub returns-in_default-clause-values : goal.returns-in_default-clause-values
 returns-in_default-clause-values c =
-    let run = c.args.self.now in
-    let bytes = c.args.bytes.now in
-    let none : run_value run bytes c.loop-index.index ≡ Err Bounds = search rules in
-    let lt : c.loop-index.index < run.count = search rules in
     c.loop-index.invariant.1 ∙ ap (λ (l : List ℤ). set_from c.args.place l c.args.values.now)
-    (sym (stops-there (run_value run bytes) c.loop-index.index run.count Bounds
-    lt c.loop-index.invariant.0 none))
+    (sym (stops (goal.at.returns-in_default-clause-values c).In_default))
 
 pub returns-in_default-clause-count : goal.returns-in_default-clause-count
 returns-in_default-clause-count c =
-    let run = c.args.self.now in
-    let bytes = c.args.bytes.now in
-    let none : run_value run bytes c.loop-index.index ≡ Err Bounds = search rules in
-    let lt : c.loop-index.index < run.count = search rules in
-    sym (ap length (stops-there (run_value run bytes) c.loop-index.index run.count Bounds
-    lt c.loop-index.invariant.0 none) ∙ c.loop-index.invariant.0)
+    sym (ap length (stops (goal.at.returns-in_default-clause-count c).In_default)
+    ∙ c.loop-index.invariant.0)
 
 pub loop-index-preserved : goal.loop-index-preserved
 loop-index-preserved c =

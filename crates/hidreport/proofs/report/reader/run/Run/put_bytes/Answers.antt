@@ -13,19 +13,16 @@ loop-index-preserved c =
     let run = c.args.self.now in
     let bytes = c.args.bytes.now in
     let index = c.loop-index.index in
-    let place = c.args.place in
-    let number = c.from.result in
-    let few = c.requires.few in
     let before : index < c.args.room = c.loop-index-test.true in
-    let inside = inside-parts run (8 * length bytes) c.requires.there (omega (arith, few, before)) in
+    let inside = inside-parts run (8 * length bytes) c.requires.there (omega (arith, c.requires.few, before)) in
     let within = inside.within in
     let wide : run.width * run.count ≡ 8 * run.count = ap (λ w. w * run.count) c.requires.width in
-    let lt : run.first / 8 + index < length bytes = omega (arith, within, wide, few, before) in
-    let byte : number ≡ pos (slice_index bytes (run.first / 8 + index)) = search rules in
-    let fits : FitsSigned w64 number = search rules in
-    let is : number ≡ number_at run bytes index =
+    let lt : run.first / 8 + index < length bytes = omega (arith, within, wide, c.requires.few, before) in
+    let byte : c.from.result ≡ pos (slice_index bytes (run.first / 8 + index)) = search rules in
+    let fits : FitsSigned w64 c.from.result = search rules in
+    let is : c.from.result ≡ number_at run bytes index =
     byte ∙ sym (byte-value run bytes (are_bytes _ (λ i. omega (arith, c.type_inv.bytes i))) index
     c.requires.width c.requires.plain c.requires.aligned lt) in
-    ap (slice_set c.loop-index.values (place + index)) (to_z-of_z w64 number fits ∙ is)
-    ∙ ap (λ l. slice_set l (place + index) (number_at run bytes index)) c.loop-index.invariant
-    ∙ sym (put-next run bytes index place c.args.values.now)
+    ap (slice_set c.loop-index.values (c.args.place + index)) (to_z-of_z w64 c.from.result fits ∙ is)
+    ∙ ap (λ l. slice_set l (c.args.place + index) (number_at run bytes index)) c.loop-index.invariant
+    ∙ sym (put-next run bytes index c.args.place c.args.values.now)

@@ -1,0 +1,290 @@
+//! The commands of `hid` and their arguments, as tables.
+
+/// What may stand for an argument.
+#[derive(Clone, Copy)]
+pub enum Kind {
+    /// A word that has to be there.
+    Word,
+
+    /// Words, or none.
+    Words,
+
+    /// An option without a value.
+    Flag,
+
+    /// An option without a value, for all commands.
+    Setting,
+
+    /// The most that a descriptor may list, or a device's number.
+    Number,
+
+    /// What inputs hold.
+    Form,
+
+    /// What a Push keeps.
+    Push,
+
+    /// By which rule usages are found.
+    Usages,
+
+    /// When names are in colour.
+    Colour,
+
+    /// Which way reports go.
+    Direction,
+
+    /// What a descriptor is written as.
+    Target,
+
+    /// What a report is written as.
+    ReportTarget,
+
+    /// A host whose refusals are told.
+    Host,
+
+    /// A folder.
+    Folder,
+}
+
+/// An argument's name, what may stand for it, and what it is for.
+pub type Argument = (&'static str, Kind, &'static str);
+
+/// The options of all commands.
+pub static OPTIONS: [Argument; 10] = [
+    (
+        "form",
+        Kind::Form,
+        "What the descriptor's input holds, where it isn't to be guessed",
+    ),
+    (
+        "report-form",
+        Kind::Form,
+        "What the reports' input holds, where it isn't to be guessed",
+    ),
+    (
+        "device",
+        Kind::Number,
+        "The device that is meant, of an input that has several",
+    ),
+    (
+        "limit",
+        Kind::Number,
+        "The most that a descriptor may list, 131072 where it isn't said",
+    ),
+    (
+        "push",
+        Kind::Push,
+        "What a Push keeps: globals, as hosts read, or all",
+    ),
+    (
+        "usages",
+        Kind::Usages,
+        "How usages are found: as hosts read them, or by the standard's letter",
+    ),
+    (
+        "lenient",
+        Kind::Setting,
+        "Mend the descriptor first, as Linux reads it",
+    ),
+    (
+        "json",
+        Kind::Setting,
+        "Write an object of JSON in each line",
+    ),
+    ("color", Kind::Colour, "Show names in colour"),
+    (
+        "sysfs",
+        Kind::Folder,
+        "The folder in which Linux tells of devices",
+    ),
+];
+
+const FILE: Argument = ("FILE", Kind::Word, "The descriptor");
+
+const DIRECTION: Argument = ("direction", Kind::Direction, "Which way the reports go");
+
+const WRITTEN_AS: &str = "What the bytes are written as";
+
+const TARGET: Argument = ("to", Kind::Target, WRITTEN_AS);
+
+static DECODE: [Argument; 1] = [FILE];
+
+static CHECK: [Argument; 2] = [
+    FILE,
+    (
+        "for",
+        Kind::Host,
+        "Show also what this host refuses or may read otherwise, as far as it is known",
+    ),
+];
+
+static FIELDS: [Argument; 3] = [
+    FILE,
+    (
+        "all",
+        Kind::Flag,
+        "Show each field and each report by itself, also those that are alike",
+    ),
+    (
+        "linux",
+        Kind::Flag,
+        "Show the event codes that Linux's hid-generic gives each field, without quirks",
+    ),
+];
+
+const REPORTS: Argument = (
+    "REPORT",
+    Kind::Words,
+    "Reports: files, or - for lines of hex text; those of FILE where it is a recording",
+);
+
+const TIMES: Argument = (
+    "times",
+    Kind::Flag,
+    "Show each report's number and its time in seconds",
+);
+
+static VALUES: [Argument; 5] = [
+    FILE,
+    REPORTS,
+    DIRECTION,
+    (
+        "down",
+        Kind::Flag,
+        "Show only the keys and buttons that are down, a name in each line",
+    ),
+    TIMES,
+];
+
+static RECORD: [Argument; 5] = [
+    FILE,
+    (
+        "STREAM",
+        Kind::Word,
+        "A node, a pipe, a recording, or - for the standard input",
+    ),
+    (
+        "changes",
+        Kind::Flag,
+        "Leave out what is as it was in the report before",
+    ),
+    ("raw", Kind::Flag, "Write hid-recorder's lines"),
+    TIMES,
+];
+
+static UHID: [Argument; 1] = [(
+    "FILE",
+    Kind::Word,
+    "A recording of a device, or its descriptor",
+)];
+
+static SET: [Argument; 7] = [
+    FILE,
+    (
+        "ID",
+        Kind::Word,
+        "The report's id, or - where reports have none",
+    ),
+    (
+        "NAME=NUMBER",
+        Kind::Words,
+        "A field's value, or a key of an array that is down (1)",
+    ),
+    DIRECTION,
+    ("to", Kind::ReportTarget, WRITTEN_AS),
+    (
+        "zero",
+        Kind::Flag,
+        "Set all bits to 0 that no name sets, and not to what stands for no value",
+    ),
+    (
+        "names",
+        Kind::Flag,
+        "Show the names that it takes, one in each line, and write no report",
+    ),
+];
+
+static CONVERT: [Argument; 2] = [FILE, TARGET];
+
+static COMPILE: [Argument; 2] = [
+    ("TEXT", Kind::Word, "The text, or - for the standard input"),
+    TARGET,
+];
+
+static MAP: [Argument; 3] = [
+    FILE,
+    ("svg", Kind::Flag, "Write the picture as SVG"),
+    ("all", Kind::Flag, "Draw all rows, past the first 4,096"),
+];
+
+static PAGE: [Argument; 4] = [
+    FILE,
+    REPORTS,
+    DIRECTION,
+    (
+        "all",
+        Kind::Flag,
+        "Leave nothing out: all items past 4,096, fields past 2,000 and reports past 4,000",
+    ),
+];
+
+static DIFF: [Argument; 2] = [
+    ("FILE", Kind::Word, "A descriptor"),
+    ("OTHER", Kind::Word, "Another"),
+];
+
+static LIST: [Argument; 0] = [];
+
+/// The commands, and what each is for.
+pub static COMMANDS: [(&str, &str); 13] = [
+    ("decode", "Shows the items of a descriptor in words"),
+    (
+        "fields",
+        "Shows the reports of a descriptor and their fields",
+    ),
+    ("values", "Shows the values of reports"),
+    (
+        "record",
+        "Shows each report of a stream in a line, as it comes",
+    ),
+    (
+        "uhid",
+        "Writes a recording as events for Linux's /dev/uhid, without its times",
+    ),
+    ("set", "Writes the bytes of a report"),
+    ("convert", "Writes a descriptor in another form"),
+    (
+        "compile",
+        "Writes the descriptor that a text of hid decode says",
+    ),
+    ("map", "Draws the bits of each report"),
+    (
+        "page",
+        "Writes a page of HTML that shows a descriptor and reports",
+    ),
+    ("diff", "Shows what differs between two descriptors"),
+    (
+        "check",
+        "Shows what is odd in a descriptor, and what the standard says",
+    ),
+    ("list", "Shows the HID devices of the machine"),
+];
+
+/// The arguments of a command.
+pub fn arguments_of(name: &str) -> &'static [Argument] {
+    match name {
+        "fields" => &FIELDS,
+        "values" => &VALUES,
+        "record" => &RECORD,
+        "uhid" => &UHID,
+        "set" => &SET,
+        "convert" => &CONVERT,
+        "compile" => &COMPILE,
+        "map" => &MAP,
+        "page" => &PAGE,
+        "diff" => &DIFF,
+        "check" => &CHECK,
+        "list" => &LIST,
+        _ => &DECODE,
+    }
+}

@@ -1,0 +1,72 @@
+//! The usages that stand before a main item.
+use hidreport::Usage;
+use hidreport::hid::LocalItem;
+use hidreport::types::UsagePage;
+
+/// The usages since the last main item, as they are counted.
+#[derive(Clone, Copy)]
+pub struct LocalUsages {
+    /// How many there are.
+    pub count: u64,
+    /// Where the first stands.
+    pub first_offset: usize,
+    /// Whether some are alternatives.
+    pub has_sets: bool,
+    range_start: u32,
+    last: u32,
+}
+
+impl LocalUsages {
+    /// None.
+    pub fn new() -> LocalUsages {
+        LocalUsages {
+            count: 0,
+            first_offset: 0,
+            has_sets: false,
+            range_start: 0,
+            last: 0,
+        }
+    }
+
+    /// Goes over a local item.
+    pub fn pass(&mut self, offset: usize, item: LocalItem) {
+        match item {
+            LocalItem::Usage(page, id) => {
+                let last = u32::from(Usage::from_page_and_id(page, id));
+                self.add(offset, 1, last);
+            }
+            LocalItem::UsageId(id) => self.add(offset, 1, u32::from(u16::from(id))),
+            LocalItem::UsageMinimum(start) => {
+                self.range_start = u32::from(start);
+                self.add(offset, 0, self.last);
+            }
+            LocalItem::UsageMaximum(end) => self.pass_end(offset, u32::from(end)),
+            LocalItem::Delimiter(_) => {
+                self.has_sets = true;
+                self.add(offset, 0, self.last);
+            }
+            _ => self.add(offset, 0, self.last),
+        }
+    }
+
+    fn pass_end(&mut self, offset: usize, end: u32) {
+        let range = u64::from(end).saturating_sub(u64::from(self.range_start));
+        self.add(offset, range.saturating_add(1), end);
+    }
+
+    fn add(&mut self, offset: usize, more: u64, last: u32) {
+        if self.count == 0 {
+            self.first_offset = offset;
+        }
+        self.count = self.count.saturating_add(more);
+        self.last = last;
+    }
+
+    /// The last usage, on this page where it has none of its own.
+    pub fn last(&self, page: UsagePage) -> Usage {
+        if self.last > 0xffff {
+            return Usage::from(self.last);
+        }
+        Usage::from(u32::from(u16::from(page)) << 16 | self.last)
+    }
+}

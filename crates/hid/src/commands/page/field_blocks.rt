@@ -1,0 +1,84 @@
+//! The reports and fields in a page.
+use crate::commands::page::left_out::LeftOut;
+use crate::commands::page::sheet::Sheet;
+use anyhow::Result;
+use hid_text::field_object::add_field_object;
+use hid_text::line_object::{add_line_object, add_report_object};
+use hid_text::report::{FieldLine, field_lines};
+use hidreport::{Direction, RDescReport, Report, ReportDescriptor};
+
+/// Writes the blocks of the reports with their lines and of the fields.
+pub fn show_fields<R: AllocGlobal + Print>(
+    rt: &R,
+    descriptor: &ReportDescriptor,
+    sheet: &mut Sheet,
+    left_out: &mut LeftOut,
+) -> Result<()> {
+    sheet.begin("lines")?;
+    let mut most = left_out.most.fields;
+    for direction in Direction::ALL {
+        for report in descriptor.reports(direction) {
+            most = show_lines(rt, direction, report, sheet, most)?;
+        }
+    }
+    sheet.end()?;
+    sheet.begin("fields")?;
+    let (mut most, mut count) = (left_out.most.fields, 0usize);
+    for direction in Direction::ALL {
+        for report in descriptor.reports(direction) {
+            most = show_objects(rt, direction, report, sheet, most)?;
+            count = count.saturating_add(report.fields().len());
+        }
+    }
+    left_out.fields = count.saturating_sub(left_out.most.fields);
+    Ok(sheet.end()?)
+}
+
+/// Writes a report and the lines of its first fields, so many at most; answers how many fields may
+/// follow.
+fn show_lines<R: AllocGlobal + Print>(
+    rt: &R,
+    direction: Direction,
+    report: &RDescReport,
+    sheet: &mut Sheet,
+    most: usize,
+) -> Result<usize> {
+    add_report_object(&mut sheet.lines, direction, report)?;
+    sheet.take(rt)?;
+    if most == 0 {
+        return Ok(0);
+    }
+    let mut most = most;
+    let lines = field_lines(rt.alloc(), report, true)?;
+    for line in lines.iter() {
+        if most == 0 {
+            break;
+        }
+        add_line_object(&mut sheet.lines, *line)?;
+        sheet.take(rt)?;
+        if let FieldLine::Fields(..) = line {
+            most = most.saturating_sub(1);
+        }
+    }
+    Ok(most)
+}
+
+/// Writes the first fields of a report, so many at most; answers how many may follow.
+fn show_objects<R: Print>(
+    rt: &R,
+    direction: Direction,
+    report: &RDescReport,
+    sheet: &mut Sheet,
+    most: usize,
+) -> Result<usize> {
+    let mut most = most;
+    for field in report.fields() {
+        if most == 0 {
+            break;
+        }
+        add_field_object(&mut sheet.lines, direction, report, field)?;
+        sheet.take(rt)?;
+        most = most.saturating_sub(1);
+    }
+    Ok(most)
+}

@@ -1,0 +1,148 @@
+//! What isn't put into a page, and what is said of it.
+use crate::commands::page::sheet::Sheet;
+use crate::ending::Ending;
+use anyhow::Result;
+use hid_input::input::Given;
+use hid_output::add_json;
+use serde::Serialize;
+
+/// How much is put into a page at most.
+#[derive(Clone, Copy)]
+pub struct Most {
+    /// How many items.
+    pub items: usize,
+    /// How many fields.
+    pub fields: usize,
+    /// How many reports.
+    pub reports: usize,
+    /// How many values of them together.
+    pub values: usize,
+}
+
+impl Most {
+    /// What a browser shows at once.
+    pub fn usual() -> Most {
+        Most {
+            items: 4_096,
+            fields: 2_000,
+            reports: 4_000,
+            values: 200_000,
+        }
+    }
+
+    /// All there is.
+    pub fn all() -> Most {
+        Most {
+            items: usize::MAX,
+            fields: usize::MAX,
+            reports: usize::MAX,
+            values: usize::MAX,
+        }
+    }
+}
+
+/// What isn't put into a page.
+#[derive(Drop)]
+pub struct LeftOut {
+    /// How much is put into it at most.
+    pub most: Most,
+    /// How many bytes of items are left out.
+    pub bytes: usize,
+    /// How many fields.
+    pub fields: usize,
+    /// How many reports.
+    pub reports: usize,
+    /// How many reports aren't of the descriptor.
+    pub unknown: usize,
+    /// How many reports have fewer bytes than they should.
+    pub short: usize,
+    /// How many have more.
+    pub long: usize,
+}
+
+/// What is said below a page's head, as JSON.
+#[derive(Drop, Serialize)]
+struct NoteObject<'a> {
+    note: &'a str,
+}
+
+impl LeftOut {
+    /// Nothing.
+    pub fn new(most: Most) -> LeftOut {
+        LeftOut {
+            most,
+            bytes: 0,
+            fields: 0,
+            reports: 0,
+            unknown: 0,
+            short: 0,
+            long: 0,
+        }
+    }
+
+    /// Takes a report with so many values, of so many bytes that it should have.
+    pub fn take(&mut self, values: usize, wanted: usize, bytes: usize) {
+        self.most.reports = self.most.reports.saturating_sub(1);
+        self.most.values = self.most.values.saturating_sub(values);
+        if bytes < wanted {
+            self.short = self.short.saturating_add(1);
+        } else if wanted < bytes {
+            self.long = self.long.saturating_add(1);
+        }
+    }
+
+    /// Writes the block of what is said in the page, and says it on standard error, too.
+    pub fn show<R: AllocGlobal + Print + Eprint>(
+        &self,
+        rt: &R,
+        given: &Given,
+        sheet: &mut Sheet,
+    ) -> Result<()> {
+        sheet.begin("notes")?;
+        for note in given.notes.iter() {
+            let note = note.as_str();
+            add_json(&mut sheet.lines, &NoteObject { note })?;
+        }
+        sheet.take(rt)?;
+        for (count, words) in self.counts() {
+            if count != 0 {
+                let note = format!(in rt.alloc(); "{count} {words}")?;
+                let note = note.as_str();
+                add_json(&mut sheet.lines, &NoteObject { note })?;
+                eprintln!(rt; "hid: {note}")?;
+            }
+        }
+        sheet.take(rt)?;
+        Ok(sheet.end()?)
+    }
+
+    /// What is said, each behind a number.
+    fn counts(&self) -> [(usize, &'static str); 6] {
+        [
+            (
+                self.bytes,
+                "more bytes of items: --all puts them into the page",
+            ),
+            (self.fields, "more fields: --all puts them into the page"),
+            (self.reports, "more reports: --all puts them into the page"),
+            (self.unknown, "reports aren't of this descriptor"),
+            (
+                self.short,
+                "reports have fewer bytes than the descriptor says; what is missing isn't shown",
+            ),
+            (
+                self.long,
+                "reports have more bytes than the descriptor says; what no field has isn't shown",
+            ),
+        ]
+    }
+
+    /// How the command ends.
+    pub fn ending(&self) -> Ending {
+        if self.unknown == 0 {
+            Ending::Done
+        } else {
+            Ending::Refused
+        }
+    }
+}

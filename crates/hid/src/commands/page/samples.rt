@@ -1,0 +1,91 @@
+//! The reports in a page that inputs have.
+use crate::commands::page::left_out::LeftOut;
+use crate::commands::page::sheet::Sheet;
+use crate::commands::values::place_of;
+use anyhow::{Context, Result};
+use hid_input::input::{Given, GivenReport, reports_named};
+use hid_input::settings::Settings;
+use hid_text::sample_object::add_sample_object;
+use hidreport::{Direction, RDescReport, Report, ReportDescriptor};
+use std::rt::Files;
+
+/// The inputs that reports are read of.
+#[derive(Drop)]
+pub struct Streams {
+    /// Each of them.
+    pub inputs: Vec<Given>,
+}
+
+/// Reads the inputs of these names.
+pub fn streams_of<R: AllocGlobal + Files + Input + Eprint>(
+    rt: &R,
+    settings: &Settings,
+    names: &[&str],
+) -> Result<Streams> {
+    let mut inputs = Vec::new(rt.alloc());
+    for name in names {
+        inputs.push(reports_named(rt, settings, name).context(format_args!("{name}"))?)?;
+    }
+    Ok(Streams { inputs })
+}
+
+/// Writes the reports of an input that are of a descriptor, and counts those that aren't.
+pub fn show_samples<R: AllocGlobal + Print>(
+    rt: &R,
+    given: &Given,
+    stream: &Given,
+    descriptor: &ReportDescriptor,
+    direction: Direction,
+    sheet: &mut Sheet,
+    left_out: &mut LeftOut,
+) -> Result<()> {
+    for report in stream.reports.iter() {
+        let own = match place_of(given, stream.form, report) {
+            Some(_place) => descriptor.find_report(direction, &report.bytes),
+            None => None,
+        };
+        match own {
+            Some(own) => {
+                let place = place_in(descriptor, direction, own);
+                show_sample(rt, own, place, report, sheet, left_out)?;
+            }
+            None => left_out.unknown = left_out.unknown.saturating_add(1),
+        }
+    }
+    Ok(())
+}
+
+/// The place of a report among all of a descriptor.
+fn place_in(descriptor: &ReportDescriptor, direction: Direction, own: &RDescReport) -> usize {
+    let mut place = 0usize;
+    for other in Direction::ALL {
+        for report in descriptor.reports(other) {
+            if other == direction && report.report_id() == own.report_id() {
+                return place;
+            }
+            place = place.saturating_add(1);
+        }
+    }
+    place
+}
+
+/// Writes a report, if there is room for it.
+fn show_sample<R: AllocGlobal + Print>(
+    rt: &R,
+    own: &RDescReport,
+    place: usize,
+    report: &GivenReport,
+    sheet: &mut Sheet,
+    left_out: &mut LeftOut,
+) -> Result<()> {
+    if left_out.most.reports == 0 || left_out.most.values == 0 {
+        left_out.reports = left_out.reports.saturating_add(1);
+        return Ok(());
+    }
+    let (time, most) = (report.time.as_deref(), left_out.most.fields);
+    let (wanted, given) = (own.size_in_bytes(), report.bytes.as_slice());
+    let bytes = given.get(..wanted).unwrap_or(given);
+    let count = add_sample_object(&mut sheet.lines, place, own, bytes, time, most)?;
+    left_out.take(count, wanted, given.len());
+    sheet.take(rt)
+}

@@ -1,0 +1,74 @@
+//! The macros of LUFA's `HIDReportData.h`, which QMK has too, and the names in their arguments.
+use crate::macros::tinyusb::{name_in, number_in};
+use crate::macros::{Arguments, Macro};
+
+/// The macros, by the first byte of their items without its size.
+static MACROS: [(u8, &str); 20] = [
+    (0x80, "HID_RI_INPUT"),
+    (0x90, "HID_RI_OUTPUT"),
+    (0xb0, "HID_RI_FEATURE"),
+    (0xa0, "HID_RI_COLLECTION"),
+    (0xc0, "HID_RI_END_COLLECTION"),
+    (0x04, "HID_RI_USAGE_PAGE"),
+    (0x14, "HID_RI_LOGICAL_MINIMUM"),
+    (0x24, "HID_RI_LOGICAL_MAXIMUM"),
+    (0x34, "HID_RI_PHYSICAL_MINIMUM"),
+    (0x44, "HID_RI_PHYSICAL_MAXIMUM"),
+    (0x54, "HID_RI_UNIT_EXPONENT"),
+    (0x64, "HID_RI_UNIT"),
+    (0x74, "HID_RI_REPORT_SIZE"),
+    (0x84, "HID_RI_REPORT_ID"),
+    (0x94, "HID_RI_REPORT_COUNT"),
+    (0xa4, "HID_RI_PUSH"),
+    (0xb4, "HID_RI_POP"),
+    (0x08, "HID_RI_USAGE"),
+    (0x18, "HID_RI_USAGE_MINIMUM"),
+    (0x28, "HID_RI_USAGE_MAXIMUM"),
+];
+
+/// The flags by their bits, and what stands for one that isn't set.
+pub static LUFA_FLAGS: [(u32, &str, &str); 9] = [
+    (0x01, "HID_IOF_CONSTANT", "HID_IOF_DATA"),
+    (0x02, "HID_IOF_VARIABLE", "HID_IOF_ARRAY"),
+    (0x04, "HID_IOF_RELATIVE", "HID_IOF_ABSOLUTE"),
+    (0x08, "HID_IOF_WRAP", ""),
+    (0x10, "HID_IOF_NON_LINEAR", ""),
+    (0x20, "HID_IOF_NO_PREFERRED_STATE", ""),
+    (0x40, "HID_IOF_NULLSTATE", ""),
+    (0x80, "HID_IOF_VOLATILE", ""),
+    (0x100, "HID_IOF_BUFFERED_BYTES", ""),
+];
+
+/// The flags that aren't written, since they aren't set.
+static OTHER_FLAGS: [(u32, &str); 6] = [
+    (0, "HID_IOF_NO_WRAP"),
+    (0, "HID_IOF_LINEAR"),
+    (0, "HID_IOF_PREFERRED_STATE"),
+    (0, "HID_IOF_NO_NULL_POSITION"),
+    (0, "HID_IOF_NON_VOLATILE"),
+    (0, "HID_IOF_BITFIELD"),
+];
+
+/// The macro with this name.
+pub fn lufa_macro(name: &str) -> Option<Macro> {
+    let row = MACROS.iter().find(|row| row.1 == name)?;
+    Some(Macro::of(row.0, Arguments::Bits))
+}
+
+/// The macro of items with this first byte.
+pub fn lufa_name(header: u8) -> Option<&'static str> {
+    name_in(&MACROS, header & 0xfc)
+}
+
+/// The number that a name in an argument stands for.
+pub fn lufa_number(name: &str) -> Option<u32> {
+    for (flag, set, unset) in &LUFA_FLAGS {
+        if *set == name {
+            return Some(*flag);
+        }
+        if *unset == name && !name.is_empty() {
+            return Some(0);
+        }
+    }
+    number_in(&OTHER_FLAGS, name)
+}
