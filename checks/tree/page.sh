@@ -1,10 +1,10 @@
 #!/bin/bash
-# Writes crates/hid/src/commands/page/shell.rt, the constant texts of the page that `hid page`
-# writes, from the files in crates/hid/page, which a person edits: page.html has {{marks}} where the
+# Writes crates/hid_page/src/shell.rt, the constant texts of the page that `hid page` writes, from
+# the files in crates/hid_page/page, which a person edits: page.html has {{marks}} where the
 # style, the script and what comes from an input stand. The page's policy lets run and show only
 # what has the hashes of these. With --check it writes nothing, and fails where that file is stale.
 set -euo pipefail
-cd "$(dirname "$0")/../../crates/hid"
+cd "$(dirname "$0")/../../crates/hid_page"
 export LC_ALL=C
 fresh=$(mktemp -d)
 trap 'rm -rf "$fresh"' EXIT
@@ -71,7 +71,7 @@ constant() {
 }
 {
     echo '//! The constant texts of a page.'
-    echo '// Written by checks/tree/page.sh from crates/hid/page: edit these.'
+    echo '// Written by checks/tree/page.sh from crates/hid_page/page: edit these.'
     constant BEFORE_TITLE 'What stands before the title.' title
     constant BEFORE_HEADING 'What stands between the title and the heading.' heading
     constant BEFORE_TEXT 'What stands between the heading and the items as text.' text
@@ -80,8 +80,8 @@ constant() {
 } > "$fresh/shell.rt"
 
 if [ "${1-}" != --check ]; then
-    cp "$fresh/shell.rt" src/commands/page/shell.rt
-elif ! cmp -s "$fresh/shell.rt" src/commands/page/shell.rt; then
-    echo 'page: crates/hid/src/commands/page/shell.rt is stale: checks/tree/page.sh writes it' >&2
+    cp "$fresh/shell.rt" src/shell.rt
+elif ! cmp -s "$fresh/shell.rt" src/shell.rt; then
+    echo 'page: crates/hid_page/src/shell.rt is stale: checks/tree/page.sh writes it' >&2
     exit 1
 fi

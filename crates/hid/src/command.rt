@@ -1,13 +1,15 @@
 //! What the words of a command line ask for.
 use crate::commands::{
-    Check, Compile, Convert, Decode, Diff, Fields, Host, List, Map, Page, Record, ReportTarget,
-    Set, Target, Uhid, Values, id_named,
+    Check, Compile, Convert, Decode, Diff, Fields, List, Map, Page, Record, Set, Uhid, Values,
+    id_named,
 };
 use crate::ending::Ending;
 use crate::world::World;
 use anyhow::{Result, bail};
 use clap::ArgMatches;
+use hid_findings::host_findings::Host;
 use hid_input::settings::Settings;
+use hid_items::target::{ReportTarget, Target};
 use hid_text::words::direction_named;
 use hidreport::Direction;
 use std::alloc::{AllocError, Global};

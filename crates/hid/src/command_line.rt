@@ -1,8 +1,9 @@
 //! The words that `hid` knows.
 use crate::arguments::{Argument, COMMANDS, Kind, OPTIONS, arguments_of};
-use crate::commands::{HOSTS, REPORT_TARGETS, TARGETS};
 use clap::{Arg, ArgAction, Command};
+use hid_findings::host_findings::HOSTS;
 use hid_input::input::FORM_WORDS;
+use hid_items::target::{REPORT_TARGETS, TARGETS};
 use std::alloc::{AllocError, Global};
 
 static PUSHES: [&str; 2] = ["globals", "all"];

@@ -3,177 +3,30 @@
 mod check;
 mod compile;
 mod convert;
-mod data_findings;
 mod decode;
 mod diff;
 mod field_names;
 mod fields;
-mod finding;
-mod findings;
-mod host_findings;
-mod item_lines;
-mod item_number;
 mod linux_fields;
-mod linux_reading;
 mod list;
-mod local_usages;
 mod map;
-mod moved_usages;
-mod other_usages;
 mod page;
 mod record;
-mod report_findings;
 mod report_time;
 mod set;
-mod target;
 mod uhid;
 mod values;
-mod windows_reading;
-mod windows_refusal;
 
-use anyhow::{Result, anyhow, bail};
 pub use check::Check;
 pub use compile::Compile;
 pub use convert::Convert;
 pub use decode::Decode;
 pub use diff::Diff;
 pub use fields::Fields;
-use hid_input::input::{Given, descriptor_named};
-use hid_input::settings::Settings;
-use hidreport::{Direction, Outline, ParseOptions, ParserError, Report, ReportDescriptor, repair};
-pub use host_findings::{HOSTS, Host};
 pub use list::List;
 pub use map::Map;
 pub use page::Page;
 pub use record::Record;
 pub use set::{Set, id_named};
-use std::alloc::Global;
-use std::rt::Files;
-pub use target::{REPORT_TARGETS, ReportTarget, TARGETS, Target};
 pub use uhid::Uhid;
 pub use values::Values;
-
-/// How often a limit is doubled to find one that is enough.
-const MOST_DOUBLED: usize = 4;
-
-/// The bytes of the only descriptor of an input.
-fn descriptor_of(given: &Given) -> &[u8] {
-    let none: &[u8] = &[];
-    match given.devices.first() {
-        Some(device) => device.descriptor.as_slice(),
-        None => none,
-    }
-}
-
-/// The descriptor of an input, parsed.
-fn descriptor_by<R: AllocGlobal + Files + Input + Eprint>(
-    rt: &R,
-    settings: &Settings,
-    name: &str,
-) -> Result<ReportDescriptor> {
-    let given = descriptor_named(rt, settings, name)?;
-    parsed(rt.alloc(), settings, descriptor_of(&given))
-}
-
-/// Refuses a descriptor of more bytes than are read.
-fn check_length(settings: &Settings, bytes: &[u8]) -> Result<()> {
-    let (longest, length) = (settings.longest(), bytes.len());
-    if longest < length {
-        bail!("longer than {longest} bytes: say --limit {length}");
-    }
-    Ok(())
-}
-
-/// The descriptor, parsed; a refusal that an option mends or that a greater limit avoids says so.
-fn parsed(alloc: Global, settings: &Settings, bytes: &[u8]) -> Result<ReportDescriptor> {
-    match ReportDescriptor::try_from_with(alloc, bytes, settings.parse) {
-        Ok(descriptor) => Ok(descriptor),
-        Err(fault) => Err(with_advice(alloc, settings, bytes, fault)),
-    }
-}
-
-/// The descriptors of all devices, parsed, which share what may be listed.
-fn all_parsed(alloc: Global, settings: &Settings, given: &Given) -> Result<Vec<ReportDescriptor>> {
-    let mut limit = settings.parse.limit;
-    let mut known = Vec::new(alloc);
-    for device in given.devices.iter() {
-        let within = limited(settings, limit);
-        let descriptor = parsed(alloc, &within, &device.descriptor)?;
-        let listed = listed_by(&descriptor);
-        limit = limit.map(|limit| limit.saturating_sub(listed));
-        known.push(descriptor)?;
-    }
-    Ok(known)
-}
-
-/// The options with another limit on what may be listed.
-fn limited<'a>(settings: &Settings<'a>, limit: Option<usize>) -> Settings<'a> {
-    let parse = ParseOptions {
-        limit,
-        ..settings.parse
-    };
-    Settings {
-        form: settings.form,
-        report_form: settings.report_form,
-        device: settings.device,
-        parse,
-        is_lenient: settings.is_lenient,
-        is_json: settings.is_json,
-        is_coloured: settings.is_coloured,
-        sysfs: settings.sysfs,
-    }
-}
-
-/// How many fields and usages of arrays a descriptor lists.
-fn listed_by(descriptor: &ReportDescriptor) -> usize {
-    let mut listed = 0usize;
-    for direction in Direction::ALL {
-        for report in descriptor.reports(direction) {
-            for field in report.fields() {
-                listed = listed.saturating_add(field.usages().len().max(1));
-            }
-        }
-    }
-    listed
-}
-
-/// Why a descriptor is refused, and what helps.
-fn with_advice(
-    alloc: Global,
-    settings: &Settings,
-    bytes: &[u8],
-    fault: ParserError,
-) -> anyhow::Error {
-    match fault {
-        ParserError::BudgetExceeded { .. } => match enough(alloc, settings, bytes) {
-            Some(limit) => anyhow!("{fault}: --limit {limit} is enough"),
-            None => fault.into(),
-        },
-        ParserError::InvalidData { .. } if !settings.is_lenient => {
-            match repair(alloc, bytes, settings.repair()) {
-                Ok(_repaired) => anyhow!("{fault}: --lenient mends it"),
-                Err(_fault) => fault.into(),
-            }
-        }
-        fault => fault.into(),
-    }
-}
-
-/// A limit under which a descriptor is read, up to a power of two.
-fn enough(alloc: Global, settings: &Settings, bytes: &[u8]) -> Option<usize> {
-    let mut limit = settings.parse.limit?.max(bytes.len()).max(1);
-    for _ in 0..MOST_DOUBLED {
-        limit = limit.checked_mul(2)?;
-        let options = ParseOptions {
-            limit: Some(limit),
-            longest: None,
-            ..settings.parse
-        };
-        match Outline::try_from_with(alloc, bytes, options) {
-            Err(ParserError::BudgetExceeded { .. }) => {}
-            Ok(_outline) => return Some(limit),
-            Err(_fault) => return None,
-        }
-    }
-    None
-}

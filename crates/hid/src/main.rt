@@ -8,7 +8,6 @@ mod command;
 mod command_line;
 mod commands;
 mod ending;
-mod items;
 mod settings;
 mod wanted_usage;
 mod world;

@@ -4,4 +4,5 @@
 #![tactic(auto)]
 
 pub mod input;
+pub mod parsing;
 pub mod settings;

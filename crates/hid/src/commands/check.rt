@@ -1,12 +1,12 @@
 //! `hid check`: what is odd in a descriptor.
-use crate::commands::finding::Finding;
-use crate::commands::findings::findings;
-use crate::commands::host_findings::Host;
-use crate::commands::{check_length, descriptor_of};
 use crate::ending::Ending;
 use crate::world::World;
 use anyhow::{Result, bail};
+use hid_findings::finding::Finding;
+use hid_findings::findings::findings;
+use hid_findings::host_findings::Host;
 use hid_input::input::descriptor_named;
+use hid_input::parsing::check_length;
 use hid_input::settings::Settings;
 use hid_output::{add_json, flush, flush_piece};
 use hidreport::{ParserError, ReportDescriptor};
@@ -35,7 +35,7 @@ impl<'a> Check<'a> {
     /// Shows each finding; something odd is refused.
     pub fn run<R: World>(&self, rt: &R, settings: &Settings) -> Result<Ending> {
         let given = descriptor_named(rt, settings, self.file)?;
-        let bytes = descriptor_of(&given);
+        let bytes = given.descriptor();
         check_length(settings, bytes)?;
         let findings = checked(rt.alloc(), settings, bytes, self.host)?;
         show_findings(rt, settings, &findings)

@@ -1,12 +1,12 @@
 //! `hid compile`: a descriptor's bytes from the text that `hid decode` writes.
-use crate::commands::check_length;
-use crate::commands::target::Target;
 use crate::ending::Ending;
-use crate::items::{ItemCursor, ItemState, PlacedItem};
 use crate::world::World;
 use anyhow::{Context, Result, bail};
 use hid_input::input::{bytes_of_hex, text_named};
+use hid_input::parsing::check_length;
 use hid_input::settings::Settings;
+use hid_items::items::{ItemCursor, ItemState, PlacedItem};
+use hid_items::target::Target;
 use hid_output::escaped;
 use hid_text::words::{FlagTable, add_item, item_of_words, number_of, plain_number};
 use hidreport_items::write_item;

@@ -1,11 +1,11 @@
 //! `hid convert`: a descriptor's bytes in another form.
-use crate::commands::target::Target;
-use crate::commands::{check_length, descriptor_of};
 use crate::ending::Ending;
 use crate::world::World;
 use anyhow::Result;
 use hid_input::input::descriptor_named;
+use hid_input::parsing::check_length;
 use hid_input::settings::Settings;
+use hid_items::target::Target;
 
 /// Writes a descriptor in another form.
 #[derive(Clone, Copy)]
@@ -20,7 +20,7 @@ impl<'a> Convert<'a> {
     /// Writes the bytes.
     pub fn run<R: World>(&self, rt: &R, settings: &Settings) -> Result<Ending> {
         let given = descriptor_named(rt, settings, self.file)?;
-        let bytes = descriptor_of(&given);
+        let bytes = given.descriptor();
         check_length(settings, bytes)?;
         self.target.write(rt, settings, bytes)?;
         Ok(Ending::Done)

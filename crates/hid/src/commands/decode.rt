@@ -1,11 +1,10 @@
 //! `hid decode`: the items of a descriptor in words.
-use crate::commands::descriptor_of;
-use crate::commands::item_lines::{ItemLines, ItemStyle};
 use crate::ending::Ending;
 use crate::world::World;
 use anyhow::{Result, bail};
 use hid_input::input::descriptor_named;
 use hid_input::settings::Settings;
+use hid_items::item_lines::{ItemLines, ItemStyle};
 use hid_output::{flush, flush_piece};
 use hidreport::{ParserError, ReportDescriptor};
 
@@ -20,7 +19,7 @@ impl<'a> Decode<'a> {
     /// Shows each item; then a descriptor that can't be read is refused.
     pub fn run<R: World>(&self, rt: &R, settings: &Settings) -> Result<Ending> {
         let given = descriptor_named(rt, settings, self.file)?;
-        let bytes = descriptor_of(&given);
+        let bytes = given.descriptor();
         let fault = ReportDescriptor::try_from_with(rt.alloc(), bytes, settings.parse).err();
         match fault {
             Some(ParserError::OutOfMemory) => bail!("out of memory"),

@@ -1,8 +1,8 @@
 //! `hid diff`: what differs between two descriptors.
-use crate::commands::descriptor_by;
 use crate::ending::Ending;
 use crate::world::World;
 use anyhow::{Context, Result};
+use hid_input::parsing::descriptor_by;
 use hid_input::settings::Settings;
 use hid_output::{add_json, flush, flush_piece};
 use hid_text::diff::{Changed, ReportDiff, add_runs, id_alone_changed};

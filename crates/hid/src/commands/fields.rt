@@ -1,9 +1,9 @@
 //! `hid fields`: the reports of a descriptor with their fields, inside their collections.
-use crate::commands::descriptor_by;
 use crate::commands::linux_fields::show_linux;
 use crate::ending::Ending;
 use crate::world::World;
 use anyhow::Result;
+use hid_input::parsing::descriptor_by;
 use hid_input::settings::Settings;
 use hid_output::{flush, flush_piece};
 use hid_text::field_object::add_field_object;

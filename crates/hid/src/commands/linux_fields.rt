@@ -1,13 +1,13 @@
 //! `hid fields --linux`: each field with the event codes that Linux gives its usages.
 use crate::commands::fields::add_head_of;
-use crate::commands::linux_reading::{Doubt, LinuxReading};
-use crate::commands::{descriptor_of, parsed};
 use crate::ending::Ending;
-use crate::items::ItemCursor;
 use crate::world::World;
 use anyhow::Result;
+use hid_findings::linux_reading::{Doubt, LinuxReading};
 use hid_input::input::{descriptor_named, mend};
+use hid_input::parsing::parsed;
 use hid_input::settings::Settings;
+use hid_items::items::ItemCursor;
 use hid_output::{add_json, flush, flush_piece};
 use hid_text::field_object::object_of;
 use hid_text::linux::{Answered, add_answers, add_lines, answers_of, objects_of};
@@ -23,11 +23,11 @@ const DEEPER: usize = 12;
 /// Shows the reports of a descriptor with their fields, and what Linux gives each.
 pub fn show_linux<R: World>(rt: &R, settings: &Settings, file: &str) -> Result<Ending> {
     let mut given = descriptor_named(rt, &unmended(settings), file)?;
-    let reading = LinuxReading::of(rt.alloc(), descriptor_of(&given))?;
+    let reading = LinuxReading::of(rt.alloc(), given.descriptor())?;
     if settings.is_lenient {
         mend(rt, settings, file, &mut given)?;
     }
-    let bytes = descriptor_of(&given);
+    let bytes = given.descriptor();
     let descriptor = parsed(rt.alloc(), settings, bytes)?;
     let arrays = with_arrays(rt.alloc(), bytes)?;
     let named = parsed(rt.alloc(), settings, &arrays)?;

@@ -1,9 +1,9 @@
 //! `hid list`: the HID devices of the machine.
-use crate::commands::parsed;
 use crate::ending::Ending;
 use crate::world::World;
 use anyhow::{Context, Result};
 use hid_input::input::{MachineDevice, bytes_named, folder_of, machine_devices};
+use hid_input::parsing::parsed;
 use hid_input::settings::Settings;
 use hid_output::{add_json, escaped, flush};
 use hid_text::report::add_title;

@@ -1,8 +1,8 @@
 //! `hid map`: the bits of each report, a row for each byte, bit 7 on the left.
-use crate::commands::descriptor_by;
 use crate::ending::Ending;
 use crate::world::World;
 use anyhow::Result;
+use hid_input::parsing::descriptor_by;
 use hid_input::settings::Settings;
 use hid_output::{flush, flush_piece, show};
 use hid_text::report::{Cell, Picture, Row, add_title, height_of, rows_of};

@@ -1,29 +1,18 @@
 //! `hid page`: a page of HTML that shows a descriptor and its reports, and needs nothing else.
-mod device_object;
-mod field_blocks;
-mod item_blocks;
-mod left_out;
-mod made_bits;
-mod samples;
-mod sheet;
-mod shell;
-
-use crate::commands::page::device_object::{add_device_object, add_fault_object, add_heading};
-use crate::commands::page::field_blocks::show_fields;
-use crate::commands::page::item_blocks::{show_item_objects, show_item_text, show_made_bits};
-use crate::commands::page::left_out::{LeftOut, Most};
-use crate::commands::page::samples::{Streams, show_samples, streams_of};
-use crate::commands::page::sheet::Sheet;
-use crate::commands::page::shell::{
-    AFTER_DATA, BEFORE_DATA, BEFORE_HEADING, BEFORE_TEXT, BEFORE_TITLE,
-};
-use crate::commands::{check_length, descriptor_of, with_advice};
 use crate::ending::Ending;
 use crate::world::World;
 use anyhow::{Result, bail};
 use hid_input::input::{Given, descriptor_named};
+use hid_input::parsing::{check_length, with_advice};
 use hid_input::settings::Settings;
 use hid_output::flush;
+use hid_page::device_object::{add_device_object, add_fault_object, add_heading};
+use hid_page::field_blocks::show_fields;
+use hid_page::item_blocks::{show_item_objects, show_item_text, show_made_bits};
+use hid_page::left_out::{LeftOut, Most};
+use hid_page::samples::{Streams, show_samples, streams_of};
+use hid_page::sheet::Sheet;
+use hid_page::shell::{AFTER_DATA, BEFORE_DATA, BEFORE_HEADING, BEFORE_TEXT, BEFORE_TITLE};
 use hidreport::{Direction, ParserError, ReportDescriptor};
 
 /// Writes a page of HTML.
@@ -43,7 +32,7 @@ impl<'a> Page<'a> {
     /// Writes the page; a descriptor that can't be read is refused behind it.
     pub fn run<R: World>(&self, rt: &R, settings: &Settings) -> Result<Ending> {
         let given = descriptor_named(rt, settings, self.file)?;
-        let bytes = descriptor_of(&given);
+        let bytes = given.descriptor();
         check_length(settings, bytes)?;
         match ReportDescriptor::try_from_with(rt.alloc(), bytes, settings.parse) {
             Ok(descriptor) => self.show_read(rt, settings, &given, &descriptor),
@@ -76,12 +65,16 @@ impl<'a> Page<'a> {
         let mut left_out = LeftOut::new(self.most());
         let mut sheet = Sheet::new(rt.alloc());
         self.show_items(rt, settings, given, None, &mut sheet, &mut left_out)?;
-        show_made_bits(rt, descriptor_of(given), &mut sheet, left_out.most.items)?;
+        show_made_bits(rt, given.descriptor(), &mut sheet, left_out.most.items)?;
         show_fields(rt, descriptor, &mut sheet, &mut left_out)?;
         self.show_streams(rt, given, &streams, descriptor, &mut sheet, &mut left_out)?;
         left_out.show(rt, given, &mut sheet)?;
         self.end(rt, &mut sheet)?;
-        Ok(left_out.ending())
+        Ok(if left_out.unknown == 0 {
+            Ending::Done
+        } else {
+            Ending::Refused
+        })
     }
 
     /// Writes the page of a descriptor that is refused, without fields and reports.
@@ -113,7 +106,7 @@ impl<'a> Page<'a> {
         sheet: &mut Sheet,
         left_out: &mut LeftOut,
     ) -> Result<()> {
-        let bytes = descriptor_of(given);
+        let bytes = given.descriptor();
         sheet.text.push_str(BEFORE_TITLE)?;
         add_heading(&mut sheet.text, given, self.file)?;
         sheet.text.push_str(BEFORE_HEADING)?;

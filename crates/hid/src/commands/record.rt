@@ -1,11 +1,10 @@
 //! `hid record`: the reports of a stream, each in a line as it comes.
-use crate::commands::all_parsed;
 use crate::commands::report_time::{add_stamp, add_time};
-use crate::commands::values::place_of;
 use crate::ending::Ending;
 use crate::world::World;
 use anyhow::{Context, Result, bail};
 use hid_input::input::{Form, Given, GivenReport, Stream, descriptors_named, is_node, node_named};
+use hid_input::parsing::all_parsed;
 use hid_input::settings::Settings;
 use hid_output::{add_bytes, flush};
 use hid_text::report::{Lines, tell_size};
@@ -199,7 +198,7 @@ impl<'a> Recording<'a> {
         report: &GivenReport,
         time: Duration,
     ) -> Result<bool> {
-        let place = place_of(self.given, form, report);
+        let place = self.given.place_of(form, report);
         let Some(lines) = place.and_then(|place| self.lines.get_mut(place)) else {
             return Ok(false);
         };

@@ -1,12 +1,12 @@
 //! `hid set`: the bytes of a report, from names and numbers.
-use crate::commands::descriptor_by;
 use crate::commands::field_names::show_names;
-use crate::commands::target::ReportTarget;
 use crate::ending::Ending;
 use crate::wanted_usage::WantedUsage;
 use crate::world::World;
 use anyhow::{Context, Result, anyhow, bail};
+use hid_input::parsing::descriptor_by;
 use hid_input::settings::Settings;
+use hid_items::target::ReportTarget;
 use hid_output::escaped;
 use hid_text::nearest::add_nearest;
 use hid_text::report::{Choice, add_reports, choice_of, is_outside};

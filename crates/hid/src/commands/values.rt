@@ -1,10 +1,10 @@
 //! `hid values`: the values of reports, by name.
-use crate::commands::all_parsed;
 use crate::commands::report_time::add_stamp;
 use crate::ending::Ending;
 use crate::world::World;
 use anyhow::{Context, Result, anyhow, bail, ensure};
 use hid_input::input::{Form, Given, GivenReport, descriptors_named, reports_named};
+use hid_input::parsing::all_parsed;
 use hid_input::settings::Settings;
 use hid_output::{flush, flush_piece, show};
 use hid_text::report::{
@@ -70,7 +70,7 @@ impl<'a> Values<'a> {
         let mut text = String::new(rt.alloc());
         let known = all_parsed(rt.alloc(), settings, given)?;
         for (report, number) in reports.reports.iter().zip(1u64..) {
-            let place = place_of(given, reports.form, report);
+            let place = given.place_of(reports.form, report);
             let shown = match place.and_then(|place| known.get(place)) {
                 Some(descriptor) => {
                     self.add_report(rt, settings, descriptor, report, &mut text, number)
@@ -133,15 +133,6 @@ impl<'a> Values<'a> {
         let time = given.time.as_deref().filter(|_time| self.has_times);
         add_value_objects(text, self.direction, report, &given.bytes, time)
     }
-}
-
-/// Where the device of a report, whose input has this form, stands among those of the descriptor's.
-pub fn place_of(given: &Given, form: Form, report: &GivenReport) -> Option<usize> {
-    let device = given.device_of(form, report)?;
-    given
-        .devices
-        .iter()
-        .position(|own| own.number == device.number)
 }
 
 /// Appends a line for each field of a report that has a value; bytes that are missing have none.

@@ -67,6 +67,24 @@ impl Given {
         }
         self.devices.iter().find(|it| it.number == report.device)
     }
+
+    /// Where the device of a report, whose input has this form, stands among these.
+    pub fn place_of(&self, form: Form, report: &GivenReport) -> Option<usize> {
+        let device = self.device_of(form, report)?;
+        self.devices
+            .iter()
+            .position(|own| own.number == device.number)
+    }
+
+    /// The bytes of the first device's descriptor, the only one of an input that has one device;
+    /// none where it has no device.
+    pub fn descriptor(&self) -> &[u8] {
+        let none: &[u8] = &[];
+        match self.devices.first() {
+            Some(device) => device.descriptor.as_slice(),
+            None => none,
+        }
+    }
 }
 
 impl Device {

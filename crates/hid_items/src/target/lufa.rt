@@ -1,6 +1,6 @@
 //! Items in the macros of LUFA's `HIDReportData.h`, which QMK has, too.
-use crate::commands::target::source::add_numbers;
-use crate::commands::target::tinyusb::{add_flag, number_of};
+use crate::target::source::add_numbers;
+use crate::target::tinyusb::{add_flag, number_of};
 use hid_output::macros::{LUFA_FLAGS, lufa_name};
 use std::alloc::AllocError;
 use std::fmt::Write;

@@ -1,6 +1,6 @@
 //! How Linux's hid-core reads a descriptor that `hid` reads, too: what it refuses, and where it may
 //! find other usages.
-use crate::commands::item_number::{signed, size_of, unsigned};
+use crate::item_number::{signed, size_of, unsigned};
 use hidreport_linux::{Unmapped, is_input_application};
 use std::alloc::{AllocError, Global};
 

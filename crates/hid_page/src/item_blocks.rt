@@ -1,9 +1,9 @@
 //! The items in a page: as text, as JSON, and which bits each makes.
-use crate::commands::item_lines::{ItemLines, ItemStyle};
-use crate::commands::page::made_bits::MadeBits;
-use crate::commands::page::sheet::Sheet;
+use crate::made_bits::MadeBits;
+use crate::sheet::Sheet;
 use anyhow::Result;
 use hid_input::settings::Settings;
+use hid_items::item_lines::{ItemLines, ItemStyle};
 use hid_output::flush_piece;
 use hid_output::html::add_html;
 use hidreport::ParserError;

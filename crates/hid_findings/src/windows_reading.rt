@@ -1,9 +1,9 @@
 //! How Windows' parser reads a descriptor: what it refuses, by the refusals of its hidpddi.h.
 //! Others of its rules aren't known.
-use crate::commands::finding::{Finding, Source, tell};
-use crate::commands::local_usages::LocalUsages;
-use crate::commands::windows_refusal::WindowsRefusal;
-use crate::items::{ItemCursor, ItemState, PlacedItem};
+use crate::finding::{Finding, Source, tell};
+use crate::local_usages::LocalUsages;
+use crate::windows_refusal::WindowsRefusal;
+use hid_items::items::{ItemCursor, ItemState, PlacedItem};
 use hidreport::hid::{GlobalItem, ItemFlags, ItemType, LocalItem, MainDataItem, MainItem};
 use std::alloc::{AllocError, Global};
 use std::fmt::Write;

@@ -1,6 +1,6 @@
 //! Which bits of which report an item makes.
-use crate::items::{ItemCursor, ItemState};
 use anyhow::Result;
+use hid_items::items::{ItemCursor, ItemState};
 use hid_output::add_json;
 use hid_text::words::word_of;
 use hidreport::Direction;

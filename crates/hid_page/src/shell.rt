@@ -1,5 +1,5 @@
 //! The constant texts of a page.
-// Written by checks/tree/page.sh from crates/hid/page: edit these.
+// Written by checks/tree/page.sh from crates/hid_page/page: edit these.
 
 /// What stands before the title.
 #[rattlefmt::skip]

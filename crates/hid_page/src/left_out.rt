@@ -1,6 +1,5 @@
 //! What isn't put into a page, and what is said of it.
-use crate::commands::page::sheet::Sheet;
-use crate::ending::Ending;
+use crate::sheet::Sheet;
 use anyhow::Result;
 use hid_input::input::Given;
 use hid_output::add_json;
@@ -135,14 +134,5 @@ impl LeftOut {
                 "reports have more bytes than the descriptor says; what no field has isn't shown",
             ),
         ]
-    }
-
-    /// How the command ends.
-    pub fn ending(&self) -> Ending {
-        if self.unknown == 0 {
-            Ending::Done
-        } else {
-            Ending::Refused
-        }
     }
 }

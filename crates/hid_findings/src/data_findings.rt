@@ -1,7 +1,7 @@
 //! What is odd in an Input, Output or Feature.
-use crate::commands::finding::{Finding, Source, tell};
-use crate::commands::local_usages::LocalUsages;
-use crate::items::Globals;
+use crate::finding::{Finding, Source, tell};
+use crate::local_usages::LocalUsages;
+use hid_items::items::Globals;
 use hid_text::words::add_usage_on_page;
 use hidreport::Usage;
 use std::alloc::{AllocError, Global};

@@ -1,5 +1,5 @@
 //! What is odd in the reports of a descriptor, and what the standard says.
-use crate::commands::finding::{Finding, Source, tell};
+use crate::finding::{Finding, Source, tell};
 use hid_text::report::add_title;
 use hidreport::{Collection, Direction, Field, RDescReport, Report, ReportDescriptor};
 use std::alloc::AllocError;

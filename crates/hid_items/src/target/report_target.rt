@@ -1,6 +1,6 @@
 //! What a report's bytes are written as.
-use crate::commands::target::source::add_numbers;
-use crate::commands::target::{add_counted, write_bytes};
+use crate::target::source::add_numbers;
+use crate::target::{add_counted, write_bytes};
 use anyhow::Result;
 use hid_output::{add_bytes, flush};
 use std::alloc::AllocError;

@@ -1,7 +1,7 @@
 //! Where the letter of the standard gives fields other usages than hosts read.
-use crate::commands::finding::{Finding, Source};
-use crate::commands::item_lines::{offset_of, remark_of};
+use crate::finding::{Finding, Source};
 use hid_input::settings::Settings;
+use hid_items::item_lines::{offset_of, remark_of};
 use hid_text::report::add_title;
 use hid_text::words::add_name;
 use hidreport::{

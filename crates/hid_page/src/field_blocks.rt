@@ -1,6 +1,6 @@
 //! The reports and fields in a page.
-use crate::commands::page::left_out::LeftOut;
-use crate::commands::page::sheet::Sheet;
+use crate::left_out::LeftOut;
+use crate::sheet::Sheet;
 use anyhow::Result;
 use hid_text::field_object::add_field_object;
 use hid_text::line_object::{add_line_object, add_report_object};

@@ -1,6 +1,6 @@
 //! The lines of a descriptor's items, in words or as JSON.
-use crate::commands::moved_usages::StoodUsages;
 use crate::items::{ItemCursor, ItemState, PlacedItem};
+use crate::moved_usages::StoodUsages;
 use anyhow::Result;
 use hid_output::{add_bytes, add_json, digits_of};
 use hid_text::words::{add_depth, add_item, number_of};

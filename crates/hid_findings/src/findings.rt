@@ -1,13 +1,13 @@
 //! What is odd in a descriptor, and what the standard says.
-use crate::commands::data_findings::{DataItem, tell_unit};
-use crate::commands::finding::{Finding, Source, tell};
-use crate::commands::host_findings::{Host, tell_host};
-use crate::commands::item_lines::{offset_of, remark_of};
-use crate::commands::local_usages::LocalUsages;
-use crate::commands::other_usages::tell_other_usages;
-use crate::commands::report_findings::tell_reports;
-use crate::items::{ItemCursor, ItemState, PlacedItem};
+use crate::data_findings::{DataItem, tell_unit};
+use crate::finding::{Finding, Source, tell};
+use crate::host_findings::{Host, tell_host};
+use crate::local_usages::LocalUsages;
+use crate::other_usages::tell_other_usages;
+use crate::report_findings::tell_reports;
 use hid_input::settings::Settings;
+use hid_items::item_lines::{offset_of, remark_of};
+use hid_items::items::{ItemCursor, ItemState, PlacedItem};
 use hidreport::hid::{CollectionItem, GlobalItem, ItemFlags, ItemType, MainDataItem, MainItem};
 use hidreport::{ParserError, ReportDescriptor};
 use std::alloc::{AllocError, Global};

@@ -2,9 +2,9 @@
 mod item_object;
 mod locals;
 
-use crate::commands::target::webhid::item_object::item_object;
-use crate::commands::target::webhid::locals::Locals;
 use crate::items::{ItemCursor, ItemState, PlacedItem};
+use crate::target::webhid::item_object::item_object;
+use crate::target::webhid::locals::Locals;
 use anyhow::{Result, ensure};
 use hid_output::add_json;
 use hidreport::Direction;

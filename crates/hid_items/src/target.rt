@@ -6,10 +6,10 @@ mod tinyusb;
 mod webhid;
 mod zephyr;
 
-use crate::commands::parsed;
-use crate::commands::target::source::Source;
-use crate::commands::target::webhid::collections_of;
+use crate::target::source::Source;
+use crate::target::webhid::collections_of;
 use anyhow::Result;
+use hid_input::parsing::parsed;
 use hid_input::settings::Settings;
 use hid_output::{add_bytes, flush, flush_piece};
 pub use report_target::{REPORT_TARGETS, ReportTarget};

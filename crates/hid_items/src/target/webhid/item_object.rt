@@ -1,6 +1,6 @@
 //! An item of a report as WebHID's `HIDReportItem` has it.
-use crate::commands::target::webhid::locals::Locals;
 use crate::items::Globals;
+use crate::target::webhid::locals::Locals;
 use hidreport_items::ItemFlags;
 use serde::Serialize;
 

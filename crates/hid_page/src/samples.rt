@@ -1,7 +1,6 @@
 //! The reports in a page that inputs have.
-use crate::commands::page::left_out::LeftOut;
-use crate::commands::page::sheet::Sheet;
-use crate::commands::values::place_of;
+use crate::left_out::LeftOut;
+use crate::sheet::Sheet;
 use anyhow::{Context, Result};
 use hid_input::input::{Given, GivenReport, reports_named};
 use hid_input::settings::Settings;
@@ -40,7 +39,7 @@ pub fn show_samples<R: AllocGlobal + Print>(
     left_out: &mut LeftOut,
 ) -> Result<()> {
     for report in stream.reports.iter() {
-        let own = match place_of(given, stream.form, report) {
+        let own = match given.place_of(stream.form, report) {
             Some(_place) => descriptor.find_report(direction, &report.bytes),
             None => None,
         };

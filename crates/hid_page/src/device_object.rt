@@ -1,9 +1,8 @@
 //! What a page says of its input.
-use crate::commands::descriptor_of;
-use crate::commands::item_lines::{offset_of, remark_of};
 use anyhow::Result;
 use hid_input::input::Given;
 use hid_input::settings::Settings;
+use hid_items::item_lines::{offset_of, remark_of};
 use hid_output::html::add_html;
 use hid_output::{add_json, escaped};
 use hidreport::{ParserError, PushKeeps, UsagesBy};
@@ -42,7 +41,7 @@ pub fn add_device_object(
         form: given.form.name(),
         name: name_of(given),
         ids: ids_of(given),
-        bytes: descriptor_of(given).len(),
+        bytes: given.descriptor().len(),
         keeps_all: settings.parse.push_keeps == PushKeeps::All,
         by_standard: settings.parse.usages == UsagesBy::Standard,
         is_lenient: settings.is_lenient,

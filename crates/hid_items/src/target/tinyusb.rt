@@ -1,5 +1,5 @@
 //! Items in the macros of TinyUSB's `src/class/hid/hid.h`.
-use crate::commands::target::source::add_numbers;
+use crate::target::source::add_numbers;
 use hid_output::macros::{
     FLAGS, KINDS, OF_A_BYTE, OF_EACH_SIZE, PAGES, REPORT_ID, USAGE_PAGE, WITHOUT, name_in,
 };

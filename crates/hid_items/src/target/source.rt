@@ -1,8 +1,8 @@
 //! A descriptor as a list in a program's source, an item in a line.
-use crate::commands::target::lufa::add_lufa_item;
-use crate::commands::target::tinyusb::add_tinyusb_item;
-use crate::commands::target::zephyr::add_zephyr_item;
 use crate::items::{ItemCursor, ItemState, PlacedItem};
+use crate::target::lufa::add_lufa_item;
+use crate::target::tinyusb::add_tinyusb_item;
+use crate::target::zephyr::add_zephyr_item;
 use anyhow::Result;
 use hid_output::{flush, flush_piece};
 use hid_text::words::{add_depth, add_item, add_spaces, indent_of};
