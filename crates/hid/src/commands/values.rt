@@ -3,7 +3,7 @@ use crate::commands::report_time::add_stamp;
 use crate::ending::Ending;
 use crate::world::World;
 use anyhow::{Context, Result, anyhow, bail, ensure};
-use hid_input::input::{Form, Given, GivenReport, descriptors_named, reports_named};
+use hid_input::input::{Given, GivenReport, descriptors_named, reports_named};
 use hid_input::parsing::all_parsed;
 use hid_input::settings::Settings;
 use hid_output::{flush, flush_piece, show};
