@@ -193,7 +193,7 @@ for shape in $shapes; do
     run set "$shape" - X=1
     run set --names "$shape" -
     run --lenient fields "$shape"
-    for to in hex c rust bytes recording kernel zephyr tinyusb lufa libinput webhid; do
+    for to in hex c rust bytes recording kernel zephyr tinyusb lufa hid-bpf libinput webhid; do
         run convert --to "$to" "$shape"
     done
     for words in '' --json --down --times; do

@@ -3,7 +3,8 @@
 
 hid_written.py PROGRAM: the descriptors are on standard input, the digits of one in each line. A C
 compiler reads the arrays of C, those of macros with the macros defined below by the standard's
-format of items (Section 6.2.2.2); Python runs what is written for Python, and parts libinput's
+format of items (Section 6.2.2.2), and the names of usages that compare/bpf_names.py compares with
+their header; Python runs what is written for Python, and parts libinput's
 list; `hid` reads back what is in a form of its own. Those of items alone are asked behind each
 other, in inputs of at most 60,000 bytes, as each target, the others as one target each, in turn.
 Without a C compiler its part is left out.
@@ -90,8 +91,47 @@ typedef uint8_t USB_Descriptor_HIDReport_Datatype_t;
         BUFFERED_BYTES'''.split())
 ) + ''.join(
     f'#define HID_IOF_{name} 0\n' for name in ['DATA', 'ARRAY', 'ABSOLUTE'])
+TOP = os.path.dirname(os.path.dirname(os.path.dirname(os.path.abspath(__file__))))
+sys.path.insert(0, f'{TOP}/compare')
+from bpf_names import TABLE, of_table  # noqa: E402
+BPF = '''typedef uint8_t __u8;
+#define WORD(v) (uint8_t)(v), (uint8_t)((v) >> 8)
+#define LONG(v) WORD(v), (uint8_t)((v) >> 16), (uint8_t)((v) >> 24)
+#define Collection(kind, ...) 0xa1, kind, __VA_ARGS__ 0xc0,
+#define CollectionPhysical(...) Collection(0, __VA_ARGS__)
+#define CollectionApplication(...) Collection(1, __VA_ARGS__)
+#define CollectionLogical(...) Collection(2, __VA_ARGS__)
+#define PushPop(...) 0xa4, __VA_ARGS__ 0xb4,
+#define Const 1
+#define Var 2
+#define Arr 0
+#define Abs 0
+#define Rel 4
+#define cm 0x11
+#define rad 0x12
+#define in 0x13
+#define deg 0x14
+#define Unit(u) Unit_i8(u)
+#define UnitExponent(e) 0x55, (uint8_t)(e) & 0xf,
+#define UsagePage_Vendor(p) UsagePage_i16(p)
+''' + ''.join(
+    f'#define {name}(v) {header:#x}, (uint8_t)(v),\n' for header, name in [
+        (0x81, 'Input'), (0x91, 'Output'), (0xb1, 'Feature'), (0x85, 'ReportId'),
+        (0x75, 'ReportSize'), (0x95, 'ReportCount'), (0x05, 'UsagePage_i8'), (0x09, 'Usage_i8'),
+        (0x65, 'Unit_i8')]
+) + '''#define UsagePage_i16(p) 0x06, WORD(p),
+#define Usage_i16(u) 0x0a, WORD(u),
+#define Usage_i32(u) 0x0b, LONG(u),
+''' + ''.join(
+    f'#define {name}Range_i{bits}(low, high) {header | size:#x}, {words}(low), '
+    f'{header + 0x10 | size:#x}, {words}(high),\n'
+    for header, name, most in [(0x14, 'Logical', 3), (0x34, 'Physical', 3), (0x18, 'Usage', 2)]
+    for size, bits, words in [(1, 8, '(uint8_t)'), (2, 16, 'WORD'), (3, 32, 'LONG')][:most]
+) + ''.join(
+    f'#define {name} {name.split("_")[0]}_i{bits}({number:#x})\n'
+    for name, (number, bits) in of_table(f'{TOP}/{TABLE}').items())
 HEADERS = {'c': '', 'kernel': 'typedef uint8_t __u8;\n', 'zephyr': ZEPHYR, 'tinyusb': TINYUSB,
-           'lufa': LUFA}
+           'lufa': LUFA, 'hid-bpf': BPF}
 FORMS = {'c': 'source', 'kernel': 'source', 'rust': 'source', 'python': 'python',
          'libinput': 'libinput', 'recording': 'recorder', 'hex': 'hex'}
 
@@ -183,7 +223,8 @@ def main():
     descriptors = [bytes.fromhex(line) for line in sys.stdin]
     wholes = list(joined(filter(is_whole, descriptors)))
     others = [data for data in descriptors if not is_whole(data)]
-    targets = {**FORMS, 'zephyr': 'source', 'tinyusb': 'source', 'lufa': 'source'}
+    targets = {**FORMS, 'zephyr': 'source', 'tinyusb': 'source', 'lufa': 'source',
+               'hid-bpf': 'source'}
     answers = 0
 
     def compare(target, reader, asked, got):

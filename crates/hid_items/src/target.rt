@@ -1,4 +1,5 @@
 //! What a descriptor's bytes are written as: hex text, source, bytes, or what other programs write.
+mod bpf;
 mod lufa;
 mod report_target;
 mod source;
@@ -6,6 +7,7 @@ mod tinyusb;
 mod webhid;
 mod zephyr;
 
+use crate::target::bpf::write_bpf;
 use crate::target::source::Source;
 use crate::target::webhid::collections_of;
 use anyhow::Result;
@@ -19,7 +21,7 @@ use std::io;
 use std::io::Write;
 
 /// The names of the targets.
-pub static TARGETS: [&str; 12] = [
+pub static TARGETS: [&str; 13] = [
     "hex",
     "c",
     "rust",
@@ -30,6 +32,7 @@ pub static TARGETS: [&str; 12] = [
     "zephyr",
     "tinyusb",
     "lufa",
+    "hid-bpf",
     "libinput",
     "webhid",
 ];
@@ -52,6 +55,9 @@ pub enum Target {
     /// A line of hid-recorder.
     Recording,
 
+    /// The macros of Linux's `hid_report_helpers.h`, of udev-hid-bpf.
+    HidBpf,
+
     /// The list of a node of `libinput record`.
     Libinput,
 
@@ -72,6 +78,7 @@ impl Target {
             Some("zephyr") => Target::Source(Source::Zephyr),
             Some("tinyusb") => Target::Source(Source::TinyUsb),
             Some("lufa") => Target::Source(Source::Lufa),
+            Some("hid-bpf") => Target::HidBpf,
             Some("libinput") => Target::Libinput,
             Some("webhid") => Target::WebHid,
             _ => Target::Hex,
@@ -91,6 +98,7 @@ impl Target {
             Target::Bytes => write_bytes(rt, bytes)?,
             Target::Recording => add_counted(&mut text, "R:", bytes)?,
             Target::Source(source) => source.write(rt, bytes)?,
+            Target::HidBpf => write_bpf(rt, bytes)?,
             Target::Libinput => add_libinput(rt, &mut text, bytes)?,
             Target::WebHid => {
                 parsed(rt.alloc(), settings, bytes)?;

@@ -1,8 +1,14 @@
 //! The macros that items are written by in C, which `hid` writes and reads by one table.
+mod bpf;
+mod bpf_names;
 mod lufa;
 mod tinyusb;
 mod zephyr;
 
+use bpf::{bpf_macro, bpf_number};
+pub use bpf::{
+    ANY_COLLECTION, NUMBERS, RANGES, UNITS, bpf_around, page_named, usage_header, usage_named,
+};
 pub use lufa::{LUFA_FLAGS, lufa_name};
 use lufa::{lufa_macro, lufa_number};
 pub use tinyusb::{
@@ -26,6 +32,25 @@ pub enum Arguments {
 
     /// The item's tag, its type and its size; its data stand behind.
     Item,
+
+    /// Nothing, and no parentheses: the number of the item's data is in the macro's name. This and
+    /// those below end in a comma of their own.
+    Named(u16),
+
+    /// The number of the item's data.
+    Number,
+
+    /// The number of the item's data, and that of the maximum which follows the minimum.
+    Range,
+
+    /// A number of four bits, with its sign.
+    Nibble,
+
+    /// The number of a vendor's page, from FF00 on.
+    VendorPage,
+
+    /// How many bytes a report of padding has, with the one of its id: the items of such a report.
+    VendorReport,
 }
 
 impl Arguments {
@@ -33,9 +58,27 @@ impl Arguments {
     pub fn count(self) -> usize {
         match self {
             Arguments::Bytes(count) => usize::from(count),
-            Arguments::Sized | Arguments::Bits => 2,
+            Arguments::Named(_) => 0,
+            Arguments::Number
+            | Arguments::Nibble
+            | Arguments::VendorPage
+            | Arguments::VendorReport => 1,
+            Arguments::Sized | Arguments::Bits | Arguments::Range => 2,
             Arguments::Item => 3,
         }
+    }
+
+    /// Whether the macro ends in a comma of its own.
+    pub fn end_in_comma(self) -> bool {
+        matches!(
+            self,
+            Arguments::Named(_)
+                | Arguments::Number
+                | Arguments::Range
+                | Arguments::Nibble
+                | Arguments::VendorPage
+                | Arguments::VendorReport
+        )
     }
 }
 
@@ -54,19 +97,25 @@ impl Macro {
         Macro { header, arguments }
     }
 
-    /// The macro with this name, of TinyUSB, Zephyr or LUFA: what several have writes the same.
+    /// The macro with this name, of TinyUSB, Zephyr, LUFA or udev-hid-bpf: what several have writes
+    /// the same.
     pub fn named(name: &str) -> Option<Macro> {
         if let Some(known) = lufa_macro(name) {
             return Some(known);
         }
-        tinyusb_macro(name).or_else(|| zephyr_macro(name))
+        tinyusb_macro(name)
+            .or_else(|| zephyr_macro(name))
+            .or_else(|| bpf_macro(name))
     }
 }
 
-/// The number that a name in an argument stands for, by the header of TinyUSB, Zephyr or LUFA.
+/// The number that a name in an argument stands for, by the header of TinyUSB, Zephyr, LUFA or
+/// udev-hid-bpf.
 pub fn number_named(name: &str) -> Option<u32> {
     if let Some(number) = lufa_number(name) {
         return Some(number);
     }
-    tinyusb_number(name).or_else(|| zephyr_number(name))
+    tinyusb_number(name)
+        .or_else(|| zephyr_number(name))
+        .or_else(|| bpf_number(name))
 }

@@ -152,7 +152,7 @@ impl Source {
 }
 
 /// Appends tabs.
-fn add_tabs(text: &mut String, count: usize) -> Result<(), AllocError> {
+pub fn add_tabs(text: &mut String, count: usize) -> Result<(), AllocError> {
     for _ in 0..count {
         text.push_str("\t")?;
     }

@@ -157,7 +157,7 @@ pub fn name_in(table: &[(u8, &'static str)], header: u8) -> Option<&'static str>
 }
 
 /// The first byte of the macro with this name in a table.
-fn header_in(table: &[(u8, &'static str)], name: &str) -> Option<u8> {
+pub fn header_in(table: &[(u8, &'static str)], name: &str) -> Option<u8> {
     let row = table.iter().find(|row| row.1 == name)?;
     Some(row.0)
 }

@@ -1,11 +1,25 @@
 //! The elements of an array of C: numbers of a byte each, and items in macros.
-use crate::input::form::macro_call::{add_call, is_name};
+use crate::input::form::macro_call::{add_call, is_name, value_of};
 use crate::input::form::number_list::NumberList;
-use anyhow::{Result, ensure};
+use anyhow::{Result, bail, ensure};
+use hid_output::macros::{ANY_COLLECTION, Arguments, Macro, bpf_around};
 use std::alloc::Global;
 
 /// The macro behind whose parentheses no comma has to stand, since TinyUSB's has one in itself.
 const WITH_COMMA: &str = "HID_REPORT_ID";
+
+/// What stands in parentheses that are open.
+#[derive(Clone, Copy, PartialEq)]
+enum Inside {
+    /// None are open, but for those of macros around others.
+    Nothing,
+
+    /// The arguments of a macro.
+    Arguments,
+
+    /// The kind of a collection, and others behind it.
+    Kind,
+}
 
 /// The elements of a list so far.
 #[derive(Drop)]
@@ -13,8 +27,11 @@ pub struct ItemList {
     numbers: NumberList,
     /// What stands behind the last comma, where it goes on in the next line.
     word: String,
-    /// Whether parentheses are open in it.
-    is_open: bool,
+    /// Whether a space stands in it.
+    has_space: bool,
+    inside: Inside,
+    /// The last byte of each macro around others that has no end yet.
+    ends: Vec<u8>,
 }
 
 impl ItemList {
@@ -23,7 +40,9 @@ impl ItemList {
         ItemList {
             numbers: NumberList::new(alloc),
             word: String::new(alloc),
-            is_open: false,
+            has_space: false,
+            inside: Inside::Nothing,
+            ends: Vec::new(alloc),
         }
     }
 
@@ -31,39 +50,120 @@ impl ItemList {
     pub fn add(&mut self, part: &str) -> Result<()> {
         for letter in part.chars() {
             match letter {
-                ',' if !self.is_open => {
-                    self.take_word()?;
-                    self.numbers.take_comma()?;
-                }
-                '(' => {
-                    ensure!(!self.is_open, "a ( stands in parentheses");
-                    self.is_open = true;
-                    self.word.push(letter)?;
-                }
-                ')' => {
-                    ensure!(self.is_open, "no ( stands before a )");
-                    self.is_open = false;
-                    self.word.push(letter)?;
-                    self.take_report_id()?;
-                }
+                ',' => self.take_comma()?,
+                '(' => self.take_opening()?,
+                ')' => self.take_closing()?,
+                _ if letter.is_whitespace() => self.take_space()?,
                 _ => self.word.push(letter)?,
             }
         }
-        if self.is_open {
+        if self.inside != Inside::Nothing {
             self.word.push(' ')?;
             return Ok(());
         }
         self.take_word()
     }
 
-    /// Takes the macro of a Report ID, behind which no comma has to stand.
-    fn take_report_id(&mut self) -> Result<()> {
-        let name = self.word.as_str().split_once("(").unwrap_or(("", "")).0;
-        if name.trim() != WITH_COMMA {
+    /// Takes a comma: between elements, between arguments, or behind the kind of a collection.
+    fn take_comma(&mut self) -> Result<()> {
+        match self.inside {
+            Inside::Nothing => {
+                self.take_word()?;
+                self.numbers.take_comma()
+            }
+            Inside::Arguments => Ok(self.word.push(',')?),
+            Inside::Kind => self.begin_kind(),
+        }
+    }
+
+    /// Takes a space: behind a macro without arguments that ends in a comma it ends the word.
+    fn take_space(&mut self) -> Result<()> {
+        if self.inside == Inside::Nothing && !self.has_space {
+            if self.word.is_empty() {
+                return Ok(());
+            }
+            if let Some(known) = Macro::named(self.word.as_str())
+                && let Arguments::Named(_) = known.arguments
+            {
+                return self.take_word();
+            }
+        }
+        self.has_space = true;
+        Ok(self.word.push(' ')?)
+    }
+
+    /// Takes the parenthesis behind a macro's name.
+    fn take_opening(&mut self) -> Result<()> {
+        ensure!(self.inside == Inside::Nothing, "a ( stands in parentheses");
+        let name = self.word.as_str().trim();
+        if name == ANY_COLLECTION {
+            self.inside = Inside::Kind;
+            self.word.clear();
             return Ok(());
         }
-        self.take_word()?;
-        self.numbers.needs_no_comma();
+        if let Some((header, kind)) = bpf_around(name) {
+            return self.begin(header, kind);
+        }
+        self.inside = Inside::Arguments;
+        Ok(self.word.push('(')?)
+    }
+
+    /// Takes the end of parentheses.
+    fn take_closing(&mut self) -> Result<()> {
+        match self.inside {
+            Inside::Arguments => {
+                self.inside = Inside::Nothing;
+                self.word.push(')')?;
+                return self.take_own_comma();
+            }
+            Inside::Kind => self.begin_kind()?,
+            Inside::Nothing => self.take_word()?,
+        }
+        match self.ends.pop() {
+            Some(end) => {
+                self.numbers.take_item(")", &[end])?;
+                self.numbers.take_comma()
+            }
+            None => bail!("no ( stands before a )"),
+        }
+    }
+
+    /// Takes the kind of a collection.
+    fn begin_kind(&mut self) -> Result<()> {
+        self.inside = Inside::Nothing;
+        let kind = self.word.as_str().trim();
+        match u8::try_from(value_of(kind)?) {
+            Ok(kind) => self.begin(0xa1, Some(kind)),
+            Err(_great) => bail!("{kind} is no kind of a collection"),
+        }
+    }
+
+    /// Takes the bytes before what stands in a macro around it.
+    fn begin(&mut self, header: u8, kind: Option<u8>) -> Result<()> {
+        self.clear();
+        let end = match kind {
+            Some(kind) => {
+                self.numbers.take_item("a collection", &[header, kind])?;
+                0xc0
+            }
+            None => {
+                self.numbers.take_item("PushPop", &[header])?;
+                0xb4
+            }
+        };
+        self.ends.push(end)?;
+        self.numbers.take_comma()
+    }
+
+    /// Takes the macro of a Report ID, behind which no comma has to stand, or one that has its own.
+    fn take_own_comma(&mut self) -> Result<()> {
+        let name = name_of(self.word.as_str());
+        if name == WITH_COMMA {
+            self.take_word()?;
+            self.numbers.needs_no_comma();
+        } else if ends_in_comma(name) {
+            self.take_word()?;
+        }
         Ok(())
     }
 
@@ -74,16 +174,41 @@ impl ItemList {
             let mut bytes = Vec::new(*self.word.allocator());
             add_call(&mut bytes, word)?;
             self.numbers.take_item(word, &bytes)?;
+            if ends_in_comma(name_of(word)) {
+                self.numbers.take_comma()?;
+            }
         } else if !word.is_empty() {
             self.numbers.take_number(word)?;
         }
-        self.word.clear();
+        self.clear();
         Ok(())
+    }
+
+    /// Forgets the word.
+    fn clear(&mut self) {
+        self.word.clear();
+        self.has_space = false;
     }
 
     /// The bytes so far; the list has none from here on.
     pub fn taken(&mut self) -> Result<Vec<u8>> {
-        ensure!(!self.is_open, "parentheses have no end");
+        ensure!(
+            self.inside == Inside::Nothing && self.ends.is_empty(),
+            "parentheses have no end"
+        );
         Ok(self.numbers.taken())
+    }
+}
+
+/// A macro's name, without its arguments.
+fn name_of(word: &str) -> &str {
+    word.split_once("(").unwrap_or((word, "")).0.trim()
+}
+
+/// Whether the macro with this name ends in a comma of its own.
+fn ends_in_comma(name: &str) -> bool {
+    match Macro::named(name) {
+        Some(known) => known.arguments.end_in_comma(),
+        None => false,
     }
 }

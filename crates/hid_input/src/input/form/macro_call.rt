@@ -1,5 +1,5 @@
-//! An item of a descriptor in a macro of C, as `hid convert` writes it for Zephyr, TinyUSB
-//! and LUFA.
+//! An item of a descriptor in a macro of C, as `hid convert` writes it for Zephyr, TinyUSB, LUFA
+//! and udev-hid-bpf.
 use crate::input::form::number_list::number_of;
 use anyhow::{Result, bail, ensure};
 use hid_output::macros::{Arguments, Macro, number_named};
@@ -58,7 +58,7 @@ fn values_of(alloc: Global, name: &str, list: Option<&str>) -> Result<Vec<i64>> 
 }
 
 /// The number of an argument: numbers and names with `|` between them.
-fn value_of(argument: &str) -> Result<i64> {
+pub fn value_of(argument: &str) -> Result<i64> {
     let mut value = 0i64;
     for part in argument.split("|") {
         let part = part.trim();
@@ -89,6 +89,21 @@ fn add_item(bytes: &mut Vec<u8>, known: Macro, values: &[i64]) -> Result<()> {
             let size = part_of(*size, 3)?;
             Ok(bytes.push(tag << 4 | kind << 2 | size)?)
         }
+        (Arguments::Named(number), _) => add_data(bytes, known.header, i64::from(number)),
+        (Arguments::Number, [value]) => add_data(bytes, known.header, *value),
+        (Arguments::Range, [minimum, maximum]) => {
+            add_data(bytes, known.header, *minimum)?;
+            add_data(bytes, known.header.saturating_add(0x10), *maximum)
+        }
+        (Arguments::Nibble, [value]) => add_nibble(bytes, known.header, *value),
+        (Arguments::VendorPage, [page]) => {
+            ensure!(
+                0xff00 <= *page,
+                "0x{page:04x} is no vendor's page: 0xff00 to 0xffff"
+            );
+            add_data(bytes, known.header, *page)
+        }
+        (Arguments::VendorReport, [count]) => add_vendor_report(bytes, *count),
         _ => {
             bytes.push(known.header)?;
             for value in values {
@@ -97,6 +112,39 @@ fn add_item(bytes: &mut Vec<u8>, known: Macro, values: &[i64]) -> Result<()> {
             Ok(())
         }
     }
+}
+
+/// Appends an item with a number of as many bytes as its first byte says.
+fn add_data(bytes: &mut Vec<u8>, header: u8, value: i64) -> Result<()> {
+    bytes.push(header)?;
+    add_number(
+        bytes,
+        value,
+        match header & 3 {
+            1 => 1,
+            2 => 2,
+            _ => 4,
+        },
+    )
+}
+
+/// Appends an item with a number of four bits.
+fn add_nibble(bytes: &mut Vec<u8>, header: u8, value: i64) -> Result<()> {
+    ensure!(
+        (-8..=7).contains(&value),
+        "{value} isn't -8 to 7, the exponents that four bits hold"
+    );
+    bytes.push(header)?;
+    Ok(bytes.push(value.to_le_bytes()[0] & 0x0f)?)
+}
+
+/// Appends a report of padding with the id 0xac, of so many bytes with that, as udev-hid-bpf's
+/// `FixedSizeVendorReport` has it.
+fn add_vendor_report(bytes: &mut Vec<u8>, count: i64) -> Result<()> {
+    bytes.extend_from_slice(&[0x06, 0xff, 0xff, 0x09, 0x01, 0xa1, 0x00, 0x85, 0xac])?;
+    bytes.extend_from_slice(&[0x75, 0x08, 0x95])?;
+    add_number(bytes, count.saturating_sub(1), 1)?;
+    Ok(bytes.extend_from_slice(&[0x81, 0x01, 0xc0])?)
 }
 
 /// Appends an item whose data have so many bits.
