@@ -84,6 +84,15 @@ $mouse" convert --sysfs sys "$name"
 done
 wants 0 "hid: /dev/hidraw0: read as bytes
 $mouse" convert --sysfs sys /dev/hidraw0
+# A recording has what Linux tells of the device: its name, where it is plugged in, and its ids.
+wants 0 "hid: Optical: is /dev/hidraw0
+hid: Optical: read as bytes
+hid: -: read as bytes
+D: 0
+R: 50 $(tr '\n' ' ' <<< "$mouse" | sed 's/ *$//')
+N: Logitech USB Optical Mouse
+P: usb-1/input0
+I: 3 046d c077" record --raw --sysfs sys Optical -
 echo 05 01 > Optical
 wants 0 'hid: Optical: read as hex text
 05 01' convert --sysfs sys Optical

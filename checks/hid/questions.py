@@ -440,7 +440,7 @@ def compare_physical(answers, place, told, field, value):
     """What a value stands for (Section 6.2.2.7), worked here on whole numbers."""
     low, high = field["logical_minimum"], field["logical_maximum"]
     first, last = field["physical_minimum"], field["physical_maximum"]
-    if first == 0 and last == 0:
+    if not first and not last:
         first, last = low, high
     scaled = first + Fraction((value - low) * (last - first), high - low)
     exponent = field["unit_exponent"] or 0

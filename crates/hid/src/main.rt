@@ -19,7 +19,7 @@ use crate::settings::settings_of;
 use crate::world::World;
 use anyhow::{Context, Result, bail};
 use clap::ArgMatches;
-use hid_output::escaped;
+use hid_output::{escaped, escaped_lines};
 use std::alloc::{AllocError, Global};
 use std::io::IsTerminal;
 use std::process::ExitCode;
@@ -77,12 +77,14 @@ fn answer<R: World>(rt: &R, is_terminal: bool) -> Result<Ending> {
             None => Ok(Ending::Misused),
         },
         Err(error) => {
-            error.print(rt)?;
-            Ok(if error.exit_code() == 0 {
-                Ending::Done
-            } else {
-                Ending::Misused
-            })
+            let text = format!(in rt.alloc(); "{error}")?;
+            let text = escaped_lines(rt.alloc(), &text)?;
+            if error.exit_code() == 0 {
+                print!(rt; "{text}")?;
+                return Ok(Ending::Done);
+            }
+            eprint!(rt; "{text}")?;
+            Ok(Ending::Misused)
         }
     }
 }

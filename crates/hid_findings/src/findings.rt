@@ -74,7 +74,13 @@ impl Watch {
             self.pass(&entry)?;
             self.state.pass(&entry)?;
         }
-        self.end()
+        self.tell_unused()?;
+        // What stands behind an item that can't be read may still close them.
+        if cursor.rest().is_empty() {
+            self.tell_open()?;
+            self.tell_pushed()?;
+        }
+        Ok(())
     }
 
     /// Notes why a descriptor is refused.
@@ -192,13 +198,6 @@ impl Watch {
             "no item uses the usages from here on",
             Source::LocalItems,
         )
-    }
-
-    /// Notes what is odd at the end.
-    fn end(&mut self) -> Result<(), AllocError> {
-        self.tell_unused()?;
-        self.tell_open()?;
-        self.tell_pushed()
     }
 
     fn tell_open(&mut self) -> Result<(), AllocError> {

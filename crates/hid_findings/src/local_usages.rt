@@ -49,9 +49,14 @@ impl LocalUsages {
         }
     }
 
+    /// Goes over a maximum: below its minimum there are no usages.
     fn pass_end(&mut self, offset: usize, end: u32) {
-        let range = u64::from(end).saturating_sub(u64::from(self.range_start));
-        self.add(offset, range.saturating_add(1), end);
+        let behind = u64::from(end).saturating_add(1);
+        self.add(
+            offset,
+            behind.saturating_sub(u64::from(self.range_start)),
+            end,
+        );
     }
 
     fn add(&mut self, offset: usize, more: u64, last: u32) {

@@ -94,7 +94,8 @@ pub fn with_advice(
 ) -> anyhow::Error {
     match fault {
         ParserError::BudgetExceeded { .. } => match enough(alloc, settings, bytes) {
-            Some(limit) => anyhow!("{fault}: --limit {limit} is enough"),
+            Some((limit, true)) => anyhow!("{fault}: --limit {limit} is enough"),
+            Some((limit, false)) => anyhow!("{fault}: --limit {limit} isn't enough either"),
             None => fault.into(),
         },
         ParserError::InvalidData { .. } if !settings.is_lenient => {
@@ -107,8 +108,9 @@ pub fn with_advice(
     }
 }
 
-/// A limit under which a descriptor is read, up to a power of two.
-fn enough(alloc: Global, settings: &Settings, bytes: &[u8]) -> Option<usize> {
+/// A limit under which a descriptor is read, up to a power of two, and whether it is; the last that
+/// was tried where none is.
+fn enough(alloc: Global, settings: &Settings, bytes: &[u8]) -> Option<(usize, bool)> {
     let mut limit = settings.parse.limit?.max(bytes.len()).max(1);
     for _ in 0..MOST_DOUBLED {
         limit = limit.checked_mul(2)?;
@@ -119,9 +121,9 @@ fn enough(alloc: Global, settings: &Settings, bytes: &[u8]) -> Option<usize> {
         };
         match Outline::try_from_with(alloc, bytes, options) {
             Err(ParserError::BudgetExceeded { .. }) => {}
-            Ok(_outline) => return Some(limit),
+            Ok(_outline) => return Some((limit, true)),
             Err(_fault) => return None,
         }
     }
-    None
+    Some((limit, false))
 }

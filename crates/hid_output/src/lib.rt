@@ -76,6 +76,18 @@ pub fn escaped(alloc: Global, text: &str) -> Result<String, AllocError> {
     Ok(shown)
 }
 
+/// The same of several lines, whose ends stay.
+pub fn escaped_lines(alloc: Global, text: &str) -> Result<String, AllocError> {
+    let mut shown = String::new(alloc);
+    for line in text.split_inclusive("\n") {
+        match line.strip_suffix("\n") {
+            Some(line) => writeln!(shown, "{}", escaped(alloc, line)?)?,
+            None => shown.push_str(&escaped(alloc, line)?)?,
+        }
+    }
+    Ok(shown)
+}
+
 /// Whether a terminal shows a character where it stands.
 fn is_plain(letter: char) -> bool {
     let is_turning = matches!(letter,

@@ -5,10 +5,10 @@ use crate::world::World;
 use anyhow::Result;
 use hid_input::parsing::descriptor_by;
 use hid_input::settings::Settings;
-use hid_output::{flush, flush_piece};
+use hid_output::{escaped, flush, flush_piece};
 use hid_text::field_object::add_field_object;
 use hid_text::report::{Block, SameReports, add_title, field_lines};
-use hidreport::{Direction, RDescReport, Report};
+use hidreport::{Direction, RDescReport, Report, ReportDescriptor};
 use std::alloc::AllocError;
 use std::fmt::Write;
 
@@ -21,6 +21,13 @@ pub struct Fields<'a> {
     pub shows_each: bool,
     /// Whether each field has the event codes of Linux behind it.
     pub shows_linux: bool,
+}
+
+/// Whether a descriptor has no report in any direction.
+fn has_no_report(descriptor: &ReportDescriptor) -> bool {
+    Direction::ALL
+        .iter()
+        .all(|direction| descriptor.reports(*direction).is_empty())
 }
 
 impl<'a> Fields<'a> {
@@ -40,6 +47,10 @@ impl<'a> Fields<'a> {
             }
         }
         flush(rt, &mut text)?;
+        if has_no_report(&descriptor) {
+            let file = escaped(rt.alloc(), self.file)?;
+            eprintln!(rt; "hid: {file}: no item makes a field, so there is no report")?;
+        }
         Ok(Ending::Done)
     }
 

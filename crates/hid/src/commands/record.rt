@@ -6,7 +6,7 @@ use anyhow::{Context, Result, bail};
 use hid_input::input::{Form, Given, GivenReport, Stream, descriptors_named, is_node, node_named};
 use hid_input::parsing::all_parsed;
 use hid_input::settings::Settings;
-use hid_output::{add_bytes, flush};
+use hid_output::{add_bytes, escaped, flush};
 use hid_text::report::{Lines, tell_size};
 use hid_text::value_object::add_value_objects;
 use hidreport::{Direction, ReportDescriptor};
@@ -132,9 +132,24 @@ fn add_heads(text: &mut String, given: &Given) -> Result<(), AllocError> {
         let (number, count) = (device.number, device.descriptor.len());
         write!(text, "D: {number}\nR: {count} ")?;
         add_bytes(text, &device.descriptor)?;
-        text.push_str("\nN: unknown\nI: 3 0000 0000\n")?;
+        add_line_of(text, "\nN: ", device.name.as_deref().unwrap_or("unknown"))?;
+        if let Some(place) = &device.place {
+            add_line_of(text, "\nP: ", place.as_str())?;
+        }
+        add_line_of(
+            text,
+            "\nI: ",
+            device.ids.as_deref().unwrap_or("3 0000 0000"),
+        )?;
+        text.push_str("\n")?;
     }
     Ok(())
+}
+
+/// Appends what an input says of a device, behind a mark.
+fn add_line_of(text: &mut String, mark: &str, said: &str) -> Result<(), AllocError> {
+    let said = escaped(*text.allocator(), said)?;
+    write!(text, "{mark}{said}")
 }
 
 /// Shows what a reader gives, up to its end.

@@ -158,15 +158,22 @@ fn placed_name(name: &str) -> Option<(&str, usize)> {
     Some((own, place.checked_sub(1)?))
 }
 
-/// A number in decimal digits, or in hexadecimal ones behind `0x`.
+/// A number in decimal digits, or in hexadecimal ones behind `0x`, with a sign or without; one of
+/// more than 32 bits in decimal digits alone.
 fn number_of(word: &str) -> Option<i64> {
-    if let Some(digits) = word.strip_prefix("-0x") {
-        return Some(-i64::from(u32::from_str_radix(digits, 16).ok()?));
-    }
-    match plain_number(word) {
-        Some(number) => Some(i64::from(number)),
-        None => word.parse::<i64>().ok(),
-    }
+    let digits = word.strip_prefix("-").unwrap_or(word);
+    let number = match plain_number(digits) {
+        Some(number) => i64::from(number),
+        None if digits.starts_with(|letter: char| matches!(letter, '1'..='9')) => {
+            digits.parse::<i64>().ok()?
+        }
+        None => return None,
+    };
+    Some(if digits.len() < word.len() {
+        -number
+    } else {
+        number
+    })
 }
 
 impl<'a> Written<'a> {
@@ -294,7 +301,8 @@ fn holds(width: usize, is_signed: bool, number: i64) -> bool {
     least <= number && number < reach
 }
 
-/// Puts a number into a field, or a key into the next element of an array where it isn't 0.
+/// Puts a number into a field, or a key into the next element of an array: by 1 it is pressed, by 0
+/// it isn't.
 fn put_number(
     field: &Field,
     bytes: &mut [u8],
@@ -304,17 +312,43 @@ fn put_number(
 ) -> Result<()> {
     match field {
         Field::Variable(field) => Ok(field.insert(bytes, number)?),
-        Field::Array(field) if number != 0 => put_key(field, bytes, used, usage),
-        _ => Ok(()),
+        Field::Array(field) => put_key(field, bytes, used, usage, number),
+        Field::Constant(_) => Ok(()),
     }
 }
 
-/// Puts a key into the next element of an array.
-fn put_key(field: &ArrayField, bytes: &mut [u8], used: &mut usize, usage: Usage) -> Result<()> {
+/// Puts a key into the next element of an array, if it isn't in one yet.
+fn put_key(
+    field: &ArrayField,
+    bytes: &mut [u8],
+    used: &mut usize,
+    usage: Usage,
+    number: i64,
+) -> Result<()> {
     let Some(value) = field.value_of(usage) else {
         bail!("no value stands for it");
     };
-    field.insert_one(bytes, *used, value)?;
-    *used = used.saturating_add(1);
-    Ok(())
+    let is_pressed = has_value(field, bytes, *used, value);
+    match number {
+        0 if is_pressed => bail!("a word before it presses it"),
+        1 if !is_pressed => {
+            field.insert_one(bytes, *used, value)?;
+            *used = used.saturating_add(1);
+            Ok(())
+        }
+        0 | 1 => Ok(()),
+        _ => bail!("a usage of an array is 1, pressed, or 0"),
+    }
+}
+
+/// Whether one of the first elements of an array has a value.
+fn has_value(field: &ArrayField, bytes: &[u8], used: usize, value: i64) -> bool {
+    for index in 0..used {
+        if let Ok(own) = field.extract_one(bytes, index)
+            && i64::from(own) == value
+        {
+            return true;
+        }
+    }
+    false
 }

@@ -27,6 +27,8 @@ pub struct MachineDevice {
     pub product: u32,
     /// The driver that it has, empty where none.
     pub driver: String,
+    /// Where it is plugged in.
+    pub place: String,
 }
 
 /// The HID devices, by the numbers of their nodes.
@@ -37,16 +39,32 @@ pub struct MachineDevice {
 pub fn machine_devices<R: AllocGlobal + Files>(rt: &R, sysfs: &str) -> Result<Vec<MachineDevice>> {
     let mut devices = Vec::new(rt.alloc());
     for number in 0..MOST_NODES {
-        let folder = folder_of(rt.alloc(), sysfs, number)?;
-        let path = format!(in rt.alloc(); "{folder}/uevent")?;
-        if let Some(text) = told(rt, path.as_str())? {
-            let device = MachineDevice::of(rt.alloc(), number, text.as_str()).context(format_args!(
-                "{path}"
-            ))?;
+        if let Some(device) = machine_device(rt, sysfs, number)? {
             devices.push(device)?;
         }
     }
     Ok(devices)
+}
+
+/// The HID device of a node; none where there is no such node.
+///
+/// # Errors
+///
+/// - what tells of it can't be read, or isn't read.
+pub fn machine_device<R: AllocGlobal + Files>(
+    rt: &R,
+    sysfs: &str,
+    number: usize,
+) -> Result<Option<MachineDevice>> {
+    let folder = folder_of(rt.alloc(), sysfs, number)?;
+    let path = format!(in rt.alloc(); "{folder}/uevent")?;
+    let Some(text) = told(rt, path.as_str())? else {
+        return Ok(None);
+    };
+    let device = MachineDevice::of(rt.alloc(), number, text.as_str()).context(format_args!(
+        "{path}"
+    ))?;
+    Ok(Some(device))
 }
 
 /// The folder in which Linux tells of the device of a node.
@@ -76,6 +94,7 @@ impl MachineDevice {
             vendor: 0,
             product: 0,
             driver: String::new(alloc),
+            place: String::new(alloc),
         };
         for line in text.lines() {
             device.take(alloc, line)?;
@@ -89,6 +108,7 @@ impl MachineDevice {
         match key {
             "HID_NAME" => self.name = String::from_str(alloc, value)?,
             "DRIVER" => self.driver = String::from_str(alloc, value)?,
+            "HID_PHYS" => self.place = String::from_str(alloc, value)?,
             "HID_ID" => return self.take_ids(value),
             _ => {}
         }
@@ -103,6 +123,12 @@ impl MachineDevice {
         self.product = number_of(parts.next())?;
         ensure!(parts.next().is_none(), "{value} isn't three numbers");
         Ok(())
+    }
+
+    /// Its bus, its vendor and its product as hid-recorder writes them.
+    pub fn ids(&self, alloc: Global) -> Result<String, AllocError> {
+        let (bus, vendor, product) = (self.bus, self.vendor, self.product);
+        format!(in alloc; "{bus:x} {vendor:04x} {product:04x}")
     }
 
     /// Whether a word means it by its node or its ids.

@@ -1,7 +1,7 @@
 //! Inputs by the names that a command's words say.
 use crate::input::form::{Form, Wanted};
 use crate::input::given::Given;
-use crate::input::machine::node_meant;
+use crate::input::machine::{machine_device, node_meant};
 use crate::input::mending::mend;
 use crate::input::whole::{given_of, text_of};
 use crate::settings::{LONGEST_INPUT, Settings};
@@ -101,6 +101,9 @@ pub fn descriptors_named<R: AllocGlobal + Files + Input + Eprint>(
     let path = descriptor_path(rt.alloc(), settings, node.as_str())?;
     let bytes = bytes_named(rt, path.as_str())?;
     let mut given = given_of(rt.alloc(), bytes, settings.form, Wanted::Descriptors)?;
+    if let Some(number) = node.as_str().strip_prefix("/dev/hidraw") {
+        name_device(rt, settings, number, &mut given)?;
+    }
     if settings.form.is_none() {
         tell_form(rt, name, given.form)?;
     }
@@ -110,6 +113,27 @@ pub fn descriptors_named<R: AllocGlobal + Files + Input + Eprint>(
         mend(rt, settings, name, &mut given)?;
     }
     Ok(given)
+}
+
+/// Takes what Linux tells of the device of a node, where it does: its name, its place and its ids.
+fn name_device<R: AllocGlobal + Files>(
+    rt: &R,
+    settings: &Settings,
+    number: &str,
+    given: &mut Given,
+) -> Result<()> {
+    let Ok(number) = number.parse::<usize>() else {
+        return Ok(());
+    };
+    if let (Ok(Some(told)), Some(device)) = (
+        machine_device(rt, settings.sysfs, number),
+        given.devices.first_mut(),
+    ) {
+        device.ids = Some(told.ids(rt.alloc())?);
+        device.name = Some(told.name);
+        device.place = Some(told.place);
+    }
+    Ok(())
 }
 
 /// As `descriptors_named`, of an input with one descriptor, or of one device of several.

@@ -21,6 +21,7 @@ pub fn given_of(
     }
     let Some(text) = text_of(&bytes) else {
         ensure!(form.is_none(), "isn't text");
+        check_bytes(&bytes)?;
         return plain(alloc, bytes, wanted);
     };
     let form = match form {
@@ -70,6 +71,30 @@ pub fn text_of(bytes: &[u8]) -> Option<&str> {
     };
     let text = text.strip_prefix("\u{feff}").unwrap_or(text);
     if is_text(text) { Some(text) } else { None }
+}
+
+/// Refuses bytes that are all text but for characters that programs put beside it: those of
+/// UTF-16, an escape of colours, the end of a file of DOS.
+fn check_bytes(bytes: &[u8]) -> Result<()> {
+    ensure!(
+        !matches!(bytes, [0xff, 0xfe, _, 0, ..] | [0xfe, 0xff, 0, _, ..]),
+        "is text in UTF-16, and is read in UTF-8; or as --form or --report-form bytes"
+    );
+    let Ok(text) = str::from_utf8(bytes) else {
+        return Ok(());
+    };
+    ensure!(
+        !is_spoilt(text),
+        "is text with control characters, and is read without; or as --form or --report-form bytes"
+    );
+    Ok(())
+}
+
+/// Whether a text is one but for escapes and ends of files.
+fn is_spoilt(text: &str) -> bool {
+    text.chars().all(|letter| {
+        matches!(letter, '\t' | '\n' | '\r' | '\u{1a}' | '\u{1b}') || !letter.is_control()
+    })
 }
 
 /// Whether all characters can be seen, or are spaces and ends of lines.

@@ -72,7 +72,10 @@ fn number_told(item: &ItemType, told: &str, page: UsagePage, flags: &FlagTable) 
     match item {
         ItemType::Main(MainItem::Collection(_)) => kind_told(told),
         ItemType::Main(MainItem::EndCollection) => None,
-        ItemType::Main(_) => Some(u32::from(flags.flags_of(told)?)),
+        ItemType::Main(_) => match flags.flags_of(told) {
+            Some(flags) => Some(u32::from(flags)),
+            None => plain_number(told),
+        },
         ItemType::Global(item) => global_told(item, told),
         ItemType::Local(item) => local_told(item, told, page),
         ItemType::Long | ItemType::Reserved => None,
@@ -120,10 +123,12 @@ fn front_of(told: &str) -> &str {
     }
 }
 
-/// A number: in decimal digits, or in hexadecimal ones behind `0x`.
+/// A number: in decimal digits, or in hexadecimal ones behind `0x`. Several digits behind a 0 are
+/// none, since they may be octal, or hexadecimal as a usage's.
 pub fn plain_number(told: &str) -> Option<u32> {
     match told.strip_prefix("0x").or(told.strip_prefix("0X")) {
         Some(digits) => u32::from_str_radix(digits, 16).ok(),
+        None if told.starts_with('0') && told.trim_start_matches('0').len() > 1 => None,
         None => told.parse::<u32>().ok(),
     }
 }
@@ -149,12 +154,15 @@ fn page_told(told: &str) -> Option<UsagePage> {
     }
 }
 
-/// A usage of the page in force, or one with a page of its own, which stands above it.
+/// A usage of the page in force, or one with a page of its own, which stands above it, by names or
+/// as a number.
 fn usage_told(told: &str, page: UsagePage) -> Option<u32> {
     if let Some(id) = id_told(page, told) {
         return Some(u32::from(id));
     }
-    let (own, name) = told.split_once(" / ")?;
+    let Some((own, name)) = told.split_once(" / ") else {
+        return plain_number(told);
+    };
     let page = page_told(own.trim())?;
     let id = id_told(page, name.trim())?;
     Some(u32::from(u16::from(page)) * 0x1_0000 + u32::from(id))

@@ -27,14 +27,13 @@ fn is_amount(field: &VariableField) -> bool {
     width > 1 && holds_value(field.usage) != Some(false)
 }
 
-/// What a value of the field stands for, in its unit: none where the field has no unit or no
-/// physical bounds, where its values are no amounts, and where its logical bounds leave no room.
+/// What a value of the field stands for, in its unit, between its physical bounds, which are the
+/// logical ones where they are unset: none where the field has no unit, where its values are no
+/// amounts, and where its logical bounds leave no room.
 pub fn measured_value(field: &VariableField, value: i64) -> Option<Fraction> {
     if u32::from(field.unit?) == 0 || !is_amount(field) {
         return None;
     }
-    field.physical_minimum?;
-    field.physical_maximum?;
     scaled(field.physical_value(value)?, field.unit_exponent)
 }
 

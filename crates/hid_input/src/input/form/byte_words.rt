@@ -28,6 +28,11 @@ pub fn add_byte_word(bytes: &mut Vec<u8>, word: &str) -> Result<bool, AllocError
     Ok(false)
 }
 
+/// Whether a word is a byte with a mark before or behind it.
+pub fn is_lone(word: &str) -> bool {
+    lone_digits(word).is_some()
+}
+
 /// The digits of a byte with a mark before or behind them; a 0 before a letter doesn't count.
 fn lone_digits(word: &str) -> Option<&str> {
     let digits = match word.strip_prefix("$") {

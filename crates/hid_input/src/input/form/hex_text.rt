@@ -1,8 +1,8 @@
 //! Hex text: bytes in hexadecimal digits.
 use crate::input::form::Wanted;
-use crate::input::form::byte_words::{add_byte_word, add_digits, is_byte_word};
+use crate::input::form::byte_words::{add_byte_word, add_digits, is_byte_word, is_lone};
 use crate::input::given::{Found, GivenReport};
-use anyhow::{Result, bail};
+use anyhow::{Result, bail, ensure};
 use hex::FromHexError;
 use std::alloc::{AllocError, Global};
 use std::mem;
@@ -25,6 +25,10 @@ pub fn bytes_of_hex(alloc: Global, text: &str) -> Result<Option<Vec<u8>>, AllocE
 pub struct HexLines {
     wanted: Wanted,
     bytes: Vec<u8>,
+    /// Whether a word so far is a byte with a mark, as `0x05`, `05h` or `$05`.
+    has_marked: bool,
+    /// Whether one has none.
+    has_plain: bool,
 }
 
 impl HexLines {
@@ -33,11 +37,17 @@ impl HexLines {
         HexLines {
             wanted,
             bytes: Vec::new(alloc),
+            has_marked: false,
+            has_plain: false,
         }
     }
 
     /// Takes the bytes of a line.
     pub fn take(&mut self, found: &mut Found, line: &str) -> Result<()> {
+        self.check_front(line)?;
+        for word in without_remark(line).split(between_bytes) {
+            self.check_word(word)?;
+        }
         if !add_text_line(&mut self.bytes, line)? {
             let word = wrong_word(line).unwrap_or("it");
             bail!("{word} isn't bytes in hexadecimal digits");
@@ -46,6 +56,37 @@ impl HexLines {
             let bytes = self.taken();
             found.add_report(GivenReport::new(bytes))?;
         }
+        Ok(())
+    }
+
+    /// Refuses a word that makes others doubtful: one without a mark beside those that have one, as
+    /// in `db 05h` and `0x05, 16`.
+    fn check_word(&mut self, word: &str) -> Result<()> {
+        if is_marked(word) {
+            ensure!(
+                !self.has_plain,
+                "{word} has a mark, and words before it have none: they may be no bytes, or decimal"
+            );
+            self.has_marked = true;
+        } else if is_digits(word) {
+            ensure!(
+                !self.has_marked,
+                "{word} has no mark as words before it have: it may be no byte, or decimal"
+            );
+            self.has_plain = true;
+        }
+        Ok(())
+    }
+
+    /// Refuses a line that begins with the number of bytes before it, as one of a dump does.
+    fn check_front(&self, line: &str) -> Result<()> {
+        let front = line.split_whitespace().next().unwrap_or("");
+        ensure!(
+            self.bytes.is_empty()
+                || front.len() < 4
+                || usize::from_str_radix(front, 16) != Ok(self.bytes.len()),
+            "{front} is the number of bytes before it: it may be the offset of a dump"
+        );
         Ok(())
     }
 
@@ -100,6 +141,14 @@ fn is_hex_word(word: &str) -> bool {
     match without_prefix(word) {
         Some(digits) => is_digits(digits) && digits.len() <= 2,
         None => is_digits(word) && word.len() % 2 == 0,
+    }
+}
+
+/// Whether a word is a byte with a mark: `0x05`, `05h` or `$05`.
+fn is_marked(word: &str) -> bool {
+    match without_prefix(word) {
+        Some(digits) => is_digits(digits),
+        None => is_lone(word),
     }
 }
 

@@ -117,15 +117,14 @@ impl ItemList {
                 return self.take_own_comma();
             }
             Inside::Kind => self.begin_kind()?,
-            Inside::Nothing => self.take_word()?,
+            Inside::Nothing => {}
         }
-        match self.ends.pop() {
-            Some(end) => {
-                self.numbers.take_item(")", &[end])?;
-                self.numbers.take_comma()
-            }
-            None => bail!("no ( stands before a )"),
-        }
+        let Some(end) = self.ends.pop() else {
+            bail!("no ( stands before a )");
+        };
+        self.take_word()?;
+        self.numbers.take_item(")", &[end])?;
+        self.numbers.take_comma()
     }
 
     /// Takes the kind of a collection.

@@ -70,6 +70,7 @@ impl RecorderLines {
         let Some((time, rest)) = rest.split_once(" ") else {
             bail!("a report is its time, its number of bytes, and these");
         };
+        ensure!(is_time(time), "{time} is no time in seconds");
         let bytes = counted_bytes(*found.devices.allocator(), rest)?;
         found.add_device(self.device)?;
         let time = String::from_str(*found.devices.allocator(), time)?;
@@ -80,6 +81,13 @@ impl RecorderLines {
             bytes,
         })?)
     }
+}
+
+/// Whether a word is seconds, with a point or without.
+fn is_time(word: &str) -> bool {
+    let (whole, parts) = word.split_once(".").unwrap_or((word, "0"));
+    [whole, parts].iter().all(|part| !part.is_empty()
+        && part.bytes().all(|letter| letter.is_ascii_digit()))
 }
 
 /// The bytes behind their number.

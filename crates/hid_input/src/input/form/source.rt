@@ -1,13 +1,20 @@
 //! Arrays of C, Rust and Go, as `hid convert` writes them: a declaration with a list of numbers or
 //! macros in braces or brackets, and remarks behind `//` or between `/*` and `*/`.
 use crate::input::form::Wanted;
+use crate::input::form::hex_text::without_prefix;
 use crate::input::form::item_list::ItemList;
 use crate::input::given::{Found, GivenReport};
 use anyhow::{Result, bail, ensure};
 use std::alloc::{AllocError, Global};
 
 /// What may stand before a list: in Rust a `&` or `vec!`, in Go its type.
-static BEFORE_LIST: [&str; 3] = ["&", "vec!", "[]byte"];
+static BEFORE_LIST: [&str; 6] = ["&", "vec!", "[]byte", "[]uint8", "[...]byte", "[...]uint8"];
+
+/// Types of C, Rust and Go that are wider than a byte.
+static WIDER: [&str; 20] = [
+    "short", "int", "long", "float", "double", "uint16_t", "uint32_t", "uint64_t", "int16_t",
+    "int32_t", "__u16", "__u32", "u16", "u32", "u64", "i16", "i32", "uint16", "uint32", "usize",
+];
 
 /// What reads arrays.
 #[derive(Drop)]
@@ -119,6 +126,7 @@ impl SourceLines {
             Some((name, _type)) => name,
             None => declared.split_once("[").unwrap_or((declared, "")).0,
         };
+        check_type(declared)?;
         let name = before.split_whitespace().last().unwrap_or("");
         self.name = String::from_str(alloc, name)?;
         self.said = said_in(declared);
@@ -190,11 +198,25 @@ fn pass_directive(directive: &str) -> Result<()> {
     Ok(())
 }
 
+/// Refuses an array whose elements are no bytes, by the words of its declaration.
+fn check_type(declared: &str) -> Result<()> {
+    let is_other = |letter: char| !letter.is_ascii_alphanumeric() && letter != '_';
+    if let Some(word) = declared.split(is_other).find(|word| WIDER.contains(word)) {
+        bail!("an array of {word} has no bytes");
+    }
+    Ok(())
+}
+
 /// The number of bytes that a declaration says in brackets: the last word in them.
 fn said_in(declared: &str) -> Option<usize> {
     let (_before, inner) = declared.split_once("[")?;
     let (inner, _behind) = inner.split_once("]")?;
-    match inner.split_whitespace().last()?.parse::<usize>() {
+    let word = inner.split_whitespace().last()?;
+    let count = match without_prefix(word) {
+        Some(digits) => usize::from_str_radix(digits, 16),
+        None => word.parse::<usize>(),
+    };
+    match count {
         Ok(count) => Some(count),
         Err(_wrong) => None,
     }
