@@ -87,7 +87,6 @@ $mouse" convert --sysfs sys /dev/hidraw0
 # A recording has what Linux tells of the device: its name, where it is plugged in, and its ids.
 wants 0 "hid: Optical: is /dev/hidraw0
 hid: Optical: read as bytes
-hid: -: read as bytes
 D: 0
 R: 50 $(tr '\n' ' ' <<< "$mouse" | sed 's/ *$//')
 N: Logitech USB Optical Mouse

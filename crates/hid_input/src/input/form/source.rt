@@ -150,7 +150,10 @@ impl SourceLines {
     /// Takes the number of the bytes of the last array, which `xxd -i` writes behind it.
     fn take_length(&mut self, declared: &str, number: &str) -> Result<()> {
         let name = declared.split_whitespace().last().unwrap_or("");
-        let (Some(own), Some(count)) = (name.strip_suffix("_len"), self.count) else {
+        let own = name
+            .strip_suffix("_len")
+            .or_else(|| name.strip_suffix("_LEN"));
+        let (Some(own), Some(count)) = (own, self.count) else {
             bail!("no list of bytes is behind =");
         };
         ensure!(own == self.name.as_str(), "no list of bytes is behind =");
