@@ -1,8 +1,9 @@
 //! The lines of usbhid-dump: a head `BUS:ADDRESS:INTERFACE:DESCRIPTOR TIME`, or with `STREAM` for a
 //! report, and below it lines of bytes, up to an empty one or the next head.
 use crate::input::form::hex_text::bytes_of_hex;
+use crate::input::form::recorder::is_time;
 use crate::input::given::{Found, GivenReport};
-use anyhow::{Result, bail};
+use anyhow::{Result, bail, ensure};
 use std::alloc::{AllocError, Global};
 use std::mem;
 
@@ -76,6 +77,10 @@ impl DumpLines {
         let head = words.next().unwrap_or("");
         let (address, kind) = head.rsplit_once(":").unwrap_or(("", head));
         let time = words.next().unwrap_or("");
+        ensure!(
+            time.is_empty() || is_time(time),
+            "{time} is no time in seconds"
+        );
         let alloc = *self.bytes.allocator();
         self.time = String::from_str(alloc, time)?;
         self.address = String::from_str(alloc, address)?;

@@ -84,7 +84,7 @@ impl RecorderLines {
 }
 
 /// Whether a word is seconds, with a point or without.
-fn is_time(word: &str) -> bool {
+pub fn is_time(word: &str) -> bool {
     let (whole, parts) = word.split_once(".").unwrap_or((word, "0"));
     [whole, parts].iter().all(|part| !part.is_empty()
         && part.bytes().all(|letter| letter.is_ascii_digit()))
