@@ -1,6 +1,7 @@
 //! The macros that items are written by in C, which `hid` writes and reads by one table.
 mod bpf;
 mod bpf_names;
+mod lookup;
 mod lufa;
 mod tinyusb;
 mod zephyr;
@@ -9,11 +10,10 @@ use bpf::{bpf_macro, bpf_number};
 pub use bpf::{
     ANY_COLLECTION, NUMBERS, RANGES, UNITS, bpf_around, page_named, usage_header, usage_named,
 };
+pub use lookup::name_in;
 pub use lufa::{LUFA_FLAGS, lufa_name};
 use lufa::{lufa_macro, lufa_number};
-pub use tinyusb::{
-    FLAGS, KINDS, OF_A_BYTE, OF_EACH_SIZE, PAGES, REPORT_ID, USAGE_PAGE, WITHOUT, name_in,
-};
+pub use tinyusb::{FLAGS, KINDS, OF_A_BYTE, OF_EACH_SIZE, PAGES, REPORT_ID, USAGE_PAGE, WITHOUT};
 use tinyusb::{tinyusb_macro, tinyusb_number};
 pub use zephyr::zephyr_name;
 use zephyr::{zephyr_macro, zephyr_number};

@@ -1,7 +1,9 @@
 -- Reports that their fields fill, of which laws are told.
-use Rattle.std.proofs.Common.{◌≢◌, ℕ, inr, refl, arith}
-use Rattle.hidreport.specs.Tiling.{IsFilled}
-use Rattle.hidreport_definitions.specs.Tiled.{byte_report}
+use Rattle.std.proofs.Common.{◌≢◌, ℕ, List, [], ◌∷◌, Option, inr, refl, arith}
+use Rattle.hidreport.specs.Places.{id_bits}
+use Rattle.hidreport.specs.Records.{FieldRecord}
+use Rattle.hidreport.specs.Tiling.{Covers, Each, HasNoRest, HasRange, IsFilled, IsOf}
+use Rattle.hidreport_definitions.specs.Tiled.{byte_report, report_with}
 
 pub byte-filled : (id : ℕ) → IsFilled (byte_report id 0)
 byte-filled id = record {
@@ -11,6 +13,20 @@ byte-filled id = record {
   own = (inr refl, tt);
   ranges = (tt, tt);
 }
+
+-- two fields fill a report
+pub two-filled : (id : Option ℕ) (size : ℕ) (f g : FieldRecord)
+    → Covers (id_bits id) (f ∷ g ∷ []) size → Each HasNoRest (f ∷ g ∷ [])
+    → Each (IsOf id) (f ∷ g ∷ []) → Each HasRange (f ∷ g ∷ [])
+    → IsFilled (report_with id size (f ∷ g ∷ []))
+two-filled id size f g covers elements own ranges =
+    record {
+      some = λ e. cc;
+      covers = covers;
+      elements = elements;
+      own = own;
+      ranges = ranges;
+    }
 
 pub zero-one : ◌≢◌ {A = ℕ} 0 1
 zero-one e = omega (arith, e)

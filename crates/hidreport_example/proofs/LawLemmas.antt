@@ -1,21 +1,27 @@
 -- What the laws of parsing come to for a caller who reads two descriptors.
-use Rattle.std.proofs.Common.{◌≡◌, ℕ, zero, suc, ◌<◌, ◌≤◌, List, [], ◌∷◌, ◌++◌, Some}
-use Rattle.std.proofs.Common.{Result, Ok, Err, IfOk, sym, ap, ◌∙◌, subst, arith}
+use Rattle.std.proofs.Common.{◌≡◌, ◌≢◌, ℕ, zero, suc, ◌+◌, ◌<◌, ◌≤◌, List, [], ◌∷◌, ◌++◌}
+use Rattle.std.proofs.Common.{length, Some, Result, Ok, Err, IfOk, sym, ap, ◌∙◌, subst, arith}
 use Rattle.std.specs.Prelude.{slice_get}
 use Rattle.hidreport.specs.Answer.{Refusal}
 use Rattle.hidreport.specs.Entry.{Entry}
 use Rattle.hidreport.specs.ItemAnswer.{GrammarFault}
 use Rattle.hidreport.specs.Itemising.{as_refusal, itemise}
+use Rattle.hidreport.specs.ItemType.{ItemType}
+use Rattle.hidreport.specs.Laws.{KeptItemsMean, RebuiltBytesMean, SegmentsAreIdle, Spares}
+use Rattle.hidreport.specs.Laws.{parse_any}
 use Rattle.hidreport.specs.Meaning.{InForce, at_offset, meaning_by, parse_by, parse_items}
 use Rattle.hidreport.specs.MeaningFault.{MeaningFault}
-use Rattle.hidreport.specs.Rebuilt.{items_of, rebuild_answer, rebuilt_bytes}
+use Rattle.hidreport.specs.Options.{meaning_as}
+use Rattle.hidreport.specs.Rebuilt.{canonical_entries, items_of, kept_entries, rebuild_answer}
+use Rattle.hidreport.specs.Rebuilt.{rebuilt_bytes}
 use Rattle.hidreport.specs.Records.{DescriptorRecord, FieldRecord, place_of}
-use Rattle.hidreport.specs.Segments.{moved_fault}
+use Rattle.hidreport.specs.Segments.{IsMatched, moved_fault, with_segment}
 use Rattle.hidreport.specs.Spelling.{item_of}
 use Rattle.hidreport.specs.ParserError.{ParserError}
+use Rattle.hidreport.specs.declared.parse_options.ParseOptions.{ParseOptions}
 use Rattle.hidreport.specs.Places.{id_bits}
 use Rattle.hidreport.specs.Tiling.{Covers, Each, IsFilled, IsTiled}
-use Rattle.hidreport_example.specs.Laws.{FieldsAreApart}
+use Rattle.hidreport_example.specs.Laws.{FieldsAreApart, IsRebuilt}
 
 -- the rebuilt bytes are those of the items
 pub rebuilt-of : (r : Result (List Entry) (ℕ × GrammarFault)) (entries : List Entry)
@@ -49,6 +55,35 @@ pub parse-items : (reading : InForce) (bytes : List ℕ) (entries : List Entry)
     → at_offset entries (meaning_by reading (items_of entries)) ≡ Ok d
 parse-items reading [] entries d i p = cc
 parse-items reading (b ∷ bs) entries d i p = sym (ap (parse_items reading) i) ∙ p
+
+-- by any options, what is read of the rebuilt bytes is what was read of the bytes
+pub read-again : (options : ParseOptions) (bytes written : List ℕ) (first again : DescriptorRecord)
+    → KeptItemsMean options bytes → RebuiltBytesMean options bytes → IsRebuilt bytes written
+    → length written ≢ 0 → parse_any options bytes ≡ Ok first
+    → parse_any options written ≡ Ok again → first ≡ again
+read-again options bytes written first again by_kept by_rebuilt rebuilt long p q =
+    let entries = rebuilt.entries in
+    let kept = kept_entries entries in
+    let some : rebuilt_bytes entries ≢ [] = λ e. long (ap length (sym rebuilt.same ∙ e)) in
+    let moved = means (meaning_as options (items_of kept)) kept
+    (canonical_entries 0 (items_of kept)) first (sym (by_kept entries rebuilt.items) ∙ p) in
+    one (parse_any options (rebuilt_bytes entries)) first again
+    (by_rebuilt entries rebuilt.items some ∙ moved) (ap (parse_any options) rebuilt.same ∙ q)
+
+-- by any options, what is read without a segment is what was read with it
+pub without-segment : (options : ParseOptions) (bytes : List ℕ) (entries others : List Entry)
+    (front inside rest : List ItemType) (first second : DescriptorRecord)
+    → SegmentsAreIdle options bytes → itemise item_of bytes ≡ Ok entries → IsMatched inside
+    → Spares options.push_keeps inside → items_of entries ≡ with_segment front inside rest
+    → items_of others ≡ front ++ rest → parse_any options bytes ≡ Ok first
+    → at_offset others (meaning_as options (items_of others)) ≡ Ok second → first ≡ second
+without-segment options bytes entries others front inside rest first second idle i matched spared is
+    are p q =
+    let meant = meaning_as options (front ++ rest) in
+    let moved = means-moved meant (length front) (length inside + 2) entries others first
+    (sym (idle entries front inside rest i matched spared is) ∙ p) in
+    one (at_offset others meant) first second moved
+    (sym (ap (λ xs. at_offset others (meaning_as options xs)) are) ∙ q)
 
 -- each of a list
 pub each-at : {A : Type 0} (P : A → Type 0) (xs ys : List A) (n : ℕ) (x : A) → Each P (xs ++ ys)

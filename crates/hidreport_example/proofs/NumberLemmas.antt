@@ -10,10 +10,11 @@ use Rattle.hidreport.specs.ParserError.{ParserError}
 use Rattle.hidreport.specs.ParserError.TheVariants as errors
 use Rattle.hidreport.specs.Views.{field_record}
 use Rattle.hidreport.specs.declared.field.Field.{Field}
+use Rattle.hidreport.specs.Reader.{before_numbers}
 use Rattle.hidreport.specs.Records.{FieldRecord}
-use Rattle.hidreport_example.specs.Numbers.{both_numbers, numbers_at, numbers_of}
+use Rattle.hidreport_example.specs.Numbers.{numbers_at, numbers_of}
 
-joined-parts : (r rest : Result (List ℤ) Refusal) (all : List ℤ) → both_numbers r rest ≡ Ok all
+joined-parts : (r rest : Result (List ℤ) Refusal) (all : List ℤ) → before_numbers r rest ≡ Ok all
     → (ns : List ℤ) × (ms : List ℤ) × (r ≡ Ok ns) × (rest ≡ Ok ms) × (ns ++ ms ≡ all)
 joined-parts (Ok ns) (Ok ms) all e = (ns, ms, refl, refl, cc)
 joined-parts (Ok ns) (Err refusal) all e = cc
@@ -25,12 +26,12 @@ numbers-more : (bytes : List ℕ) (fs : List FieldRecord) (f : FieldRecord) (ns 
     → numbers_of bytes (fs ++ f ∷ []) ≡ Ok (ns ++ ms)
 numbers-more bytes [] f ns ms e r =
     let none : [] ≡ ns = cc in
-    ap (λ a. both_numbers a (Ok [])) r ∙ ap Ok (append-nil ms)
+    ap (λ a. before_numbers a (Ok [])) r ∙ ap Ok (append-nil ms)
     ∙ ap (λ (l : List ℤ). Ok (l ++ ms)) none
 numbers-more bytes (g ∷ fs) f ns ms e r =
     let parts = joined-parts (numbers_at bytes g) (numbers_of bytes fs) ns e in
-    ap (λ a. both_numbers a (numbers_of bytes (fs ++ f ∷ []))) parts.2
-    ∙ ap (both_numbers (Ok parts.0)) (numbers-more bytes fs f parts.1 ms parts.3 r)
+    ap (λ a. before_numbers a (numbers_of bytes (fs ++ f ∷ []))) parts.2
+    ∙ ap (before_numbers (Ok parts.0)) (numbers-more bytes fs f parts.1 ms parts.3 r)
     ∙ ap Ok (sym (append_assoc parts.0 parts.1 ms)) ∙ ap (λ (l : List ℤ). Ok (l ++ ms)) parts.4
 
 -- the first field that can't be read is the whole's refusal
@@ -38,11 +39,11 @@ numbers-fail : (bytes : List ℕ) (fs rest : List FieldRecord) (f : FieldRecord)
     (ns : List ℤ)
     → numbers_of bytes fs ≡ Ok ns → numbers_at bytes f ≡ Err refusal
     → numbers_of bytes (fs ++ f ∷ rest) ≡ Err refusal
-numbers-fail bytes [] rest f refusal ns e r = ap (λ a. both_numbers a (numbers_of bytes rest)) r
+numbers-fail bytes [] rest f refusal ns e r = ap (λ a. before_numbers a (numbers_of bytes rest)) r
 numbers-fail bytes (g ∷ fs) rest f refusal ns e r =
     let parts = joined-parts (numbers_at bytes g) (numbers_of bytes fs) ns e in
-    ap (λ a. both_numbers a (numbers_of bytes (fs ++ f ∷ rest))) parts.2
-    ∙ ap (both_numbers (Ok parts.0)) (numbers-fail bytes fs rest f refusal parts.1 parts.3 r)
+    ap (λ a. before_numbers a (numbers_of bytes (fs ++ f ∷ rest))) parts.2
+    ∙ ap (before_numbers (Ok parts.0)) (numbers-fail bytes fs rest f refusal parts.1 parts.3 r)
 
 -- the numbers so far and those of the next field
 pub values-next : (bytes : List ℕ) (fs : List Field) (i : ℕ) (x : Field) (ns ms new : List ℤ)

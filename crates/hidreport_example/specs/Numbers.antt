@@ -1,10 +1,11 @@
 -- The values in a report, as the library's example gives them.
-use Rattle.std.specs.Prelude.{ℕ, ℤ, List, [], ◌∷◌, ◌++◌, map, Option, None, Some, Result, Ok, Err}
+use Rattle.std.specs.Prelude.{ℕ, ℤ, List, [], ◌∷◌, map, Option, None, Some, Result, Ok, Err}
 use Rattle.std.specs.Int.{w32, cast_signed}
 use Rattle.hidreport.specs.Answer.{Refusal}
 use Rattle.hidreport.specs.Lookup.{find_report}
 use Rattle.hidreport.specs.Meaning.{parse}
 use Rattle.hidreport.specs.Reading.{ValueRecord, reads}
+use Rattle.hidreport.specs.Reader.{before_numbers}
 use Rattle.hidreport.specs.Records.{FieldRecord, ReportRecord, DescriptorRecord}
 
 -- the number of a value
@@ -19,17 +20,10 @@ each_number (Err refusal) = Err refusal
 abbrev pub numbers_at : List ℕ → FieldRecord → Result (List ℤ) Refusal
 numbers_at bytes field = each_number (reads field bytes)
 
--- both; the first refusal is the whole's
-abbrev pub both_numbers : Result (List ℤ) Refusal → Result (List ℤ) Refusal
-    → Result (List ℤ) Refusal
-both_numbers (Err refusal) rest = Err refusal
-both_numbers (Ok ns) (Err refusal) = Err refusal
-both_numbers (Ok ns) (Ok ms) = Ok (ns ++ ms)
-
--- those of all fields, in order
+-- those of all fields, in order; the first refusal is the whole's
 abbrev pub numbers_of : List ℕ → List FieldRecord → Result (List ℤ) Refusal
 numbers_of bytes [] = Ok []
-numbers_of bytes (f ∷ fields) = both_numbers (numbers_at bytes f) (numbers_of bytes fields)
+numbers_of bytes (f ∷ fields) = before_numbers (numbers_at bytes f) (numbers_of bytes fields)
 
 -- none where no input report fits
 abbrev pub found_numbers : List ℕ → Option ReportRecord → Result (List ℤ) Refusal

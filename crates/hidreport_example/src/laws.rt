@@ -6,7 +6,7 @@ ghost use Rattle.hidreport.specs.Itemising.{itemise};
 ghost use Rattle.hidreport.specs.Rebuilt.{items_of};
 ghost use Rattle.hidreport.specs.Segments.{HasNoLocal, HasNoPush, IsMatched, with_segment};
 ghost use Rattle.hidreport.specs.Spelling.{item_of};
-ghost use Rattle.hidreport_example.specs.Laws.{FieldsAreApart};
+ghost use Rattle.hidreport_example.specs.Laws.{FieldsAreApart, IsRebuilt};
 
 use hidreport::hid::{ReportDescriptorItems, rebuild};
 use hidreport::{ParserError, ReportDescriptor};
@@ -20,9 +20,8 @@ pub fn read_again(
     ensures { IfOk result (λ found. IfSome found (λ both. both.0 ≡ both.1)) }
 {
     let first = ReportDescriptor::try_from(alloc, bytes)?;
-    let items = ReportDescriptorItems::try_from(alloc, bytes)?;
-    let rebuilt = rebuild(alloc, bytes)?;
-    if items.as_slice().is_empty() || rebuilt.is_empty() {
+    let rebuilt = rebuilt_of(alloc, bytes)?;
+    if rebuilt.is_empty() {
         return Ok(None);
     }
     let again = ReportDescriptor::try_from(alloc, &rebuilt)?;
@@ -37,13 +36,21 @@ pub fn read_again_globals_only(
     ensures { IfOk result (λ found. IfSome found (λ both. both.0 ≡ both.1)) }
 {
     let first = ReportDescriptor::try_from_globals_only(alloc, bytes)?;
-    let items = ReportDescriptorItems::try_from(alloc, bytes)?;
-    let rebuilt = rebuild(alloc, bytes)?;
-    if items.as_slice().is_empty() || rebuilt.is_empty() {
+    let rebuilt = rebuilt_of(alloc, bytes)?;
+    if rebuilt.is_empty() {
         return Ok(None);
     }
     let again = ReportDescriptor::try_from_globals_only(alloc, &rebuilt)?;
     Ok(Some((first, again)))
+}
+
+/// The rebuilt bytes of a descriptor; no bytes where no item is kept.
+fn rebuilt_of(alloc: Global, bytes: &[u8]) -> Result<Vec<u8>, ParserError>
+    ensures { IfOk result (λ written. IsRebuilt bytes.now written.items) }
+{
+    let _items = ReportDescriptorItems::try_from(alloc, bytes)?;
+    let rebuilt = rebuild(alloc, bytes)?;
+    Ok(rebuilt)
 }
 
 /// A descriptor by both readings of Push: the same where there is no Push.

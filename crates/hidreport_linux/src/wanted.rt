@@ -99,7 +99,7 @@ pub struct Wanted {
 }
 
 impl Wanted {
-    ghost use Rattle.std.specs.Prelude.{◌≡◌, true, false};
+    ghost use Rattle.std.specs.Prelude.{◌≡◌};
     ghost use Rattle.hidreport_linux.specs.Events.{asks, in_output, own, shared, wanted};
 
     /// What a usage asks for, or why it has no event wherever it lies.
@@ -137,34 +137,23 @@ impl Wanted {
     fn own(code: EventCode) -> Result<Wanted, Unmapped>
         ensures { result ≡ own code }
     {
-        Wanted::with_role(code, Role::Plain)
-    }
-
-    /// The same, of a usage that does more.
-    fn with_role(code: EventCode, role: Role) -> Result<Wanted, Unmapped>
-        ensures { result ≡ asks code false role }
-    {
-        Ok(Wanted {
-            code,
-            is_shared: false,
-            role,
-        })
+        Wanted::asks(code, false, Role::Plain)
     }
 
     /// A code that several usages may have.
     fn shared(code: EventCode) -> Result<Wanted, Unmapped>
         ensures { result ≡ shared code }
     {
-        Wanted::shared_with_role(code, Role::Plain)
+        Wanted::asks(code, true, Role::Plain)
     }
 
-    /// The same, of a usage that does more.
-    fn shared_with_role(code: EventCode, role: Role) -> Result<Wanted, Unmapped>
-        ensures { result ≡ asks code true role }
+    /// A code, whether several usages may have it, and what its usage does more.
+    fn asks(code: EventCode, is_shared: bool, role: Role) -> Result<Wanted, Unmapped>
+        ensures { result ≡ asks code is_shared role }
     {
         Ok(Wanted {
             code,
-            is_shared: true,
+            is_shared,
             role,
         })
     }

@@ -1,7 +1,7 @@
 //! The macros of Linux's `hid_report_helpers.h`, of udev-hid-bpf, and the names in their arguments.
 //! Each ends in a comma of its own.
 use crate::macros::bpf_names::{PAGES, usages_on};
-use crate::macros::tinyusb::{header_in, name_in, number_in};
+use crate::macros::lookup::{header_in, number_in};
 use crate::macros::{Arguments, Macro};
 
 /// The macros of one number, by the first byte of their items, which says how many bytes it takes.

@@ -1,5 +1,5 @@
 //! The macros of LUFA's `HIDReportData.h`, which QMK has too, and the names in their arguments.
-use crate::macros::tinyusb::{name_in, number_in};
+use crate::macros::lookup::{flag_in, header_in, name_in, number_in};
 use crate::macros::{Arguments, Macro};
 
 /// The macros, by the first byte of their items without its size.
@@ -51,8 +51,8 @@ static OTHER_FLAGS: [(u32, &str); 6] = [
 
 /// The macro with this name.
 pub fn lufa_macro(name: &str) -> Option<Macro> {
-    let row = MACROS.iter().find(|row| row.1 == name)?;
-    Some(Macro::of(row.0, Arguments::Bits))
+    let header = header_in(&MACROS, name)?;
+    Some(Macro::of(header, Arguments::Bits))
 }
 
 /// The macro of items with this first byte.
@@ -62,13 +62,5 @@ pub fn lufa_name(header: u8) -> Option<&'static str> {
 
 /// The number that a name in an argument stands for.
 pub fn lufa_number(name: &str) -> Option<u32> {
-    for (flag, set, unset) in &LUFA_FLAGS {
-        if *set == name {
-            return Some(*flag);
-        }
-        if *unset == name && !name.is_empty() {
-            return Some(0);
-        }
-    }
-    number_in(&OTHER_FLAGS, name)
+    flag_in(&LUFA_FLAGS, name).or_else(|| number_in(&OTHER_FLAGS, name))
 }

@@ -1,4 +1,5 @@
 //! The macros of TinyUSB's `src/class/hid/hid.h`, and the names in their arguments.
+use crate::macros::lookup::{flag_in, header_in, number_in};
 use crate::macros::{Arguments, Macro};
 
 /// The macros without a number.
@@ -132,38 +133,9 @@ pub fn tinyusb_macro(name: &str) -> Option<Macro> {
 
 /// The number that a name in an argument stands for.
 pub fn tinyusb_number(name: &str) -> Option<u32> {
-    for (flag, set, unset) in &FLAGS {
-        if *set == name {
-            return Some(*flag);
-        }
-        if *unset == name && !name.is_empty() {
-            return Some(0);
-        }
-    }
-    number_in(&OTHER_FLAGS, name)
+    flag_in(&FLAGS, name)
+        .or_else(|| number_in(&OTHER_FLAGS, name))
         .or_else(|| number_in(&KINDS, name))
         .or_else(|| number_in(&PAGES, name))
         .or_else(|| number_in(&DESKTOP, name.strip_prefix("HID_USAGE_DESKTOP_")?))
-}
-
-/// The macro that stands in a table.
-pub fn name_in(table: &[(u8, &'static str)], header: u8) -> Option<&'static str> {
-    for (own, name) in table {
-        if *own == header {
-            return Some(*name);
-        }
-    }
-    None
-}
-
-/// The first byte of the macro with this name in a table.
-pub fn header_in(table: &[(u8, &'static str)], name: &str) -> Option<u8> {
-    let row = table.iter().find(|row| row.1 == name)?;
-    Some(row.0)
-}
-
-/// The number with this name in a table.
-pub fn number_in(table: &[(u32, &'static str)], name: &str) -> Option<u32> {
-    let row = table.iter().find(|row| row.1 == name)?;
-    Some(row.0)
 }

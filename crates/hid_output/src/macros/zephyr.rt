@@ -1,5 +1,5 @@
 //! The macros of Zephyr's `include/zephyr/usb/class/hid.h`, and the names in their arguments.
-use crate::macros::tinyusb::number_in;
+use crate::macros::lookup::{header_in, name_in, number_in};
 use crate::macros::{Arguments, Macro};
 
 /// The macros, by the first byte of their items. (For a Feature not every version has one.)
@@ -50,12 +50,12 @@ pub fn zephyr_macro(name: &str) -> Option<Macro> {
     if name == ITEM {
         return Some(Macro::of(0, Arguments::Item));
     }
-    let row = MACROS.iter().find(|row| row.1 == name)?;
-    let count = match row.0 & 3 {
+    let header = header_in(&MACROS, name)?;
+    let count = match header & 3 {
         3 => 4,
         size => size,
     };
-    Some(Macro::of(row.0, Arguments::Bytes(count)))
+    Some(Macro::of(header, Arguments::Bytes(count)))
 }
 
 /// The number that a name in an argument stands for.
@@ -65,10 +65,5 @@ pub fn zephyr_number(name: &str) -> Option<u32> {
 
 /// The macro of items with this first byte.
 pub fn zephyr_name(header: u8) -> Option<&'static str> {
-    for (own, name) in &MACROS {
-        if *own == header {
-            return Some(*name);
-        }
-    }
-    None
+    name_in(&MACROS, header)
 }

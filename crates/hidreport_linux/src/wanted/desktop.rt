@@ -64,7 +64,7 @@ fn direction(usage: u32, place: &Place) -> Result<Wanted, Unmapped>
     ensures { result ≡ direction usage place.now }
 {
     if is_direction(usage) {
-        Wanted::with_role(EventCode::absolute(0x10), Role::Direction)
+        Wanted::asks(EventCode::absolute(0x10), false, Role::Direction)
     } else if usage == 0x0001_009b {
         listed_or_ignored(usage)
     } else {
@@ -94,7 +94,7 @@ fn control(usage: u32, place: &Place) -> Result<Wanted, Unmapped>
         0x0001_0036 => own_axis(6, place),
         0x0001_0037 => own_axis(7, place),
         0x0001_0038 => wheel(place),
-        0x0001_0039 => Wanted::with_role(EventCode::absolute(0x10), Role::Hat),
+        0x0001_0039 => Wanted::asks(EventCode::absolute(0x10), false, Role::Hat),
         _ => rarer_control(usage, place),
     }
 }
@@ -107,7 +107,7 @@ fn rarer_control(usage: u32, place: &Place) -> Result<Wanted, Unmapped>
     if is_start_or_select(usage) {
         listed_or_ignored(usage)
     } else if is_of_radios(usage, place) {
-        Wanted::shared_with_role(EventCode::key(0xf7), Role::Radio)
+        Wanted::asks(EventCode::key(0xf7), true, Role::Radio)
     } else {
         other(place)
     }
@@ -142,11 +142,12 @@ fn axis(number: u16, place: &Place) -> Result<Wanted, Unmapped>
 fn own_axis(number: u16, place: &Place) -> Result<Wanted, Unmapped>
     ensures { result ≡ own_axis number place.now }
 {
-    if place.is_relative {
-        Wanted::own(EventCode::relative(number))
+    let code = if place.is_relative {
+        EventCode::relative(number)
     } else {
-        Wanted::own(EventCode::absolute(number))
-    }
+        EventCode::absolute(number)
+    };
+    Wanted::own(code)
 }
 
 /// Z, which is the distance of a pen.
@@ -174,7 +175,7 @@ fn wheel(place: &Place) -> Result<Wanted, Unmapped>
     ensures { result ≡ wheel place.now }
 {
     if place.is_relative {
-        Wanted::with_role(EventCode::relative(0x0b), Role::Wheel)
+        Wanted::asks(EventCode::relative(0x0b), false, Role::Wheel)
     } else {
         Wanted::own(EventCode::absolute(0x08))
     }

@@ -17,10 +17,10 @@ pub(crate) fn digitizer(usage: u32, place: &Place) -> Result<Wanted, Unmapped>
     let low = usage % 0x100;
     match low {
         0x00 => Err(Unmapped::Ignored),
-        0x30 => Wanted::shared_with_role(EventCode::absolute(0x18), Role::Pressure),
+        0x30 => Wanted::asks(EventCode::absolute(0x18), true, Role::Pressure),
         0x32 => in_range(place),
         0x3b => Err(Unmapped::Battery),
-        0x45 => Wanted::shared_with_role(EventCode::key(0x14a), Role::Eraser),
+        0x45 => Wanted::asks(EventCode::key(0x14a), true, Role::Eraser),
         _ => listed_or_other(0x000d_0000 + low, place),
     }
 }

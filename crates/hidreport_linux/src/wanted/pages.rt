@@ -155,8 +155,8 @@ fn consumer(usage: u32) -> Result<Wanted, Unmapped>
 {
     match usage {
         0x000c_0000 => Err(Unmapped::Ignored),
-        0x000c_00e0 => Wanted::shared_with_role(EventCode::absolute(0x20), Role::Volume),
-        0x000c_0238 => Wanted::with_role(EventCode::relative(0x0c), Role::SideWheel),
+        0x000c_00e0 => Wanted::asks(EventCode::absolute(0x20), true, Role::Volume),
+        0x000c_0238 => Wanted::asks(EventCode::relative(0x0c), false, Role::SideWheel),
         _ => listed_or_unknown(usage),
     }
 }

@@ -1,18 +1,11 @@
-use Rattle.std.proofs.Common.{◌∙◌, ◌++◌, ap, length, sym, ◌+◌}
-use Rattle.hidreport.specs.Meaning.{at_offset, meaning_globals_only}
 use Rattle.hidreport.specs.Options.{globals_only_options, reading_of}
-use Rattle.hidreport_example.proofs.LawLemmas.{means-moved, one, parse-items}
+use Rattle.hidreport_example.proofs.LawLemmas.{parse-items, without-segment}
 use Rattle.hidreport_example.proofs.laws.read_globals_without_segment.Goals as goal
 
 pub returns : goal.returns
 returns c = λ entries others front inside rest i j matched none is are.
-    let meant = meaning_globals_only (front ++ rest) in
-    let first = sym (c.in_ok-first.ensures.struck entries front inside rest i matched none is)
-    ∙ c.in_ok-first.ensures.exact in
-    let second = sym (ap (λ xs. at_offset others (meaning_globals_only xs)) are)
-    ∙ parse-items (reading_of globals_only_options) c.args.without.now others c.in_ok-second.second j
-    c.in_ok-second.ensures.exact in
-    one (at_offset others meant) c.in_ok-first.first c.in_ok-second.second
-    (means-moved meant (length front) (length inside + 2) entries others c.in_ok-first.first
-    first)
-    second
+    without-segment globals_only_options c.args.bytes.now entries others front inside rest
+    c.in_ok-first.first c.in_ok-second.second c.in_ok-first.ensures.struck i matched none is are
+    c.in_ok-first.ensures.exact
+    (parse-items (reading_of globals_only_options) c.args.without.now others c.in_ok-second.second j
+    c.in_ok-second.ensures.exact)

@@ -1,0 +1,36 @@
+//! Macros and names in their tables.
+
+/// The macro that stands in a table.
+pub fn name_in(table: &[(u8, &'static str)], header: u8) -> Option<&'static str> {
+    for (own, name) in table {
+        if *own == header {
+            return Some(*name);
+        }
+    }
+    None
+}
+
+/// The first byte of the macro with this name in a table.
+pub fn header_in(table: &[(u8, &'static str)], name: &str) -> Option<u8> {
+    let row = table.iter().find(|row| row.1 == name)?;
+    Some(row.0)
+}
+
+/// The number with this name in a table.
+pub fn number_in(table: &[(u32, &'static str)], name: &str) -> Option<u32> {
+    let row = table.iter().find(|row| row.1 == name)?;
+    Some(row.0)
+}
+
+/// The flag that a name in a table says is set, or 0 where it says that one isn't.
+pub fn flag_in(table: &[(u32, &'static str, &'static str)], name: &str) -> Option<u32> {
+    for (flag, set, unset) in table {
+        if *set == name {
+            return Some(*flag);
+        }
+        if *unset == name && !name.is_empty() {
+            return Some(0);
+        }
+    }
+    None
+}
