@@ -162,6 +162,20 @@ module _ (name : List ℕ) where
       let rest = or_last f name (130 * 65536) (65280 * 65536) None (at 65280 e) (omega arith) (none_within 130 65280 below_vendors) (vendor_last e he) in
       or_last f name 0 (130 * 65536) (option_or (option_or (option_or (at 9 a) (at 10 b)) (at 16 c)) (at 129 d)) (at 65280 e) (omega arith) page129 rest
 
+-- where one of two rules gives each name, the first number of one is the first of both, if that of
+-- the other isn't before it
+stays_first : (f g h : ℕ → Option (List ℕ)) (name : List ℕ) (m k : ℕ) → ((n : ℕ) → h n ≡ Some name → (f n ≡ Some name) ⊎ (g n ≡ Some name))
+    → ((n : ℕ) → f n ≡ Some name → h n ≡ Some name) → m ≤ k → IsFirstNamed f name 0 (Some m) → IsFirstNamed g name 0 (Some k)
+    → IsFirstNamed h name 0 (Some m)
+stays_first f g h name m k from own le x y = (
+  omega arith,
+  own m x.1,
+  λ n ln e. elim (from n e) [
+    | inl l ↦ x.2 n ln l
+    | inr r ↦ omega (arith, le, y.2 n ln r)
+  ],
+)
+
 -- the first of two names' numbers, where one of two rules gives each name
 pub lower_first : (f g h : ℕ → Option (List ℕ)) (name : List ℕ) (a b : Option ℕ)
     → ((n : ℕ) → h n ≡ Some name → (f n ≡ Some name) ⊎ (g n ≡ Some name))
@@ -190,22 +204,12 @@ lower_first f g h name (Some m) None from left right x y = (
 lower_first f g h name (Some m) (Some k) from left right x y = elim (cases_lt k m) [
   | inl second ↦
       let e : lower (Some m) (Some k) ≡ Some k = grind (arith, nat_tests, second) in
-      subst (IsFirstNamed h name 0) (sym e) (
-        omega arith,
-        right k y.1,
-        λ n ln e. elim (from n e) [
-          | inl l ↦ omega (arith, second, x.2 n ln l)
-          | inr r ↦ y.2 n ln r
-        ],
-      )
+      let turned : (n : ℕ) → h n ≡ Some name → (g n ≡ Some name) ⊎ (f n ≡ Some name) = λ n named. elim (from n named) [
+        | inl l ↦ inr l
+        | inr r ↦ inl r
+      ] in
+      subst (IsFirstNamed h name 0) (sym e) (stays_first g f h name k m turned right (omega (arith, second)) y x)
   | inr first ↦
       let e : lower (Some m) (Some k) ≡ Some m = grind (arith, nat_tests, first) in
-      subst (IsFirstNamed h name 0) (sym e) (
-        omega arith,
-        left m x.1,
-        λ n ln e. elim (from n e) [
-          | inl l ↦ x.2 n ln l
-          | inr r ↦ omega (arith, first, y.2 n ln r)
-        ],
-      )
+      subst (IsFirstNamed h name 0) (sym e) (stays_first f g h name m k from left first x y)
 ]

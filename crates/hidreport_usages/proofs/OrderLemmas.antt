@@ -1,5 +1,5 @@
 -- How the rows of a table stand by name.
-use Rattle.std.proofs.Common.{◌≡◌, ℕ, zero, suc, ◌+◌, ◌/◌, ◌<◌, ◌≤◌, Bool, true, false, nat_lt, nat_eq, List, [], ◌∷◌}
+use Rattle.std.proofs.Common.{◌≡◌, ℕ, zero, suc, ◌+◌, ◌-◌, ◌/◌, ◌<◌, ◌≤◌, Bool, true, false, nat_lt, nat_eq, List, [], ◌∷◌}
 use Rattle.std.proofs.Common.{length, slice_index, slice_index_or, refl, sym, ap, subst, ◌∙◌, arith, inl, inr}
 use Rattle.std.specs.Cmp.{IsTotalOrder}
 use Rattle.std.specs.Ordering.{is_lt, ordering_then}
@@ -123,3 +123,22 @@ module _ (rows : List Row) (places : List ℕ) (stands : IsNameOrder rows places
     | inl later ↦ not_less (row_at rows (slice_index places m)) (row_at rows (slice_index places k)) key (stands.rising m k later within) h
     | inr here ↦ let e : m ≡ k = omega (arith, here, from) in subst (λ n. is_lt (order (row_at rows (slice_index places n)) key) ≡ false) e h
   ]
+
+-- a search tests the row in the middle of those that are left: where it stands before the row, all
+-- up to it do; where it doesn't, none from it on does
+module _ (rows : List Row) (places : List ℕ) (stands : IsNameOrder rows places) (key : Row) (low high : ℕ) (some : low < high)
+    (within : high ≤ length places) (place : ℕ) (told : Bool) (is : place ≡ slice_index places (low + (high - low) / 2))
+    (test : told ≡ is_lt (order (row_at rows place) key)) where
+  half_inside : low + (high - low) / 2 < length places
+  half_inside = omega (arith, some, within)
+
+  half_told : (b : Bool) → told ≡ b → is_lt (order (row_at rows (slice_index places (low + (high - low) / 2))) key) ≡ b
+  half_told b h = ap (λ p. is_lt (order (row_at rows p) key)) (sym is) ∙ sym test ∙ h
+
+  pub before_half : told ≡ true → (k : ℕ) → k < low + (high - low) / 2 + 1
+      → order (row_at rows (slice_index places k)) key ≡ Less
+  before_half h = before_more rows places stands key (low + (high - low) / 2) half_inside (half_told true h)
+
+  pub behind_half : told ≡ false → (k : ℕ) → low + (high - low) / 2 ≤ k → k < length places
+      → is_lt (order (row_at rows (slice_index places k)) key) ≡ false
+  behind_half h = behind_more rows places stands key (low + (high - low) / 2) half_inside (half_told false h)
