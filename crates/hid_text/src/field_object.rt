@@ -1,11 +1,11 @@
 //! A field as JSON: all its public parts.
 use crate::linux::AnswerObject;
-use crate::words::{add_collection_kind, add_name, word_of};
+use crate::words::{FieldNumbers, add_collection_kind, add_name, word_of};
 use anyhow::Result;
 use hid_output::add_json;
 use hidreport::{
-    ArrayField, Collection, Direction, Field, FieldAttributes, RDescReport, Report, Unit,
-    UnitExponent, Usage, VariableField,
+    ArrayField, Collection, Direction, Field, FieldAttributes, RDescReport, Report, Usage,
+    VariableField,
 };
 use serde::Serialize;
 use std::alloc::{AllocError, Global};
@@ -142,11 +142,7 @@ impl FieldObject {
         self.usage = Some(u32::from(field.usage));
         self.usage_page = Some(u16::from(field.usage.usage_page));
         self.usage_id = Some(u16::from(field.usage.usage_id));
-        self.logical_minimum = Some(i32::from(field.logical_minimum));
-        self.logical_maximum = Some(i32::from(field.logical_maximum));
-        self.physical_minimum = field.physical_minimum.map(i32::from);
-        self.physical_maximum = field.physical_maximum.map(i32::from);
-        self.add_unit(field.unit, field.unit_exponent);
+        self.add_numbers(FieldNumbers::of_variable(field));
         self.flags = Some(flags_of(field));
     }
 
@@ -162,18 +158,18 @@ impl FieldObject {
             usages => self.usages = Some(numbers_of(alloc, usages)?),
         }
         self.count = Some(usize::from(field.report_count));
-        self.logical_minimum = Some(i32::from(field.logical_minimum));
-        self.logical_maximum = Some(i32::from(field.logical_maximum));
-        self.physical_minimum = field.physical_minimum.map(i32::from);
-        self.physical_maximum = field.physical_maximum.map(i32::from);
-        self.add_unit(field.unit, field.unit_exponent);
+        self.add_numbers(FieldNumbers::of_array(field));
         self.flags = Some(flags_of(field));
         Ok(())
     }
 
-    fn add_unit(&mut self, unit: Option<Unit>, exponent: Option<UnitExponent>) {
-        self.unit = unit.map(u32::from);
-        self.unit_exponent = exponent.map(|it| it.exponent());
+    fn add_numbers(&mut self, numbers: FieldNumbers) {
+        self.logical_minimum = Some(numbers.logical.0);
+        self.logical_maximum = Some(numbers.logical.1);
+        self.physical_minimum = numbers.physical.0;
+        self.physical_maximum = numbers.physical.1;
+        self.unit = numbers.unit;
+        self.unit_exponent = numbers.exponent.map(|it| it.exponent());
     }
 }
 

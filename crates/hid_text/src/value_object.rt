@@ -17,15 +17,22 @@ struct PhysicalObject {
     unit: Option<u32>,
 }
 
-/// The value of a field with one.
-#[derive(Drop, Serialize)]
-struct ValueObject<'a> {
+/// Where a field with values lies: its report, when that came, and its bits.
+#[derive(Clone, Copy, Drop, Serialize)]
+struct PlaceObject<'a> {
     direction: &'static str,
     report: Option<u8>,
     #[serde(skip_serializing_if = "Option::is_none")]
     time: Option<&'a str>,
     start: usize,
     end: usize,
+}
+
+/// The value of a field with one.
+#[derive(Drop, Serialize)]
+struct ValueObject<'a> {
+    #[serde(flatten)]
+    place: PlaceObject<'a>,
     name: String,
     usage: u32,
     value: Option<i64>,
@@ -47,12 +54,8 @@ struct ElementObject {
 /// The values of an array, as far as there are bytes of them.
 #[derive(Drop, Serialize)]
 struct ArrayObject<'a> {
-    direction: &'static str,
-    report: Option<u8>,
-    #[serde(skip_serializing_if = "Option::is_none")]
-    time: Option<&'a str>,
-    start: usize,
-    end: usize,
+    #[serde(flatten)]
+    place: PlaceObject<'a>,
     count: usize,
     elements: Vec<ElementObject>,
 }
@@ -66,14 +69,20 @@ pub fn add_value_objects(
     time: Option<&str>,
 ) -> Result<()> {
     for field in report.fields() {
-        if bytes.len() <= field.bits().start / 8 {
+        let bits = field.bits();
+        if bytes.len() <= bits.start / 8 {
             return Ok(());
         }
+        let place = PlaceObject {
+            direction: word_of(direction),
+            report: report.report_id().map(u8::from),
+            time,
+            start: bits.start,
+            end: bits.end,
+        };
         match field {
-            Field::Variable(field) => {
-                add_variable(text, direction, report, field, bytes, time)?;
-            }
-            Field::Array(field) => add_array(text, direction, report, field, bytes, time)?,
+            Field::Variable(field) => add_variable(text, place, field, bytes)?,
+            Field::Array(field) => add_array(text, place, field, bytes)?,
             Field::Constant(_) => {}
         }
     }
@@ -82,11 +91,9 @@ pub fn add_value_objects(
 
 fn add_variable(
     text: &mut String,
-    direction: Direction,
-    report: &RDescReport,
+    place: PlaceObject,
     field: &VariableField,
     bytes: &[u8],
-    time: Option<&str>,
 ) -> Result<()> {
     let value = match amount_of(field, bytes) {
         Amount::Number(value) => Some(value),
@@ -94,11 +101,7 @@ fn add_variable(
         Amount::Missing => return Ok(()),
     };
     let object = ValueObject {
-        direction: word_of(direction),
-        report: report.report_id().map(u8::from),
-        time,
-        start: field.bits.start,
-        end: field.bits.end,
+        place,
         name: name_of(*text.allocator(), field.usage)?,
         usage: u32::from(field.usage),
         value,
@@ -134,18 +137,12 @@ fn physical_of(field: &VariableField, value: Option<i64>) -> Option<PhysicalObje
 
 fn add_array(
     text: &mut String,
-    direction: Direction,
-    report: &RDescReport,
+    place: PlaceObject,
     field: &ArrayField,
     bytes: &[u8],
-    time: Option<&str>,
 ) -> Result<()> {
     let object = ArrayObject {
-        direction: word_of(direction),
-        report: report.report_id().map(u8::from),
-        time,
-        start: field.bits.start,
-        end: field.bits.end,
+        place,
         count: usize::from(field.report_count),
         elements: elements_of(*text.allocator(), field, bytes)?,
     };

@@ -3,6 +3,7 @@
 mod depth;
 mod direction;
 mod field_flags;
+mod field_numbers;
 mod field_words;
 mod flag_table;
 mod item_reading;
@@ -14,6 +15,7 @@ mod usage_list;
 pub use depth::{add_depth, add_spaces, indent_of};
 pub use direction::{direction_named, title_of, word_of};
 pub use field_flags::{FLAG_WORDS, FLAGS, flags_of};
+pub use field_numbers::FieldNumbers;
 pub use field_words::{
     add_alike_fields, add_array_name, add_bits, add_field, add_how, add_name, add_name_on_page,
 };

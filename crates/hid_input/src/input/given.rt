@@ -36,6 +36,19 @@ pub struct Device {
     pub is_described: bool,
 }
 
+/// What an input may say of a device beside its descriptor.
+#[derive(Clone, Copy)]
+pub enum Part {
+    /// What it is called.
+    Name,
+
+    /// Where it is plugged in.
+    Place,
+
+    /// Its bus, its vendor and its product.
+    Ids,
+}
+
 /// A report of an input.
 #[derive(Drop)]
 pub struct GivenReport {
@@ -95,6 +108,15 @@ impl Device {
             None => false,
         }
     }
+
+    /// Takes a part of what is said of it.
+    fn set(&mut self, part: Part, text: String) {
+        match part {
+            Part::Name => self.name = Some(text),
+            Part::Place => self.place = Some(text),
+            Part::Ids => self.ids = Some(text),
+        }
+    }
 }
 
 impl GivenReport {
@@ -151,37 +173,13 @@ impl Found {
         Ok(())
     }
 
-    /// Takes a device's name.
-    pub fn set_name(&mut self, number: usize, name: &str) -> Result<()> {
+    /// Takes a part of what the input says of a device.
+    pub fn set(&mut self, number: usize, part: Part, text: &str) -> Result<()> {
         self.add_device(number)?;
         let alloc = *self.devices.allocator();
         for device in self.devices.iter_mut() {
             if device.number == number {
-                device.name = Some(String::from_str(alloc, name)?);
-            }
-        }
-        Ok(())
-    }
-
-    /// Takes where a device is plugged in.
-    pub fn set_place(&mut self, number: usize, place: &str) -> Result<()> {
-        self.add_device(number)?;
-        let alloc = *self.devices.allocator();
-        for device in self.devices.iter_mut() {
-            if device.number == number {
-                device.place = Some(String::from_str(alloc, place)?);
-            }
-        }
-        Ok(())
-    }
-
-    /// Takes a device's bus, vendor and product.
-    pub fn set_ids(&mut self, number: usize, ids: &str) -> Result<()> {
-        self.add_device(number)?;
-        let alloc = *self.devices.allocator();
-        for device in self.devices.iter_mut() {
-            if device.number == number {
-                device.ids = Some(String::from_str(alloc, ids)?);
+                device.set(part, String::from_str(alloc, text)?);
             }
         }
         Ok(())
@@ -204,7 +202,7 @@ impl Found {
             return Ok(device.number);
         }
         let number = self.devices.len();
-        self.set_name(number, name)?;
+        self.set(number, Part::Name, name)?;
         Ok(number)
     }
 

@@ -1,32 +1,24 @@
 //! The parts in which two fields differ, apart from where they lie.
-use crate::words::{FLAG_WORDS, FLAGS, add_collection, add_name, flags_of};
-use hidreport::types::{
-    LogicalMaximum, LogicalMinimum, PhysicalMaximum, PhysicalMinimum, Unit, UnitExponent,
-};
-use hidreport::{ArrayField, Collection, Field, VariableField};
+use crate::words::{FLAG_WORDS, FLAGS, FieldNumbers, add_collection, add_name, flags_of};
+use hidreport::types::UnitExponent;
+use hidreport::{ArrayField, Collection, Field};
 use std::alloc::AllocError;
 use std::fmt::Write;
-
-/// Numbers that a field has beside its usages.
-#[derive(Clone, Copy)]
-struct Numbers {
-    logical: (i32, i32),
-    physical: (Option<i32>, Option<i32>),
-    unit: Option<u32>,
-    exponent: Option<i32>,
-    flags: [bool; FLAGS],
-}
 
 /// Appends each part in which two fields differ but for their ids, as it is in the first and in the
 /// second.
 pub fn add_changes(text: &mut String, first: &Field, second: &Field) -> Result<(), AllocError> {
     match (first, second) {
         (Field::Variable(first), Field::Variable(second)) => {
-            add_numbers(text, variable_numbers(first), variable_numbers(second))?;
+            let before = FieldNumbers::of_variable(first);
+            add_numbers(text, before, FieldNumbers::of_variable(second))?;
+            add_flags(text, &flags_of(first), &flags_of(second))?;
         }
         (Field::Array(first), Field::Array(second)) => {
             add_elements(text, first, second)?;
-            add_numbers(text, array_numbers(first), array_numbers(second))?;
+            let before = FieldNumbers::of_array(first);
+            add_numbers(text, before, FieldNumbers::of_array(second))?;
+            add_flags(text, &flags_of(first), &flags_of(second))?;
         }
         _ => {}
     }
@@ -134,41 +126,12 @@ fn add_path(text: &mut String, collections: &[Collection]) -> Result<(), AllocEr
     Ok(())
 }
 
-fn variable_numbers(field: &VariableField) -> Numbers {
-    numbers_of(
-        (field.logical_minimum, field.logical_maximum),
-        (field.physical_minimum, field.physical_maximum),
-        (field.unit, field.unit_exponent),
-        flags_of(field),
-    )
-}
-
-fn array_numbers(field: &ArrayField) -> Numbers {
-    numbers_of(
-        (field.logical_minimum, field.logical_maximum),
-        (field.physical_minimum, field.physical_maximum),
-        (field.unit, field.unit_exponent),
-        flags_of(field),
-    )
-}
-
-fn numbers_of(
-    logical: (LogicalMinimum, LogicalMaximum),
-    physical: (Option<PhysicalMinimum>, Option<PhysicalMaximum>),
-    unit: (Option<Unit>, Option<UnitExponent>),
-    flags: [bool; FLAGS],
-) -> Numbers {
-    Numbers {
-        logical: (i32::from(logical.0), i32::from(logical.1)),
-        physical: (physical.0.map(i32::from), physical.1.map(i32::from)),
-        unit: unit.0.map(u32::from),
-        exponent: unit.1.map(i32::from),
-        flags,
-    }
-}
-
 /// Appends the numbers that differ.
-fn add_numbers(text: &mut String, before: Numbers, now: Numbers) -> Result<(), AllocError> {
+fn add_numbers(
+    text: &mut String,
+    before: FieldNumbers,
+    now: FieldNumbers,
+) -> Result<(), AllocError> {
     let ((low, high), (low_now, high_now)) = (before.logical, now.logical);
     if (low, high) != (low_now, high_now) {
         write!(text, "; {low} to {high}, now {low_now} to {high_now}")?;
@@ -179,8 +142,7 @@ fn add_numbers(text: &mut String, before: Numbers, now: Numbers) -> Result<(), A
         text.push_str(", now ")?;
         add_physical(text, now.physical)?;
     }
-    add_units(text, before, now)?;
-    add_flags(text, &before.flags, &now.flags)
+    add_units(text, before, now)
 }
 
 fn add_physical(text: &mut String, bounds: (Option<i32>, Option<i32>)) -> Result<(), AllocError> {
@@ -191,7 +153,7 @@ fn add_physical(text: &mut String, bounds: (Option<i32>, Option<i32>)) -> Result
 }
 
 /// Appends a unit and its exponent as numbers, since not every unit has words.
-fn add_units(text: &mut String, before: Numbers, now: Numbers) -> Result<(), AllocError> {
+fn add_units(text: &mut String, before: FieldNumbers, now: FieldNumbers) -> Result<(), AllocError> {
     if before.unit != now.unit {
         text.push_str("; unit ")?;
         add_unit(text, before.unit)?;
@@ -215,11 +177,11 @@ fn add_unit(text: &mut String, unit: Option<u32>) -> Result<(), AllocError> {
 }
 
 /// Appends an exponent, and the number that is written for it where that is another.
-fn add_exponent(text: &mut String, exponent: Option<i32>) -> Result<(), AllocError> {
-    let Some(number) = exponent else {
+fn add_exponent(text: &mut String, exponent: Option<UnitExponent>) -> Result<(), AllocError> {
+    let Some(exponent) = exponent else {
         return text.push_str("unset");
     };
-    let power = UnitExponent::from(number).exponent();
+    let (number, power) = (i32::from(exponent), exponent.exponent());
     if i32::from(power) == number {
         return write!(text, "{power}");
     }

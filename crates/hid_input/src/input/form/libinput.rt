@@ -1,7 +1,7 @@
 //! The text of `libinput record`: of each node `hid:` is a list of its descriptor's bytes, and
 //! `name:` its name. What else stands there is no descriptor and no report.
 use crate::input::form::number_list::NumberList;
-use crate::input::given::Found;
+use crate::input::given::{Found, Part};
 use anyhow::{Result, ensure};
 use std::alloc::Global;
 
@@ -76,7 +76,7 @@ impl LibinputLines {
         self.is_named = true;
         let name = name.strip_prefix("\"").unwrap_or(name);
         let name = name.strip_suffix("\"").unwrap_or(name);
-        found.set_name(self.device(), name)
+        found.set(self.device(), Part::Name, name)
     }
 
     /// Takes the beginning of a list.

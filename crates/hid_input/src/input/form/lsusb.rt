@@ -1,7 +1,7 @@
 //! The text of `lsusb -v`: below `Report Descriptor: (length is N)` the items of a descriptor, each
 //! with its name and its bytes, and what they mean. What else stands there is no descriptor.
 use crate::input::form::hex_text::without_prefix;
-use crate::input::given::Found;
+use crate::input::given::{Found, Part};
 use anyhow::{Result, bail, ensure};
 use std::alloc::Global;
 use std::fmt::Write;
@@ -190,7 +190,7 @@ impl LsusbLines {
         if !self.ids.is_empty() {
             let mut name = String::new(alloc);
             write!(name, "{} interface {}", self.ids, self.interface)?;
-            found.set_name(number, name.as_str())?;
+            found.set(number, Part::Name, name.as_str())?;
         }
         found.add_descriptor(number, bytes)
     }

@@ -4,7 +4,7 @@
 use crate::input::form::Wanted;
 use crate::input::form::number_list::NumberList;
 use crate::input::form::python_string::{add_digit_pairs, add_literal};
-use crate::input::given::{Found, GivenReport};
+use crate::input::given::{Found, GivenReport, Part};
 use anyhow::{Result, bail, ensure};
 use std::alloc::Global;
 use std::mem;
@@ -311,7 +311,7 @@ impl PythonLines {
         }
         let number = found.devices.len();
         if !self.name.is_empty() {
-            found.set_name(number, self.name.as_str())?;
+            found.set(number, Part::Name, self.name.as_str())?;
         }
         found.add_descriptor(number, bytes)
     }

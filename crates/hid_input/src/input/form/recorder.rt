@@ -1,7 +1,7 @@
 //! The lines of hid-recorder: `D:` says which device those behind it are of, `R:` is its
 //! descriptor, `N:` its name, `P:` and `I:` say where and what it is, `E:` is a report.
 use crate::input::form::hex_text::bytes_of_hex;
-use crate::input::given::{Found, GivenReport};
+use crate::input::given::{Found, GivenReport, Part};
 use anyhow::{Result, bail, ensure};
 use std::alloc::Global;
 
@@ -42,9 +42,9 @@ impl RecorderLines {
     fn take_marked(&mut self, found: &mut Found, mark: &str, rest: &str) -> Result<()> {
         match mark {
             "D" => self.take_device(found, rest),
-            "N" => found.set_name(self.device, rest),
-            "P" => found.set_place(self.device, rest),
-            "I" => found.set_ids(self.device, rest),
+            "N" => found.set(self.device, Part::Name, rest),
+            "P" => found.set(self.device, Part::Place, rest),
+            "I" => found.set(self.device, Part::Ids, rest),
             "R" => {
                 let bytes = counted_bytes(*found.devices.allocator(), rest)?;
                 found.add_descriptor(self.device, bytes)

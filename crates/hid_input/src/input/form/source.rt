@@ -3,7 +3,7 @@
 use crate::input::form::Wanted;
 use crate::input::form::hex_text::without_prefix;
 use crate::input::form::item_list::ItemList;
-use crate::input::given::{Found, GivenReport};
+use crate::input::given::{Found, GivenReport, Part};
 use anyhow::{Result, bail, ensure};
 use std::alloc::{AllocError, Global};
 
@@ -178,7 +178,7 @@ impl SourceLines {
             return Ok(found.add_report(GivenReport::new(bytes))?);
         }
         let number = found.devices.len();
-        found.set_name(number, self.name.as_str())?;
+        found.set(number, Part::Name, self.name.as_str())?;
         found.add_descriptor(number, bytes)
     }
 
