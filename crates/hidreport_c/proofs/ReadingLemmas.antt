@@ -161,7 +161,7 @@ among-by f bytes (Ok vs) (Ok more) ns all is h =
       parts = append_assoc ns (map value_number vs) more ∙ whole;
     }
 
-pub among : (fields : List HidreportField) (i : ℕ) (f : HidreportField) (bytes : List ℕ)
+among : (fields : List HidreportField) (i : ℕ) (f : HidreportField) (bytes : List ℕ)
     (ns all : List ℤ) → i < length fields → f ≡ get_or fields i f
     → numbers_in (take i fields) bytes ≡ Ok ns → numbers_in fields bytes ≡ Ok all
     → IsAmong bytes f ns all
@@ -205,6 +205,15 @@ among-next fields i f bytes ns all within is sofar a =
 pub ok-numbers : (r : Result (List ℤ) Refusal) → IsOk r → (all : List ℤ) × (r ≡ Ok all)
 ok-numbers (Ok all) ok = (all, refl)
 ok-numbers (Err e) ok = cc
+
+-- where the values of all fields can be read, those of the field at a place are among them
+pub among-at : (fields : List HidreportField) (i : ℕ) (bytes : List ℕ) (ns : List ℤ)
+    (ok : IsOk (numbers_in fields bytes)) → i < length fields
+    → numbers_in (take i fields) bytes ≡ Ok ns
+    → IsAmong bytes (item fields i) ns (ok-numbers (numbers_in fields bytes) ok).0
+among-at fields i bytes ns ok within sofar =
+    among fields i (item fields i) bytes ns (ok-numbers (numbers_in fields bytes) ok).0 within
+    (item-at fields i within) sofar (ok-numbers (numbers_in fields bytes) ok).1
 
 numbers-place : (fields : List HidreportField) (bytes : List ℕ) (r : Refusal)
     → numbers_in fields bytes ≡ Err r → offset_of r ≡ 0
