@@ -8,7 +8,8 @@ mod zephyr;
 
 use bpf::{bpf_macro, bpf_number};
 pub use bpf::{
-    ANY_COLLECTION, NUMBERS, RANGES, UNITS, bpf_around, page_named, usage_header, usage_named,
+    ANY_COLLECTION, NUMBERS, RANGES, UNITS, bpf_around, is_of_usage, page_named, usage_header,
+    usage_named,
 };
 pub use lookup::name_in;
 pub use lufa::{LUFA_FLAGS, lufa_name};

@@ -6,7 +6,7 @@ use anyhow::Result;
 use hid_output::macros::{NUMBERS, RANGES, UNITS, name_in, page_named, usage_header, usage_named};
 use hid_output::{flush, flush_piece};
 use hid_text::words::add_item;
-use hidreport::hid::{ItemType, MainItem};
+use hidreport::hid::{GlobalItem, ItemType, MainItem};
 use std::alloc::{AllocError, Global};
 use std::fmt::Write;
 
@@ -33,16 +33,10 @@ pub fn write_bpf<R: AllocGlobal + Print>(rt: &R, bytes: &[u8]) -> Result<()> {
         }
         add_tabs(&mut text, depth)?;
         if is_nested && add_around(&mut text, entry.bytes)? {
-            if !is_end(&entry.item) {
-                depth = depth.saturating_add(1);
-            }
+            depth = depth.saturating_add(usize::from(!is_end(&entry.item)));
         } else if add_range(&mut text, entry.bytes, cursor.rest())? {
-            state.pass(&entry)?;
-            let Some(maximum) = cursor.next_item() else {
-                break;
-            };
-            state.pass(&maximum)?;
-            continue;
+            // No bound changes what is written of other items.
+            let _maximum = cursor.next_item();
         } else {
             add_code(&mut text, &entry, &state)?;
         }
@@ -62,7 +56,7 @@ pub fn write_bpf<R: AllocGlobal + Print>(rt: &R, bytes: &[u8]) -> Result<()> {
 fn is_end(item: &ItemType) -> bool {
     match item {
         ItemType::Main(MainItem::EndCollection) => true,
-        ItemType::Global(hidreport::hid::GlobalItem::Pop) => true,
+        ItemType::Global(GlobalItem::Pop) => true,
         _ => false,
     }
 }

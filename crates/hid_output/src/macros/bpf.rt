@@ -32,6 +32,9 @@ pub static RANGES: [(u8, &str); 8] = [
     (0x1a, "UsageRange_i16"),
 ];
 
+/// How often the usages of a page are halved at most: a text of 65,536 bytes is one byte then.
+const MOST_HALVED: usize = 16;
+
 /// The macro around others whose first argument is the kind of the collection.
 pub const ANY_COLLECTION: &str = "Collection";
 
@@ -134,13 +137,34 @@ pub fn page_named(page: u16) -> Option<(&'static str, &'static str)> {
     None
 }
 
-/// The name of a page's usage.
+/// The name of a page's usage: the entries rise by their numbers, so half of them is left each time.
 pub fn usage_named(page: u16, id: u16) -> Option<&'static str> {
-    for entry in usages_on(page).split(" ") {
-        let number = u16::from_str_radix(entry.get(..4).unwrap_or(""), 16);
-        if number == Ok(id) {
+    let usages = usages_on(page);
+    let (mut low, mut high) = (0usize, usages.len());
+    for _ in 0..MOST_HALVED {
+        let middle = low.saturating_add(high.saturating_sub(low) / 2);
+        let begin = match usages.get(low..middle)?.rfind(' ') {
+            Some(place) => low.saturating_add(place),
+            None => low,
+        };
+        let entry = usages.get(begin..)?.strip_prefix(' ')?;
+        let entry = entry.split_once(' ').unwrap_or((entry, "")).0;
+        let number = u16::from_str_radix(entry.get(..4)?, 16).ok()?;
+        if number == id {
             return entry.get(4..);
+        }
+        if number < id {
+            low = begin.saturating_add(entry.len()).saturating_add(1);
+        } else {
+            high = begin;
         }
     }
     None
+}
+
+/// Whether a name is that of a page or a usage, known or not, and of no macro with arguments.
+pub fn is_of_usage(name: &str) -> bool {
+    (name.starts_with("Usage_") || name.starts_with("UsagePage_"))
+        && header_in(&NUMBERS, name).is_none()
+        && name != "UsagePage_Vendor"
 }

@@ -2,7 +2,7 @@
 use crate::input::form::macro_call::{add_call, is_name, value_of};
 use crate::input::form::number_list::NumberList;
 use anyhow::{Result, bail, ensure};
-use hid_output::macros::{ANY_COLLECTION, Arguments, Macro, bpf_around};
+use hid_output::macros::{ANY_COLLECTION, Macro, bpf_around, is_of_usage};
 use std::alloc::Global;
 
 /// The macro behind whose parentheses no comma has to stand, since TinyUSB's has one in itself.
@@ -82,9 +82,7 @@ impl ItemList {
             if self.word.is_empty() {
                 return Ok(());
             }
-            if let Some(known) = Macro::named(self.word.as_str())
-                && let Arguments::Named(_) = known.arguments
-            {
+            if is_of_usage(self.word.as_str()) {
                 return self.take_word();
             }
         }
@@ -206,6 +204,9 @@ fn name_of(word: &str) -> &str {
 
 /// Whether the macro with this name ends in a comma of its own.
 fn ends_in_comma(name: &str) -> bool {
+    if is_of_usage(name) {
+        return true;
+    }
     match Macro::named(name) {
         Some(known) => known.arguments.end_in_comma(),
         None => false,
