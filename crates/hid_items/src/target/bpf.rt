@@ -73,12 +73,9 @@ fn is_nested(alloc: Global, bytes: &[u8]) -> Result<bool, AllocError> {
         match entry.bytes {
             [0xa1, _kind] => ends.push(0xc0u8)?,
             [0xa4] => ends.push(0xb4)?,
-            [end @ (0xc0 | 0xb4)] => {
-                if ends.pop() != Some(*end) {
-                    return Ok(false);
-                }
-            }
-            [header, ..] if matches!(header & 0xfc, 0xa0 | 0xc0 | 0xa4 | 0xb4) => return Ok(false),
+            [0xc0] if ends.pop() == Some(0xc0) => {}
+            [0xb4] if ends.pop() == Some(0xb4) => {}
+            [header, ..] if matches!(*header & 0xfc, 0xa0 | 0xc0 | 0xa4 | 0xb4) => return Ok(false),
             _ => {}
         }
         if ends.len() > DEEPEST {
@@ -157,8 +154,11 @@ fn add_macro(text: &mut String, bytes: &[u8], page: u16) -> Result<bool, AllocEr
         (0x09 | 0x0a, _) => add_usage(text, *header, number, page)?,
         (0x0b, _) => write!(text, "Usage_i32(0x{number:08x})")?,
         (0x65, _) => add_unit(text, number)?,
-        (0x55, [exponent @ 0..=7]) => write!(text, "UnitExponent({exponent})")?,
-        (0x55, [exponent @ 8..=15]) => write!(text, "UnitExponent(-{})", 16 - *exponent)?,
+        (0x55, [exponent]) if *exponent < 8 => write!(text, "UnitExponent({exponent})")?,
+        (0x55, [exponent]) if *exponent < 16 => {
+            let below = 16u8.saturating_sub(*exponent);
+            write!(text, "UnitExponent(-{below})")?;
+        }
         _ => match name_in(&NUMBERS, *header) {
             Some(name) => write!(text, "{name}({number})")?,
             None => return Ok(false),
@@ -188,10 +188,12 @@ fn add_page(text: &mut String, header: u8, number: u32) -> Result<(), AllocError
     {
         return write!(text, "UsagePage_{name}");
     }
-    match (is_short, page) {
-        (true, _) => write!(text, "UsagePage_i8(0x{page:02x})"),
-        (false, 0xff00..) => write!(text, "UsagePage_Vendor(0x{page:04x})"),
-        _ => write!(text, "UsagePage_i16(0x{page:04x})"),
+    if is_short {
+        write!(text, "UsagePage_i8(0x{page:02x})")
+    } else if page < 0xff00 {
+        write!(text, "UsagePage_i16(0x{page:04x})")
+    } else {
+        write!(text, "UsagePage_Vendor(0x{page:04x})")
     }
 }
 
