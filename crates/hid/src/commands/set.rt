@@ -161,19 +161,19 @@ fn placed_name(name: &str) -> Option<(&str, usize)> {
 /// A number in decimal digits, or in hexadecimal ones behind `0x`, with a sign or without; one of
 /// more than 32 bits in decimal digits alone.
 fn number_of(word: &str) -> Option<i64> {
-    let digits = word.strip_prefix("-").unwrap_or(word);
-    let number = match plain_number(digits) {
-        Some(number) => i64::from(number),
-        None if digits.starts_with(|letter: char| matches!(letter, '1'..='9')) => {
-            digits.parse::<i64>().ok()?
-        }
-        None => return None,
-    };
-    Some(if digits.len() < word.len() {
-        -number
-    } else {
-        number
-    })
+    if let Some(digits) = word.strip_prefix("-0x") {
+        return Some(-i64::from(u32::from_str_radix(digits, 16).ok()?));
+    }
+    match plain_number(word) {
+        Some(number) => Some(i64::from(number)),
+        None if is_octal(word.strip_prefix("-").unwrap_or(word)) => None,
+        None => word.parse::<i64>().ok(),
+    }
+}
+
+/// Whether several digits stand behind a 0: they may be octal.
+fn is_octal(digits: &str) -> bool {
+    digits.starts_with('0') && digits.trim_start_matches('0').len() > 1
 }
 
 impl<'a> Written<'a> {
