@@ -62,7 +62,7 @@ options() {
 
 # What a text of the help tells of options: `-h`, `--form bytes|hex|..`, `--device VALUE`.
 helped() {
-    sed -n '/^Options:$/,/^$/p' "$help/$1" | sed -nE '
+    sed -n '/^Options\( of all commands\)\?:$/,/^$/p' "$help/$1" | sed -nE '
         s/^  (-[a-zA-Z]), /\1\n      /
         s/^      (--[a-z-]+) <[A-Z]+> .*\[possible values: ([^]]*)\]$/\1 \2/
         s/^(.*\n)?      (--[a-z-]+) <[A-Z]+> .*/\1\2 VALUE/
@@ -76,7 +76,7 @@ names() {
 
 # The same with what each is for, as `--form bytes|hex|..: WHAT`; the commands, as `decode: WHAT`.
 described() {
-    sed -n '/^Options:$/,/^$/p' "$help/$1" | awk '
+    sed -n '/^Options\( of all commands\)\?:$/,/^$/p' "$help/$1" | awk '
         !/^ / { next }
         {
             values = / <[A-Z]+> / ? " VALUE" : ""

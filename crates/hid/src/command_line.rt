@@ -57,32 +57,27 @@ fn argument_of<'a>(alloc: Global, argument: Argument) -> Arg<'a> {
         Kind::Word => arg.value_name(name).required(true),
         Kind::Words => arg.num_args(0..),
         Kind::Flag => arg.long(name).action(ArgAction::SetTrue),
-        Kind::Setting => arg.long(name).action(ArgAction::SetTrue).global(true),
-        Kind::Number => arg
-            .long(name)
-            .value_name("N")
-            .value_parser(clap::value_parser!(usize))
-            .global(true),
-        Kind::Form => choice(arg, name, "FORM", &FORM_WORDS).global(true),
-        Kind::Push => choice(arg, name, "WHAT", &PUSHES)
-            .default_value("globals")
-            .global(true),
-        Kind::Usages => choice(arg, name, "RULE", &USAGES)
-            .default_value("hosts")
-            .global(true),
-        Kind::Colour => choice(arg, name, "WHEN", &COLOURS)
-            .default_value("auto")
-            .global(true),
+        Kind::Setting => of_all(arg.long(name).action(ArgAction::SetTrue)),
+        Kind::Number => of_all(
+            arg.long(name)
+                .value_name("N")
+                .value_parser(clap::value_parser!(usize)),
+        ),
+        Kind::Form => of_all(choice(arg, name, "FORM", &FORM_WORDS)),
+        Kind::Push => of_all(choice(arg, name, "WHAT", &PUSHES).default_value("globals")),
+        Kind::Usages => of_all(choice(arg, name, "RULE", &USAGES).default_value("hosts")),
+        Kind::Colour => of_all(choice(arg, name, "WHEN", &COLOURS).default_value("auto")),
         Kind::Direction => choice(arg, name, "DIRECTION", &DIRECTIONS).default_value("input"),
         Kind::Host => choice(arg, name, "HOST", &HOSTS),
-        Kind::Folder => arg
-            .long(name)
-            .value_name("DIR")
-            .default_value("/sys")
-            .global(true),
+        Kind::Folder => of_all(arg.long(name).value_name("DIR").default_value("/sys")),
         Kind::Target => choice(arg, name, "TARGET", &TARGETS).default_value("hex"),
         Kind::ReportTarget => choice(arg, name, "TARGET", &REPORT_TARGETS).default_value("hex"),
     }
+}
+
+/// An option that each command has; helps list these by themselves.
+fn of_all(arg: Arg<'_>) -> Arg<'_> {
+    arg.global(true).help_heading("Options of all commands")
 }
 
 /// An option whose value is one of these words.

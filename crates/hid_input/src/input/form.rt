@@ -15,6 +15,7 @@ mod offsets;
 mod python;
 mod python_string;
 mod recorder;
+mod remarks;
 mod source;
 
 use crate::input::form::debugfs::{DebugfsLines, is_debugfs_head};
@@ -31,6 +32,7 @@ use crate::input::form::source::{SourceLines, is_source_line};
 use crate::input::given::Found;
 use anyhow::{Result, ensure};
 pub use hex_text::{bytes_of_hex, is_blank};
+pub use remarks::Remarks;
 use std::alloc::Global;
 
 /// How bytes are written down.
@@ -240,7 +242,7 @@ impl FormLines {
             FormLines::Hex(lines) => lines.end(found),
             FormLines::Recorder(_) | FormLines::Debugfs(_) => Ok(()),
             FormLines::Dump(lines) => lines.end(found),
-            FormLines::Source(lines) => lines.end(),
+            FormLines::Source(lines) => lines.end(found),
             FormLines::Python(lines) => lines.end(),
             FormLines::Offsets(lines) => lines.end(found),
             FormLines::Libinput(lines) => lines.end(),

@@ -1,6 +1,6 @@
 //! A whole input, in the form that is named or the one that it has.
 use crate::input::capture::{is_capture, read_capture};
-use crate::input::form::{Form, FormLines, Wanted, is_blank};
+use crate::input::form::{Form, FormLines, Remarks, Wanted, is_blank};
 use crate::input::given::{Found, Given, GivenReport};
 use anyhow::{Context, Result, bail, ensure};
 use std::alloc::Global;
@@ -26,7 +26,7 @@ pub fn given_of(
     };
     let form = match form {
         Some(form) => form,
-        None => guessed(text)?,
+        None => guessed(alloc, text)?,
     };
     said(alloc, text, form, wanted)
 }
@@ -103,10 +103,11 @@ fn is_text(text: &str) -> bool {
 }
 
 /// The form of a text, by its first two lines that say something; where none does it is hex text.
-fn guessed(text: &str) -> Result<Form> {
+fn guessed(alloc: Global, text: &str) -> Result<Form> {
     let mut first = None;
+    let mut remarks = Remarks::of_hex_text();
     for (number, line) in (1u64..).zip(text.lines()) {
-        if is_blank(line) {
+        if is_blank(line) || first.is_none() && is_remark(alloc, &mut remarks, line)? {
             continue;
         }
         match first {
@@ -118,6 +119,16 @@ fn guessed(text: &str) -> Result<Form> {
         Some((number, first)) => form_of_lines(number, first, ""),
         None => Ok(Form::Hex),
     }
+}
+
+/// Whether a line is in a remark that may go on over lines, or has nothing beside it.
+fn is_remark(alloc: Global, remarks: &mut Remarks, line: &str) -> Result<bool> {
+    if !remarks.may_be_in(line) {
+        return Ok(false);
+    }
+    let mut code = String::new(alloc);
+    remarks.add_code(&mut code, line)?;
+    Ok(is_blank(code.as_str()))
 }
 
 /// The form of a text whose first lines that say something are these; the second may be empty.

@@ -1,6 +1,7 @@
 //! Hex text: bytes in hexadecimal digits.
 use crate::input::form::Wanted;
 use crate::input::form::byte_words::{add_byte_word, add_digits, is_byte_word, is_lone};
+use crate::input::form::remarks::Remarks;
 use crate::input::given::{Found, GivenReport};
 use anyhow::{Result, bail, ensure};
 use hex::FromHexError;
@@ -29,6 +30,7 @@ pub struct HexLines {
     has_marked: bool,
     /// Whether one has none.
     has_plain: bool,
+    remarks: Remarks,
 }
 
 impl HexLines {
@@ -39,11 +41,22 @@ impl HexLines {
             bytes: Vec::new(alloc),
             has_marked: false,
             has_plain: false,
+            remarks: Remarks::of_hex_text(),
         }
     }
 
     /// Takes the bytes of a line.
     pub fn take(&mut self, found: &mut Found, line: &str) -> Result<()> {
+        if !self.remarks.may_be_in(line) {
+            return self.take_code(found, line);
+        }
+        let mut code = String::new(*self.bytes.allocator());
+        self.remarks.add_code(&mut code, line)?;
+        self.take_code(found, code.as_str())
+    }
+
+    /// Takes the bytes of a line without a remark that goes on over lines.
+    fn take_code(&mut self, found: &mut Found, line: &str) -> Result<()> {
         self.check_front(line)?;
         for word in without_remark(line).split(between_bytes) {
             self.check_word(word)?;
@@ -92,6 +105,7 @@ impl HexLines {
 
     /// Takes the descriptor.
     pub fn end(&mut self, found: &mut Found) -> Result<()> {
+        ensure!(!self.remarks.is_inside(), "a remark has no end");
         if self.wanted == Wanted::Reports {
             return Ok(());
         }

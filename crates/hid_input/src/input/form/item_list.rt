@@ -19,7 +19,25 @@ enum Inside {
 
     /// The kind of a collection, and others behind it.
     Kind,
+
+    /// The type that a number is cast to.
+    Cast,
 }
+
+/// The types of C, Java and C# that a number may be cast to.
+static BYTE_TYPES: [&str; 11] = [
+    "byte",
+    "sbyte",
+    "BYTE",
+    "char",
+    "signed char",
+    "unsigned char",
+    "uint8_t",
+    "int8_t",
+    "u8",
+    "__u8",
+    "uint8",
+];
 
 /// The elements of a list so far.
 #[derive(Drop)]
@@ -71,7 +89,7 @@ impl ItemList {
                 self.take_word()?;
                 self.numbers.take_comma()
             }
-            Inside::Arguments => Ok(self.word.push(',')?),
+            Inside::Arguments | Inside::Cast => Ok(self.word.push(',')?),
             Inside::Kind => self.begin_kind(),
         }
     }
@@ -94,6 +112,10 @@ impl ItemList {
     fn take_opening(&mut self) -> Result<()> {
         ensure!(self.inside == Inside::Nothing, "a ( stands in parentheses");
         let name = self.word.as_str().trim();
+        if name.is_empty() {
+            self.inside = Inside::Cast;
+            return Ok(());
+        }
         if name == ANY_COLLECTION {
             self.inside = Inside::Kind;
             self.word.clear();
@@ -114,6 +136,7 @@ impl ItemList {
                 self.word.push(')')?;
                 return self.take_own_comma();
             }
+            Inside::Cast => return self.end_cast(),
             Inside::Kind => self.begin_kind()?,
             Inside::Nothing => {}
         }
@@ -123,6 +146,15 @@ impl ItemList {
         self.take_word()?;
         self.numbers.take_item(")", &[end])?;
         self.numbers.take_comma()
+    }
+
+    /// Takes the type that a number is cast to.
+    fn end_cast(&mut self) -> Result<()> {
+        let name = self.word.as_str().trim();
+        ensure!(BYTE_TYPES.contains(&name), "({name}) is no type of a byte");
+        self.inside = Inside::Nothing;
+        self.clear();
+        Ok(())
     }
 
     /// Takes the kind of a collection.
@@ -195,6 +227,22 @@ impl ItemList {
         );
         Ok(self.numbers.taken())
     }
+}
+
+/// Whether elements begin so: with a number, with a type that one is cast to, or with an item.
+pub fn begins_as_element(text: &str) -> bool {
+    text.starts_with(|letter: char| letter.is_ascii_digit() || letter == '(')
+        || begins_as_item(text)
+}
+
+/// Whether a text begins with an item in a macro that is known.
+pub fn begins_as_item(text: &str) -> bool {
+    let is_behind = |letter: char| letter.is_whitespace() || matches!(letter, '(' | ',');
+    let name = text.split(is_behind).next().unwrap_or("");
+    name == ANY_COLLECTION
+        || is_of_usage(name)
+        || Macro::named(name).is_some()
+        || bpf_around(name).is_some()
 }
 
 /// A macro's name, without its arguments.

@@ -12,6 +12,9 @@ pub struct NumberList {
     is_behind_number: bool,
     /// Whether no comma has to stand behind it.
     may_lack_comma: bool,
+    /// Whether a number so far is below 0, and whether one is past 127: no byte can be both.
+    has_signed: bool,
+    has_great: bool,
 }
 
 impl NumberList {
@@ -21,6 +24,8 @@ impl NumberList {
             bytes: Vec::new(alloc),
             is_behind_number: false,
             may_lack_comma: false,
+            has_signed: false,
+            has_great: false,
         }
     }
 
@@ -78,11 +83,25 @@ impl NumberList {
     /// Takes a number.
     pub fn take_number(&mut self, word: &str) -> Result<()> {
         self.begin(word)?;
-        check_digits(word)?;
-        match byte_of(word) {
-            Some(byte) => Ok(self.bytes.push(byte)?),
-            None => bail!("{word} is no byte"),
+        check_digits(word.strip_prefix("-").unwrap_or(word))?;
+        let Some(byte) = byte_of(word) else {
+            bail!("{word} is no byte");
+        };
+        if word.starts_with("-") {
+            self.has_signed = true;
+        } else if byte > 127 {
+            self.has_great = true;
         }
+        ensure!(
+            !self.has_signed || !self.has_great,
+            "{word} stands in a list that has both numbers below 0 and past 127"
+        );
+        Ok(self.bytes.push(byte)?)
+    }
+
+    /// Whether a number so far is below 0.
+    pub fn has_signed(&self) -> bool {
+        self.has_signed
     }
 
     /// The bytes so far; the list has none from here on.
@@ -90,6 +109,8 @@ impl NumberList {
         let alloc = *self.bytes.allocator();
         self.is_behind_number = false;
         self.may_lack_comma = false;
+        self.has_signed = false;
+        self.has_great = false;
         mem::replace(&mut self.bytes, Vec::new(alloc))
     }
 }
@@ -135,8 +156,12 @@ fn is_octal(word: &str) -> bool {
         && !matches!(digits, "" | "1" | "2" | "3" | "4" | "5" | "6" | "7")
 }
 
-/// The byte that a number writes.
+/// The byte that a number writes, one below 0 as its two's complement.
 fn byte_of(word: &str) -> Option<u8> {
+    if word.starts_with("-") {
+        let number = word.parse::<i8>().ok()?;
+        return u8::try_from(i16::from(number) & 0xff).ok();
+    }
     match without_prefix(word) {
         Some(digits) if !digits.starts_with("+") => u8::from_str_radix(digits, 16).ok(),
         Some(_signed) => None,

@@ -295,6 +295,10 @@ impl PythonLines {
         let alloc = *self.strings.allocator();
         self.is_behind_list = true;
         let strings = mem::replace(&mut self.strings, Vec::new(alloc));
+        ensure!(
+            self.call == Call::Nothing || !self.numbers.has_signed(),
+            "bytes of Python have no sign"
+        );
         let numbers = self.numbers.taken();
         ensure!(
             !self.is_tuple || numbers.len() != 1,

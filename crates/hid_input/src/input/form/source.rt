@@ -1,14 +1,24 @@
-//! Arrays of C, Rust and Go, as `hid convert` writes them: a declaration with a list of numbers or
-//! macros in braces or brackets, and remarks behind `//` or between `/*` and `*/`.
+//! Arrays of C, Rust, Go, Java and C#, as `hid convert` writes them: a declaration with a list of
+//! numbers or macros in braces or brackets, and remarks of C. Where no declaration stands first, the
+//! elements of one alone.
 use crate::input::form::Wanted;
 use crate::input::form::hex_text::without_prefix;
-use crate::input::form::item_list::ItemList;
+use crate::input::form::item_list::{ItemList, begins_as_element, begins_as_item};
+use crate::input::form::remarks::Remarks;
 use crate::input::given::{Found, GivenReport, Part};
 use anyhow::{Result, bail, ensure};
-use std::alloc::{AllocError, Global};
+use std::alloc::Global;
 
-/// What may stand before a list: in Rust a `&` or `vec!`, in Go its type.
-static BEFORE_LIST: [&str; 6] = ["&", "vec!", "[]byte", "[]uint8", "[...]byte", "[...]uint8"];
+/// What may stand before a list: in Rust a `&` or `vec!`, in Go its type, in Java and C# `new`.
+static BEFORE_LIST: [&str; 7] = [
+    "&",
+    "vec!",
+    "[]byte",
+    "[]uint8",
+    "[...]byte",
+    "[...]uint8",
+    "new byte[]",
+];
 
 /// Types of C, Rust and Go that are wider than a byte.
 static WIDER: [&str; 20] = [
@@ -20,10 +30,10 @@ static WIDER: [&str; 20] = [
 #[derive(Drop)]
 pub struct SourceLines {
     wanted: Wanted,
-    /// How many arrays are read.
-    read: usize,
-    is_in_remark: bool,
+    remarks: Remarks,
     is_in_list: bool,
+    /// Whether the list is elements alone, which end with the input.
+    is_bare: bool,
     /// Whether the list of the declaration in the line before is still to begin.
     is_declared: bool,
     /// The name of the array, and how many bytes it says that it has.
@@ -36,7 +46,8 @@ pub struct SourceLines {
 
 /// Whether a line is the first of an array, or of a remark.
 pub fn is_source_line(line: &str) -> bool {
-    if line.trim().starts_with("/*") {
+    let text = line.trim();
+    if text.starts_with("/*") || begins_as_item(text) {
         return true;
     }
     match line.split_once("=") {
@@ -54,7 +65,7 @@ fn is_declaration(declared: &str, list: &str) -> bool {
 fn begun_list(text: &str) -> Option<&str> {
     let mut text = text.trim();
     for word in BEFORE_LIST {
-        text = text.strip_prefix(word).unwrap_or(text);
+        text = text.strip_prefix(word).unwrap_or(text).trim();
     }
     match text.strip_prefix("{") {
         Some(list) => Some(list),
@@ -67,9 +78,9 @@ impl SourceLines {
     pub fn new(alloc: Global, wanted: Wanted) -> SourceLines {
         SourceLines {
             wanted,
-            read: 0,
-            is_in_remark: false,
+            remarks: Remarks::of_source(),
             is_in_list: false,
+            is_bare: false,
             is_declared: false,
             name: String::new(alloc),
             said: None,
@@ -82,7 +93,7 @@ impl SourceLines {
     pub fn take(&mut self, found: &mut Found, line: &str) -> Result<()> {
         let alloc = *found.devices.allocator();
         let mut code = String::new(alloc);
-        self.is_in_remark = add_code(&mut code, line, self.is_in_remark)?;
+        self.remarks.add_code(&mut code, line)?;
         let code = code.as_str().trim();
         if code.is_empty() {
             return Ok(());
@@ -97,7 +108,7 @@ impl SourceLines {
             return pass_directive(directive.trim());
         }
         let Some((declared, list)) = code.split_once("=") else {
-            bail!("is no declaration of bytes");
+            return self.take_bare(found, code);
         };
         if is_declaration(declared, list) {
             self.is_declared = true;
@@ -108,6 +119,18 @@ impl SourceLines {
         }
         self.begin(alloc, declared)?;
         self.take_first(found, list)
+    }
+
+    /// Takes the first elements of a list that no declaration stands before.
+    fn take_bare(&mut self, found: &mut Found, code: &str) -> Result<()> {
+        let list = code.strip_prefix("{").unwrap_or(code).trim();
+        ensure!(
+            self.count.is_none() && (list.is_empty() || begins_as_element(list)),
+            "is no declaration of bytes"
+        );
+        self.is_bare = true;
+        self.is_in_list = true;
+        self.take_list(found, list)
     }
 
     /// Takes the beginning of a list.
@@ -122,13 +145,8 @@ impl SourceLines {
 
     /// Takes the name of an array, and the number of its bytes.
     fn begin(&mut self, alloc: Global, declared: &str) -> Result<()> {
-        let before = match declared.split_once(":") {
-            Some((name, _type)) => name,
-            None => declared.split_once("[").unwrap_or((declared, "")).0,
-        };
         check_type(declared)?;
-        let name = before.split_whitespace().last().unwrap_or("");
-        self.name = String::from_str(alloc, name)?;
+        self.name = String::from_str(alloc, name_in(declared))?;
         self.said = said_in(declared);
         Ok(())
     }
@@ -149,7 +167,7 @@ impl SourceLines {
 
     /// Takes the number of the bytes of the last array, which `xxd -i` writes behind it.
     fn take_length(&mut self, declared: &str, number: &str) -> Result<()> {
-        let name = declared.split_whitespace().last().unwrap_or("");
+        let name = last_word(declared);
         let own = name
             .strip_suffix("_len")
             .or_else(|| name.strip_suffix("_LEN"));
@@ -178,12 +196,18 @@ impl SourceLines {
             return Ok(found.add_report(GivenReport::new(bytes))?);
         }
         let number = found.devices.len();
-        found.set(number, Part::Name, self.name.as_str())?;
+        if !self.name.is_empty() {
+            found.set(number, Part::Name, self.name.as_str())?;
+        }
         found.add_descriptor(number, bytes)
     }
 
-    /// Looks whether the last array is whole.
-    pub fn end(&mut self) -> Result<()> {
+    /// Looks whether the last array is whole; elements alone are.
+    pub fn end(&mut self, found: &mut Found) -> Result<()> {
+        ensure!(!self.remarks.is_inside(), "a remark has no end");
+        if self.is_bare && self.is_in_list {
+            return self.take_array(found);
+        }
         ensure!(!self.is_in_list, "the list of bytes has no end");
         ensure!(!self.is_declared, "no list of bytes is behind =");
         Ok(())
@@ -210,6 +234,30 @@ fn check_type(declared: &str) -> Result<()> {
     Ok(())
 }
 
+/// The name that a declaration gives: before `:`, or else before brackets, in Java and C# behind
+/// them.
+fn name_in(declared: &str) -> &str {
+    if let Some((name, type_name)) = declared.split_once(":") {
+        if !type_name.starts_with(":") {
+            return last_word(name);
+        }
+    }
+    let (before, behind) = declared.split_once("[").unwrap_or((declared, ""));
+    let name = last_word(before);
+    if !matches!(name, "byte" | "sbyte") {
+        return name;
+    }
+    match behind.split_once("]") {
+        Some((_count, behind)) => last_word(behind),
+        None => name,
+    }
+}
+
+/// The last word of a text, or an empty one.
+fn last_word(text: &str) -> &str {
+    text.split_whitespace().last().unwrap_or("")
+}
+
 /// The number of bytes that a declaration says in brackets: the last word in them.
 fn said_in(declared: &str) -> Option<usize> {
     let (_before, inner) = declared.split_once("[")?;
@@ -223,31 +271,4 @@ fn said_in(declared: &str) -> Option<usize> {
         Ok(count) => Some(count),
         Err(_wrong) => None,
     }
-}
-
-/// Appends what of a line is in no remark, and answers whether one goes on behind it.
-fn add_code(code: &mut String, line: &str, is_in_remark: bool) -> Result<bool, AllocError> {
-    let mut is_in_remark = is_in_remark;
-    let mut last = ' ';
-    for letter in line.chars() {
-        if is_in_remark {
-            if last == '*' && letter == '/' {
-                is_in_remark = false;
-                last = ' ';
-                continue;
-            }
-        } else if last == '/' && letter == '/' {
-            code.pop();
-            return Ok(false);
-        } else if last == '/' && letter == '*' {
-            code.pop();
-            is_in_remark = true;
-            last = ' ';
-            continue;
-        } else {
-            code.push(letter)?;
-        }
-        last = letter;
-    }
-    Ok(is_in_remark)
 }
