@@ -56,7 +56,7 @@ impl ItemList {
     /// A list without elements.
     pub fn new(alloc: Global) -> ItemList {
         ItemList {
-            numbers: NumberList::new(alloc),
+            numbers: NumberList::new(alloc, true),
             word: String::new(alloc),
             has_space: false,
             inside: Inside::Nothing,

@@ -39,7 +39,7 @@ impl LibinputLines {
             nodes: 0,
             is_named: false,
             is_in_list: false,
-            numbers: NumberList::new(alloc),
+            numbers: NumberList::new(alloc, false),
         }
     }
 

@@ -12,18 +12,21 @@ pub struct NumberList {
     is_behind_number: bool,
     /// Whether no comma has to stand behind it.
     may_lack_comma: bool,
-    /// Whether a number so far is below 0, and whether one is past 127: no byte can be both.
+    /// Whether numbers may be below 0, as bytes of Java are.
+    may_be_signed: bool,
+    /// Whether one so far is below 0, and whether one is past 127: no list of bytes has both.
     has_signed: bool,
     has_great: bool,
 }
 
 impl NumberList {
-    /// A list without numbers.
-    pub fn new(alloc: Global) -> NumberList {
+    /// A list without numbers; `may_be_signed` says whether some may be below 0.
+    pub fn new(alloc: Global, may_be_signed: bool) -> NumberList {
         NumberList {
             bytes: Vec::new(alloc),
             is_behind_number: false,
             may_lack_comma: false,
+            may_be_signed,
             has_signed: false,
             has_great: false,
         }
@@ -88,6 +91,7 @@ impl NumberList {
             bail!("{word} is no byte");
         };
         if word.starts_with("-") {
+            ensure!(self.may_be_signed, "{word} is no byte");
             self.has_signed = true;
         } else if byte > 127 {
             self.has_great = true;
@@ -97,11 +101,6 @@ impl NumberList {
             "{word} stands in a list that has both numbers below 0 and past 127"
         );
         Ok(self.bytes.push(byte)?)
-    }
-
-    /// Whether a number so far is below 0.
-    pub fn has_signed(&self) -> bool {
-        self.has_signed
     }
 
     /// The bytes so far; the list has none from here on.

@@ -124,7 +124,7 @@ impl PythonLines {
             name: String::new(alloc),
             call: Call::Nothing,
             is_tuple: false,
-            numbers: NumberList::new(alloc),
+            numbers: NumberList::new(alloc, false),
             strings: Vec::new(alloc),
         }
     }
@@ -295,10 +295,6 @@ impl PythonLines {
         let alloc = *self.strings.allocator();
         self.is_behind_list = true;
         let strings = mem::replace(&mut self.strings, Vec::new(alloc));
-        ensure!(
-            self.call == Call::Nothing || !self.numbers.has_signed(),
-            "bytes of Python have no sign"
-        );
         let numbers = self.numbers.taken();
         ensure!(
             !self.is_tuple || numbers.len() != 1,
