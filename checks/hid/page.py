@@ -275,8 +275,8 @@ def look_at_reports(folder):
     same("bytes of no field", ["03", "03 01 00 10 00 04 01 00"],
          [sample["bytes"] for sample in page.blocks["samples"]])
     same("short and long reports", [
-        "1 reports have fewer bytes than the descriptor says; what is missing isn't shown",
-        "1 reports have more bytes than the descriptor says; what no field has isn't shown"],
+        "1 report has fewer bytes than the descriptor says; what is missing isn't shown",
+        "1 report has more bytes than the descriptor says; what no field has isn't shown"],
          [note["note"] for note in page.blocks["notes"]])
     with open(stream, "w", encoding="utf-8") as out:
         out.write("05 00\n06\n")

@@ -2,7 +2,7 @@
 use crate::finding::{Finding, Source, tell};
 use crate::local_usages::LocalUsages;
 use hid_items::items::Globals;
-use hid_text::words::add_usage_on_page;
+use hid_text::words::{add_usage_on_page, plural};
 use hidreport::Usage;
 use std::alloc::{AllocError, Global};
 use std::fmt::Write;
@@ -37,13 +37,22 @@ impl DataItem {
         }
     }
 
+    /// What may be meant by a maximum below the minimum, where an item may have a byte more.
+    fn hint_of(&self, low: i32, high: i32) -> &'static str {
+        if 0 <= low && high < 0 && self.globals.maximum_size < 5 {
+            ": without a sign it takes a byte more"
+        } else {
+            ""
+        }
+    }
+
     /// Notes that the logical maximum is below the minimum, and what may be meant.
     fn tell_bounds(&self, findings: &mut Vec<Finding>) -> Result<(), AllocError> {
         let (low, high) = (self.globals.minimum, self.globals.maximum);
         if low <= high {
             return Ok(());
         }
-        let hint = hint_of(low, high);
+        let hint = self.hint_of(low, high);
         let alloc = *findings.allocator();
         let remark = format!(in alloc; "the maximum {high} is below the minimum {low}{hint}")?;
         let offset = Some(self.globals.maximum_offset);
@@ -57,9 +66,9 @@ impl DataItem {
         if high < low || holds(size, low < 0, high) {
             return Ok(());
         }
-        let plural = if size == 1 { "" } else { "s" };
+        let s = plural(size);
         let alloc = *findings.allocator();
-        let remark = format!(in alloc; "the maximum {high} takes more than {size} bit{plural}")?;
+        let remark = format!(in alloc; "the maximum {high} takes more than {size} bit{s}")?;
         let offset = Some(self.globals.maximum_offset);
         tell(findings, offset, &remark, Source::GlobalItems)
     }
@@ -75,14 +84,15 @@ impl DataItem {
         tell(findings, Some(self.offset), &remark, Source::GlobalItems)
     }
 
-    /// Notes that there are more usages than buttons or keys of one bit.
+    /// Notes that there are more usages than switches of one bit.
     fn tell_usages(&self, findings: &mut Vec<Finding>) -> Result<(), AllocError> {
         let (usages, count) = (self.usages.count, self.globals.count);
-        if usages <= count as u64 || self.globals.size != 1 {
+        if usages <= count as u64 || self.globals.size != 1 || !self.is_variable {
             return Ok(());
         }
         let alloc = *findings.allocator();
-        let remark = format!(in alloc; "{usages} usages for {count} fields")?;
+        let s = plural(count);
+        let remark = format!(in alloc; "{usages} usages for {count} field{s}")?;
         let offset = Some(self.usages.first_offset);
         tell(findings, offset, &remark, Source::LocalItems)
     }
@@ -98,8 +108,8 @@ impl DataItem {
             return Ok(());
         }
         let alloc = *findings.allocator();
-        let plural = if usages == 1 { "" } else { "s" };
-        let mut remark = format!(in alloc; "{usages} usage{plural} for {count} fields: ")?;
+        let s = if usages == 1 { "" } else { "s" };
+        let mut remark = format!(in alloc; "{usages} usage{s} for {count} fields: ")?;
         remark.push_str(if usages == 1 {
             "each is "
         } else {
@@ -143,15 +153,6 @@ impl DataItem {
 /// Whether a usage is an axis or a wheel of Generic Desktop, X to Hat Switch.
 fn is_axis(usage: &Usage) -> bool {
     (0x1_0030..=0x1_0039).contains(&u32::from(usage))
-}
-
-/// What may be meant by a maximum below the minimum.
-fn hint_of(low: i32, high: i32) -> &'static str {
-    if 0 <= low && high < 0 {
-        ": without a sign it takes a byte more"
-    } else {
-        ""
-    }
 }
 
 /// Whether so many bits, signed or not, hold a number above the least that they hold; no bits are

@@ -6,6 +6,7 @@ use crate::local_usages::LocalUsages;
 use crate::other_usages::tell_other_usages;
 use crate::report_findings::tell_reports;
 use hid_input::settings::Settings;
+use hid_items::cut_data::cut_remark;
 use hid_items::item_lines::{offset_of, remark_of};
 use hid_items::items::{ItemCursor, ItemState, PlacedItem};
 use hidreport::hid::{CollectionItem, GlobalItem, ItemFlags, ItemType, MainDataItem, MainItem};
@@ -94,6 +95,12 @@ impl Watch {
     /// Goes over an item.
     fn pass(&mut self, entry: &PlacedItem) -> Result<(), AllocError> {
         let offset = entry.offset;
+        if let Some(remark) = cut_remark(self.alloc, entry)? {
+            self.tell(offset, &remark, section_of(&entry.item))?;
+            if matches!(entry.item, ItemType::Global(_)) {
+                return Ok(());
+            }
+        }
         match entry.item {
             ItemType::Main(item) => self.pass_main(offset, item),
             ItemType::Global(item) => self.pass_global(offset, &item),
@@ -220,5 +227,15 @@ impl Watch {
             }
         }
         Ok(())
+    }
+}
+
+/// Where the standard says what an item's data is.
+fn section_of(item: &ItemType) -> Source {
+    match item {
+        ItemType::Main(MainItem::Collection(_)) => Source::CollectionItems,
+        ItemType::Main(_) => Source::DataItems,
+        ItemType::Global(_) => Source::GlobalItems,
+        _ => Source::LocalItems,
     }
 }

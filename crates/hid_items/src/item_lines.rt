@@ -1,4 +1,5 @@
 //! The lines of a descriptor's items, in words or as JSON.
+use crate::cut_data::cut_remark;
 use crate::items::{ItemCursor, ItemState, PlacedItem};
 use crate::moved_usages::StoodUsages;
 use anyhow::Result;
@@ -97,6 +98,9 @@ impl<'a> ItemLines<'a> {
         };
         add_entry(text, self.style, &entry, &self.state)?;
         let page = self.state.page();
+        if let Some(remark) = cut_remark(*text.allocator(), &entry)? {
+            add_remark(text, self.style, entry.offset, remark.as_str())?;
+        }
         if let Some(remark) = self.stood.remark(*text.allocator(), &entry.item, page)? {
             add_remark(text, self.style, entry.offset, remark.as_str())?;
         }

@@ -72,6 +72,8 @@ pub struct Globals {
     pub maximum: i32,
     /// Where the logical maximum stands.
     pub maximum_offset: usize,
+    /// How many bytes its item has.
+    pub maximum_size: usize,
     /// The physical minimum, 0 where none was said.
     pub physical_minimum: i32,
     /// The physical maximum, 0 where none was said.
@@ -112,6 +114,7 @@ impl ItemState {
                 minimum: 0,
                 maximum: 0,
                 maximum_offset: 0,
+                maximum_size: 0,
                 physical_minimum: 0,
                 physical_maximum: 0,
                 exponent: 0,
@@ -149,12 +152,17 @@ impl ItemState {
                 let _ = self.open.pop();
                 Ok(())
             }
-            ItemType::Global(item) => self.pass_global(entry.offset, &item),
+            ItemType::Global(item) => self.pass_global(entry.offset, entry.bytes.len(), &item),
             _ => Ok(()),
         }
     }
 
-    fn pass_global(&mut self, offset: usize, item: &GlobalItem) -> Result<(), AllocError> {
+    fn pass_global(
+        &mut self,
+        offset: usize,
+        size: usize,
+        item: &GlobalItem,
+    ) -> Result<(), AllocError> {
         let globals = &mut self.globals;
         match item {
             GlobalItem::UsagePage(page) => globals.page = *page,
@@ -162,6 +170,7 @@ impl ItemState {
             GlobalItem::LogicalMaximum(number) => {
                 globals.maximum = i32::from(number);
                 globals.maximum_offset = offset;
+                globals.maximum_size = size;
             }
             GlobalItem::PhysicalMinimum(number) => globals.physical_minimum = i32::from(number),
             GlobalItem::PhysicalMaximum(number) => globals.physical_maximum = i32::from(number),

@@ -3,6 +3,7 @@
 //! Licence: MIT (LICENSE).
 #![tactic(auto)]
 
+pub mod cut_data;
 pub mod item_lines;
 pub mod items;
 mod moved_usages;

@@ -13,12 +13,10 @@ use crate::target::webhid::collections_of;
 use anyhow::Result;
 use hid_input::parsing::parsed;
 use hid_input::settings::Settings;
-use hid_output::{add_bytes, flush, flush_piece};
+use hid_output::{add_bytes, flush, flush_piece, show_bytes};
 pub use report_target::{REPORT_TARGETS, ReportTarget};
 use std::alloc::AllocError;
-use std::fmt::Write as FmtWrite;
-use std::io;
-use std::io::Write;
+use std::fmt::Write;
 
 /// The names of the targets.
 pub static TARGETS: [&str; 13] = [
@@ -111,7 +109,7 @@ impl Target {
 
 /// Writes bytes as they are.
 fn write_bytes<R: Print>(rt: &R, bytes: &[u8]) -> Result<()> {
-    Ok(io::writer(rt).write_all(bytes)?)
+    show_bytes(rt, bytes)
 }
 
 /// Appends lines of sixteen bytes.

@@ -6,7 +6,7 @@
 pub mod html;
 pub mod macros;
 
-use anyhow::Result;
+use anyhow::{Context, Result};
 use serde::Serialize;
 use std::alloc::{AllocError, Global};
 use std::fmt::Write as FmtWrite;
@@ -18,7 +18,12 @@ const PIECE: usize = 65_536;
 
 /// Writes a text.
 pub fn show<R: Print>(rt: &R, text: &str) -> Result<()> {
-    Ok(io::writer(rt).write_all(text.as_bytes())?)
+    show_bytes(rt, text.as_bytes())
+}
+
+/// Writes bytes.
+pub fn show_bytes<R: Print>(rt: &R, bytes: &[u8]) -> Result<()> {
+    Ok(io::writer(rt).write_all(bytes).context("standard output")?)
 }
 
 /// Writes what was gathered, and keeps nothing of it.

@@ -103,8 +103,9 @@ impl LeftOut {
             add_json(&mut sheet.lines, &NoteObject { note })?;
         }
         sheet.take(rt)?;
-        for (count, words) in self.counts() {
+        for (count, one, words) in self.counts() {
             if count != 0 {
+                let words = if count == 1 { one } else { words };
                 let note = format!(in rt.alloc(); "{count} {words}")?;
                 let note = note.as_str();
                 add_json(&mut sheet.lines, &NoteObject { note })?;
@@ -115,22 +116,37 @@ impl LeftOut {
         Ok(sheet.end()?)
     }
 
-    /// What is said, each behind a number.
-    fn counts(&self) -> [(usize, &'static str); 6] {
+    /// What is said, each behind a number: of one, and of several.
+    fn counts(&self) -> [(usize, &'static str, &'static str); 6] {
         [
             (
                 self.bytes,
+                "more byte of items: --all puts it into the page",
                 "more bytes of items: --all puts them into the page",
             ),
-            (self.fields, "more fields: --all puts them into the page"),
-            (self.reports, "more reports: --all puts them into the page"),
-            (self.unknown, "reports aren't of this descriptor"),
+            (
+                self.fields,
+                "more field: --all puts it into the page",
+                "more fields: --all puts them into the page",
+            ),
+            (
+                self.reports,
+                "more report: --all puts it into the page",
+                "more reports: --all puts them into the page",
+            ),
+            (
+                self.unknown,
+                "report isn't of this descriptor",
+                "reports aren't of this descriptor",
+            ),
             (
                 self.short,
+                "report has fewer bytes than the descriptor says; what is missing isn't shown",
                 "reports have fewer bytes than the descriptor says; what is missing isn't shown",
             ),
             (
                 self.long,
+                "report has more bytes than the descriptor says; what no field has isn't shown",
                 "reports have more bytes than the descriptor says; what no field has isn't shown",
             ),
         ]

@@ -11,7 +11,7 @@ mod rows;
 mod same_reports;
 mod svg;
 
-use crate::words::title_of;
+use crate::words::{plural, title_of, word_of};
 use anyhow::Result;
 pub use block::Block;
 pub use choices::{add_choice, add_choices};
@@ -38,7 +38,7 @@ pub fn add_title(
     }
 }
 
-/// Appends the reports of a direction, each by its id.
+/// Appends which reports of a direction there are: their ids, and whether one has none.
 pub fn add_reports(
     text: &mut String,
     descriptor: &ReportDescriptor,
@@ -48,25 +48,69 @@ pub fn add_reports(
     if reports.is_empty() {
         return text.push_str("none");
     }
-    let mut gap = "";
+    let mut gap = if reports.len() == 1 { "id " } else { "ids " };
+    let mut has_none = false;
     for report in reports {
-        text.push_str(gap)?;
         match report.report_id() {
-            Some(id) => write!(text, "{id}")?,
-            None => text.push_str("-")?,
+            Some(id) => {
+                write!(text, "{gap}{id}")?;
+                gap = ", ";
+            }
+            None => has_none = true,
         }
-        gap = ", ";
     }
-    Ok(())
+    match (has_none, reports.len()) {
+        (false, _) => Ok(()),
+        (true, 1) => text.push_str("one without an id"),
+        (true, _) => text.push_str(" and one without"),
+    }
+}
+
+/// Says on standard error where a direction has reports with an id and one without, of which bytes
+/// don't tell which they are (Section 5.6).
+pub fn tell_mixed<R: Eprint>(
+    rt: &R,
+    descriptor: &ReportDescriptor,
+    direction: Direction,
+) -> Result<()> {
+    let reports = descriptor.reports(direction);
+    let mut with_id = reports.iter().filter(|report| report.report_id().is_some());
+    let mut without = reports.iter().filter(|report| report.report_id().is_none());
+    if with_id.next().is_none() || without.next().is_none() {
+        return Ok(());
+    }
+    let word = word_of(direction);
+    let is_first = reports
+        .first()
+        .is_some_and(|report| report.report_id().is_none());
+    let way = if is_first {
+        "all bytes are read as the one without"
+    } else {
+        "none are read as the one without"
+    };
+    Ok(eprintln!(rt; "hid: {word} reports with an id and one without (Section 5.6): {way}")?)
+}
+
+/// Says on standard error how many reports are of none of the descriptors, if any is.
+pub fn tell_unknown<R: Eprint>(rt: &R, count: u64) -> Result<()> {
+    match count {
+        0 => Ok(()),
+        1 => Ok(eprintln!(rt; "hid: 1 report isn't of this descriptor")?),
+        _ => Ok(eprintln!(rt; "hid: {count} reports aren't of this descriptor")?),
+    }
 }
 
 /// Says on standard error where a report has more bytes or fewer than it should.
 pub fn tell_size<R: Eprint>(rt: &R, report: &RDescReport, bytes: &[u8]) -> Result<()> {
     let (wanted, got) = (report.size_in_bytes(), bytes.len());
     if got < wanted {
-        eprintln!(rt; "hid: the report has {got} bytes of {wanted}; what is missing isn't shown")?;
+        let s = plural(got);
+        eprintln!(rt;
+            "hid: the report has {got} byte{s} of {wanted}; what is missing isn't shown"
+        )?;
     } else if wanted < got {
-        eprintln!(rt; "hid: the report has {got} bytes, and only {wanted} are of it")?;
+        let (s, verb) = (plural(got), if wanted == 1 { "is" } else { "are" });
+        eprintln!(rt; "hid: the report has {got} byte{s}, of which {wanted} {verb} read")?;
     }
     Ok(())
 }

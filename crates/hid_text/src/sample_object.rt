@@ -8,9 +8,6 @@ use serde::Serialize;
 use std::alloc::{AllocError, Global};
 use std::fmt::Write;
 
-/// What stands behind a value that no usage has.
-const UNLISTED: &str = ", which no usage has";
-
 /// A report: of each field, as far as it has bytes, the values, none of padding and of more bits
 /// than a number has, and words for them where a number alone doesn't say it.
 #[derive(Drop, Serialize)]
@@ -89,7 +86,7 @@ fn words_of(alloc: Global, field: &Field, bytes: &[u8]) -> Result<String, AllocE
     match field {
         Field::Variable(field) => add_variable(&mut words, field, bytes)?,
         Field::Array(field) => {
-            if !add_choices(&mut words, field, bytes, "", UNLISTED)? {
+            if !add_choices(&mut words, field, bytes, "", true)? {
                 words.push_str("none")?;
             }
         }

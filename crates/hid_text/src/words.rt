@@ -10,6 +10,7 @@ mod item_reading;
 mod item_words;
 mod naming;
 mod physical;
+mod plural;
 mod usage_list;
 
 pub use depth::{add_depth, add_spaces, indent_of};
@@ -26,3 +27,4 @@ pub use naming::{
     CUT, add_collection, add_collection_kind, add_page, add_usage, add_usage_on_page, shortened,
 };
 pub use physical::{add_measured, measured_value};
+pub use plural::plural;

@@ -8,6 +8,7 @@ use hid_input::settings::Settings;
 use hid_output::{escaped, flush, flush_piece};
 use hid_text::field_object::add_field_object;
 use hid_text::report::{Block, SameReports, add_title, field_lines};
+use hid_text::words::plural;
 use hidreport::{Direction, RDescReport, Report, ReportDescriptor};
 use std::alloc::AllocError;
 use std::fmt::Write;
@@ -147,6 +148,6 @@ pub(crate) fn add_head_of(
 /// Appends how many bits and bytes a report has.
 fn add_size(text: &mut String, report: &RDescReport) -> Result<(), AllocError> {
     let (bits, bytes) = (report.size_in_bits(), report.size_in_bytes());
-    let plural = if bytes == 1 { "" } else { "s" };
-    write!(text, ": {bits} bits, {bytes} byte{plural}")
+    let (one, other) = (plural(bits), plural(bytes));
+    write!(text, ": {bits} bit{one}, {bytes} byte{other}")
 }

@@ -7,7 +7,7 @@ use hid_input::parsing::parsed;
 use hid_input::settings::Settings;
 use hid_output::{add_json, escaped, flush};
 use hid_text::report::add_title;
-use hid_text::words::word_of;
+use hid_text::words::{plural, word_of};
 use hidreport::{Direction, RDescReport, Report, ReportDescriptor};
 use serde::Serialize;
 use std::alloc::{AllocError, Global};
@@ -38,41 +38,51 @@ struct DeviceObject<'a> {
     driver: &'a str,
     input: &'a [String],
     reports: Option<Vec<ReportObject>>,
+    #[serde(skip_serializing_if = "Option::is_none")]
+    refused: Option<String>,
 }
 
 impl List {
     /// Shows each device.
     pub fn run<R: World>(&self, rt: &R, settings: &Settings) -> Result<Ending> {
+        // A machine without HID devices has the folder all the same.
+        let _ = fs::read_dir(rt, settings.sysfs).context(format_args!("{}", settings.sysfs))?;
         let devices = machine_devices(rt, settings.sysfs)?;
         let mut text = String::new(rt.alloc());
+        let mut ending = Ending::Done;
         for device in devices.iter() {
-            add_device(rt, settings, &mut text, device)?;
+            if !add_device(rt, settings, &mut text, device)? {
+                ending = Ending::Refused;
+            }
             flush(rt, &mut text)?;
         }
-        Ok(Ending::Done)
+        Ok(ending)
     }
 }
 
-/// Appends what is known of a device.
+/// Appends what is known of a device, and answers whether its descriptor is read.
 fn add_device<R: AllocGlobal + Files + Clone + Drop + Input>(
     rt: &R,
     settings: &Settings,
     text: &mut String,
     device: &MachineDevice,
-) -> Result<()> {
+) -> Result<bool> {
     let folder = folder_of(rt.alloc(), settings.sysfs, device.number)?;
     let input = input_nodes(rt, folder.as_str())?;
     let path = format!(in rt.alloc(); "{folder}/report_descriptor")?;
     let bytes = bytes_named(rt, path.as_str()).context(format_args!("{path}"))?;
     let descriptor = parsed(rt.alloc(), settings, &bytes);
+    let is_read = descriptor.is_ok();
     if settings.is_json {
-        return add_object(text, device, &input, descriptor.ok().as_ref());
+        add_object(text, device, &input, descriptor)?;
+        return Ok(is_read);
     }
     add_head(text, device, &input)?;
     match &descriptor {
-        Ok(descriptor) => Ok(add_reports(text, descriptor)?),
-        Err(error) => Ok(writeln!(text, "  refused: {error:#}")?),
+        Ok(descriptor) => add_reports(text, descriptor)?,
+        Err(error) => writeln!(text, "  refused: {error:#}")?,
     }
+    Ok(is_read)
 }
 
 /// Appends the lines that name a device.
@@ -113,7 +123,8 @@ fn add_reports(text: &mut String, descriptor: &ReportDescriptor) -> Result<(), A
             text.push_str("  ")?;
             add_title(text, direction, report)?;
             let bits = report.size_in_bits();
-            writeln!(text, ": {bits} bits")?;
+            let s = plural(bits);
+            writeln!(text, ": {bits} bit{s}")?;
         }
     }
     Ok(())
@@ -124,14 +135,14 @@ fn add_object(
     text: &mut String,
     device: &MachineDevice,
     input: &[String],
-    descriptor: Option<&ReportDescriptor>,
+    descriptor: Result<ReportDescriptor>,
 ) -> Result<()> {
     let alloc = *text.allocator();
     let number = device.number;
     let node = format!(in alloc; "/dev/hidraw{number}")?;
-    let reports = match descriptor {
-        Some(descriptor) => Some(report_objects(alloc, descriptor)?),
-        None => None,
+    let (reports, refused) = match descriptor {
+        Ok(descriptor) => (Some(report_objects(alloc, &descriptor)?), None),
+        Err(error) => (None, Some(format!(in alloc; "{error:#}")?)),
     };
     let object = DeviceObject {
         node: node.as_str(),
@@ -142,6 +153,7 @@ fn add_object(
         driver: device.driver.as_str(),
         input,
         reports,
+        refused,
     };
     add_json(text, &object)
 }

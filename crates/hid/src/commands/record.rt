@@ -7,8 +7,9 @@ use hid_input::input::{Form, Given, GivenReport, Stream, descriptors_named, is_n
 use hid_input::parsing::all_parsed;
 use hid_input::settings::Settings;
 use hid_output::{add_bytes, escaped, flush};
-use hid_text::report::{Lines, tell_size};
+use hid_text::report::{Lines, tell_mixed, tell_size, tell_unknown};
 use hid_text::value_object::add_value_objects;
+use hid_text::words::plural;
 use hidreport::{Direction, ReportDescriptor};
 use std::alloc::AllocError;
 use std::fmt::Write;
@@ -165,6 +166,9 @@ fn follow<R: AllocGlobal + Clock + Print + Eprint, I: Read + Drop>(
     let Some(descriptor) = known.first() else {
         bail!("has no descriptor");
     };
+    for descriptor in known {
+        tell_mixed(rt, descriptor, Direction::Input)?;
+    }
     let begun = Instant::now(rt)?;
     let mut piece = vec![in rt.alloc(); 0u8; PIECE]?;
     for _ in 0..u64::MAX {
@@ -270,11 +274,10 @@ impl<'a> Recording<'a> {
     fn end<R: Eprint>(&self, rt: &R, left: usize) -> Result<Ending> {
         let unknown = self.unknown;
         if left != 0 {
-            eprintln!(rt; "hid: the last {left} bytes are no whole report")?;
+            let (s, verb) = (plural(left), if left == 1 { "is" } else { "are" });
+            eprintln!(rt; "hid: the last {left} byte{s} {verb} no whole report")?;
         }
-        if unknown != 0 {
-            eprintln!(rt; "hid: {unknown} reports aren't of this descriptor")?;
-        }
+        tell_unknown(rt, unknown)?;
         Ok(if left == 0 && unknown == 0 {
             Ending::Done
         } else {

@@ -3,19 +3,22 @@ use crate::commands::field_names::show_names;
 use crate::ending::Ending;
 use crate::wanted_usage::WantedUsage;
 use crate::world::World;
-use anyhow::{Context, Result, anyhow, bail};
+use anyhow::{Context, Result, anyhow, bail, ensure};
 use hid_input::parsing::descriptor_by;
 use hid_input::settings::Settings;
 use hid_items::target::ReportTarget;
 use hid_output::escaped;
 use hid_text::nearest::add_nearest;
-use hid_text::report::{Choice, add_reports, choice_of, is_outside};
-use hid_text::words::{add_usage, plain_number, word_of};
+use hid_text::report::{Choice, add_reports, choice_of, element_width, is_outside};
+use hid_text::words::{add_usage, plain_number, plural, word_of};
 use hidreport::{
     ArrayField, Direction, Field, FieldAttributes, RDescReport, Report, ReportDescriptor, ReportId,
     Usage, VariableField,
 };
 use std::alloc::Global;
+
+/// The most bits of a number.
+const WIDEST: usize = 32;
 
 /// Writes the bytes of a report.
 #[derive(Drop)]
@@ -44,6 +47,8 @@ struct Written<'a> {
     bytes: Vec<u8>,
     /// How many elements of each field are set.
     used: Vec<usize>,
+    /// Whether words are only looked at: those by which a key isn't pressed.
+    is_checking: bool,
 }
 
 /// A name with a number, as `X#2=5`.
@@ -93,6 +98,10 @@ impl<'a> Set<'a> {
         for word in self.words.iter() {
             self.put(rt, &mut written, word)
                 .context(format_args!("{word}"))?;
+        }
+        written.is_checking = true;
+        for word in self.words.iter() {
+            written.check(word).context(format_args!("{word}"))?;
         }
         written.tell_pressed(rt)?;
         self.target.write(rt, &written.bytes)
@@ -190,6 +199,7 @@ impl<'a> Written<'a> {
             report,
             bytes,
             used: vec![in alloc; 0usize; report.fields().len()]?,
+            is_checking: false,
         })
     }
 
@@ -208,7 +218,9 @@ impl<'a> Written<'a> {
                 before -= 1;
                 continue;
             }
-            put_number(field, &mut self.bytes, used, usage, assignment.number)?;
+            if !self.is_checking || matches!(field, Field::Array(_)) {
+                put_number(field, &mut self.bytes, used, usage, assignment.number)?;
+            }
             return Ok(Some(field));
         }
         Ok(None)
@@ -227,6 +239,17 @@ impl<'a> Written<'a> {
             }
         }
         Ok(())
+    }
+
+    /// Refuses a word by which a key isn't pressed that another one presses.
+    fn check(&mut self, word: &str) -> Result<()> {
+        match assignment_of(word) {
+            Some(assignment) if assignment.number == 0 => {
+                self.put(assignment)?;
+                Ok(())
+            }
+            _ => Ok(()),
+        }
     }
 
     /// Puts a number into the field that is named, and answers that.
@@ -311,10 +334,23 @@ fn put_number(
     number: i64,
 ) -> Result<()> {
     match field {
-        Field::Variable(field) => Ok(field.insert(bytes, number)?),
+        Field::Variable(field) => put_value(field, bytes, used, number),
         Field::Array(field) => put_key(field, bytes, used, usage, number),
         Field::Constant(_) => Ok(()),
     }
+}
+
+/// Puts a number into a field with one value that no name has set yet.
+fn put_value(field: &VariableField, bytes: &mut [u8], used: &mut usize, number: i64) -> Result<()> {
+    let width = field.bits.len();
+    ensure!(
+        width <= WIDEST,
+        "it has {width} bits, too many for a number"
+    );
+    ensure!(*used == 0, "it is set twice");
+    field.insert(bytes, number)?;
+    *used = 1;
+    Ok(())
 }
 
 /// Puts a key into the next element of an array, if it isn't in one yet.
@@ -325,13 +361,23 @@ fn put_key(
     usage: Usage,
     number: i64,
 ) -> Result<()> {
+    let (width, count) = (element_width(field), usize::from(field.report_count));
+    ensure!(
+        width <= WIDEST,
+        "its elements have {width} bits, too many for a number"
+    );
     let Some(value) = field.value_of(usage) else {
         bail!("no value stands for it");
     };
     let is_pressed = has_value(field, bytes, *used, value);
     match number {
-        0 if is_pressed => bail!("a word before it presses it"),
+        0 if is_pressed => bail!("another word presses it"),
         1 if !is_pressed => {
+            let s = plural(count);
+            ensure!(
+                *used < count,
+                "{count} element{s} of the array, and all have a key"
+            );
             field.insert_one(bytes, *used, value)?;
             *used = used.saturating_add(1);
             Ok(())

@@ -5,9 +5,9 @@ use crate::world::World;
 use anyhow::{Result, bail, ensure};
 use hid_input::input::{Device, Given, GivenReport, descriptor_named};
 use hid_input::settings::Settings;
+use hid_output::show_bytes;
+use hid_text::report::tell_unknown;
 use std::alloc::{AllocError, Global};
-use std::io;
-use std::io::Write;
 
 /// The types of events: one that makes a device, one with an input report, and one that ends it.
 const CREATE2: u32 = 11;
@@ -53,7 +53,7 @@ impl<'a> Uhid<'a> {
         };
         check_reports(&given)?;
         create(rt, device)?;
-        let mut unknown = 0usize;
+        let mut unknown = 0u64;
         for report in given.reports.iter() {
             if given.device_of(given.form, report).is_some() {
                 write_report(rt, report)?;
@@ -62,11 +62,12 @@ impl<'a> Uhid<'a> {
             }
         }
         write_event(rt, begun(rt.alloc(), DESTROY)?)?;
-        if unknown != 0 {
-            eprintln!(rt; "hid: {unknown} reports aren't of this descriptor")?;
-            return Ok(Ending::Refused);
-        }
-        Ok(Ending::Done)
+        tell_unknown(rt, unknown)?;
+        Ok(if unknown == 0 {
+            Ending::Done
+        } else {
+            Ending::Refused
+        })
     }
 }
 
@@ -90,9 +91,9 @@ fn create<R: AllocGlobal + Print + Eprint>(rt: &R, device: &Device) -> Result<()
     };
     let ids = ids_of(device)?;
     let mut event = begun(rt.alloc(), CREATE2)?;
-    add_text(rt, &mut event, device.name.as_deref(), NAME)?;
-    add_text(rt, &mut event, device.place.as_deref(), PLACE)?;
-    add_text(rt, &mut event, None, SERIAL)?;
+    add_text(rt, &mut event, device.name.as_deref(), "name", NAME)?;
+    add_text(rt, &mut event, device.place.as_deref(), "place", PLACE)?;
+    add_zeros(&mut event, NAME + PLACE + SERIAL + 4)?;
     event.extend_from_slice(&size.to_le_bytes())?;
     event.extend_from_slice(&ids.bus.to_le_bytes())?;
     // Behind the ids stand the device's version and its country, which no recording has.
@@ -130,7 +131,7 @@ fn begun(alloc: Global, kind: u32) -> Result<Vec<u8>, AllocError> {
 fn write_event<R: Print>(rt: &R, event: Vec<u8>) -> Result<()> {
     let mut event = event;
     add_zeros(&mut event, EVENT)?;
-    Ok(io::writer(rt).write_all(&event)?)
+    show_bytes(rt, &event)
 }
 
 /// Appends zeros, up to a number of bytes.
@@ -142,12 +143,18 @@ fn add_zeros(event: &mut Vec<u8>, size: usize) -> Result<(), AllocError> {
 }
 
 /// Appends a text in so many bytes, of which the last is 0; says where it is cut.
-fn add_text<R: Eprint>(rt: &R, event: &mut Vec<u8>, text: Option<&str>, size: usize) -> Result<()> {
+fn add_text<R: Eprint>(
+    rt: &R,
+    event: &mut Vec<u8>,
+    text: Option<&str>,
+    what: &str,
+    size: usize,
+) -> Result<()> {
     let text = text.unwrap_or("");
     let shown = fitting(text, size);
     if shown.len() != text.len() {
         let (count, most) = (text.len(), shown.len());
-        eprintln!(rt; "hid: of a name of {count} bytes uhid gets {most}")?;
+        eprintln!(rt; "hid: of a {what} of {count} bytes uhid gets {most}")?;
     }
     let end = event.len().saturating_add(size);
     event.extend_from_slice(shown.as_bytes())?;

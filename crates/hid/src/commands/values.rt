@@ -8,8 +8,8 @@ use hid_input::parsing::all_parsed;
 use hid_input::settings::Settings;
 use hid_output::{flush, flush_piece, show};
 use hid_text::report::{
-    Amount, add_choice, add_choices, add_reports, add_title, amount_of, element_width, is_outside,
-    readable, tell_size,
+    Amount, Choice, add_choice, add_choices, add_reports, add_title, amount_of, choice_of,
+    element_width, is_outside, readable, tell_mixed, tell_size,
 };
 use hid_text::value_object::add_value_objects;
 use hid_text::words::{
@@ -20,9 +20,6 @@ use hidreport::{
 };
 use std::alloc::AllocError;
 use std::fmt::Write;
-
-/// What stands behind a value that no usage has.
-const UNLISTED: &str = ", which no usage has";
 
 /// Shows the values of reports.
 #[derive(Drop)]
@@ -69,6 +66,9 @@ impl<'a> Values<'a> {
     ) -> Result<()> {
         let mut text = String::new(rt.alloc());
         let known = all_parsed(rt.alloc(), settings, given)?;
+        for descriptor in known.iter() {
+            tell_mixed(rt, descriptor, self.direction)?;
+        }
         for (report, number) in reports.reports.iter().zip(1u64..) {
             let place = given.place_of(reports.form, report);
             let shown = match place.and_then(|place| known.get(place)) {
@@ -192,7 +192,7 @@ fn add_array(text: &mut String, field: &ArrayField, bytes: &[u8]) -> Result<(), 
         return writeln!(text, ": elements of {width} bits, too many for a number");
     }
     text.push_str(":")?;
-    let is_any = add_choices(text, field, bytes, " ", UNLISTED)?;
+    let is_any = add_choices(text, field, bytes, " ", true)?;
     text.push_str(if is_any { "\n" } else { " none\n" })
 }
 
@@ -219,11 +219,19 @@ fn add_down(text: &mut String, report: &RDescReport, bytes: &[u8]) -> Result<(),
 /// Appends a line with the name of each key of an array that is down.
 fn add_keys(text: &mut String, field: &ArrayField, bytes: &[u8]) -> Result<(), AllocError> {
     for index in 0..readable(field, bytes) {
-        if add_choice(text, field, bytes, index, "", UNLISTED)? {
+        if !means_none(field, bytes, index) && add_choice(text, field, bytes, index, "", true)? {
             text.push_str("\n")?;
         }
     }
     Ok(())
+}
+
+/// Whether an element's value is outside of the bounds.
+fn means_none(field: &ArrayField, bytes: &[u8], index: usize) -> bool {
+    matches!(
+        choice_of(field, bytes, index),
+        Some((_value, Choice::Outside))
+    )
 }
 
 /// Whether a field that is on or off is on.

@@ -109,14 +109,27 @@ impl Device {
         }
     }
 
-    /// Takes a part of what is said of it.
-    fn set(&mut self, part: Part, text: String) {
+    /// Takes a part of what is said of it; one that it has already is taken again if it is the same.
+    fn set(&mut self, part: Part, text: String) -> Result<()> {
+        let number = self.number;
         match part {
-            Part::Name => self.name = Some(text),
-            Part::Place => self.place = Some(text),
-            Part::Ids => self.ids = Some(text),
+            Part::Name => put(&mut self.name, text, number, "name"),
+            Part::Place => put(&mut self.place, text, number, "place"),
+            Part::Ids => put(&mut self.ids, text, number, "ids"),
         }
     }
+}
+
+/// Puts what is said of a device where nothing else is.
+fn put(slot: &mut Option<String>, text: String, number: usize, what: &str) -> Result<()> {
+    if let Some(own) = slot.as_deref() {
+        ensure!(
+            own == text.as_str(),
+            "device {number} has another {what} already"
+        );
+    }
+    *slot = Some(text);
+    Ok(())
 }
 
 impl GivenReport {
@@ -179,7 +192,7 @@ impl Found {
         let alloc = *self.devices.allocator();
         for device in self.devices.iter_mut() {
             if device.number == number {
-                device.set(part, String::from_str(alloc, text)?);
+                device.set(part, String::from_str(alloc, text)?)?;
             }
         }
         Ok(())

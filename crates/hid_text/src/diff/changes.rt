@@ -1,5 +1,5 @@
 //! The parts in which two fields differ, apart from where they lie.
-use crate::words::{FLAG_WORDS, FLAGS, FieldNumbers, add_collection, add_name, flags_of};
+use crate::words::{FLAG_WORDS, FLAGS, FieldNumbers, add_collection, add_name, flags_of, plural};
 use hidreport::types::UnitExponent;
 use hidreport::{ArrayField, Collection, Field};
 use std::alloc::AllocError;
@@ -53,7 +53,8 @@ fn add_width(text: &mut String, before: usize, now: usize) -> Result<(), AllocEr
     if before == now {
         return Ok(());
     }
-    write!(text, "; {before} bits, now {now} bits")
+    let (one, other) = (plural(before), plural(now));
+    write!(text, "; {before} bit{one}, now {now} bit{other}")
 }
 
 fn add_usages(text: &mut String, first: &Field, second: &Field) -> Result<(), AllocError> {
@@ -77,7 +78,8 @@ fn add_elements(
         usize::from(second.report_count),
     );
     if before != now {
-        write!(text, "; {before} values, now {now}")?;
+        let one = plural(before);
+        write!(text, "; {before} value{one}, now {now}")?;
     }
     match (first.is_usage_range(), second.is_usage_range()) {
         (true, false) => text.push_str("; a range of usages, now a list"),

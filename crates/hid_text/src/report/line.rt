@@ -43,12 +43,21 @@ impl<'a> Lines<'a> {
     /// The report that these bytes are of.
     pub fn report_of(&self, bytes: &[u8]) -> Option<&RDescReport> {
         let first = *bytes.first()?;
+        let has_ids = self.has_ids();
         for named in self.reports.iter() {
-            if is_of(named.report, first) {
+            if is_of(named.report, first, has_ids) {
                 return Some(named.report);
             }
         }
         None
+    }
+
+    /// Whether the first report has an id.
+    fn has_ids(&self) -> bool {
+        match self.reports.first() {
+            Some(named) => named.report.report_id().is_some(),
+            None => false,
+        }
     }
 
     /// Appends the line of a report, and answers whether the descriptor has it.
@@ -56,8 +65,9 @@ impl<'a> Lines<'a> {
         let Some(first) = bytes.first() else {
             return Ok(false);
         };
+        let has_ids = self.has_ids();
         for named in self.reports.iter_mut() {
-            if is_of(named.report, *first) {
+            if is_of(named.report, *first, has_ids) {
                 named.add(text, bytes, self.only_changes)?;
                 return Ok(true);
             }
@@ -66,11 +76,11 @@ impl<'a> Lines<'a> {
     }
 }
 
-/// Whether bytes with this first one are of a report.
-fn is_of(report: &RDescReport, first: u8) -> bool {
+/// Whether bytes with this first one are of a report, where the first report has an id or none.
+fn is_of(report: &RDescReport, first: u8, has_ids: bool) -> bool {
     match report.report_id() {
         Some(id) => u8::from(id) == first,
-        None => true,
+        None => !has_ids,
     }
 }
 
@@ -233,6 +243,6 @@ fn add_array(
     if 32 < width {
         return write!(text, "({width} bits)]");
     }
-    add_choices(text, field, bytes, "", "")?;
+    add_choices(text, field, bytes, "", false)?;
     text.push_str("]")
 }

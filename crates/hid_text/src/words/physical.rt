@@ -10,6 +10,9 @@ const PLACES: usize = 12;
 
 const SHOWN: usize = 6;
 
+/// How many times a number is taken tenfold at the most, for its first digit.
+const MOST_POWER: u32 = 60;
+
 /// What a unit measures, by its system; no text where it has none of the four that the standard
 /// names (Section 6.2.2.7), and where it measures nothing.
 pub fn measured(alloc: Global, unit: Unit) -> Result<String, AllocError> {
@@ -141,16 +144,45 @@ pub fn add_fraction(text: &mut String, fraction: Fraction) -> Result<(), AllocEr
         }
         return write!(text, ".{digits}");
     }
-    let shown = cut(digits.as_str(), whole);
+    let shown = digits.get(..SHOWN).unwrap_or(digits.as_str());
+    if whole == 0 && shown.bytes().all(|digit| digit == b'0') {
+        return add_small(text, sign, numerator, denominator);
+    }
     write!(text, "about {sign}{whole}.{shown}")
 }
 
-/// The first digits behind a point, where these with what stands before it aren't all 0.
-fn cut(digits: &str, whole: u128) -> &str {
-    match digits.get(..SHOWN) {
-        Some(front) if whole != 0 || front.bytes().any(|digit| digit != b'0') => front,
-        _ => digits,
+/// Appends a fraction that is too small to be shown as a decimal number, as one with a power of ten.
+fn add_small(
+    text: &mut String,
+    sign: &str,
+    numerator: u128,
+    denominator: u128,
+) -> Result<(), AllocError> {
+    let (mut scaled, mut power) = (numerator, 0u32);
+    for _ in 0..MOST_POWER {
+        let Some(more) = scaled.checked_mul(10) else {
+            break;
+        };
+        if denominator <= scaled {
+            break;
+        }
+        scaled = more;
+        power = power.saturating_add(1);
     }
+    let whole = scaled / denominator.max(1);
+    let mut digits = String::new(*text.allocator());
+    let is_exact = add_places(&mut digits, scaled % denominator.max(1), denominator)?;
+    let about = if is_exact { "" } else { "about " };
+    write!(text, "{about}{sign}{whole}")?;
+    if !digits.is_empty() {
+        let shown = if is_exact {
+            digits.as_str()
+        } else {
+            digits.get(..SHOWN).unwrap_or(digits.as_str())
+        };
+        write!(text, ".{shown}")?;
+    }
+    write!(text, " * 10^-{power}")
 }
 
 /// Appends the digits of a fraction below 1, and answers whether these are all.
