@@ -107,7 +107,7 @@ class Parser:
                             count=0, id=0)
         self.pushed, self.open, self.collections = [], [], []
         self.reports = {INPUT: {}, OUTPUT: {}, FEATURE: {}}
-        self.mains, self.contact, self.sensor = [], False, False
+        self.mains, self.driver = [], ""
         self.clear()
         self.read(raw)
 
@@ -217,8 +217,7 @@ class Parser:
         number = int.from_bytes(data, "little")
         if tag == 10:
             kind = number & 0xFF
-            if self.globals["page"] << 16 & 0xFFFFFFFF == 0x200000 and kind < 2:
-                self.sensor = True
+            self.scan_collection(kind)
             self.collections.append(Collection(kind, self.usages[0][0] if self.usages else 0,
                                                self.open[-1] if self.open else None))
             self.open.append(len(self.collections) - 1)
@@ -229,6 +228,15 @@ class Parser:
         elif tag in (8, 9, 11):
             self.add_field({8: INPUT, 9: OUTPUT, 11: FEATURE}[tag], number)
         self.clear()
+
+    def scan_collection(self, kind):
+        """What hid-core's scan makes of a collection: the group that is set last stays."""
+        page = self.globals["page"] << 16 & 0xFFFFFFFF
+        if page == 0x200000 and kind < 2:
+            self.driver = "hid-sensor-hub"
+        # hid-vivaldi gives inputs the codes of hid-generic, of which nothing is said.
+        if page == 0xFFD10000 and any(usage == 0xFFD10001 for usage, _ in self.usages):
+            self.driver = ""
 
     def around(self, kind):
         for one in reversed(self.open):
@@ -256,7 +264,7 @@ class Parser:
                     own=[u[0] for u in self.usages], kept=False)
         self.mains.append(main)
         if direction == INPUT and not flags & 1 and 0x0D0051 in main.own:
-            self.contact = True
+            self.driver = "hid-multitouch"
         if not self.usages or len(report["fields"]) == 256:
             return
         main.kept = True
@@ -525,14 +533,16 @@ def answers(raw):
 
 
 def rows_of(main, has_id):
-    """Rows of (direction, first bit, usage, event)."""
+    """Rows of (direction, id, first bit, usage, event); usages without a field have no first bit."""
     first = main.offset + (8 if has_id else 0)
     if main.flags & 1 or not main.own:
         return []
     if main.flags & 2:
         usages = main.own + main.own[-1:] * (main.count - len(main.own))
         return [(main.direction, main.id, first + main.size * k, usages[k], main.events.get(k))
-                for k in range(main.count)]
+                for k in range(main.count)] + [
+                    (main.direction, main.id, None, usages[k], main.events.get(k))
+                    for k in range(main.count, len(usages))]
     return [(main.direction, main.id, first, usage, main.events.get(k))
             for k, usage in enumerate(main.own)]
 
@@ -575,7 +585,7 @@ def asked(program, raw, words):
         return None, said
     rows = []
     for field in fields:
-        place = (field["direction"], field["report"] or 0, field["start"])
+        place = (field["direction"], field["report"] or 0, field.get("start"))
         for answer in field["linux"] or []:
             event = None
             if answer.get("none", "").startswith("past the first 12288 usages"):
@@ -584,7 +594,8 @@ def asked(program, raw, words):
                 axis = answer.get("axis")
                 axis = axis and [axis[k] for k in ("minimum", "maximum", "fuzz", "flat",
                                                    "resolution")]
-                if axis is None and answer["event_type"] == "EV_ABS" and has_reversed_bounds(field):
+                is_unsaid = "start" not in field or has_reversed_bounds(field)
+                if axis is None and answer["event_type"] == "EV_ABS" and is_unsaid:
                     axis = UNSAID
                 event = (answer["event_type"], answer["code"], axis)
                 name = NAMES.get(event[:2])
@@ -643,8 +654,7 @@ def compare_one(question):
         return "compared", 0, f"{said}: Linux doesn't"
     if "codes aren't known" in said:
         return "not known", 0, f"{count} events" if count else ""
-    driver = "hid-multitouch" if parser.contact else ""
-    driver = "hid-sensor-hub" if parser.sensor else driver
+    driver = parser.driver
     if ("takes such a device" in said) != bool(driver) or driver not in said:
         return "compared", count, f"{said}, and not {driver}"
     for own, theirs in itertools.zip_longest(rows, wanted):

@@ -9,6 +9,8 @@ pub mod findings;
 pub mod host_findings;
 mod item_number;
 pub mod linux_reading;
+mod linux_reports;
+mod linux_usages;
 mod local_usages;
 mod other_usages;
 mod report_findings;

@@ -1,11 +1,11 @@
-//! How Linux's hid-core reads a descriptor that `hid` reads, too: what it refuses, and where it may
-//! find other usages.
+//! How Linux's hid-core reads a descriptor that `hid` reads, too: what it refuses, where it may
+//! find other usages, which application a report has, and which driver takes the device.
 use crate::item_number::{signed, size_of, unsigned};
-use hidreport_linux::{Unmapped, is_input_application};
+use crate::linux_reports::LinuxReports;
+use crate::linux_usages::LinuxUsages;
+use hidreport::Direction;
+use hidreport_linux::{Driver, Unmapped, is_input_application};
 use std::alloc::{AllocError, Global};
-
-/// The most usages of an item.
-const MOST_USAGES: u32 = 12_288;
 
 /// The most elements of an item.
 const MOST_ELEMENTS: u32 = 12_288;
@@ -42,21 +42,21 @@ struct Globals {
 pub struct LinuxReading {
     globals: Globals,
     pushed: Vec<Globals>,
-    depth: usize,
-    usages: u32,
+    /// For each open collection the application in force in it, 0 where there is none.
+    open: Vec<u32>,
+    reports: LinuxReports,
+    usages: LinuxUsages,
     usage_minimum: u32,
     is_in_set: bool,
     has_ids: bool,
     lacks_ids: bool,
-    first_usage: u32,
-    is_paged: bool,
     sets: usize,
     /// How many applications there are.
     pub applications: usize,
     /// Whether a collection makes it one of an input device.
     pub has_input: bool,
-    /// Whether it has a collection of sensors.
-    pub has_sensors: bool,
+    /// The driver that takes the device from hid-generic for what it says.
+    pub driver: Option<Driver>,
     /// The first thing that is the matter.
     pub doubt: Option<Doubt>,
     /// The first for which it is refused.
@@ -75,18 +75,17 @@ impl LinuxReading {
                 page: 0,
             },
             pushed: Vec::new(alloc),
-            depth: 0,
-            usages: 0,
+            open: Vec::new(alloc),
+            reports: LinuxReports::new(alloc)?,
+            usages: LinuxUsages::new(alloc),
             usage_minimum: 0,
             is_in_set: false,
             has_ids: false,
             lacks_ids: false,
-            first_usage: 0,
-            is_paged: false,
             sets: 0,
             applications: 0,
             has_input: false,
-            has_sensors: false,
+            driver: None,
             doubt: None,
             refusal: None,
         };
@@ -101,6 +100,12 @@ impl LinuxReading {
             None if self.has_input => None,
             None => Some(Unmapped::NoInput),
         }
+    }
+
+    /// The application of the report with an id, 0 where it lies in none; `None` of a report without
+    /// an item that names usages.
+    pub fn application(&self, direction: Direction, id: u32) -> Option<u32> {
+        self.reports.application(direction, id)
     }
 
     /// Goes over all items; one that is cut short is refused.
@@ -153,13 +158,15 @@ impl LinuxReading {
             0xb4 => self.pop(offset),
             0x14 => self.globals.minimum = signed(data),
             0x24 => self.pass_maximum(data),
-            0xa0 => self.open(number & 0xff),
+            0xa0 => self.open(number & 0xff)?,
             0xc0 => self.close(offset),
-            0x80 | 0x90 | 0xb0 => self.pass_data(offset),
+            0x80 => self.pass_data(offset, Direction::Input, number),
+            0x90 => self.pass_data(offset, Direction::Output, number),
+            0xb0 => self.pass_data(offset, Direction::Feature, number),
             head => match head & 0x0c {
                 0x00 => self.end_locals(),
                 0x04 => self.pass_global(offset, head, number),
-                0x08 => self.pass_local(offset, head, number, data.len()),
+                0x08 => self.pass_local(offset, head, number, data.len())?,
                 _ => {}
             },
         }
@@ -180,38 +187,51 @@ impl LinuxReading {
         }
     }
 
-    /// A collection: what it is of is the first usage, on the page in force where it is the only one.
-    fn open(&mut self, kind: u32) {
-        self.depth = self.depth.saturating_add(1);
+    /// A collection: what it is of is the first usage.
+    fn open(&mut self, kind: u32) -> Result<(), AllocError> {
+        self.usages.complete(self.globals.page);
+        let usage = self.usages.first();
         if kind == 1 {
             self.applications = self.applications.saturating_add(1);
         }
         if kind <= 1 {
-            self.has_input = self.has_input || is_input_application(self.collection_usage());
-            self.has_sensors = self.has_sensors || self.globals.page == 0x20;
+            self.has_input = self.has_input || is_input_application(usage);
         }
+        self.pass_group(kind);
+        let application = if kind == 1 {
+            usage
+        } else {
+            self.application_in_force()
+        };
         self.end_locals();
+        Ok(self.open.push(application)?)
     }
 
-    /// The usage of a collection, 0 where it has none.
-    fn collection_usage(&self) -> u32 {
-        match self.usages {
-            0 => 0,
-            1 if !self.is_paged => self.globals.page << 16 | self.first_usage & 0xffff,
-            _ => self.first_usage,
+    /// The usage of the innermost open application, 0 where there is none.
+    fn application_in_force(&self) -> u32 {
+        self.open.last().copied().unwrap_or(0)
+    }
+
+    /// A collection of sensors, or of hid-vivaldi, which gives the same codes as hid-generic: the
+    /// last item that asks for a driver gets its own.
+    fn pass_group(&mut self, kind: u32) {
+        if kind <= 1 && self.globals.page == 0x20 {
+            self.driver = Some(Driver::SensorHub);
+        }
+        if self.globals.page == 0xffd1 && self.usages.have(0xffd1_0001) {
+            self.driver = None;
         }
     }
 
     fn close(&mut self, offset: usize) {
-        if self.depth == 0 {
+        if self.open.pop().is_none() {
             self.refuse(offset, "an End Collection without a collection");
         }
-        self.depth = self.depth.saturating_sub(1);
         self.end_locals();
     }
 
     fn end_locals(&mut self) {
-        self.usages = 0;
+        self.usages.clear();
         self.usage_minimum = 0;
         self.is_in_set = false;
         self.sets = 0;
@@ -245,46 +265,56 @@ impl LinuxReading {
     }
 
     /// A local item; usages of sets behind the first are left out.
-    fn pass_local(&mut self, offset: usize, head: u8, number: u32, size: usize) {
+    fn pass_local(
+        &mut self,
+        offset: usize,
+        head: u8,
+        number: u32,
+        size: usize,
+    ) -> Result<(), AllocError> {
         if head == 0xa8 {
             self.pass_delimiter(offset, number != 0);
-            return;
+            return Ok(());
         }
         if self.sets > 1 {
-            return;
+            return Ok(());
         }
         match head {
-            0x08 => self.pass_usages(offset, number, 1, size),
+            0x08 => self.pass_usages(offset, number, 1, size)?,
             0x18 => self.usage_minimum = number,
             0x28 if number < self.usage_minimum => {
                 self.doubt_usages(offset, "a Usage Maximum below its minimum");
             }
-            0x28 if size == 4 && number < 0x1_0000 => {
-                self.doubt_usages(offset, "a Usage Maximum of four bytes without a page");
-            }
             0x28 => {
+                if size == 4 && number < 0x1_0000 {
+                    self.doubt_usages(offset, "a Usage Maximum of four bytes without a page");
+                }
                 let first = self.usage_minimum;
                 let count = number.saturating_sub(first).saturating_add(1);
-                self.pass_usages(offset, first, count, size);
+                self.pass_usages(offset, first, count, size)?;
             }
             _ => {}
         }
+        Ok(())
     }
 
     /// Usages from one on; those behind the most are left out, and none may come behind these.
-    fn pass_usages(&mut self, offset: usize, first: u32, count: u32, size: usize) {
-        if self.usages >= MOST_USAGES {
+    fn pass_usages(
+        &mut self,
+        offset: usize,
+        first: u32,
+        count: u32,
+        size: usize,
+    ) -> Result<(), AllocError> {
+        if self.usages.are_full() {
             self.doubt_usages(offset, "usages behind the first 12288");
         }
-        if self.usages == 0 {
-            self.is_paged = size > 2;
-            self.first_usage = if self.is_paged {
-                first
-            } else {
-                self.globals.page << 16 | first & 0xffff
-            };
-        }
-        self.usages = self.usages.saturating_add(count);
+        let page = if size > 2 {
+            None
+        } else {
+            Some(self.globals.page)
+        };
+        self.usages.add(first, count, page)
     }
 
     fn pass_delimiter(&mut self, offset: usize, opens: bool) {
@@ -297,8 +327,23 @@ impl LinuxReading {
         }
     }
 
-    /// An Input, Output or Feature.
-    fn pass_data(&mut self, offset: usize) {
+    /// An Input, Output or Feature: its report is there from now on, whatever else it says.
+    fn pass_data(&mut self, offset: usize, direction: Direction, flags: u32) {
+        let application = self.application_in_force();
+        let has_usages = !self.usages.are_none();
+        self.reports
+            .pass(direction, self.globals.id, application, has_usages);
+        self.usages.complete(self.globals.page);
+        let has_values = direction == Direction::Input && flags & 1 == 0;
+        if has_values && self.usages.have(0x000d_0051) {
+            self.driver = Some(Driver::Multitouch);
+        }
+        self.pass_bounds(offset);
+        self.end_locals();
+    }
+
+    /// The bounds of such an item, and whether its report has an id.
+    fn pass_bounds(&mut self, offset: usize) {
         let Globals {
             minimum,
             maximum,
@@ -322,12 +367,11 @@ impl LinuxReading {
         if self.has_ids && self.lacks_ids {
             self.doubt_usages(offset, "a report without an id beside others");
         }
-        self.end_locals();
     }
 
     /// Behind the last item.
     fn end(&mut self, offset: usize) {
-        if self.depth != 0 {
+        if !self.open.is_empty() {
             self.refuse(offset, "a collection that isn't closed");
         }
         if self.is_in_set {

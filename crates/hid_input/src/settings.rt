@@ -1,6 +1,6 @@
 //! What the options of all commands say.
 use crate::input::Form;
-use hidreport::{ParseOptions, RepairOptions};
+use hidreport::{ParseOptions, PushKeeps, RepairOptions, UsagesBy};
 
 /// The most bytes of a file that is read whole.
 pub const LONGEST_INPUT: u64 = 64 * 1024 * 1024;
@@ -40,6 +40,11 @@ impl Settings<'_> {
             leave_out_cut_short: true,
             unsigned_maxima: true,
         }
+    }
+
+    /// Whether descriptors are read as hosts do.
+    pub fn reads_as_hosts(&self) -> bool {
+        self.parse.usages == UsagesBy::Hosts && self.parse.push_keeps == PushKeeps::Globals
     }
 
     /// The most bytes of a descriptor, and of a report that is written.

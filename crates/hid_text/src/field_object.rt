@@ -64,6 +64,34 @@ pub struct FieldObject {
     linux: Option<Vec<AnswerObject>>,
 }
 
+/// Usages of an item that no field has, with what Linux gives them.
+#[derive(Drop, Serialize)]
+pub struct RestObject {
+    direction: &'static str,
+    report: Option<u8>,
+    kind: &'static str,
+    collections: Vec<CollectionObject>,
+    linux: Vec<AnswerObject>,
+}
+
+impl RestObject {
+    /// Those of an item in a report.
+    pub fn of(
+        direction: Direction,
+        report: &RDescReport,
+        around: &[Collection],
+        linux: Vec<AnswerObject>,
+    ) -> Result<RestObject, AllocError> {
+        Ok(RestObject {
+            direction: word_of(direction),
+            report: report.report_id().map(u8::from),
+            kind: "usages without a field",
+            collections: collections_of(*linux.allocator(), around)?,
+            linux,
+        })
+    }
+}
+
 /// Appends a field as a line of JSON.
 pub fn add_field_object(
     text: &mut String,

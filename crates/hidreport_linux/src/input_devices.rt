@@ -3,14 +3,13 @@ ghost use Rattle.std.specs.Prelude.{◌≡◌};
 ghost use Rattle.hidreport_linux.specs.Types.{is_input_application};
 
 use crate::axis::{Axis, Measures};
-use crate::driver::Driver;
 use crate::event::Event;
 use crate::event_code::{EventCode, EventType};
 use crate::input_device::InputDevice;
-use crate::place::{Place, innermost};
+use crate::place::Place;
 use crate::unmapped::Unmapped;
 use crate::wanted::{Role, Wanted};
-use hidreport::{CollectionType, Direction, Group, OutlineReport, Usage};
+use hidreport::{Direction, Group, Usage};
 use std::alloc::{AllocError, Global};
 
 /// The items of a report that hid-core keeps, at most.
@@ -28,7 +27,6 @@ pub struct InputDevices {
     items: usize,
     is_by_application: bool,
     unmapped: Option<Unmapped>,
-    driver: Option<Driver>,
 }
 
 /// An item of a report whose usages are gone over.
@@ -51,23 +49,21 @@ impl InputDevices {
             items: 0,
             is_by_application: applications > 1,
             unmapped,
-            driver: None,
         }
     }
 
-    /// The driver that takes such a device from hid-generic, where one does by what was gone over.
-    pub fn driver(&self) -> Option<Driver> {
-        self.driver
-    }
-
-    /// Goes on to a report.
+    /// Goes on to a report of this application: the usage of the innermost one around its first
+    /// main item, 0 where there is none. `None` is a report without an item that names usages,
+    /// which makes no device.
     ///
     /// # Errors
     ///
     /// - `AllocError`: memory for another input device is refused.
-    pub fn enter(&mut self, report: &OutlineReport) -> Result<(), AllocError> {
+    pub fn enter(&mut self, application: Option<u32>) -> Result<(), AllocError> {
         self.items = 0;
-        let application = application_of(report.groups());
+        let Some(application) = application else {
+            return Ok(());
+        };
         match self.device_for(application) {
             Some(index) => self.current = index,
             None => {
@@ -119,7 +115,6 @@ impl InputDevices {
     /// - `OtherDirection`, `Taken`, `PastCodes`: by the codes of the usages before it.
     pub fn event(&mut self, item: &mut Item, usage: Usage) -> Result<Event, Unmapped> {
         let usage = u32::from(usage);
-        self.pass_contact(&item.place, usage);
         item.count()?;
         let wanted = Wanted::of(usage, &item.place)?;
         if let Some(unmapped) = self.unmapped {
@@ -135,15 +130,6 @@ impl InputDevices {
         device.give(wanted, role)?;
         item.pass(role);
         Ok(item.event_of(wanted.code, role))
-    }
-}
-
-impl InputDevices {
-    /// Notes a Contact Identifier.
-    fn pass_contact(&mut self, place: &Place, usage: u32) {
-        if place.direction == Direction::Input && !place.is_constant && usage == 0x000d_0051 {
-            self.driver = Some(Driver::Multitouch);
-        }
     }
 }
 
@@ -191,18 +177,6 @@ impl Item {
         };
         Event { code, role, axis }
     }
-}
-
-/// The application of a report: that of its first item that lies in collections.
-fn application_of(groups: &[Group]) -> u32 {
-    match groups.iter().find(|group| lies_in_collections(group)) {
-        Some(group) => innermost(group.collections(), CollectionType::Application),
-        None => 0,
-    }
-}
-
-fn lies_in_collections(group: &Group) -> bool {
-    !group.collections().is_empty()
 }
 
 /// Whether an application or a physical collection of this usage makes its descriptor one of an

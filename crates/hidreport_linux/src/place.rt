@@ -49,7 +49,7 @@ impl Place {
 }
 
 /// The usage of the innermost collection of a kind, 0 where there is none.
-pub(crate) fn innermost(around: &[Collection], kind: CollectionType) -> u32 {
+fn innermost(around: &[Collection], kind: CollectionType) -> u32 {
     let mut found = 0;
     for collection in around {
         if collection.collection_type() == kind {

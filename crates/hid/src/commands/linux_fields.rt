@@ -9,11 +9,11 @@ use hid_input::parsing::parsed;
 use hid_input::settings::Settings;
 use hid_items::items::ItemCursor;
 use hid_output::{add_json, flush, flush_piece};
-use hid_text::field_object::object_of;
+use hid_text::field_object::{RestObject, object_of};
 use hid_text::linux::{Answered, add_answers, add_lines, answers_of, objects_of};
 use hid_text::report::{FieldLine, around};
 use hid_text::words::{add_field, add_spaces, indent_of};
-use hidreport::{Collection, Direction, Field, Outline, OutlineReport, RDescReport, Report, Usage};
+use hidreport::{Collection, Direction, Field, Group, Outline, OutlineReport, RDescReport, Report};
 use hidreport_linux::{Driver, InputDevices, Item, Unmapped};
 use std::alloc::{AllocError, Global};
 
@@ -35,6 +35,7 @@ pub fn show_linux<R: World>(rt: &R, settings: &Settings, file: &str) -> Result<E
     let mut shown = Shown {
         text: String::new(rt.alloc()),
         devices: InputDevices::new(rt.alloc(), reading.applications, reading.unmapped()),
+        reading,
         is_json: settings.is_json,
     };
     for direction in Direction::ALL {
@@ -47,12 +48,7 @@ pub fn show_linux<R: World>(rt: &R, settings: &Settings, file: &str) -> Result<E
         }
     }
     flush(rt, &mut shown.text)?;
-    let driver = if reading.has_sensors {
-        Some(Driver::SensorHub)
-    } else {
-        shown.devices.driver()
-    };
-    tell(rt, reading.doubt, driver)?;
+    tell(rt, shown.reading.doubt, shown.reading.driver)?;
     Ok(Ending::Done)
 }
 
@@ -89,6 +85,7 @@ fn tell<R: Eprint>(rt: &R, doubt: Option<Doubt>, driver: Option<Driver>) -> Resu
 struct Shown {
     text: String,
     devices: InputDevices,
+    reading: LinuxReading,
     is_json: bool,
 }
 
@@ -105,7 +102,9 @@ impl Shown {
         if !self.is_json {
             add_head_of(&mut self.text, direction, report)?;
         }
-        self.devices.enter(outline)?;
+        let id = report.report_id().map_or(0, |id| u32::from(u8::from(id)));
+        let application = self.reading.application(direction, id);
+        self.devices.enter(application)?;
         let mut fields = report.fields();
         let mut open: &[Collection] = &[];
         for (group, all) in outline.groups().iter().zip(named.fields()) {
@@ -114,7 +113,11 @@ impl Shown {
             open = self.show_item(rt, direction, report, &mut item, own, open)?;
             fields = rest;
             if group.is_variable() {
-                self.show_rest(&mut item, all.usages(), own.len(), open.len())?;
+                let alloc = *self.text.allocator();
+                let rest = all.usages().get(own.len()..).unwrap_or(&[]);
+                let answers = answers_of(alloc, &mut self.devices, &mut item, rest)?;
+                self.show_rest((direction, report), group, &answers, open.len())?;
+                flush_piece(rt, &mut self.text)?;
             }
         }
         Ok(())
@@ -150,23 +153,24 @@ impl Shown {
     /// Shows what the usages of an item get that are left when each field has one.
     fn show_rest(
         &mut self,
-        item: &mut Item,
-        usages: &[Usage],
-        fields: usize,
+        place: (Direction, &RDescReport),
+        group: &Group,
+        answers: &[Answered],
         depth: usize,
     ) -> Result<()> {
-        let Some((_own, rest)) = usages.split_at_checked(fields) else {
+        if answers.is_empty() {
             return Ok(());
-        };
-        let alloc = *self.text.allocator();
-        let answers = answers_of(alloc, &mut self.devices, item, rest)?;
-        if self.is_json || answers.is_empty() {
-            return Ok(());
+        }
+        if self.is_json {
+            let (direction, report) = place;
+            let objects = objects_of(*self.text.allocator(), answers)?;
+            let object = RestObject::of(direction, report, group.collections(), objects)?;
+            return add_json(&mut self.text, &object);
         }
         let indent = indent_of(depth.saturating_add(1));
         add_spaces(&mut self.text, indent)?;
         self.text.push_str("usages without a field:")?;
-        add_lines(&mut self.text, &answers, indent.saturating_add(DEEPER))?;
+        add_lines(&mut self.text, answers, indent.saturating_add(DEEPER))?;
         Ok(self.text.push_str("\n")?)
     }
 }
