@@ -66,29 +66,24 @@ pub fn add_reports(
     }
 }
 
-/// Says on standard error where a direction has reports with an id and one without, of which bytes
-/// don't tell which they are (Section 5.6).
+/// Says on standard error where a direction has reports with an id behind one without, as which all
+/// bytes are read (Section 5.6).
 pub fn tell_mixed<R: Eprint>(
     rt: &R,
     descriptor: &ReportDescriptor,
     direction: Direction,
 ) -> Result<()> {
-    let reports = descriptor.reports(direction);
-    let mut with_id = reports.iter().filter(|report| report.report_id().is_some());
-    let mut without = reports.iter().filter(|report| report.report_id().is_none());
-    if with_id.next().is_none() || without.next().is_none() {
-        return Ok(());
-    }
-    let word = word_of(direction);
-    let is_first = reports
-        .first()
+    let mut reports = descriptor.reports(direction).iter();
+    let is_without = reports
+        .next()
         .is_some_and(|report| report.report_id().is_none());
-    let way = if is_first {
-        "all bytes are read as the one without"
-    } else {
-        "none are read as the one without"
-    };
-    Ok(eprintln!(rt; "hid: {word} reports with an id and one without (Section 5.6): {way}")?)
+    if is_without && reports.any(|report| report.report_id().is_some()) {
+        let word = word_of(direction);
+        eprintln!(rt;
+            "hid: {word} reports with an id and one without: bytes are read as the one without"
+        )?;
+    }
+    Ok(())
 }
 
 /// Says on standard error how many reports are of none of the descriptors, if any is.

@@ -43,21 +43,12 @@ impl<'a> Lines<'a> {
     /// The report that these bytes are of.
     pub fn report_of(&self, bytes: &[u8]) -> Option<&RDescReport> {
         let first = *bytes.first()?;
-        let has_ids = self.has_ids();
         for named in self.reports.iter() {
-            if is_of(named.report, first, has_ids) {
+            if is_of(named.report, first) {
                 return Some(named.report);
             }
         }
         None
-    }
-
-    /// Whether the first report has an id.
-    fn has_ids(&self) -> bool {
-        match self.reports.first() {
-            Some(named) => named.report.report_id().is_some(),
-            None => false,
-        }
     }
 
     /// Appends the line of a report, and answers whether the descriptor has it.
@@ -65,9 +56,8 @@ impl<'a> Lines<'a> {
         let Some(first) = bytes.first() else {
             return Ok(false);
         };
-        let has_ids = self.has_ids();
         for named in self.reports.iter_mut() {
-            if is_of(named.report, *first, has_ids) {
+            if is_of(named.report, *first) {
                 named.add(text, bytes, self.only_changes)?;
                 return Ok(true);
             }
@@ -76,11 +66,11 @@ impl<'a> Lines<'a> {
     }
 }
 
-/// Whether bytes with this first one are of a report, where the first report has an id or none.
-fn is_of(report: &RDescReport, first: u8, has_ids: bool) -> bool {
+/// Whether bytes with this first one are of a report.
+fn is_of(report: &RDescReport, first: u8) -> bool {
     match report.report_id() {
         Some(id) => u8::from(id) == first,
-        None => !has_ids,
+        None => true,
     }
 }
 
