@@ -101,12 +101,16 @@ wants 1 'hid: Logitech: means hidraw0, hidraw10' convert --sysfs sys Logitech
 wants 1 'hid: 046d:c078: No such file or directory (os error 2)' convert --sysfs sys 046d:c078
 wants 1 'hid: hidraw1: No such file or directory (os error 2)' convert --sysfs sys hidraw1
 wants 1 'hid: : No such file or directory (os error 2)' convert --sysfs mouse ''
-wants 0 '' list --sysfs nowhere
+mkdir empty
+wants 0 '' list --sysfs empty
+wants 1 'hid: list: nowhere: No such file or directory (os error 2)' list --sysfs nowhere
 device refused 1 hid-generic 0003:0000046D:0000C077 "$(printf 'a \351')" "$data/odd.hex"
 printf '\300' > refused/class/hidraw/hidraw1/device/report_descriptor
-wants 0 '/dev/hidraw1: a �
+wants 1 '/dev/hidraw1: a �
   USB 046d:c077, driver hid-generic
   refused: invalid data at offset 0: Too many EndCollection' list --sysfs refused
+wants 1 '{"node":"/dev/hidraw1","name":"a �","bus":3,"vendor":1133,"product":49271,"driver":"hid-generic","input":[],"reports":null,"refused":"invalid data at offset 0: Too many EndCollection"}' \
+    list --json --sysfs refused
 device three 0 '' 0003:0000046D 'a mouse' "$data/mouse.hex"
 wants 1 "hid: list: three/class/hidraw/hidraw0/device/uevent: HID_ID isn't three numbers" \
     list --sysfs three
