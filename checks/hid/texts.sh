@@ -128,7 +128,7 @@ case $(ulimit -v 32768 && head -c 60000000 /dev/zero | tr '\0' '\n' | "$program"
     *) refused 'too little memory' 'said with its input' ;;
 esac
 refused "$(echo 0501 | "$program" convert --form hex - 2>&1 > /dev/full)" \
-    'hid: -: No space left on device (os error 28)'
+    'hid: -: standard output: No space left on device (os error 28)'
 
 # Bytes are a capture where its mark and its version are there; a word less, and they are bytes.
 capture_of() {

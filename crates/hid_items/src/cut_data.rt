@@ -50,8 +50,9 @@ fn global_data(item: &GlobalItem, bytes: &[u8]) -> Option<i64> {
 
 /// The number that the bytes behind an item's first one write, without a sign.
 fn unsigned(bytes: &[u8]) -> i64 {
+    let data = bytes.get(1..).unwrap_or(&[]);
     let mut number = 0i64;
-    for byte in bytes.iter().skip(1).take(4).rev() {
+    for byte in data.iter().rev().take(4) {
         number = (number << 8 & 0xffff_ffff) | i64::from(*byte);
     }
     number
