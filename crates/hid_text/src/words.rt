@@ -1,5 +1,6 @@
 //! Items, fields and units in words, and items from their words.
 
+mod counted;
 mod depth;
 mod direction;
 mod field_flags;
@@ -10,9 +11,9 @@ mod item_reading;
 mod item_words;
 mod naming;
 mod physical;
-mod plural;
 mod usage_list;
 
+pub use counted::plural;
 pub use depth::{add_depth, add_spaces, indent_of};
 pub use direction::{direction_named, title_of, word_of};
 pub use field_flags::{FLAG_WORDS, FLAGS, flags_of};
@@ -27,4 +28,3 @@ pub use naming::{
     CUT, add_collection, add_collection_kind, add_page, add_usage, add_usage_on_page, shortened,
 };
 pub use physical::{add_measured, measured_value};
-pub use plural::plural;
