@@ -16,6 +16,7 @@ mod report_time;
 mod set;
 mod uhid;
 mod values;
+mod written_flags;
 
 pub use check::Check;
 pub use compile::Compile;

@@ -1,4 +1,6 @@
-//! `hid compile`: a descriptor's bytes from the text that `hid decode` writes.
+//! `hid compile`: a descriptor's bytes from the text that `hid decode` writes, or one as the standard
+//! writes its examples.
+use crate::commands::written_flags::flags_said;
 use crate::ending::Ending;
 use crate::world::World;
 use anyhow::{Context, Result, bail};
@@ -65,13 +67,15 @@ impl Compiled {
         Ok(compiled)
     }
 
-    /// Takes a line of text. One that is empty, a remark behind `//` and the line of a fault say
-    /// nothing.
+    /// Takes a line of text. One that is empty, a remark behind `//` or `;` and the line of a fault
+    /// say nothing.
     fn add_text(&mut self, text: &str) -> Result<()> {
         let text = match text.split_once("//") {
             Some((text, _remark)) => text.trim(),
             None => text.trim(),
         };
+        let text = without_remark(text).trim();
+        let text = text.strip_suffix(",").unwrap_or(text);
         if text.is_empty() || is_fault(text) {
             return Ok(());
         }
@@ -88,7 +92,10 @@ impl Compiled {
             return Ok(self.bytes.extend_from_slice(&stood)?);
         }
         if stood.is_empty() {
-            return self.add_words(line.words);
+            return match written_number(self.alloc, line.words)? {
+                Some(words) => self.add_words(&words, line.words),
+                None => self.add_words(line.words, line.words),
+            };
         }
         self.add_item_bytes(&stood, line.words)
     }
@@ -111,10 +118,10 @@ impl Compiled {
         Ok(self.state.pass(&entry)?)
     }
 
-    /// Takes the item that words say.
-    fn add_words(&mut self, words: &str) -> Result<()> {
+    /// Takes the item that words say; a refusal has them as they are written.
+    fn add_words(&mut self, words: &str, said: &str) -> Result<()> {
         let Some(item) = item_of_words(words, self.state.page(), &self.flags) else {
-            let words = escaped(self.alloc, words)?;
+            let words = escaped(self.alloc, said)?;
             bail!("'{words}' says no item");
         };
         let written = write_item(&item);
@@ -126,7 +133,7 @@ impl Compiled {
         let own = self.words_of(&entry)?;
         let is_said = are_same_words(own.as_str(), words) || is_number_of(words, &entry);
         if !is_said || entry.bytes.is_empty() {
-            let words = escaped(self.alloc, words)?;
+            let words = escaped(self.alloc, said)?;
             bail!("'{words}' can't be said: the item would be '{own}'");
         }
         self.bytes.extend_from_slice(entry.bytes)?;
@@ -139,6 +146,38 @@ impl Compiled {
         add_item(&mut words, &entry.item, self.state.page())?;
         Ok(words)
     }
+}
+
+/// The words of a data item with a number in place of flags that are written as in the standard.
+fn written_number(alloc: Global, words: &str) -> Result<Option<String>, AllocError> {
+    let Some((name, told)) = words.split_once("(") else {
+        return Ok(None);
+    };
+    let name = name.trim();
+    if !["Input", "Output", "Feature"]
+        .iter()
+        .any(|own| own.eq_ignore_ascii_case(name))
+    {
+        return Ok(None);
+    }
+    match told.trim().strip_suffix(")").and_then(flags_said) {
+        Some(flags) => Ok(Some(format!(in alloc; "{name} ({flags})")?)),
+        None => Ok(None),
+    }
+}
+
+/// What of a line stands before a `;` that is in no parentheses.
+fn without_remark(line: &str) -> &str {
+    let mut depth = 0usize;
+    for (place, letter) in line.char_indices() {
+        match letter {
+            '(' => depth = depth.saturating_add(1),
+            ')' => depth = depth.saturating_sub(1),
+            ';' if depth == 0 => return line.get(..place).unwrap_or(line),
+            _ => {}
+        }
+    }
+    line
 }
 
 /// Whether what stands in parentheses is the item's number, as digits.
