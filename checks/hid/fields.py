@@ -15,7 +15,7 @@ import sys
 
 MOST_LINES = 200
 FEWEST_FIELDS = 100
-HEAD = re.compile(r'(Input|Output|Feature) report(?:s)?(?: ([0-9, to]+))?: (\d+ bits, \d+ bytes?)(?: each)?$')
+HEAD = re.compile(r'(Input|Output|Feature) report(?:s)?(?: ([0-9, to]+))?: (\d+ bits?, \d+ bytes?)(?: each)?$')
 FIELD = re.compile(r'( *)(\d+)\.\.(\d+) +(.*)$', re.S)
 AGAIN = re.compile(
     r'the (?:field|(\d+) fields) above( with (?:its|their) collections?)? '

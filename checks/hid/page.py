@@ -319,7 +319,7 @@ def look_at_bounds(folder):
 
     fields = "05 01 09 30 75 01 96 {} 81 02"
     same("2000 fields", ([5, 2000, 0], []), notes(fields.format("d0 07")))
-    same("2001 fields", ([5, 2000, 0], [{"note": "1 more fields: --all puts them into the page"}]),
+    same("2001 fields", ([5, 2000, 0], [{"note": "1 more field: --all puts it into the page"}]),
          notes(fields.format("d1 07")))
     same("4096 items", ([4096, 0, 0], []), notes("05 01 " * 4096))
     same("4097 items", ([4096, 0, 0],
@@ -328,12 +328,12 @@ def look_at_bounds(folder):
     one = "05 01 09 30 75 08 95 01 81 02"
     same("4000 reports", ([5, 1, 4000], []), notes(one, ["01\n"] * 4000))
     same("4001 reports", ([5, 1, 4000],
-                          [{"note": "1 more reports: --all puts them into the page"}]),
+                          [{"note": "1 more report: --all puts it into the page"}]),
          notes(one, ["01\n"] * 4001))
     many = fields.format("d0 07")
     same("200000 values", ([5, 2000, 100], []), notes(many, ["00 " * 250 + "\n"] * 100))
     same("202000 values", ([5, 2000, 100],
-                           [{"note": "1 more reports: --all puts them into the page"}]),
+                           [{"note": "1 more report: --all puts it into the page"}]),
          notes(many, ["00 " * 250 + "\n"] * 101))
 
 

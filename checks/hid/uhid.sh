@@ -141,9 +141,9 @@ sed 's/ä//; s/^P: 0*/&/' "$scratch/longer" > "$scratch/cut"
     wrong 'a longer name is refused'
 "$program" uhid "$scratch/cut" > "$scratch/cut_events" 2> /dev/null
 cmp "$scratch/longer_events" "$scratch/cut_events" || wrong 'a name is cut otherwise'
-same "$scratch/cut" 0 'hid: of a name of 64 bytes uhid gets 63'
+same "$scratch/cut" 0 'hid: of a place of 64 bytes uhid gets 63'
 [ "$(tail -n 2 "$scratch/longer_said")" = 'hid: of a name of 128 bytes uhid gets 126
-hid: of a name of 64 bytes uhid gets 63' ] ||
+hid: of a place of 64 bytes uhid gets 63' ] ||
     wrong "of longer names it says $(cat "$scratch/longer_said")"
 
 # What is refused writes nothing; reports of another device are counted.
