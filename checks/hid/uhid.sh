@@ -166,6 +166,6 @@ printf 'R: 1 c0\nE: 0 1 05\nD: 1\nE: 0 1 06\n' > "$scratch/others"
 status=0
 "$program" uhid "$scratch/others" > "$scratch/output" 2> "$scratch/said" || status=$?
 [ "$status" -eq 1 ] && [ "$(stat -c %s "$scratch/output")" -eq $((3 * 4380)) ] &&
-    [ "$(tail -n 1 "$scratch/said")" = "hid: 1 reports aren't of this descriptor" ] ||
+    [ "$(tail -n 1 "$scratch/said")" = "hid: 1 report isn't of this descriptor" ] ||
     wrong "of a report of another device it says $(cat "$scratch/said")"
 echo "hid_uhid: $((answers + 2)) answers as by linux/uhid.h"
