@@ -1,6 +1,5 @@
 //! Report descriptors, their fields listed.
-ghost use Rattle.std.specs.Prelude.{◌≡◌, ◌≢◌, ◌≤◌, ℕ, [], None, Some, Err, Ok, IfOk, IfSome, List};
-ghost use Rattle.std.specs.Prelude.{◌↔◌, IsTrue, option_copied};
+ghost use Rattle.std.specs.Prelude.{◌≡◌, ◌≢◌, ◌≤◌, ℕ, [], None, Some, Err, Ok, IfOk, IfSome, List, ◌↔◌, IsTrue, option_copied};
 ghost use Rattle.hidreport_items.specs.Spelling.{item_of};
 ghost use Rattle.hidreport_lists.specs.Answer.{Answers};
 ghost use Rattle.hidreport_lists.specs.Entry.{Entry};

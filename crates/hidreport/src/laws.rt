@@ -1,6 +1,5 @@
 //! Laws of the definitions that no single call shows.
-ghost use Rattle.std.specs.Prelude.{◌≡◌, ◌≢◌, ◌+◌, ◌/◌, ◌<◌, ◌≤◌, ℕ, [], List, Option, Some};
-ghost use Rattle.std.specs.Prelude.{flat_map, length, map, negsuc, pos, slice_get, take};
+ghost use Rattle.std.specs.Prelude.{◌≡◌, ◌≢◌, ◌+◌, ◌/◌, ◌<◌, ◌≤◌, ℕ, [], List, Option, Some, flat_map, length, map, negsuc, pos, slice_get, take};
 ghost use Rattle.hidreport_items.specs.Writing.{item_bytes};
 ghost use Rattle.hidreport_items.specs.declared.item.ItemType.{ItemType};
 ghost use Rattle.hidreport_lists.specs.DescriptorBuilder.{AreSpelled};

@@ -3,8 +3,7 @@ ghost use Rattle.std.specs.Prelude.{◌≡◌, ◌≢◌, ℕ, [], false, Err, I
 ghost use Rattle.hidreport_lists.specs.Answer.{AnswersBy};
 ghost use Rattle.hidreport.specs.Options.{parse_as};
 ghost use Rattle.hidreport.specs.Repair.{repaired, repaired_view};
-ghost use Rattle.hidreport.specs.RepairLaws.{IsRepairOf, KeepsBits, RebuildsAlike};
-ghost use Rattle.hidreport.specs.RepairLaws.{StaysRepaired};
+ghost use Rattle.hidreport.specs.RepairLaws.{IsRepairOf, KeepsBits, RebuildsAlike, StaysRepaired};
 
 mod change;
 mod mending;

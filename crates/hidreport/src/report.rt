@@ -1,6 +1,5 @@
 //! Reports, their fields listed.
-ghost use Rattle.std.specs.Prelude.{◌≡◌, ◌==◌, ◌+◌, ◌/◌, ◌↔◌, ℕ, List, Option, map, IfOk, IsTrue};
-ghost use Rattle.std.specs.Prelude.{find, option_copied, option_map};
+ghost use Rattle.std.specs.Prelude.{◌≡◌, ◌==◌, ◌+◌, ◌/◌, ◌↔◌, ℕ, List, Option, map, IfOk, IsTrue, find, option_copied, option_map};
 ghost use Rattle.hidreport_items.specs.Spelling.{AreBytes};
 ghost use Rattle.hidreport.specs.Blank.{blank_bytes, with_first};
 ghost use Rattle.hidreport.specs.Lookup.{field_for, field_with, has_usage};

@@ -1,9 +1,7 @@
 ghost use Rattle.std.specs.Prelude.{◌≡◌, option_copied, option_map};
 ghost use Rattle.hidreport.specs.Views.{field_record};
 ghost use Rattle.hidreport_c.specs.Answer.{ListsOf};
-ghost use Rattle.hidreport_c.specs.Collection.{collection_as_c, collection_usages};
-ghost use Rattle.hidreport_c.specs.Collection.{collections_or_none, listed_collections};
-ghost use Rattle.hidreport_c.specs.Collection.{usages_or_none};
+ghost use Rattle.hidreport_c.specs.Collection.{collection_as_c, collection_usages, collections_or_none, listed_collections, usages_or_none};
 
 use crate::answer::{HidreportAnswer, read};
 use crate::numbered::field_numbered;

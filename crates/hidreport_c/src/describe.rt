@@ -1,8 +1,7 @@
 ghost use Rattle.std.specs.Prelude.{◌≡◌, ◌<◌, ◌^◌, Ok, IfSome, length, option_copied};
 ghost use Rattle.hidreport.specs.Lookup.{find_report};
 ghost use Rattle.hidreport_c.specs.Answer.{Lists, ListsOf};
-ghost use Rattle.hidreport_c.specs.Describe.{described_fields, fields_as_c, found_fields};
-ghost use Rattle.hidreport_c.specs.Describe.{fields_or_none, reports_in_direction};
+ghost use Rattle.hidreport_c.specs.Describe.{described_fields, fields_as_c, found_fields, fields_or_none, reports_in_direction};
 
 use crate::answer::{HidreportAnswer, read};
 use crate::field::HidreportField;

@@ -1,7 +1,6 @@
 ghost use Rattle.std.specs.Prelude.{◌≡◌, is_some, pos, unwrap_or};
 ghost use Rattle.hidreport.specs.Views.{field_record};
-ghost use Rattle.hidreport_c.specs.Field.{as_c, collections_as_c, flags_as_c, nothing_measured};
-ghost use Rattle.hidreport_c.specs.Field.{nothing_set, usages_as_c};
+ghost use Rattle.hidreport_c.specs.Field.{as_c, collections_as_c, flags_as_c, nothing_measured, nothing_set, usages_as_c};
 
 use crate::part::Part;
 use hidreport::{

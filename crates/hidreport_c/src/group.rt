@@ -3,9 +3,7 @@ ghost use Rattle.std.specs.Prelude.{◌≡◌, ◌&&◌, nat_le, [], ◌∷◌, 
 ghost use Rattle.hidreport.specs.Records.{fields_in_all};
 ghost use Rattle.hidreport.specs.Views.{field_record};
 ghost use Rattle.hidreport_c.specs.Answer.{Lists, array_after, counted, no_memory};
-ghost use Rattle.hidreport_c.specs.Group.{InGroups, InGroupsOf, flags_in, group_as_c, groups_as_c};
-ghost use Rattle.hidreport_c.specs.Group.{field_placed, kind_in, measures_in, usage_in};
-ghost use Rattle.hidreport_c.specs.Group.{usage_listed};
+ghost use Rattle.hidreport_c.specs.Group.{InGroups, InGroupsOf, flags_in, group_as_c, groups_as_c, field_placed, kind_in, measures_in, usage_in, usage_listed};
 ghost use Rattle.hidreport_c.specs.Lookup.{field_or_none};
 
 use crate::answer::HidreportAnswer;

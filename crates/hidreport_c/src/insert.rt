@@ -5,10 +5,7 @@ ghost use Rattle.hidreport.specs.Spelling.{AreBytes};
 ghost use Rattle.hidreport.specs.WritingLaws.{IsWritten};
 ghost use Rattle.hidreport.specs.WritingValues.{begins_in_id, written};
 ghost use Rattle.hidreport_c.specs.Field.{as_c};
-ghost use Rattle.hidreport_c.specs.Insert.{IsInserted, Places, bytes_after, inserted_at};
-ghost use Rattle.hidreport_c.specs.Insert.{inserted_value};
-ghost use Rattle.hidreport_c.specs.Insert.{is_signed_in, placed_at, status_after, width_of};
-ghost use Rattle.hidreport_c.specs.Insert.{written_at};
+ghost use Rattle.hidreport_c.specs.Insert.{IsInserted, Places, bytes_after, inserted_at, inserted_value, is_signed_in, placed_at, status_after, width_of, written_at};
 ghost use Rattle.hidreport_c.specs.Value.{id_of};
 
 use crate::field::HidreportField;

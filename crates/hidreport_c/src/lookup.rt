@@ -2,9 +2,7 @@
 ghost use Rattle.std.specs.Prelude.{◌≡◌, Ok, option_copied, option_map};
 ghost use Rattle.hidreport.specs.Views.{field_record};
 ghost use Rattle.hidreport_c.specs.Answer.{Lists, ListsOf};
-ghost use Rattle.hidreport_c.specs.Lookup.{field_for_listed, field_listed, field_or_none};
-ghost use Rattle.hidreport_c.specs.Lookup.{field_with_usage, given_id, report_in, report_listed};
-ghost use Rattle.hidreport_c.specs.Lookup.{report_or_none};
+ghost use Rattle.hidreport_c.specs.Lookup.{field_for_listed, field_listed, field_or_none, field_with_usage, given_id, report_in, report_listed, report_or_none};
 
 use crate::answer::{HidreportAnswer, read};
 use crate::field::HidreportField;

@@ -1,7 +1,6 @@
 //! How C asks for a descriptor to be read.
 ghost use Rattle.std.specs.Prelude.{◌≡◌};
-ghost use Rattle.hidreport_c.specs.Options.{limit_of, longest_of, options_of, push_keeps_of};
-ghost use Rattle.hidreport_c.specs.Options.{usages_of};
+ghost use Rattle.hidreport_c.specs.Options.{limit_of, longest_of, options_of, push_keeps_of, usages_of};
 ghost use Rattle.hidreport_c.specs.Repair.{repair_options_of};
 
 use hidreport::{ParseOptions, PushKeeps, RepairOptions, UsagesBy};

@@ -5,8 +5,7 @@ ghost use Rattle.hidreport.specs.Reader.{available_numbers, begins_otherwise, re
 ghost use Rattle.hidreport.specs.Records.{FieldRecord};
 ghost use Rattle.hidreport_c.specs.Answer.{array_after, as_answer, list_or_nothing};
 ghost use Rattle.hidreport_c.specs.Field.{as_c};
-ghost use Rattle.hidreport_c.specs.Reading.{available_in, if_countable, numbers_in, there_at};
-ghost use Rattle.hidreport_c.specs.Reading.{there_in};
+ghost use Rattle.hidreport_c.specs.Reading.{available_in, if_countable, numbers_in, there_at, there_in};
 ghost use Rattle.hidreport_c.specs.Status.{by_status};
 ghost use Rattle.hidreport_c.specs.Value.{acceptance, id_of};
 ghost use Rattle.hidreport_c.specs.declared.field.HidreportField.{HidreportField};

@@ -1,6 +1,5 @@
 //! The value of an array that stands for a usage, and one that stands for none.
-ghost use Rattle.std.specs.Prelude.{◌≡◌, ◌≢◌, ◌<◌, ◌≤ℤ◌, ℕ, ℤ, ◌≤◌, Bool, List, IfSome, IsNone};
-ghost use Rattle.std.specs.Prelude.{◌^◌, Some, false, true, int_lt, pos, slice_get, unsigned_abs};
+ghost use Rattle.std.specs.Prelude.{◌≡◌, ◌≢◌, ◌<◌, ◌≤ℤ◌, ℕ, ℤ, ◌≤◌, Bool, List, IfSome, IsNone, ◌^◌, Some, false, true, int_lt, pos, slice_get, unsigned_abs};
 ghost use Rattle.hidreport.specs.Reading.{element_width};
 ghost use Rattle.hidreport.specs.Records.{ArrayRecord, Attributes, FieldPlace};
 ghost use Rattle.hidreport.specs.Standing.{IsNullNumber};

@@ -1,5 +1,4 @@
-ghost use Rattle.std.specs.Prelude.{◌≡◌, ◌+◌, ◌*◌, ◌<◌, ◌≤◌, ◌^◌, false, Err, Ok, IfSome};
-ghost use Rattle.std.specs.Prelude.{IsNone, IsOk, IsTrue};
+ghost use Rattle.std.specs.Prelude.{◌≡◌, ◌+◌, ◌*◌, ◌<◌, ◌≤◌, ◌^◌, false, Err, Ok, IfSome, IsNone, IsOk, IsTrue};
 ghost use Rattle.hidreport.specs.Answer.{OutOfBounds};
 ghost use Rattle.hidreport.specs.Spelling.{AreBytes};
 ghost use Rattle.hidreport.specs.Reading.{element_width, reads, with_id};
@@ -7,9 +6,7 @@ ghost use Rattle.hidreport.specs.Records.{FieldRecord};
 ghost use Rattle.hidreport_c.specs.Answer.{as_answer, list_or_nothing, array_after};
 ghost use Rattle.hidreport_c.specs.Field.{as_c};
 ghost use Rattle.hidreport_c.specs.Status.{by_status};
-ghost use Rattle.hidreport_c.specs.Value.{acceptance, as_value, element_at, elements_at};
-ghost use Rattle.hidreport_c.specs.Value.{extracted_value};
-ghost use Rattle.hidreport_c.specs.Value.{id_of, value_numbers, value_at, values_at};
+ghost use Rattle.hidreport_c.specs.Value.{acceptance, as_value, element_at, elements_at, extracted_value, id_of, value_numbers, value_at, values_at};
 
 use crate::answer::HidreportAnswer;
 use crate::field::HidreportField;

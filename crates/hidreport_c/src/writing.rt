@@ -7,13 +7,11 @@ ghost use Rattle.hidreport.specs.Spelling.{AreBytes};
 ghost use Rattle.hidreport.specs.Tiling.{Each};
 ghost use Rattle.hidreport.specs.WritingValues.{fits, put};
 ghost use Rattle.hidreport_c.specs.Field.{as_c};
-ghost use Rattle.hidreport_c.specs.Insert.{Places, bytes_after, is_signed_in, status_after};
-ghost use Rattle.hidreport_c.specs.Insert.{width_of};
+ghost use Rattle.hidreport_c.specs.Insert.{Places, bytes_after, is_signed_in, status_after, width_of};
 ghost use Rattle.hidreport_c.specs.Reading.{numbers_in};
 ghost use Rattle.hidreport_c.specs.Status.{by_status};
 ghost use Rattle.hidreport_c.specs.Value.{acceptance};
-ghost use Rattle.hidreport_c.specs.Writing.{HasRoomAt, IsNarrowAt, all_fit_at, begins_in_own_id_at};
-ghost use Rattle.hidreport_c.specs.Writing.{count_at, put_all_at, report_written_at};
+ghost use Rattle.hidreport_c.specs.Writing.{HasRoomAt, IsNarrowAt, all_fit_at, begins_in_own_id_at, count_at, put_all_at, report_written_at};
 
 use crate::field::HidreportField;
 use crate::reading::check_all;

@@ -1,11 +1,8 @@
 //! What a field has beside its place and its usages.
-ghost use Rattle.std.specs.Prelude.{◌≡◌, pos, negsuc, List, [], ◌∷◌, None, Some, codes, true};
-ghost use Rattle.std.specs.Prelude.{false};
+ghost use Rattle.std.specs.Prelude.{◌≡◌, pos, negsuc, List, [], ◌∷◌, None, Some, codes, true, false};
 ghost use Rattle.hidreport.specs.Records.{VariableRecord};
 ghost use Rattle.hidreport.specs.Usages.{make_usage};
-ghost use Rattle.hidreport_definitions.specs.Summary.{announced_by, feature_attributes};
-ghost use Rattle.hidreport_definitions.specs.Summary.{input_attributes, place_at, unset};
-ghost use Rattle.hidreport_definitions.specs.Summary.{variable_flags};
+ghost use Rattle.hidreport_definitions.specs.Summary.{announced_by, feature_attributes, input_attributes, place_at, unset, variable_flags};
 
 /// Bounds, unit and flags are those in force; where one physical bound is set the other is 0.
 pub fn a_field_has_the_bounds_and_the_unit_in_force()

@@ -4,8 +4,7 @@ ghost use Rattle.hidreport.specs.Bits.{AgreeOn, FixesBits, covered_bits};
 ghost use Rattle.hidreport.specs.Reading.{ValueRecord, reads};
 ghost use Rattle.hidreport.specs.Records.{ConstantRecord};
 ghost use Rattle.hidreport_definitions.specs.Hex.{hex};
-ghost use Rattle.hidreport_definitions.specs.Summary.{array_at, place_at, unsigned_value};
-ghost use Rattle.hidreport_definitions.specs.Summary.{variable_at};
+ghost use Rattle.hidreport_definitions.specs.Summary.{array_at, place_at, unsigned_value, variable_at};
 
 /// Bytes agree on the bits from 4 up to 12 where just these are the same: the bits right beside
 /// them don't count, the first and the last of them do.

@@ -1,6 +1,5 @@
 //! The usage that a value of an array stands for, and the number of a value.
-ghost use Rattle.std.specs.Prelude.{◌≡◌, ℤ, pos, negsuc, int_lt, IsTrue, List, [], Option};
-ghost use Rattle.std.specs.Prelude.{None, Some};
+ghost use Rattle.std.specs.Prelude.{◌≡◌, ℤ, pos, negsuc, int_lt, IsTrue, List, [], Option, None, Some};
 ghost use Rattle.hidreport.specs.Choosing.{usage_chosen, value_number};
 ghost use Rattle.hidreport.specs.Usages.{make_usage, range_from};
 ghost use Rattle.hidreport.specs.declared.field.usage.Usage.{Usage};

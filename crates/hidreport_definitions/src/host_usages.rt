@@ -1,9 +1,6 @@
 //! Which usages the fields of an item have as hosts read them (Section 6.2.2.8).
-ghost use Rattle.std.specs.Prelude.{◌≡◌, List, [], ◌∷◌, Option, None};
-ghost use Rattle.std.specs.Prelude.{codes, false, true};
-ghost use Rattle.hidreport_definitions.specs.Summary.{Array, Constant, Report, Variable};
-ghost use Rattle.hidreport_definitions.specs.Summary.{host_range, host_summary, inputs, summary};
-ghost use Rattle.hidreport_definitions.specs.Summary.{no_usages};
+ghost use Rattle.std.specs.Prelude.{◌≡◌, List, [], ◌∷◌, Option, None, codes, false, true};
+ghost use Rattle.hidreport_definitions.specs.Summary.{Array, Constant, Report, Variable, host_range, host_summary, inputs, summary, no_usages};
 
 /// A usage without a page of its own lies on the page in force where it stands, unless it stands
 /// behind the last that lies on the main item's page.

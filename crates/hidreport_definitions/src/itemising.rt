@@ -3,8 +3,7 @@ ghost use Rattle.std.specs.Prelude.{[], ◌∷◌};
 ghost use Rattle.hidreport.specs.Itemising.{Itemises};
 ghost use Rattle.hidreport.specs.Spelling.{item_of};
 ghost use Rattle.hidreport.specs.WithoutLong.{ItemisesShort};
-ghost use Rattle.hidreport_definitions.specs.Cut.{another_page, begun_late, long_alone, page_and_pop};
-ghost use Rattle.hidreport_definitions.specs.Cut.{pop_late};
+ghost use Rattle.hidreport_definitions.specs.Cut.{another_page, begun_late, long_alone, page_and_pop, pop_late};
 
 /// Bytes that are a short and a bare item, and those of a long one.
 pub fn bytes_are_items()

@@ -6,8 +6,7 @@ ghost use Rattle.hidreport.specs.Laws.{Spares};
 ghost use Rattle.hidreport.specs.LocalItem.TheVariants as local;
 ghost use Rattle.hidreport.specs.Segments.{HasNoLocal, HasNoPush};
 ghost use Rattle.hidreport.specs.declared.parser.push_keeps.PushKeeps.TheVariants as a_push_keeps;
-ghost use Rattle.hidreport_definitions.specs.Summary.{Report, Variable, globals_summary, inputs};
-ghost use Rattle.hidreport_definitions.specs.Summary.{summary, no_push, no_usages};
+ghost use Rattle.hidreport_definitions.specs.Summary.{Report, Variable, globals_summary, inputs, summary, no_push, no_usages};
 
 /// A usage that is used between a Push and its Pop comes back only where the Push keeps locals.
 pub fn a_usage_used_inside_comes_back_with_locals_alone()

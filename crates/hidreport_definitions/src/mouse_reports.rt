@@ -1,10 +1,7 @@
 //! A whole descriptor: a mouse with five buttons, a wheel and feature reports.
 ghost use Rattle.std.specs.Prelude.{◌≡◌, List, [], ◌∷◌, None, Some, codes};
 ghost use Rattle.hidreport_definitions.specs.Mouse.{mouse, mouse_with_segment};
-ghost use Rattle.hidreport_definitions.specs.Summary.{Variable, Constant, Report, announced_by};
-ghost use Rattle.hidreport_definitions.specs.Summary.{summary, input_reports, feature_reports};
-ghost use Rattle.hidreport_definitions.specs.Summary.{all_numbers, report_found, readings};
-ghost use Rattle.hidreport_definitions.specs.Summary.{unsigned_value, signed_value};
+ghost use Rattle.hidreport_definitions.specs.Summary.{Variable, Constant, Report, announced_by, summary, input_reports, feature_reports, all_numbers, report_found, readings, unsigned_value, signed_value};
 
 /// The reports of each direction, the places of their fields, and their usages.
 pub fn a_mouse_has_two_input_and_two_feature_reports()

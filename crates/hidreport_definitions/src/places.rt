@@ -7,10 +7,7 @@ ghost use Rattle.hidreport.specs.Flags.{flags_of};
 ghost use Rattle.hidreport.specs.ItemType.TheVariants as item;
 ghost use Rattle.hidreport.specs.MainItem.TheVariants as main;
 ghost use Rattle.hidreport.specs.MeaningFault as meaning_fault;
-ghost use Rattle.hidreport_definitions.specs.Summary.{Variable, Constant, Report, summary, inputs};
-ghost use Rattle.hidreport_definitions.specs.Summary.{no_reports, all_numbers, announced_by};
-ghost use Rattle.hidreport_definitions.specs.Summary.{report_found, input_reports, only_counts};
-ghost use Rattle.hidreport_definitions.specs.Summary.{one_bit, no_usages};
+ghost use Rattle.hidreport_definitions.specs.Summary.{Variable, Constant, Report, summary, inputs, no_reports, all_numbers, announced_by, report_found, input_reports, only_counts, one_bit, no_usages};
 
 /// A report id that comes later begins a second report, and the first, which has no id, is found
 /// for any byte.

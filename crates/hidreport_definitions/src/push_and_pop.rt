@@ -1,14 +1,10 @@
 //! Push keeps what is in force, and Pop brings it back.
-ghost use Rattle.std.specs.Prelude.{◌≡◌, pos, List, [], ◌∷◌, Option, None, Some, codes, true};
-ghost use Rattle.std.specs.Prelude.{false};
+ghost use Rattle.std.specs.Prelude.{◌≡◌, pos, List, [], ◌∷◌, Option, None, Some, codes, true, false};
 ghost use Rattle.hidreport.specs.CollectionItem.TheVariants as kind;
 ghost use Rattle.hidreport.specs.Answer.{InvalidData, MismatchingReportId};
 ghost use Rattle.hidreport.specs.Records.{VariableRecord};
 ghost use Rattle.hidreport.specs.Usages.{make_usage};
-ghost use Rattle.hidreport_definitions.specs.Summary.{Report, Variable, announced_by, report_found};
-ghost use Rattle.hidreport_definitions.specs.Summary.{inputs, no_reports, place_at, readings};
-ghost use Rattle.hidreport_definitions.specs.Summary.{summary, unset, unsigned_value};
-ghost use Rattle.hidreport_definitions.specs.Summary.{one_collection, one_input};
+ghost use Rattle.hidreport_definitions.specs.Summary.{Report, Variable, announced_by, report_found, inputs, no_reports, place_at, readings, summary, unset, unsigned_value, one_collection, one_input};
 
 /// A usage that is used between a Push and its Pop is there again behind the Pop.
 pub fn a_usage_used_inside_comes_back()

@@ -3,10 +3,7 @@ ghost use Rattle.std.specs.Prelude.{◌≡◌, List, [], ◌∷◌, Option, None
 ghost use Rattle.hidreport.specs.Answer.{OutOfBounds, MismatchingReportId};
 ghost use Rattle.hidreport.specs.Reading.{reads, reads_element};
 ghost use Rattle.hidreport_definitions.specs.Hex.{hex};
-ghost use Rattle.hidreport_definitions.specs.Summary.{Variable, Array, Constant, Report, summary};
-ghost use Rattle.hidreport_definitions.specs.Summary.{inputs, readings, unsigned_value};
-ghost use Rattle.hidreport_definitions.specs.Summary.{signed_value, array_at, of_report};
-ghost use Rattle.hidreport_definitions.specs.Summary.{variable_at};
+ghost use Rattle.hidreport_definitions.specs.Summary.{Variable, Array, Constant, Report, summary, inputs, readings, unsigned_value, signed_value, array_at, of_report, variable_at};
 
 /// Each element of an array has its own sign, and an index past the count or bits past the bytes
 /// are refused.

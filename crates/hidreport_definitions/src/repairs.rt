@@ -8,8 +8,7 @@ ghost use Rattle.hidreport.specs.Options.{default_options, globals_only_options,
 ghost use Rattle.hidreport.specs.Places.{start};
 ghost use Rattle.hidreport.specs.RepairLaws.{IsRepairOf, KeepsBits, SamePlaces};
 ghost use Rattle.hidreport_definitions.specs.Hex.{hex};
-ghost use Rattle.hidreport_definitions.specs.Repairs.{as_hid_core, by_globals, fields_by, input};
-ghost use Rattle.hidreport_definitions.specs.Repairs.{left_out_at, output, padded_at, repaired_to};
+ghost use Rattle.hidreport_definitions.specs.Repairs.{as_hid_core, by_globals, fields_by, input, left_out_at, output, padded_at, repaired_to};
 
 /// Named changes, wherever they stand, and none at all.
 pub fn a_repair_names_its_changes()

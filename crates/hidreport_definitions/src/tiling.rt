@@ -1,13 +1,10 @@
 //! How fields fill their reports, and what has a number of its own.
 ghost use Rattle.std.specs.Prelude.{◌≡◌, pos, List, [], ◌∷◌, None, Some, codes, true, false};
 ghost use Rattle.hidreport.specs.Records.{ArrayRecord, ConstantRecord};
-ghost use Rattle.hidreport.specs.Tiling.{Covers, HasNoRest, HasRange, HaveOwnCollections};
-ghost use Rattle.hidreport.specs.Tiling.{HaveOwnIds, HaveOwnNumbers, IsFilled, IsOf, IsTiled};
+ghost use Rattle.hidreport.specs.Tiling.{Covers, HasNoRest, HasRange, HaveOwnCollections, HaveOwnIds, HaveOwnNumbers, IsFilled, IsOf, IsTiled};
 ghost use Rattle.hidreport.specs.Usages.{make_usage, range_from};
-ghost use Rattle.hidreport_definitions.specs.Summary.{announced_by, array_at, of_report, place_at};
-ghost use Rattle.hidreport_definitions.specs.Summary.{unset, variable_at};
-ghost use Rattle.hidreport_definitions.specs.Tiled.{field_in, logical, physical, empty_report};
-ghost use Rattle.hidreport_definitions.specs.Tiled.{two_reports};
+ghost use Rattle.hidreport_definitions.specs.Summary.{announced_by, array_at, of_report, place_at, unset, variable_at};
+ghost use Rattle.hidreport_definitions.specs.Tiled.{field_in, logical, physical, empty_report, two_reports};
 
 /// A report of a bit field, padding and a report of an array, in one collection: their fields have
 /// all their bits.

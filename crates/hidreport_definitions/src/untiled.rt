@@ -2,8 +2,7 @@
 ghost use Rattle.std.specs.Prelude.{pos, List, [], ◌∷◌, None, Some};
 ghost use Rattle.hidreport.specs.Tiling.{IsTiled};
 ghost use Rattle.hidreport_definitions.specs.Summary.{variable_at};
-ghost use Rattle.hidreport_definitions.specs.Tiled.{byte_report, descriptor_of, logical, physical};
-ghost use Rattle.hidreport_definitions.specs.Tiled.{report_in, report_with, report_without_id};
+ghost use Rattle.hidreport_definitions.specs.Tiled.{byte_report, descriptor_of, logical, physical, report_in, report_with, report_without_id};
 
 /// Reports of all directions: an id may stand once in each, and a first report may have none.
 pub fn a_descriptor_of_all_directions_is_tiled()

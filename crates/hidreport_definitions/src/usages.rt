@@ -1,15 +1,11 @@
 //! Which usages the fields of an item have.
-ghost use Rattle.std.specs.Prelude.{◌≡◌, pos, List, [], ◌∷◌, Option, None};
-ghost use Rattle.std.specs.Prelude.{codes, true, false};
+ghost use Rattle.std.specs.Prelude.{◌≡◌, pos, List, [], ◌∷◌, Option, None, codes, true, false};
 ghost use Rattle.hidreport.specs.CollectionItem.TheVariants as kind;
 ghost use Rattle.hidreport.specs.Records.{ArrayRecord};
 ghost use Rattle.hidreport.specs.Tiling.{IsRangeOf};
 ghost use Rattle.hidreport.specs.UsageRange.{HasExactly};
 ghost use Rattle.hidreport.specs.Usages.{make_usage, range_from};
-ghost use Rattle.hidreport_definitions.specs.Summary.{Report, Variable, announced_by, inputs};
-ghost use Rattle.hidreport_definitions.specs.Summary.{no_reports, four_keys, place_at, summary};
-ghost use Rattle.hidreport_definitions.specs.Summary.{unset_array, no_maximum, no_page, no_usages};
-ghost use Rattle.hidreport_definitions.specs.Summary.{one_collection, one_input};
+ghost use Rattle.hidreport_definitions.specs.Summary.{Report, Variable, announced_by, inputs, no_reports, four_keys, place_at, summary, unset_array, no_maximum, no_page, no_usages, one_collection, one_input};
 
 /// Fields beyond the usages take the last one.
 pub fn the_last_usage_is_repeated()

@@ -1,7 +1,5 @@
 //! What a caller proves of reading and writing fields.
-ghost use Rattle.std.specs.Prelude.{◌≡◌, ◌≢◌, ◌↔◌, [], ◌∷◌, List, ℕ, ℤ, Err, IfErr, IfOk, IfSome};
-ghost use Rattle.std.specs.Prelude.{◌+◌, ◌*◌, ◌≤◌, IsNone, OnOk, Ok, false, int_lt, length};
-ghost use Rattle.std.specs.Prelude.{option_copied, pos, true};
+ghost use Rattle.std.specs.Prelude.{◌≡◌, ◌≢◌, ◌↔◌, [], ◌∷◌, List, ℕ, ℤ, Err, IfErr, IfOk, IfSome, ◌+◌, ◌*◌, ◌≤◌, IsNone, OnOk, Ok, false, int_lt, length, option_copied, pos, true};
 ghost use Rattle.hidreport.specs.Answer.{IsOfReading, MismatchingReportId};
 ghost use Rattle.hidreport.specs.Bits.{AgreeOn, covered_bits};
 ghost use Rattle.hidreport.specs.Reading.{ValueRecord, element_width, reads, reads_element};
@@ -12,8 +10,7 @@ ghost use Rattle.hidreport.specs.Tiling.{Each, HasRange, IsFilled, IsTiled};
 ghost use Rattle.hidreport.specs.UsageRange.{HasExactly};
 ghost use Rattle.hidreport.specs.Views.{array_record, variable_record};
 ghost use Rattle.hidreport.specs.Working.{FieldWorks};
-ghost use Rattle.hidreport.specs.WritingLaws.{AllRead, Keeps, LeavesOthers, SamePadding};
-ghost use Rattle.hidreport.specs.WritingLaws.{number_in, reads_numbers, written_all};
+ghost use Rattle.hidreport.specs.WritingLaws.{AllRead, Keeps, LeavesOthers, SamePadding, number_in, reads_numbers, written_all};
 ghost use Rattle.hidreport.specs.WritingValues.{value_width, written, written_element};
 
 use hidreport::{

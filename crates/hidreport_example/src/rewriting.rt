@@ -4,8 +4,7 @@ ghost use Rattle.hidreport.specs.Answer.{IsOfItems};
 ghost use Rattle.hidreport.specs.Entry.{Entry};
 ghost use Rattle.hidreport.specs.Itemising.{Itemises};
 ghost use Rattle.hidreport.specs.Options.{parse_as};
-ghost use Rattle.hidreport.specs.Rebuilt.{canonical_entries, items_of, kept_entries};
-ghost use Rattle.hidreport.specs.Rebuilt.{rebuilt_bytes};
+ghost use Rattle.hidreport.specs.Rebuilt.{canonical_entries, items_of, kept_entries, rebuilt_bytes};
 ghost use Rattle.hidreport.specs.Spelling.{item_of};
 ghost use Rattle.hidreport_example.specs.Refusals.{IsOfDescriptor};
 

@@ -4,8 +4,7 @@ ghost use Rattle.hidreport_items.specs.Answer.{GivesWithoutMemory, Writes};
 ghost use Rattle.hidreport_items.specs.ItemFaults.{told_answer};
 ghost use Rattle.hidreport_items.specs.Writing.{main_bytes};
 ghost use Rattle.hidreport_items.specs.declared.error.HidError.TheVariants.{InsufficientData};
-ghost use Rattle.hidreport_items.specs.Spelling.{main_item, collection_item, collection_of};
-ghost use Rattle.hidreport_items.specs.Spelling.{kind_number, first_or_zero, read_with};
+ghost use Rattle.hidreport_items.specs.Spelling.{main_item, collection_item, collection_of, kind_number, first_or_zero, read_with};
 
 use crate::error::HidError;
 use crate::feature::FeatureItem;

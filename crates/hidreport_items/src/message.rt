@@ -2,8 +2,7 @@
 ghost use Rattle.std.specs.Prelude.{◌≡◌, ◌-◌, ◌%◌, Err, IfOk, MatchResult, string_bytes};
 ghost use Rattle.hidreport_items.specs.Answer.{FailsWithoutMemory, GivesWithoutMemory, IsFault};
 ghost use Rattle.hidreport_items.specs.ItemFaults.{told_answer, told_fault};
-ghost use Rattle.hidreport_items.specs.Messages.{long_message, not_long_message};
-ghost use Rattle.hidreport_items.specs.Messages.{size_message, tag_message};
+ghost use Rattle.hidreport_items.specs.Messages.{long_message, not_long_message, size_message, tag_message};
 ghost use Rattle.hidreport_items.specs.Spelling.{prefix};
 
 use crate::error::HidError;

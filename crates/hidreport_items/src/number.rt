@@ -1,8 +1,7 @@
 //! The numbers in the data of items (Section 6.2.2.2).
-ghost use Rattle.std.specs.Prelude.{◌≡◌, ℕ, ◌<◌, ◌≤◌, ◌+◌, ◌%◌, ◌/◌, ◌^◌, ◌==◌, length};
+ghost use Rattle.std.specs.Prelude.{◌≡◌, ℕ, ◌<◌, ◌≤◌, ◌+◌, ◌%◌, ◌/◌, ◌^◌, ◌==◌, length, IsTrue};
 ghost use Rattle.hidreport_items.specs.Numbers.{word, signed, is_short_length};
 ghost use Rattle.hidreport_items.specs.Flags.{is_flag_set};
-ghost use Rattle.std.specs.Prelude.{IsTrue};
 
 /// An item's data has 0, 1, 2 or 4 bytes.
 pub fn is_short_length(length: usize) -> bool

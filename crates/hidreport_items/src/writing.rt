@@ -1,8 +1,6 @@
 //! Items as bytes, in place.
 ghost use Rattle.std.specs.Prelude.{◌≡◌, ◌≤◌, ◌<◌, ◌^◌, length, pos};
-ghost use Rattle.hidreport_items.specs.Writing.{count_data, flag_bit, flags_data, four_bytes};
-ghost use Rattle.hidreport_items.specs.Writing.{signed_data, size_code};
-ghost use Rattle.hidreport_items.specs.Writing.{unsigned_data, with_header};
+ghost use Rattle.hidreport_items.specs.Writing.{count_data, flag_bit, flags_data, four_bytes, signed_data, size_code, unsigned_data, with_header};
 
 use crate::flags::ItemFlags;
 use crate::item_bytes::ItemBytes;

@@ -3,8 +3,7 @@ ghost use Rattle.std.specs.Prelude.{◌≡◌, false, IfOk};
 ghost use Rattle.hidreport_items.specs.Answer.{GivesBy};
 ghost use Rattle.hidreport_items.specs.Spelling.{first_or_zero, is_long_header, item_of};
 ghost use Rattle.hidreport_lists.specs.Itemising.{front_item};
-ghost use Rattle.hidreport_lists.specs.ShortOrLong.{any_data, any_tag, is_long_one, spelling_of};
-ghost use Rattle.hidreport_lists.specs.ShortOrLong.{IsByHeader, RefusesWithoutMemory};
+ghost use Rattle.hidreport_lists.specs.ShortOrLong.{any_data, any_tag, is_long_one, spelling_of, IsByHeader, RefusesWithoutMemory};
 
 use crate::data::ItemData;
 use crate::long_item::LongItem;

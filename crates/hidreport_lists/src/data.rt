@@ -1,8 +1,7 @@
 //! The data of items.
 ghost use Rattle.std.specs.Prelude.{◌≡◌, IfOk, string_bytes};
 ghost use Rattle.hidreport_items.specs.Answer.{GivesBy, GivesWithoutMemory};
-ghost use Rattle.hidreport_lists.specs.Data.{byte_message, data_byte, data_list, data_number};
-ghost use Rattle.hidreport_lists.specs.Data.{length_message};
+ghost use Rattle.hidreport_lists.specs.Data.{byte_message, data_byte, data_list, data_number, length_message};
 
 use hidreport_items::{HidError, invalid_data};
 use std::alloc::{AllocError, Global};

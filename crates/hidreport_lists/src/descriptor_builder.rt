@@ -7,8 +7,7 @@ ghost use Rattle.hidreport_items.specs.declared.global.GlobalItem.TheVariants as
 ghost use Rattle.hidreport_items.specs.declared.item.ItemType.TheVariants as item;
 ghost use Rattle.hidreport_items.specs.declared.local.LocalItem.TheVariants as local;
 ghost use Rattle.hidreport_items.specs.declared.main_item.MainItem.TheVariants as main;
-ghost use Rattle.hidreport_lists.specs.DescriptorBuilder.{AreSpelled, Builds, built, Holds};
-ghost use Rattle.hidreport_lists.specs.DescriptorBuilder.{WritesItems, is_written};
+ghost use Rattle.hidreport_lists.specs.DescriptorBuilder.{AreSpelled, Builds, built, Holds, WritesItems, is_written};
 
 use crate::descriptor_builder_rules::{MayBuild, MayClose, MayOpen, MayPop, MayPush};
 use crate::descriptor_builder_state::{

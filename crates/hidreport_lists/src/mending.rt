@@ -3,8 +3,7 @@ ghost use Rattle.std.specs.Prelude.{◌≡◌, Err, IfErr, IfOk, Ok};
 ghost use Rattle.hidreport_items.specs.ItemFaults.{told_fault};
 ghost use Rattle.hidreport_lists.specs.Answer.{AnswersBy, IsOfItems};
 ghost use Rattle.hidreport_lists.specs.Itemising.{as_refusal};
-ghost use Rattle.hidreport_lists.specs.Mending.{front_piece, left_out, pieces, whole_piece};
-ghost use Rattle.hidreport_lists.specs.Mending.{without_ended};
+ghost use Rattle.hidreport_lists.specs.Mending.{front_piece, left_out, pieces, whole_piece, without_ended};
 
 use crate::error::ParserError;
 use crate::front::PlacedFault;

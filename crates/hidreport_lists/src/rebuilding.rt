@@ -6,8 +6,7 @@ ghost use Rattle.hidreport_items.specs.Writing.{item_bytes};
 ghost use Rattle.hidreport_lists.specs.Answer.{AnswersBy, IsOfItems};
 ghost use Rattle.hidreport_lists.specs.Entry.{Entry};
 ghost use Rattle.hidreport_lists.specs.Itemising.{as_refusal, itemise, Itemises, all_bytes};
-ghost use Rattle.hidreport_lists.specs.Rebuilt.{AreCanonical, items_of, kept_entries};
-ghost use Rattle.hidreport_lists.specs.Rebuilt.{rebuild_answer, rebuilt_bytes, canonical_entries};
+ghost use Rattle.hidreport_lists.specs.Rebuilt.{AreCanonical, items_of, kept_entries, rebuild_answer, rebuilt_bytes, canonical_entries};
 
 use crate::error::ParserError;
 use crate::list::{ReportDescriptorItem, ReportDescriptorItems};

@@ -2,8 +2,7 @@
 ghost use Rattle.std.specs.Prelude.{◌≡◌, ◌≢◌, ◌≤◌, ◌+◌, ◌%◌, Bool, false, Err, List, ℕ, length};
 ghost use Rattle.hidreport_items.specs.Answer.{GivesWithoutMemory};
 ghost use Rattle.hidreport_items.specs.ItemFaults.{told_answer};
-ghost use Rattle.hidreport_items.specs.Spelling.{item_of};
-ghost use Rattle.hidreport_items.specs.Spelling.{data_length, first_or_zero, following_length};
+ghost use Rattle.hidreport_items.specs.Spelling.{item_of, data_length, first_or_zero, following_length};
 ghost use Rattle.hidreport_items.specs.Writing.{item_bytes};
 ghost use Rattle.hidreport_items.specs.declared.item.ItemType.{ItemType};
 ghost use Rattle.hidreport_lists.specs.Data.{short_data, short_tag, some_data};

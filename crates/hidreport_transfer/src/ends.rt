@@ -1,6 +1,5 @@
 //! What is read from and written to: each end tells whether it has failed.
-ghost use Rattle.std.specs.Prelude.{◌≡◌, ◌<◌, ◌≤◌, ◌↔◌, ℕ, List, Option, Bool, length, take};
-ghost use Rattle.std.specs.Prelude.{IsTrue, IsErr, IfOk, OnErr};
+ghost use Rattle.std.specs.Prelude.{◌≡◌, ◌<◌, ◌≤◌, ◌↔◌, ℕ, List, Option, Bool, length, take, IsTrue, IsErr, IfOk, OnErr};
 ghost use Rattle.std.specs.Io.KnownBytes.{Appends, Consumes, IsAtEnd, Keeps};
 
 mod bounded;

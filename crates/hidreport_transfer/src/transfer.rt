@@ -1,6 +1,5 @@
 //! Whole inputs and whole outputs, by loops over single reads and writes.
-ghost use Rattle.std.specs.Prelude.{◌≡◌, ◌<◌, ◌↔◌, ℕ, false, length, take, IsTrue, IsOk, IsErr};
-ghost use Rattle.std.specs.Prelude.{IsErrOf, IfOk, IfErr, IfSome, OnOk, OnErr};
+ghost use Rattle.std.specs.Prelude.{◌≡◌, ◌<◌, ◌↔◌, ℕ, false, length, take, IsTrue, IsOk, IsErr, IsErrOf, IfOk, IfErr, IfSome, OnOk, OnErr};
 ghost use Rattle.std.specs.Io.KnownBytes.{Appends, IsAtEnd};
 
 use crate::ends::{Sink, Source};

@@ -2,8 +2,7 @@
 ghost use Rattle.std.specs.Prelude.{◌≡◌, ◌+◌, Some, ◌<◌};
 ghost use Rattle.std.specs.Option.{option_map};
 ghost use Rattle.std.specs.Fmt.{WritesOnOk, WritesStyledOnOk};
-ghost use Rattle.hidreport_types.specs.UnitTable.{unit_number, system_number, exponent_at};
-ghost use Rattle.hidreport_types.specs.UnitTable.{exponent_nibble, is_unit};
+ghost use Rattle.hidreport_types.specs.UnitTable.{unit_number, system_number, exponent_at, exponent_nibble, is_unit};
 ghost use Rattle.hidreport_types.specs.UnitText.{units_text, power_text, exponent_text};
 
 use crate::unit_system::UnitSystem;

@@ -1,7 +1,6 @@
 //! The names of items, of kinds of collections and of systems of units.
 ghost use Rattle.std.specs.Prelude.{◌≡◌};
-ghost use Rattle.hidreport_usages.specs.ItemWords.{collection_name, global_name, item_name};
-ghost use Rattle.hidreport_usages.specs.ItemWords.{local_name, main_name, system_name};
+ghost use Rattle.hidreport_usages.specs.ItemWords.{collection_name, global_name, item_name, local_name, main_name, system_name};
 
 use hidreport_items::{CollectionItem, GlobalItem, ItemType, LocalItem, MainItem};
 use hidreport_types::UnitSystem;

@@ -2,8 +2,7 @@
 ghost use Rattle.std.specs.Prelude.{◌≡◌, ◌<◌, ℕ, List, length, map, option_map, MatchOption, None};
 ghost use Rattle.std.specs.Ordering.{is_lt};
 ghost use Rattle.hidreport_usages.specs.Packed.{Rises};
-ghost use Rattle.hidreport_usages.specs.Rows.{name_in, order, row_at, IsFirstNamed, IsNameOrder};
-ghost use Rattle.hidreport_usages.specs.Rows.{IsPlaceOf, IsRank};
+ghost use Rattle.hidreport_usages.specs.Rows.{name_in, order, row_at, IsFirstNamed, IsNameOrder, IsPlaceOf, IsRank};
 
 use std::cmp::Ordering;
 

@@ -1,8 +1,6 @@
 //! Whether fields are the same in all parts.
 ghost use Rattle.std.specs.Prelude.{◌≡◌, ◌↔◌, IsTrue};
-ghost use Rattle.hidreport.specs.Views.{array_attributes, array_measures, array_place};
-ghost use Rattle.hidreport.specs.Views.{array_record, constant_record, variable_attributes};
-ghost use Rattle.hidreport.specs.Views.{variable_measures, variable_place, variable_record};
+ghost use Rattle.hidreport.specs.Views.{array_attributes, array_measures, array_place, array_record, constant_record, variable_attributes, variable_measures, variable_place, variable_record};
 
 use crate::field::array_field::ArrayField;
 use crate::field::collection::Collection;

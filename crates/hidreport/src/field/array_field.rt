@@ -1,20 +1,16 @@
 //! Array fields.
-ghost use Rattle.std.specs.Prelude.{◌≡◌, ◌≢◌, ◌+◌, ◌*◌, ◌^◌, ◌<◌, ◌≤◌, length, pos, int_lt, IfErr, IfOk, IfSome};
-ghost use Rattle.std.specs.Prelude.{IsNone, IsOk, OnOk, Some, true, false, slice_get, ℕ, ℤ, ◌||◌};
+ghost use Rattle.std.specs.Prelude.{◌≡◌, ◌≢◌, ◌+◌, ◌*◌, ◌^◌, ◌<◌, ◌≤◌, length, pos, int_lt, IfErr, IfOk, IfSome, IsNone, IsOk, OnOk, Some, true, false, slice_get, ℕ, ℤ, ◌||◌};
 ghost use Rattle.hidreport_lists.specs.Answer.{Answers, AnswersBy, OutOfBounds, IsOfReading, Refuses};
 ghost use Rattle.hidreport.specs.Bits.{FixesBits};
 ghost use Rattle.hidreport.specs.Choosing.{usage_chosen, value_number};
-ghost use Rattle.hidreport.specs.Reading.{element_of, element_width, reads, reads_element};
-ghost use Rattle.hidreport.specs.Reading.{values_of};
+ghost use Rattle.hidreport.specs.Reading.{element_of, element_width, reads, reads_element, values_of};
 ghost use Rattle.hidreport.specs.Records.{is_of_range, usages_in};
-ghost use Rattle.hidreport.specs.Standing.{IsLeastFor, IsLeastUnchosen, IsNullNumber};
-ghost use Rattle.hidreport.specs.Standing.{is_null, is_unchosen, null_number};
+ghost use Rattle.hidreport.specs.Standing.{IsLeastFor, IsLeastUnchosen, IsNullNumber, is_null, is_unchosen, null_number};
 ghost use Rattle.hidreport.specs.Tiling.{HasRange};
 ghost use Rattle.hidreport.specs.UsageRange.{range_of, HasExactly};
 ghost use Rattle.hidreport_items.specs.Spelling.{AreBytes};
 ghost use Rattle.hidreport.specs.WritingValues.{Inserts, written, written_element};
-ghost use Rattle.hidreport.specs.WritingLaws.{IsElementWritten, IsWritten, number_in};
-ghost use Rattle.hidreport.specs.WritingLaws.{reads_numbers};
+ghost use Rattle.hidreport.specs.WritingLaws.{IsElementWritten, IsWritten, number_in, reads_numbers};
 ghost use Rattle.hidreport.specs.Views.{array_attributes, array_record};
 
 use crate::field::FieldId;

@@ -1,6 +1,5 @@
 //! The numbers that an array's elements can have, and which of them choose no usage.
-ghost use Rattle.std.specs.Prelude.{◌≡◌, ◌≤ℤ◌, ◌<ℤ◌, ◌+ℤ◌, ◌||◌, ℤ, List, length, pos, int_lt};
-ghost use Rattle.std.specs.Prelude.{false, IfSome, IsNone};
+ghost use Rattle.std.specs.Prelude.{◌≡◌, ◌≤ℤ◌, ◌<ℤ◌, ◌+ℤ◌, ◌||◌, ℤ, List, length, pos, int_lt, false, IfSome, IsNone};
 ghost use Rattle.hidreport.specs.Standing.{IsLeastUnchosen, IsNullNumber, is_null, null_number};
 ghost use Rattle.hidreport.specs.declared.field.usage.Usage.{Usage};
 

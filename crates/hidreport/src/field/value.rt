@@ -1,6 +1,5 @@
 //! Values that are read from reports.
-ghost use Rattle.std.specs.Prelude.{◌≡◌, ◌≢◌, true, Err, Ok, ◌+◌, ◌*◌, ◌<◌, ◌≤◌, ◌/◌, ◌%◌, ◌^◌};
-ghost use Rattle.std.specs.Prelude.{length, IfErr, IfSome, IsNone};
+ghost use Rattle.std.specs.Prelude.{◌≡◌, ◌≢◌, true, Err, Ok, ◌+◌, ◌*◌, ◌<◌, ◌≤◌, ◌/◌, ◌%◌, ◌^◌, length, IfErr, IfSome, IsNone};
 ghost use Rattle.std.specs.Int.{w8, w16, w32, cast_signed};
 ghost use Rattle.hidreport_items.specs.Numbers.{word};
 ghost use Rattle.hidreport_lists.specs.Answer.{Answers, OutOfBounds, IsOfReading};

@@ -1,12 +1,10 @@
 //! Bits of a report's bytes, written as they are read.
-ghost use Rattle.std.specs.Prelude.{◌≡◌, ◌≢◌, Ok, [], ◌∷◌, ◌+◌, ◌*◌, ◌<◌, ◌≤◌, ◌/◌, ◌%◌, ◌^◌, ℕ};
-ghost use Rattle.std.specs.Prelude.{◌≤ℤ◌, ℤ, length, slice_index, true};
+ghost use Rattle.std.specs.Prelude.{◌≡◌, ◌≢◌, Ok, [], ◌∷◌, ◌+◌, ◌*◌, ◌<◌, ◌≤◌, ◌/◌, ◌%◌, ◌^◌, ℕ, ◌≤ℤ◌, ℤ, length, slice_index, true};
 ghost use Rattle.std.specs.Int.{bit_at};
 ghost use Rattle.std.specs.List.{list_all};
 ghost use Rattle.hidreport_items.specs.Spelling.{AreBytes};
 ghost use Rattle.hidreport.specs.Reading.{with_id};
-ghost use Rattle.hidreport.specs.WritingValues.{begins_in_id, bit_after, fits, place_check, put};
-ghost use Rattle.hidreport.specs.WritingValues.{where_read};
+ghost use Rattle.hidreport.specs.WritingValues.{begins_in_id, bit_after, fits, place_check, put, where_read};
 
 use crate::field::insert_error::InsertError;
 use crate::field::value::{are_readable, check_id, word};

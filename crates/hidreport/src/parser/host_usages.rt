@@ -2,8 +2,7 @@
 ghost use Rattle.std.specs.Prelude.{◌≡◌, ◌<◌, ◌≤◌, ◌++◌, ◌^◌, false, flat_map, length, take, IfOk, OnOk};
 ghost use Rattle.std.specs.List.{list_any};
 ghost use Rattle.hidreport.specs.Fields.{usage_at};
-ghost use Rattle.hidreport.specs.HostUsages.{completed, first_set, host_spans, minimum_behind};
-ghost use Rattle.hidreport.specs.HostUsages.{opens_set, span_of, spans, span_usages};
+ghost use Rattle.hidreport.specs.HostUsages.{completed, first_set, host_spans, minimum_behind, opens_set, span_of, spans, span_usages};
 
 use crate::field::usage::Usage;
 use crate::parser::paged_local::PagedLocal;

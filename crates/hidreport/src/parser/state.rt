@@ -1,6 +1,5 @@
 //! What the parser knows between two items.
-ghost use Rattle.std.specs.Prelude.{◌≡◌, ◌≢◌, ◌+◌, ◌*◌, ◌<◌, ◌≤◌, ◌^◌, None, IfOk, IfErr};
-ghost use Rattle.std.specs.Prelude.{OnOk};
+ghost use Rattle.std.specs.Prelude.{◌≡◌, ◌≢◌, ◌+◌, ◌*◌, ◌<◌, ◌≤◌, ◌^◌, None, IfOk, IfErr, OnOk};
 ghost use Rattle.hidreport.specs.Parser.Refusals.{IsFaultOf, fault_named};
 ghost use Rattle.hidreport.specs.Parser.Usages.{HasUsages, spans_in, usages_fault};
 

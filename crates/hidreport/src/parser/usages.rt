@@ -5,8 +5,7 @@ ghost use Rattle.hidreport.specs.Parser.Locals.{usage_under};
 ghost use Rattle.hidreport.specs.Parser.Refusals.{Finds, fault_named};
 ghost use Rattle.hidreport.specs.ItemState.{local_items};
 ghost use Rattle.hidreport.specs.Parser.Usages.{spans_in, usage_list};
-ghost use Rattle.hidreport.specs.Usages.{as_single, single_usages, standard_usages, usages_of};
-ghost use Rattle.hidreport.specs.Usages.{usages_of_spans};
+ghost use Rattle.hidreport.specs.Usages.{as_single, single_usages, standard_usages, usages_of, usages_of_spans};
 
 use crate::field::usage::Usage;
 use crate::parser::fault::Fault;

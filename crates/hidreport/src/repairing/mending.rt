@@ -4,8 +4,7 @@ ghost use Rattle.hidreport_lists.specs.Answer.{Refuses};
 ghost use Rattle.hidreport_lists.specs.Mending.{item_in};
 ghost use Rattle.hidreport.specs.Parser.Machine.{fault_held};
 ghost use Rattle.hidreport.specs.Parser.Mended.{mended_in};
-ghost use Rattle.hidreport.specs.Repair.{all_mended, constant_bytes, padded_by, rewritten};
-ghost use Rattle.hidreport.specs.Repair.{set_constant, wider_bytes, widened_in};
+ghost use Rattle.hidreport.specs.Repair.{all_mended, constant_bytes, padded_by, rewritten, set_constant, wider_bytes, widened_in};
 
 use crate::parser::budget::Budget;
 use crate::parser::state::State;

@@ -1,9 +1,6 @@
 //! Generic Desktop: axes, wheels, hats and keys of the system.
 ghost use Rattle.std.specs.Prelude.{◌≡◌, ◌<◌, ◌^◌};
-ghost use Rattle.hidreport_linux.specs.Events.{axis, by_row, control, depth, desktop, direction};
-ghost use Rattle.hidreport_linux.specs.Events.{is_direction, of_device};
-ghost use Rattle.hidreport_linux.specs.Events.{is_of_pen, is_of_radios, is_start_or_select};
-ghost use Rattle.hidreport_linux.specs.Events.{is_system_row, own_axis, rarer_control, wheel};
+ghost use Rattle.hidreport_linux.specs.Events.{axis, by_row, control, depth, desktop, direction, is_direction, of_device, is_of_pen, is_of_radios, is_start_or_select, is_system_row, own_axis, rarer_control, wheel};
 
 use super::pages::{listed_or_ignored, other};
 use super::{Role, Wanted};

@@ -1,9 +1,6 @@
 //! What usages ask for, by their page.
 ghost use Rattle.std.specs.Prelude.{◌≡◌, Err};
-ghost use Rattle.hidreport_linux.specs.Events.{battery_or_other, code, consumer, keyboard};
-ghost use Rattle.hidreport_linux.specs.Events.{is_ignored, is_key_of_a_byte, is_listed};
-ghost use Rattle.hidreport_linux.specs.Events.{is_no_key, is_of_battery};
-ghost use Rattle.hidreport_linux.specs.Events.{listed_or, on_other_page, on_page, other, shared};
+ghost use Rattle.hidreport_linux.specs.Events.{battery_or_other, code, consumer, keyboard, is_ignored, is_key_of_a_byte, is_listed, is_no_key, is_of_battery, listed_or, on_other_page, on_page, other, shared};
 ghost use Rattle.hidreport_linux.specs.declared.event_code.EventType.TheVariants.{Key};
 ghost use Rattle.hidreport_linux.specs.declared.unmapped.Unmapped.TheVariants.{Ignored};
 

@@ -1,10 +1,8 @@
 //! The lines of a report and of its fields.
 ghost use Rattle.std.specs.Prelude.{◌≡◌, ◌++◌, [], OnOk, string_bytes};
 ghost use Rattle.hidreport.specs.Reading.{reads};
-ghost use Rattle.hidreport.specs.Views.{array_record, constant_record, field_record};
-ghost use Rattle.hidreport.specs.Views.{variable_record};
-ghost use Rattle.hidreport_program.specs.Lines.{line_of_field, reading_text, report_line};
-ghost use Rattle.hidreport_program.specs.Lines.{values_text};
+ghost use Rattle.hidreport.specs.Views.{array_record, constant_record, field_record, variable_record};
+ghost use Rattle.hidreport_program.specs.Lines.{line_of_field, reading_text, report_line, values_text};
 ghost use Rattle.hidreport_program.specs.Output.{report_text};
 
 use super::numbers::{EightDigits, TwoDigits};

@@ -1,7 +1,6 @@
 //! The lines of items.
 ghost use Rattle.std.specs.Prelude.{◌≡◌, ◌++◌, OnOk, string_bytes};
-ghost use Rattle.hidreport_program.specs.ItemLines.{global_name, item_name, items_text};
-ghost use Rattle.hidreport_program.specs.ItemLines.{line_of_item, local_name, main_name};
+ghost use Rattle.hidreport_program.specs.ItemLines.{global_name, item_name, items_text, line_of_item, local_name, main_name};
 
 use super::numbers::add_bytes;
 use hidreport::hid::{GlobalItem, Item, ItemType, LocalItem, MainItem, ReportDescriptorItem};

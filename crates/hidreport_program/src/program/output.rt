@@ -7,8 +7,7 @@ ghost use Rattle.hidreport.specs.Lookup.{find_report};
 ghost use Rattle.hidreport.specs.Options.{parse_limited, reading_by};
 ghost use Rattle.hidreport.specs.declared.parser.usages_by.UsagesBy.TheVariants as usages_by;
 ghost use Rattle.hidreport_program.specs.Lines.{refusal_line};
-ghost use Rattle.hidreport_program.specs.Output.{output, found_output, items_output};
-ghost use Rattle.hidreport_program.specs.Output.{rebuild_output, refusal_of, values_output};
+ghost use Rattle.hidreport_program.specs.Output.{output, found_output, items_output, rebuild_output, refusal_of, values_output};
 
 use super::commands::Command;
 use super::ending::Outcome;

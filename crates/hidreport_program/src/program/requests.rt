@@ -1,6 +1,5 @@
 //! A command with the names of its files.
-ghost use Rattle.std.specs.Prelude.{◌≡◌, ◌+◌, IfSome, IsNone, Some, map, option_copied, slice_get};
-ghost use Rattle.std.specs.Prelude.{string_bytes};
+ghost use Rattle.std.specs.Prelude.{◌≡◌, ◌+◌, IfSome, IsNone, Some, map, option_copied, slice_get, string_bytes};
 ghost use Rattle.hidreport_program.specs.Command.{AsksFor, file_index};
 
 use super::commands::{Command, command_of};

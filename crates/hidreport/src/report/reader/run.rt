@@ -1,14 +1,11 @@
 //! Values side by side in a report, read by one loop (Section 5.8).
-ghost use Rattle.std.specs.Prelude.{◌≡◌, ◌≢◌, ◌+◌, ◌-◌, ◌*◌, ◌%◌, ◌<◌, ◌≤◌, ◌^◌, [], ◌∷◌, true};
-ghost use Rattle.std.specs.Prelude.{false, Err};
-ghost use Rattle.std.specs.Prelude.{length, slice_set, take, drop, IfErr, IfSome, IsNone, OnOk};
+ghost use Rattle.std.specs.Prelude.{◌≡◌, ◌≢◌, ◌+◌, ◌-◌, ◌*◌, ◌%◌, ◌<◌, ◌≤◌, ◌^◌, [], ◌∷◌, true, false, Err, length, slice_set, take, drop, IfErr, IfSome, IsNone, OnOk};
 ghost use Rattle.std.specs.List.{list_all};
 ghost use Rattle.hidreport_items.specs.Numbers.{word};
 ghost use Rattle.hidreport_lists.specs.Answer.{IsOfReading, Refuses};
 ghost use Rattle.hidreport.specs.BitValue.{sum_of_bits, value};
 ghost use Rattle.hidreport.specs.Reader.{begins_otherwise, each_alone, numbers_before};
-ghost use Rattle.hidreport.specs.Runs.{HasNarrowValues, HasAllValues, IsPlain, Joins, is_inside, numbers_from};
-ghost use Rattle.hidreport.specs.Runs.{run_in_id, run_of, run_reads, run_value, set_from};
+ghost use Rattle.hidreport.specs.Runs.{HasNarrowValues, HasAllValues, IsPlain, Joins, is_inside, numbers_from, run_in_id, run_of, run_reads, run_value, set_from};
 ghost use Rattle.hidreport.specs.Views.{field_record};
 ghost use Rattle.hidreport.specs.WritingValues.{fits, put};
 

@@ -1,15 +1,12 @@
 //! The runs of a report, and when bytes have all of them (Sections 5.6 and 5.8).
-ghost use Rattle.std.specs.Prelude.{◌≡◌, ◌≢◌, ◌<◌, ◌^◌, ℕ, List, [], ◌∷◌, ◌++◌, Err, Ok, IfErr};
-ghost use Rattle.std.specs.Prelude.{IfOk, IfSome, IsTrue, OnOk, Result, length, map};
+ghost use Rattle.std.specs.Prelude.{◌≡◌, ◌≢◌, ◌<◌, ◌^◌, ℕ, List, [], ◌∷◌, ◌++◌, Err, Ok, IfErr, IfOk, IfSome, IsTrue, OnOk, Result, length, map};
 ghost use Rattle.std.specs.List.{list_any};
 ghost use Rattle.hidreport_items.specs.Numbers.{word};
 ghost use Rattle.hidreport_items.specs.Spelling.{AreBytes};
 ghost use Rattle.hidreport_lists.specs.Answer.{IsOfReading, Refuses};
 ghost use Rattle.hidreport.specs.Reader.{begins_otherwise, filled, numbers_before};
 ghost use Rattle.hidreport.specs.Reading.{with_id};
-ghost use Rattle.hidreport.specs.Runs.{HasNarrowValues, HasAllValues, IsPlain, RunRecord, StandFor, all_numbers};
-ghost use Rattle.hidreport.specs.Runs.{count_in, run_in_id, runs_alone, runs_fit, runs_of, runs_placed};
-ghost use Rattle.hidreport.specs.Runs.{runs_put, runs_read};
+ghost use Rattle.hidreport.specs.Runs.{HasNarrowValues, HasAllValues, IsPlain, RunRecord, StandFor, all_numbers, count_in, run_in_id, runs_alone, runs_fit, runs_of, runs_placed, runs_put, runs_read};
 ghost use Rattle.hidreport.specs.SameRuns.{SameRuns};
 ghost use Rattle.hidreport.specs.Tiling.{Each};
 ghost use Rattle.hidreport.specs.Views.{field_record};
