@@ -10,7 +10,7 @@ use Rattle.hidreport.specs.Reading.{ValueRecord}
 use Rattle.hidreport_c.proofs.UsageListsLemmas.{flat-next}
 use Rattle.hidreport_c.specs.Reading.{alone_at, alone_in, there_at, there_in}
 use Rattle.hidreport_c.specs.Value.{element_at}
-use Rattle.hidreport_c.specs.declared.field.HidreportField.{HidreportField}
+use Rattle.hidreport_c.specs.declared.structs.HidreportField.{HidreportField}
 
 -- all values of the fields so far are there
 abbrev pub AllThere : List HidreportField → ℕ → List ℕ → Type 0

@@ -17,8 +17,8 @@ use Rattle.hidreport.specs.declared.field.Field.TheVariants as fields
 use Rattle.hidreport_c.specs.Answer.{Lists, array_after, counted}
 use Rattle.hidreport_c.specs.Describe.{fields_as_c}
 use Rattle.hidreport_c.specs.Field.{as_c}
-use Rattle.hidreport_c.specs.declared.answer.HidreportAnswer.{HidreportAnswer}
-use Rattle.hidreport_c.specs.declared.field.HidreportField.{HidreportField}
+use Rattle.hidreport_c.specs.declared.structs.HidreportAnswer.{HidreportAnswer}
+use Rattle.hidreport_c.specs.declared.structs.HidreportField.{HidreportField}
 
 -- a field of the library as C has it
 abbrev pub in_c : Field → HidreportField

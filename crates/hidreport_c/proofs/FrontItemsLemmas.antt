@@ -14,7 +14,7 @@ use Rattle.hidreport_lists.proofs.ItemLemmas.{chosen_ok, enough, read_as_err, re
 use Rattle.hidreport_c.proofs.ListsLemmas.{written-length, written-next}
 use Rattle.hidreport_c.specs.Answer.{array_after}
 use Rattle.hidreport_c.specs.Items.{front_items, items_as_c, items_end, with_item}
-use Rattle.hidreport_c.specs.declared.items.HidreportItem.{HidreportItem}
+use Rattle.hidreport_c.specs.declared.structs.HidreportItem.{HidreportItem}
 
 -- an item that is read has as many bytes as its header says
 room-of : (h : ℕ) (bs : List ℕ) (x : ItemType) → item_at item_of h bs ≡ Ok x

@@ -16,9 +16,9 @@ use Rattle.hidreport_c.specs.Answer.{Lists, array_after, counted, no_memory}
 use Rattle.hidreport_c.specs.Group.{InGroups, group_as_c, groups_as_c, lent, one_or_none}
 use Rattle.hidreport_c.specs.Group.{field_in, field_placed, usage_listed}
 use Rattle.hidreport_c.specs.Lookup.{field_or_none}
-use Rattle.hidreport_c.specs.declared.answer.HidreportAnswer.{HidreportAnswer}
-use Rattle.hidreport_c.specs.declared.field.HidreportField.{HidreportField}
-use Rattle.hidreport_c.specs.declared.group.HidreportGroup.{HidreportGroup}
+use Rattle.hidreport_c.specs.declared.structs.HidreportAnswer.{HidreportAnswer}
+use Rattle.hidreport_c.specs.declared.structs.HidreportField.{HidreportField}
+use Rattle.hidreport_c.specs.declared.structs.HidreportGroup.{HidreportGroup}
 
 lent-in-c : (found : List (Bor GroupRecord))
     → map (λ (g : Bor GroupRecord). group_as_c g.now) found ≡ groups_as_c (lent found)

@@ -17,7 +17,7 @@ use Rattle.hidreport_c.specs.Insert.{Places, bytes_after, insert_status, is_sign
 use Rattle.hidreport_c.specs.Insert.{status_after, width_of, written_at}
 use Rattle.hidreport_c.specs.Status.{by_status, status_of}
 use Rattle.hidreport_c.specs.Value.{acceptance, element_at, elements_at, id_of, value_at, values_at}
-use Rattle.hidreport_c.specs.declared.field.HidreportField.{HidreportField}
+use Rattle.hidreport_c.specs.declared.structs.HidreportField.{HidreportField}
 
 test-ok : {A : Type 0} (t : Bool) (a : Result A Refusal) (r : Refusal)
     → IsOk (cond t a (Err r)) → (t ≡ true) × (IsOk a)

@@ -22,7 +22,7 @@ use Rattle.hidreport.specs.declared.parse_options.ParseOptions.{ParseOptions}
 use Rattle.hidreport_c.specs.Answer.{Lists, ListsBy, IsRead, Tells, array_after}
 use Rattle.hidreport_c.specs.Answer.{counted, error_as_c, listed, refusal_as_c}
 use Rattle.hidreport_c.specs.Message.{Says, message_in, message_of, words_of}
-use Rattle.hidreport_c.specs.declared.answer.HidreportAnswer.{HidreportAnswer}
+use Rattle.hidreport_c.specs.declared.structs.HidreportAnswer.{HidreportAnswer}
 
 -- nothing written changes nothing
 pub written-none : {A : Type 0} (old : List A) → array_after [] old ≡ old

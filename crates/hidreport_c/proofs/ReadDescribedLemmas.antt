@@ -16,7 +16,7 @@ use Rattle.hidreport_c.proofs.WrittenLemmas.{one-read}
 use Rattle.hidreport_c.specs.Field.{as_c}
 use Rattle.hidreport_c.specs.Reading.{alone_at, alone_in, available_in, numbers_in}
 use Rattle.hidreport_c.specs.Value.{id_of, value_numbers, values_at}
-use Rattle.hidreport_c.specs.declared.field.HidreportField.{HidreportField}
+use Rattle.hidreport_c.specs.declared.structs.HidreportField.{HidreportField}
 
 values-described : (f : FieldRecord) (bytes : List ℕ) → values_at (as_c f) bytes ≡ reads f bytes
 values-described (VariableRecord place usage shared) bytes =

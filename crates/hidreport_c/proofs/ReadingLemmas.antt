@@ -18,7 +18,7 @@ use Rattle.hidreport_c.specs.Field.{nothing_measured, nothing_set}
 use Rattle.hidreport_c.specs.Reading.{if_countable, numbers_in}
 use Rattle.hidreport_c.specs.Status.{by_status, status_of}
 use Rattle.hidreport_c.specs.Value.{acceptance, elements_at, id_of, value_numbers, values_at}
-use Rattle.hidreport_c.specs.declared.field.HidreportField.{HidreportField}
+use Rattle.hidreport_c.specs.declared.structs.HidreportField.{HidreportField}
 
 -- what stands for a field behind the last
 abbrev no_field : HidreportField

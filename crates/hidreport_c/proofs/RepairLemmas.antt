@@ -9,8 +9,8 @@ use Rattle.hidreport.specs.declared.repairing.repair_options.RepairOptions.{Repa
 use Rattle.hidreport_c.proofs.ListsLemmas.{lists-chosen}
 use Rattle.hidreport_c.specs.Answer.{ListsBy, array_after, counted, listed}
 use Rattle.hidreport_c.specs.Repair.{change_as_c, changes_as_c}
-use Rattle.hidreport_c.specs.declared.answer.HidreportAnswer.{HidreportAnswer}
-use Rattle.hidreport_c.specs.declared.change.HidreportChange.{HidreportChange}
+use Rattle.hidreport_c.specs.declared.structs.HidreportAnswer.{HidreportAnswer}
+use Rattle.hidreport_c.specs.declared.structs.HidreportChange.{HidreportChange}
 
 -- the changes of a repaired descriptor are told as they are
 pub lists-changes : (chosen : Option RepairOptions) (options : RepairOptions) (bytes : List ℕ)

@@ -11,7 +11,7 @@ use Rattle.hidreport.specs.UsageNumber.{usage_number}
 use Rattle.hidreport.specs.declared.field.usage.Usage.{Usage}
 use Rattle.hidreport_c.specs.Field.{as_c}
 use Rattle.hidreport_c.specs.Usages.{usage_meant}
-use Rattle.hidreport_c.specs.declared.field.HidreportField.{HidreportField}
+use Rattle.hidreport_c.specs.declared.structs.HidreportField.{HidreportField}
 
 by-test : (b : Bool) (listed : List Usage) (i : ℕ)
     → cond b None (slice_get (map usage_number listed) i)

@@ -15,7 +15,7 @@ use Rattle.hidreport_c.proofs.ListsLemmas.{written-none}
 use Rattle.hidreport_c.specs.Answer.{as_answer, offset_of, array_after}
 use Rattle.hidreport_c.specs.Status.{by_status, status_of}
 use Rattle.hidreport_c.specs.Value.{acceptance, elements_at, id_of, value_numbers, values_at}
-use Rattle.hidreport_c.specs.declared.field.HidreportField.{HidreportField}
+use Rattle.hidreport_c.specs.declared.structs.HidreportField.{HidreportField}
 
 pub accepted-ok : {A : Type 0} (r : Result A Refusal) → IsOk r → by_status (acceptance r) ≡ Ok tt
 accepted-ok (Ok x) ok = refl

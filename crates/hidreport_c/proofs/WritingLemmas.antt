@@ -29,7 +29,7 @@ use Rattle.hidreport_c.specs.Status.{by_status, status_of}
 use Rattle.hidreport_c.specs.Value.{acceptance, value_numbers, values_at}
 use Rattle.hidreport_c.specs.Writing.{HasRoomAt, IsNarrowAt, all_fit_at, all_placed_at}
 use Rattle.hidreport_c.specs.Writing.{begins_in_own_id_at, count_at, put_all_at, report_written_at}
-use Rattle.hidreport_c.specs.declared.field.HidreportField.{HidreportField}
+use Rattle.hidreport_c.specs.declared.structs.HidreportField.{HidreportField}
 
 -- each field reads what is read as a whole
 both-ok : (a b : Result (List ℤ) Refusal) → IsOk (before_numbers a b) → (IsOk a) × (IsOk b)

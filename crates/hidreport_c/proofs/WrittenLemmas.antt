@@ -21,7 +21,7 @@ use Rattle.hidreport.specs.declared.field.insert_error.InsertError.TheVariants a
 use Rattle.hidreport_c.specs.Field.{as_c}
 use Rattle.hidreport_c.specs.Insert.{IsInserted, Places, bytes_after, inserted_at, inserted_value}
 use Rattle.hidreport_c.specs.Insert.{placed_at, status_after, written_at}
-use Rattle.hidreport_c.specs.declared.field.HidreportField.{HidreportField}
+use Rattle.hidreport_c.specs.declared.structs.HidreportField.{HidreportField}
 use Rattle.hidreport_c.specs.Value.{values_at}
 use Rattle.hidreport_c.proofs.ValueLemmas.{element-of_one, id-again, value_at-described}
 

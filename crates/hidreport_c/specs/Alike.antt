@@ -3,8 +3,8 @@ use Rattle.std.specs.Prelude.{◌≡◌, ◌⊎◌, ◌↔◌, IsTrue, Bool, fal
 use Rattle.hidreport.specs.Records.{DescriptorRecord}
 use Rattle.hidreport.specs.declared.parse_options.ParseOptions.{ParseOptions}
 use Rattle.hidreport_c.specs.Answer.{IsRead}
-use Rattle.hidreport_c.specs.declared.alike.HidreportLikeness.{HidreportLikeness}
-use Rattle.hidreport_c.specs.declared.answer.HidreportAnswer.{HidreportAnswer}
+use Rattle.hidreport_c.specs.declared.structs.HidreportLikeness.{HidreportLikeness}
+use Rattle.hidreport_c.specs.declared.structs.HidreportAnswer.{HidreportAnswer}
 
 -- one of them isn't read, for what C is told of it
 abbrev pub unlike : Bool → HidreportAnswer → HidreportLikeness

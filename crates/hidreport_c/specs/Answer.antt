@@ -9,8 +9,8 @@ use Rattle.hidreport.specs.ParserError.TheVariants as errors
 use Rattle.hidreport.specs.declared.parse_options.ParseOptions.{ParseOptions}
 use Rattle.hidreport_c.specs.Options.{options_of}
 use Rattle.hidreport_c.specs.Status.{status_of}
-use Rattle.hidreport_c.specs.declared.answer.HidreportAnswer.{HidreportAnswer}
-use Rattle.hidreport_c.specs.declared.options.HidreportOptions.{HidreportOptions}
+use Rattle.hidreport_c.specs.declared.structs.HidreportAnswer.{HidreportAnswer}
+use Rattle.hidreport_c.specs.declared.structs.HidreportOptions.{HidreportOptions}
 
 -- where the refused item stands in the descriptor, 0 for a refusal without a place
 abbrev pub offset_of : Refusal → ℕ

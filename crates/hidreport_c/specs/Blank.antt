@@ -1,7 +1,7 @@
 -- A report without values as C has it (Section 5.6).
 use Rattle.std.specs.Prelude.{ℕ, if◌then◌else◌, List, replicate, Option, None, Some}
 use Rattle.hidreport.specs.Blank.{with_first}
-use Rattle.hidreport_c.specs.declared.report.HidreportReport.{HidreportReport}
+use Rattle.hidreport_c.specs.declared.structs.HidreportReport.{HidreportReport}
 
 -- the id that the report begins with
 abbrev pub own_id_of : HidreportReport → Option ℕ

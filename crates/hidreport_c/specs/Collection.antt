@@ -6,7 +6,7 @@ use Rattle.hidreport.specs.UsageNumber.{usage_number}
 use Rattle.hidreport.specs.declared.field.usage.Usage.{Usage}
 use Rattle.hidreport_c.specs.Field.{usage_number_at}
 use Rattle.hidreport_c.specs.Numbered.{field_numbered}
-use Rattle.hidreport_c.specs.declared.collection.HidreportCollection.{HidreportCollection}
+use Rattle.hidreport_c.specs.declared.structs.HidreportCollection.{HidreportCollection}
 
 -- its number and its kind, how many usages it has and the first of them
 abbrev pub collection_as_c : CollectionRecord → HidreportCollection

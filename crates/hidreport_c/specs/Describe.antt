@@ -3,7 +3,7 @@ use Rattle.std.specs.Prelude.{ℕ, ◌==◌, if◌then◌else◌, List, [], map,
 use Rattle.hidreport.specs.Lookup.{find_report}
 use Rattle.hidreport.specs.Records.{DescriptorRecord, ReportRecord}
 use Rattle.hidreport_c.specs.Field.{as_c}
-use Rattle.hidreport_c.specs.declared.field.HidreportField.{HidreportField}
+use Rattle.hidreport_c.specs.declared.structs.HidreportField.{HidreportField}
 
 -- the reports of a direction: 0 from the device, 1 from the host, 2 features
 abbrev pub reports_in_direction : ℕ → DescriptorRecord → List ReportRecord

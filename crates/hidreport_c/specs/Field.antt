@@ -5,11 +5,11 @@ use Rattle.hidreport.specs.Records.{CollectionRecord, FieldPlace, Attributes, Fi
 use Rattle.hidreport.specs.Records.{VariableRecord, ArrayRecord, ConstantRecord}
 use Rattle.hidreport.specs.UsageNumber.{usage_number}
 use Rattle.hidreport.specs.declared.field.usage.Usage.{Usage}
-use Rattle.hidreport_c.specs.declared.field.HidreportCollections.{HidreportCollections}
-use Rattle.hidreport_c.specs.declared.field.HidreportField.{HidreportField}
-use Rattle.hidreport_c.specs.declared.field.HidreportFlags.{HidreportFlags}
-use Rattle.hidreport_c.specs.declared.field.HidreportMeasures.{HidreportMeasures}
-use Rattle.hidreport_c.specs.declared.field.HidreportUsages.{HidreportUsages}
+use Rattle.hidreport_c.specs.declared.structs.HidreportCollections.{HidreportCollections}
+use Rattle.hidreport_c.specs.declared.structs.HidreportField.{HidreportField}
+use Rattle.hidreport_c.specs.declared.structs.HidreportFlags.{HidreportFlags}
+use Rattle.hidreport_c.specs.declared.structs.HidreportMeasures.{HidreportMeasures}
+use Rattle.hidreport_c.specs.declared.structs.HidreportUsages.{HidreportUsages}
 
 -- the number of a usage in a list
 abbrev pub usage_number_at : List Usage → ℕ → ℕ

@@ -15,12 +15,12 @@ use Rattle.hidreport_c.specs.Field.{collections_as_c, flags_as_c, measures_as_c,
 use Rattle.hidreport_c.specs.Field.{nothing_set}
 use Rattle.hidreport_c.specs.Lookup.{field_or_none}
 use Rattle.hidreport_c.specs.Options.{options_of}
-use Rattle.hidreport_c.specs.declared.answer.HidreportAnswer.{HidreportAnswer}
-use Rattle.hidreport_c.specs.declared.field.HidreportField.{HidreportField}
-use Rattle.hidreport_c.specs.declared.field.HidreportFlags.{HidreportFlags}
-use Rattle.hidreport_c.specs.declared.field.HidreportMeasures.{HidreportMeasures}
-use Rattle.hidreport_c.specs.declared.group.HidreportGroup.{HidreportGroup}
-use Rattle.hidreport_c.specs.declared.options.HidreportOptions.{HidreportOptions}
+use Rattle.hidreport_c.specs.declared.structs.HidreportAnswer.{HidreportAnswer}
+use Rattle.hidreport_c.specs.declared.structs.HidreportField.{HidreportField}
+use Rattle.hidreport_c.specs.declared.structs.HidreportFlags.{HidreportFlags}
+use Rattle.hidreport_c.specs.declared.structs.HidreportMeasures.{HidreportMeasures}
+use Rattle.hidreport_c.specs.declared.structs.HidreportGroup.{HidreportGroup}
+use Rattle.hidreport_c.specs.declared.structs.HidreportOptions.{HidreportOptions}
 
 -- 0 is variable, 1 an array, 2 padding
 abbrev pub kind_in : GroupRecord → ℕ

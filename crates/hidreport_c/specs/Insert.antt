@@ -9,7 +9,7 @@ use Rattle.hidreport.specs.WritingValues.{written_element}
 use Rattle.hidreport.specs.declared.field.insert_error.InsertError.{InsertError}
 use Rattle.hidreport.specs.declared.field.insert_error.InsertError.TheVariants as refused
 use Rattle.hidreport_c.specs.Value.{id_of, value_at, values_at}
-use Rattle.hidreport_c.specs.declared.field.HidreportField.{HidreportField}
+use Rattle.hidreport_c.specs.declared.structs.HidreportField.{HidreportField}
 
 -- how many bits a value of the field has, and whether it is signed
 abbrev pub width_of : HidreportField → ℕ

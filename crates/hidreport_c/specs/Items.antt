@@ -5,7 +5,7 @@ use Rattle.hidreport.specs.ItemAnswer.{GrammarFault}
 use Rattle.hidreport.specs.ItemType.{ItemType}
 use Rattle.hidreport.specs.Itemising.{item_at}
 use Rattle.hidreport.specs.Spelling.{following_length, item_of}
-use Rattle.hidreport_c.specs.declared.items.HidreportItem.{HidreportItem}
+use Rattle.hidreport_c.specs.declared.structs.HidreportItem.{HidreportItem}
 
 -- an item as C has it: its offset, and how many bytes it has
 abbrev pub item_as_c : Entry → HidreportItem

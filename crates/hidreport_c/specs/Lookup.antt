@@ -7,8 +7,8 @@ use Rattle.hidreport_c.specs.Describe.{reports_in_direction}
 use Rattle.hidreport_c.specs.Field.{as_c}
 use Rattle.hidreport_c.specs.Numbered.{field_numbered}
 use Rattle.hidreport_c.specs.Report.{report_as_c}
-use Rattle.hidreport_c.specs.declared.field.HidreportField.{HidreportField}
-use Rattle.hidreport_c.specs.declared.report.HidreportReport.{HidreportReport}
+use Rattle.hidreport_c.specs.declared.structs.HidreportField.{HidreportField}
+use Rattle.hidreport_c.specs.declared.structs.HidreportReport.{HidreportReport}
 
 -- an id, or that there is none
 abbrev pub given_id : Bool → ℕ → Option ℕ

@@ -5,7 +5,7 @@ use Rattle.hidreport.specs.Answer.{Refusal, InvalidData, OutOfBounds, Mismatchin
 use Rattle.hidreport.specs.ParserError.{ParserError}
 use Rattle.hidreport.specs.ParserError.TheVariants as errors
 use Rattle.hidreport_c.specs.Answer.{array_after, counted, no_memory}
-use Rattle.hidreport_c.specs.declared.answer.HidreportAnswer.{HidreportAnswer}
+use Rattle.hidreport_c.specs.declared.structs.HidreportAnswer.{HidreportAnswer}
 
 -- the words of a refusal, without where it stands
 abbrev pub message_of : Refusal → List ℕ

@@ -1,6 +1,6 @@
 -- Names as C gets them, and what has a name (Sections 5.5 and 6.2.2.7).
 use Rattle.std.specs.Prelude.{◌≡◌, ℕ, true, false, List, [], Option, None, Some}
-use Rattle.hidreport_c.specs.declared.name.HidreportPage.{HidreportPage}
+use Rattle.hidreport_c.specs.declared.structs.HidreportPage.{HidreportPage}
 
 -- a name, if there is one
 abbrev pub or_nothing : Option (List ℕ) → List ℕ

@@ -5,7 +5,7 @@ use Rattle.hidreport.specs.declared.parser.push_keeps.PushKeeps.{PushKeeps}
 use Rattle.hidreport.specs.declared.parser.push_keeps.PushKeeps.TheVariants as a_push_keeps
 use Rattle.hidreport.specs.declared.parser.usages_by.UsagesBy.{UsagesBy}
 use Rattle.hidreport.specs.declared.parser.usages_by.UsagesBy.TheVariants as usages_by
-use Rattle.hidreport_c.specs.declared.options.HidreportOptions.{HidreportOptions}
+use Rattle.hidreport_c.specs.declared.structs.HidreportOptions.{HidreportOptions}
 
 -- what a Push keeps: 0 globals and locals, 1 globals alone
 abbrev pub push_keeps_of : ℕ → Option PushKeeps

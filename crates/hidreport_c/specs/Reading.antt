@@ -6,7 +6,7 @@ use Rattle.hidreport.specs.Answer.{Refusal, OutOfBounds, MismatchingReportId}
 use Rattle.hidreport.specs.Reader.{before_numbers, begins_otherwise, each_alone, numbers_before}
 use Rattle.hidreport.specs.Reading.{ValueRecord}
 use Rattle.hidreport_c.specs.Value.{element_at, id_of, value_numbers, values_at}
-use Rattle.hidreport_c.specs.declared.field.HidreportField.{HidreportField}
+use Rattle.hidreport_c.specs.declared.structs.HidreportField.{HidreportField}
 
 -- the numbers that bytes give these fields, in order, or the first refusal
 abbrev pub numbers_in : List HidreportField → List ℕ → Result (List ℤ) Refusal

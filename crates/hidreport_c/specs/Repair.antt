@@ -8,9 +8,9 @@ use Rattle.hidreport_lists.specs.declared.mending.Reason.{Reason}
 use Rattle.hidreport_lists.specs.declared.mending.Reason.TheVariants as reason
 use Rattle.hidreport_c.specs.Answer.{ListsBy, listed}
 use Rattle.hidreport_c.specs.Options.{options_of}
-use Rattle.hidreport_c.specs.declared.answer.HidreportAnswer.{HidreportAnswer}
-use Rattle.hidreport_c.specs.declared.change.HidreportChange.{HidreportChange}
-use Rattle.hidreport_c.specs.declared.options.HidreportOptions.{HidreportOptions}
+use Rattle.hidreport_c.specs.declared.structs.HidreportAnswer.{HidreportAnswer}
+use Rattle.hidreport_c.specs.declared.structs.HidreportChange.{HidreportChange}
+use Rattle.hidreport_c.specs.declared.structs.HidreportOptions.{HidreportOptions}
 
 -- what is mended where it is asked for: 1 what is cut short, 2 maxima that were meant unsigned, 3
 -- both; no other number says anything

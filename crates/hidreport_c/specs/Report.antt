@@ -2,7 +2,7 @@
 use Rattle.std.specs.Prelude.{ℕ, ◌+◌, ◌/◌, List, length, map, is_some, unwrap_or}
 use Rattle.hidreport.specs.Records.{DescriptorRecord, ReportRecord}
 use Rattle.hidreport_c.specs.Describe.{reports_in_direction}
-use Rattle.hidreport_c.specs.declared.report.HidreportReport.{HidreportReport}
+use Rattle.hidreport_c.specs.declared.structs.HidreportReport.{HidreportReport}
 
 -- its sizes in bits and in whole bytes, how many fields it has, and its id
 abbrev pub report_as_c : ReportRecord → HidreportReport

@@ -4,8 +4,8 @@ use Rattle.std.specs.Prelude.{if◌then◌else◌, Option, None, Some}
 use Rattle.std.specs.Ordering.{int_eq}
 use Rattle.hidreport.specs.Scaling.{on_line}
 use Rattle.hidreport.specs.declared.field.fraction.Fraction.{Fraction}
-use Rattle.hidreport_c.specs.declared.field.HidreportMeasures.{HidreportMeasures}
-use Rattle.hidreport_c.specs.declared.scaling.HidreportFraction.{HidreportFraction}
+use Rattle.hidreport_c.specs.declared.structs.HidreportMeasures.{HidreportMeasures}
+use Rattle.hidreport_c.specs.declared.structs.HidreportFraction.{HidreportFraction}
 
 -- the value in units: physical bounds that are both 0 are the logical ones
 abbrev pub physical_of : HidreportMeasures → ℤ → Option Fraction

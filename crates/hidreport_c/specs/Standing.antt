@@ -4,8 +4,8 @@ use Rattle.std.specs.Prelude.{length, Option, None, Some}
 use Rattle.hidreport.specs.Standing.{IsLeastFor, IsNullNumber}
 use Rattle.hidreport.specs.declared.field.usage.Usage.{Usage}
 use Rattle.hidreport_c.specs.Insert.{is_signed_in, width_of}
-use Rattle.hidreport_c.specs.declared.field.HidreportField.{HidreportField}
-use Rattle.hidreport_c.specs.declared.standing.HidreportChoice.{HidreportChoice}
+use Rattle.hidreport_c.specs.declared.structs.HidreportField.{HidreportField}
+use Rattle.hidreport_c.specs.declared.structs.HidreportChoice.{HidreportChoice}
 
 -- a value, if there is one
 abbrev pub choice_as_c : Option ℤ → HidreportChoice

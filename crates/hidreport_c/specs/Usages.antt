@@ -5,8 +5,8 @@ use Rattle.hidreport.specs.Choosing.{usage_chosen}
 use Rattle.hidreport.specs.Records.{DescriptorRecord, FieldRecord, usages_in}
 use Rattle.hidreport.specs.UsageNumber.{usage_number}
 use Rattle.hidreport_c.specs.Numbered.{field_numbered}
-use Rattle.hidreport_c.specs.declared.field.HidreportField.{HidreportField}
-use Rattle.hidreport_c.specs.declared.usages.HidreportUsage.{HidreportUsage}
+use Rattle.hidreport_c.specs.declared.structs.HidreportField.{HidreportField}
+use Rattle.hidreport_c.specs.declared.structs.HidreportUsage.{HidreportUsage}
 
 -- the usages of a field as numbers, if there is one
 abbrev pub usage_numbers : Option FieldRecord → List ℕ

@@ -7,8 +7,8 @@ use Rattle.hidreport.specs.Reading.{ValueRecord, element, each_value, reads, rea
 use Rattle.hidreport.specs.Reading.{with_id}
 use Rattle.hidreport.specs.Records.{FieldRecord, VariableRecord, ArrayRecord, ConstantRecord}
 use Rattle.hidreport_c.specs.Status.{status_of}
-use Rattle.hidreport_c.specs.declared.field.HidreportField.{HidreportField}
-use Rattle.hidreport_c.specs.declared.value.HidreportValue.{HidreportValue}
+use Rattle.hidreport_c.specs.declared.structs.HidreportField.{HidreportField}
+use Rattle.hidreport_c.specs.declared.structs.HidreportValue.{HidreportValue}
 
 -- the id that a report's first byte has to be
 abbrev pub id_of : HidreportField → Option ℕ

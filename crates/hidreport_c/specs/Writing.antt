@@ -8,7 +8,7 @@ use Rattle.hidreport.specs.declared.field.insert_error.InsertError.TheVariants a
 use Rattle.hidreport_c.specs.Insert.{is_signed_in, width_of}
 use Rattle.hidreport_c.specs.Reading.{numbers_in}
 use Rattle.hidreport_c.specs.Value.{id_of}
-use Rattle.hidreport_c.specs.declared.field.HidreportField.{HidreportField}
+use Rattle.hidreport_c.specs.declared.structs.HidreportField.{HidreportField}
 
 -- how many values fields have
 abbrev pub count_at : List HidreportField → ℕ

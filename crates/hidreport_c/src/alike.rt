@@ -3,24 +3,10 @@ ghost use Rattle.std.specs.Prelude.{◌≡◌};
 ghost use Rattle.hidreport_c.specs.Alike.{Likens, unlike};
 ghost use Rattle.hidreport_c.specs.Options.{options_of};
 
-use crate::answer::{HidreportAnswer, read};
-use crate::options::HidreportOptions;
+use crate::answer::read;
 use crate::status::ACCEPTED;
+use crate::structs::{HidreportAnswer, HidreportLikeness, HidreportOptions};
 use std::alloc::Global;
-
-/// Whether two descriptors are alike, or why one of them isn't read (`struct hidreport_likeness`).
-#[repr(C)]
-#[derive(Clone, Copy)]
-pub struct HidreportLikeness {
-    /// Where the refused item stands: the bytes before it; 0 for a refusal without an offset.
-    pub offset: usize,
-    /// 0, or the number of the refusal.
-    pub status: u32,
-    /// Whether it is of the other descriptor; off where the first is refused.
-    pub is_of_other: bool,
-    /// Whether they are alike; off where one is refused.
-    pub is_alike: bool,
-}
 
 impl HidreportLikeness {
     /// What C is told where one of the two isn't read.

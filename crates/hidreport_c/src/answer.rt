@@ -3,25 +3,13 @@ ghost use Rattle.std.specs.Prelude.{◌≡◌, length};
 ghost use Rattle.hidreport_c.specs.Answer.{IsRead, array_after, counted, error_as_c, refused};
 ghost use Rattle.hidreport_c.specs.Options.{options_of};
 
-use crate::options::HidreportOptions;
 use crate::status::{
     ACCEPTED, BUDGET_EXCEEDED, INVALID_DATA, MISMATCHING_REPORT_ID, OUT_OF_BOUNDS, OUT_OF_MEMORY,
     UNKNOWN_OPTION,
 };
+use crate::structs::{HidreportAnswer, HidreportOptions};
 use hidreport::{ParserError, ReportDescriptor};
 use std::alloc::Global;
-
-/// How many there are, or why there are none (`struct hidreport_answer`).
-#[repr(C)]
-#[derive(Clone, Copy)]
-pub struct HidreportAnswer {
-    /// How many there are, whether there was room for them or not; 0 where they are refused.
-    pub count: usize,
-    /// Where the refused item stands: the bytes before it; 0 for a refusal without an offset.
-    pub offset: usize,
-    /// 0, or the number of the refusal.
-    pub status: u32,
-}
 
 impl HidreportAnswer {
     /// So many, and no refusal.

@@ -6,8 +6,7 @@ ghost use Rattle.hidreport_c.specs.Answer.{array_after, counted};
 ghost use Rattle.hidreport_c.specs.Blank.{blank_of, own_id_of};
 ghost use Rattle.hidreport_c.specs.Report.{report_as_c};
 
-use crate::answer::HidreportAnswer;
-use crate::report::HidreportReport;
+use crate::structs::{HidreportAnswer, HidreportReport};
 
 /// The bytes of a report without values (Section 5.6): as many as the report has, the first its id,
 /// where it has one, and all other bits 0. As many as there is room for are written; the answer is

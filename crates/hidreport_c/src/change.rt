@@ -3,29 +3,12 @@ ghost use Rattle.std.specs.Prelude.{◌≡◌};
 ghost use Rattle.hidreport.specs.Repair.{change_view};
 ghost use Rattle.hidreport_c.specs.Repair.{ListsOfRepair, change_as_c, changes_as_c, reason_of};
 
-use crate::answer::{HidreportAnswer, refusal};
-use crate::options::HidreportOptions;
+use crate::answer::refusal;
 use crate::part::{Part, write};
 use crate::status::UNKNOWN_OPTION;
+use crate::structs::{HidreportAnswer, HidreportChange, HidreportOptions};
 use hidreport::{Change, Reason, repair};
 use std::alloc::Global;
-
-/// A place of a descriptor where something else stands after its repair (`struct
-/// hidreport_change`).
-#[repr(C)]
-#[derive(Clone, Copy)]
-pub struct HidreportChange {
-    /// The bytes of the descriptor before it.
-    pub offset: usize,
-    /// How many bytes stood there, an item and all of it.
-    pub stood: usize,
-    /// How many stand there now, an item, or none where it was left out.
-    pub stands: usize,
-    /// Why: 0 an item that needs a data byte had none, 1 a main item of an unknown tag is left out,
-    /// 2 so is a local item of one, 3 a data item without a usage is padding, 4 a maximum was meant
-    /// unsigned, 5 an item was cut short.
-    pub reason: u32,
-}
 
 impl Part for Change {
     type InC = HidreportChange;

@@ -3,6 +3,9 @@ ghost use Rattle.hidreport.specs.Views.{field_record};
 ghost use Rattle.hidreport_c.specs.Field.{as_c, collections_as_c, flags_as_c, nothing_measured, nothing_set, usages_as_c};
 
 use crate::part::Part;
+use crate::structs::{
+    HidreportCollections, HidreportField, HidreportFlags, HidreportMeasures, HidreportUsages,
+};
 use hidreport::{
     Collection, Field, FieldAttributes, LogicalMaximum, LogicalMinimum, PhysicalMaximum,
     PhysicalMinimum, Unit, UnitExponent, Usage,
@@ -16,106 +19,6 @@ pub(crate) const ARRAY: u32 = 1;
 
 /// `kind` of padding.
 pub(crate) const CONSTANT: u32 = 2;
-
-/// The usages of a field (`struct hidreport_usages`): page and id as one number, the page in the
-/// upper 16 bits.
-#[repr(C)]
-#[derive(Clone, Copy)]
-pub struct HidreportUsages {
-    /// How many there are: one of a variable field, none of padding.
-    pub count: usize,
-    /// The first, 0 where there is none.
-    pub first: u32,
-    /// The last, 0 where there is none.
-    pub last: u32,
-    /// Whether a minimum and a maximum gave them.
-    pub is_range: bool,
-}
-
-/// The bounds and the unit of a field (`struct hidreport_measures`). A number whose flag is off is
-/// 0.
-#[repr(C)]
-#[derive(Clone, Copy)]
-pub struct HidreportMeasures {
-    /// The least value; values are signed where it is below 0.
-    pub logical_minimum: i32,
-    /// The greatest value.
-    pub logical_maximum: i32,
-    /// What the least value stands for.
-    pub physical_minimum: i32,
-    /// What the greatest value stands for.
-    pub physical_maximum: i32,
-    /// The unit of the physical bounds.
-    pub unit: u32,
-    /// The power of ten of the unit.
-    pub unit_exponent: i32,
-    /// Whether there is a physical minimum.
-    pub has_physical_minimum: bool,
-    /// Whether there is a physical maximum.
-    pub has_physical_maximum: bool,
-    /// Whether there is a unit.
-    pub has_unit: bool,
-    /// Whether there is an exponent.
-    pub has_unit_exponent: bool,
-}
-
-/// The flags of a field's item (`struct hidreport_flags`), all off for padding.
-#[repr(C)]
-#[derive(Clone, Copy)]
-pub struct HidreportFlags {
-    /// A value is a change since the last report.
-    pub is_relative: bool,
-    /// A value past one bound goes on at the other.
-    pub wraps: bool,
-    /// Values aren't linear in what was measured.
-    pub is_nonlinear: bool,
-    /// The control doesn't come back to a state when it is let go.
-    pub has_no_preferred_state: bool,
-    /// The control has a state in which it sends no meaningful data.
-    pub has_null_state: bool,
-    /// The field is a stream of bytes.
-    pub is_buffered_bytes: bool,
-    /// The device may change the value without the host; off in an input report.
-    pub is_volatile: bool,
-}
-
-/// The collections that a field lies in (`struct hidreport_collections`).
-#[repr(C)]
-#[derive(Clone, Copy)]
-pub struct HidreportCollections {
-    /// How many there are; padding lies in none.
-    pub count: usize,
-    /// The number of the innermost one, 0 where there is none.
-    pub innermost: u32,
-}
-
-/// A field as C has it (`struct hidreport_field`): all its parts are plain numbers.
-#[repr(C)]
-#[derive(Clone, Copy)]
-pub struct HidreportField {
-    /// The field's number in the descriptor.
-    pub number: u32,
-    /// 0 a variable field, 1 an array, 2 padding.
-    pub kind: u32,
-    /// The first of the field's bits in its report.
-    pub first_bit: usize,
-    /// The bit behind the last.
-    pub end_bit: usize,
-    /// How many values it has: 1, those of an array, or none of padding.
-    pub value_count: usize,
-    /// Its usages.
-    pub usages: HidreportUsages,
-    /// Its bounds and its unit.
-    pub measures: HidreportMeasures,
-    /// The collections that it lies in.
-    pub collections: HidreportCollections,
-    /// The flags of its item.
-    pub flags: HidreportFlags,
-    /// Whether only a report that begins with `report_id` is read.
-    pub has_report_id: bool,
-    /// That id, 0 where there is none.
-    pub report_id: u8,
-}
 
 impl Part for Field {
     type InC = HidreportField;

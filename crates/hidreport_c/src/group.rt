@@ -6,46 +6,20 @@ ghost use Rattle.hidreport_c.specs.Answer.{Lists, array_after, counted, no_memor
 ghost use Rattle.hidreport_c.specs.Group.{InGroups, InGroupsOf, flags_in, group_as_c, groups_as_c, field_placed, kind_in, measures_in, usage_in, usage_listed};
 ghost use Rattle.hidreport_c.specs.Lookup.{field_or_none};
 
-use crate::answer::HidreportAnswer;
 use crate::field::{
-    ARRAY, CONSTANT, HidreportCollections, HidreportField, HidreportFlags, HidreportMeasures,
-    VARIABLE, attributes_of, collections_of, measures, nothing_measured, nothing_set,
+    ARRAY, CONSTANT, VARIABLE, attributes_of, collections_of, measures, nothing_measured,
+    nothing_set,
 };
-use crate::options::HidreportOptions;
 use crate::outline::{groups_of, outline, reports_of};
 use crate::part::{Part, write};
 use crate::status::OUT_OF_MEMORY;
+use crate::structs::{
+    HidreportAnswer, HidreportField, HidreportFlags, HidreportGroup, HidreportMeasures,
+    HidreportOptions,
+};
 use hidreport::{Field, Group, OutlineReport};
 use std::alloc::{AllocError, Global};
 use std::slice;
-
-/// The fields that one main item makes, side by side (`struct hidreport_group`).
-#[repr(C)]
-#[derive(Clone, Copy)]
-pub struct HidreportGroup {
-    /// 0 variable fields, 1 an array, 2 padding.
-    pub kind: u32,
-    /// The first of their bits in their report.
-    pub first_bit: usize,
-    /// How many bits an element has.
-    pub element_width: usize,
-    /// How many elements there are.
-    pub element_count: usize,
-    /// How many fields: each element of variable fields is one, and else all are.
-    pub field_count: usize,
-    /// The usage of the first field, its page in the upper 16 bits; 0 where there is none.
-    pub usage: u32,
-    /// Their bounds and their unit.
-    pub measures: HidreportMeasures,
-    /// The collections that they lie in.
-    pub collections: HidreportCollections,
-    /// The flags of the item.
-    pub flags: HidreportFlags,
-    /// Whether their report begins with `report_id`.
-    pub has_report_id: bool,
-    /// That id, 0 where there is none.
-    pub report_id: u8,
-}
 
 impl Part for &Group {
     type InC = HidreportGroup;

@@ -8,8 +8,8 @@ ghost use Rattle.hidreport_c.specs.Field.{as_c};
 ghost use Rattle.hidreport_c.specs.Insert.{IsInserted, Places, bytes_after, inserted_at, inserted_value, is_signed_in, placed_at, status_after, width_of, written_at};
 ghost use Rattle.hidreport_c.specs.Value.{id_of};
 
-use crate::field::HidreportField;
 use crate::status::{ACCEPTED, DOES_NOT_FIT, OUT_OF_BOUNDS, WRONG_COUNT};
+use crate::structs::HidreportField;
 use hidreport::bits::{all_fit, put_values};
 use std::slice;
 

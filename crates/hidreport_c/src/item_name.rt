@@ -4,8 +4,9 @@ ghost use Rattle.hidreport_c.specs.Answer.{Lists, array_after, counted};
 ghost use Rattle.hidreport_c.specs.ItemName.{flags_named, item_named, kind_named, words_for};
 ghost use Rattle.hidreport_usages.specs.FlagWords.{flag_text};
 
-use crate::answer::{HidreportAnswer, write_bytes};
+use crate::answer::write_bytes;
 use crate::name::write_text;
+use crate::structs::HidreportAnswer;
 use hidreport::hid::{CollectionItem, ItemType, MainItem, front_item};
 use hidreport_usages::{FlagWords, collection_name, item_name};
 use std::alloc::Global;

@@ -5,23 +5,14 @@ ghost use Rattle.hidreport.specs.Itemising.{as_refusal, itemise};
 ghost use Rattle.hidreport.specs.Rebuilt.{rebuild_answer};
 ghost use Rattle.hidreport.specs.Spelling.{item_of};
 ghost use Rattle.hidreport_c.specs.Answer.{Lists, array_after, counted, listed};
-ghost use Rattle.hidreport_c.specs.declared.items.HidreportItem.{HidreportItem};
+ghost use Rattle.hidreport_c.specs.declared.structs.HidreportItem.{HidreportItem};
 ghost use Rattle.hidreport_c.specs.Items.{front_items, item_as_c, items_as_c, items_end};
 
-use crate::answer::{HidreportAnswer, refusal, write_bytes};
+use crate::answer::{refusal, write_bytes};
 use crate::part::{Part, write};
+use crate::structs::{HidreportAnswer, HidreportItem};
 use hidreport::hid::{Item, ReportDescriptorItem, ReportDescriptorItems, front_item, rebuild};
 use std::alloc::Global;
-
-/// Where an item of a descriptor stands, and how many bytes it has (`struct hidreport_item`).
-#[repr(C)]
-#[derive(Clone, Copy)]
-pub struct HidreportItem {
-    /// The bytes before it.
-    pub offset: usize,
-    /// Its own bytes, the header among them.
-    pub size: usize,
-}
 
 impl Part for ReportDescriptorItem {
     type InC = HidreportItem;

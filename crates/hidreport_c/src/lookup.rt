@@ -1,15 +1,12 @@
-//! A report by its id, and a field by its number or by a usage.
+//! A report by its id, and a field by a usage.
 ghost use Rattle.std.specs.Prelude.{◌≡◌, Ok, option_copied, option_map};
 ghost use Rattle.hidreport.specs.Views.{field_record};
 ghost use Rattle.hidreport_c.specs.Answer.{Lists, ListsOf};
-ghost use Rattle.hidreport_c.specs.Lookup.{field_for_listed, field_listed, field_or_none, field_with_usage, given_id, report_in, report_listed, report_or_none};
+ghost use Rattle.hidreport_c.specs.Lookup.{field_for_listed, field_or_none, field_with_usage, given_id, report_in, report_listed, report_or_none};
 
-use crate::answer::{HidreportAnswer, read};
-use crate::field::HidreportField;
-use crate::numbered::field_numbered;
-use crate::options::HidreportOptions;
+use crate::answer::read;
 use crate::part::write;
-use crate::report::HidreportReport;
+use crate::structs::{HidreportAnswer, HidreportField, HidreportOptions, HidreportReport};
 use hidreport::{Direction, Field, RDescReport, Report, ReportDescriptor, ReportId, Usage};
 use std::alloc::Global;
 use std::slice;
@@ -36,26 +33,6 @@ pub extern "C" fn hidreport_report_with(
             let found = report_with_id(&descriptor, direction, given_id(has_id, id));
             write_report(found, reports)
         }
-        Err(refused) => refused,
-    }
-}
-
-/// The field with this number, in whichever direction; none where no field of the descriptor has
-/// it.
-///
-/// It is written, counted and refused as `hidreport_describe` says.
-#[unsafe(no_mangle)]
-pub extern "C" fn hidreport_field_numbered(
-    alloc: Global,
-    descriptor: &[u8],
-    options: HidreportOptions,
-    number: u32,
-    fields: &mut [HidreportField],
-) -> HidreportAnswer
-    ensures { ListsOf (field_listed number) options descriptor.now fields.old fields.new result }
-{
-    match read(alloc, descriptor, options) {
-        Ok(descriptor) => write_field(field_numbered(&descriptor, number), fields),
         Err(refused) => refused,
     }
 }
@@ -138,7 +115,7 @@ fn write_report(report: Option<&RDescReport>, reports: &mut [HidreportReport]) -
 }
 
 /// Writes a field, if there is one.
-fn write_field(field: Option<&Field>, fields: &mut [HidreportField]) -> HidreportAnswer
+pub(crate) fn write_field(field: Option<&Field>, fields: &mut [HidreportField]) -> HidreportAnswer
     ensures { Lists (Ok (field_or_none (option_map field_record (option_copied field.entry))))
         fields.old fields.new result }
 {

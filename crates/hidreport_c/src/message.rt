@@ -8,9 +8,9 @@ ghost use Rattle.hidreport_c.specs.Message.{Says, message_in, words_of};
 ghost use Rattle.hidreport_c.specs.Options.{options_of};
 ghost use Rattle.hidreport_c.specs.Repair.{repair_options_of};
 
-use crate::answer::{HidreportAnswer, write_bytes};
-use crate::options::HidreportOptions;
+use crate::answer::write_bytes;
 use crate::status::{OUT_OF_MEMORY, UNKNOWN_OPTION};
+use crate::structs::{HidreportAnswer, HidreportOptions};
 use hidreport::hid::ReportDescriptorItems;
 use hidreport::{ParserError, ReportDescriptor, repair};
 use std::alloc::Global;

@@ -8,22 +8,12 @@ ghost use Rattle.hidreport_usages.specs.Names.{name_of_number, name_on, page_nam
 ghost use Rattle.hidreport_usages.specs.Naming.{IsOnlyNamed};
 ghost use Rattle.hidreport_usages.specs.Rows.{IsFirstNamed};
 
-use crate::answer::{HidreportAnswer, write_bytes};
+use crate::answer::write_bytes;
 use crate::status::OUT_OF_MEMORY;
-use crate::usages::HidreportUsage;
+use crate::structs::{HidreportAnswer, HidreportPage, HidreportUsage};
 use hidreport::{Usage, UsagePage};
 use hidreport_usages::{page_by_name, page_name, usage_by_name, usage_name, usage_on_page};
 use std::alloc::{AllocError, Global};
-
-/// A usage page (`struct hidreport_page`).
-#[repr(C)]
-#[derive(Clone, Copy)]
-pub struct HidreportPage {
-    /// Its number, 0 where there is none.
-    pub page: u16,
-    /// Whether there is one.
-    pub is_there: bool,
-}
 
 /// The name of a usage in the HID Usage Tables (Section 5.5), as text without a zero at its end;
 /// empty where they name no such usage. Where memory is refused the answer is 4.

@@ -3,22 +3,8 @@ ghost use Rattle.std.specs.Prelude.{◌≡◌};
 ghost use Rattle.hidreport_c.specs.Options.{limit_of, longest_of, options_of, push_keeps_of, usages_of};
 ghost use Rattle.hidreport_c.specs.Repair.{repair_options_of};
 
+use crate::structs::HidreportOptions;
 use hidreport::{ParseOptions, PushKeeps, RepairOptions, UsagesBy};
-
-/// How a descriptor is read (`struct hidreport_options`).
-#[repr(C)]
-#[derive(Clone, Copy)]
-pub struct HidreportOptions {
-    /// The most that may be listed, as `ReportDescriptor::try_from_with` counts; with a limit a
-    /// descriptor has at most 65,536 bytes. The greatest size is no limit, of bytes neither.
-    pub limit: usize,
-    /// What a Push keeps for its Pop (Section 6.2.2.7): 0 global and local items, 1 global items
-    /// alone. Another number is refused with 6.
-    pub push: u32,
-    /// By which rule usages are found (Section 6.2.2.8): 0 by the letter of the standard, 1 as
-    /// hosts read them. Another number is refused with 6.
-    pub usages: u32,
-}
 
 impl HidreportOptions {
     /// The options as the library has them; none where `push` or `usages` is no number of

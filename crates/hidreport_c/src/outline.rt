@@ -7,9 +7,9 @@ ghost use Rattle.hidreport_c.specs.Describe.{reports_in_direction};
 ghost use Rattle.hidreport_c.specs.Group.{lent};
 ghost use Rattle.hidreport_c.specs.Options.{options_of};
 
-use crate::answer::{HidreportAnswer, refusal};
-use crate::options::HidreportOptions;
+use crate::answer::refusal;
 use crate::status::UNKNOWN_OPTION;
+use crate::structs::{HidreportAnswer, HidreportOptions};
 use hidreport::{Group, Outline, OutlineReport};
 use std::alloc::{AllocError, Global};
 

@@ -2,7 +2,7 @@
 ghost use Rattle.std.specs.Prelude.{◌≡◌, ◌+◌, ◌<◌, ◌^◌, ◌++◌, List, length, map};
 ghost use Rattle.hidreport_c.specs.Answer.{counted, array_after};
 
-use crate::answer::HidreportAnswer;
+use crate::structs::HidreportAnswer;
 
 /// A part of a descriptor that C has in another form.
 pub(crate) trait Part {

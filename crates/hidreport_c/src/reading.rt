@@ -8,11 +8,10 @@ ghost use Rattle.hidreport_c.specs.Field.{as_c};
 ghost use Rattle.hidreport_c.specs.Reading.{available_in, if_countable, numbers_in, there_at, there_in};
 ghost use Rattle.hidreport_c.specs.Status.{by_status};
 ghost use Rattle.hidreport_c.specs.Value.{acceptance, id_of};
-ghost use Rattle.hidreport_c.specs.declared.field.HidreportField.{HidreportField};
+ghost use Rattle.hidreport_c.specs.declared.structs.HidreportField.{HidreportField};
 
-use crate::answer::HidreportAnswer;
-use crate::field::HidreportField;
 use crate::status::{MISMATCHING_REPORT_ID, OUT_OF_BOUNDS};
+use crate::structs::{HidreportAnswer, HidreportField};
 
 /// The values of these fields, in order, in a report that has these bytes (Sections 5.6 and 5.8):
 /// those of each field behind those of the field before; padding has none. As many as there is room

@@ -1,8 +1,8 @@
 ghost use Rattle.hidreport_c.specs.Repair.{ListsOfRepair};
 
-use crate::answer::{HidreportAnswer, refusal, write_bytes};
-use crate::options::HidreportOptions;
+use crate::answer::{refusal, write_bytes};
 use crate::status::UNKNOWN_OPTION;
+use crate::structs::{HidreportAnswer, HidreportOptions};
 use hidreport::repair;
 use std::alloc::Global;
 

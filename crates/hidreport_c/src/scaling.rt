@@ -7,20 +7,8 @@ ghost use Rattle.hidreport.specs.declared.field.usage.Usage.{Usage};
 ghost use Rattle.hidreport_c.specs.Field.{as_c};
 ghost use Rattle.hidreport_c.specs.Scaling.{fraction_as_c, no_fraction, normalized_of, physical_of};
 
-use crate::field::HidreportField;
+use crate::structs::{HidreportField, HidreportFraction};
 use hidreport::Fraction;
-
-/// A number that isn't whole, exactly, if there is one (`struct hidreport_fraction`).
-#[repr(C)]
-#[derive(Clone, Copy)]
-pub struct HidreportFraction {
-    /// The number above the line; 0 where there is none.
-    pub numerator: i64,
-    /// The number below it, which is above 0; 0 where there is none.
-    pub denominator: i64,
-    /// Whether there is one.
-    pub is_there: bool,
-}
 
 /// What a value of a field stands for, in its unit times ten to its exponent (Section 6.2.2.7): the
 /// logical bounds stand for the physical ones, and a value lies on the line through both, beyond

@@ -1,5 +1,5 @@
-//! The value of an array that stands for a usage, and one that stands for none.
-ghost use Rattle.std.specs.Prelude.{◌≡◌, ◌≢◌, ◌<◌, ◌≤ℤ◌, ℕ, ℤ, ◌≤◌, Bool, List, IfSome, IsNone, ◌^◌, Some, false, true, int_lt, pos, slice_get, unsigned_abs};
+//! The usage that a value of an array stands for, the value of a usage, and one that stands for none.
+ghost use Rattle.std.specs.Prelude.{◌≡◌, ◌≢◌, ◌<◌, ◌≤ℤ◌, ℕ, ℤ, ◌≤◌, Bool, List, IfSome, IsNone, ◌^◌, Some, false, true, int_lt, pos, slice_get, unsigned_abs, map, option_map};
 ghost use Rattle.hidreport.specs.Reading.{element_width};
 ghost use Rattle.hidreport.specs.Records.{ArrayRecord, Attributes, FieldPlace};
 ghost use Rattle.hidreport.specs.Standing.{IsNullNumber};
@@ -7,19 +7,13 @@ ghost use Rattle.hidreport.specs.declared.field.usage.Usage.{Usage};
 ghost use Rattle.hidreport_c.specs.Field.{as_c};
 ghost use Rattle.hidreport_c.specs.Insert.{is_signed_in, width_of};
 ghost use Rattle.hidreport_c.specs.Standing.{Chooses, IsLeastMeant, IsNullAt, choice_as_c};
+ghost use Rattle.hidreport.specs.Choosing.{usage_chosen};
+ghost use Rattle.hidreport.specs.UsageNumber.{usage_number};
+ghost use Rattle.hidreport_c.specs.Usages.{usage_as_c, usage_meant};
 
-use crate::field::{ARRAY, HidreportField};
+use crate::field::ARRAY;
+use crate::structs::{HidreportChoice, HidreportField, HidreportUsage};
 use hidreport::ElementNumbers;
-
-/// A value of an array, if there is one (`struct hidreport_choice`).
-#[repr(C)]
-#[derive(Clone, Copy)]
-pub struct HidreportChoice {
-    /// The value; 0 where there is none.
-    pub value: i64,
-    /// Whether there is one.
-    pub is_there: bool,
-}
 
 impl HidreportChoice {
     /// A value as C has it.
@@ -36,6 +30,37 @@ impl HidreportChoice {
                 is_there: false,
             },
         }
+    }
+}
+
+/// The usage that a value of an array stands for (Section 6.2.2.5), of the field's usages, as
+/// `hidreport_usages` lists them: the one whose index, counted from 0, is the value less the
+/// logical minimum. None where the value lies outside the logical bounds, as it does where no usage
+/// is meant, where no usage has the index, and for a field that is no array. It takes no memory.
+///
+/// Of an array that the library described it is what `ArrayField::usage_of` answers (`chosen`).
+#[unsafe(no_mangle)]
+pub extern "C" fn hidreport_usage_of(
+    field: &HidreportField,
+    value: i64,
+    usages: &[u32],
+) -> HidreportUsage
+    ensures meant { result ≡ usage_as_c (usage_meant field.now usages.now value) }
+    ensures chosen { (place : FieldPlace) (listed : List Usage) (is_range : Bool) (count : ℕ)
+        (shared : Attributes) → field.now ≡ as_c (ArrayRecord place listed is_range count shared)
+        → usages.now ≡ map usage_number listed
+        → result ≡ usage_as_c (option_map usage_number
+        (usage_chosen listed shared.logical_minimum shared.logical_maximum value)) }
+{
+    match field.usage_meant(value, usages) {
+        Some(usage) => HidreportUsage {
+            usage,
+            is_meant: true,
+        },
+        None => HidreportUsage {
+            usage: 0,
+            is_meant: false,
+        },
     }
 }
 
@@ -74,6 +99,19 @@ pub extern "C" fn hidreport_null_value(field: &HidreportField) -> HidreportChoic
 }
 
 impl HidreportField {
+    /// The usage that a value stands for, if any.
+    fn usage_meant(&self, value: i64, usages: &[u32]) -> Option<u32>
+        ensures { result ≡ usage_meant self.now usages.now value }
+    {
+        let minimum = i64::from(self.measures.logical_minimum);
+        let maximum = i64::from(self.measures.logical_maximum);
+        if self.kind != ARRAY || value < minimum || maximum < value {
+            return None;
+        }
+        let index = (value - minimum).unsigned_abs() as usize;
+        usages.get(index).copied()
+    }
+
     /// The least value that stands for a usage, if any.
     fn value_meant(&self, usage: u32, usages: &[u32]) -> Option<i64>
         ensures { IsLeastMeant self.now usages.now usage result }

@@ -8,20 +8,9 @@ ghost use Rattle.hidreport_c.specs.Field.{as_c};
 ghost use Rattle.hidreport_c.specs.Status.{by_status};
 ghost use Rattle.hidreport_c.specs.Value.{acceptance, as_value, element_at, elements_at, extracted_value, id_of, value_numbers, value_at, values_at};
 
-use crate::answer::HidreportAnswer;
-use crate::field::HidreportField;
 use crate::status::{ACCEPTED, MISMATCHING_REPORT_ID, OUT_OF_BOUNDS};
+use crate::structs::{HidreportAnswer, HidreportField, HidreportValue};
 use hidreport::FieldValue;
-
-/// A value of a field, or why there is none (`struct hidreport_value`).
-#[repr(C)]
-#[derive(Clone, Copy)]
-pub struct HidreportValue {
-    /// The number, 0 where it is refused.
-    pub number: i64,
-    /// 0, or the number of the refusal.
-    pub status: u32,
-}
 
 /// The value `index` of a field, counted from 0, in a report that has these bytes (Sections 5.6
 /// and 5.8). It takes no memory.

@@ -13,9 +13,9 @@ ghost use Rattle.hidreport_c.specs.Status.{by_status};
 ghost use Rattle.hidreport_c.specs.Value.{acceptance};
 ghost use Rattle.hidreport_c.specs.Writing.{HasRoomAt, IsNarrowAt, all_fit_at, begins_in_own_id_at, count_at, put_all_at, report_written_at};
 
-use crate::field::HidreportField;
 use crate::reading::check_all;
 use crate::status::{ACCEPTED, DOES_NOT_FIT, OUT_OF_BOUNDS, WRONG_COUNT};
+use crate::structs::HidreportField;
 use hidreport::bits::{all_fit, put_values};
 
 /// Writes the values of these fields, in order, into a report that has these bytes, as

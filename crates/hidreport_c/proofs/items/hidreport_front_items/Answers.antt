@@ -4,7 +4,7 @@ use Rattle.hidreport_c.proofs.FrontItemsLemmas.{front-fault, front-more, front-n
 use Rattle.hidreport_c.proofs.FrontItemsLemmas.{front-some, front-whole}
 use Rattle.hidreport_c.specs.Answer.{array_after, counted}
 use Rattle.hidreport_c.specs.Items.{front_items}
-use Rattle.hidreport_c.specs.declared.items.HidreportItem.{HidreportItem}
+use Rattle.hidreport_c.specs.declared.structs.HidreportItem.{HidreportItem}
 use Rattle.hidreport_c.proofs.items.hidreport_front_items.Goals as goal
 use Rattle.hidreport_c.proofs.items.hidreport_front_items.Goals.{In_default}
 

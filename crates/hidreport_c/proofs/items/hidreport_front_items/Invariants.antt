@@ -1,7 +1,7 @@
 use Rattle.std.proofs.Common.{◌≡◌, ◌≤◌, ◌+◌, ◌++◌, List, length}
 use Rattle.hidreport_c.specs.Answer.{array_after}
 use Rattle.hidreport_c.specs.Items.{front_items}
-use Rattle.hidreport_c.specs.declared.items.HidreportItem.{HidreportItem}
+use Rattle.hidreport_c.specs.declared.structs.HidreportItem.{HidreportItem}
 use Rattle.hidreport_c.proofs.items.hidreport_front_items.Given as goal
 
 -- the items so far are written and counted, and those of the rest stand behind them
