@@ -1,5 +1,5 @@
 -- A field as C has it: all its parts as numbers, 0 or off for what isn't there.
-use Rattle.std.specs.Prelude.{ℕ, pos, ◌-◌, Bool, false, List, [], ◌∷◌, length, slice_get, is_some}
+use Rattle.std.specs.Prelude.{◌≡◌, ℕ, pos, ◌-◌, Bool, false, List, [], ◌∷◌, length, slice_get, is_some}
 use Rattle.std.specs.Prelude.{unwrap_or, Option, None, option_map}
 use Rattle.hidreport.specs.Records.{CollectionRecord, FieldPlace, Attributes, FieldRecord}
 use Rattle.hidreport.specs.Records.{VariableRecord, ArrayRecord, ConstantRecord}
@@ -121,3 +121,8 @@ as_c (ArrayRecord place usages is_range count shared) =
 as_c (ConstantRecord place) =
     field_at place None 2 0 (usages_as_c [] false) nothing_measured nothing_set
     (collections_as_c [])
+
+-- what holds of the bounds and the unit of a variable field, if this is such a field as C has it
+abbrev pub OfVariable : HidreportField → (Attributes → Type 0) → Type 0
+OfVariable f holds = (place : FieldPlace) (usage : Usage) (shared : Attributes)
+    → f ≡ as_c (VariableRecord place usage shared) → holds shared

@@ -1,10 +1,8 @@
 //! What a value stands for.
 ghost use Rattle.std.specs.Prelude.{◌≡◌, ◌≤◌, ◌^◌, ◌*ℤ◌, ◌-ℤ◌, ◌+ℤ◌, ◌&&◌, Some, pos, unsigned_abs};
 ghost use Rattle.std.specs.Ordering.{int_eq};
-ghost use Rattle.hidreport.specs.Records.{Attributes, FieldPlace, VariableRecord};
 ghost use Rattle.hidreport.specs.Scaling.{normalized, on_line, physical_value};
-ghost use Rattle.hidreport.specs.declared.field.usage.Usage.{Usage};
-ghost use Rattle.hidreport_c.specs.Field.{as_c};
+ghost use Rattle.hidreport_c.specs.Field.{OfVariable};
 ghost use Rattle.hidreport_c.specs.Scaling.{fraction_as_c, no_fraction, normalized_of, physical_of};
 
 use crate::structs::{HidreportField, HidreportFraction};
@@ -20,9 +18,8 @@ use hidreport::Fraction;
 #[unsafe(no_mangle)]
 pub extern "C" fn hidreport_physical(field: &HidreportField, value: i64) -> HidreportFraction
     ensures physical { result ≡ fraction_as_c (physical_of field.now.measures value) }
-    ensures variable { (place : FieldPlace) (usage : Usage) (shared : Attributes)
-        → field.now ≡ as_c (VariableRecord place usage shared)
-        → physical_of field.now.measures value ≡ physical_value shared value }
+    ensures variable { OfVariable field.now (λ shared.
+        physical_of field.now.measures value ≡ physical_value shared value) }
 {
     let measures = &field.measures;
     let low = measures.logical_minimum;
@@ -43,9 +40,8 @@ pub extern "C" fn hidreport_physical(field: &HidreportField, value: i64) -> Hidr
 #[unsafe(no_mangle)]
 pub extern "C" fn hidreport_normalized(field: &HidreportField, value: i64) -> HidreportFraction
     ensures normalized { result ≡ fraction_as_c (normalized_of field.now.measures value) }
-    ensures variable { (place : FieldPlace) (usage : Usage) (shared : Attributes)
-        → field.now ≡ as_c (VariableRecord place usage shared)
-        → normalized_of field.now.measures value ≡ normalized shared value }
+    ensures variable { OfVariable field.now (λ shared.
+        normalized_of field.now.measures value ≡ normalized shared value) }
 {
     let low = field.measures.logical_minimum;
     let high = field.measures.logical_maximum;

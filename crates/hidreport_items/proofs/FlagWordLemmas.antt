@@ -135,68 +135,39 @@ same-flags a0 a1 a2 a3 a4 a5 a6 a7 a8 b0 b1 b2 b3 b4 b5 b6 b7 b8 e0 e1 e2 e3 e4 
 pub flags-again : (f : Flags) → flags_of (flags_number f) ≡ f
 flags-again f =
     let is = number-is f in
-    let b0 : is_flag_set (flags_number f) 0 ≡ f.constant =
-    ap (λ n. n == 1) (bit-0 (flags_number f) (bit_of f.constant) (bit_of f.variable)
-    (bit_of f.relative) (bit_of f.wrap) (bit_of f.nonlinear) (bit_of f.no_preferred_state)
-    (bit_of f.null_state) (bit_of f.volatile) (bit_of f.buffered_bytes) is
-    (bit-small f.constant)) ∙ bit-again f.constant in
-    let b1 : is_flag_set (flags_number f) 1 ≡ f.variable =
-    ap (λ n. n == 1) (bit-1 (flags_number f) (bit_of f.constant) (bit_of f.variable)
-    (bit_of f.relative) (bit_of f.wrap) (bit_of f.nonlinear) (bit_of f.no_preferred_state)
-    (bit_of f.null_state) (bit_of f.volatile) (bit_of f.buffered_bytes) is
-    (bit-small f.constant) (bit-small f.variable)) ∙ bit-again f.variable in
-    let b2 : is_flag_set (flags_number f) 2 ≡ f.relative =
-    ap (λ n. n == 1) (bit-2 (flags_number f) (bit_of f.constant) (bit_of f.variable)
-    (bit_of f.relative) (bit_of f.wrap) (bit_of f.nonlinear) (bit_of f.no_preferred_state)
-    (bit_of f.null_state) (bit_of f.volatile) (bit_of f.buffered_bytes) is
-    (bit-small f.constant) (bit-small f.variable) (bit-small f.relative))
-    ∙ bit-again f.relative in
-    let b3 : is_flag_set (flags_number f) 3 ≡ f.wrap =
-    ap (λ n. n == 1) (bit-3 (flags_number f) (bit_of f.constant) (bit_of f.variable)
-    (bit_of f.relative) (bit_of f.wrap) (bit_of f.nonlinear) (bit_of f.no_preferred_state)
-    (bit_of f.null_state) (bit_of f.volatile) (bit_of f.buffered_bytes) is
-    (bit-small f.constant) (bit-small f.variable) (bit-small f.relative) (bit-small f.wrap))
-    ∙ bit-again f.wrap in
-    let b4 : is_flag_set (flags_number f) 4 ≡ f.nonlinear =
-    ap (λ n. n == 1) (bit-4 (flags_number f) (bit_of f.constant) (bit_of f.variable)
-    (bit_of f.relative) (bit_of f.wrap) (bit_of f.nonlinear) (bit_of f.no_preferred_state)
-    (bit_of f.null_state) (bit_of f.volatile) (bit_of f.buffered_bytes) is
-    (bit-small f.constant) (bit-small f.variable) (bit-small f.relative) (bit-small f.wrap)
-    (bit-small f.nonlinear)) ∙ bit-again f.nonlinear in
-    let b5 : is_flag_set (flags_number f) 5 ≡ f.no_preferred_state =
-    ap (λ n. n == 1) (bit-5 (flags_number f) (bit_of f.constant) (bit_of f.variable)
-    (bit_of f.relative) (bit_of f.wrap) (bit_of f.nonlinear) (bit_of f.no_preferred_state)
-    (bit_of f.null_state) (bit_of f.volatile) (bit_of f.buffered_bytes) is
-    (bit-small f.constant) (bit-small f.variable) (bit-small f.relative) (bit-small f.wrap)
-    (bit-small f.nonlinear) (bit-small f.no_preferred_state))
-    ∙ bit-again f.no_preferred_state in
-    let b6 : is_flag_set (flags_number f) 6 ≡ f.null_state =
-    ap (λ n. n == 1) (bit-6 (flags_number f) (bit_of f.constant) (bit_of f.variable)
-    (bit_of f.relative) (bit_of f.wrap) (bit_of f.nonlinear) (bit_of f.no_preferred_state)
-    (bit_of f.null_state) (bit_of f.volatile) (bit_of f.buffered_bytes) is
-    (bit-small f.constant) (bit-small f.variable) (bit-small f.relative) (bit-small f.wrap)
-    (bit-small f.nonlinear) (bit-small f.no_preferred_state) (bit-small f.null_state))
-    ∙ bit-again f.null_state in
-    let b7 : is_flag_set (flags_number f) 7 ≡ f.volatile =
-    ap (λ n. n == 1) (bit-7 (flags_number f) (bit_of f.constant) (bit_of f.variable)
-    (bit_of f.relative) (bit_of f.wrap) (bit_of f.nonlinear) (bit_of f.no_preferred_state)
-    (bit_of f.null_state) (bit_of f.volatile) (bit_of f.buffered_bytes) is
-    (bit-small f.constant) (bit-small f.variable) (bit-small f.relative) (bit-small f.wrap)
-    (bit-small f.nonlinear) (bit-small f.no_preferred_state) (bit-small f.null_state)
-    (bit-small f.volatile)) ∙ bit-again f.volatile in
-    let b8 : is_flag_set (flags_number f) 8 ≡ f.buffered_bytes =
-    ap (λ n. n == 1) (bit-8 (flags_number f) (bit_of f.constant) (bit_of f.variable)
-    (bit_of f.relative) (bit_of f.wrap) (bit_of f.nonlinear) (bit_of f.no_preferred_state)
-    (bit_of f.null_state) (bit_of f.volatile) (bit_of f.buffered_bytes) is
-    (bit-small f.constant) (bit-small f.variable) (bit-small f.relative) (bit-small f.wrap)
-    (bit-small f.nonlinear) (bit-small f.no_preferred_state) (bit-small f.null_state)
-    (bit-small f.volatile) (bit-small f.buffered_bytes)) ∙ bit-again f.buffered_bytes in
-    same-flags (is_flag_set (flags_number f) 0) (is_flag_set (flags_number f) 1)
-    (is_flag_set (flags_number f) 2) (is_flag_set (flags_number f) 3)
-    (is_flag_set (flags_number f) 4) (is_flag_set (flags_number f) 5)
-    (is_flag_set (flags_number f) 6) (is_flag_set (flags_number f) 7)
-    (is_flag_set (flags_number f) 8) f.constant f.variable f.relative f.wrap f.nonlinear
-    f.no_preferred_state f.null_state f.volatile f.buffered_bytes b0 b1 b2 b3 b4 b5 b6 b7 b8
+    let b0 : is_flag_set (flags_number f) 0 ≡ f.constant = ap (λ n. n == 1)
+    (bit-0 _ _ _ _ _ _ _ _ _ _ is (bit-small f.constant)) ∙ bit-again f.constant in
+    let b1 : is_flag_set (flags_number f) 1 ≡ f.variable = ap (λ n. n == 1)
+    (bit-1 _ _ _ _ _ _ _ _ _ _ is (bit-small f.constant) (bit-small f.variable))
+    ∙ bit-again f.variable in
+    let b2 : is_flag_set (flags_number f) 2 ≡ f.relative = ap (λ n. n == 1)
+    (bit-2 _ _ _ _ _ _ _ _ _ _ is (bit-small f.constant) (bit-small f.variable)
+    (bit-small f.relative)) ∙ bit-again f.relative in
+    let b3 : is_flag_set (flags_number f) 3 ≡ f.wrap = ap (λ n. n == 1)
+    (bit-3 _ _ _ _ _ _ _ _ _ _ is (bit-small f.constant) (bit-small f.variable)
+    (bit-small f.relative) (bit-small f.wrap)) ∙ bit-again f.wrap in
+    let b4 : is_flag_set (flags_number f) 4 ≡ f.nonlinear = ap (λ n. n == 1)
+    (bit-4 _ _ _ _ _ _ _ _ _ _ is (bit-small f.constant) (bit-small f.variable)
+    (bit-small f.relative) (bit-small f.wrap) (bit-small f.nonlinear)) ∙ bit-again f.nonlinear in
+    let b5 : is_flag_set (flags_number f) 5 ≡ f.no_preferred_state = ap (λ n. n == 1)
+    (bit-5 _ _ _ _ _ _ _ _ _ _ is (bit-small f.constant) (bit-small f.variable)
+    (bit-small f.relative) (bit-small f.wrap) (bit-small f.nonlinear)
+    (bit-small f.no_preferred_state)) ∙ bit-again f.no_preferred_state in
+    let b6 : is_flag_set (flags_number f) 6 ≡ f.null_state = ap (λ n. n == 1)
+    (bit-6 _ _ _ _ _ _ _ _ _ _ is (bit-small f.constant) (bit-small f.variable)
+    (bit-small f.relative) (bit-small f.wrap) (bit-small f.nonlinear)
+    (bit-small f.no_preferred_state) (bit-small f.null_state)) ∙ bit-again f.null_state in
+    let b7 : is_flag_set (flags_number f) 7 ≡ f.volatile = ap (λ n. n == 1)
+    (bit-7 _ _ _ _ _ _ _ _ _ _ is (bit-small f.constant) (bit-small f.variable)
+    (bit-small f.relative) (bit-small f.wrap) (bit-small f.nonlinear)
+    (bit-small f.no_preferred_state) (bit-small f.null_state) (bit-small f.volatile))
+    ∙ bit-again f.volatile in
+    let b8 : is_flag_set (flags_number f) 8 ≡ f.buffered_bytes = ap (λ n. n == 1)
+    (bit-8 _ _ _ _ _ _ _ _ _ _ is (bit-small f.constant) (bit-small f.variable)
+    (bit-small f.relative) (bit-small f.wrap) (bit-small f.nonlinear)
+    (bit-small f.no_preferred_state) (bit-small f.null_state) (bit-small f.volatile)
+    (bit-small f.buffered_bytes)) ∙ bit-again f.buffered_bytes in
+    same-flags _ _ _ _ _ _ _ _ _ _ _ _ _ _ _ _ _ _ b0 b1 b2 b3 b4 b5 b6 b7 b8
 
 -- a flag of a number is its bit
 bit-is : (w i : ℕ) → bit_of (is_flag_set w i) ≡ w / 2 ^ i % 2
