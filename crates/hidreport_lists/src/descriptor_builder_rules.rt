@@ -1,15 +1,7 @@
 //! The states in which a builder of descriptors may open, close, push, pop and build.
 ghost use Rattle.std.specs.Prelude.{◌≡◌, ◌+◌, nat_lt, true, false, refl};
 
-use crate::descriptor_builder_state::{
-    ReportDescriptorBuilderC1, ReportDescriptorBuilderC1Push, ReportDescriptorBuilderC2,
-    ReportDescriptorBuilderC2Push, ReportDescriptorBuilderC3, ReportDescriptorBuilderC3Push,
-    ReportDescriptorBuilderC4, ReportDescriptorBuilderC4Push, ReportDescriptorBuilderC5,
-    ReportDescriptorBuilderC5Push, ReportDescriptorBuilderC6, ReportDescriptorBuilderC6Push,
-    ReportDescriptorBuilderC7, ReportDescriptorBuilderC7Push, ReportDescriptorBuilderC8,
-    ReportDescriptorBuilderC8Push, ReportDescriptorBuilderState, ReportDescriptorBuilderToplevel,
-    ReportDescriptorBuilderToplevelPush,
-};
+use crate::descriptor_builder_state::*;
 
 /// A state in which a collection may be opened.
 pub trait MayOpen: ReportDescriptorBuilderState {

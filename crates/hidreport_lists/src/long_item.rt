@@ -7,7 +7,7 @@ ghost use Rattle.hidreport_lists.specs.Data.{long_data, long_tag, some_data};
 ghost use Rattle.hidreport_lists.specs.Itemising.{long_item};
 
 use crate::data::ItemData;
-use crate::short_item::{Item, following};
+use crate::short_item::{Item, first_byte, following};
 use hidreport_items::{HidError, ItemFault, ItemType, error_of, is_long_header};
 use std::alloc::Global;
 use std::marker::Model;
@@ -84,10 +84,7 @@ impl Item for LongItem {
     }
 
     fn header(&self) -> u8 {
-        match self.bytes() {
-            [] => 0,
-            [header, ..] => *header,
-        }
+        first_byte(self.bytes())
     }
 
     fn is_long_item(&self) -> bool {

@@ -157,10 +157,7 @@ impl Item for ShortItem {
     }
 
     fn header(&self) -> u8 {
-        match self.bytes() {
-            [] => 0,
-            [header, ..] => *header,
-        }
+        first_byte(self.bytes())
     }
 
     fn is_long_item(&self) -> bool {
@@ -176,6 +173,16 @@ impl Item for ShortItem {
             [] | [_] => None,
             [_, data_bytes @ ..] => Some(ItemData::new(data_bytes)),
         }
+    }
+}
+
+/// The header that begins an item's bytes.
+pub(crate) fn first_byte(bytes: &[u8]) -> u8
+    ensures { result ≡ first_or_zero bytes.now }
+{
+    match bytes {
+        [] => 0,
+        [header, ..] => *header,
     }
 }
 
