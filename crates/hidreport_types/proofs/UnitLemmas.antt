@@ -49,29 +49,15 @@ joined-kept number (Ampere e) us = refl
 joined-kept number (Candela e) us = refl
 
 -- the numbers of the units that depend on the system, where there is one
-pub length-number : (system : UnitSystem) (e : ℤ) → 0 < system_number system
-    → unit_number (length_in system e) ≡ exponent_at 1 e + system_number system
-length-number NoSystem e some = absurd (omega arith)
-length-number SILinear e some = refl
-length-number SIRotation e some = refl
-length-number EnglishLinear e some = refl
-length-number EnglishRotation e some = refl
-
-pub mass-number : (system : UnitSystem) (e : ℤ) → 0 < system_number system
-    → unit_number (mass_in system e) ≡ exponent_at 2 e
-mass-number NoSystem e some = absurd (omega arith)
-mass-number SILinear e some = refl
-mass-number SIRotation e some = refl
-mass-number EnglishLinear e some = refl
-mass-number EnglishRotation e some = refl
-
-pub temperature-number : (system : UnitSystem) (e : ℤ) → 0 < system_number system
-    → unit_number (temperature_in system e) ≡ exponent_at 4 e
-temperature-number NoSystem e some = absurd (omega arith)
-temperature-number SILinear e some = refl
-temperature-number SIRotation e some = refl
-temperature-number EnglishLinear e some = refl
-temperature-number EnglishRotation e some = refl
+pub numbers-in : (system : UnitSystem) (e : ℤ) → 0 < system_number system
+    → (unit_number (length_in system e) ≡ exponent_at 1 e + system_number system)
+    × (unit_number (mass_in system e) ≡ exponent_at 2 e)
+    × (unit_number (temperature_in system e) ≡ exponent_at 4 e)
+numbers-in NoSystem e some = absurd (omega arith)
+numbers-in SILinear e some = (refl, refl, refl)
+numbers-in SIRotation e some = (refl, refl, refl)
+numbers-in EnglishLinear e some = (refl, refl, refl)
+numbers-in EnglishRotation e some = (refl, refl, refl)
 
 -- a named system is the lowest nibble
 pub system-number : (n : ℕ) → 0 < nibble n 0 → nibble n 0 < 5
@@ -160,15 +146,15 @@ make-up n some few unused =
     let length : bit_or (system_number (system_of n)) (unit_number (length_of n)) ≡ (n / 16 % 16) *
     16 + system_number (system_of n) =
     at-length (n / 16 % 16) (system_number (system_of n)) (length_in (system_of n)) (omega arith)
-    (omega arith) (λ e. length-number (system_of n) e named) in
+    (omega arith) (λ e. (numbers-in (system_of n) e named).0) in
     joined-nibbles n (system_number (system_of n)) (length_of n) (mass_of n) (time_of n)
     (temperature_of n) (current_of n) (luminosity_of n)
     (length ∙ omega (arith, system))
     (at-nibble (n / 256 % 16) 256 (mass_in (system_of n)) (omega arith)
-    (λ e. mass-number (system_of n) e named))
+    (λ e. (numbers-in (system_of n) e named).1))
     (at-nibble (n / 4096 % 16) 4096 (λ e. Seconds e) (omega arith) (λ e. refl))
     (at-nibble (n / 65536 % 16) 65536 (temperature_in (system_of n)) (omega arith)
-    (λ e. temperature-number (system_of n) e named))
+    (λ e. (numbers-in (system_of n) e named).2))
     (at-nibble (n / 1048576 % 16) 1048576 (λ e. Ampere e) (omega arith) (λ e. refl))
     (at-nibble (n / 16777216 % 16) 16777216 (λ e. Candela e) (omega arith) (λ e. refl))
     ∙ mod-eq_of_lt (omega arith)
