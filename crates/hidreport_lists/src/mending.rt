@@ -190,8 +190,7 @@ fn leave_out_ended(pieces: &mut [Piece])
 
 impl<'a> Piece<'a> {
     ghost use Rattle.std.specs.Prelude.{◌≡◌, length, Some};
-    ghost use Rattle.hidreport_lists.specs.Mending.{holding, has_local, has_main, is_unknown};
-    ghost use Rattle.hidreport_lists.specs.Mending.{item_in, standing_bytes};
+    ghost use Rattle.hidreport_lists.specs.Mending.{holding, has_local, has_main, is_unknown, item_in, standing_bytes};
 
     /// The offset of the piece: how many bytes of the descriptor stand before it.
     pub fn offset(&self) -> usize

@@ -1,21 +1,7 @@
 //! Units of measure.
 ghost use Rattle.std.specs.Prelude.{◌≡◌, ◌<◌, ℕ, [], Some, IfOk};
 ghost use Rattle.std.specs.Option.{option_map, unwrap_or};
-ghost use Rattle.hidreport_types.specs.UnitTable.{
-  nibble,
-  exponent_in,
-  system_of,
-  length_of,
-  mass_of,
-  time_of,
-  temperature_of,
-  current_of,
-  luminosity_of,
-  places_of,
-  units_of,
-  if_any,
-  MakeUp,
-};
+ghost use Rattle.hidreport_types.specs.UnitTable.{nibble, exponent_in, system_of, length_of, mass_of, time_of, temperature_of, current_of, luminosity_of, places_of, units_of, if_any, MakeUp};
 ghost use Rattle.hidreport_types.specs.UnitText.{unit_text};
 
 use crate::unit_system::UnitSystem;

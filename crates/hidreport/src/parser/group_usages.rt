@@ -30,8 +30,7 @@ pub(crate) enum GroupUsages {
 }
 
 impl GroupUsages {
-    ghost use Rattle.std.specs.Prelude.{◌≡◌, ◌++◌, [], IfOk, IfSome, IsNone, OnOk, map, option_map};
-    ghost use Rattle.std.specs.Prelude.{false, flat_map, slice_get};
+    ghost use Rattle.std.specs.Prelude.{◌≡◌, ◌++◌, [], IfOk, IfSome, IsNone, OnOk, map, option_map, false, flat_map, slice_get};
     ghost use Rattle.hidreport.specs.Fields.{usage_at};
     ghost use Rattle.hidreport.specs.HostUsages.{span_usages};
     ghost use Rattle.hidreport.specs.Parser.Groups.{HasFirst, own_usages};

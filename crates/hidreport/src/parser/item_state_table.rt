@@ -38,12 +38,10 @@ impl Model for ItemStateTable {
 }
 
 impl ItemStateTable {
-    ghost use Rattle.std.specs.Prelude.{◌≡◌, ◌-◌, ◌<◌, [], ◌∷◌, ◌++◌, false, length};
-    ghost use Rattle.std.specs.Prelude.{take, IsTrue, OnOk};
+    ghost use Rattle.std.specs.Prelude.{◌≡◌, ◌-◌, ◌<◌, [], ◌∷◌, ◌++◌, false, length, take, IsTrue, OnOk};
     ghost use Rattle.hidreport_items.specs.declared.item.ItemType.TheVariants as items;
     ghost use Rattle.hidreport.specs.Parser.ItemStates.{item_state_of};
-    ghost use Rattle.hidreport.specs.Parser.Machine.{after_pop, pushed_copy, last_item_state};
-    ghost use Rattle.hidreport.specs.Parser.Machine.{next_item_state, no_item_state};
+    ghost use Rattle.hidreport.specs.Parser.Machine.{after_pop, pushed_copy, last_item_state, next_item_state, no_item_state};
 
     /// Before the first item.
     pub(crate) fn new(alloc: Global, push_keeps: PushKeeps, usages_by: UsagesBy) -> ItemStateTable

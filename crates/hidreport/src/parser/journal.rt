@@ -34,10 +34,8 @@ impl Model for Journal {
 }
 
 impl Journal {
-    ghost use Rattle.std.specs.Prelude.{◌≡◌, [], ◌∷◌, Some, None, false, IfSome, OnErr, OnOk};
-    ghost use Rattle.std.specs.Prelude.{IsNone, IsTrue};
-    ghost use Rattle.hidreport.specs.Parser.Journal.{undo_record, with_undo, Opened, WasGlobals};
-    ghost use Rattle.hidreport.specs.Parser.Journal.{WasLocals};
+    ghost use Rattle.std.specs.Prelude.{◌≡◌, [], ◌∷◌, Some, None, false, IfSome, OnErr, OnOk, IsNone, IsTrue};
+    ghost use Rattle.hidreport.specs.Parser.Journal.{undo_record, with_undo, Opened, WasGlobals, WasLocals};
 
     /// No Push is open.
     pub(crate) fn new(alloc: Global) -> Journal

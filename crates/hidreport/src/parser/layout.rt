@@ -33,13 +33,11 @@ pub(crate) struct Layout {
 
 impl Layout {
     ghost use Rattle.std.specs.Arc.{arc_slice_items};
-    ghost use Rattle.std.specs.Prelude.{◌≡◌, ◌+◌, ◌++◌, ◌*◌, ◌<◌, ◌≤◌, ◌^◌, []};
-    ghost use Rattle.std.specs.Prelude.{false, Some, length, IfOk, OnOk, map, option_map, slice_get};
+    ghost use Rattle.std.specs.Prelude.{◌≡◌, ◌+◌, ◌++◌, ◌*◌, ◌<◌, ◌≤◌, ◌^◌, [], false, Some, length, IfOk, OnOk, map, option_map, slice_get};
     ghost use Rattle.hidreport.specs.Fields.{each_from, field_count, make_place};
     ghost use Rattle.hidreport.specs.Parser.Groups.{group_of};
     ghost use Rattle.hidreport.specs.Usages.{UsageList};
-    ghost use Rattle.hidreport.specs.Parser.Layout.{IsPossible, beginning_of, laid_out, shared_list};
-    ghost use Rattle.hidreport.specs.Parser.Layout.{shared_of, variable_of, variable_with};
+    ghost use Rattle.hidreport.specs.Parser.Layout.{IsPossible, beginning_of, laid_out, shared_list, shared_of, variable_of, variable_with};
     ghost use Rattle.hidreport.specs.Parser.Usages.{usage_list};
     ghost use Rattle.hidreport.specs.Records.{ArrayRecord, ConstantRecord};
     ghost use Rattle.hidreport.specs.Views.{field_record};

@@ -52,8 +52,7 @@ impl Model for LocalUsages {
 }
 
 impl LocalUsages {
-    ghost use Rattle.std.specs.Prelude.{◌≡◌, ◌<◌, [], ◌∷◌, ◌++◌, count_by};
-    ghost use Rattle.std.specs.Prelude.{IsTrue, OnErr, OnOk, false};
+    ghost use Rattle.std.specs.Prelude.{◌≡◌, ◌<◌, [], ◌∷◌, ◌++◌, count_by, IsTrue, OnErr, OnOk, false};
     ghost use Rattle.hidreport.specs.Parser.Locals.{lacks_page, without_last};
 
     /// None.

@@ -39,8 +39,7 @@ impl Model for OpenCollections {
 
 impl OpenCollections {
     ghost use Rattle.std.specs.Arc.{arc_slice_items};
-    ghost use Rattle.std.specs.Prelude.{◌≡◌, ◌<◌, ◌+◌, ◌-◌, ◌^◌, ◌≤◌, false, [], ◌∷◌, ◌++◌};
-    ghost use Rattle.std.specs.Prelude.{length, sum_by, take, IfOk, IfSome, IsTrue, OnOk};
+    ghost use Rattle.std.specs.Prelude.{◌≡◌, ◌<◌, ◌+◌, ◌-◌, ◌^◌, ◌≤◌, false, [], ◌∷◌, ◌++◌, length, sum_by, take, IfOk, IfSome, IsTrue, OnOk};
     ghost use Rattle.hidreport.specs.Parser.Layout.{shared_list};
     ghost use Rattle.hidreport.specs.Parser.Usages.{usage_list};
     ghost use Rattle.hidreport.specs.Weight.{collection_weight};

@@ -30,8 +30,7 @@ impl ReportLists {
     ghost use Rattle.hidreport.specs.ItemState.{first_of};
     ghost use Rattle.hidreport.specs.Parser.Layout.{IsPossible, laid_out};
     ghost use Rattle.hidreport.specs.Lookup.{reports_of};
-    ghost use Rattle.hidreport.specs.Parser.Machine.{added_to, first_id, index_in, size_in};
-    ghost use Rattle.hidreport.specs.Parser.Machine.{with_reports};
+    ghost use Rattle.hidreport.specs.Parser.Machine.{added_to, first_id, index_in, size_in, with_reports};
     ghost use Rattle.hidreport.specs.Parser.Usages.{usage_list};
 
     /// There are none. It takes no memory.

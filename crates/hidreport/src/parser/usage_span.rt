@@ -23,8 +23,7 @@ pub(crate) struct UsageSpan {
 
 impl UsageSpan {
     ghost use Rattle.std.specs.Prelude.{◌≡◌, ◌+◌, ◌-◌, ◌≤◌, ◌^◌, length};
-    ghost use Rattle.hidreport.specs.HostUsages.{lies_on, is_on_one_page, moved_to, own_span, span_to};
-    ghost use Rattle.hidreport.specs.HostUsages.{span_usage, span_usages};
+    ghost use Rattle.hidreport.specs.HostUsages.{lies_on, is_on_one_page, moved_to, own_span, span_to, span_usage, span_usages};
 
     /// A usage with a page of its own.
     pub(crate) fn of_usage(page: UsagePage, id: UsageId) -> UsageSpan

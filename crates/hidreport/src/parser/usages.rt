@@ -37,8 +37,7 @@ pub(crate) enum Usages<'a> {
 }
 
 impl<'a> Usages<'a> {
-    ghost use Rattle.std.specs.Prelude.{◌≡◌, ◌<◌, ◌≤◌, ◌^◌, [], false, length, take, IfOk, IfSome};
-    ghost use Rattle.std.specs.Prelude.{IsNone};
+    ghost use Rattle.std.specs.Prelude.{◌≡◌, ◌<◌, ◌≤◌, ◌^◌, [], false, length, take, IfOk, IfSome, IsNone};
     ghost use Rattle.hidreport.specs.Fields.{usage_at};
     ghost use Rattle.hidreport.specs.Parser.Usages.{usage_list};
 

@@ -41,8 +41,7 @@ impl Model for Group {
 }
 
 impl Group {
-    ghost use Rattle.std.specs.Prelude.{◌≡◌, ◌+◌, ◌*◌, ◌++◌, [], IfOk, IfSome, IsNone, OnOk, is_some};
-    ghost use Rattle.std.specs.Prelude.{map, nat_lt, option_map, slice_get};
+    ghost use Rattle.std.specs.Prelude.{◌≡◌, ◌+◌, ◌*◌, ◌++◌, [], IfOk, IfSome, IsNone, OnOk, is_some, map, nat_lt, option_map, slice_get};
     ghost use Rattle.hidreport.specs.Fields.{field_count, usage_at};
     ghost use Rattle.hidreport.specs.Groups.{group_fields};
     ghost use Rattle.hidreport.specs.Parser.Groups.{group_of};
