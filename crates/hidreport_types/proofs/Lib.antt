@@ -1,2 +1,3 @@
 pub mod NibbleLemmas
 pub mod UnitLemmas
+pub mod WriteLemmas
