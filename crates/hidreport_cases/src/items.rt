@@ -1,6 +1,6 @@
 //! Items as text: the name of the variant, its parts, and the bytes that it writes.
 use crate::descriptors::add_refusal;
-use crate::kinds::{add_bytes, add_flag, add_kind};
+use crate::kinds::{add_bytes, add_flag, add_kind, add_shared_flags};
 use crate::parts::add_parts;
 use hidreport::hid::{
     FeatureItem, GlobalItem, HidError, InputItem, Item, ItemType, LocalItem, MainDataItem,
@@ -77,7 +77,7 @@ pub fn add_name(text: &mut String, item: &ItemType) -> Result<(), AllocError> {
     }
 }
 
-pub fn add_main(text: &mut String, item: &MainItem) -> Result<(), AllocError> {
+fn add_main(text: &mut String, item: &MainItem) -> Result<(), AllocError> {
     match item {
         MainItem::Input(item) => add_input(text, item),
         MainItem::Output(item) => add_output(text, item),
@@ -90,19 +90,19 @@ pub fn add_main(text: &mut String, item: &MainItem) -> Result<(), AllocError> {
     }
 }
 
-pub fn add_input(text: &mut String, item: &InputItem) -> Result<(), AllocError> {
+fn add_input(text: &mut String, item: &InputItem) -> Result<(), AllocError> {
     text.push_str("Input ")?;
     add_flags(text, item)
 }
 
-pub fn add_output(text: &mut String, item: &OutputItem) -> Result<(), AllocError> {
+fn add_output(text: &mut String, item: &OutputItem) -> Result<(), AllocError> {
     text.push_str("Output ")?;
     add_flags(text, item)?;
     let (holds, opposite) = (item.is_volatile(), item.is_nonvolatile());
     add_flag(text, (holds, "V"), (opposite, "v"))
 }
 
-pub fn add_feature(text: &mut String, item: &FeatureItem) -> Result<(), AllocError> {
+fn add_feature(text: &mut String, item: &FeatureItem) -> Result<(), AllocError> {
     text.push_str("Feature ")?;
     add_flags(text, item)?;
     let (holds, opposite) = (item.is_volatile(), item.is_nonvolatile());
@@ -112,27 +112,11 @@ pub fn add_feature(text: &mut String, item: &FeatureItem) -> Result<(), AllocErr
 fn add_flags<M: MainDataItem>(text: &mut String, item: &M) -> Result<(), AllocError> {
     add_flag(text, (item.is_constant(), "C"), (item.is_data(), "c"))?;
     add_flag(text, (item.is_variable(), "A"), (item.is_array(), "a"))?;
-    add_flag(text, (item.is_relative(), "R"), (item.is_absolute(), "r"))?;
-    add_flag(text, (item.wraps(), "W"), (item.does_not_wrap(), "w"))?;
-    add_flag(text, (item.is_nonlinear(), "N"), (item.is_linear(), "n"))?;
-    add_flag(
-        text,
-        (item.has_no_preferred_state(), "P"),
-        (item.has_preferred_state(), "p"),
-    )?;
-    add_flag(
-        text,
-        (item.has_null_state(), "Z"),
-        (item.has_no_null_state(), "z"),
-    )?;
-    add_flag(
-        text,
-        (item.is_buffered_bytes(), "B"),
-        (item.is_bitfield(), "b"),
-    )
+    add_shared_flags!(text, item);
+    Ok(())
 }
 
-pub fn add_global(text: &mut String, item: &GlobalItem) -> Result<(), AllocError> {
+fn add_global(text: &mut String, item: &GlobalItem) -> Result<(), AllocError> {
     add_global_name(text, item)?;
     let prefix = item.prefix();
     write!(text, " prefix {prefix:02x}")
@@ -159,7 +143,7 @@ fn add_global_name(text: &mut String, item: &GlobalItem) -> Result<(), AllocErro
     }
 }
 
-pub fn add_local(text: &mut String, item: &LocalItem) -> Result<(), AllocError> {
+fn add_local(text: &mut String, item: &LocalItem) -> Result<(), AllocError> {
     add_local_name(text, item)?;
     let prefix = item.prefix();
     write!(text, " prefix {prefix:02x}")
