@@ -116,54 +116,46 @@ fn add_flags<M: MainDataItem>(text: &mut String, item: &M) -> Result<(), AllocEr
     Ok(())
 }
 
-fn add_global(text: &mut String, item: &GlobalItem) -> Result<(), AllocError> {
-    add_global_name(text, item)?;
-    let prefix = item.prefix();
-    write!(text, " prefix {prefix:02x}")
+/// Appends an item's name and its number, where its variant is one of these that hold a number;
+/// else what the arms say.
+macro_rules! add_named {
+    ($text:expr, $item:expr, $kind:ident { $($variant:ident)* } { $($arms:tt)* }) => {
+        match $item {
+            $($kind::$variant(number) => write!($text, "{} {number}", stringify!($variant)),)*
+            $($arms)*
+        }
+    };
 }
 
-fn add_global_name(text: &mut String, item: &GlobalItem) -> Result<(), AllocError> {
-    match item {
-        GlobalItem::UsagePage(page) => write!(text, "UsagePage {page}"),
-        GlobalItem::LogicalMinimum(bound) => write!(text, "LogicalMinimum {bound}"),
-        GlobalItem::LogicalMaximum(bound) => write!(text, "LogicalMaximum {bound}"),
-        GlobalItem::PhysicalMinimum(bound) => write!(text, "PhysicalMinimum {bound}"),
-        GlobalItem::PhysicalMaximum(bound) => write!(text, "PhysicalMaximum {bound}"),
-        GlobalItem::UnitExponent(exponent) => write!(text, "UnitExponent {exponent}"),
+fn add_global(text: &mut String, item: &GlobalItem) -> Result<(), AllocError> {
+    add_named!(text, item, GlobalItem {
+        UsagePage LogicalMinimum LogicalMaximum PhysicalMinimum PhysicalMaximum UnitExponent
+        ReportSize ReportId ReportCount
+    } {
         GlobalItem::Unit(unit) => {
             let number = u32::from(*unit);
             write!(text, "Unit {number}")
         }
-        GlobalItem::ReportSize(size) => write!(text, "ReportSize {size}"),
-        GlobalItem::ReportId(id) => write!(text, "ReportId {id}"),
-        GlobalItem::ReportCount(count) => write!(text, "ReportCount {count}"),
         GlobalItem::Push => text.push_str("Push"),
         GlobalItem::Pop => text.push_str("Pop"),
         GlobalItem::Reserved => text.push_str("GlobalReserved"),
-    }
+    })?;
+    add_prefix(text, item.prefix())
 }
 
 fn add_local(text: &mut String, item: &LocalItem) -> Result<(), AllocError> {
-    add_local_name(text, item)?;
-    let prefix = item.prefix();
-    write!(text, " prefix {prefix:02x}")
+    add_named!(text, item, LocalItem {
+        UsageId UsageMinimum UsageMaximum DesignatorIndex DesignatorMinimum DesignatorMaximum
+        StringIndex StringMinimum StringMaximum Delimiter
+    } {
+        LocalItem::Usage(page, id) => write!(text, "Usage {page} {id}"),
+        LocalItem::Reserved { value } => write!(text, "LocalReserved {value:02x}"),
+    })?;
+    add_prefix(text, item.prefix())
 }
 
-fn add_local_name(text: &mut String, item: &LocalItem) -> Result<(), AllocError> {
-    match item {
-        LocalItem::Usage(page, id) => write!(text, "Usage {page} {id}"),
-        LocalItem::UsageId(id) => write!(text, "UsageId {id}"),
-        LocalItem::UsageMinimum(minimum) => write!(text, "UsageMinimum {minimum}"),
-        LocalItem::UsageMaximum(maximum) => write!(text, "UsageMaximum {maximum}"),
-        LocalItem::DesignatorIndex(index) => write!(text, "DesignatorIndex {index}"),
-        LocalItem::DesignatorMinimum(minimum) => write!(text, "DesignatorMinimum {minimum}"),
-        LocalItem::DesignatorMaximum(maximum) => write!(text, "DesignatorMaximum {maximum}"),
-        LocalItem::StringIndex(index) => write!(text, "StringIndex {index}"),
-        LocalItem::StringMinimum(minimum) => write!(text, "StringMinimum {minimum}"),
-        LocalItem::StringMaximum(maximum) => write!(text, "StringMaximum {maximum}"),
-        LocalItem::Delimiter(delimiter) => write!(text, "Delimiter {delimiter}"),
-        LocalItem::Reserved { value } => write!(text, "LocalReserved {value:02x}"),
-    }
+fn add_prefix(text: &mut String, prefix: u8) -> Result<(), AllocError> {
+    write!(text, " prefix {prefix:02x}")
 }
 
 /// Appends the items that a descriptor is cut into, a line each, or the fault.
