@@ -103,7 +103,8 @@ abbrev pub with_fields : ℕ → ℕ → List ℕ → List ℕ
 with_fields width count text =
     text ++ codes " 75 0" ++ (48 + width) ∷ codes " 95 0" ++ (48 + count) ∷ codes " 81 02"
 
--- with an Input item of as many fields of one bit, or of eight, behind it, these usages are theirs
+-- an Input item behind a text's items that makes a field for each of these usages gives them these:
+-- fields of one bit, and of eight
 abbrev pub BitsHave : List ℕ → List ℕ → Type 0
 BitsHave text usages = summary (with_fields 1 (length usages) text) ≡ input_fields 1 usages
 
