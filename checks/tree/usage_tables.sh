@@ -77,14 +77,26 @@ places_by_name() {
     awk -F '\t' '{ print $2 "\t" NR - 1 }' "$1" | sort -t "$(printf '\t')" -k1,1 -k2,2n | cut -f 2
 }
 
-# Numbers as the elements of an array, or of a list: eight a line.
+# rows_of MARK COLUMNS: numbers, each with a mark of so many columns behind it, as many in each line as
+# have room in 100 columns where all are as wide as the widest.
+rows_of() {
+    awk -v mark="$1" -v columns="$2" '
+    { numbers[NR] = $1; if (length($1) > widest) widest = length($1) }
+    END {
+        most = int((100 - 3) / (widest + columns + 1))
+        for (i = 1; i <= NR; i++)
+            printf "%s%s%s", (i % most != 1 ? " " : i > 1 ? "\n    " : "    "), numbers[i], mark
+    }'
+}
+
+# Numbers as the elements of an array, or of a list.
 elements() {
-    awk '{ printf "%s%s,", (NR % 8 == 1 ? (NR > 1 ? "\n    " : "    ") : " "), $1 }
-        END { print "" }'
+    rows_of , 1
+    echo
 }
 listed() {
-    awk '{ printf "%s%s ∷", (NR % 8 == 1 ? (NR > 1 ? "\n    " : "    ") : " "), $1 }
-        END { print " []" }'
+    rows_of ' ∷' 2
+    echo ' []'
 }
 
 # table WORD WHAT ROWS FILE: the code of one table.

@@ -100,7 +100,7 @@ fn add_directions(
     add_reports(text, ids, "feature", descriptor.feature_reports())
 }
 
-pub fn has_no_reports(descriptor: &ReportDescriptor) -> bool {
+fn has_no_reports(descriptor: &ReportDescriptor) -> bool {
     descriptor.input_reports().is_empty()
         && descriptor.output_reports().is_empty()
         && descriptor.feature_reports().is_empty()
@@ -160,25 +160,31 @@ pub fn add_refusal(text: &mut String, error: &ParserError) -> Result<(), AllocEr
     }
 }
 
-/// Appends how many reports, bits and fields a great descriptor announces in each direction, and in
-/// how many collections the first and the last of the fields lie.
-pub fn add_many(text: &mut String, way: Way, words: &str) -> Result<(), Malformed> {
+/// Reads a descriptor that has reports; appends its refusal, or that it has none.
+pub fn read_reports(
+    text: &mut String,
+    way: Way,
+    words: &str,
+) -> Result<Option<ReportDescriptor>, Malformed> {
     let alloc = *text.allocator();
     let bytes = bytes_of(alloc, words)?;
     match read(alloc, way, &bytes) {
-        Ok(descriptor) => add_counts(text, &descriptor)?,
+        Ok(descriptor) if has_no_reports(&descriptor) => text.push_str("no reports\n")?,
+        Ok(descriptor) => return Ok(Some(descriptor)),
         Err(error) => add_refusal(text, &error)?,
     }
-    Ok(())
+    Ok(None)
 }
 
-fn add_counts(text: &mut String, descriptor: &ReportDescriptor) -> Result<(), AllocError> {
-    if has_no_reports(descriptor) {
-        return text.push_str("no reports\n");
+/// Appends how many reports, bits and fields a great descriptor announces in each direction, and in
+/// how many collections the first and the last of the fields lie.
+pub fn add_many(text: &mut String, way: Way, words: &str) -> Result<(), Malformed> {
+    if let Some(descriptor) = read_reports(text, way, words)? {
+        add_count(text, "input", descriptor.input_reports())?;
+        add_count(text, "output", descriptor.output_reports())?;
+        add_count(text, "feature", descriptor.feature_reports())?;
     }
-    add_count(text, "input", descriptor.input_reports())?;
-    add_count(text, "output", descriptor.output_reports())?;
-    add_count(text, "feature", descriptor.feature_reports())
+    Ok(())
 }
 
 fn add_count(

@@ -1,12 +1,10 @@
 //! Fields as text.
 use crate::descriptors::Ids;
-use crate::kinds::{add_flag, add_kind, add_usages};
-use hidreport::types::{
-    LogicalMaximum, LogicalMinimum, PhysicalMaximum, PhysicalMinimum, Unit, UnitExponent,
-};
+use crate::kinds::{add_flag, add_kind, add_shared_flags, add_usages};
+use hidreport::types::{LogicalMaximum, LogicalMinimum, Unit};
 use hidreport::{ArrayField, Collection, ConstantField, Field, FieldAttributes, VariableField};
 use std::alloc::AllocError;
-use std::fmt::Write;
+use std::fmt::{Display, Write};
 
 /// Appends a line of all public parts of a field: its kind, bits, usages, sign, logical bounds,
 /// physical bounds, unit, exponent and attributes, its id, and the collections that it lies in.
@@ -27,40 +25,35 @@ pub fn add_field(text: &mut String, field: &Field, ids: Ids) -> Result<(), Alloc
     text.push_str("\n")
 }
 
+/// Appends what variable fields and arrays both have.
+macro_rules! add_shared_parts {
+    ($text:expr, $field:expr) => {{
+        add_logical($text, $field.is_signed(), $field.logical_minimum, $field.logical_maximum)?;
+        add_some($text, "from", &$field.physical_minimum)?;
+        add_some($text, "to", &$field.physical_maximum)?;
+        add_unit($text, $field.unit)?;
+        add_some($text, "exponent", &$field.unit_exponent)?;
+        add_attributes($text, $field)
+    }};
+}
+
 fn add_variable(text: &mut String, field: &VariableField) -> Result<(), AllocError> {
-    let first = field.bits.start;
-    let end = field.bits.end;
+    let (first, end) = (field.bits.start, field.bits.end);
     let usage = u32::from(field.usage);
     write!(text, "variable {first}..{end} {usage:08x}")?;
-    add_sign(text, field.is_signed())?;
-    add_logical(text, field.logical_minimum, field.logical_maximum)?;
-    add_measures(
-        text,
-        (field.physical_minimum, field.physical_maximum),
-        (field.unit, field.unit_exponent),
-    )?;
-    add_attributes(text, field)
+    add_shared_parts!(text, field)
 }
 
 fn add_array(text: &mut String, field: &ArrayField) -> Result<(), AllocError> {
-    let first = field.bits.start;
-    let end = field.bits.end;
+    let (first, end) = (field.bits.start, field.bits.end);
     let count = field.report_count;
     write!(text, "array {first}..{end} count {count} (")?;
     add_range(text, field)?;
-    add_sign(text, field.is_signed())?;
-    add_logical(text, field.logical_minimum, field.logical_maximum)?;
-    add_measures(
-        text,
-        (field.physical_minimum, field.physical_maximum),
-        (field.unit, field.unit_exponent),
-    )?;
-    add_attributes(text, field)
+    add_shared_parts!(text, field)
 }
 
 fn add_constant(text: &mut String, field: &ConstantField) -> Result<(), AllocError> {
-    let first = field.bits.start;
-    let end = field.bits.end;
+    let (first, end) = (field.bits.start, field.bits.end);
     write!(text, "constant {first}..{end} (")?;
     add_usages(text, field.usages())?;
     text.push_str(")")
@@ -82,76 +75,41 @@ fn add_range(text: &mut String, field: &ArrayField) -> Result<(), AllocError> {
     }
 }
 
-fn add_sign(text: &mut String, is_signed: bool) -> Result<(), AllocError> {
-    text.push_str(if is_signed { " signed" } else { " unsigned" })
-}
-
 fn add_logical(
     text: &mut String,
+    is_signed: bool,
     minimum: LogicalMinimum,
     maximum: LogicalMaximum,
 ) -> Result<(), AllocError> {
-    write!(text, " {minimum}..{maximum}")
+    let sign = if is_signed { "signed" } else { "unsigned" };
+    write!(text, " {sign} {minimum}..{maximum}")
 }
 
-fn add_measures(
+/// Appends a number behind its word, if there is one.
+fn add_some<T: Display>(
     text: &mut String,
-    physical: (Option<PhysicalMinimum>, Option<PhysicalMaximum>),
-    unit: (Option<Unit>, Option<UnitExponent>),
+    word: &str,
+    number: &Option<T>,
 ) -> Result<(), AllocError> {
-    add_physical(text, physical.0, physical.1)?;
-    add_unit(text, unit.0, unit.1)
+    match number {
+        Some(number) => write!(text, " {word} {number}"),
+        None => Ok(()),
+    }
 }
 
-fn add_physical(
-    text: &mut String,
-    minimum: Option<PhysicalMinimum>,
-    maximum: Option<PhysicalMaximum>,
-) -> Result<(), AllocError> {
-    if let Some(minimum) = minimum {
-        write!(text, " from {minimum}")?;
+fn add_unit(text: &mut String, unit: Option<Unit>) -> Result<(), AllocError> {
+    match unit {
+        Some(unit) => {
+            let number = u32::from(unit);
+            write!(text, " unit {number:08x}")
+        }
+        None => Ok(()),
     }
-    if let Some(maximum) = maximum {
-        write!(text, " to {maximum}")?;
-    }
-    Ok(())
-}
-
-fn add_unit(
-    text: &mut String,
-    unit: Option<Unit>,
-    exponent: Option<UnitExponent>,
-) -> Result<(), AllocError> {
-    if let Some(unit) = unit {
-        let number = u32::from(unit);
-        write!(text, " unit {number:08x}")?;
-    }
-    if let Some(exponent) = exponent {
-        write!(text, " exponent {exponent}")?;
-    }
-    Ok(())
 }
 
 fn add_attributes<F: FieldAttributes>(text: &mut String, field: &F) -> Result<(), AllocError> {
     text.push_str(" ")?;
-    add_flag(text, (field.is_relative(), "R"), (field.is_absolute(), "r"))?;
-    add_flag(text, (field.wraps(), "W"), (field.does_not_wrap(), "w"))?;
-    add_flag(text, (field.is_nonlinear(), "N"), (field.is_linear(), "n"))?;
-    add_flag(
-        text,
-        (field.has_no_preferred_state(), "P"),
-        (field.has_preferred_state(), "p"),
-    )?;
-    add_flag(
-        text,
-        (field.has_null_state(), "Z"),
-        (field.has_no_null_state(), "z"),
-    )?;
-    add_flag(
-        text,
-        (field.is_buffered_bytes(), "B"),
-        (field.is_bitfield(), "b"),
-    )?;
+    add_shared_flags!(text, field);
     match (field.is_volatile(), field.is_nonvolatile()) {
         (Some(holds), Some(opposite)) => add_flag(text, (holds, "V"), (opposite, "v")),
         (None, None) => Ok(()),

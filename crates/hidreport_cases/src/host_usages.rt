@@ -1,8 +1,7 @@
 //! Usages as hosts read them.
-use crate::descriptors::{Way, add_refusal, has_no_reports, read};
+use crate::descriptors::{Way, read_reports};
 use crate::directions::{DIRECTIONS, add_title};
 use crate::malformed::Malformed;
-use crate::words::bytes_of;
 use hidreport::{Field, Report, ReportDescriptor, Usage};
 use std::alloc::AllocError;
 use std::fmt::Write;
@@ -11,19 +10,13 @@ use std::fmt::Write;
 /// array in brackets, more that count up as their first and last; `-` for padding; of fields that
 /// are alike and follow each other how many there are.
 pub fn add_host_usages(text: &mut String, words: &str) -> Result<(), Malformed> {
-    let alloc = *text.allocator();
-    let bytes = bytes_of(alloc, words)?;
-    match read(alloc, Way::Hosts, &bytes) {
-        Ok(descriptor) => add_directions(text, &descriptor)?,
-        Err(error) => add_refusal(text, &error)?,
+    if let Some(descriptor) = read_reports(text, Way::Hosts, words)? {
+        add_directions(text, &descriptor)?;
     }
     Ok(())
 }
 
 fn add_directions(text: &mut String, descriptor: &ReportDescriptor) -> Result<(), AllocError> {
-    if has_no_reports(descriptor) {
-        return text.push_str("no reports\n");
-    }
     for (name, direction) in &DIRECTIONS {
         for report in descriptor.reports(*direction) {
             add_title(text, name, report)?;

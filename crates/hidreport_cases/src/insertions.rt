@@ -13,86 +13,73 @@ use std::fmt::Write;
 /// with these parts, has the numbers. The count of a variable field counts for nothing.
 pub fn add_inserted(text: &mut String, asked: &Asked, words: &str) -> Result<(), Malformed> {
     let alloc = *text.allocator();
-    let (number, parts, numbers, bytes) = asked_parts(words)?;
+    let (number, parts, numbers, before) = asked_parts(words)?;
     let field = asked.field(number)?;
     let numbers = numbers_of(alloc, numbers)?;
-    let bytes = bytes_of(alloc, bytes)?;
-    match field {
-        Field::Variable(field) => {
-            add_with_value(text, &with_bits(field, parts)?, &bytes, &numbers)
-        }
-        Field::Array(field) => {
-            add_with_values(text, &with_elements(field, parts)?, &bytes, &numbers)?;
-            Ok(())
-        }
-        Field::Constant(_) => Err(Malformed::Field),
-    }
-}
-
-/// Appends a report's bytes once a variable field has the number.
-fn add_with_value(
-    text: &mut String,
-    field: &VariableField,
-    before: &[u8],
-    numbers: &[i64],
-) -> Result<(), Malformed> {
-    let alloc = *text.allocator();
-    let Some(value) = numbers.first() else {
-        return Err(Malformed::Number);
+    let before = bytes_of(alloc, before)?;
+    let mut bytes = Vec::from_slice(alloc, &before)?;
+    let (answer, is_read) = match field {
+        Field::Variable(field) => insert_value(&with_bits(field, parts)?, &mut bytes, &numbers)?,
+        Field::Array(field) => insert_values(&with_elements(field, parts)?, &mut bytes, &numbers),
+        Field::Constant(_) => return Err(Malformed::Field),
     };
-    let mut bytes = Vec::from_slice(alloc, before)?;
-    let answer = field.insert(&mut bytes, *value);
-    add_outcome(text, answer, before, &bytes)?;
-    let read = field.extract(&bytes).ok().map(i64::from);
-    add_reading(text, answer, read, *value)?;
-    text.push_str("\n")?;
+    add_outcome(text, answer, &before, &bytes)?;
+    add_reading(text, answer, is_read)?;
     Ok(())
 }
 
-/// The same of an array that has all the numbers.
-fn add_with_values(
-    text: &mut String,
-    field: &ArrayField,
-    before: &[u8],
+/// Writes a number into a variable field. Gives the answer, and whether the number is read then.
+fn insert_value(
+    field: &VariableField,
+    bytes: &mut [u8],
     numbers: &[i64],
-) -> Result<(), AllocError> {
-    let alloc = *text.allocator();
-    let mut bytes = Vec::from_slice(alloc, before)?;
-    let answer = field.insert(&mut bytes, numbers);
-    add_outcome(text, answer, before, &bytes)?;
-    add_readings(text, answer, field, &bytes, numbers)?;
-    text.push_str("\n")
+) -> Result<(Result<(), InsertError>, bool), Malformed> {
+    let Some(value) = numbers.first() else {
+        return Err(Malformed::Number);
+    };
+    let answer = field.insert(bytes, *value);
+    Ok((
+        answer,
+        field.extract(bytes).ok().map(i64::from) == Some(*value),
+    ))
+}
+
+/// The same of an array and all the numbers.
+fn insert_values(
+    field: &ArrayField,
+    bytes: &mut [u8],
+    numbers: &[i64],
+) -> (Result<(), InsertError>, bool) {
+    let answer = field.insert(bytes, numbers);
+    let mut are_read = true;
+    for (index, value) in numbers.iter().enumerate() {
+        are_read &= has_element(field, bytes, (index, *value));
+    }
+    (answer, are_read)
+}
+
+/// Whether an element of an array reads this number.
+fn has_element(field: &ArrayField, bytes: &[u8], (index, value): (usize, i64)) -> bool {
+    field.extract_one(bytes, index).ok().map(i64::from) == Some(value)
 }
 
 /// Answers `insert-one FIELD FIRST..END COUNT MINIMUM / INDEX NUMBER / BYTES`: the bytes once this
 /// element of the array, with these parts, has the number.
 pub fn add_inserted_one(text: &mut String, asked: &Asked, words: &str) -> Result<(), Malformed> {
     let alloc = *text.allocator();
-    let (number, parts, element, bytes) = asked_parts(words)?;
+    let (number, parts, element, before) = asked_parts(words)?;
     let (index, value) = first_of(element)?;
-    let place = (number_of(index)?, wide_of(value)?);
+    let (index, value) = (number_of(index)?, wide_of(value)?);
     let Field::Array(field) = asked.field(number)? else {
         return Err(Malformed::Field);
     };
-    let bytes = bytes_of(alloc, bytes)?;
-    add_with_element(text, &with_elements(field, parts)?, &bytes, place)?;
-    Ok(())
-}
-
-/// Appends a report's bytes once an element of an array has the number.
-fn add_with_element(
-    text: &mut String,
-    field: &ArrayField,
-    before: &[u8],
-    (index, value): (usize, i64),
-) -> Result<(), AllocError> {
-    let alloc = *text.allocator();
-    let mut bytes = Vec::from_slice(alloc, before)?;
+    let field = with_elements(field, parts)?;
+    let before = bytes_of(alloc, before)?;
+    let mut bytes = Vec::from_slice(alloc, &before)?;
     let answer = field.insert_one(&mut bytes, index, value);
-    add_outcome(text, answer, before, &bytes)?;
-    let read = field.extract_one(&bytes, index).ok().map(i64::from);
-    add_reading(text, answer, read, value)?;
-    text.push_str("\n")
+    add_outcome(text, answer, &before, &bytes)?;
+    add_reading(text, answer, has_element(&field, &bytes, (index, value)))?;
+    Ok(())
 }
 
 /// Appends the new bytes, or the refusal, and the bytes where they have changed nevertheless.
@@ -124,32 +111,16 @@ fn add_hex(text: &mut String, bytes: &[u8]) -> Result<(), AllocError> {
     }
 }
 
-/// Says so where what is read isn't what was written.
+/// Ends a line, and says so where what was written isn't read.
 fn add_reading(
     text: &mut String,
     answer: Result<(), InsertError>,
-    read: Option<i64>,
-    written: i64,
+    is_read: bool,
 ) -> Result<(), AllocError> {
-    if answer.is_ok() && read != Some(written) {
+    if answer.is_ok() && !is_read {
         text.push_str(" and reads otherwise")?;
     }
-    Ok(())
-}
-
-/// The same of all elements.
-fn add_readings(
-    text: &mut String,
-    answer: Result<(), InsertError>,
-    field: &ArrayField,
-    bytes: &[u8],
-    numbers: &[i64],
-) -> Result<(), AllocError> {
-    for (index, value) in numbers.iter().enumerate() {
-        let read = field.extract_one(bytes, index).ok().map(i64::from);
-        add_reading(text, answer, read, *value)?;
-    }
-    Ok(())
+    text.push_str("\n")
 }
 
 /// Numbers with a space between; `-` is none.

@@ -1,6 +1,6 @@
 //! Items as text: the name of the variant, its parts, and the bytes that it writes.
 use crate::descriptors::add_refusal;
-use crate::kinds::{add_bytes, add_flag, add_kind};
+use crate::kinds::{add_bytes, add_flag, add_kind, add_shared_flags};
 use crate::parts::add_parts;
 use hidreport::hid::{
     FeatureItem, GlobalItem, HidError, InputItem, Item, ItemType, LocalItem, MainDataItem,
@@ -77,7 +77,7 @@ pub fn add_name(text: &mut String, item: &ItemType) -> Result<(), AllocError> {
     }
 }
 
-pub fn add_main(text: &mut String, item: &MainItem) -> Result<(), AllocError> {
+fn add_main(text: &mut String, item: &MainItem) -> Result<(), AllocError> {
     match item {
         MainItem::Input(item) => add_input(text, item),
         MainItem::Output(item) => add_output(text, item),
@@ -90,19 +90,19 @@ pub fn add_main(text: &mut String, item: &MainItem) -> Result<(), AllocError> {
     }
 }
 
-pub fn add_input(text: &mut String, item: &InputItem) -> Result<(), AllocError> {
+fn add_input(text: &mut String, item: &InputItem) -> Result<(), AllocError> {
     text.push_str("Input ")?;
     add_flags(text, item)
 }
 
-pub fn add_output(text: &mut String, item: &OutputItem) -> Result<(), AllocError> {
+fn add_output(text: &mut String, item: &OutputItem) -> Result<(), AllocError> {
     text.push_str("Output ")?;
     add_flags(text, item)?;
     let (holds, opposite) = (item.is_volatile(), item.is_nonvolatile());
     add_flag(text, (holds, "V"), (opposite, "v"))
 }
 
-pub fn add_feature(text: &mut String, item: &FeatureItem) -> Result<(), AllocError> {
+fn add_feature(text: &mut String, item: &FeatureItem) -> Result<(), AllocError> {
     text.push_str("Feature ")?;
     add_flags(text, item)?;
     let (holds, opposite) = (item.is_volatile(), item.is_nonvolatile());
@@ -112,74 +112,50 @@ pub fn add_feature(text: &mut String, item: &FeatureItem) -> Result<(), AllocErr
 fn add_flags<M: MainDataItem>(text: &mut String, item: &M) -> Result<(), AllocError> {
     add_flag(text, (item.is_constant(), "C"), (item.is_data(), "c"))?;
     add_flag(text, (item.is_variable(), "A"), (item.is_array(), "a"))?;
-    add_flag(text, (item.is_relative(), "R"), (item.is_absolute(), "r"))?;
-    add_flag(text, (item.wraps(), "W"), (item.does_not_wrap(), "w"))?;
-    add_flag(text, (item.is_nonlinear(), "N"), (item.is_linear(), "n"))?;
-    add_flag(
-        text,
-        (item.has_no_preferred_state(), "P"),
-        (item.has_preferred_state(), "p"),
-    )?;
-    add_flag(
-        text,
-        (item.has_null_state(), "Z"),
-        (item.has_no_null_state(), "z"),
-    )?;
-    add_flag(
-        text,
-        (item.is_buffered_bytes(), "B"),
-        (item.is_bitfield(), "b"),
-    )
+    add_shared_flags!(text, item);
+    Ok(())
 }
 
-pub fn add_global(text: &mut String, item: &GlobalItem) -> Result<(), AllocError> {
-    add_global_name(text, item)?;
-    let prefix = item.prefix();
-    write!(text, " prefix {prefix:02x}")
+/// Appends an item's name and its number, where its variant is one of these that hold a number;
+/// else what the arms say.
+macro_rules! add_named {
+    ($text:expr, $item:expr, $kind:ident { $($variant:ident)* } { $($arms:tt)* }) => {
+        match $item {
+            $($kind::$variant(number) => write!($text, "{} {number}", stringify!($variant)),)*
+            $($arms)*
+        }
+    };
 }
 
-fn add_global_name(text: &mut String, item: &GlobalItem) -> Result<(), AllocError> {
-    match item {
-        GlobalItem::UsagePage(page) => write!(text, "UsagePage {page}"),
-        GlobalItem::LogicalMinimum(bound) => write!(text, "LogicalMinimum {bound}"),
-        GlobalItem::LogicalMaximum(bound) => write!(text, "LogicalMaximum {bound}"),
-        GlobalItem::PhysicalMinimum(bound) => write!(text, "PhysicalMinimum {bound}"),
-        GlobalItem::PhysicalMaximum(bound) => write!(text, "PhysicalMaximum {bound}"),
-        GlobalItem::UnitExponent(exponent) => write!(text, "UnitExponent {exponent}"),
+fn add_global(text: &mut String, item: &GlobalItem) -> Result<(), AllocError> {
+    add_named!(text, item, GlobalItem {
+        UsagePage LogicalMinimum LogicalMaximum PhysicalMinimum PhysicalMaximum UnitExponent
+        ReportSize ReportId ReportCount
+    } {
         GlobalItem::Unit(unit) => {
             let number = u32::from(*unit);
             write!(text, "Unit {number}")
         }
-        GlobalItem::ReportSize(size) => write!(text, "ReportSize {size}"),
-        GlobalItem::ReportId(id) => write!(text, "ReportId {id}"),
-        GlobalItem::ReportCount(count) => write!(text, "ReportCount {count}"),
         GlobalItem::Push => text.push_str("Push"),
         GlobalItem::Pop => text.push_str("Pop"),
         GlobalItem::Reserved => text.push_str("GlobalReserved"),
-    }
+    })?;
+    add_prefix(text, item.prefix())
 }
 
-pub fn add_local(text: &mut String, item: &LocalItem) -> Result<(), AllocError> {
-    add_local_name(text, item)?;
-    let prefix = item.prefix();
-    write!(text, " prefix {prefix:02x}")
-}
-
-fn add_local_name(text: &mut String, item: &LocalItem) -> Result<(), AllocError> {
-    match item {
+fn add_local(text: &mut String, item: &LocalItem) -> Result<(), AllocError> {
+    add_named!(text, item, LocalItem {
+        UsageId UsageMinimum UsageMaximum DesignatorIndex DesignatorMinimum DesignatorMaximum
+        StringIndex StringMinimum StringMaximum Delimiter
+    } {
         LocalItem::Usage(page, id) => write!(text, "Usage {page} {id}"),
-        LocalItem::UsageId(id) => write!(text, "UsageId {id}"),
-        LocalItem::UsageMinimum(minimum) => write!(text, "UsageMinimum {minimum}"),
-        LocalItem::UsageMaximum(maximum) => write!(text, "UsageMaximum {maximum}"),
-        LocalItem::DesignatorIndex(index) => write!(text, "DesignatorIndex {index}"),
-        LocalItem::DesignatorMinimum(minimum) => write!(text, "DesignatorMinimum {minimum}"),
-        LocalItem::DesignatorMaximum(maximum) => write!(text, "DesignatorMaximum {maximum}"),
-        LocalItem::StringIndex(index) => write!(text, "StringIndex {index}"),
-        LocalItem::StringMinimum(minimum) => write!(text, "StringMinimum {minimum}"),
-        LocalItem::StringMaximum(maximum) => write!(text, "StringMaximum {maximum}"),
-        LocalItem::Delimiter(delimiter) => write!(text, "Delimiter {delimiter}"),
         LocalItem::Reserved { value } => write!(text, "LocalReserved {value:02x}"),
-    }
+    })?;
+    add_prefix(text, item.prefix())
+}
+
+fn add_prefix(text: &mut String, prefix: u8) -> Result<(), AllocError> {
+    write!(text, " prefix {prefix:02x}")
 }
 
 /// Appends the items that a descriptor is cut into, a line each, or the fault.

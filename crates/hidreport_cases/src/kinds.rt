@@ -34,6 +34,23 @@ pub fn add_flag(
     Ok(())
 }
 
+/// Appends the letters of the flags that fields and items both have.
+macro_rules! add_shared_flags {
+    ($text:expr, $holder:expr) => {
+        add_flag($text, ($holder.is_relative(), "R"), ($holder.is_absolute(), "r"))?;
+        add_flag($text, ($holder.wraps(), "W"), ($holder.does_not_wrap(), "w"))?;
+        add_flag($text, ($holder.is_nonlinear(), "N"), ($holder.is_linear(), "n"))?;
+        let preferred = ($holder.has_no_preferred_state(), $holder.has_preferred_state());
+        add_flag($text, (preferred.0, "P"), (preferred.1, "p"))?;
+        let null = ($holder.has_null_state(), $holder.has_no_null_state());
+        add_flag($text, (null.0, "Z"), (null.1, "z"))?;
+        let buffered = ($holder.is_buffered_bytes(), $holder.is_bitfield());
+        add_flag($text, (buffered.0, "B"), (buffered.1, "b"))?;
+    };
+}
+
+pub(crate) use add_shared_flags;
+
 /// Appends bytes, two digits each.
 pub fn add_bytes(text: &mut String, bytes: &[u8]) -> Result<(), AllocError> {
     for byte in bytes {

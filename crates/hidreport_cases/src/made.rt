@@ -54,52 +54,49 @@ fn collection(kind: CollectionItem) -> ItemType {
     ItemType::from(MainItem::Collection(kind))
 }
 
-fn made_global(name: &str, number: &str) -> Result<ItemType, Malformed> {
-    Ok(match name {
-        "UsagePage" => ItemType::from(UsagePage::from(short_of(number)?)),
-        "LogicalMinimum" => ItemType::from(LogicalMinimum::from(signed_of(number)?)),
-        "LogicalMaximum" => ItemType::from(LogicalMaximum::from(signed_of(number)?)),
-        "PhysicalMinimum" => ItemType::from(PhysicalMinimum::from(signed_of(number)?)),
-        "PhysicalMaximum" => ItemType::from(PhysicalMaximum::from(signed_of(number)?)),
-        "UnitExponent" => ItemType::from(UnitExponent::from(signed_of(number)?)),
-        "Unit" => ItemType::from(GlobalItem::Unit(Unit::from(word_of(number)?))),
-        "ReportSize" => ItemType::from(ReportSize::from(number_of(number)?)),
-        "ReportId" => ItemType::from(ReportId::from(byte_of(number)?)),
-        "ReportCount" => ItemType::from(ReportCount::from(number_of(number)?)),
-        _ => made_usage(name, number)?,
-    })
+/// Returns the item of the type that has this name, made of a number that one of these reads.
+macro_rules! return_made {
+    ($name:expr, $number:expr, $($read:ident { $($kind:ident)* })*) => {
+        $($(if $name == stringify!($kind) {
+            return Ok(ItemType::from($kind::from($read($number)?)));
+        })*)*
+    };
 }
 
-fn made_usage(name: &str, number: &str) -> Result<ItemType, Malformed> {
-    Ok(match name {
-        "UsageId" => ItemType::from(UsageId::from(short_of(number)?)),
-        "Usage" => {
-            let (page, id) = kind_of(number);
-            ItemType::from((
-                UsagePage::from(short_of(page)?),
-                UsageId::from(short_of(id)?),
-            ))
-        }
-        "UsageMinimum" => ItemType::from(UsageMinimum::from(long_of(number)?)),
-        "UsageMaximum" => ItemType::from(UsageMaximum::from(long_of(number)?)),
-        _ => made_local(name, number)?,
-    })
+fn made_global(name: &str, number: &str) -> Result<ItemType, Malformed> {
+    return_made!(name, number,
+        byte_of { ReportId }
+        short_of { UsagePage }
+        number_of { ReportSize ReportCount }
+        signed_of { LogicalMinimum LogicalMaximum PhysicalMinimum PhysicalMaximum UnitExponent }
+    );
+    match name {
+        "Unit" => Ok(ItemType::from(GlobalItem::Unit(Unit::from(word_of(number)?)))),
+        _ => made_local(name, number),
+    }
 }
 
 fn made_local(name: &str, number: &str) -> Result<ItemType, Malformed> {
-    Ok(match name {
-        "DesignatorIndex" => ItemType::from(DesignatorIndex::from(long_of(number)?)),
-        "DesignatorMinimum" => ItemType::from(DesignatorMinimum::from(long_of(number)?)),
-        "DesignatorMaximum" => ItemType::from(DesignatorMaximum::from(long_of(number)?)),
-        "StringIndex" => ItemType::from(StringIndex::from(long_of(number)?)),
-        "StringMinimum" => ItemType::from(StringMinimum::from(long_of(number)?)),
-        "StringMaximum" => ItemType::from(StringMaximum::from(long_of(number)?)),
-        "Delimiter" => ItemType::from(Delimiter::from(long_of(number)?)),
-        "LocalReserved" => ItemType::from(LocalItem::Reserved {
+    return_made!(name, number,
+        short_of { UsageId }
+        long_of {
+            UsageMinimum UsageMaximum DesignatorIndex DesignatorMinimum DesignatorMaximum
+            StringIndex StringMinimum StringMaximum Delimiter
+        }
+    );
+    match name {
+        "Usage" => {
+            let (page, id) = kind_of(number);
+            Ok(ItemType::from((
+                UsagePage::from(short_of(page)?),
+                UsageId::from(short_of(id)?),
+            )))
+        }
+        "LocalReserved" => Ok(ItemType::from(LocalItem::Reserved {
             value: byte_of(number)?,
-        }),
-        _ => return Err(Malformed::Name),
-    })
+        })),
+        _ => Err(Malformed::Name),
+    }
 }
 
 fn byte_of(word: &str) -> Result<u8, Malformed> {

@@ -70,31 +70,32 @@ pub fn add_read_otherwise(
     bytes: &[u8],
 ) -> Result<(), AllocError> {
     for direction in Direction::ALL {
-        add_otherwise(text, descriptor.reports(direction), bytes)?;
+        for report in descriptor.reports(direction) {
+            add_otherwise(text, report, bytes)?;
+        }
     }
     Ok(())
 }
 
-fn add_otherwise(
-    text: &mut String,
-    reports: &[RDescReport],
-    bytes: &[u8],
-) -> Result<(), AllocError> {
+fn add_otherwise(text: &mut String, report: &RDescReport, bytes: &[u8]) -> Result<(), AllocError> {
     let alloc = *text.allocator();
-    for report in reports {
-        let reader = Reader::new(alloc, report)?;
-        let room = reader.value_count().min(bytes.len().saturating_mul(8));
-        let mut values = vec![in alloc; 0i64; room]?;
-        let answer = reader.read(bytes, &mut values);
-        if !is_same(&answer, &values, &numbers_of(alloc, report, bytes)) {
-            text.push_str("  a reader reads otherwise\n")?;
-        }
-        let answer = reader.read_available(bytes, &mut values);
-        if !is_same(&answer, &values, &available_of(alloc, report, bytes)) {
-            text.push_str("  a reader has otherwise\n")?;
-        }
+    let reader = Reader::new(alloc, report)?;
+    let mut values = room_for(&reader, alloc, bytes)?;
+    let answer = reader.read(bytes, &mut values);
+    if !is_same(&answer, &values, &numbers_of(alloc, report, bytes)) {
+        text.push_str("  a reader reads otherwise\n")?;
+    }
+    let answer = reader.read_available(bytes, &mut values);
+    if !is_same(&answer, &values, &available_of(alloc, report, bytes)) {
+        text.push_str("  a reader has otherwise\n")?;
     }
     Ok(())
+}
+
+/// As much room as a reader needs, and no more than for values of a bit each in these bytes.
+pub fn room_for(reader: &Reader, alloc: Global, bytes: &[u8]) -> Result<Vec<i64>, AllocError> {
+    let room = reader.value_count().min(bytes.len().saturating_mul(8));
+    vec![in alloc; 0i64; room]
 }
 
 /// Whether an answer, and the values that it left, is what the fields gave.

@@ -3,6 +3,7 @@ use crate::asked::Asked;
 use crate::directions::{DIRECTIONS, add_title};
 use crate::insertions::{add_outcome, numbers_of};
 use crate::malformed::Malformed;
+use crate::whole_readings::room_for;
 use crate::words::{bytes_of, parts_of};
 use hidreport::{Direction, Field, InsertError, RDescReport, Reader, Report, ReportDescriptor};
 use std::alloc::{AllocError, Global};
@@ -14,29 +15,19 @@ pub fn add_written_at_once(text: &mut String, asked: &Asked, words: &str) -> Res
     let alloc = *text.allocator();
     let (numbers, digits) = parts_of(words)?;
     let numbers = numbers_of(alloc, numbers)?;
-    let bytes = bytes_of(alloc, digits)?;
+    let before = bytes_of(alloc, digits)?;
     let descriptor = asked.descriptor()?;
     for (name, direction) in &DIRECTIONS {
         for report in descriptor.reports(*direction) {
             add_title(text, name, report)?;
-            add_report(text, report, &numbers, &bytes)?;
+            text.push_str(": ")?;
+            let mut bytes = Vec::from_slice(alloc, &before)?;
+            let answer = Reader::new(alloc, report)?.write(&mut bytes, &numbers);
+            add_outcome(text, answer, &before, &bytes)?;
+            text.push_str("\n")?;
         }
     }
     Ok(())
-}
-
-fn add_report(
-    text: &mut String,
-    report: &RDescReport,
-    numbers: &[i64],
-    before: &[u8],
-) -> Result<(), AllocError> {
-    let alloc = *text.allocator();
-    text.push_str(": ")?;
-    let mut bytes = Vec::from_slice(alloc, before)?;
-    let answer = Reader::new(alloc, report)?.write(&mut bytes, numbers);
-    add_outcome(text, answer, before, &bytes)?;
-    text.push_str("\n")
 }
 
 /// Appends a line for each report that is written in one pass otherwise than field by field: with
@@ -49,7 +40,9 @@ pub fn add_written_otherwise(
     let alloc = *text.allocator();
     let turned = turned(alloc, bytes)?;
     for direction in Direction::ALL {
-        add_otherwise(text, descriptor.reports(direction), bytes, &turned)?;
+        for report in descriptor.reports(direction) {
+            add_otherwise(text, report, bytes, &turned)?;
+        }
     }
     Ok(())
 }
@@ -67,32 +60,29 @@ fn turned(alloc: Global, bytes: &[u8]) -> Result<Vec<u8>, AllocError> {
 
 fn add_otherwise(
     text: &mut String,
-    reports: &[RDescReport],
+    report: &RDescReport,
     bytes: &[u8],
     turned: &[u8],
 ) -> Result<(), AllocError> {
     let alloc = *text.allocator();
-    for report in reports {
-        let reader = Reader::new(alloc, report)?;
-        let room = reader.value_count().min(bytes.len().saturating_mul(8));
-        let mut values = vec![in alloc; 0i64; room]?;
-        if reader.read(bytes, &mut values).is_err() {
-            if reader.value_count() == room && !is_refused(&reader, alloc, bytes, &values)? {
-                text.push_str("  a reader writes what it doesn't read\n")?;
-            }
-            continue;
+    let reader = Reader::new(alloc, report)?;
+    let mut values = room_for(&reader, alloc, bytes)?;
+    if reader.read(bytes, &mut values).is_err() {
+        if reader.value_count() == values.len() && !is_refused(&reader, alloc, bytes, &values)? {
+            text.push_str("  a reader writes what it doesn't read\n")?;
         }
-        let mut same = Vec::from_slice(alloc, bytes)?;
-        if reader.write(&mut same, &values).is_err() || same.as_slice() != bytes {
-            text.push_str("  a reader changes what it read\n")?;
-        }
-        let mut at_once = Vec::from_slice(alloc, turned)?;
-        let mut one_by_one = Vec::from_slice(alloc, turned)?;
-        let answer = reader.write(&mut at_once, &values);
-        let wanted = write_fields(report, &mut one_by_one, &values);
-        if answer != wanted || at_once.as_slice() != one_by_one.as_slice() {
-            text.push_str("  a reader writes otherwise\n")?;
-        }
+        return Ok(());
+    }
+    let mut same = Vec::from_slice(alloc, bytes)?;
+    if reader.write(&mut same, &values).is_err() || same.as_slice() != bytes {
+        text.push_str("  a reader changes what it read\n")?;
+    }
+    let mut at_once = Vec::from_slice(alloc, turned)?;
+    let mut one_by_one = Vec::from_slice(alloc, turned)?;
+    let answer = reader.write(&mut at_once, &values);
+    let wanted = write_fields(report, &mut one_by_one, &values);
+    if answer != wanted || at_once.as_slice() != one_by_one.as_slice() {
+        text.push_str("  a reader writes otherwise\n")?;
     }
     Ok(())
 }

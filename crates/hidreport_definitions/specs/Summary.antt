@@ -1,6 +1,6 @@
 -- What a descriptor announces, in short, for the rows.
-use Rattle.std.specs.Prelude.{ℕ, ℤ, Bool, pos, true, false, List, [], ◌∷◌, map, flat_map, Option, None}
-use Rattle.std.specs.Prelude.{Some, option_map, Result, Ok, Err, codes}
+use Rattle.std.specs.Prelude.{◌≡◌, ℕ, ◌+◌, ◌*◌, ℤ, Bool, pos, true, false, List, [], ◌∷◌, ◌++◌, length}
+use Rattle.std.specs.Prelude.{map, flat_map, Option, None, Some, option_map, Result, Ok, Err, codes}
 use Rattle.hidreport.specs.Answer.{InvalidData, Refusal}
 use Rattle.hidreport.specs.CollectionItem.{CollectionItem}
 use Rattle.hidreport.specs.Faults.{Counts}
@@ -86,6 +86,35 @@ host_summary = summary_as host_options
 -- input reports alone
 abbrev pub inputs : List ReportSummary → Result DescriptorSummary Refusal
 inputs reports = Ok (record { input = reports; output = []; feature = [] })
+
+-- variable fields side by side from a bit on, each so many bits wide, with these usages
+abbrev pub side_by_side : ℕ → ℕ → List ℕ → List FieldSummary
+side_by_side first width [] = []
+side_by_side first width (usage ∷ usages) =
+    Variable first (first + width) usage ∷ side_by_side (first + width) width usages
+
+-- one input report without an id, of such fields alone
+abbrev pub input_fields : ℕ → List ℕ → Result DescriptorSummary Refusal
+input_fields width usages =
+    inputs (Report None (length usages * width) (side_by_side 0 width usages) ∷ [])
+
+-- a text with an Input item of so many such fields behind it: `75 08 95 02 81 02` for two bytes
+abbrev pub with_fields : ℕ → ℕ → List ℕ → List ℕ
+with_fields width count text =
+    text ++ codes " 75 0" ++ (48 + width) ∷ codes " 95 0" ++ (48 + count) ∷ codes " 81 02"
+
+-- an Input item behind a text's items that makes a field for each of these usages gives them these:
+-- fields of one bit, and of eight
+abbrev pub BitsHave : List ℕ → List ℕ → Type 0
+BitsHave text usages = summary (with_fields 1 (length usages) text) ≡ input_fields 1 usages
+
+abbrev pub BytesHave : List ℕ → List ℕ → Type 0
+BytesHave text usages = summary (with_fields 8 (length usages) text) ≡ input_fields 8 usages
+
+-- the same of bits, as hosts read
+abbrev pub HostBitsHave : List ℕ → List ℕ → Type 0
+HostBitsHave text usages =
+    host_summary (with_fields 1 (length usages) text) ≡ input_fields 1 usages
 
 -- refused at this offset: a main item has no usages
 abbrev pub no_usages : {A : Type 0} → ℕ → Result A Refusal
@@ -243,6 +272,11 @@ shared_by_first _ = None
 -- the attributes of the first input field that a text's bytes announce
 abbrev pub input_attributes : List ℕ → Option Attributes
 input_attributes text = shared_by_first (first_fields (input_reports (announced_by text)))
+
+-- behind a usage, a size and a count an Input item's field has these flags, and nothing else is set
+abbrev pub HasFlags : List ℕ → Flags → Type 0
+HasFlags maker flags = input_attributes (codes "05 01 09 30 75 08 95 01 " ++ maker)
+    ≡ Some (record unset { flags = flags })
 
 -- the same of the first feature field
 abbrev pub feature_attributes : List ℕ → Option Attributes

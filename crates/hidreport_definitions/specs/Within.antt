@@ -1,5 +1,5 @@
 -- What a descriptor announces under a limit, in short, and what its fields weigh.
-use Rattle.std.specs.Prelude.{ℕ, Bool, true, false, List, Some, Result, Ok, Err}
+use Rattle.std.specs.Prelude.{ℕ, Bool, true, false, List, ◌++◌, Some, Result, Ok, Err, codes}
 use Rattle.hidreport.specs.Answer.{Refusal}
 use Rattle.hidreport.specs.Budget.{parse_within}
 use Rattle.hidreport.specs.Options.{default_options, parse_as}
@@ -32,3 +32,7 @@ announced_weight (Err refusal) = Err refusal
 -- what the fields weigh that the bytes of a text announce
 abbrev pub weight_of : List ℕ → Result ℕ Refusal
 weight_of text = announced_weight (announced_by text)
+
+-- the same behind two items that open collections, the outer with one usage and the inner with two
+abbrev pub inner_weight : List ℕ → Result ℕ Refusal
+inner_weight text = weight_of (codes "05 01 09 02 a1 01 09 01 09 05 a1 00 " ++ text)

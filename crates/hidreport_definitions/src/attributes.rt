@@ -2,7 +2,7 @@
 ghost use Rattle.std.specs.Prelude.{◌≡◌, pos, negsuc, List, [], ◌∷◌, None, Some, codes, true, false};
 ghost use Rattle.hidreport.specs.Records.{VariableRecord};
 ghost use Rattle.hidreport.specs.Usages.{make_usage};
-ghost use Rattle.hidreport_definitions.specs.Summary.{announced_by, feature_attributes, input_attributes, place_at, unset, variable_flags};
+ghost use Rattle.hidreport_definitions.specs.Summary.{announced_by, feature_attributes, input_attributes, place_at, unset, variable_flags, HasFlags};
 
 /// Bounds, unit and flags are those in force; where one physical bound is set the other is 0.
 pub fn a_field_has_the_bounds_and_the_unit_in_force()
@@ -66,18 +66,14 @@ pub fn logical_bounds_are_signed_by_their_width()
 
 /// Each flag of an item is one attribute of its fields, and no other.
 pub fn each_flag_is_its_own_attribute()
-    ensures relative { input_attributes (codes "05 01 09 30 75 08 95 01 81 06")
-        ≡ Some (record unset { flags = record variable_flags { relative = true } }) }
-    ensures wrap { input_attributes (codes "05 01 09 30 75 08 95 01 81 0a")
-        ≡ Some (record unset { flags = record variable_flags { wrap = true } }) }
-    ensures nonlinear { input_attributes (codes "05 01 09 30 75 08 95 01 81 12")
-        ≡ Some (record unset { flags = record variable_flags { nonlinear = true } }) }
-    ensures no_preferred_state { input_attributes (codes "05 01 09 30 75 08 95 01 81 22")
-        ≡ Some (record unset { flags = record variable_flags { no_preferred_state = true } }) }
-    ensures null_state { input_attributes (codes "05 01 09 30 75 08 95 01 81 42")
-        ≡ Some (record unset { flags = record variable_flags { null_state = true } }) }
-    ensures buffered_bytes { input_attributes (codes "05 01 09 30 75 08 95 01 82 02 01")
-        ≡ Some (record unset { flags = record variable_flags { buffered_bytes = true } }) }
+    ensures relative { HasFlags (codes "81 06") (record variable_flags { relative = true }) }
+    ensures wrap { HasFlags (codes "81 0a") (record variable_flags { wrap = true }) }
+    ensures nonlinear { HasFlags (codes "81 12") (record variable_flags { nonlinear = true }) }
+    ensures no_preferred_state { HasFlags (codes "81 22")
+        (record variable_flags { no_preferred_state = true }) }
+    ensures null_state { HasFlags (codes "81 42") (record variable_flags { null_state = true }) }
+    ensures buffered_bytes { HasFlags (codes "82 02 01")
+        (record variable_flags { buffered_bytes = true }) }
     ensures volatile { feature_attributes (codes "05 01 09 30 75 08 95 01 b1 82")
         ≡ Some (record unset {
           flags = record variable_flags { volatile = true };

@@ -1,17 +1,17 @@
 //! What a Push keeps: descriptors that tell the two readings apart, and some that don't.
-ghost use Rattle.std.specs.Prelude.{◌≡◌, List, [], ◌∷◌, Option, None, codes};
+ghost use Rattle.std.specs.Prelude.{◌≡◌, List, [], ◌∷◌, codes};
 ghost use Rattle.hidreport.specs.GlobalItem.TheVariants as global;
 ghost use Rattle.hidreport.specs.ItemType.TheVariants as item;
 ghost use Rattle.hidreport.specs.Laws.{Spares};
 ghost use Rattle.hidreport.specs.LocalItem.TheVariants as local;
 ghost use Rattle.hidreport.specs.Segments.{HasNoLocal, HasNoPush};
 ghost use Rattle.hidreport.specs.declared.parser.push_keeps.PushKeeps.TheVariants as a_push_keeps;
-ghost use Rattle.hidreport_definitions.specs.Summary.{Report, Variable, globals_summary, inputs, summary, no_push, no_usages};
+ghost use Rattle.hidreport_definitions.specs.Summary.{globals_summary, summary, no_push, no_usages, input_fields};
 
 /// A usage that is used between a Push and its Pop comes back only where the Push keeps locals.
 pub fn a_usage_used_inside_comes_back_with_locals_alone()
     ensures locals { summary (codes "05 01 09 30 15 00 25 7f 75 08 95 01 a4 81 02 b4 81 02")
-        ≡ inputs (Report None 16 (Variable 0 8 0x00010030 ∷ Variable 8 16 0x00010030 ∷ []) ∷ []) }
+        ≡ input_fields 8 (0x00010030 ∷ 0x00010030 ∷ []) }
     ensures globals { globals_summary
         (codes "05 01 09 30 15 00 25 7f 75 08 95 01 a4 81 02 b4 81 02")
         ≡ no_usages 16 }
@@ -21,21 +21,21 @@ pub fn a_usage_used_inside_comes_back_with_locals_alone()
 pub fn a_usage_set_inside_stays_with_globals_alone()
     ensures locals { summary (codes "05 01 75 08 95 01 a4 09 30 b4 81 02") ≡ no_usages 10 }
     ensures globals { globals_summary (codes "05 01 75 08 95 01 a4 09 30 b4 81 02")
-        ≡ inputs (Report None 8 (Variable 0 8 0x00010030 ∷ []) ∷ []) }
+        ≡ input_fields 8 (0x00010030 ∷ []) }
 {}
 
 /// The page that was set with it doesn't stay: the usage is of the page in force at the data item.
 pub fn a_page_set_inside_is_taken_back()
     ensures locals { summary (codes "05 09 75 01 95 01 a4 05 01 09 30 b4 81 02") ≡ no_usages 12 }
     ensures globals { globals_summary (codes "05 09 75 01 95 01 a4 05 01 09 30 b4 81 02")
-        ≡ inputs (Report None 1 (Variable 0 1 0x00090030 ∷ []) ∷ []) }
+        ≡ input_fields 1 (0x00090030 ∷ []) }
 {}
 
 /// By both readings a Pop needs a Push, and a size set inside holds only there.
 pub fn globals_come_back_by_both()
     ensures fault { globals_summary (codes "b4") ≡ no_push 0 }
     ensures size { globals_summary (codes "05 01 75 08 95 01 a4 75 10 b4 09 30 81 02")
-        ≡ inputs (Report None 8 (Variable 0 8 0x00010030 ∷ []) ∷ []) }
+        ≡ input_fields 8 (0x00010030 ∷ []) }
 {}
 
 /// What the laws ask of items: these have no local item, and none of these is a Push.

@@ -4,7 +4,7 @@ ghost use Rattle.hidreport.specs.CollectionItem.TheVariants as kind;
 ghost use Rattle.hidreport.specs.Answer.{InvalidData, MismatchingReportId};
 ghost use Rattle.hidreport.specs.Records.{VariableRecord};
 ghost use Rattle.hidreport.specs.Usages.{make_usage};
-ghost use Rattle.hidreport_definitions.specs.Summary.{Report, Variable, announced_by, report_found, inputs, no_reports, place_at, readings, summary, unset, unsigned_value, one_collection, one_input};
+ghost use Rattle.hidreport_definitions.specs.Summary.{Report, Variable, announced_by, report_found, inputs, no_reports, place_at, readings, summary, unset, unsigned_value, one_collection, one_input, input_fields};
 
 /// A usage that is used between a Push and its Pop is there again behind the Pop.
 pub fn a_usage_used_inside_comes_back()
@@ -26,9 +26,9 @@ pub fn a_collection_opened_inside_stays_open()
 /// A size set between a Push and its Pop holds only there.
 pub fn a_size_set_inside_is_taken_back()
     ensures closed { summary (codes "05 01 75 08 95 01 a4 75 10 b4 09 30 81 02")
-        ≡ inputs (Report None 8 (Variable 0 8 0x00010030 ∷ []) ∷ []) }
+        ≡ input_fields 8 (0x00010030 ∷ []) }
     ensures unclosed { summary (codes "05 01 75 08 95 01 a4 75 10 09 30 81 02")
-        ≡ inputs (Report None 16 (Variable 0 16 0x00010030 ∷ []) ∷ []) }
+        ≡ input_fields 16 (0x00010030 ∷ []) }
 {}
 
 /// A report id set between a Push and its Pop holds only there: the next field goes to the first
@@ -48,14 +48,8 @@ pub fn a_report_id_set_inside_is_taken_back()
 /// Pushes nest, and a Pop brings back the usages that its own Push kept.
 pub fn nested_pushes_keep_their_own_usages()
     ensures { summary (codes "05 01 09 30 75 08 95 02 a4 09 31 a4 81 02 b4 81 02 b4 81 02")
-        ≡ inputs (Report None 48 (
-        Variable 0 8 0x00010030
-        ∷ Variable 8 16 0x00010031
-        ∷ Variable 16 24 0x00010030
-        ∷ Variable 24 32 0x00010031
-        ∷ Variable 32 40 0x00010030
-        ∷ Variable 40 48 0x00010030
-        ∷ []) ∷ []) }
+        ≡ input_fields 8 (0x00010030 ∷ 0x00010031 ∷ 0x00010030
+        ∷ 0x00010031 ∷ 0x00010030 ∷ 0x00010030 ∷ []) }
 {}
 
 /// A collection keeps the usages that it was opened with, though the Pop behind it takes them from

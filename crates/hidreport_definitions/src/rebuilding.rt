@@ -1,7 +1,7 @@
 //! Descriptors written anew, and what they mean.
-ghost use Rattle.std.specs.Prelude.{◌≡◌, List, [], ◌∷◌, Option, None, Ok, Err, codes};
+ghost use Rattle.std.specs.Prelude.{◌≡◌, List, [], ◌∷◌, Ok, Err, codes};
 ghost use Rattle.hidreport.specs.ItemAnswer.{Insufficient};
-ghost use Rattle.hidreport_definitions.specs.Summary.{Variable, Report, summary, inputs, no_push};
+ghost use Rattle.hidreport_definitions.specs.Summary.{summary, no_push, input_fields};
 ghost use Rattle.hidreport_definitions.specs.Rebuilt.{again, kept_bytes};
 
 /// An item of a reserved kind is left out, every other is written in its shortest spelling with
@@ -36,9 +36,9 @@ pub fn the_meaning_stays()
     ensures fault_behind { summary (codes "05 01 b4") ≡ no_push 2 }
     ensures long_item_before { summary (codes "05 01 fe 01 00 aa b4") ≡ no_push 6 }
     ensures reserved_among_the_locals { summary (codes "05 01 75 08 95 01 09 30 f9 01 c4 fc 81 02")
-        ≡ inputs (Report None 8 (Variable 0 8 0x00010030 ∷ []) ∷ []) }
+        ≡ input_fields 8 (0x00010030 ∷ []) }
     ensures rebuilt { again (codes "05 01 75 08 95 01 09 30 f9 01 c4 fc 81 02")
         ≡ kept_bytes (codes "05 01 75 08 95 01 09 30 81 02") }
     ensures without_them { summary (codes "05 01 75 08 95 01 09 30 81 02")
-        ≡ inputs (Report None 8 (Variable 0 8 0x00010030 ∷ []) ∷ []) }
+        ≡ input_fields 8 (0x00010030 ∷ []) }
 {}

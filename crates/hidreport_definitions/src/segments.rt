@@ -1,12 +1,12 @@
 //! The law of a segment, applied.
-ghost use Rattle.std.specs.Prelude.{◌≡◌, List, [], ◌∷◌, Option, None, codes};
+ghost use Rattle.std.specs.Prelude.{◌≡◌, List, [], ◌∷◌, codes};
 ghost use Rattle.hidreport.specs.GlobalItem.TheVariants as global;
 ghost use Rattle.hidreport.specs.ItemType.TheVariants as item;
 ghost use Rattle.hidreport.specs.LocalItem.TheVariants as local;
 ghost use Rattle.hidreport.specs.MainItem.TheVariants as main;
 ghost use Rattle.hidreport.specs.MeaningFault.{TooManyEnds};
 ghost use Rattle.hidreport.specs.Segments.{IsMatched, moved_fault, with_segment};
-ghost use Rattle.hidreport_definitions.specs.Summary.{Variable, Report, summary, inputs, no_usages};
+ghost use Rattle.hidreport_definitions.specs.Summary.{summary, no_usages, input_fields};
 
 /// Items without a main item in which each Push has its Pop: some, none, and a whole segment.
 pub fn segments_can_be_matched()
@@ -46,9 +46,9 @@ pub fn a_segment_stands_between_others()
 /// What stands around a segment means the same without it, a fault at the same item.
 pub fn a_segment_may_be_struck()
     ensures with_it { summary (codes "05 01 75 08 95 01 a4 75 10 09 99 b4 09 30 81 02")
-        ≡ inputs (Report None 8 (Variable 0 8 0x00010030 ∷ []) ∷ []) }
+        ≡ input_fields 8 (0x00010030 ∷ []) }
     ensures without_it { summary (codes "05 01 75 08 95 01 09 30 81 02")
-        ≡ inputs (Report None 8 (Variable 0 8 0x00010030 ∷ []) ∷ []) }
+        ≡ input_fields 8 (0x00010030 ∷ []) }
     ensures fault_with_it { summary (codes "05 01 75 08 95 01 a4 75 10 09 99 b4 81 02")
         ≡ no_usages 12 }
     ensures fault_without_it { summary (codes "05 01 75 08 95 01 81 02") ≡ no_usages 6 }

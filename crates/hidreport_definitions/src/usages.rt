@@ -1,17 +1,16 @@
 //! Which usages the fields of an item have.
-ghost use Rattle.std.specs.Prelude.{◌≡◌, pos, List, [], ◌∷◌, Option, None, codes, true, false};
+ghost use Rattle.std.specs.Prelude.{◌≡◌, pos, List, [], ◌∷◌, codes, true, false};
 ghost use Rattle.hidreport.specs.CollectionItem.TheVariants as kind;
 ghost use Rattle.hidreport.specs.Records.{ArrayRecord};
 ghost use Rattle.hidreport.specs.Tiling.{IsRangeOf};
 ghost use Rattle.hidreport.specs.UsageRange.{HasExactly};
 ghost use Rattle.hidreport.specs.Usages.{make_usage, range_from};
-ghost use Rattle.hidreport_definitions.specs.Summary.{Report, Variable, announced_by, inputs, no_reports, four_keys, place_at, summary, unset_array, no_maximum, no_page, no_usages, one_collection, one_input};
+ghost use Rattle.hidreport_definitions.specs.Summary.{announced_by, no_reports, four_keys, place_at, summary, unset_array, no_maximum, no_page, no_usages, one_collection, one_input, BitsHave, BytesHave};
 
 /// Fields beyond the usages take the last one.
 pub fn the_last_usage_is_repeated()
-    ensures { summary (codes "05 09 19 01 29 02 75 01 95 04 81 02")
-        ≡ inputs (Report None 4 (Variable 0 1 0x00090001 ∷ Variable 1 2 0x00090002
-        ∷ Variable 2 3 0x00090002 ∷ Variable 3 4 0x00090002 ∷ []) ∷ []) }
+    ensures { BitsHave (codes "05 09 19 01 29 02")
+        (0x00090001 ∷ 0x00090002 ∷ 0x00090002 ∷ 0x00090002 ∷ []) }
 {}
 
 /// A minimum above its maximum gives no usages: a data item needs some, a Collection none.
@@ -57,19 +56,15 @@ pub fn an_array_has_all_usages_of_a_range()
 
 /// Of several minima and of several maxima the last one counts.
 pub fn the_last_minimum_and_maximum_count()
-    ensures minimum { summary (codes "05 01 19 05 19 01 29 02 75 08 95 02 81 02")
-        ≡ inputs (Report None 16 (Variable 0 8 0x00010001 ∷ Variable 8 16 0x00010002 ∷ []) ∷ []) }
-    ensures maximum { summary (codes "05 01 19 01 29 05 29 02 75 08 95 03 81 02")
-        ≡ inputs (Report None 24 (Variable 0 8 0x00010001 ∷ Variable 8 16 0x00010002
-        ∷ Variable 16 24 0x00010002 ∷ []) ∷ []) }
+    ensures minimum { BytesHave (codes "05 01 19 05 19 01 29 02") (0x00010001 ∷ 0x00010002 ∷ []) }
+    ensures maximum { BytesHave (codes "05 01 19 01 29 05 29 02")
+        (0x00010001 ∷ 0x00010002 ∷ 0x00010002 ∷ []) }
 {}
 
 /// With a minimum in force single usages are hidden; a maximum alone is not looked at.
 pub fn a_range_hides_single_usages()
-    ensures hidden { summary (codes "05 01 09 30 19 01 29 02 75 08 95 02 81 02")
-        ≡ inputs (Report None 16 (Variable 0 8 0x00010001 ∷ Variable 8 16 0x00010002 ∷ []) ∷ []) }
-    ensures maximum_alone { summary (codes "05 01 09 30 29 05 75 08 95 01 81 02")
-        ≡ inputs (Report None 8 (Variable 0 8 0x00010030 ∷ []) ∷ []) }
+    ensures hidden { BytesHave (codes "05 01 09 30 19 01 29 02") (0x00010001 ∷ 0x00010002 ∷ []) }
+    ensures maximum_alone { BytesHave (codes "05 01 09 30 29 05") (0x00010030 ∷ []) }
 {}
 
 /// A range without its maximum and without a page lacks the maximum first.
@@ -80,20 +75,16 @@ pub fn the_maximum_is_asked_for_before_the_page()
 
 /// A usage in two bytes takes the page in force at the data item; one in four bytes has its own.
 pub fn the_page_in_force_at_the_item_counts()
-    ensures later { summary (codes "05 01 09 30 05 09 75 08 95 01 81 02")
-        ≡ inputs (Report None 8 (Variable 0 8 0x00090030 ∷ []) ∷ []) }
-    ensures own { summary (codes "0b 30 00 01 00 75 08 95 01 81 02")
-        ≡ inputs (Report None 8 (Variable 0 8 0x00010030 ∷ []) ∷ []) }
-    ensures own_first { summary (codes "05 09 0b 30 00 01 00 09 02 75 08 95 02 81 02")
-        ≡ inputs (Report None 16 (Variable 0 8 0x00010030 ∷ Variable 8 16 0x00090002 ∷ []) ∷ []) }
+    ensures later { BytesHave (codes "05 01 09 30 05 09") (0x00090030 ∷ []) }
+    ensures own { BytesHave (codes "0b 30 00 01 00") (0x00010030 ∷ []) }
+    ensures own_first { BytesHave (codes "05 09 0b 30 00 01 00 09 02")
+        (0x00010030 ∷ 0x00090002 ∷ []) }
 {}
 
 /// Usages are taken in their order; those beyond the count are not taken.
 pub fn fields_take_usages_in_order()
-    ensures order { summary (codes "05 01 09 31 09 30 75 08 95 02 81 02")
-        ≡ inputs (Report None 16 (Variable 0 8 0x00010031 ∷ Variable 8 16 0x00010030 ∷ []) ∷ []) }
-    ensures more_than_fields { summary (codes "05 01 09 30 09 31 75 08 95 01 81 02")
-        ≡ inputs (Report None 8 (Variable 0 8 0x00010030 ∷ []) ∷ []) }
+    ensures order { BytesHave (codes "05 01 09 31 09 30") (0x00010031 ∷ 0x00010030 ∷ []) }
+    ensures more_than_fields { BytesHave (codes "05 01 09 30 09 31") (0x00010030 ∷ []) }
 {}
 
 /// The law of a range: that from usage 4 to 7 has just the four usages that gave it. Of fewer

@@ -1,27 +1,27 @@
 -- What the laws of parsing come to for a caller who reads two descriptors.
 use Rattle.std.proofs.Common.{◌≡◌, ◌≢◌, ℕ, zero, suc, ◌+◌, ◌<◌, ◌≤◌, List, [], ◌∷◌, ◌++◌}
-use Rattle.std.proofs.Common.{length, Some, Result, Ok, Err, IfOk, sym, ap, ◌∙◌, subst, arith}
+use Rattle.std.proofs.Common.{length, Option, None, Some, Result, Ok, Err, IfOk, sym, ap, ◌∙◌, subst, arith}
 use Rattle.std.specs.Prelude.{slice_get}
 use Rattle.hidreport.specs.Answer.{Refusal}
+use Rattle.hidreport.specs.Budget.{parse_items_within}
 use Rattle.hidreport.specs.Entry.{Entry}
 use Rattle.hidreport.specs.ItemAnswer.{GrammarFault}
 use Rattle.hidreport.specs.Itemising.{as_refusal, itemise}
-use Rattle.hidreport.specs.ItemType.{ItemType}
-use Rattle.hidreport.specs.Laws.{KeptItemsMean, RebuiltBytesMean, SegmentsAreIdle, Spares}
+use Rattle.hidreport.specs.Laws.{KeptItemsMean, RebuiltBytesMean, SegmentsAreIdle}
 use Rattle.hidreport.specs.Laws.{parse_any}
-use Rattle.hidreport.specs.Meaning.{InForce, at_offset, meaning_by, parse_by, parse_items}
+use Rattle.hidreport.specs.Meaning.{InForce, at_offset, parse_items}
 use Rattle.hidreport.specs.MeaningFault.{MeaningFault}
-use Rattle.hidreport.specs.Options.{meaning_as}
+use Rattle.hidreport.specs.Options.{meaning_as, meaning_limited, parse_limited, reading_of, unless_too_long}
 use Rattle.hidreport.specs.Rebuilt.{canonical_entries, items_of, kept_entries, rebuild_answer}
 use Rattle.hidreport.specs.Rebuilt.{rebuilt_bytes}
 use Rattle.hidreport.specs.Records.{DescriptorRecord, FieldRecord, place_of}
-use Rattle.hidreport.specs.Segments.{IsMatched, moved_fault, with_segment}
+use Rattle.hidreport.specs.Segments.{moved_fault}
 use Rattle.hidreport.specs.Spelling.{item_of}
 use Rattle.hidreport.specs.ParserError.{ParserError}
 use Rattle.hidreport.specs.declared.parse_options.ParseOptions.{ParseOptions}
 use Rattle.hidreport.specs.Places.{id_bits}
 use Rattle.hidreport.specs.Tiling.{Covers, Each, IsFilled, IsTiled}
-use Rattle.hidreport_example.specs.Laws.{FieldsAreApart, IsRebuilt}
+use Rattle.hidreport_example.specs.Laws.{FieldsAreApart, IsRebuilt, LacksSegment}
 
 -- the rebuilt bytes are those of the items
 pub rebuilt-of : (r : Result (List Entry) (ℕ × GrammarFault)) (entries : List Entry)
@@ -49,12 +49,22 @@ pub one : (r : Result DescriptorRecord Refusal) (d e : DescriptorRecord) → r �
     → d ≡ e
 one r d e p q = let same : Ok d ≡ r = sym p in cc
 
+-- what is announced is so of as many bytes as there are
+pub of-any-length : (past : Option ℕ) (r : Result DescriptorRecord Refusal) (d : DescriptorRecord)
+    → unless_too_long past r ≡ Ok d → r ≡ Ok d
+of-any-length None r d h = h
+of-any-length (Some longest) r d h = cc
+
 -- bytes that are items mean what these do
-pub parse-items : (reading : InForce) (bytes : List ℕ) (entries : List Entry)
-    (d : DescriptorRecord) → itemise item_of bytes ≡ Ok entries → parse_by reading bytes ≡ Ok d
-    → at_offset entries (meaning_by reading (items_of entries)) ≡ Ok d
-parse-items reading [] entries d i p = cc
-parse-items reading (b ∷ bs) entries d i p = sym (ap (parse_items reading) i) ∙ p
+parse-items : (reading : InForce) (limit : Option ℕ) (bytes : List ℕ) (entries : List Entry)
+    (d : DescriptorRecord) → itemise item_of bytes ≡ Ok entries
+    → parse_limited reading limit bytes ≡ Ok d
+    → at_offset entries (meaning_limited reading limit (items_of entries)) ≡ Ok d
+parse-items reading None [] entries d i p = cc
+parse-items reading None (b ∷ bs) entries d i p = sym (ap (parse_items reading) i) ∙ p
+parse-items reading (Some limit) [] entries d i p = cc
+parse-items reading (Some limit) (b ∷ bs) entries d i p =
+    sym (ap (parse_items_within reading limit) i) ∙ p
 
 -- by any options, what is read of the rebuilt bytes is what was read of the bytes
 pub read-again : (options : ParseOptions) (bytes written : List ℕ) (first again : DescriptorRecord)
@@ -71,19 +81,20 @@ read-again options bytes written first again by_kept by_rebuilt rebuilt long p q
     (by_rebuilt entries rebuilt.items some ∙ moved) (ap (parse_any options) rebuilt.same ∙ q)
 
 -- by any options, what is read without a segment is what was read with it
-pub without-segment : (options : ParseOptions) (bytes : List ℕ) (entries others : List Entry)
-    (front inside rest : List ItemType) (first second : DescriptorRecord)
-    → SegmentsAreIdle options bytes → itemise item_of bytes ≡ Ok entries → IsMatched inside
-    → Spares options.push_keeps inside → items_of entries ≡ with_segment front inside rest
-    → items_of others ≡ front ++ rest → parse_any options bytes ≡ Ok first
-    → at_offset others (meaning_as options (items_of others)) ≡ Ok second → first ≡ second
-without-segment options bytes entries others front inside rest first second idle i matched spared is
-    are p q =
-    let meant = meaning_as options (front ++ rest) in
-    let moved = means-moved meant (length front) (length inside + 2) entries others first
-    (sym (idle entries front inside rest i matched spared is) ∙ p) in
+pub without-segment : (options : ParseOptions) (bytes without : List ℕ)
+    (first second : DescriptorRecord) → SegmentsAreIdle options bytes
+    → LacksSegment options.push_keeps bytes without → parse_any options bytes ≡ Ok first
+    → parse_any options without ≡ Ok second → first ≡ second
+without-segment options bytes without first second idle lacks p q =
+    let others = lacks.others in
+    let meant = meaning_as options (lacks.front ++ lacks.rest) in
+    let moved = means-moved meant (length lacks.front) (length lacks.inside + 2) lacks.entries others
+    first (sym (idle lacks.entries lacks.front lacks.inside lacks.rest lacks.items lacks.matched
+    lacks.spared lacks.whole) ∙ p) in
+    let read = parse-items (reading_of options) options.limit without others second lacks.other_items
+    q in
     one (at_offset others meant) first second moved
-    (sym (ap (λ xs. at_offset others (meaning_as options xs)) are) ∙ q)
+    (sym (ap (λ xs. at_offset others (meaning_as options xs)) lacks.lacking) ∙ read)
 
 -- each of a list
 pub each-at : {A : Type 0} (P : A → Type 0) (xs ys : List A) (n : ℕ) (x : A) → Each P (xs ++ ys)

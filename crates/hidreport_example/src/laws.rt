@@ -1,46 +1,26 @@
 //! What a caller proves by the library's laws, from its public clauses alone.
-ghost use Rattle.std.specs.Prelude.{◌≡◌, ◌++◌, List, Ok, IfOk, IfSome};
-ghost use Rattle.hidreport.specs.Entry.{Entry};
-ghost use Rattle.hidreport.specs.ItemType.{ItemType};
-ghost use Rattle.hidreport.specs.Itemising.{itemise};
-ghost use Rattle.hidreport.specs.Rebuilt.{items_of};
-ghost use Rattle.hidreport.specs.Segments.{HasNoLocal, HasNoPush, IsMatched, with_segment};
-ghost use Rattle.hidreport.specs.Spelling.{item_of};
-ghost use Rattle.hidreport_example.specs.Laws.{FieldsAreApart, IsRebuilt};
+ghost use Rattle.std.specs.Prelude.{◌≡◌, IfOk, IfSome};
+ghost use Rattle.hidreport_example.specs.Laws.{FieldsAreApart, HasNoPushItem, IsRebuilt, LacksSegment};
 
 use hidreport::hid::{ReportDescriptorItems, rebuild};
-use hidreport::{ParserError, ReportDescriptor};
+use hidreport::{ParseOptions, ParserError, ReportDescriptor};
 use std::alloc::Global;
 
-/// A descriptor, and what its rebuilt bytes announce: the same; none where no item is kept.
+/// A descriptor by options, and what its rebuilt bytes announce by them: the same; none where no item
+/// is kept.
 pub fn read_again(
     alloc: Global,
     bytes: &[u8],
+    options: ParseOptions,
 ) -> Result<Option<(ReportDescriptor, ReportDescriptor)>, ParserError>
     ensures { IfOk result (λ found. IfSome found (λ both. both.0 ≡ both.1)) }
 {
-    let first = ReportDescriptor::try_from(alloc, bytes)?;
+    let first = ReportDescriptor::try_from_with(alloc, bytes, options)?;
     let rebuilt = rebuilt_of(alloc, bytes)?;
     if rebuilt.is_empty() {
         return Ok(None);
     }
-    let again = ReportDescriptor::try_from(alloc, &rebuilt)?;
-    Ok(Some((first, again)))
-}
-
-/// The same where a Push keeps globals alone.
-pub fn read_again_globals_only(
-    alloc: Global,
-    bytes: &[u8],
-) -> Result<Option<(ReportDescriptor, ReportDescriptor)>, ParserError>
-    ensures { IfOk result (λ found. IfSome found (λ both. both.0 ≡ both.1)) }
-{
-    let first = ReportDescriptor::try_from_globals_only(alloc, bytes)?;
-    let rebuilt = rebuilt_of(alloc, bytes)?;
-    if rebuilt.is_empty() {
-        return Ok(None);
-    }
-    let again = ReportDescriptor::try_from_globals_only(alloc, &rebuilt)?;
+    let again = ReportDescriptor::try_from_with(alloc, &rebuilt, options)?;
     Ok(Some((first, again)))
 }
 
@@ -58,8 +38,7 @@ pub fn read_by_both(
     alloc: Global,
     bytes: &[u8],
 ) -> Result<(ReportDescriptor, ReportDescriptor), ParserError>
-    ensures { (entries : List Entry) → itemise item_of bytes.now ≡ Ok entries
-        → HasNoPush (items_of entries) → IfOk result (λ both. both.0 ≡ both.1) }
+    ensures { HasNoPushItem bytes.now → IfOk result (λ both. both.0 ≡ both.1) }
 {
     let locals = ReportDescriptor::try_from(alloc, bytes)?;
     let globals = ReportDescriptor::try_from_globals_only(alloc, bytes)?;
@@ -75,35 +54,18 @@ pub fn read_apart(alloc: Global, bytes: &[u8]) -> Result<ReportDescriptor, Parse
 }
 
 /// Two descriptors, of which the second lacks a Push, some matched items and its Pop: what is read
-/// of them is the same, so each report has the same values.
+/// of them by any options is the same, so each report has the same values. Where a Push keeps globals
+/// alone no local item is among the matched ones.
 pub fn read_without_segment(
     alloc: Global,
     bytes: &[u8],
     without: &[u8],
+    options: ParseOptions,
 ) -> Result<(ReportDescriptor, ReportDescriptor), ParserError>
-    ensures { (entries others : List Entry) (front inside rest : List ItemType)
-        → itemise item_of bytes.now ≡ Ok entries → itemise item_of without.now ≡ Ok others
-        → IsMatched inside → items_of entries ≡ with_segment front inside rest
-        → items_of others ≡ front ++ rest → IfOk result (λ both. both.0 ≡ both.1) }
+    ensures { LacksSegment options.push_keeps bytes.now without.now
+        → IfOk result (λ both. both.0 ≡ both.1) }
 {
-    let first = ReportDescriptor::try_from(alloc, bytes)?;
-    let second = ReportDescriptor::try_from(alloc, without)?;
-    Ok((first, second))
-}
-
-/// The same where a Push keeps globals alone, and no local item is among the matched ones.
-pub fn read_globals_without_segment(
-    alloc: Global,
-    bytes: &[u8],
-    without: &[u8],
-) -> Result<(ReportDescriptor, ReportDescriptor), ParserError>
-    ensures { (entries others : List Entry) (front inside rest : List ItemType)
-        → itemise item_of bytes.now ≡ Ok entries → itemise item_of without.now ≡ Ok others
-        → IsMatched inside → HasNoLocal inside
-        → items_of entries ≡ with_segment front inside rest
-        → items_of others ≡ front ++ rest → IfOk result (λ both. both.0 ≡ both.1) }
-{
-    let first = ReportDescriptor::try_from_globals_only(alloc, bytes)?;
-    let second = ReportDescriptor::try_from_globals_only(alloc, without)?;
+    let first = ReportDescriptor::try_from_with(alloc, bytes, options)?;
+    let second = ReportDescriptor::try_from_with(alloc, without, options)?;
     Ok((first, second))
 }

@@ -7,21 +7,19 @@ use Rattle.hidreport_linux.specs.declared.event_code.EventType.{EventType}
 use Rattle.hidreport_linux.specs.declared.event_code.EventType.TheVariants.{Key, Relative, Absolute}
 use Rattle.hidreport_linux.specs.declared.event_code.EventType.TheVariants.{Other, Led}
 
--- the number of a type: of keys 1
-abbrev pub type_number : EventType → ℕ
-type_number Key = 0x01
-type_number Relative = 0x02
-type_number Absolute = 0x03
-type_number Other = 0x04
-type_number Led = 0x11
+-- the number and the name of a type
+abbrev pub type_row : EventType → ℕ × List ℕ
+type_row Key = (0x01, codes "EV_KEY")
+type_row Relative = (0x02, codes "EV_REL")
+type_row Absolute = (0x03, codes "EV_ABS")
+type_row Other = (0x04, codes "EV_MSC")
+type_row Led = (0x11, codes "EV_LED")
 
--- the name of a type: of keys `EV_KEY`
+abbrev pub type_number : EventType → ℕ
+type_number event_type = (type_row event_type).0
+
 abbrev pub type_name : EventType → List ℕ
-type_name Key = codes "EV_KEY"
-type_name Relative = codes "EV_REL"
-type_name Absolute = codes "EV_ABS"
-type_name Other = codes "EV_MSC"
-type_name Led = codes "EV_LED"
+type_name event_type = (type_row event_type).1
 
 -- the name of a driver
 abbrev pub driver_name : Driver → List ℕ

@@ -54,36 +54,25 @@ impl Role {
     }
 }
 
-static WHEEL: [EventCode; 1] = [EventCode {
-    event_type: EventType::Relative,
-    number: 0x08,
-}];
+/// A code, by its type and its number.
+macro_rules! code {
+    ($event_type:ident, $number:literal) => {
+        EventCode {
+            event_type: EventType::$event_type,
+            number: $number,
+        }
+    };
+}
 
-static SIDE_WHEEL: [EventCode; 1] = [EventCode {
-    event_type: EventType::Relative,
-    number: 0x06,
-}];
+static WHEEL: [EventCode; 1] = [code!(Relative, 0x08)];
 
-static SECOND_AXIS: [EventCode; 1] = [EventCode {
-    event_type: EventType::Absolute,
-    number: 0x11,
-}];
+static SIDE_WHEEL: [EventCode; 1] = [code!(Relative, 0x06)];
 
-static RUBBER: [EventCode; 1] = [EventCode {
-    event_type: EventType::Key,
-    number: 0x141,
-}];
+static SECOND_AXIS: [EventCode; 1] = [code!(Absolute, 0x11)];
 
-static VOLUME_KEYS: [EventCode; 2] = [
-    EventCode {
-        event_type: EventType::Key,
-        number: 0x72,
-    },
-    EventCode {
-        event_type: EventType::Key,
-        number: 0x73,
-    },
-];
+static RUBBER: [EventCode; 1] = [code!(Key, 0x141)];
+
+static VOLUME_KEYS: [EventCode; 2] = [code!(Key, 0x72), code!(Key, 0x73)];
 
 /// The code that a usage asks for, whatever lies before it.
 #[derive(Clone, Copy, Debug, PartialEq, Eq)]

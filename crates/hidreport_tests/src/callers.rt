@@ -100,8 +100,7 @@ fn is_in_two_collections(descriptor: &ReportDescriptor) -> bool {
 #[test]
 fn collections_are_numbered_from_0(rt: HostRuntime) -> Result<(), ParserError> {
     let nested = b"\x05\x01\xa1\x01\xa1\x00\x75\x08\x95\x01\x09\x30\x81\x02\xc0\xc0";
-    let descriptor = ReportDescriptor::try_from(rt.alloc(), nested)?;
-    assert!(rt; is_in_two_collections(&descriptor));
+    assert!(rt; is_in_two_collections(&ReportDescriptor::try_from(rt.alloc(), nested)?));
     Ok(())
 }
 

@@ -2,7 +2,7 @@
 use crate::written::are_bytes;
 use hidreport::hid::{
     CollectionItem, HidError, ItemBuilder, ItemType, LocalItem, ReportDescriptorBuilder,
-    ReportDescriptorBuilderState,
+    ReportDescriptorBuilderC1, ReportDescriptorBuilderState,
 };
 use hidreport::types::{
     LogicalMaximum, LogicalMinimum, ReportCount, ReportSize, UsageId, UsageMaximum, UsageMinimum,
@@ -81,12 +81,21 @@ fn items_without_bytes_are_refused(rt: HostRuntime) {
     }
 }
 
+/// A builder with one open collection, of this usage and kind.
+fn opened(
+    alloc: Global,
+    (page, id): (u16, u16),
+    kind: CollectionItem,
+) -> Result<ReportDescriptorBuilder<ReportDescriptorBuilderC1>, HidError> {
+    ReportDescriptorBuilder::new(alloc)
+        .usage_page(UsagePage::from(page))?
+        .usage_id(UsageId::from(id))?
+        .open_collection(kind)
+}
+
 /// The mouse of Appendix E.10.
 fn mouse(alloc: Global) -> Result<Vec<u8>, HidError> {
-    let pointer = ReportDescriptorBuilder::new(alloc)
-        .usage_page(UsagePage::from(1))?
-        .usage_id(UsageId::from(2))?
-        .open_collection(CollectionItem::Application)?
+    let pointer = opened(alloc, (1, 2), CollectionItem::Application)?
         .usage_id(UsageId::from(1))?
         .open_collection(CollectionItem::Physical)?
         .usage_page(UsagePage::from(9))?;
@@ -108,11 +117,7 @@ fn mouse(alloc: Global) -> Result<Vec<u8>, HidError> {
 
 /// The keyboard of Appendix E.6: modifiers, lamps, and keys as an array.
 fn keyboard(alloc: Global) -> Result<Vec<u8>, HidError> {
-    let keys = ReportDescriptorBuilder::new(alloc)
-        .usage_page(UsagePage::from(1))?
-        .usage_id(UsageId::from(6))?
-        .open_collection(CollectionItem::Application)?
-        .usage_page(UsagePage::from(7))?;
+    let keys = opened(alloc, (1, 6), CollectionItem::Application)?.usage_page(UsagePage::from(7))?;
     let modifiers = with_items(keys, &usages(0xe0, 0xe7))?;
     let modifiers = with_items(modifiers, &bounds(0, 1))?;
     let modifiers = modifiers
@@ -136,10 +141,7 @@ fn keyboard(alloc: Global) -> Result<Vec<u8>, HidError> {
 
 /// A vendor's settings: numbers of one, two and four bytes, flags of one and of two.
 fn settings(alloc: Global) -> Result<Vec<u8>, HidError> {
-    let settings = ReportDescriptorBuilder::new(alloc)
-        .usage_page(UsagePage::from(0xff00))?
-        .usage_id(UsageId::from(0x0102))?
-        .open_collection(CollectionItem::Logical)?
+    let settings = opened(alloc, (0xff00, 0x0102), CollectionItem::Logical)?
         .push()?
         .usage_id(UsageId::from(3))?;
     let settings = with_items(settings, &bounds(-129, 32768))?;
@@ -153,10 +155,7 @@ fn settings(alloc: Global) -> Result<Vec<u8>, HidError> {
 
 /// Two axes, with bounds that a Push keeps from them.
 fn axes(alloc: Global) -> Result<Vec<u8>, HidError> {
-    let pointer = ReportDescriptorBuilder::new(alloc)
-        .usage_page(UsagePage::from(1))?
-        .usage_id(UsageId::from(2))?
-        .open_collection(CollectionItem::Application)?
+    let pointer = opened(alloc, (1, 2), CollectionItem::Application)?
         .open_collection(CollectionItem::Physical)?
         .push()?;
     let pointer = with_items(pointer, &bounds(0, 128))?.pop()?;
@@ -191,10 +190,7 @@ fn devices(rt: HostRuntime) {
 
 /// An array of two bytes on the page of keys, with these usages.
 fn array_of(alloc: Global, usages: &[ItemType]) -> Result<Vec<u8>, HidError> {
-    let keys = ReportDescriptorBuilder::new(alloc)
-        .usage_page(UsagePage::from(7))?
-        .usage_id(UsageId::from(1))?
-        .open_collection(CollectionItem::Report)?;
+    let keys = opened(alloc, (7, 1), CollectionItem::Report)?;
     let array = with_items(with_items(keys, &bounds(0, 15))?, &fields(2, 8))?;
     with_items(array, usages)?
         .input(ItemBuilder::new().array().input())?

@@ -10,3 +10,4 @@ pub mod PageLemmas
 pub mod PageTable
 pub mod Ranks
 pub mod UsageTable
+pub mod WriteLemmas

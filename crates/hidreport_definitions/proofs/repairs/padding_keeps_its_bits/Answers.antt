@@ -1,6 +1,7 @@
-use Rattle.std.proofs.Common.{[], ◌∷◌, refl, arith}
+use Rattle.std.proofs.Common.{ℕ, List, [], ◌∷◌, refl, arith}
 use Rattle.hidreport.specs.Options.{default_options}
 use Rattle.hidreport.specs.GlobalItem.TheVariants as global
+use Rattle.hidreport.specs.ItemType.{ItemType}
 use Rattle.hidreport.specs.ItemType.TheVariants as item
 use Rattle.hidreport.specs.LocalItem.TheVariants as local
 use Rattle.hidreport.proofs.OutlineLemmas.{same-places}
@@ -9,21 +10,20 @@ use Rattle.hidreport_definitions.proofs.ByteLemmas.{two}
 use Rattle.hidreport_definitions.proofs.PieceLemmas.{unchanged, written_at}
 use Rattle.hidreport_definitions.proofs.repairs.padding_keeps_its_bits.Goals as goal
 
+-- the items, each put down in a way, where the first Input item has these flags
+abbrev items : {A : Type 0} → (ℕ → ℕ → ℕ → ItemType → A) → ℕ → List A
+items put flags = put 0 5 1 (item.Global (global.UsagePage 1))
+    ∷ put 2 0x75 8 (item.Global (global.ReportSize 8))
+    ∷ put 4 0x95 1 (item.Global (global.ReportCount 1))
+    ∷ put 6 0x81 flags (input flags)
+    ∷ put 8 9 0x30 (item.Local (local.UsageId 0x30))
+    ∷ put 10 0x81 2 (input 2) ∷ []
+
 pub returns : goal.returns
 returns c = record {
-  read = unchanged 0 5 1 (item.Global (global.UsagePage 1))
-      ∷ unchanged 2 0x75 8 (item.Global (global.ReportSize 8))
-      ∷ unchanged 4 0x95 1 (item.Global (global.ReportCount 1))
-      ∷ unchanged 6 0x81 2 (input 2)
-      ∷ unchanged 8 9 0x30 (item.Local (local.UsageId 0x30))
-      ∷ unchanged 10 0x81 2 (input 2) ∷ [];
+  read = items unchanged 2;
   reads = refl;
-  entries = written_at 0 5 1 (item.Global (global.UsagePage 1))
-      ∷ written_at 2 0x75 8 (item.Global (global.ReportSize 8))
-      ∷ written_at 4 0x95 1 (item.Global (global.ReportCount 1))
-      ∷ written_at 6 0x81 3 (input 3)
-      ∷ written_at 8 9 0x30 (item.Local (local.UsageId 0x30))
-      ∷ written_at 10 0x81 2 (input 2) ∷ [];
+  entries = items written_at 3;
   written = record {
     some = λ e. cc;
     whole = refl;
