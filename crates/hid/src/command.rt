@@ -1,7 +1,7 @@
 //! What the words of a command line ask for.
 use crate::commands::{
-    Check, Compile, Convert, Decode, Diff, Fields, List, Map, Page, Record, Set, Uhid, Values,
-    id_named,
+    Check, Compile, Convert, Decode, Diff, Fields, Inputs, List, Map, Page, Record, Set, Uhid,
+    Values, id_named,
 };
 use crate::ending::Ending;
 use crate::world::World;
@@ -65,7 +65,11 @@ impl<'a> Command<'a> {
                 Command::Check(Check { file, host })
             }
             "list" => Command::List(List),
-            "values" => Command::Values(values_of(alloc, file, matches)?),
+            "values" => Command::Values(Values {
+                inputs: inputs_of(alloc, file, matches)?,
+                is_down: matches.get_flag("down"),
+                has_times: matches.get_flag("times"),
+            }),
             "record" => Command::Record(record_of(file, matches)),
             "uhid" => Command::Uhid(Uhid { file }),
             "set" => Command::Set(set_of(alloc, file, matches)?),
@@ -78,7 +82,10 @@ impl<'a> Command<'a> {
                 Command::Compile(Compile { text, target })
             }
             "map" => Command::Map(map_of(file, matches)),
-            "page" => Command::Page(page_of(alloc, file, matches)?),
+            "page" => Command::Page(Page {
+                inputs: inputs_of(alloc, file, matches)?,
+                shows_all: matches.get_flag("all"),
+            }),
             "diff" => {
                 let other = matches.get_str("OTHER").unwrap_or("-");
                 Command::Diff(Diff { file, other })
@@ -92,14 +99,14 @@ impl<'a> Command<'a> {
         match self {
             Command::Decode(command) => command.file,
             Command::Fields(command) => command.file,
-            Command::Values(command) => command.file,
+            Command::Values(command) => command.inputs.file,
             Command::Record(command) => command.file,
             Command::Uhid(command) => command.file,
             Command::Set(command) => command.file,
             Command::Convert(command) => command.file,
             Command::Compile(command) => command.text,
             Command::Map(command) => command.file,
-            Command::Page(command) => command.file,
+            Command::Page(command) => command.inputs.file,
             Command::Diff(command) => command.file,
             Command::Check(command) => command.file,
             Command::List(_) => "list",
@@ -163,17 +170,16 @@ impl<'a> Command<'a> {
     }
 }
 
-fn values_of<'a>(
+/// The inputs of a descriptor and of reports.
+fn inputs_of<'a>(
     alloc: Global,
     file: &'a str,
     matches: &ArgMatches<'a>,
-) -> Result<Values<'a>, AllocError> {
-    Ok(Values {
+) -> Result<Inputs<'a>, AllocError> {
+    Ok(Inputs {
         file,
         reports: words_of(alloc, "REPORT", matches)?,
         direction: direction_of(matches),
-        is_down: matches.get_flag("down"),
-        has_times: matches.get_flag("times"),
     })
 }
 
@@ -217,19 +223,6 @@ fn map_of<'a>(file: &'a str, matches: &ArgMatches<'a>) -> Map<'a> {
         is_svg: matches.get_flag("svg"),
         shows_all: matches.get_flag("all"),
     }
-}
-
-fn page_of<'a>(
-    alloc: Global,
-    file: &'a str,
-    matches: &ArgMatches<'a>,
-) -> Result<Page<'a>, AllocError> {
-    Ok(Page {
-        file,
-        reports: words_of(alloc, "REPORT", matches)?,
-        direction: direction_of(matches),
-        shows_all: matches.get_flag("all"),
-    })
 }
 
 /// What the words say that bytes are written as.

@@ -3,7 +3,7 @@ use crate::arguments::{Argument, COMMANDS, Kind, OPTIONS, arguments_of};
 use clap::{Arg, ArgAction, Command};
 use hid_findings::host_findings::HOSTS;
 use hid_input::input::FORM_WORDS;
-use hid_items::target::{REPORT_TARGETS, TARGETS};
+use hid_items::target::{TARGETS, report_targets};
 use std::alloc::{AllocError, Global};
 
 static PUSHES: [&str; 2] = ["globals", "all"];
@@ -71,7 +71,7 @@ fn argument_of<'a>(alloc: Global, argument: Argument) -> Arg<'a> {
         Kind::Host => choice(arg, name, "HOST", &HOSTS),
         Kind::Folder => of_all(arg.long(name).value_name("DIR").default_value("/sys")),
         Kind::Target => choice(arg, name, "TARGET", &TARGETS).default_value("hex"),
-        Kind::ReportTarget => choice(arg, name, "TARGET", &REPORT_TARGETS).default_value("hex"),
+        Kind::ReportTarget => choice(arg, name, "TARGET", report_targets()).default_value("hex"),
     }
 }
 

@@ -13,6 +13,8 @@ const VENDOR_PAGE: u16 = 0xff00;
 /// An Input, Output or Feature that holds data.
 #[derive(Clone, Copy)]
 pub struct DataItem {
+    /// Where remarks are made.
+    pub alloc: Global,
     /// Where it stands.
     pub offset: usize,
     /// Whether each field has a usage.
@@ -37,6 +39,16 @@ impl DataItem {
         }
     }
 
+    /// Notes what is odd in the logical maximum.
+    fn tell_maximum(
+        &self,
+        findings: &mut Vec<Finding>,
+        remark: &str,
+        source: Source,
+    ) -> Result<(), AllocError> {
+        tell(findings, Some(self.globals.maximum_offset), remark, source)
+    }
+
     /// What may be meant by a maximum below the minimum, where an item may have a byte more.
     fn hint_of(&self, low: i32, high: i32) -> &'static str {
         if 0 <= low && high < 0 && self.globals.maximum_size < 5 {
@@ -53,10 +65,8 @@ impl DataItem {
             return Ok(());
         }
         let hint = self.hint_of(low, high);
-        let alloc = *findings.allocator();
-        let remark = format!(in alloc; "the maximum {high} is below the minimum {low}{hint}")?;
-        let offset = Some(self.globals.maximum_offset);
-        tell(findings, offset, &remark, Source::GlobalItems)
+        let remark = format!(in self.alloc; "the maximum {high} is below the minimum {low}{hint}")?;
+        self.tell_maximum(findings, &remark, Source::GlobalItems)
     }
 
     /// Notes that so few bits don't hold the logical maximum.
@@ -67,10 +77,8 @@ impl DataItem {
             return Ok(());
         }
         let s = plural(size);
-        let alloc = *findings.allocator();
-        let remark = format!(in alloc; "the maximum {high} takes more than {size} bit{s}")?;
-        let offset = Some(self.globals.maximum_offset);
-        tell(findings, offset, &remark, Source::GlobalItems)
+        let remark = format!(in self.alloc; "the maximum {high} takes more than {size} bit{s}")?;
+        self.tell_maximum(findings, &remark, Source::GlobalItems)
     }
 
     /// Notes that the logical bounds are one number.
@@ -79,8 +87,7 @@ impl DataItem {
         if low != high || self.globals.size == 0 {
             return Ok(());
         }
-        let alloc = *findings.allocator();
-        let remark = format!(in alloc; "its logical minimum and maximum are both {low}")?;
+        let remark = format!(in self.alloc; "its logical minimum and maximum are both {low}")?;
         tell(findings, Some(self.offset), &remark, Source::GlobalItems)
     }
 
@@ -90,9 +97,8 @@ impl DataItem {
         if usages <= count as u64 || self.globals.size != 1 || !self.is_variable {
             return Ok(());
         }
-        let alloc = *findings.allocator();
         let s = plural(count);
-        let remark = format!(in alloc; "{usages} usages for {count} field{s}")?;
+        let remark = format!(in self.alloc; "{usages} usages for {count} field{s}")?;
         let offset = Some(self.usages.first_offset);
         tell(findings, offset, &remark, Source::LocalItems)
     }
@@ -107,9 +113,8 @@ impl DataItem {
         if !self.has_known_usages() || !is_each || count as u64 <= usages {
             return Ok(());
         }
-        let alloc = *findings.allocator();
         let s = if usages == 1 { "" } else { "s" };
-        let mut remark = format!(in alloc; "{usages} usage{s} for {count} fields: ")?;
+        let mut remark = format!(in self.alloc; "{usages} usage{s} for {count} fields: ")?;
         remark.push_str(if usages == 1 {
             "each is "
         } else {
@@ -132,12 +137,10 @@ impl DataItem {
         } else {
             "usages count"
         };
-        let alloc = *findings.allocator();
-        let remark = format!(in alloc;
+        let remark = format!(in self.alloc;
             "the maximum {high} selects no usage: {usages} {count} from {low}"
         )?;
-        let offset = Some(self.globals.maximum_offset);
-        tell(findings, offset, &remark, Source::DataItems)
+        self.tell_maximum(findings, &remark, Source::DataItems)
     }
 
     /// Whether there are usages of no vendor, the last one with a meaning, and no alternatives.
@@ -181,8 +184,7 @@ pub fn tell_unit(
     let (system, power) = (unit & 0xf, unit >> 4 & 0xf);
     if (5..=14).contains(&system) {
         *told = Some(unit);
-        let alloc = *findings.allocator();
-        let remark = format!(in alloc; "the unit's system {system} is reserved")?;
+        let remark = format!(in item.alloc; "the unit's system {system} is reserved")?;
         return tell(findings, offset, &remark, Source::GlobalItems);
     }
     if system == 0 {
@@ -192,7 +194,7 @@ pub fn tell_unit(
     }
     if (2..=7).contains(&power) && system != 15 && is_axis(&last) {
         *told = Some(unit);
-        let remark = power_remark(*findings.allocator(), last, system, power)?;
+        let remark = power_remark(item.alloc, last, system, power)?;
         return tell(findings, offset, &remark, Source::Axes);
     }
     Ok(())

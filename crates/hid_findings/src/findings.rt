@@ -68,10 +68,7 @@ impl Watch {
     /// Goes over all items.
     fn pass_all(&mut self, bytes: &[u8]) -> Result<(), AllocError> {
         let mut cursor = ItemCursor::new(bytes);
-        for _ in 0..bytes.len() {
-            let Some(entry) = cursor.next_item() else {
-                break;
-            };
+        for entry in cursor.by_ref() {
             self.pass(&entry)?;
             self.state.pass(&entry)?;
         }
@@ -160,6 +157,7 @@ impl Watch {
             return Ok(());
         }
         let item = DataItem {
+            alloc: self.alloc,
             offset,
             is_variable: flags.is_variable,
             globals: self.state.globals,

@@ -66,10 +66,7 @@ impl WindowsReading {
 
     fn pass_all(&mut self, bytes: &[u8]) -> Result<(), AllocError> {
         let mut cursor = ItemCursor::new(bytes);
-        for _ in 0..bytes.len() {
-            let Some(entry) = cursor.next_item() else {
-                break;
-            };
+        for entry in cursor.by_ref() {
             self.pass(&entry)?;
             self.state.pass(&entry)?;
         }

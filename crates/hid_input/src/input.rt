@@ -14,7 +14,7 @@ pub use given::{Device, Given, GivenReport};
 pub use machine::{MachineDevice, folder_of, machine_devices};
 pub use mending::mend;
 pub use named::{
-    bytes_named, descriptor_named, descriptors_named, is_node, node_named, reports_named,
-    text_named,
+    bytes_named, descriptor_named, descriptors_named, given_beside, is_node, node_named,
+    reports_named, text_named,
 };
 pub use stream::Stream;

@@ -5,4 +5,5 @@
 
 pub mod input;
 pub mod parsing;
+pub mod reads;
 pub mod settings;

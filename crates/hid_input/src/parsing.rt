@@ -1,22 +1,40 @@
 //! Descriptors of inputs, parsed as the options say; a refusal says what helps.
-use crate::input::{Given, descriptor_named};
+use crate::input::{Form, Given, descriptor_named, given_beside};
+use crate::reads::Reads;
 use crate::settings::Settings;
 use anyhow::{Result, anyhow, bail};
 use hidreport::{Direction, Outline, ParseOptions, ParserError, Report, ReportDescriptor, repair};
 use std::alloc::Global;
-use std::rt::Files;
 
 /// How often a limit is doubled to find one that is enough.
 const MOST_DOUBLED: usize = 4;
 
 /// The descriptor of an input, parsed.
-pub fn descriptor_by<R: AllocGlobal + Files + Input + Eprint>(
+pub fn descriptor_by<R: Reads>(
     rt: &R,
     settings: &Settings,
     name: &str,
 ) -> Result<ReportDescriptor> {
     let given = descriptor_named(rt, settings, name)?;
     parsed(rt.alloc(), settings, given.descriptor())
+}
+
+/// The same of an input beside another one, and the input's form.
+pub fn descriptor_beside<R: Reads>(
+    rt: &R,
+    settings: &Settings,
+    name: &str,
+) -> Result<(ReportDescriptor, Form)> {
+    let given = given_beside(rt, settings, name)?;
+    let descriptor = parsed(rt.alloc(), settings, given.descriptor())?;
+    Ok((descriptor, given.form))
+}
+
+/// As `descriptor_named`; refuses a descriptor of more bytes than are read.
+pub fn descriptor_within<R: Reads>(rt: &R, settings: &Settings, name: &str) -> Result<Given> {
+    let given = descriptor_named(rt, settings, name)?;
+    check_length(settings, given.descriptor())?;
+    Ok(given)
 }
 
 /// Refuses a descriptor of more bytes than are read.

@@ -93,7 +93,7 @@ impl<'a> ItemLines<'a> {
 
     /// Appends what is said of the next item; answers whether there was one.
     pub fn add_next(&mut self, text: &mut String) -> Result<bool> {
-        let Some(entry) = self.cursor.next_item() else {
+        let Some(entry) = self.cursor.next() else {
             return Ok(false);
         };
         add_entry(text, self.style, &entry, &self.state)?;
@@ -121,7 +121,7 @@ impl<'a> ItemLines<'a> {
     /// Whether no item is left.
     pub fn is_at_end(&self) -> bool {
         let mut rest = self.cursor;
-        rest.next_item().is_none()
+        rest.next().is_none()
     }
 
     /// Appends what is said behind the last item.

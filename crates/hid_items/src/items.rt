@@ -1,4 +1,6 @@
 //! The items of a descriptor where they stand, and what is in force at each.
+ghost use Rattle.std.specs.Iterator.{at_most};
+
 use hidreport::hid::{GlobalItem, ItemType, MainItem};
 use hidreport::types::UsagePage;
 use hidreport_items::ItemFault;
@@ -16,11 +18,13 @@ pub struct PlacedItem<'a> {
     pub item: ItemType,
 }
 
-/// A descriptor's bytes, of which items are read from the front.
+/// A descriptor's items one after the other, up to the end or to bytes that are none.
 #[derive(Clone, Copy)]
 pub struct ItemCursor<'a> {
     offset: usize,
     rest: &'a [u8],
+    /// How many items may follow: at most one for each byte.
+    left: usize,
 }
 
 impl<'a> ItemCursor<'a> {
@@ -29,6 +33,7 @@ impl<'a> ItemCursor<'a> {
         ItemCursor {
             offset: 0,
             rest: bytes,
+            left: bytes.len(),
         }
     }
 
@@ -41,9 +46,15 @@ impl<'a> ItemCursor<'a> {
     pub fn rest(&self) -> &'a [u8] {
         self.rest
     }
+}
 
-    /// The next item; none behind the last and where the bytes that are left begin with none.
-    pub fn next_item(&mut self) -> Option<PlacedItem<'a>> {
+impl<'a> Iterator for ItemCursor<'a> {
+    type Item = PlacedItem<'a>;
+
+    ghost remaining = { λ s. at_most s.left };
+
+    fn next(&mut self) -> Option<PlacedItem<'a>> {
+        self.left = self.left.checked_sub(1)?;
         match front_item(self.rest) {
             Ok(front) => {
                 let (bytes, rest) = self.rest.split_at(front.size);

@@ -14,11 +14,11 @@ use anyhow::Result;
 use hid_input::parsing::parsed;
 use hid_input::settings::Settings;
 use hid_output::{add_bytes, flush, flush_piece, show_bytes};
-pub use report_target::{REPORT_TARGETS, ReportTarget};
+pub use report_target::{ReportTarget, report_targets};
 use std::alloc::AllocError;
 use std::fmt::Write;
 
-/// The names of the targets.
+/// The names of the targets; a report may be written as the first `OF_REPORTS`.
 pub static TARGETS: [&str; 13] = [
     "hex",
     "c",
@@ -34,6 +34,9 @@ pub static TARGETS: [&str; 13] = [
     "libinput",
     "webhid",
 ];
+
+/// How many of them write any bytes.
+const OF_REPORTS: usize = 7;
 
 /// How many bytes stand in a line of text.
 const IN_A_LINE: usize = 16;

@@ -43,9 +43,24 @@ pub fn flush_piece<R: Print>(rt: &R, text: &mut String) -> Result<()> {
 
 /// Appends bytes as pairs of hexadecimal digits, with a space between them.
 pub fn add_bytes(text: &mut String, bytes: &[u8]) -> Result<(), AllocError> {
+    add_bytes_within(text, bytes, "", "")
+}
+
+/// Appends bytes as numbers of a list in a program's source.
+pub fn add_numbers(text: &mut String, bytes: &[u8]) -> Result<(), AllocError> {
+    add_bytes_within(text, bytes, "0x", ",")
+}
+
+/// Appends bytes as pairs of hexadecimal digits, each with these texts around it.
+fn add_bytes_within(
+    text: &mut String,
+    bytes: &[u8],
+    before: &str,
+    behind: &str,
+) -> Result<(), AllocError> {
     let mut gap = "";
     for byte in bytes {
-        write!(text, "{gap}{byte:02x}")?;
+        write!(text, "{gap}{before}{byte:02x}{behind}")?;
         gap = " ";
     }
     Ok(())

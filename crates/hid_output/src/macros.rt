@@ -1,6 +1,7 @@
 //! The macros that items are written by in C, which `hid` writes and reads by one table.
 mod bpf;
 mod bpf_names;
+mod flags;
 mod lookup;
 mod lufa;
 mod tinyusb;
@@ -11,10 +12,11 @@ pub use bpf::{
     ANY_COLLECTION, NUMBERS, RANGES, UNITS, bpf_around, is_of_usage, page_named, usage_header,
     usage_named,
 };
+pub use flags::Header;
 pub use lookup::name_in;
-pub use lufa::{LUFA_FLAGS, lufa_name};
+pub use lufa::lufa_name;
 use lufa::{lufa_macro, lufa_number};
-pub use tinyusb::{FLAGS, KINDS, OF_A_BYTE, OF_EACH_SIZE, PAGES, REPORT_ID, USAGE_PAGE, WITHOUT};
+pub use tinyusb::{KINDS, OF_A_BYTE, OF_EACH_SIZE, PAGES, REPORT_ID, USAGE_PAGE, WITHOUT};
 use tinyusb::{tinyusb_macro, tinyusb_number};
 pub use zephyr::zephyr_name;
 use zephyr::{zephyr_macro, zephyr_number};
@@ -101,22 +103,14 @@ impl Macro {
     /// The macro with this name, of TinyUSB, Zephyr, LUFA or udev-hid-bpf: what several have writes
     /// the same.
     pub fn named(name: &str) -> Option<Macro> {
-        if let Some(known) = lufa_macro(name) {
-            return Some(known);
-        }
-        tinyusb_macro(name)
-            .or_else(|| zephyr_macro(name))
-            .or_else(|| bpf_macro(name))
+        let known = lufa_macro(name).or(tinyusb_macro(name));
+        known.or(zephyr_macro(name)).or(bpf_macro(name))
     }
 }
 
 /// The number that a name in an argument stands for, by the header of TinyUSB, Zephyr, LUFA or
 /// udev-hid-bpf.
 pub fn number_named(name: &str) -> Option<u32> {
-    if let Some(number) = lufa_number(name) {
-        return Some(number);
-    }
-    tinyusb_number(name)
-        .or_else(|| zephyr_number(name))
-        .or_else(|| bpf_number(name))
+    let known = lufa_number(name).or(tinyusb_number(name));
+    known.or(zephyr_number(name)).or(bpf_number(name))
 }

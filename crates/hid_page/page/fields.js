@@ -54,9 +54,7 @@ function fieldRow(field, hasSamples, places) {
     row.append(value, plot);
     places.push({ field, value, plot });
   }
-  row.id = field.key;
-  shows(row, field);
-  return row;
+  return ownRow(row, field);
 }
 
 function sizeOf(report) {

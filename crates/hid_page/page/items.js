@@ -7,9 +7,7 @@ function itemRow(item) {
   indent(words, item.depth);
   const row = element('tr', 'item', heading('row', 'offset', String(item.offset)),
     element('td', item.bytes.length > 14 ? 'bytes long' : 'bytes', item.bytes), words);
-  row.id = item.key;
-  shows(row, item);
-  return row;
+  return ownRow(row, item);
 }
 
 // The row of what is said of an item, of a fault, or of bytes that are no item.

@@ -42,6 +42,13 @@ function shows(made, part) {
   shownBy.get(part.key).push(made);
 }
 
+// The row in which an item or a field stands by itself: addresses end in its key.
+function ownRow(row, part) {
+  row.id = part.key;
+  shows(row, part);
+  return row;
+}
+
 let pinned = '';
 let marked = [];
 

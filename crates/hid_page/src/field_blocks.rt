@@ -1,5 +1,4 @@
 //! The reports and fields in a page.
-use crate::left_out::LeftOut;
 use crate::sheet::Sheet;
 use anyhow::Result;
 use hid_text::field_object::add_field_object;
@@ -12,39 +11,37 @@ pub fn show_fields<R: AllocGlobal + Print>(
     rt: &R,
     descriptor: &ReportDescriptor,
     sheet: &mut Sheet,
-    left_out: &mut LeftOut,
 ) -> Result<()> {
     sheet.begin("lines")?;
-    let mut most = left_out.most.fields;
+    let mut most = sheet.left_out.most.fields;
     for direction in Direction::ALL {
         for report in descriptor.reports(direction) {
-            most = show_lines(rt, direction, report, sheet, most)?;
+            add_report_object(&mut sheet.lines, direction, report)?;
+            sheet.take(rt)?;
+            most = show_lines(rt, report, sheet, most)?;
         }
     }
     sheet.end()?;
     sheet.begin("fields")?;
-    let (mut most, mut count) = (left_out.most.fields, 0usize);
+    let (mut most, mut count) = (sheet.left_out.most.fields, 0usize);
     for direction in Direction::ALL {
         for report in descriptor.reports(direction) {
             most = show_objects(rt, direction, report, sheet, most)?;
             count = count.saturating_add(report.fields().len());
         }
     }
-    left_out.fields = count.saturating_sub(left_out.most.fields);
+    sheet.left_out.fields = count.saturating_sub(sheet.left_out.most.fields);
     Ok(sheet.end()?)
 }
 
-/// Writes a report and the lines of its first fields, so many at most; answers how many fields may
+/// Writes the lines of the first fields of a report, so many at most; answers how many fields may
 /// follow.
 fn show_lines<R: AllocGlobal + Print>(
     rt: &R,
-    direction: Direction,
     report: &RDescReport,
     sheet: &mut Sheet,
     most: usize,
 ) -> Result<usize> {
-    add_report_object(&mut sheet.lines, direction, report)?;
-    sheet.take(rt)?;
     if most == 0 {
         return Ok(0);
     }

@@ -7,70 +7,73 @@ use hid_items::item_lines::{ItemLines, ItemStyle};
 use hid_output::flush_piece;
 use hid_output::html::add_html;
 use hidreport::ParserError;
+use std::alloc::Global;
 
-/// Writes the first items, so many at most, in words.
-pub fn show_item_text<R: AllocGlobal + Print>(
-    rt: &R,
-    settings: &Settings,
-    bytes: &[u8],
-    fault: Option<&ParserError>,
-    sheet: &mut Sheet,
-    most: usize,
-) -> Result<()> {
-    let mut lines = ItemLines::new(rt.alloc(), ItemStyle::Words, settings.parse, bytes, fault);
-    let mut text = String::new(rt.alloc());
-    for _ in 0..most.min(bytes.len()) {
-        if !lines.add_next(&mut text)? {
-            break;
-        }
-        add_html(&mut sheet.text, text.as_str())?;
-        text.clear();
-        flush_piece(rt, &mut sheet.text)?;
-    }
-    if lines.is_at_end() {
-        lines.end(&mut text)?;
-        add_html(&mut sheet.text, text.as_str())?;
-    }
-    Ok(())
+/// The items of a descriptor, of which a page has the first.
+#[derive(Clone, Copy)]
+pub struct ItemBlocks<'a> {
+    /// The options of the command.
+    pub settings: &'a Settings<'a>,
+    /// The descriptor.
+    pub bytes: &'a [u8],
+    /// Why it is refused, if it is.
+    pub fault: Option<&'a ParserError>,
 }
 
-/// Writes the block of the first items, so many at most; answers how many bytes are left out.
-pub fn show_item_objects<R: AllocGlobal + Print>(
-    rt: &R,
-    settings: &Settings,
-    bytes: &[u8],
-    fault: Option<&ParserError>,
-    sheet: &mut Sheet,
-    most: usize,
-) -> Result<usize> {
-    sheet.begin("items")?;
-    let mut lines = ItemLines::new(rt.alloc(), ItemStyle::Json, settings.parse, bytes, fault);
-    for _ in 0..most.min(bytes.len()) {
-        if !lines.add_next(&mut sheet.lines)? {
-            break;
+impl<'a> ItemBlocks<'a> {
+    /// What is said of each item.
+    fn lines(self, alloc: Global, style: ItemStyle) -> ItemLines<'a> {
+        ItemLines::new(alloc, style, self.settings.parse, self.bytes, self.fault)
+    }
+
+    /// Writes the items in words.
+    pub fn show_text<R: AllocGlobal + Print>(self, rt: &R, sheet: &mut Sheet) -> Result<()> {
+        let mut lines = self.lines(rt.alloc(), ItemStyle::Words);
+        let mut text = String::new(rt.alloc());
+        for _ in 0..sheet.left_out.most.items.min(self.bytes.len()) {
+            if !lines.add_next(&mut text)? {
+                break;
+            }
+            add_html(&mut sheet.text, text.as_str())?;
+            text.clear();
+            flush_piece(rt, &mut sheet.text)?;
         }
-        sheet.take(rt)?;
+        if lines.is_at_end() {
+            lines.end(&mut text)?;
+            add_html(&mut sheet.text, text.as_str())?;
+        }
+        Ok(())
     }
-    let mut left_out = bytes.len().saturating_sub(lines.offset());
-    if lines.is_at_end() {
-        lines.end(&mut sheet.lines)?;
-        sheet.take(rt)?;
-        left_out = 0;
+
+    /// Writes the block of the items.
+    pub fn show_objects<R: AllocGlobal + Print>(self, rt: &R, sheet: &mut Sheet) -> Result<()> {
+        sheet.begin("items")?;
+        let mut lines = self.lines(rt.alloc(), ItemStyle::Json);
+        for _ in 0..sheet.left_out.most.items.min(self.bytes.len()) {
+            if !lines.add_next(&mut sheet.lines)? {
+                break;
+            }
+            sheet.take(rt)?;
+        }
+        if lines.is_at_end() {
+            lines.end(&mut sheet.lines)?;
+            sheet.take(rt)?;
+        } else {
+            sheet.left_out.bytes = self.bytes.len().saturating_sub(lines.offset());
+        }
+        Ok(sheet.end()?)
     }
-    sheet.end()?;
-    Ok(left_out)
 }
 
-/// Writes the block of the bits that the first items make, so many at most.
+/// Writes the block of the bits that the first items make.
 pub fn show_made_bits<R: AllocGlobal + Print>(
     rt: &R,
     bytes: &[u8],
     sheet: &mut Sheet,
-    most: usize,
 ) -> Result<()> {
     sheet.begin("made")?;
     let mut made = MadeBits::new(rt.alloc(), bytes)?;
-    for _ in 0..most.min(bytes.len()) {
+    for _ in 0..sheet.left_out.most.items.min(bytes.len()) {
         if !made.add_next(&mut sheet.lines)? {
             break;
         }

@@ -90,32 +90,6 @@ impl LeftOut {
         }
     }
 
-    /// Writes the block of what is said in the page, and says it on standard error, too.
-    pub fn show<R: AllocGlobal + Print + Eprint>(
-        &self,
-        rt: &R,
-        given: &Given,
-        sheet: &mut Sheet,
-    ) -> Result<()> {
-        sheet.begin("notes")?;
-        for note in given.notes.iter() {
-            let note = note.as_str();
-            add_json(&mut sheet.lines, &NoteObject { note })?;
-        }
-        sheet.take(rt)?;
-        for (count, one, words) in self.counts() {
-            if count != 0 {
-                let words = if count == 1 { one } else { words };
-                let note = format!(in rt.alloc(); "{count} {words}")?;
-                let note = note.as_str();
-                add_json(&mut sheet.lines, &NoteObject { note })?;
-                eprintln!(rt; "hid: {note}")?;
-            }
-        }
-        sheet.take(rt)?;
-        Ok(sheet.end()?)
-    }
-
     /// What is said, each behind a number: of one, and of several.
     fn counts(&self) -> [(usize, &'static str, &'static str); 6] {
         [
@@ -151,4 +125,29 @@ impl LeftOut {
             ),
         ]
     }
+}
+
+/// Writes the block of what is said in the page, and says it on standard error, too.
+pub fn show_notes<R: AllocGlobal + Print + Eprint>(
+    rt: &R,
+    given: &Given,
+    sheet: &mut Sheet,
+) -> Result<()> {
+    sheet.begin("notes")?;
+    for note in given.notes.iter() {
+        let note = note.as_str();
+        add_json(&mut sheet.lines, &NoteObject { note })?;
+    }
+    sheet.take(rt)?;
+    for (count, one, words) in sheet.left_out.counts() {
+        if count != 0 {
+            let words = if count == 1 { one } else { words };
+            let note = format!(in rt.alloc(); "{count} {words}")?;
+            let note = note.as_str();
+            add_json(&mut sheet.lines, &NoteObject { note })?;
+            eprintln!(rt; "hid: {note}")?;
+        }
+    }
+    sheet.take(rt)?;
+    Ok(sheet.end()?)
 }

@@ -46,7 +46,7 @@ impl<'a> MadeBits<'a> {
     /// Appends the bits that the next item makes, if it makes some, as a line of JSON; answers
     /// whether there was an item.
     pub fn add_next(&mut self, lines: &mut String) -> Result<bool> {
-        let Some(entry) = self.cursor.next_item() else {
+        let Some(entry) = self.cursor.next() else {
             return Ok(false);
         };
         let bits = self

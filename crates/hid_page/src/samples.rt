@@ -1,12 +1,11 @@
 //! The reports in a page that inputs have.
-use crate::left_out::LeftOut;
 use crate::sheet::Sheet;
 use anyhow::{Context, Result};
 use hid_input::input::{Given, GivenReport, reports_named};
+use hid_input::reads::Reads;
 use hid_input::settings::Settings;
 use hid_text::sample_object::add_sample_object;
 use hidreport::{Direction, RDescReport, Report, ReportDescriptor};
-use std::rt::Files;
 
 /// The inputs that reports are read of.
 #[derive(Drop)]
@@ -16,11 +15,7 @@ pub struct Streams {
 }
 
 /// Reads the inputs of these names.
-pub fn streams_of<R: AllocGlobal + Files + Input + Eprint>(
-    rt: &R,
-    settings: &Settings,
-    names: &[&str],
-) -> Result<Streams> {
+pub fn streams_of<R: Reads>(rt: &R, settings: &Settings, names: &[&str]) -> Result<Streams> {
     let mut inputs = Vec::new(rt.alloc());
     for name in names {
         inputs.push(reports_named(rt, settings, name).context(format_args!("{name}"))?)?;
@@ -36,7 +31,6 @@ pub fn show_samples<R: AllocGlobal + Print>(
     descriptor: &ReportDescriptor,
     direction: Direction,
     sheet: &mut Sheet,
-    left_out: &mut LeftOut,
 ) -> Result<()> {
     for report in stream.reports.iter() {
         let own = match given.place_of(stream.form, report) {
@@ -46,9 +40,9 @@ pub fn show_samples<R: AllocGlobal + Print>(
         match own {
             Some(own) => {
                 let place = place_in(descriptor, direction, own);
-                show_sample(rt, own, place, report, sheet, left_out)?;
+                show_sample(rt, own, place, report, sheet)?;
             }
-            None => left_out.unknown = left_out.unknown.saturating_add(1),
+            None => sheet.left_out.unknown = sheet.left_out.unknown.saturating_add(1),
         }
     }
     Ok(())
@@ -75,8 +69,8 @@ fn show_sample<R: AllocGlobal + Print>(
     place: usize,
     report: &GivenReport,
     sheet: &mut Sheet,
-    left_out: &mut LeftOut,
 ) -> Result<()> {
+    let left_out = &mut sheet.left_out;
     if left_out.most.reports == 0 || left_out.most.values == 0 {
         left_out.reports = left_out.reports.saturating_add(1);
         return Ok(());
@@ -85,6 +79,6 @@ fn show_sample<R: AllocGlobal + Print>(
     let (wanted, given) = (own.size_in_bytes(), report.bytes.as_slice());
     let bytes = given.get(..wanted).unwrap_or(given);
     let count = add_sample_object(&mut sheet.lines, place, own, bytes, time, most)?;
-    left_out.take(count, wanted, given.len());
+    sheet.left_out.take(count, wanted, given.len());
     sheet.take(rt)
 }

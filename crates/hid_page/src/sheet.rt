@@ -1,4 +1,5 @@
 //! A page as it is written: pieces of HTML, and blocks of JSON.
+use crate::left_out::{LeftOut, Most};
 use anyhow::Result;
 use hid_output::flush_piece;
 use hid_output::html::add_json_in_html;
@@ -12,16 +13,19 @@ pub struct Sheet {
     pub text: String,
     /// Lines of JSON that are taken into it next.
     pub lines: String,
+    /// What isn't put into it.
+    pub left_out: LeftOut,
     /// Whether the block has no line yet.
     is_empty: bool,
 }
 
 impl Sheet {
-    /// Before the first letter.
-    pub fn new(alloc: Global) -> Sheet {
+    /// Before the first letter, with so much at most.
+    pub fn new(alloc: Global, most: Most) -> Sheet {
         Sheet {
             text: String::new(alloc),
             lines: String::new(alloc),
+            left_out: LeftOut::new(most),
             is_empty: true,
         }
     }

@@ -8,7 +8,7 @@ pub const BEFORE_TITLE: &str = "\
 <html lang=\"en\">\n\
 <head>\n\
 <meta charset=\"utf-8\">\n\
-<meta http-equiv=\"Content-Security-Policy\" content=\"default-src 'none'; script-src 'sha256-pxJNJFo1Bgb/JLJdQa6PZN+43HciP2t5+ltGDR6AbfI='; style-src 'sha256-IHFfdsbjPRayGXfGNQ3md4unQnG4BexzS5A3eGCQkgY='; base-uri 'none'; form-action 'none'; require-trusted-types-for 'script'; trusted-types 'none'\">\n\
+<meta http-equiv=\"Content-Security-Policy\" content=\"default-src 'none'; script-src 'sha256-J042OFd0Q9xa22XB+dFt8+VbH7Xn++vfxtHQD0HPNBM='; style-src 'sha256-IHFfdsbjPRayGXfGNQ3md4unQnG4BexzS5A3eGCQkgY='; base-uri 'none'; form-action 'none'; require-trusted-types-for 'script'; trusted-types 'none'\">\n\
 <meta name=\"viewport\" content=\"width=device-width, initial-scale=1\">\n\
 <meta name=\"color-scheme\" content=\"light dark\">\n\
 <meta name=\"referrer\" content=\"no-referrer\">\n\
@@ -562,6 +562,13 @@ function shows(made, part) {\n\
 \x20 shownBy.get(part.key).push(made);\n\
 }\n\
 \n\
+// The row in which an item or a field stands by itself: addresses end in its key.\n\
+function ownRow(row, part) {\n\
+\x20 row.id = part.key;\n\
+\x20 shows(row, part);\n\
+\x20 return row;\n\
+}\n\
+\n\
 let pinned = '';\n\
 let marked = [];\n\
 \n\
@@ -814,9 +821,7 @@ function fieldRow(field, hasSamples, places) {\n\
 \x20   row.append(value, plot);\n\
 \x20   places.push({ field, value, plot });\n\
 \x20 }\n\
-\x20 row.id = field.key;\n\
-\x20 shows(row, field);\n\
-\x20 return row;\n\
+\x20 return ownRow(row, field);\n\
 }\n\
 \n\
 function sizeOf(report) {\n\
@@ -851,9 +856,7 @@ function itemRow(item) {\n\
 \x20 indent(words, item.depth);\n\
 \x20 const row = element('tr', 'item', heading('row', 'offset', String(item.offset)),\n\
 \x20   element('td', item.bytes.length > 14 ? 'bytes long' : 'bytes', item.bytes), words);\n\
-\x20 row.id = item.key;\n\
-\x20 shows(row, item);\n\
-\x20 return row;\n\
+\x20 return ownRow(row, item);\n\
 }\n\
 \n\
 // The row of what is said of an item, of a fault, or of bytes that are no item.\n\

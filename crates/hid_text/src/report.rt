@@ -19,7 +19,7 @@ pub use field_line::{FieldLine, around, field_lines};
 use hidreport::{Direction, RDescReport, Report, ReportDescriptor};
 pub use line::Lines;
 pub use reading::{Amount, Choice, amount_of, choice_of, element_width, is_outside, readable};
-pub use rows::{Cell, Row, rows_of};
+pub use rows::{Cell, Row, more_rows, rows_of};
 pub use same_reports::SameReports;
 use std::alloc::AllocError;
 use std::fmt::Write;
@@ -36,6 +36,24 @@ pub fn add_title(
         Some(id) => write!(text, " {id}"),
         None => Ok(()),
     }
+}
+
+/// Appends the line that names a report.
+pub fn add_head(
+    text: &mut String,
+    direction: Direction,
+    report: &RDescReport,
+) -> Result<(), AllocError> {
+    add_title(text, direction, report)?;
+    add_size(text, report)?;
+    text.push_str("\n")
+}
+
+/// Appends how many bits and bytes a report has.
+fn add_size(text: &mut String, report: &RDescReport) -> Result<(), AllocError> {
+    let (bits, bytes) = (report.size_in_bits(), report.size_in_bytes());
+    let (one, other) = (plural(bits), plural(bytes));
+    write!(text, ": {bits} bit{one}, {bytes} byte{other}")
 }
 
 /// Appends which reports of a direction there are: their ids, and whether one has none.

@@ -5,8 +5,7 @@ use anyhow::{Result, bail};
 use hid_findings::finding::Finding;
 use hid_findings::findings::findings;
 use hid_findings::host_findings::Host;
-use hid_input::input::descriptor_named;
-use hid_input::parsing::check_length;
+use hid_input::parsing::descriptor_within;
 use hid_input::settings::Settings;
 use hid_output::{add_json, flush, flush_piece};
 use hidreport::{ParserError, ReportDescriptor};
@@ -34,10 +33,8 @@ struct OddObject<'a> {
 impl<'a> Check<'a> {
     /// Shows each finding; something odd is refused.
     pub fn run<R: World>(&self, rt: &R, settings: &Settings) -> Result<Ending> {
-        let given = descriptor_named(rt, settings, self.file)?;
-        let bytes = given.descriptor();
-        check_length(settings, bytes)?;
-        let findings = checked(rt.alloc(), settings, bytes, self.host)?;
+        let given = descriptor_within(rt, settings, self.file)?;
+        let findings = checked(rt.alloc(), settings, given.descriptor(), self.host)?;
         show_findings(rt, settings, &findings)
     }
 }

@@ -103,7 +103,7 @@ impl Compiled {
     /// Takes the bytes of an item whose words stand behind them.
     fn add_item_bytes(&mut self, bytes: &[u8], words: &str) -> Result<()> {
         let mut cursor = ItemCursor::new(bytes);
-        let Some(entry) = cursor.next_item() else {
+        let Some(entry) = cursor.next() else {
             bail!("the bytes are no item");
         };
         if !cursor.rest().is_empty() {

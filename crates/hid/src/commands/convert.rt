@@ -2,8 +2,7 @@
 use crate::ending::Ending;
 use crate::world::World;
 use anyhow::Result;
-use hid_input::input::descriptor_named;
-use hid_input::parsing::check_length;
+use hid_input::parsing::descriptor_within;
 use hid_input::settings::Settings;
 use hid_items::target::Target;
 
@@ -19,10 +18,8 @@ pub struct Convert<'a> {
 impl<'a> Convert<'a> {
     /// Writes the bytes.
     pub fn run<R: World>(&self, rt: &R, settings: &Settings) -> Result<Ending> {
-        let given = descriptor_named(rt, settings, self.file)?;
-        let bytes = given.descriptor();
-        check_length(settings, bytes)?;
-        self.target.write(rt, settings, bytes)?;
+        let given = descriptor_within(rt, settings, self.file)?;
+        self.target.write(rt, settings, given.descriptor())?;
         Ok(Ending::Done)
     }
 }

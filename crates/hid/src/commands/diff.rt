@@ -1,8 +1,8 @@
 //! `hid diff`: what differs between two descriptors.
 use crate::ending::Ending;
 use crate::world::World;
-use anyhow::{Context, Result};
-use hid_input::parsing::descriptor_by;
+use anyhow::{Context, Result, ensure};
+use hid_input::parsing::descriptor_beside;
 use hid_input::settings::Settings;
 use hid_output::{add_json, flush, flush_piece};
 use hid_text::diff::{Changed, ReportDiff, add_runs, id_alone_changed};
@@ -41,6 +41,14 @@ struct IdObject {
     second: Option<u8>,
 }
 
+/// The reports of a direction of two descriptors: one's own, and those of the other one.
+#[derive(Clone, Copy)]
+struct Sides<'a> {
+    direction: Direction,
+    own: &'a ReportDescriptor,
+    other: &'a ReportDescriptor,
+}
+
 /// What is shown so far.
 #[derive(Drop)]
 struct Showing<'a> {
@@ -52,11 +60,16 @@ struct Showing<'a> {
 impl<'a> Diff<'a> {
     /// Shows the difference; there is none exactly where the two read the same.
     pub fn run<R: World>(&self, rt: &R, settings: &Settings) -> Result<Ending> {
-        let first = descriptor_by(rt, settings, self.file)?;
-        let second = descriptor_by(rt, settings, self.other).context(format_args!(
+        let (first, form) = descriptor_beside(rt, settings, self.file)?;
+        let (second, other_form) = descriptor_beside(rt, settings, self.other).context(format_args!(
             "{}",
             self.other
         ))?;
+        let number = settings.device.unwrap_or(0);
+        ensure!(
+            number == 0 || !form.has_one_device() || !other_form.has_one_device(),
+            "has no device {number}, but 0"
+        );
         if first.is_alike(&second) {
             return Ok(Ending::Done);
         }
@@ -77,103 +90,105 @@ fn show_difference<R: AllocGlobal + Print>(
         is_nothing: true,
     };
     for direction in Direction::ALL {
-        show_first(rt, &mut showing, direction, first, second)?;
-        show_second(rt, &mut showing, direction, first, second)?;
+        let sides = Sides {
+            direction,
+            own: first,
+            other: second,
+        };
+        sides.show_first(rt, &mut showing)?;
+        sides.turned().show_second(rt, &mut showing)?;
     }
     showing.end()?;
     flush(rt, &mut showing.text)
 }
 
-/// Shows what the first descriptor's reports of a direction have else: those with the same id are
-/// compared.
-fn show_first<R: AllocGlobal + Print>(
-    rt: &R,
-    showing: &mut Showing,
-    direction: Direction,
-    first: &ReportDescriptor,
-    second: &ReportDescriptor,
-) -> Result<()> {
-    for report in first.reports(direction) {
-        match second.report(direction, *report.report_id()) {
-            Some(other) => {
-                showing.add_report(rt, direction, report, report.fields(), other.fields())?;
+impl<'a> Sides<'a> {
+    /// With the other descriptor as its own.
+    fn turned(self) -> Sides<'a> {
+        Sides {
+            direction: self.direction,
+            own: self.other,
+            other: self.own,
+        }
+    }
+
+    /// Shows what the first descriptor's reports have else: those with the same id are compared.
+    fn show_first<R: AllocGlobal + Print>(self, rt: &R, showing: &mut Showing) -> Result<()> {
+        for report in self.own.reports(self.direction) {
+            match self.other.report(self.direction, *report.report_id()) {
+                Some(other) => {
+                    let (first, second) = (report.fields(), other.fields());
+                    showing.add_report(rt, self.direction, report, first, second)?;
+                }
+                None => self.show_lone(rt, showing, report)?,
             }
-            None => show_lone(rt, showing, direction, report, first, second)?,
+            flush_piece(rt, &mut showing.text)?;
         }
-        flush_piece(rt, &mut showing.text)?;
+        Ok(())
     }
-    Ok(())
-}
 
-/// Shows a report of the first descriptor whose id the second doesn't have.
-fn show_lone<R: AllocGlobal + Print>(
-    rt: &R,
-    showing: &mut Showing,
-    direction: Direction,
-    report: &RDescReport,
-    first: &ReportDescriptor,
-    second: &ReportDescriptor,
-) -> Result<()> {
-    let none: &[Field] = &[];
-    match renamed(rt.alloc(), direction, report, first, second)? {
-        Some(other) => showing.add_id(direction, report, other),
-        None => showing.add_report(rt, direction, report, report.fields(), none),
-    }
-}
-
-/// Shows the second descriptor's reports of a direction that the first doesn't have.
-fn show_second<R: AllocGlobal + Print>(
-    rt: &R,
-    showing: &mut Showing,
-    direction: Direction,
-    first: &ReportDescriptor,
-    second: &ReportDescriptor,
-) -> Result<()> {
-    let none: &[Field] = &[];
-    for report in second.reports(direction) {
-        let is_known = first.report(direction, *report.report_id()).is_some();
-        if !is_known && renamed(rt.alloc(), direction, report, second, first)?.is_none() {
-            showing.add_report(rt, direction, report, none, report.fields())?;
+    /// Shows a report of the first descriptor whose id the second doesn't have.
+    fn show_lone<R: AllocGlobal + Print>(
+        self,
+        rt: &R,
+        showing: &mut Showing,
+        report: &RDescReport,
+    ) -> Result<()> {
+        let none: &[Field] = &[];
+        match self.renamed(rt.alloc(), report)? {
+            Some(other) => showing.add_id(self.direction, report, other),
+            None => showing.add_report(rt, self.direction, report, report.fields(), none),
         }
-        flush_piece(rt, &mut showing.text)?;
     }
-    Ok(())
-}
 
-/// The report of another descriptor that is this one with another id: of those whose ids one
-/// descriptor alone has, the one in the same place.
-fn renamed<'b>(
-    alloc: Global,
-    direction: Direction,
-    report: &RDescReport,
-    own: &ReportDescriptor,
-    other: &'b ReportDescriptor,
-) -> Result<Option<&'b RDescReport>, AllocError> {
-    let mut before = lone_before(direction, report, own, other);
-    for candidate in other.reports(direction) {
-        if own.report(direction, *candidate.report_id()).is_none() {
-            if before == 0 {
-                let is_same = id_alone_changed(alloc, report, candidate)?;
-                return Ok(if is_same { Some(candidate) } else { None });
+    /// Shows the second descriptor's reports, which are its own, that the first doesn't have.
+    fn show_second<R: AllocGlobal + Print>(self, rt: &R, showing: &mut Showing) -> Result<()> {
+        let none: &[Field] = &[];
+        for report in self.own.reports(self.direction) {
+            if !self.has_other(report) && self.renamed(rt.alloc(), report)?.is_none() {
+                showing.add_report(rt, self.direction, report, none, report.fields())?;
             }
-            before -= 1;
+            flush_piece(rt, &mut showing.text)?;
         }
+        Ok(())
     }
-    Ok(None)
-}
 
-/// How many reports stand before this one whose ids the other descriptor doesn't have.
-fn lone_before(
-    direction: Direction,
-    report: &RDescReport,
-    own: &ReportDescriptor,
-    other: &ReportDescriptor,
-) -> usize {
-    own.reports(direction)
-        .iter()
-        .take_while(|it| it.report_id() != report.report_id())
-        .filter(|it| other.report(direction, *it.report_id()).is_none())
-        .count()
+    /// Whether the other descriptor has a report with the same id.
+    fn has_other(self, report: &RDescReport) -> bool {
+        self.other
+            .report(self.direction, *report.report_id())
+            .is_some()
+    }
+
+    /// The report of the other descriptor that is this one with another id: of those whose ids one
+    /// descriptor alone has, the one in the same place.
+    fn renamed(
+        self,
+        alloc: Global,
+        report: &RDescReport,
+    ) -> Result<Option<&'a RDescReport>, AllocError> {
+        let mut before = self.lone_before(report);
+        for candidate in self.other.reports(self.direction) {
+            if !self.turned().has_other(candidate) {
+                if before == 0 {
+                    let is_same = id_alone_changed(alloc, report, candidate)?;
+                    return Ok(if is_same { Some(candidate) } else { None });
+                }
+                before -= 1;
+            }
+        }
+        Ok(None)
+    }
+
+    /// How many of its own reports stand before this one whose ids the other doesn't have.
+    fn lone_before(self, report: &RDescReport) -> usize {
+        self.own
+            .reports(self.direction)
+            .iter()
+            .take_while(|it| it.report_id() != report.report_id())
+            .filter(|it| !self.has_other(it))
+            .count()
+    }
 }
 
 impl<'a> Showing<'a> {

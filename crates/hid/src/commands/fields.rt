@@ -7,11 +7,8 @@ use hid_input::parsing::descriptor_by;
 use hid_input::settings::Settings;
 use hid_output::{escaped, flush, flush_piece};
 use hid_text::field_object::add_field_object;
-use hid_text::report::{Block, SameReports, add_title, field_lines};
-use hid_text::words::plural;
+use hid_text::report::{Block, SameReports, field_lines};
 use hidreport::{Direction, RDescReport, Report, ReportDescriptor};
-use std::alloc::AllocError;
-use std::fmt::Write;
 
 /// Shows the reports of a descriptor with their fields.
 #[derive(Clone, Copy)]
@@ -66,7 +63,7 @@ impl<'a> Fields<'a> {
         let same = SameReports::of(rt.alloc(), reports, self.shows_each)?;
         for (place, report) in reports.iter().enumerate() {
             if same.is_first(place) {
-                add_head(text, direction, reports, report, &same, place)?;
+                same.add_head(text, direction, reports, place)?;
                 self.show_fields(rt, text, report)?;
             }
         }
@@ -115,39 +112,4 @@ fn show_objects<R: Print>(
         }
     }
     Ok(())
-}
-
-/// Appends the line that names a report, and those with the same fields.
-fn add_head(
-    text: &mut String,
-    direction: Direction,
-    reports: &[RDescReport],
-    report: &RDescReport,
-    same: &SameReports,
-    place: usize,
-) -> Result<(), AllocError> {
-    if same.count(place) == 1 {
-        return add_head_of(text, direction, report);
-    }
-    same.add_title(text, direction, reports, place)?;
-    add_size(text, report)?;
-    text.push_str(" each\n")
-}
-
-/// Appends the line that names a report.
-pub(crate) fn add_head_of(
-    text: &mut String,
-    direction: Direction,
-    report: &RDescReport,
-) -> Result<(), AllocError> {
-    add_title(text, direction, report)?;
-    add_size(text, report)?;
-    text.push_str("\n")
-}
-
-/// Appends how many bits and bytes a report has.
-fn add_size(text: &mut String, report: &RDescReport) -> Result<(), AllocError> {
-    let (bits, bytes) = (report.size_in_bits(), report.size_in_bytes());
-    let (one, other) = (plural(bits), plural(bytes));
-    write!(text, ": {bits} bit{one}, {bytes} byte{other}")
 }

@@ -1,5 +1,4 @@
 //! `hid fields --linux`: each field with the event codes that Linux gives its usages.
-use crate::commands::fields::add_head_of;
 use crate::ending::Ending;
 use crate::world::World;
 use anyhow::Result;
@@ -11,7 +10,7 @@ use hid_items::items::ItemCursor;
 use hid_output::{add_json, flush, flush_piece};
 use hid_text::field_object::{RestObject, object_of};
 use hid_text::linux::{Answered, add_answers, add_lines, answers_of, objects_of};
-use hid_text::report::{FieldLine, around};
+use hid_text::report::{FieldLine, add_head, around};
 use hid_text::words::{add_field, add_spaces, indent_of};
 use hidreport::{Collection, Direction, Field, Group, Outline, OutlineReport, RDescReport, Report};
 use hidreport_linux::{Driver, InputDevices, Item, Unmapped};
@@ -100,7 +99,7 @@ impl Shown {
     ) -> Result<()> {
         let (outline, named) = parts;
         if !self.is_json {
-            add_head_of(&mut self.text, direction, report)?;
+            add_head(&mut self.text, direction, report)?;
         }
         let id = report.report_id().map_or(0, |id| u32::from(u8::from(id)));
         let application = self.reading.application(direction, id);
@@ -207,11 +206,7 @@ fn add_opened(
 /// The same descriptor with each item an array, whose fields have all usages that an item names.
 fn with_arrays(alloc: Global, bytes: &[u8]) -> Result<Vec<u8>, AllocError> {
     let mut arrays = Vec::from_slice(alloc, bytes)?;
-    let mut cursor = ItemCursor::new(bytes);
-    for _ in 0..bytes.len() {
-        let Some(entry) = cursor.next_item() else {
-            break;
-        };
+    for entry in ItemCursor::new(bytes) {
         let is_data = matches!(entry.bytes, [0x80..=0x83 | 0x90..=0x93 | 0xb0..=0xb3, _, ..]);
         if is_data && let Some(flags) = arrays.get_mut(entry.offset.saturating_add(1)) {
             *flags &= 0xfd;

@@ -5,7 +5,7 @@ use anyhow::Result;
 use hid_input::parsing::descriptor_by;
 use hid_input::settings::Settings;
 use hid_output::{flush, flush_piece, show};
-use hid_text::report::{Cell, Picture, Row, add_title, height_of, rows_of};
+use hid_text::report::{Cell, Picture, Row, add_title, height_of, more_rows, rows_of};
 use hid_text::words::{add_spaces, shortened};
 use hidreport::{Direction, RDescReport, ReportDescriptor};
 use std::alloc::AllocError;
@@ -102,7 +102,8 @@ fn add_report(
         add_row(text, row)?;
     }
     if left_out != 0 {
-        writeln!(text, "{left_out} more rows: --all shows them")?;
+        let said = more_rows(*text.allocator(), left_out)?;
+        writeln!(text, "{said}")?;
     }
     Ok(most.saturating_sub(rows.len()))
 }

@@ -1,29 +1,27 @@
 //! `hid page`: a page of HTML that shows a descriptor and its reports, and needs nothing else.
+use crate::commands::inputs::Inputs;
 use crate::ending::Ending;
 use crate::world::World;
 use anyhow::{Result, bail};
-use hid_input::input::{Given, descriptor_named};
-use hid_input::parsing::{check_length, with_advice};
+use hid_input::input::Given;
+use hid_input::parsing::{descriptor_within, with_advice};
 use hid_input::settings::Settings;
 use hid_output::flush;
 use hid_page::device_object::{add_device_object, add_fault_object, add_heading};
 use hid_page::field_blocks::show_fields;
-use hid_page::item_blocks::{show_item_objects, show_item_text, show_made_bits};
-use hid_page::left_out::{LeftOut, Most};
+use hid_page::item_blocks::{ItemBlocks, show_made_bits};
+use hid_page::left_out::{Most, show_notes};
 use hid_page::samples::{Streams, show_samples, streams_of};
 use hid_page::sheet::Sheet;
 use hid_page::shell::{AFTER_DATA, BEFORE_DATA, BEFORE_HEADING, BEFORE_TEXT, BEFORE_TITLE};
-use hidreport::{Direction, ParserError, ReportDescriptor};
+use hidreport::{ParserError, ReportDescriptor};
+use std::alloc::Global;
 
 /// Writes a page of HTML.
 #[derive(Drop)]
 pub struct Page<'a> {
-    /// The descriptor's input.
-    pub file: &'a str,
-    /// The reports' inputs; none where the descriptor's has them.
-    pub reports: Vec<&'a str>,
-    /// Which way the reports go.
-    pub direction: Direction,
+    /// The inputs.
+    pub inputs: Inputs<'a>,
     /// Whether nothing is left out.
     pub shows_all: bool,
 }
@@ -31,9 +29,8 @@ pub struct Page<'a> {
 impl<'a> Page<'a> {
     /// Writes the page; a descriptor that can't be read is refused behind it.
     pub fn run<R: World>(&self, rt: &R, settings: &Settings) -> Result<Ending> {
-        let given = descriptor_named(rt, settings, self.file)?;
+        let given = descriptor_within(rt, settings, self.inputs.file)?;
         let bytes = given.descriptor();
-        check_length(settings, bytes)?;
         match ReportDescriptor::try_from_with(rt.alloc(), bytes, settings.parse) {
             Ok(descriptor) => self.show_read(rt, settings, &given, &descriptor),
             Err(ParserError::OutOfMemory) => bail!("out of memory"),
@@ -44,13 +41,14 @@ impl<'a> Page<'a> {
         }
     }
 
-    /// What is put into the page at most.
-    fn most(&self) -> Most {
-        if self.shows_all {
+    /// A page in which nothing stands yet.
+    fn sheet(&self, alloc: Global) -> Sheet {
+        let most = if self.shows_all {
             Most::all()
         } else {
             Most::usual()
-        }
+        };
+        Sheet::new(alloc, most)
     }
 
     /// Writes the page of a descriptor that is read.
@@ -61,16 +59,15 @@ impl<'a> Page<'a> {
         given: &Given,
         descriptor: &ReportDescriptor,
     ) -> Result<Ending> {
-        let streams = streams_of(rt, settings, &self.reports)?;
-        let mut left_out = LeftOut::new(self.most());
-        let mut sheet = Sheet::new(rt.alloc());
-        self.show_items(rt, settings, given, None, &mut sheet, &mut left_out)?;
-        show_made_bits(rt, given.descriptor(), &mut sheet, left_out.most.items)?;
-        show_fields(rt, descriptor, &mut sheet, &mut left_out)?;
-        self.show_streams(rt, given, &streams, descriptor, &mut sheet, &mut left_out)?;
-        left_out.show(rt, given, &mut sheet)?;
-        self.end(rt, &mut sheet)?;
-        Ok(if left_out.unknown == 0 {
+        let streams = streams_of(rt, settings, &self.inputs.reports)?;
+        let mut sheet = self.sheet(rt.alloc());
+        self.show_items(rt, settings, given, None, &mut sheet)?;
+        show_made_bits(rt, given.descriptor(), &mut sheet)?;
+        show_fields(rt, descriptor, &mut sheet)?;
+        self.show_streams(rt, given, &streams, descriptor, &mut sheet)?;
+        show_notes(rt, given, &mut sheet)?;
+        end(rt, &mut sheet)?;
+        Ok(if sheet.left_out.unknown == 0 {
             Ending::Done
         } else {
             Ending::Refused
@@ -85,15 +82,14 @@ impl<'a> Page<'a> {
         given: &Given,
         fault: &ParserError,
     ) -> Result<()> {
-        let mut left_out = LeftOut::new(self.most());
-        let mut sheet = Sheet::new(rt.alloc());
-        self.show_items(rt, settings, given, Some(fault), &mut sheet, &mut left_out)?;
+        let mut sheet = self.sheet(rt.alloc());
+        self.show_items(rt, settings, given, Some(fault), &mut sheet)?;
         for id in ["made", "lines", "fields", "samples"] {
             sheet.begin(id)?;
             sheet.end()?;
         }
-        left_out.show(rt, given, &mut sheet)?;
-        self.end(rt, &mut sheet)
+        show_notes(rt, given, &mut sheet)?;
+        end(rt, &mut sheet)
     }
 
     /// Writes all that comes before the fields.
@@ -104,25 +100,29 @@ impl<'a> Page<'a> {
         given: &Given,
         fault: Option<&ParserError>,
         sheet: &mut Sheet,
-        left_out: &mut LeftOut,
     ) -> Result<()> {
         let bytes = given.descriptor();
+        let blocks = ItemBlocks {
+            settings,
+            bytes,
+            fault,
+        };
+        let file = self.inputs.file;
         sheet.text.push_str(BEFORE_TITLE)?;
-        add_heading(&mut sheet.text, given, self.file)?;
+        add_heading(&mut sheet.text, given, file)?;
         sheet.text.push_str(BEFORE_HEADING)?;
-        add_heading(&mut sheet.text, given, self.file)?;
+        add_heading(&mut sheet.text, given, file)?;
         sheet.text.push_str(BEFORE_TEXT)?;
-        show_item_text(rt, settings, bytes, fault, sheet, left_out.most.items)?;
+        blocks.show_text(rt, sheet)?;
         sheet.text.push_str(BEFORE_DATA)?;
         sheet.begin("device")?;
-        add_device_object(&mut sheet.lines, settings, given, self.file)?;
+        add_device_object(&mut sheet.lines, settings, given, file)?;
         if let Some(fault) = fault {
             add_fault_object(&mut sheet.lines, fault)?;
         }
         sheet.take(rt)?;
         sheet.end()?;
-        left_out.bytes = show_item_objects(rt, settings, bytes, fault, sheet, left_out.most.items)?;
-        Ok(())
+        blocks.show_objects(rt, sheet)
     }
 
     /// Writes the reports of the inputs that are named, or those beside the descriptor.
@@ -133,37 +133,21 @@ impl<'a> Page<'a> {
         streams: &Streams,
         descriptor: &ReportDescriptor,
         sheet: &mut Sheet,
-        left_out: &mut LeftOut,
     ) -> Result<()> {
+        let direction = self.inputs.direction;
         sheet.begin("samples")?;
-        if self.reports.is_empty() {
-            show_samples(
-                rt,
-                given,
-                given,
-                descriptor,
-                self.direction,
-                sheet,
-                left_out,
-            )?;
+        if self.inputs.reports.is_empty() {
+            show_samples(rt, given, given, descriptor, direction, sheet)?;
         }
         for stream in streams.inputs.iter() {
-            show_samples(
-                rt,
-                given,
-                stream,
-                descriptor,
-                self.direction,
-                sheet,
-                left_out,
-            )?;
+            show_samples(rt, given, stream, descriptor, direction, sheet)?;
         }
         Ok(sheet.end()?)
     }
+}
 
-    /// Writes the end of the page.
-    fn end<R: Print>(&self, rt: &R, sheet: &mut Sheet) -> Result<()> {
-        sheet.text.push_str(AFTER_DATA)?;
-        flush(rt, &mut sheet.text)
-    }
+/// Writes the end of the page.
+fn end<R: Print>(rt: &R, sheet: &mut Sheet) -> Result<()> {
+    sheet.text.push_str(AFTER_DATA)?;
+    flush(rt, &mut sheet.text)
 }

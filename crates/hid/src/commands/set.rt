@@ -60,6 +60,13 @@ struct Assignment<'a> {
     number: i64,
 }
 
+/// What is put into a field: its usage's number.
+#[derive(Clone, Copy)]
+struct Wish {
+    usage: Usage,
+    number: i64,
+}
+
 /// The report's id that a word says; none where reports have none.
 pub fn id_named(word: &str) -> Result<Option<ReportId>> {
     if word == "-" {
@@ -96,8 +103,7 @@ impl<'a> Set<'a> {
         check_size(report, settings)?;
         let mut written = Written::new(rt.alloc(), report, self.is_zero)?;
         for word in self.words.iter() {
-            self.put(rt, &mut written, word)
-                .context(format_args!("{word}"))?;
+            written.put_word(rt, word).context(format_args!("{word}"))?;
         }
         written.is_checking = true;
         for word in self.words.iter() {
@@ -105,28 +111,6 @@ impl<'a> Set<'a> {
         }
         written.tell_pressed(rt)?;
         self.target.write(rt, &written.bytes)
-    }
-
-    /// Puts the number of one name into the report; says where it is outside of the bounds.
-    fn put<R: AllocGlobal + Eprint>(
-        &self,
-        rt: &R,
-        written: &mut Written,
-        word: &str,
-    ) -> Result<()> {
-        let Some(assignment) = assignment_of(word) else {
-            bail!("isn't NAME=NUMBER");
-        };
-        let field = written.put(assignment)?;
-        match field {
-            Field::Variable(field) if is_outside(field, assignment.number) => {
-                let (low, high) = (field.logical_minimum, field.logical_maximum);
-                let word = escaped(rt.alloc(), word)?;
-                eprintln!(rt; "hid: {word}: outside of {low} to {high}, so it is no value")?;
-                Ok(())
-            }
-            _ => Ok(()),
-        }
     }
 }
 
@@ -203,6 +187,23 @@ impl<'a> Written<'a> {
         })
     }
 
+    /// Puts the number of one name into the report; says where it is outside of the bounds.
+    fn put_word<R: AllocGlobal + Eprint>(&mut self, rt: &R, word: &str) -> Result<()> {
+        let Some(assignment) = assignment_of(word) else {
+            bail!("isn't NAME=NUMBER");
+        };
+        let field = self.put(assignment)?;
+        match field {
+            Field::Variable(field) if is_outside(field, assignment.number) => {
+                let (low, high) = (field.logical_minimum, field.logical_maximum);
+                let word = escaped(rt.alloc(), word)?;
+                eprintln!(rt; "hid: {word}: outside of {low} to {high}, so it is no value")?;
+                Ok(())
+            }
+            _ => Ok(()),
+        }
+    }
+
     /// Puts a number into the field that has this usage, if there is one.
     fn put_wanted(
         &mut self,
@@ -219,7 +220,8 @@ impl<'a> Written<'a> {
                 continue;
             }
             if !self.is_checking || matches!(field, Field::Array(_)) {
-                put_number(field, &mut self.bytes, used, usage, assignment.number)?;
+                let number = assignment.number;
+                put_number(field, &mut self.bytes, used, Wish { usage, number })?;
             }
             return Ok(Some(field));
         }
@@ -326,16 +328,10 @@ fn holds(width: usize, is_signed: bool, number: i64) -> bool {
 
 /// Puts a number into a field, or a key into the next element of an array: by 1 it is pressed, by 0
 /// it isn't.
-fn put_number(
-    field: &Field,
-    bytes: &mut [u8],
-    used: &mut usize,
-    usage: Usage,
-    number: i64,
-) -> Result<()> {
+fn put_number(field: &Field, bytes: &mut [u8], used: &mut usize, wish: Wish) -> Result<()> {
     match field {
-        Field::Variable(field) => put_value(field, bytes, used, number),
-        Field::Array(field) => put_key(field, bytes, used, usage, number),
+        Field::Variable(field) => put_value(field, bytes, used, wish.number),
+        Field::Array(field) => put_key(field, bytes, used, wish),
         Field::Constant(_) => Ok(()),
     }
 }
@@ -354,23 +350,17 @@ fn put_value(field: &VariableField, bytes: &mut [u8], used: &mut usize, number: 
 }
 
 /// Puts a key into the next element of an array, if it isn't in one yet.
-fn put_key(
-    field: &ArrayField,
-    bytes: &mut [u8],
-    used: &mut usize,
-    usage: Usage,
-    number: i64,
-) -> Result<()> {
+fn put_key(field: &ArrayField, bytes: &mut [u8], used: &mut usize, wish: Wish) -> Result<()> {
     let (width, count) = (element_width(field), usize::from(field.report_count));
     ensure!(
         width <= WIDEST,
         "its elements have {width} bits, too many for a number"
     );
-    let Some(value) = field.value_of(usage) else {
+    let Some(value) = field.value_of(wish.usage) else {
         bail!("no value stands for it");
     };
     let is_pressed = has_value(field, bytes, *used, value);
-    match number {
+    match wish.number {
         0 if is_pressed => bail!("another word presses it"),
         1 if !is_pressed => {
             let s = plural(count);

@@ -9,13 +9,6 @@ use hid_output::show_bytes;
 use hid_text::report::tell_unknown;
 use std::alloc::{AllocError, Global};
 
-/// The types of events: one that makes a device, one with an input report, and one that ends it.
-const CREATE2: u32 = 11;
-
-const INPUT2: u32 = 12;
-
-const DESTROY: u32 = 1;
-
 /// How many bytes an event has on a processor of 64 bits, and the texts in one that makes a device:
 /// its name, where it is plugged in, and its serial number.
 const EVENT: usize = 4380;
@@ -28,6 +21,19 @@ const SERIAL: usize = 64;
 
 /// The most bytes of a descriptor, and of a report.
 const MOST: usize = 4096;
+
+/// An event, of those that are written.
+#[derive(Clone, Copy)]
+enum Event {
+    /// It makes a device.
+    Create,
+
+    /// It has an input report.
+    Input,
+
+    /// It ends the device.
+    Destroy,
+}
 
 /// Writes a recording as events.
 #[derive(Clone, Copy)]
@@ -61,7 +67,7 @@ impl<'a> Uhid<'a> {
                 unknown = unknown.saturating_add(1);
             }
         }
-        write_event(rt, begun(rt.alloc(), DESTROY)?)?;
+        write_event(rt, begun(rt.alloc(), Event::Destroy)?)?;
         tell_unknown(rt, unknown)?;
         Ok(if unknown == 0 {
             Ending::Done
@@ -90,7 +96,7 @@ fn create<R: AllocGlobal + Print + Eprint>(rt: &R, device: &Device) -> Result<()
         bail!("the descriptor has {count} bytes, and uhid takes 1 to {MOST}");
     };
     let ids = ids_of(device)?;
-    let mut event = begun(rt.alloc(), CREATE2)?;
+    let mut event = begun(rt.alloc(), Event::Create)?;
     add_text(rt, &mut event, device.name.as_deref(), "name", NAME)?;
     add_text(rt, &mut event, device.place.as_deref(), "place", PLACE)?;
     add_zeros(&mut event, NAME + PLACE + SERIAL + 4)?;
@@ -106,7 +112,7 @@ fn create<R: AllocGlobal + Print + Eprint>(rt: &R, device: &Device) -> Result<()
 
 /// Writes the event of an input report.
 fn write_report<R: AllocGlobal + Print>(rt: &R, report: &GivenReport) -> Result<()> {
-    let mut event = begun(rt.alloc(), INPUT2)?;
+    let mut event = begun(rt.alloc(), Event::Input)?;
     let size = size_of(report.bytes.len()).unwrap_or(0);
     event.extend_from_slice(&size.to_le_bytes())?;
     event.extend_from_slice(&report.bytes)?;
@@ -121,9 +127,14 @@ fn size_of(count: usize) -> Option<u16> {
     None
 }
 
-/// The beginning of an event.
-fn begun(alloc: Global, kind: u32) -> Result<Vec<u8>, AllocError> {
-    Vec::from_slice(alloc, &kind.to_le_bytes())
+/// The beginning of an event: the number of its type.
+fn begun(alloc: Global, event: Event) -> Result<Vec<u8>, AllocError> {
+    let number: u32 = match event {
+        Event::Create => 11,
+        Event::Input => 12,
+        Event::Destroy => 1,
+    };
+    Vec::from_slice(alloc, &number.to_le_bytes())
 }
 
 /// Writes an event at once, with zeros behind it up to its size: to the kernel what is written at

@@ -1,4 +1,5 @@
 //! `hid values`: the values of reports, by name.
+use crate::commands::inputs::Inputs;
 use crate::commands::report_time::add_stamp;
 use crate::ending::Ending;
 use crate::world::World;
@@ -15,21 +16,15 @@ use hid_text::value_object::add_value_objects;
 use hid_text::words::{
     add_array_name, add_measured, add_usage, add_usage_on_page, measured_value, word_of,
 };
-use hidreport::{
-    ArrayField, Direction, Field, RDescReport, Report, ReportDescriptor, VariableField,
-};
+use hidreport::{ArrayField, Field, RDescReport, Report, ReportDescriptor, VariableField};
 use std::alloc::AllocError;
 use std::fmt::Write;
 
 /// Shows the values of reports.
 #[derive(Drop)]
 pub struct Values<'a> {
-    /// The descriptor's input.
-    pub file: &'a str,
-    /// The reports' inputs; none where the descriptor's has them.
-    pub reports: Vec<&'a str>,
-    /// Which way the reports go.
-    pub direction: Direction,
+    /// The inputs.
+    pub inputs: Inputs<'a>,
     /// Whether only keys and buttons that are down are shown.
     pub is_down: bool,
     /// Whether each report has its number and its time before it.
@@ -39,13 +34,13 @@ pub struct Values<'a> {
 impl<'a> Values<'a> {
     /// Shows the values of all reports.
     pub fn run<R: World>(&self, rt: &R, settings: &Settings) -> Result<Ending> {
-        let given = descriptors_named(rt, settings, self.file)?;
-        if self.reports.is_empty() {
+        let given = descriptors_named(rt, settings, self.inputs.file)?;
+        if self.inputs.reports.is_empty() {
             ensure!(!given.reports.is_empty(), "no report");
             self.show_all(rt, settings, &given, &given)?;
             return Ok(Ending::Done);
         }
-        for (index, name) in self.reports.iter().enumerate() {
+        for (index, name) in self.inputs.reports.iter().enumerate() {
             if self.is_down && index != 0 {
                 show(rt, "\n")?;
             }
@@ -67,7 +62,7 @@ impl<'a> Values<'a> {
         let mut text = String::new(rt.alloc());
         let known = all_parsed(rt.alloc(), settings, given)?;
         for descriptor in known.iter() {
-            tell_mixed(rt, descriptor, self.direction)?;
+            tell_mixed(rt, descriptor, self.inputs.direction)?;
         }
         for (report, number) in reports.reports.iter().zip(1u64..) {
             let place = given.place_of(reports.form, report);
@@ -96,7 +91,7 @@ impl<'a> Values<'a> {
         text: &mut String,
         number: u64,
     ) -> Result<()> {
-        let (direction, bytes) = (self.direction, given.bytes.as_slice());
+        let (direction, bytes) = (self.inputs.direction, given.bytes.as_slice());
         let Some(report) = descriptor.find_report(direction, bytes) else {
             let mut known = String::new(*text.allocator());
             add_reports(&mut known, descriptor, direction)?;
@@ -131,7 +126,7 @@ impl<'a> Values<'a> {
         given: &GivenReport,
     ) -> Result<()> {
         let time = given.time.as_deref().filter(|_time| self.has_times);
-        add_value_objects(text, self.direction, report, &given.bytes, time)
+        add_value_objects(text, self.inputs.direction, report, &given.bytes, time)
     }
 }
 

@@ -136,33 +136,16 @@ impl Form {
 
     /// The form of a text whose first line that says something is this one.
     fn of_line(line: &str) -> Option<Form> {
-        if let Some(form) = Form::of_program(line) {
-            Some(form)
-        } else if is_python_line(line) {
-            Some(Form::Python)
-        } else if is_source_line(line) {
-            Some(Form::Source)
-        } else if is_hex_line(line) {
-            Some(Form::Hex)
-        } else {
-            None
-        }
-    }
-
-    /// The same of what only programs write.
-    fn of_program(line: &str) -> Option<Form> {
-        if is_recorder_line(line) {
-            Some(Form::Recorder)
-        } else if is_head(line) {
-            Some(Form::Dump)
-        } else if is_dump_line(line) || is_log_line(line) {
-            Some(Form::Offsets)
-        } else if is_libinput_line(line) {
-            Some(Form::Libinput)
-        } else if is_lsusb_line(line) {
-            Some(Form::Lsusb)
-        } else {
-            None
+        match line {
+            _ if is_recorder_line(line) => Some(Form::Recorder),
+            _ if is_head(line) => Some(Form::Dump),
+            _ if is_dump_line(line) || is_log_line(line) => Some(Form::Offsets),
+            _ if is_libinput_line(line) => Some(Form::Libinput),
+            _ if is_lsusb_line(line) => Some(Form::Lsusb),
+            _ if is_python_line(line) => Some(Form::Python),
+            _ if is_source_line(line) => Some(Form::Source),
+            _ if is_hex_line(line) => Some(Form::Hex),
+            _ => None,
         }
     }
 

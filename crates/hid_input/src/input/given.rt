@@ -1,5 +1,5 @@
 //! What an input holds: devices with their descriptors, and reports.
-use crate::input::form::Form;
+use crate::input::form::{Form, Wanted};
 use anyhow::{Result, bail, ensure};
 use std::alloc::{AllocError, Global};
 
@@ -113,20 +113,17 @@ impl Device {
     fn set(&mut self, part: Part, text: String) -> Result<()> {
         let number = self.number;
         match part {
-            Part::Name => put(&mut self.name, text, number, "name"),
-            Part::Place => put(&mut self.place, text, number, "place"),
-            Part::Ids => put(&mut self.ids, text, number, "ids"),
+            Part::Name => put(&mut self.name, text, number, "another name"),
+            Part::Place => put(&mut self.place, text, number, "another place"),
+            Part::Ids => put(&mut self.ids, text, number, "other ids"),
         }
     }
 }
 
 /// Puts what is said of a device where nothing else is.
-fn put(slot: &mut Option<String>, text: String, number: usize, what: &str) -> Result<()> {
+fn put(slot: &mut Option<String>, text: String, number: usize, other: &str) -> Result<()> {
     if let Some(own) = slot.as_deref() {
-        ensure!(
-            own == text.as_str(),
-            "device {number} has another {what} already"
-        );
+        ensure!(own == text.as_str(), "device {number} has {other} already");
     }
     *slot = Some(text);
     Ok(())
@@ -207,6 +204,19 @@ impl Found {
             }
         }
         Ok(())
+    }
+
+    /// Takes the bytes of a list, which may have a name: a report, or the descriptor of a device
+    /// of this name.
+    pub fn add_list(&mut self, wanted: Wanted, name: &str, bytes: Vec<u8>) -> Result<()> {
+        if wanted == Wanted::Reports {
+            return Ok(self.add_report(GivenReport::new(bytes))?);
+        }
+        let number = self.devices.len();
+        if !name.is_empty() {
+            self.set(number, Part::Name, name)?;
+        }
+        self.add_descriptor(number, bytes)
     }
 
     /// The number of the device with this name, which is made known.

@@ -4,6 +4,7 @@ use crate::input::given::Given;
 use crate::input::machine::{machine_device, node_meant};
 use crate::input::mending::mend;
 use crate::input::whole::{given_of, text_of};
+use crate::reads::Reads;
 use crate::settings::{LONGEST_INPUT, Settings};
 use anyhow::{Result, bail, ensure};
 use hid_output::escaped;
@@ -89,11 +90,13 @@ pub fn text_named<R: AllocGlobal + Files + Input>(rt: &R, name: &str) -> Result<
 /// - those of `bytes_named`;
 /// - a line isn't one of the input's form, or a text has none;
 /// - there is no descriptor, or none of the device that is meant.
-pub fn descriptors_named<R: AllocGlobal + Files + Input + Eprint>(
-    rt: &R,
-    settings: &Settings,
-    name: &str,
-) -> Result<Given> {
+pub fn descriptors_named<R: Reads>(rt: &R, settings: &Settings, name: &str) -> Result<Given> {
+    let given = described(rt, settings, name)?;
+    chosen(rt, settings, name, given, settings.device)
+}
+
+/// All that an input has, whose descriptors are asked for.
+fn described<R: Reads>(rt: &R, settings: &Settings, name: &str) -> Result<Given> {
     let node = node_named(rt, settings, name)?;
     if node.as_str() != name {
         tell_node(rt, name, node.as_str())?;
@@ -108,7 +111,20 @@ pub fn descriptors_named<R: AllocGlobal + Files + Input + Eprint>(
         tell_form(rt, name, given.form)?;
     }
     tell_notes(rt, name, &given)?;
-    choose(&mut given, settings.device)?;
+    Ok(given)
+}
+
+/// What is left of an input: the devices that have a descriptor, or the one that is meant, mended
+/// where that is asked for.
+fn chosen<R: Reads>(
+    rt: &R,
+    settings: &Settings,
+    name: &str,
+    given: Given,
+    device: Option<usize>,
+) -> Result<Given> {
+    let mut given = given;
+    choose(&mut given, device)?;
     if settings.is_lenient {
         mend(rt, settings, name, &mut given)?;
     }
@@ -142,15 +158,29 @@ fn name_device<R: AllocGlobal + Files>(
 ///
 /// - those of `descriptors_named`;
 /// - there are several devices, and none is meant.
-pub fn descriptor_named<R: AllocGlobal + Files + Input + Eprint>(
-    rt: &R,
-    settings: &Settings,
-    name: &str,
-) -> Result<Given> {
+pub fn descriptor_named<R: Reads>(rt: &R, settings: &Settings, name: &str) -> Result<Given> {
     let given = descriptors_named(rt, settings, name)?;
+    one_alone(rt.alloc(), given)
+}
+
+/// As `descriptor_named`, beside another input: the device that is meant is one of that, where this
+/// one's form has one device alone.
+pub fn given_beside<R: Reads>(rt: &R, settings: &Settings, name: &str) -> Result<Given> {
+    let given = described(rt, settings, name)?;
+    let device = if given.form.has_one_device() {
+        None
+    } else {
+        settings.device
+    };
+    let given = chosen(rt, settings, name, given, device)?;
+    one_alone(rt.alloc(), given)
+}
+
+/// The same, if it has one device.
+fn one_alone(alloc: Global, given: Given) -> Result<Given> {
     let count = given.devices.len();
     if count != 1 {
-        let list = listed(rt.alloc(), &given)?;
+        let list = listed(alloc, &given)?;
         bail!("holds {count} devices: say --device N: {list}");
     }
     Ok(given)
@@ -163,11 +193,7 @@ pub fn descriptor_named<R: AllocGlobal + Files + Input + Eprint>(
 /// - those of `bytes_named`;
 /// - a line isn't one of the input's form, or a text has none;
 /// - there is no report.
-pub fn reports_named<R: AllocGlobal + Files + Input + Eprint>(
-    rt: &R,
-    settings: &Settings,
-    name: &str,
-) -> Result<Given> {
+pub fn reports_named<R: Reads>(rt: &R, settings: &Settings, name: &str) -> Result<Given> {
     let bytes = bytes_named(rt, name)?;
     let given = given_of(rt.alloc(), bytes, settings.report_form, Wanted::Reports)?;
     if settings.report_form.is_none() {
@@ -208,9 +234,6 @@ fn choose(given: &mut Given, device: Option<usize>) -> Result<()> {
     let Some(number) = device else {
         return Ok(());
     };
-    if given.form.has_one_device() {
-        return Ok(());
-    }
     if !given.devices.iter().any(|it| it.number == number) {
         let list = listed(alloc, given)?;
         bail!("has no device {number}, but {list}");

@@ -1,10 +1,10 @@
 //! A descriptor in the macros of Linux's `hid_report_helpers.h`, of udev-hid-bpf.
 use crate::items::{ItemCursor, ItemState, PlacedItem};
-use crate::target::source::{add_numbers, add_tabs};
+use crate::target::source::add_tabs;
 use crate::target::tinyusb::number_of;
 use anyhow::Result;
 use hid_output::macros::{NUMBERS, RANGES, UNITS, name_in, page_named, usage_header, usage_named};
-use hid_output::{flush, flush_piece};
+use hid_output::{add_numbers, flush, flush_piece};
 use hid_text::words::add_item;
 use hidreport::hid::{GlobalItem, ItemType, MainItem};
 use std::alloc::{AllocError, Global};
@@ -25,7 +25,7 @@ pub fn write_bpf<R: AllocGlobal + Print>(rt: &R, bytes: &[u8]) -> Result<()> {
     let mut cursor = ItemCursor::new(bytes);
     text.push_str("static const __u8 report_descriptor[] = {\n")?;
     for _ in 0..bytes.len() {
-        let Some(entry) = cursor.next_item() else {
+        let Some(entry) = cursor.next() else {
             break;
         };
         if is_nested && is_end(&entry.item) {
@@ -36,7 +36,7 @@ pub fn write_bpf<R: AllocGlobal + Print>(rt: &R, bytes: &[u8]) -> Result<()> {
             depth = depth.saturating_add(usize::from(!is_end(&entry.item)));
         } else if add_range(&mut text, entry.bytes, cursor.rest())? {
             // No bound changes what is written of other items.
-            let _maximum = cursor.next_item();
+            let _maximum = cursor.next();
         } else {
             add_code(&mut text, &entry, &state)?;
         }
@@ -66,10 +66,7 @@ fn is_end(item: &ItemType) -> bool {
 fn is_nested(alloc: Global, bytes: &[u8]) -> Result<bool, AllocError> {
     let mut ends = Vec::new(alloc);
     let mut cursor = ItemCursor::new(bytes);
-    for _ in 0..bytes.len() {
-        let Some(entry) = cursor.next_item() else {
-            break;
-        };
+    for entry in cursor.by_ref() {
         match entry.bytes {
             [0xa1, _kind] => ends.push(0xc0u8)?,
             [0xa4] => ends.push(0xb4)?,

@@ -1,7 +1,7 @@
 //! Items in the macros of LUFA's `HIDReportData.h`, which QMK has, too.
-use crate::target::source::add_numbers;
-use crate::target::tinyusb::{add_flag, number_of};
-use hid_output::macros::{LUFA_FLAGS, lufa_name};
+use crate::target::tinyusb::number_of;
+use hid_output::add_numbers;
+use hid_output::macros::{Header, lufa_name};
 use std::alloc::AllocError;
 use std::fmt::Write;
 
@@ -48,9 +48,5 @@ fn add_number(text: &mut String, header: u8, number: u32) -> Result<(), AllocErr
     if is_odd || !matches!(header & 0xfc, 0x80 | 0x90 | 0xb0) {
         return write!(text, "0x{number:02x}");
     }
-    for (flag, set, unset) in &LUFA_FLAGS {
-        let name = if number & *flag == 0 { *unset } else { *set };
-        add_flag(text, *flag, name)?;
-    }
-    Ok(())
+    Header::Lufa.add_flags(text, number)
 }

@@ -1,21 +1,15 @@
 //! What a report's bytes are written as.
-use crate::target::source::add_numbers;
-use crate::target::{add_counted, write_bytes};
+use crate::target::{OF_REPORTS, TARGETS, add_counted, write_bytes};
 use anyhow::Result;
-use hid_output::{add_bytes, flush};
+use hid_output::{add_bytes, add_numbers, flush};
 use std::alloc::AllocError;
 use std::fmt::Write;
 
 /// The names of what a report may be written as.
-pub static REPORT_TARGETS: [&str; 7] = [
-    "hex",
-    "c",
-    "rust",
-    "bytes",
-    "recording",
-    "python",
-    "kernel",
-];
+pub fn report_targets() -> &'static [&'static str] {
+    let (names, _others) = TARGETS.split_at(OF_REPORTS);
+    names
+}
 
 /// What a report is written as.
 #[derive(Clone, Copy, PartialEq)]

@@ -4,7 +4,7 @@ use crate::target::lufa::add_lufa_item;
 use crate::target::tinyusb::add_tinyusb_item;
 use crate::target::zephyr::add_zephyr_item;
 use anyhow::Result;
-use hid_output::{flush, flush_piece};
+use hid_output::{add_numbers, flush, flush_piece};
 use hid_text::words::{add_depth, add_item, add_spaces, indent_of};
 use std::alloc::AllocError;
 use std::fmt::Write;
@@ -83,10 +83,7 @@ impl Source {
     ) -> Result<()> {
         let mut state = ItemState::new(rt.alloc());
         let mut cursor = ItemCursor::new(bytes);
-        for _ in 0..bytes.len() {
-            let Some(entry) = cursor.next_item() else {
-                break;
-            };
+        for entry in cursor.by_ref() {
             self.add_code(text, &entry, &state)?;
             self.add_remark(text, &entry, &state)?;
             state.pass(&entry)?;
@@ -164,14 +161,4 @@ fn add_column(text: &mut String, bytes: &[u8]) -> Result<(), AllocError> {
     let mut numbers = String::new(*text.allocator());
     add_numbers(&mut numbers, bytes)?;
     write!(text, "{numbers:<30}")
-}
-
-/// Appends bytes as numbers of a list.
-pub fn add_numbers(text: &mut String, bytes: &[u8]) -> Result<(), AllocError> {
-    let mut gap = "";
-    for byte in bytes {
-        write!(text, "{gap}0x{byte:02x},")?;
-        gap = " ";
-    }
-    Ok(())
 }

@@ -1,7 +1,7 @@
 //! Items in the macros of TinyUSB's `src/class/hid/hid.h`.
-use crate::target::source::add_numbers;
+use hid_output::add_numbers;
 use hid_output::macros::{
-    FLAGS, KINDS, OF_A_BYTE, OF_EACH_SIZE, PAGES, REPORT_ID, USAGE_PAGE, WITHOUT, name_in,
+    Header, KINDS, OF_A_BYTE, OF_EACH_SIZE, PAGES, REPORT_ID, USAGE_PAGE, WITHOUT, name_in,
 };
 use std::alloc::AllocError;
 use std::fmt::Write;
@@ -33,7 +33,7 @@ fn add_call(text: &mut String, name: &str, header: u8, data: &[u8]) -> Result<()
         (_, USAGE_PAGE) => add_named(text, &PAGES, number)?,
         // An Input has no bit 7 (Section 6.2.2.5).
         (0x81, _) if number > 0x7f => write!(text, "0x{number:02x}")?,
-        (0x81 | 0x91 | 0xb1, _) => add_flags(text, number)?,
+        (0x81 | 0x91 | 0xb1, _) => Header::TinyUsb.add_flags(text, number)?,
         _ => write!(text, "0x{number:02x}")?,
     }
     if size != 1 {
@@ -63,21 +63,4 @@ fn add_named(
         }
     }
     write!(text, "0x{number:02x}")
-}
-
-/// Appends the flags of an Input, an Output or a Feature.
-fn add_flags(text: &mut String, number: u32) -> Result<(), AllocError> {
-    for (flag, set, unset) in &FLAGS {
-        add_flag(text, *flag, if number & *flag == 0 { *unset } else { *set })?;
-    }
-    Ok(())
-}
-
-/// Appends the name of a flag, where it has one, behind those of the bits before it.
-pub fn add_flag(text: &mut String, flag: u32, name: &str) -> Result<(), AllocError> {
-    if name.is_empty() {
-        return Ok(());
-    }
-    let gap = if flag == 1 { "" } else { " | " };
-    write!(text, "{gap}{name}")
 }

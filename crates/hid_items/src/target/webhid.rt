@@ -53,11 +53,7 @@ struct Collections {
 pub fn collections_of(alloc: Global, bytes: &[u8]) -> Result<String> {
     let mut collections = Collections::new(alloc);
     collections.text.push_str("[")?;
-    let mut cursor = ItemCursor::new(bytes);
-    for _ in 0..bytes.len() {
-        let Some(entry) = cursor.next_item() else {
-            break;
-        };
+    for entry in ItemCursor::new(bytes) {
         collections.pass(&entry)?;
         collections.state.pass(&entry)?;
     }

@@ -21,16 +21,3 @@ pub fn number_in(table: &[(u32, &'static str)], name: &str) -> Option<u32> {
     let row = table.iter().find(|row| row.1 == name)?;
     Some(row.0)
 }
-
-/// The flag that a name in a table says is set, or 0 where it says that one isn't.
-pub fn flag_in(table: &[(u32, &'static str, &'static str)], name: &str) -> Option<u32> {
-    for (flag, set, unset) in table {
-        if *set == name {
-            return Some(*flag);
-        }
-        if *unset == name && !name.is_empty() {
-            return Some(0);
-        }
-    }
-    None
-}

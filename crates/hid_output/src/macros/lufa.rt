@@ -1,5 +1,6 @@
 //! The macros of LUFA's `HIDReportData.h`, which QMK has too, and the names in their arguments.
-use crate::macros::lookup::{flag_in, header_in, name_in, number_in};
+use crate::macros::flags::Header;
+use crate::macros::lookup::{header_in, name_in};
 use crate::macros::{Arguments, Macro};
 
 /// The macros, by the first byte of their items without its size.
@@ -26,29 +27,6 @@ static MACROS: [(u8, &str); 20] = [
     (0x28, "HID_RI_USAGE_MAXIMUM"),
 ];
 
-/// The flags by their bits, and what stands for one that isn't set.
-pub static LUFA_FLAGS: [(u32, &str, &str); 9] = [
-    (0x01, "HID_IOF_CONSTANT", "HID_IOF_DATA"),
-    (0x02, "HID_IOF_VARIABLE", "HID_IOF_ARRAY"),
-    (0x04, "HID_IOF_RELATIVE", "HID_IOF_ABSOLUTE"),
-    (0x08, "HID_IOF_WRAP", ""),
-    (0x10, "HID_IOF_NON_LINEAR", ""),
-    (0x20, "HID_IOF_NO_PREFERRED_STATE", ""),
-    (0x40, "HID_IOF_NULLSTATE", ""),
-    (0x80, "HID_IOF_VOLATILE", ""),
-    (0x100, "HID_IOF_BUFFERED_BYTES", ""),
-];
-
-/// The flags that aren't written, since they aren't set.
-static OTHER_FLAGS: [(u32, &str); 6] = [
-    (0, "HID_IOF_NO_WRAP"),
-    (0, "HID_IOF_LINEAR"),
-    (0, "HID_IOF_PREFERRED_STATE"),
-    (0, "HID_IOF_NO_NULL_POSITION"),
-    (0, "HID_IOF_NON_VOLATILE"),
-    (0, "HID_IOF_BITFIELD"),
-];
-
 /// The macro with this name.
 pub fn lufa_macro(name: &str) -> Option<Macro> {
     let header = header_in(&MACROS, name)?;
@@ -62,5 +40,5 @@ pub fn lufa_name(header: u8) -> Option<&'static str> {
 
 /// The number that a name in an argument stands for.
 pub fn lufa_number(name: &str) -> Option<u32> {
-    flag_in(&LUFA_FLAGS, name).or_else(|| number_in(&OTHER_FLAGS, name))
+    Header::Lufa.flag_named(name)
 }

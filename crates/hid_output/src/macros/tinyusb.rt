@@ -1,5 +1,6 @@
 //! The macros of TinyUSB's `src/class/hid/hid.h`, and the names in their arguments.
-use crate::macros::lookup::{flag_in, header_in, number_in};
+use crate::macros::flags::Header;
+use crate::macros::lookup::{header_in, number_in};
 use crate::macros::{Arguments, Macro};
 
 /// The macros without a number.
@@ -40,29 +41,6 @@ pub const REPORT_ID: u8 = 0x85;
 
 /// That of a Usage Page, without its size.
 pub const USAGE_PAGE: u8 = 0x04;
-
-/// The flags by their bits, and what stands for one that isn't set.
-pub static FLAGS: [(u32, &str, &str); 8] = [
-    (0x01, "HID_CONSTANT", "HID_DATA"),
-    (0x02, "HID_VARIABLE", "HID_ARRAY"),
-    (0x04, "HID_RELATIVE", "HID_ABSOLUTE"),
-    (0x08, "HID_WRAP", ""),
-    (0x10, "HID_NONLINEAR", ""),
-    (0x20, "HID_PREFERRED_NO", ""),
-    (0x40, "HID_NULL_STATE", ""),
-    (0x80, "HID_VOLATILE", ""),
-];
-
-/// The flags that aren't written: those that aren't set, and that of a second byte.
-static OTHER_FLAGS: [(u32, &str); 7] = [
-    (0, "HID_WRAP_NO"),
-    (0, "HID_LINEAR"),
-    (0, "HID_PREFERRED_STATE"),
-    (0, "HID_NO_NULL_POSITION"),
-    (0, "HID_NON_VOLATILE"),
-    (0, "HID_BITFIELD"),
-    (0x100, "HID_BUFFERED_BYTES"),
-];
 
 /// The kinds of collections, and the usage pages, by their numbers.
 pub static KINDS: [(u32, &str); 7] = [
@@ -133,8 +111,8 @@ pub fn tinyusb_macro(name: &str) -> Option<Macro> {
 
 /// The number that a name in an argument stands for.
 pub fn tinyusb_number(name: &str) -> Option<u32> {
-    flag_in(&FLAGS, name)
-        .or_else(|| number_in(&OTHER_FLAGS, name))
+    Header::TinyUsb
+        .flag_named(name)
         .or_else(|| number_in(&KINDS, name))
         .or_else(|| number_in(&PAGES, name))
         .or_else(|| number_in(&DESKTOP, name.strip_prefix("HID_USAGE_DESKTOP_")?))

@@ -35,6 +35,16 @@ impl Row {
     }
 }
 
+/// What is said where so many rows are left out.
+pub fn more_rows(alloc: Global, count: usize) -> Result<String, AllocError> {
+    let (rows, them) = if count == 1 {
+        ("row", "it")
+    } else {
+        ("rows", "them")
+    };
+    format!(in alloc; "{count} more {rows}: --all shows {them}")
+}
+
 /// The rows so far.
 #[derive(Drop)]
 struct Rows {

@@ -2,6 +2,7 @@
 use crate::report::alike_fields::are_fields_alike;
 use crate::report::field_line::{are_collections_alike, around};
 use crate::report::id_runs::IdRuns;
+use crate::report::{add_head, add_size};
 use crate::words::title_of;
 use hidreport::{Collection, Direction, Field, RDescReport, Report};
 use std::alloc::{AllocError, Global};
@@ -41,21 +42,38 @@ impl SameReports {
     }
 
     /// How many reports have the fields of the one at this place.
-    pub fn count(&self, place: usize) -> usize {
+    fn count(&self, place: usize) -> usize {
         self.firsts.iter().filter(|first| **first == place).count()
     }
 
-    /// Appends the direction of the reports that have the fields of the one at this place, and their
-    /// ids.
-    pub fn add_title(
+    /// Appends the line that names the reports that have the fields of the one at this place.
+    pub fn add_head(
         &self,
         text: &mut String,
         direction: Direction,
         reports: &[RDescReport],
         place: usize,
     ) -> Result<(), AllocError> {
+        let Some(report) = reports.get(place) else {
+            return Ok(());
+        };
+        if self.count(place) == 1 {
+            return add_head(text, direction, report);
+        }
         text.push_str(title_of(direction))?;
         text.push_str("s")?;
+        self.add_ids(text, reports, place)?;
+        add_size(text, report)?;
+        text.push_str(" each\n")
+    }
+
+    /// Appends the ids of the reports that have the fields of the one at this place.
+    fn add_ids(
+        &self,
+        text: &mut String,
+        reports: &[RDescReport],
+        place: usize,
+    ) -> Result<(), AllocError> {
         let mut ids = IdRuns::new();
         for (report, first) in reports.iter().zip(self.firsts.iter()) {
             if *first == place

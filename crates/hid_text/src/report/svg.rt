@@ -1,6 +1,6 @@
 //! The bits of reports as a picture.
 use crate::report::add_title;
-use crate::report::rows::{Cell, Row, rows_of};
+use crate::report::rows::{Cell, Row, more_rows, rows_of};
 use crate::words::{CUT, shortened};
 use hidreport::{Direction, RDescReport};
 use std::alloc::{AllocError, Global};
@@ -90,7 +90,7 @@ impl Picture {
         }
         self.rows = self.rows.saturating_sub(rows.len());
         if left_out != 0 {
-            let said = format!(in self.alloc; "{left_out} more rows: --all shows them")?;
+            let said = more_rows(self.alloc, left_out)?;
             add_text(&mut self.body, LEFT, self.top, "start", &said)?;
             self.go_down(ROW);
         }

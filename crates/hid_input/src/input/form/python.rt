@@ -4,7 +4,7 @@
 use crate::input::form::Wanted;
 use crate::input::form::number_list::NumberList;
 use crate::input::form::python_string::{add_digit_pairs, add_literal};
-use crate::input::given::{Found, GivenReport, Part};
+use crate::input::given::Found;
 use anyhow::{Result, bail, ensure};
 use std::alloc::Global;
 use std::mem;
@@ -306,14 +306,7 @@ impl PythonLines {
             ensure!(numbers.is_empty(), "numbers stand beside strings");
             strings
         };
-        if self.wanted == Wanted::Reports {
-            return Ok(found.add_report(GivenReport::new(bytes))?);
-        }
-        let number = found.devices.len();
-        if !self.name.is_empty() {
-            found.set(number, Part::Name, self.name.as_str())?;
-        }
-        found.add_descriptor(number, bytes)
+        found.add_list(self.wanted, self.name.as_str(), bytes)
     }
 
     /// Looks whether the last list is whole.

@@ -5,7 +5,7 @@ use crate::input::form::Wanted;
 use crate::input::form::hex_text::without_prefix;
 use crate::input::form::item_list::{ItemList, begins_as_element, begins_as_item};
 use crate::input::form::remarks::Remarks;
-use crate::input::given::{Found, GivenReport, Part};
+use crate::input::given::Found;
 use anyhow::{Result, bail, ensure};
 use std::alloc::Global;
 
@@ -192,14 +192,7 @@ impl SourceLines {
         if let Some(said) = self.said {
             ensure!(got == said, "says {said} bytes, and has {got}");
         }
-        if self.wanted == Wanted::Reports {
-            return Ok(found.add_report(GivenReport::new(bytes))?);
-        }
-        let number = found.devices.len();
-        if !self.name.is_empty() {
-            found.set(number, Part::Name, self.name.as_str())?;
-        }
-        found.add_descriptor(number, bytes)
+        found.add_list(self.wanted, self.name.as_str(), bytes)
     }
 
     /// Looks whether the last array is whole; elements alone are.
