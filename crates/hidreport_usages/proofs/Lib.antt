@@ -10,4 +10,3 @@ pub mod PageLemmas
 pub mod PageTable
 pub mod Ranks
 pub mod UsageTable
-pub mod WriteLemmas

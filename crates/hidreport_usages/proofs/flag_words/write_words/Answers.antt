@@ -1,6 +1,6 @@
 use Rattle.std.proofs.Common.{ap}
 use Rattle.hidreport_usages.specs.FlagWords.{flag_text}
-use Rattle.hidreport_usages.proofs.WriteLemmas.{again, plainly, then}
+use Rattle.hidreport_types.proofs.WriteLemmas.{again, plainly, then}
 use Rattle.hidreport_usages.proofs.flag_words.write_words.Goals as goal
 
 pub returns : goal.returns

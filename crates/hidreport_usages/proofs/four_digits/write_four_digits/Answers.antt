@@ -1,6 +1,6 @@
 use Rattle.std.proofs.Common.{◌≡◌, ◌++◌, refl}
 use Rattle.hidreport_usages.specs.Digits.{four_digits}
-use Rattle.hidreport_usages.proofs.WriteLemmas.{again, then}
+use Rattle.hidreport_types.proofs.WriteLemmas.{again, then}
 use Rattle.hidreport_usages.proofs.four_digits.write_four_digits.Goals as goal
 
 -- four texts of one digit each

@@ -1,5 +1,5 @@
 use Rattle.std.proofs.Common.{◌++◌, ap}
-use Rattle.hidreport_usages.proofs.WriteLemmas.{again, then}
+use Rattle.hidreport_types.proofs.WriteLemmas.{again, then}
 use Rattle.hidreport_usages.proofs.usage.write_counted.Goals as goal
 
 pub returns-clause-styled : goal.returns-clause-styled

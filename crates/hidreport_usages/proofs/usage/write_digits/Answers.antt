@@ -1,4 +1,4 @@
-use Rattle.hidreport_usages.proofs.WriteLemmas.{then}
+use Rattle.hidreport_types.proofs.WriteLemmas.{then}
 use Rattle.hidreport_usages.proofs.usage.write_digits.Goals as goal
 
 pub returns-clause-styled : goal.returns-clause-styled

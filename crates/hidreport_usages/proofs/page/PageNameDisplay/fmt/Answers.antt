@@ -1,6 +1,6 @@
 use Rattle.std.proofs.Common.{ap, sym}
 use Rattle.hidreport_usages.specs.Names.{page_text}
-use Rattle.hidreport_usages.proofs.WriteLemmas.{again, then}
+use Rattle.hidreport_types.proofs.WriteLemmas.{again, then}
 use Rattle.hidreport_usages.proofs.page.PageNameDisplay.fmt.Goals as goal
 
 pub returns-in_ok-write_str-in-Vendor-clause-styled :
