@@ -53,6 +53,5 @@ pub fn scaled_values_lie_on_a_line()
 pub fn blank_reports_have_their_id_alone()
     ensures size { (id : Option ℕ) (size : ℕ) → length (blank_bytes id size) ≡ (size + 7) / 8 }
     ensures id { (id size : ℕ) → 0 < size → slice_get (blank_bytes (Some id) size) 0 ≡ Some id }
-    ensures bits { (id : Option ℕ) (size n : ℕ) → id_bits id ≤ n
-        → bit (blank_bytes id size) n ≡ 0 }
+    ensures bits { (id : Option ℕ) (size n : ℕ) → id_bits id ≤ n → bit (blank_bytes id size) n ≡ 0 }
 {}

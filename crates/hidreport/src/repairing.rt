@@ -73,7 +73,8 @@ pub fn repair(alloc: Global, bytes: &[u8], options: RepairOptions) -> Result<Rep
     repaired_bytes(alloc, bytes, options)
 }
 
-/// What `repair` answers, by the definition alone: what is read needs no repair.
+/// What `repair` answers, by the definition alone: what is read needs no repair; of all else each
+/// piece is mended, and it is read then.
 fn repaired_bytes(
     alloc: Global,
     bytes: &[u8],
@@ -85,7 +86,14 @@ fn repaired_bytes(
         let unchanged = Repaired::unchanged(alloc, bytes)?;
         return Ok(unchanged);
     }
-    mended_bytes(alloc, bytes, options)
+    if let Some(offset) = options.parse.past_longest(bytes.len()) {
+        return Err(ParserError::BudgetExceeded { offset });
+    }
+    let mut pieces = pieces(alloc, bytes, options.leave_out_cut_short)?;
+    mend_all(alloc, pieces.as_mut_slice(), options)?;
+    let repaired = Repaired::of(alloc, pieces.as_slice())?;
+    Outline::try_from_with(alloc, repaired.bytes.as_slice(), options.parse)?;
+    Ok(repaired)
 }
 
 /// Whether bytes are read by these options.
@@ -96,22 +104,4 @@ fn is_read(alloc: Global, bytes: &[u8], options: ParseOptions) -> bool
         Ok(_outline) => true,
         Err(_fault) => false,
     }
-}
-
-/// The bytes with each piece mended, where they are read then.
-fn mended_bytes(
-    alloc: Global,
-    bytes: &[u8],
-    options: RepairOptions,
-) -> Result<Repaired, ParserError>
-    ensures { AnswersBy repaired_view result (repaired options bytes.now) }
-{
-    if let Some(offset) = options.parse.past_longest(bytes.len()) {
-        return Err(ParserError::BudgetExceeded { offset });
-    }
-    let mut pieces = pieces(alloc, bytes, options.leave_out_cut_short)?;
-    mend_all(alloc, pieces.as_mut_slice(), options)?;
-    let repaired = Repaired::of(alloc, pieces.as_slice())?;
-    Outline::try_from_with(alloc, repaired.bytes.as_slice(), options.parse)?;
-    Ok(repaired)
 }

@@ -1,6 +1,7 @@
 -- A field as C has it: all its parts as numbers, 0 or off for what isn't there.
 use Rattle.std.specs.Prelude.{◌≡◌, ℕ, pos, ◌-◌, Bool, false, List, [], ◌∷◌, length, slice_get, is_some}
 use Rattle.std.specs.Prelude.{unwrap_or, Option, None, option_map}
+use Rattle.hidreport.specs.Flags.{Flags, flags_of}
 use Rattle.hidreport.specs.Records.{CollectionRecord, FieldPlace, Attributes, FieldRecord}
 use Rattle.hidreport.specs.Records.{VariableRecord, ArrayRecord, ConstantRecord}
 use Rattle.hidreport.specs.UsageNumber.{usage_number}
@@ -40,17 +41,21 @@ measures_as_c shared = record {
   has_unit_exponent = is_some shared.unit_exponent;
 }
 
--- the flags of the field's item
-abbrev pub flags_as_c : Attributes → HidreportFlags
-flags_as_c shared = record {
-  is_relative = shared.flags.relative;
-  wraps = shared.flags.wrap;
-  is_nonlinear = shared.flags.nonlinear;
-  has_no_preferred_state = shared.flags.no_preferred_state;
-  has_null_state = shared.flags.null_state;
-  is_buffered_bytes = shared.flags.buffered_bytes;
-  is_volatile = unwrap_or shared.volatile false;
+-- the flags of an item that C has, and whether the value may change by itself
+abbrev pub flags_with : Flags → Bool → HidreportFlags
+flags_with flags volatile = record {
+  is_relative = flags.relative;
+  wraps = flags.wrap;
+  is_nonlinear = flags.nonlinear;
+  has_no_preferred_state = flags.no_preferred_state;
+  has_null_state = flags.null_state;
+  is_buffered_bytes = flags.buffered_bytes;
+  is_volatile = volatile;
 }
+
+-- the flags of a field with data; an input report has no volatile ones
+abbrev pub flags_as_c : Attributes → HidreportFlags
+flags_as_c shared = flags_with shared.flags (unwrap_or shared.volatile false)
 
 -- the number of a collection in a list
 abbrev pub collection_at : List CollectionRecord → ℕ → ℕ
@@ -80,15 +85,7 @@ nothing_measured = record {
 
 -- no flag, as padding has
 abbrev pub nothing_set : HidreportFlags
-nothing_set = record {
-  is_relative = false;
-  wraps = false;
-  is_nonlinear = false;
-  has_no_preferred_state = false;
-  has_null_state = false;
-  is_buffered_bytes = false;
-  is_volatile = false;
-}
+nothing_set = flags_with (flags_of 0) false
 
 -- a field at this place and with this id of its own, of this kind and with so many values
 abbrev pub field_at : FieldPlace → Option ℕ → ℕ → ℕ → HidreportUsages → HidreportMeasures

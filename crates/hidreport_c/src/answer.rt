@@ -8,7 +8,7 @@ use crate::status::{
     UNKNOWN_OPTION,
 };
 use crate::structs::{HidreportAnswer, HidreportOptions};
-use hidreport::{ParserError, ReportDescriptor};
+use hidreport::{Outline, ParserError, ReportDescriptor};
 use std::alloc::Global;
 
 impl HidreportAnswer {
@@ -48,6 +48,23 @@ pub(crate) fn read(
     };
     match ReportDescriptor::try_from_with(alloc, bytes, options) {
         Ok(descriptor) => Ok(descriptor),
+        Err(error) => Err(refusal(&error)),
+    }
+}
+
+/// The same descriptor with its fields in groups.
+pub(crate) fn outline(
+    alloc: Global,
+    bytes: &[u8],
+    options: HidreportOptions,
+) -> Result<Outline, HidreportAnswer>
+    ensures { IsRead result (options_of options) bytes.now }
+{
+    let Some(options) = options.chosen() else {
+        return Err(HidreportAnswer::refused(UNKNOWN_OPTION));
+    };
+    match Outline::try_from_with(alloc, bytes, options) {
+        Ok(outline) => Ok(outline),
         Err(error) => Err(refusal(&error)),
     }
 }

@@ -259,8 +259,7 @@ fn put_all(reports: &[RDescReport], usages: &mut [u32]) -> Option<usize>
     ensures some { IfSome result (λ count.
         (count ≡ length (usages_in_all (fields_in_all reports.now)))
         × (usages.new ≡ array_after (usages_in_all (fields_in_all reports.now)) usages.old)) }
-    ensures none { IsNone result
-        → 2 ^ 64 ≤ length (usages_in_all (fields_in_all reports.now)) }
+    ensures none { IsNone result → 2 ^ 64 ≤ length (usages_in_all (fields_in_all reports.now)) }
 {
     let mut count: usize = 0;
     for report in reports {
@@ -276,8 +275,7 @@ fn put_usages(fields: &[Field], usages: &mut [u32]) -> Option<usize>
     ensures some { IfSome result (λ count.
         (count ≡ length (usages_in_all (map field_record fields.now)))
         × (usages.new ≡ array_after (usages_in_all (map field_record fields.now)) usages.old)) }
-    ensures none { IsNone result
-        → 2 ^ 64 ≤ length (usages_in_all (map field_record fields.now)) }
+    ensures none { IsNone result → 2 ^ 64 ≤ length (usages_in_all (map field_record fields.now)) }
 {
     let mut count: usize = 0;
     for field in fields {

@@ -1,23 +1,25 @@
 //! The fields of one main item, said once for all of them.
-ghost use Rattle.std.specs.Prelude.{◌≡◌, ◌&&◌, nat_le, [], ◌∷◌, Ok, MatchResult, option_map};
+ghost use Rattle.std.specs.Prelude.{◌≡◌, ◌&&◌, nat_le, [], ◌∷◌, Ok, MatchResult, option_map, ◌++◌, IfOk, OnOk};
 ghost use Rattle.hidreport.specs.Records.{fields_in_all};
 ghost use Rattle.hidreport.specs.Views.{field_record};
 ghost use Rattle.hidreport_c.specs.Answer.{Lists, array_after, counted, no_memory};
-ghost use Rattle.hidreport_c.specs.Group.{InGroups, InGroupsOf, flags_in, group_as_c, groups_as_c, field_placed, kind_in, measures_in, usage_in, usage_listed};
+ghost use Rattle.hidreport_c.specs.Group.{InGroups, InGroupsOf, flags_in, group_as_c, groups_as_c, field_placed, kind_in, measures_in, usage_in, usage_listed, lent};
 ghost use Rattle.hidreport_c.specs.Lookup.{field_or_none};
+ghost use Rattle.hidreport.specs.Groups.{fields_of_groups};
+ghost use Rattle.hidreport_c.specs.Describe.{reports_in_direction};
 
+use crate::answer::outline;
 use crate::field::{
     ARRAY, CONSTANT, VARIABLE, attributes_of, collections_of, measures, nothing_measured,
     nothing_set,
 };
-use crate::outline::{groups_of, outline, reports_of};
 use crate::part::{Part, write};
 use crate::status::OUT_OF_MEMORY;
 use crate::structs::{
     HidreportAnswer, HidreportField, HidreportFlags, HidreportGroup, HidreportMeasures,
     HidreportOptions,
 };
-use hidreport::{Field, Group, OutlineReport};
+use hidreport::{Field, Group, Outline, OutlineReport};
 use std::alloc::{AllocError, Global};
 use std::slice;
 
@@ -45,8 +47,7 @@ pub extern "C" fn hidreport_groups(
     direction: u32,
     groups: &mut [HidreportGroup],
 ) -> HidreportAnswer
-    ensures { InGroupsOf groups_as_c direction options descriptor.now groups.old groups.new
-        result }
+    ensures { InGroupsOf groups_as_c direction options descriptor.now groups.old groups.new result }
 {
     match outline(alloc, descriptor, options) {
         Ok(outline) => write_groups(alloc, reports_of(&outline, direction), groups),
@@ -107,6 +108,40 @@ pub extern "C" fn hidreport_group_field(
         }
         Err(refused) => refused,
     }
+}
+
+/// The reports of a direction.
+fn reports_of(outline: &Outline, direction: u32) -> &[OutlineReport]
+    ensures { result.now ≡ reports_in_direction direction outline.now }
+{
+    match direction {
+        0 => outline.input_reports(),
+        1 => outline.output_reports(),
+        2 => outline.feature_reports(),
+        _ => &[],
+    }
+}
+
+/// The groups of these reports, in order.
+fn groups_of<'a>(alloc: Global, reports: &'a [OutlineReport]) -> Result<Vec<&'a Group>, AllocError>
+    ensures { IfOk result (λ groups. fields_of_groups (lent groups.items)
+        ≡ fields_in_all reports.now) }
+{
+    let mut groups = Vec::new(alloc);
+    for report in reports {
+        add_groups(report.groups(), &mut groups)?;
+    }
+    Ok(groups)
+}
+
+/// Adds groups to those that are there.
+fn add_groups<'a>(added: &'a [Group], groups: &mut Vec<&'a Group>) -> Result<(), AllocError>
+    ensures { OnOk result (lent groups.new.items ≡ lent groups.old.items ++ added.now) }
+{
+    for group in added {
+        groups.push(group)?;
+    }
+    Ok(())
 }
 
 /// Writes the groups of these reports, or says that memory was refused.

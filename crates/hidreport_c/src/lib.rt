@@ -17,7 +17,6 @@ mod message;
 mod name;
 mod numbered;
 mod options;
-mod outline;
 mod part;
 mod reading;
 mod repair;

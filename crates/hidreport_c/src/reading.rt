@@ -150,8 +150,7 @@ impl HidreportField {
     /// Puts the values that the bytes have in place of the first of `values`, whatever the report's
     /// id, as many as there is room for; how many there are.
     fn put_available(&self, report: &[u8], values: &mut [i64]) -> usize
-        ensures values { values.new
-            ≡ array_after (there_at self.now report.now) values.old }
+        ensures values { values.new ≡ array_after (there_at self.now report.now) values.old }
         ensures count { result ≡ length (there_at self.now report.now) }
         ensures most { result ≤ self.now.value_count }
     {

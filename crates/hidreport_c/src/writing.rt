@@ -152,8 +152,7 @@ impl HidreportField {
     fn put_numbers(&self, report: &mut [u8], numbers: &[i64])
         requires room { HasRoomAt (length report.now) self.now }
         requires counted { length numbers.now ≡ self.now.value_count }
-        ensures { report.new
-            ≡ put self.now.first_bit (width_of self.now) numbers.now report.old }
+        ensures { report.new ≡ put self.now.first_bit (width_of self.now) numbers.now report.old }
     {
         put_values(report, self.first_bit, self.element_width(), numbers);
     }

@@ -42,8 +42,7 @@ pub fn bits_left_over_are_not_covered()
 /// What the law of fixed bits says of bytes that are read as 5: those that are read as 5, too, have
 /// the same bits there, and those that have them are read as 5.
 pub fn values_fix_their_bits()
-    ensures read { reads (variable_at 0 8 (pos 0)) (hex (codes "05"))
-        ≡ Ok (unsigned_value 5 ∷ []) }
+    ensures read { reads (variable_at 0 8 (pos 0)) (hex (codes "05")) ≡ Ok (unsigned_value 5 ∷ []) }
     ensures equal { FixesBits (variable_at 0 8 (pos 0)) (hex (codes "05")) → (other : List ℕ)
         → reads (variable_at 0 8 (pos 0)) other ≡ Ok (unsigned_value 5 ∷ [])
         → AgreeOn 0 8 (hex (codes "05")) other }

@@ -46,8 +46,7 @@ pub fn items_may_have_no_local_and_no_push()
         (local.UsageId 9)
         ∷ []) → ⊥ }
     ensures no_push { HasNoPush (item.Local (local.UsageId 9) ∷ item.Global global.Pop ∷ []) }
-    ensures a_push { HasNoPush (item.Local (local.UsageId 9) ∷ item.Global global.Push ∷ [])
-        → ⊥ }
+    ensures a_push { HasNoPush (item.Local (local.UsageId 9) ∷ item.Global global.Push ∷ []) → ⊥ }
 {}
 
 /// A segment may have a local item just where its Push keeps these, too.

@@ -7,8 +7,7 @@ ghost use Rattle.hidreport.specs.declared.field.usage.Usage.{Usage};
 
 /// Of eight buttons the third, also counted from -1, and the first of two that are one usage.
 pub fn a_usage_has_its_least_number()
-    ensures third { IsLeastFor (range_from 9 1 8) (pos 0) (pos 7) (make_usage 9 3)
-        (Some (pos 2)) }
+    ensures third { IsLeastFor (range_from 9 1 8) (pos 0) (pos 7) (make_usage 9 3) (Some (pos 2)) }
     ensures from_minus_one { IsLeastFor (range_from 9 1 8) (negsuc 0) (pos 6) (make_usage 9 3)
         (Some (pos 1)) }
     ensures listed_twice { IsLeastFor (make_usage 9 1 ∷ make_usage 9 2 ∷ make_usage 9 1 ∷ [])
@@ -40,12 +39,10 @@ pub fn a_chosen_usage_has_a_number()
 /// Behind two usages, with bounds of 0 to 3, the first number that stands for none is 2.
 pub fn a_number_without_a_usage_is_the_least()
     ensures behind { IsLeastUnchosen (range_from 9 1 2) 2 false (pos 0) (pos 3) (Some (pos 2)) }
-    ensures chosen { IsLeastUnchosen (range_from 9 1 2) 2 false (pos 0) (pos 3) (Some (pos 1))
-        → ⊥ }
+    ensures chosen { IsLeastUnchosen (range_from 9 1 2) 2 false (pos 0) (pos 3) (Some (pos 1)) → ⊥ }
     ensures too_wide { IsLeastUnchosen (range_from 9 1 4) 2 false (pos 0) (pos 3) (Some (pos 4))
         → ⊥ }
-    ensures later { IsLeastUnchosen (range_from 9 1 2) 2 false (pos 0) (pos 3) (Some (pos 3))
-        → ⊥ }
+    ensures later { IsLeastUnchosen (range_from 9 1 2) 2 false (pos 0) (pos 3) (Some (pos 3)) → ⊥ }
     ensures none { IsLeastUnchosen (range_from 9 1 2) 2 false (pos 0) (pos 3) None → ⊥ }
     ensures no_bits { IsLeastUnchosen (range_from 9 1 2) 0 false (pos 0) (pos 3) None }
 {}

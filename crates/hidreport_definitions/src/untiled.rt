@@ -22,8 +22,7 @@ pub fn a_descriptor_with_an_id_twice_is_not_tiled()
 
 /// No report without an id stands behind another of its direction.
 pub fn a_descriptor_with_a_later_report_without_id_is_not_tiled()
-    ensures input { IsTiled
-        (descriptor_of (byte_report 1 0 ∷ report_without_id 1 ∷ []) [] []) → ⊥ }
+    ensures input { IsTiled (descriptor_of (byte_report 1 0 ∷ report_without_id 1 ∷ []) [] []) → ⊥ }
     ensures output { IsTiled
         (descriptor_of [] (byte_report 1 0 ∷ report_without_id 1 ∷ []) []) → ⊥ }
     ensures feature { IsTiled

@@ -36,8 +36,7 @@ pub fn other_bits_are_kept()
         (hex (codes "00 00")) (hex (codes "50 01")) → ⊥ }
     ensures alone { IsWritten in_the_id (pos 5 ∷ [])
         (hex (codes "05 00")) (hex (codes "05 01")) → ⊥ }
-    ensures longer { IsWritten in_the_id (pos 5 ∷ [])
-        (hex (codes "05")) (hex (codes "05 00")) → ⊥ }
+    ensures longer { IsWritten in_the_id (pos 5 ∷ []) (hex (codes "05")) (hex (codes "05 00")) → ⊥ }
 {}
 
 /// The fields before and behind it read what they read before.

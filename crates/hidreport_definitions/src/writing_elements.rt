@@ -45,6 +45,5 @@ pub fn elements_and_fields_beside_it_are_kept()
 
 /// Of two writes of an element the second counts.
 pub fn a_second_element_counts()
-    ensures { IsElementWritten array_in_the_id 0 (pos 5) (hex (codes "04")) (hex (codes "05"))
-        → ⊥ }
+    ensures { IsElementWritten array_in_the_id 0 (pos 5) (hex (codes "04")) (hex (codes "05")) → ⊥ }
 {}

@@ -48,8 +48,7 @@ pub fn written_at_once_is_written_one_by_one()
 
 /// What is no byte is cut when a field is written, so it isn't read again.
 pub fn written_at_once_is_read_again()
-    ensures { IsReportWritten (byte_field 261 0 ∷ []) (pos 0 ∷ []) (261 ∷ 0 ∷ []) (5 ∷ 0 ∷ [])
-        → ⊥ }
+    ensures { IsReportWritten (byte_field 261 0 ∷ []) (pos 0 ∷ []) (261 ∷ 0 ∷ []) (5 ∷ 0 ∷ []) → ⊥ }
 {}
 
 /// Without fields nothing changes: neither the number of bytes nor a bit.

@@ -58,8 +58,7 @@ pub fn write(field: &VariableField, bytes: &mut [u8], value: i64) -> Result<(), 
         ≡ Ok (value ∷ [])) }
     ensures kept { OnOk result (Keeps (place_of (variable_record field.now)).first
         (covered_bits (variable_record field.now)) bytes.old bytes.new) }
-    ensures apart { OnOk result
-        (LeavesOthers (variable_record field.now) bytes.old bytes.new) }
+    ensures apart { OnOk result (LeavesOthers (variable_record field.now) bytes.old bytes.new) }
     ensures last { OnOk result ((others : List ℤ)
         → written (variable_record field.now) others bytes.new
         ≡ written (variable_record field.now) others bytes.old) }
@@ -71,8 +70,7 @@ pub fn write(field: &VariableField, bytes: &mut [u8], value: i64) -> Result<(), 
 
 /// Writes the values of an array, likewise.
 pub fn write_all(field: &ArrayField, bytes: &mut [u8], values: &[i64]) -> Result<(), InsertError>
-    ensures read { OnOk result (reads_numbers (array_record field.now) bytes.new
-        ≡ Ok values.now) }
+    ensures read { OnOk result (reads_numbers (array_record field.now) bytes.new ≡ Ok values.now) }
     ensures kept { OnOk result (Keeps (place_of (array_record field.now)).first
         (covered_bits (array_record field.now)) bytes.old bytes.new) }
     ensures apart { OnOk result (LeavesOthers (array_record field.now) bytes.old bytes.new) }

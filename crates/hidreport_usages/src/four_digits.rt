@@ -11,8 +11,7 @@ pub(crate) fn write_four_digits<W: fmt::Write>(
     number: u16,
 ) -> fmt::Result
     ensures plain { WritesOnOk W.write_str_gives f.old result (four_digits number) f.new }
-    ensures styled { WritesStyledOnOk W.write_str_gives f.old result
-        (four_digits number) f.new }
+    ensures styled { WritesStyledOnOk W.write_str_gives f.old result (four_digits number) f.new }
 {
     f.write_str(digit_text(number / 0x1000))?;
     f.write_str(digit_text(number / 0x100 % 0x10))?;

@@ -86,8 +86,7 @@ impl GroupUsages {
         page: UsagePage,
         usages: &[LocalUsage],
     ) -> Result<GroupUsages, AllocError>
-        ensures { IfOk result (λ own.
-            (own_usages own).usages ≡ map (usage_under page) usages.now) }
+        ensures { IfOk result (λ own. (own_usages own).usages ≡ map (usage_under page) usages.now) }
     {
         match UsageBounds::counting_up(page, usages) {
             Some(bounds) => Ok(GroupUsages::Range(bounds)),

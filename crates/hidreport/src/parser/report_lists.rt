@@ -46,12 +46,10 @@ impl ReportLists {
 
     /// Where fields of a direction begin with this id in force: without one in the first report.
     pub(crate) fn begin(&self, direction: Direction, id: Option<ReportId>) -> Room
-        ensures key { result.slot.key
-            ≡ first_of id (first_id (reports_of direction self.now)) }
+        ensures key { result.slot.key ≡ first_of id (first_id (reports_of direction self.now)) }
         ensures index { result.slot.index
             ≡ index_in result.slot.key (reports_of direction self.now) }
-        ensures first { result.first_bit
-            ≡ size_in result.slot.key (reports_of direction self.now) }
+        ensures first { result.first_bit ≡ size_in result.slot.key (reports_of direction self.now) }
     {
         match direction {
             Direction::Input => self.input.begin(id),

@@ -66,8 +66,7 @@ pub(crate) fn slot_of(
 
 /// Whether this is an id past all others, so that no report has it yet.
 fn is_past(ids_below: Option<usize>, key: &Option<ReportId>) -> bool
-    ensures { IsTrue result →
-        IsSomeAnd ids_below (λ bound. IsSomeAnd key.now (λ id. bound ≤ id)) }
+    ensures { IsTrue result → IsSomeAnd ids_below (λ bound. IsSomeAnd key.now (λ id. bound ≤ id)) }
 {
     match (ids_below, key) {
         (Some(bound), Some(id)) => bound <= usize::from(u8::from(*id)),

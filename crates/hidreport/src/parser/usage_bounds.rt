@@ -24,8 +24,7 @@ impl UsageBounds {
 
     /// Single usages, where they count up on one page: one that names none lies on this one.
     pub(crate) fn counting_up(page: UsagePage, usages: &[LocalUsage]) -> Option<UsageBounds>
-        ensures { IfSome result (λ bounds.
-            between bounds ≡ map (usage_under page) usages.now) }
+        ensures { IfSome result (λ bounds. between bounds ≡ map (usage_under page) usages.now) }
     {
         let first = usages.first()?.under(page);
         let page_of_all = first.usage_page;

@@ -157,8 +157,7 @@ impl Group {
     ///
     /// An array's fields share them: element `index` isn't of this usage.
     pub fn usage(&self, index: usize) -> Option<Usage>
-        ensures some { IfSome result (λ usage.
-            usage ≡ usage_at self.now.usages.usages index) }
+        ensures some { IfSome result (λ usage. usage ≡ usage_at self.now.usages.usages index) }
         ensures none { IsNone result → self.now.usages.usages ≡ [] }
     {
         self.usages.at(index)

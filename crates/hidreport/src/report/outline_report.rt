@@ -101,8 +101,7 @@ fn has_id(report: &OutlineReport, id: Option<ReportId>) -> bool
 
 /// The fields of groups, for which the room is asked at once.
 fn fields_of(alloc: Global, groups: &[Group]) -> Result<Vec<Field>, AllocError>
-    ensures { IfOk result (λ fields. map field_record fields.items
-        ≡ fields_of_groups groups.now) }
+    ensures { IfOk result (λ fields. map field_record fields.items ≡ fields_of_groups groups.now) }
 {
     let mut room: usize = 0;
     for group in groups {

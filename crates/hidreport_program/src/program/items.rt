@@ -9,8 +9,7 @@ use std::fmt::Write;
 
 /// Appends a line for each item.
 pub fn add_items(text: &mut String, items: &[ReportDescriptorItem]) -> Result<(), AllocError>
-    ensures { OnOk result (string_bytes text.new
-        ≡ string_bytes text.old ++ items_text items.now) }
+    ensures { OnOk result (string_bytes text.new ≡ string_bytes text.old ++ items_text items.now) }
 {
     for entry in items {
         add_item(text, entry)?;

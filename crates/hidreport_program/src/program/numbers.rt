@@ -36,8 +36,7 @@ impl fmt::Display for EightDigits {
 
 /// Appends bytes in two hexadecimal digits each, a space between.
 pub fn add_bytes(text: &mut String, bytes: &[u8]) -> Result<(), AllocError>
-    ensures { OnOk result (string_bytes text.new
-        ≡ string_bytes text.old ++ bytes_text bytes.now) }
+    ensures { OnOk result (string_bytes text.new ≡ string_bytes text.old ++ bytes_text bytes.now) }
 {
     let Some((first, rest)) = bytes.split_first() else {
         return Ok(());

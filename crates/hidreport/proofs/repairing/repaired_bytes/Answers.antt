@@ -1,5 +1,4 @@
 use Rattle.std.proofs.Common.{◌∙◌, Ok, ap, arith, refl, sym}
-use Rattle.std.proofs.lemmas.Bool.{not-true}
 use Rattle.hidreport_lists.proofs.CutLemmas.{are_bytes}
 use Rattle.hidreport.specs.Options.{parse_as}
 use Rattle.hidreport.proofs.UntouchedLemmas.{untouched-ok}
@@ -10,6 +9,6 @@ returns-then-is_read c =
     untouched-ok c.args.options c.args.bytes.now
     (parse_as c.args.options.parse c.args.bytes.now)
     (are_bytes c.args.bytes.now (λ i. omega (arith, c.type_inv.bytes i)))
-    (not-true _ c.if-not-options.true) refl
+    c.if-not-options.true refl
     (c.is_read.ensures c.if-is_read.true)
     ∙ ap Ok (sym c.in_ok-unchanged.ensures)

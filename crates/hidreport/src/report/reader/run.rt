@@ -196,8 +196,7 @@ impl Run {
         requires few { room ≤ self.now.count }
         requires room { room ≤ length values.now - place }
         requires counted { place + self.now.count < 2 ^ 64 }
-        ensures { values.new
-            ≡ set_from place (numbers_from self.now bytes.now 0 room) values.old }
+        ensures { values.new ≡ set_from place (numbers_from self.now bytes.now 0 room) values.old }
     {
         let first = self.first / 8;
         for index in 0..room {
@@ -213,8 +212,7 @@ impl Run {
         requires few { room ≤ self.now.count }
         requires room { room ≤ length values.now - place }
         requires counted { place + self.now.count < 2 ^ 64 }
-        ensures { values.new
-            ≡ set_from place (numbers_from self.now bytes.now 0 room) values.old }
+        ensures { values.new ≡ set_from place (numbers_from self.now bytes.now 0 room) values.old }
     {
         let width = self.width;
         let is_signed = self.is_signed;
