@@ -120,14 +120,9 @@ record Cut (read : Reader) (offset : ℕ) (bytes : List ℕ) : Type 0 where
 
 -- items, and then bytes of which no beginning is one
 record Stops (read : Reader) (bytes : List ℕ) : Type 0 where
-  entries : List Entry
-  header : ℕ
-  after : List ℕ
+  offset : ℕ
   fault : GrammarFault
-  whole : all_bytes entries ++ header ∷ after ≡ bytes
-  each : AreRead read entries
-  none : (n : ℕ) (x : ItemType) → Reads read (take n (header ∷ after)) x → ⊥
-  why : item_at read header after ≡ Err fault
+  is : IsFaultAt read bytes offset fault
 
 -- a beginning that is read as an item has all that follows its header
 none-read : (read : Reader) (h : ℕ) (bs : List ℕ) (fault : GrammarFault)
@@ -168,15 +163,19 @@ more-cut read offset front x rest r c = record {
 more-stops : (read : Reader) (offset : ℕ) (front : List ℕ) (x : ItemType) (rest : List ℕ)
     → Reads read front x → Stops read rest → Stops read (front ++ rest)
 more-stops read offset front x rest r s = record {
-  entries = record { offset = offset; bytes = front; item = x } ∷ s.entries;
-  header = s.header;
-  after = s.after;
+  offset = length front + s.offset;
   fault = s.fault;
-  whole = append_assoc front (all_bytes s.entries) (s.header ∷ s.after)
-      ∙ ap (λ l. front ++ l) s.whole;
-  each = (r, s.each);
-  none = s.none;
-  why = s.why;
+  is = record {
+    entries = record { offset = offset; bytes = front; item = x } ∷ s.is.entries;
+    header = s.is.header;
+    after = s.is.after;
+    whole = append_assoc front (all_bytes s.is.entries) (s.is.header ∷ s.is.after)
+        ∙ ap (λ l. front ++ l) s.is.whole;
+    each = (r, s.is.each);
+    starts = length-append front (all_bytes s.is.entries) ∙ ap (λ n. length front + n) s.is.starts;
+    none = s.is.none;
+    why = s.is.why;
+  };
 }
 
 Ends : Reader → ℕ → List ℕ → Type 0
@@ -189,14 +188,18 @@ ends-item : (read : Reader) (offset h : ℕ) (bs : List ℕ) → AreBytes (h ∷
     → (r : Result ItemType GrammarFault) → item_at read h bs ≡ r → Cut read offset (h ∷ bs)
     ⊎ Stops read (h ∷ bs)
 ends-item read offset h bs bytes rest (Err fault) e = inr (record {
-  entries = [];
-  header = h;
-  after = bs;
+  offset = 0;
   fault = fault;
-  whole = refl;
-  each = tt;
-  none = none-read read h bs fault e;
-  why = e;
+  is = record {
+    entries = [];
+    header = h;
+    after = bs;
+    whole = refl;
+    each = tt;
+    starts = refl;
+    none = none-read read h bs fault e;
+    why = e;
+  };
 })
 ends-item read offset h bs bytes rest (Ok x) e =
     let front : List ℕ = h ∷ take (following_length h bs) bs in
@@ -233,20 +236,7 @@ items_or_fault read bytes are some =
         record
             { some = some; whole = c.whole; each = c.each; offsets = c.offsets },
       )
-      | inr s ↦ inr (
-        length (all_bytes s.entries),
-        s.fault,
-        record {
-          entries = s.entries;
-          header = s.header;
-          after = s.after;
-          whole = s.whole;
-          each = s.each;
-          starts = refl;
-          none = s.none;
-          why = s.why;
-        },
-      )
+      | inr s ↦ inr (s.offset, s.fault, s.is)
     ]
 
 ok_err : {A E : Type 0} (x : A) (e : E) → Ok x ≡ Err e → ⊥
