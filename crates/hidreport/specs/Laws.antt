@@ -8,10 +8,10 @@ use Rattle.hidreport_lists.specs.Answer.{Refusal}
 use Rattle.hidreport_lists.specs.Entry.{Entry}
 use Rattle.hidreport_lists.specs.Itemising.{itemise, Itemises}
 use Rattle.hidreport_lists.specs.Rebuilt.{items_of, kept_entries, rebuilt_bytes, canonical_entries}
-use Rattle.hidreport.specs.Meaning.{at_offset}
+use Rattle.hidreport.specs.Meaning.{at_offset, parse, parse_globals_only}
 use Rattle.hidreport.specs.Options.{meaning_as, parse_limited, reading_of}
 use Rattle.hidreport.specs.Records.{DescriptorRecord}
-use Rattle.hidreport.specs.Segments.{HasNoLocal, IsMatched, moved_fault, with_segment}
+use Rattle.hidreport.specs.Segments.{HasNoLocal, HasNoPush, IsMatched, moved_fault, with_segment}
 use Rattle.hidreport.specs.declared.parse_options.ParseOptions.{ParseOptions}
 use Rattle.hidreport.specs.declared.parser.push_keeps.PushKeeps.{PushKeeps}
 use Rattle.hidreport.specs.declared.parser.push_keeps.PushKeeps.TheVariants as a_push_keeps
@@ -48,3 +48,8 @@ RebuiltBytesMean options bytes = (entries : List Entry) → Itemises item_of byt
     → parse_any options (rebuilt_bytes entries) ≡ at_offset
     (canonical_entries 0 (items_of (kept_entries entries)))
     (meaning_as options (items_of (kept_entries entries)))
+
+-- both readings of Push give the same where there is none
+abbrev pub AgreeWithoutPush : List ℕ → Type 0
+AgreeWithoutPush bytes = (entries : List Entry) → itemise item_of bytes ≡ Ok entries
+    → HasNoPush (items_of entries) → parse_globals_only bytes ≡ parse bytes

@@ -1,16 +1,11 @@
 //! Report descriptors, their fields listed.
-ghost use Rattle.std.specs.Prelude.{◌≡◌, ◌≢◌, ◌≤◌, ℕ, [], None, Some, Err, Ok, IfOk, IfSome, List, ◌↔◌, IsTrue, option_copied};
-ghost use Rattle.hidreport_items.specs.Spelling.{item_of};
+ghost use Rattle.std.specs.Prelude.{◌≡◌, ◌≢◌, ◌≤◌, ℕ, [], None, Some, Err, Ok, IfOk, IfSome, ◌↔◌, IsTrue, option_copied};
 ghost use Rattle.hidreport_lists.specs.Answer.{Answers};
-ghost use Rattle.hidreport_lists.specs.Entry.{Entry};
-ghost use Rattle.hidreport_lists.specs.Itemising.{itemise};
-ghost use Rattle.hidreport_lists.specs.Rebuilt.{items_of};
 ghost use Rattle.hidreport.specs.Budget.{parse_within};
-ghost use Rattle.hidreport.specs.Laws.{KeptItemsMean, RebuiltBytesMean, SegmentsAreIdle};
+ghost use Rattle.hidreport.specs.Laws.{AgreeWithoutPush, KeptItemsMean, RebuiltBytesMean, SegmentsAreIdle};
 ghost use Rattle.hidreport.specs.Lookup.{find_report, report_with, reports_of};
 ghost use Rattle.hidreport.specs.Meaning.{parse, parse_by, parse_globals_only};
 ghost use Rattle.hidreport.specs.Options.{default_options, globals_only_options, parse_as, reading_of};
-ghost use Rattle.hidreport.specs.Segments.{HasNoPush};
 ghost use Rattle.hidreport.specs.Tiling.{IsTiled};
 ghost use Rattle.hidreport.specs.Weight.{descriptor_weight};
 ghost use Rattle.hidreport.specs.Working.{AllOwn, AllWork};
@@ -211,8 +206,7 @@ impl ReportDescriptor {
         bytes: &[u8],
     ) -> Result<ReportDescriptor, ParserError>
         ensures exact { Answers result (parse_globals_only bytes.now) }
-        ensures agree { (entries : List Entry) → itemise item_of bytes.now ≡ Ok entries
-            → HasNoPush (items_of entries) → parse_globals_only bytes.now ≡ parse bytes.now }
+        ensures agree { AgreeWithoutPush bytes.now }
         ensures tiled { IfOk result (λ descriptor. IsTiled descriptor) }
         ensures struck { SegmentsAreIdle globals_only_options bytes.now }
         ensures kept { KeptItemsMean globals_only_options bytes.now }
