@@ -2,8 +2,14 @@
 use Rattle.std.specs.Prelude.{◌≡◌, ℕ, List, [], codes, length, string_bytes, Result, Ok, Err}
 use Rattle.std.specs.Prelude.{Option, None, Some}
 use Rattle.hidreport.specs.Answer.{Refusal, InvalidData, OutOfBounds, MismatchingReportId, BudgetExceeded}
+use Rattle.hidreport.specs.Itemising.{as_refusal, itemise}
+use Rattle.hidreport.specs.Options.{parse_as}
+use Rattle.hidreport.specs.Repair.{repaired}
+use Rattle.hidreport.specs.Spelling.{item_of}
 use Rattle.hidreport.specs.ParserError.{ParserError}
 use Rattle.hidreport.specs.ParserError.TheVariants as errors
+use Rattle.hidreport.specs.declared.parse_options.ParseOptions.{ParseOptions}
+use Rattle.hidreport.specs.declared.repairing.repair_options.RepairOptions.{RepairOptions}
 use Rattle.hidreport_c.specs.Answer.{array_after, counted, no_memory}
 use Rattle.hidreport_c.specs.declared.structs.HidreportAnswer.{HidreportAnswer}
 
@@ -18,6 +24,17 @@ message_of (BudgetExceeded offset) = codes "budget exceeded"
 abbrev pub message_in : {A : Type 0} → Result A Refusal → Result (List ℕ) Refusal
 message_in (Ok x) = Ok []
 message_in (Err refusal) = Ok (message_of refusal)
+
+-- those of a descriptor that is read by these options, of one that is repaired by them, and of bytes
+-- as items
+abbrev pub parse_message : List ℕ → ParseOptions → Result (List ℕ) Refusal
+parse_message bytes options = message_in (parse_as options bytes)
+
+abbrev pub repair_message : List ℕ → RepairOptions → Result (List ℕ) Refusal
+repair_message bytes options = message_in (repaired options bytes)
+
+abbrev pub items_message : List ℕ → Result (List ℕ) Refusal
+items_message bytes = message_in (as_refusal (itemise item_of bytes))
 
 -- the words of an error; none where memory was refused
 abbrev pub words_of : ParserError → Option (List ℕ)

@@ -1,10 +1,6 @@
 //! What is wrong with a descriptor, as text.
-ghost use Rattle.hidreport.specs.Itemising.{as_refusal, itemise};
-ghost use Rattle.hidreport.specs.Options.{parse_as};
-ghost use Rattle.hidreport.specs.Repair.{repaired};
-ghost use Rattle.hidreport.specs.Spelling.{item_of};
 ghost use Rattle.hidreport_c.specs.Answer.{Lists, ListsBy};
-ghost use Rattle.hidreport_c.specs.Message.{Says, message_in, words_of};
+ghost use Rattle.hidreport_c.specs.Message.{Says, items_message, parse_message, repair_message, words_of};
 ghost use Rattle.hidreport_c.specs.Options.{options_of};
 ghost use Rattle.hidreport_c.specs.Repair.{repair_options_of};
 
@@ -25,8 +21,7 @@ pub extern "C" fn hidreport_message(
     options: HidreportOptions,
     text: &mut [u8],
 ) -> HidreportAnswer
-    ensures { ListsBy (λ chosen. message_in (parse_as chosen descriptor.now)) (options_of options)
-        text.old text.new result }
+    ensures { ListsBy (parse_message descriptor.now) (options_of options) text.old text.new result }
 {
     let Some(options) = options.chosen() else {
         return HidreportAnswer::refused(UNKNOWN_OPTION);
@@ -46,8 +41,7 @@ pub extern "C" fn hidreport_items_message(
     descriptor: &[u8],
     text: &mut [u8],
 ) -> HidreportAnswer
-    ensures { Lists (message_in (as_refusal (itemise item_of descriptor.now))) text.old text.new
-        result }
+    ensures { Lists (items_message descriptor.now) text.old text.new result }
 {
     match ReportDescriptorItems::try_from(alloc, descriptor) {
         Ok(_) => HidreportAnswer::counted(0),
@@ -65,8 +59,8 @@ pub extern "C" fn hidreport_repair_message(
     mends: u32,
     text: &mut [u8],
 ) -> HidreportAnswer
-    ensures { ListsBy (λ chosen. message_in (repaired chosen descriptor.now))
-        (repair_options_of mends (options_of options)) text.old text.new result }
+    ensures { ListsBy (repair_message descriptor.now) (repair_options_of mends (options_of options))
+        text.old text.new result }
 {
     let Some(options) = options.for_repair(mends) else {
         return HidreportAnswer::refused(UNKNOWN_OPTION);
