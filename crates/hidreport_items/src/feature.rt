@@ -1,7 +1,6 @@
 //! Feature items.
 ghost use Rattle.std.specs.Prelude.{◌≡◌, not};
 ghost use Rattle.hidreport_items.specs.Answer.{GivesWithoutMemory, Writes};
-ghost use Rattle.hidreport_items.specs.ItemFaults.{told_answer};
 ghost use Rattle.hidreport_items.specs.Spelling.{feature_item, read_with};
 ghost use Rattle.hidreport_items.specs.Writing.{main_bytes};
 ghost use Rattle.hidreport_items.specs.declared.main_item.MainItem.TheVariants.{Feature};
@@ -10,7 +9,7 @@ use crate::error::HidError;
 use crate::flags::{ItemFlags, MainDataItem};
 use crate::item_bytes::ItemBytes;
 use crate::item_fault::ItemFault;
-use crate::message::with_message;
+use crate::spelled::{Spelled, read_spelled};
 use crate::writing::flags;
 use std::alloc::Global;
 use std::marker::Model;
@@ -45,10 +44,7 @@ impl FeatureItem {
     pub fn try_from(alloc: Global, bytes: &[u8]) -> Result<FeatureItem, HidError>
         ensures { GivesWithoutMemory result (read_with (λ _. feature_item) bytes.now) }
     {
-        let Some((_header, data_bytes)) = bytes.split_first() else {
-            return Err(HidError::InsufficientData);
-        };
-        with_message(alloc, FeatureItem::from_data(data_bytes))
+        read_spelled(alloc, bytes)
     }
 
     /// The item's bytes: the header, and the flags in one byte, or in two where it is of buffered
@@ -61,20 +57,6 @@ impl FeatureItem {
         ensures { Writes result (main_bytes (Feature self.now)) }
     {
         self.written().to_vec(alloc)
-    }
-
-    /// The bytes that are written for the item, in place.
-    pub(crate) fn written(&self) -> ItemBytes
-        ensures { result ≡ main_bytes (Feature self.now) }
-    {
-        flags(0xb0, self.flags)
-    }
-
-    /// The item that these data bytes spell.
-    pub(crate) fn from_data(bytes: &[u8]) -> Result<FeatureItem, ItemFault>
-        ensures { told_answer result ≡ feature_item bytes.now }
-    {
-        Ok(FeatureItem::from_flags(ItemFlags::from_data(bytes)?))
     }
 
     /// The item with these flags.
@@ -98,6 +80,20 @@ impl FeatureItem {
         ensures { result ≡ not self.now.volatile }
     {
         !self.flags.is_volatile
+    }
+}
+
+impl Spelled for FeatureItem {
+    ghost spelled = { λ _. feature_item };
+
+    ghost spelling = { λ item. main_bytes (Feature item) };
+
+    fn from_parts(_header: u8, bytes: &[u8]) -> Result<FeatureItem, ItemFault> {
+        Ok(FeatureItem::from_flags(ItemFlags::from_data(bytes)?))
+    }
+
+    fn written(&self) -> ItemBytes {
+        flags(0xb0, self.flags)
     }
 }
 

@@ -1,6 +1,5 @@
 //! Global items.
 ghost use Rattle.hidreport_items.specs.Answer.{GivesWithoutMemory, Writes};
-ghost use Rattle.hidreport_items.specs.ItemFaults.{told_answer};
 ghost use Rattle.std.specs.Prelude.{◌≡◌};
 ghost use Rattle.hidreport_items.specs.Spelling.{global_item, read_with};
 ghost use Rattle.hidreport_items.specs.Writing.{global_bytes, global_prefix};
@@ -8,8 +7,8 @@ ghost use Rattle.hidreport_items.specs.Writing.{global_bytes, global_prefix};
 use crate::error::HidError;
 use crate::item_bytes::ItemBytes;
 use crate::item_fault::ItemFault;
-use crate::message::with_message;
 use crate::number::{is_short_length, signed, word};
+use crate::spelled::{Spelled, read_spelled};
 use crate::writing::{count, signed_item, unsigned, with_header};
 use hidreport_types::{
     LogicalMaximum, LogicalMinimum, PhysicalMaximum, PhysicalMinimum, ReportCount, ReportId,
@@ -77,10 +76,7 @@ impl GlobalItem {
     pub fn try_from(alloc: Global, bytes: &[u8]) -> Result<GlobalItem, HidError>
         ensures { GivesWithoutMemory result (read_with global_item bytes.now) }
     {
-        let Some((header, data_bytes)) = bytes.split_first() else {
-            return Err(HidError::InsufficientData);
-        };
-        with_message(alloc, GlobalItem::from_parts(*header, data_bytes))
+        read_spelled(alloc, bytes)
     }
 
     /// The header without its size code (Section 6.2.2.7); `0xC4` for `Reserved`.
@@ -117,32 +113,14 @@ impl GlobalItem {
     {
         self.written().to_vec(alloc)
     }
+}
 
-    /// The bytes that are written for the item, in place.
-    pub(crate) fn written(&self) -> ItemBytes
-        ensures { result ≡ global_bytes self.now }
-    {
-        match self {
-            GlobalItem::UsagePage(page) => unsigned(0x04, u32::from(u16::from(page))),
-            GlobalItem::LogicalMinimum(bound) => signed_item(0x14, i32::from(bound)),
-            GlobalItem::LogicalMaximum(bound) => signed_item(0x24, i32::from(bound)),
-            GlobalItem::PhysicalMinimum(bound) => signed_item(0x34, i32::from(bound)),
-            GlobalItem::PhysicalMaximum(bound) => signed_item(0x44, i32::from(bound)),
-            GlobalItem::UnitExponent(exponent) => signed_item(0x54, i32::from(exponent)),
-            GlobalItem::Unit(unit) => unsigned(0x64, u32::from(unit)),
-            GlobalItem::ReportSize(size) => count(0x74, usize::from(size)),
-            GlobalItem::ReportId(id) => with_header(0x84, &[u8::from(id)]),
-            GlobalItem::ReportCount(number) => count(0x94, usize::from(number)),
-            GlobalItem::Push => with_header(0xa4, &[]),
-            GlobalItem::Pop => with_header(0xb4, &[]),
-            GlobalItem::Reserved => with_header(0xc4, &[]),
-        }
-    }
+impl Spelled for GlobalItem {
+    ghost spelled = { global_item };
 
-    /// The global item with this header and data.
-    pub(crate) fn from_parts(header: u8, bytes: &[u8]) -> Result<GlobalItem, ItemFault>
-        ensures { told_answer result ≡ global_item header bytes.now }
-    {
+    ghost spelling = { global_bytes };
+
+    fn from_parts(header: u8, bytes: &[u8]) -> Result<GlobalItem, ItemFault> {
         if !is_short_length(bytes.len()) {
             return Err(ItemFault::Length(bytes.len()));
         }
@@ -162,6 +140,24 @@ impl GlobalItem {
             0xa4 => Ok(GlobalItem::Push),
             0xb4 => Ok(GlobalItem::Pop),
             _ => Ok(GlobalItem::Reserved),
+        }
+    }
+
+    fn written(&self) -> ItemBytes {
+        match self {
+            GlobalItem::UsagePage(page) => unsigned(0x04, u32::from(u16::from(page))),
+            GlobalItem::LogicalMinimum(bound) => signed_item(0x14, i32::from(bound)),
+            GlobalItem::LogicalMaximum(bound) => signed_item(0x24, i32::from(bound)),
+            GlobalItem::PhysicalMinimum(bound) => signed_item(0x34, i32::from(bound)),
+            GlobalItem::PhysicalMaximum(bound) => signed_item(0x44, i32::from(bound)),
+            GlobalItem::UnitExponent(exponent) => signed_item(0x54, i32::from(exponent)),
+            GlobalItem::Unit(unit) => unsigned(0x64, u32::from(unit)),
+            GlobalItem::ReportSize(size) => count(0x74, usize::from(size)),
+            GlobalItem::ReportId(id) => with_header(0x84, &[u8::from(id)]),
+            GlobalItem::ReportCount(number) => count(0x94, usize::from(number)),
+            GlobalItem::Push => with_header(0xa4, &[]),
+            GlobalItem::Pop => with_header(0xb4, &[]),
+            GlobalItem::Reserved => with_header(0xc4, &[]),
         }
     }
 }

@@ -1,7 +1,6 @@
 //! Input items.
 ghost use Rattle.std.specs.Prelude.{◌≡◌, false};
 ghost use Rattle.hidreport_items.specs.Answer.{GivesWithoutMemory, Writes};
-ghost use Rattle.hidreport_items.specs.ItemFaults.{told_answer};
 ghost use Rattle.hidreport_items.specs.Spelling.{input_item, read_with};
 ghost use Rattle.hidreport_items.specs.Writing.{main_bytes};
 ghost use Rattle.hidreport_items.specs.declared.main_item.MainItem.TheVariants.{Input};
@@ -10,7 +9,7 @@ use crate::error::HidError;
 use crate::flags::{ItemFlags, MainDataItem};
 use crate::item_bytes::ItemBytes;
 use crate::item_fault::ItemFault;
-use crate::message::with_message;
+use crate::spelled::{Spelled, read_spelled};
 use crate::writing::flags;
 use std::alloc::Global;
 use std::marker::Model;
@@ -49,10 +48,7 @@ impl InputItem {
     pub fn try_from(alloc: Global, bytes: &[u8]) -> Result<InputItem, HidError>
         ensures { GivesWithoutMemory result (read_with (λ _. input_item) bytes.now) }
     {
-        let Some((_header, data_bytes)) = bytes.split_first() else {
-            return Err(HidError::InsufficientData);
-        };
-        with_message(alloc, InputItem::from_data(data_bytes))
+        read_spelled(alloc, bytes)
     }
 
     /// The item's bytes: the header, and the flags in one byte, or in two where it is of buffered
@@ -67,20 +63,6 @@ impl InputItem {
         self.written().to_vec(alloc)
     }
 
-    /// The bytes that are written for the item, in place.
-    pub(crate) fn written(&self) -> ItemBytes
-        ensures { result ≡ main_bytes (Input self.now) }
-    {
-        flags(0x80, self.flags)
-    }
-
-    /// The item that these data bytes spell.
-    pub(crate) fn from_data(bytes: &[u8]) -> Result<InputItem, ItemFault>
-        ensures { told_answer result ≡ input_item bytes.now }
-    {
-        Ok(InputItem::from_flags(ItemFlags::from_data(bytes)?))
-    }
-
     /// The item with these flags; it has no flag 7.
     pub(crate) fn from_flags(flags: ItemFlags) -> InputItem
         ensures { result ≡ record flags { volatile = false } }
@@ -91,6 +73,20 @@ impl InputItem {
                 ..flags
             },
         }
+    }
+}
+
+impl Spelled for InputItem {
+    ghost spelled = { λ _. input_item };
+
+    ghost spelling = { λ item. main_bytes (Input item) };
+
+    fn from_parts(_header: u8, bytes: &[u8]) -> Result<InputItem, ItemFault> {
+        Ok(InputItem::from_flags(ItemFlags::from_data(bytes)?))
+    }
+
+    fn written(&self) -> ItemBytes {
+        flags(0x80, self.flags)
     }
 }
 

@@ -13,7 +13,7 @@ use crate::item_bytes::ItemBytes;
 use crate::item_fault::ItemFault;
 use crate::local::LocalItem;
 use crate::main_item::MainItem;
-use crate::message::with_message;
+use crate::spelled::{Spelled, read_spelled};
 use std::alloc::Global;
 
 /// Any item of a report descriptor (Section 6.2.2).
@@ -61,10 +61,7 @@ impl ItemType {
     pub fn try_from(alloc: Global, bytes: &[u8]) -> Result<ItemType, HidError>
         ensures { GivesWithoutMemory result (read_with item_of bytes.now) }
     {
-        let Some((header, data_bytes)) = bytes.split_first() else {
-            return Err(HidError::InsufficientData);
-        };
-        with_message(alloc, read_item(*header, data_bytes))
+        read_spelled(alloc, bytes)
     }
 
     /// The item's bytes, those of the item that it is; none for `Long` and `Reserved`
@@ -87,6 +84,20 @@ impl ItemType {
             → IfOk result (λ bytes. read_with item_of bytes.items ≡ Ok self.now) }
     {
         write_item(self).to_vec(alloc)
+    }
+}
+
+impl Spelled for ItemType {
+    ghost spelled = { item_of };
+
+    ghost spelling = { item_bytes };
+
+    fn from_parts(header: u8, bytes: &[u8]) -> Result<ItemType, ItemFault> {
+        read_item(header, bytes)
+    }
+
+    fn written(&self) -> ItemBytes {
+        write_item(self)
     }
 }
 

@@ -30,6 +30,7 @@ mod main_item;
 mod message;
 mod number;
 mod output;
+mod spelled;
 mod writing;
 
 pub use builder_state::{

@@ -1,15 +1,14 @@
 //! Local items.
 ghost use Rattle.std.specs.Prelude.{◌≡◌, ◌+◌, ◌*◌};
 ghost use Rattle.hidreport_items.specs.Answer.{GivesWithoutMemory, Writes};
-ghost use Rattle.hidreport_items.specs.ItemFaults.{told_answer};
 ghost use Rattle.hidreport_items.specs.Writing.{local_bytes, local_prefix};
 ghost use Rattle.hidreport_items.specs.Spelling.{local_item, usage_item, read_with};
 
 use crate::error::HidError;
 use crate::item_bytes::ItemBytes;
 use crate::item_fault::ItemFault;
-use crate::message::with_message;
 use crate::number::{is_short_length, word};
+use crate::spelled::{Spelled, read_spelled};
 use crate::writing::{four_bytes, unsigned, with_header};
 use hidreport_types::{
     Delimiter, DesignatorIndex, DesignatorMaximum, DesignatorMinimum, StringIndex, StringMaximum,
@@ -75,10 +74,7 @@ impl LocalItem {
     pub fn try_from(alloc: Global, bytes: &[u8]) -> Result<LocalItem, HidError>
         ensures { GivesWithoutMemory result (read_with local_item bytes.now) }
     {
-        let Some((header, data_bytes)) = bytes.split_first() else {
-            return Err(HidError::InsufficientData);
-        };
-        with_message(alloc, LocalItem::from_parts(*header, data_bytes))
+        read_spelled(alloc, bytes)
     }
 
     /// The header without its size code (Section 6.2.2.8); `0xF8` for every `Reserved`.
@@ -113,31 +109,14 @@ impl LocalItem {
     {
         self.written().to_vec(alloc)
     }
+}
 
-    /// The bytes that are written for the item, in place.
-    pub(crate) fn written(&self) -> ItemBytes
-        ensures { result ≡ local_bytes self.now }
-    {
-        match self {
-            LocalItem::Usage(page, id) => four_bytes(0x08, usage_number(*page, *id)),
-            LocalItem::UsageId(id) => unsigned(0x08, u32::from(u16::from(id))),
-            LocalItem::UsageMinimum(usage) => unsigned(0x18, u32::from(usage)),
-            LocalItem::UsageMaximum(usage) => unsigned(0x28, u32::from(usage)),
-            LocalItem::DesignatorIndex(index) => unsigned(0x38, u32::from(index)),
-            LocalItem::DesignatorMinimum(index) => unsigned(0x48, u32::from(index)),
-            LocalItem::DesignatorMaximum(index) => unsigned(0x58, u32::from(index)),
-            LocalItem::StringIndex(index) => unsigned(0x78, u32::from(index)),
-            LocalItem::StringMinimum(index) => unsigned(0x88, u32::from(index)),
-            LocalItem::StringMaximum(index) => unsigned(0x98, u32::from(index)),
-            LocalItem::Delimiter(delimiter) => unsigned(0xa8, u32::from(delimiter)),
-            LocalItem::Reserved { value } => with_header(0xf8, &[*value]),
-        }
-    }
+impl Spelled for LocalItem {
+    ghost spelled = { local_item };
 
-    /// The local item with this header and data.
-    pub(crate) fn from_parts(header: u8, bytes: &[u8]) -> Result<LocalItem, ItemFault>
-        ensures { told_answer result ≡ local_item header bytes.now }
-    {
+    ghost spelling = { local_bytes };
+
+    fn from_parts(header: u8, bytes: &[u8]) -> Result<LocalItem, ItemFault> {
         if bytes.is_empty() {
             return Err(ItemFault::TooFew);
         }
@@ -158,6 +137,23 @@ impl LocalItem {
             0xa8 => LocalItem::Delimiter(Delimiter::from(number)),
             value => LocalItem::Reserved { value },
         })
+    }
+
+    fn written(&self) -> ItemBytes {
+        match self {
+            LocalItem::Usage(page, id) => four_bytes(0x08, usage_number(*page, *id)),
+            LocalItem::UsageId(id) => unsigned(0x08, u32::from(u16::from(id))),
+            LocalItem::UsageMinimum(usage) => unsigned(0x18, u32::from(usage)),
+            LocalItem::UsageMaximum(usage) => unsigned(0x28, u32::from(usage)),
+            LocalItem::DesignatorIndex(index) => unsigned(0x38, u32::from(index)),
+            LocalItem::DesignatorMinimum(index) => unsigned(0x48, u32::from(index)),
+            LocalItem::DesignatorMaximum(index) => unsigned(0x58, u32::from(index)),
+            LocalItem::StringIndex(index) => unsigned(0x78, u32::from(index)),
+            LocalItem::StringMinimum(index) => unsigned(0x88, u32::from(index)),
+            LocalItem::StringMaximum(index) => unsigned(0x98, u32::from(index)),
+            LocalItem::Delimiter(delimiter) => unsigned(0xa8, u32::from(delimiter)),
+            LocalItem::Reserved { value } => with_header(0xf8, &[*value]),
+        }
     }
 }
 

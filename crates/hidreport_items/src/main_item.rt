@@ -1,7 +1,6 @@
 //! Main items, and the kinds of collections.
 ghost use Rattle.std.specs.Prelude.{◌≡◌, [], MatchResult, Ok};
 ghost use Rattle.hidreport_items.specs.Answer.{GivesWithoutMemory, Writes};
-ghost use Rattle.hidreport_items.specs.ItemFaults.{told_answer};
 ghost use Rattle.hidreport_items.specs.Writing.{main_bytes};
 ghost use Rattle.hidreport_items.specs.declared.error.HidError.TheVariants.{InsufficientData};
 ghost use Rattle.hidreport_items.specs.Spelling.{main_item, collection_item, collection_of, kind_number, first_or_zero, read_with};
@@ -11,8 +10,8 @@ use crate::feature::FeatureItem;
 use crate::input::InputItem;
 use crate::item_bytes::ItemBytes;
 use crate::item_fault::ItemFault;
-use crate::message::with_message;
 use crate::output::OutputItem;
+use crate::spelled::{Spelled, read_spelled};
 use crate::writing::with_header;
 use std::alloc::Global;
 
@@ -188,10 +187,7 @@ impl MainItem {
     pub fn try_from(alloc: Global, bytes: &[u8]) -> Result<MainItem, HidError>
         ensures { GivesWithoutMemory result (read_with main_item bytes.now) }
     {
-        let Some((header, data_bytes)) = bytes.split_first() else {
-            return Err(HidError::InsufficientData);
-        };
-        with_message(alloc, MainItem::from_parts(*header, data_bytes))
+        read_spelled(alloc, bytes)
     }
 
     /// The item's bytes, those of the item that it is; EndCollection is its header alone
@@ -205,31 +201,31 @@ impl MainItem {
     {
         self.written().to_vec(alloc)
     }
+}
 
-    /// The bytes that are written for the item, in place.
-    pub(crate) fn written(&self) -> ItemBytes
-        ensures { result ≡ main_bytes self.now }
-    {
+impl Spelled for MainItem {
+    ghost spelled = { main_item };
+
+    ghost spelling = { main_bytes };
+
+    fn from_parts(header: u8, bytes: &[u8]) -> Result<MainItem, ItemFault> {
+        match header & 0xfc {
+            0x80 => Ok(MainItem::Input(InputItem::from_parts(header, bytes)?)),
+            0x90 => Ok(MainItem::Output(OutputItem::from_parts(header, bytes)?)),
+            0xa0 => Ok(MainItem::Collection(CollectionItem::from_data(bytes))),
+            0xb0 => Ok(MainItem::Feature(FeatureItem::from_parts(header, bytes)?)),
+            0xc0 => Ok(MainItem::EndCollection),
+            _ => Err(ItemFault::Tag(header)),
+        }
+    }
+
+    fn written(&self) -> ItemBytes {
         match self {
             MainItem::Input(item) => item.written(),
             MainItem::Output(item) => item.written(),
             MainItem::Feature(item) => item.written(),
             MainItem::Collection(item) => item.written(),
             MainItem::EndCollection => with_header(0xc0, &[]),
-        }
-    }
-
-    /// The main item with this header and data.
-    pub(crate) fn from_parts(header: u8, bytes: &[u8]) -> Result<MainItem, ItemFault>
-        ensures { told_answer result ≡ main_item header bytes.now }
-    {
-        match header & 0xfc {
-            0x80 => Ok(MainItem::Input(InputItem::from_data(bytes)?)),
-            0x90 => Ok(MainItem::Output(OutputItem::from_data(bytes)?)),
-            0xa0 => Ok(MainItem::Collection(CollectionItem::from_data(bytes))),
-            0xb0 => Ok(MainItem::Feature(FeatureItem::from_data(bytes)?)),
-            0xc0 => Ok(MainItem::EndCollection),
-            _ => Err(ItemFault::Tag(header)),
         }
     }
 }
