@@ -94,6 +94,14 @@ set-by x P b sum (inr p) e below large fits =
     g ∙ sym (ap (λ n. as_word (pos x -ℤ pos (n * P))) p ∙ ap (λ n. as_word (pos x -ℤ pos n)) one
     ∙ below-word x P below)
 
+-- twice the top bit of a width is no more than 2 to the 32nd
+pub doubled-fits : (w : ℕ) → suc w ≤ 32 → 2 ^ w + 2 ^ w ≤ 4294967296
+doubled-fits w narrow =
+    let double : 2 ^ suc w ≡ 2 ^ w + 2 ^ w = two-pow-succ w in
+    let bound : 2 ^ suc w ≤ 2 ^ 32 = pow_mono narrow in
+    let top : 2 ^ 32 ≡ 4294967296 = refl in
+    omega (arith, double, bound, top)
+
 pub top-set : (bytes : List ℕ) (first width sum : ℕ) → 0 < width → width ≤ 32
     → sum ≡ sum_of_bits bytes first width
     → 1 * 2 ^ (width - 1) % 18446744073709551616 ≤ sum
@@ -103,9 +111,7 @@ top-set bytes first zero sum some narrow e large = absurd (omega (arith, some))
 top-set bytes first (suc w) sum some narrow e large =
     let P = 2 ^ w in
     let double : 2 ^ suc w ≡ P + P = two-pow-succ w in
-    let bound : 2 ^ suc w ≤ 2 ^ 32 = pow_mono narrow in
-    let top : 2 ^ 32 ≡ 4294967296 = refl in
-    let fits : P + P ≤ 4294967296 = omega (arith, double, bound, top) in
+    let fits : P + P ≤ 4294967296 = doubled-fits w narrow in
     let less : suc w - 1 ≡ w = omega arith in
     let reached : P ≤ sum = subst (λ n. n ≤ sum)
     (ap (λ n. 1 * 2 ^ n % 18446744073709551616) less ∙ power-fits w (omega (arith, narrow)))

@@ -9,7 +9,8 @@ use Rattle.std.proofs.lemmas.Bool.Decides.{nat_tests}
 use Rattle.std.proofs.lemmas.Int.{ints}
 use Rattle.std.proofs.lemmas.Nat.{pow_pos}
 use Rattle.hidreport.specs.BitValue.{bit, sum_of_bits, value}
-use Rattle.hidreport.proofs.BitLemmas.{below-top, bit-small, power-fits, sum-small, zero-or-one}
+use Rattle.hidreport.proofs.BitLemmas.{below-top, bit-small, doubled-fits, power-fits}
+use Rattle.hidreport.proofs.BitLemmas.{sum-small, zero-or-one}
 use Rattle.hidreport.proofs.ValueBitsLemmas.{top-clear}
 
 -- a small number as 64 bits
@@ -76,9 +77,7 @@ set-number bytes first zero sum some narrow e large = absurd (omega (arith, some
 set-number bytes first (suc w) sum some narrow e large =
     let P = 2 ^ w in
     let double : 2 ^ suc w ≡ P + P = two-pow-succ w in
-    let bound : 2 ^ suc w ≤ 2 ^ 32 = pow_mono narrow in
-    let top : 2 ^ 32 ≡ 4294967296 = refl in
-    let fits : P + P < 2 ^ 33 = omega (arith, double, bound, top) in
+    let fits : P + P < 2 ^ 33 = omega (arith, doubled-fits w narrow) in
     let less : suc w - 1 ≡ w = omega arith in
     let reached : P ≤ sum = subst (λ n. n ≤ sum)
     (ap (λ n. 1 * 2 ^ n % 18446744073709551616) less ∙ power-fits w (omega (arith, narrow)))

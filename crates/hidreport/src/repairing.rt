@@ -70,16 +70,12 @@ pub fn repair(alloc: Global, bytes: &[u8], options: RepairOptions) -> Result<Rep
     ensures unlimited { options.parse.limit ≡ None → options.parse.longest ≡ None
         → (offset : ℕ) → result ≢ Err (ParserError.BudgetExceeded offset) }
 {
-    repaired_bytes(alloc, bytes, options)
+    mended(alloc, bytes, options)
 }
 
 /// What `repair` answers, by the definition alone: what is read needs no repair; of all else each
 /// piece is mended, and it is read then.
-fn repaired_bytes(
-    alloc: Global,
-    bytes: &[u8],
-    options: RepairOptions,
-) -> Result<Repaired, ParserError>
+fn mended(alloc: Global, bytes: &[u8], options: RepairOptions) -> Result<Repaired, ParserError>
     ensures { AnswersBy repaired_view result (repaired options bytes.now) }
 {
     if !options.unsigned_maxima && is_read(alloc, bytes, options.parse) {

@@ -41,8 +41,8 @@ measures_as_c shared = record {
   has_unit_exponent = is_some shared.unit_exponent;
 }
 
--- the flags of an item that C has, and whether the value may change by itself
-abbrev pub flags_with : Flags → Bool → HidreportFlags
+-- the flags of an item that C has, and whether the value may change by itself, if that is said
+abbrev pub flags_with : Flags → Option Bool → HidreportFlags
 flags_with flags volatile = record {
   is_relative = flags.relative;
   wraps = flags.wrap;
@@ -50,12 +50,12 @@ flags_with flags volatile = record {
   has_no_preferred_state = flags.no_preferred_state;
   has_null_state = flags.null_state;
   is_buffered_bytes = flags.buffered_bytes;
-  is_volatile = volatile;
+  is_volatile = unwrap_or volatile false;
 }
 
--- the flags of a field with data; an input report has no volatile ones
+-- the flags of a field with data
 abbrev pub flags_as_c : Attributes → HidreportFlags
-flags_as_c shared = flags_with shared.flags (unwrap_or shared.volatile false)
+flags_as_c shared = flags_with shared.flags shared.volatile
 
 -- the number of a collection in a list
 abbrev pub collection_at : List CollectionRecord → ℕ → ℕ
@@ -85,7 +85,7 @@ nothing_measured = record {
 
 -- no flag, as padding has
 abbrev pub nothing_set : HidreportFlags
-nothing_set = flags_with (flags_of 0) false
+nothing_set = flags_with (flags_of 0) None
 
 -- a field at this place and with this id of its own, of this kind and with so many values
 abbrev pub field_at : FieldPlace → Option ℕ → ℕ → ℕ → HidreportUsages → HidreportMeasures

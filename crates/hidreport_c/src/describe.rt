@@ -8,12 +8,13 @@ ghost use Rattle.hidreport.specs.Records.{fields_in_all, usages_in};
 ghost use Rattle.hidreport.specs.Views.{field_record};
 ghost use Rattle.hidreport_c.specs.UsageLists.{described_usages, found_usages, usages_in_all};
 ghost use Rattle.hidreport.specs.UsageNumber.{usage_number};
+ghost use Rattle.hidreport_c.specs.Lookup.{given_id, report_in, report_listed, report_or_none};
 
 use crate::answer::read;
 use crate::part::{Part, write, write_behind};
 use crate::status::OUT_OF_MEMORY;
 use crate::structs::{HidreportAnswer, HidreportField, HidreportOptions, HidreportReport};
-use hidreport::{Field, RDescReport, Report, ReportDescriptor, Usage};
+use hidreport::{Direction, Field, RDescReport, Report, ReportDescriptor, ReportId, Usage};
 use std::alloc::Global;
 use std::slice;
 
@@ -65,6 +66,17 @@ pub extern "C" fn hidreport_find(
     }
 }
 
+/// An id, or that there is none.
+pub(crate) fn given_id(has_id: bool, id: u8) -> Option<ReportId>
+    ensures { result ≡ given_id has_id id }
+{
+    if has_id {
+        Some(ReportId::from(id))
+    } else {
+        None
+    }
+}
+
 /// The reports of a direction.
 pub(crate) fn reports_of(descriptor: &ReportDescriptor, direction: u32) -> &[RDescReport]
     ensures { result.now ≡ reports_in_direction direction descriptor.now }
@@ -91,6 +103,33 @@ pub(crate) fn report_of<'a>(
         1 => descriptor.find_output_report(report),
         2 => descriptor.find_feature_report(report),
         _ => None,
+    }
+}
+
+/// The report of a direction with this id.
+pub(crate) fn report_with_id(
+    descriptor: &ReportDescriptor,
+    direction: u32,
+    id: Option<ReportId>,
+) -> Option<&RDescReport>
+    ensures { option_copied result ≡ report_in direction id descriptor.now }
+{
+    match direction {
+        0 => descriptor.report(Direction::Input, id),
+        1 => descriptor.report(Direction::Output, id),
+        2 => descriptor.report(Direction::Feature, id),
+        _ => None,
+    }
+}
+
+/// Writes a report, if there is one.
+fn write_report(report: Option<&RDescReport>, reports: &mut [HidreportReport]) -> HidreportAnswer
+    ensures { Lists (Ok (report_or_none (option_copied report.entry))) reports.old reports.new
+        result }
+{
+    match report {
+        Some(report) => write(slice::from_ref(report), reports),
+        None => HidreportAnswer::counted(0),
     }
 }
 
@@ -179,6 +218,32 @@ pub extern "C" fn hidreport_reports(
 {
     match read(alloc, descriptor, options) {
         Ok(descriptor) => write(reports_of(&descriptor, direction), reports),
+        Err(refused) => refused,
+    }
+}
+
+/// The report of a direction with this id (Section 5.6), or without one, where `has_id` is off;
+/// none where there is no such report. The directions are those of `hidreport_describe`.
+///
+/// It is written, counted and refused as `hidreport_describe` says.
+#[unsafe(no_mangle)]
+pub extern "C" fn hidreport_report_with(
+    alloc: Global,
+    descriptor: &[u8],
+    options: HidreportOptions,
+    direction: u32,
+    has_id: bool,
+    id: u8,
+    reports: &mut [HidreportReport],
+) -> HidreportAnswer
+    ensures { ListsOf (report_listed direction (given_id has_id id)) options descriptor.now
+        reports.old reports.new result }
+{
+    match read(alloc, descriptor, options) {
+        Ok(descriptor) => {
+            let found = report_with_id(&descriptor, direction, given_id(has_id, id));
+            write_report(found, reports)
+        }
         Err(refused) => refused,
     }
 }

@@ -172,17 +172,17 @@ fn flags_of(field: &Field) -> HidreportFlags
 pub(crate) fn nothing_set() -> HidreportFlags
     ensures { result ≡ nothing_set }
 {
-    flags_with(ItemFlags::default(), false)
+    flags_with(ItemFlags::default(), None)
 }
 
 pub(crate) fn attributes_of<F: FieldAttributes>(field: &F) -> HidreportFlags
     ensures { result ≡ flags_as_c (F.attributes field.now) }
 {
-    flags_with(field.flags(), field.is_volatile().unwrap_or(false))
+    flags_with(field.flags(), field.is_volatile())
 }
 
-/// The flags of an item that C has.
-fn flags_with(flags: ItemFlags, is_volatile: bool) -> HidreportFlags
+/// The flags of an item that C has, and whether the value may change by itself, if that is said.
+fn flags_with(flags: ItemFlags, is_volatile: Option<bool>) -> HidreportFlags
     ensures { result ≡ flags_with flags is_volatile }
 {
     HidreportFlags {
@@ -192,7 +192,7 @@ fn flags_with(flags: ItemFlags, is_volatile: bool) -> HidreportFlags
         has_no_preferred_state: flags.has_no_preferred_state,
         has_null_state: flags.has_null_state,
         is_buffered_bytes: flags.is_buffered_bytes,
-        is_volatile,
+        is_volatile: is_volatile.unwrap_or(false),
     }
 }
 

@@ -12,7 +12,6 @@ mod group;
 mod insert;
 mod item_name;
 mod items;
-mod lookup;
 mod message;
 mod name;
 mod numbered;

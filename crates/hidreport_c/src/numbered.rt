@@ -1,4 +1,4 @@
-//! What is asked of a field by its number: the field, its usages, its collections.
+//! What is asked of a field by its number, or by a usage: the field, its usages, its collections.
 ghost use Rattle.std.specs.Prelude.{◌≡◌, ◌==◌, find, map, option_copied, option_map, Ok};
 ghost use Rattle.hidreport.specs.Records.{FieldRecord, fields_in_all, place_of};
 ghost use Rattle.hidreport.specs.Views.{field_id, field_record};
@@ -6,10 +6,10 @@ ghost use Rattle.hidreport_c.specs.Numbered.{field_numbered, numbered};
 ghost use Rattle.hidreport_c.specs.Answer.{ListsOf, Lists};
 ghost use Rattle.hidreport_c.specs.Collection.{collection_as_c, collection_usages, collections_or_none, listed_collections, usages_or_none};
 ghost use Rattle.hidreport_c.specs.Usages.{listed_usages, usage_numbers};
-ghost use Rattle.hidreport_c.specs.Lookup.{field_listed};
+ghost use Rattle.hidreport_c.specs.Lookup.{field_listed, field_for_listed, field_or_none, field_with_usage, given_id};
 
 use crate::answer::read;
-use crate::lookup::write_field;
+use crate::describe::{given_id, report_with_id};
 use crate::part::{Part, write};
 use crate::structs::{HidreportAnswer, HidreportCollection, HidreportField, HidreportOptions};
 use hidreport::{Collection, Field, RDescReport, Report, ReportDescriptor, Usage};
@@ -53,6 +53,34 @@ pub extern "C" fn hidreport_usages(
 {
     match read(alloc, descriptor, options) {
         Ok(descriptor) => write_usages(field_numbered(&descriptor, field), usages),
+        Err(refused) => refused,
+    }
+}
+
+/// The first field with this usage of the report of a direction with this id (Sections 5.6 and
+/// 6.2.2.8), or without one, where `has_id` is off: a variable field's usage, or one that an array
+/// chooses among. None where there is no such report, or no such field.
+///
+/// It is written, counted and refused as `hidreport_describe` says.
+#[unsafe(no_mangle)]
+pub extern "C" fn hidreport_field_for(
+    alloc: Global,
+    descriptor: &[u8],
+    options: HidreportOptions,
+    direction: u32,
+    has_id: bool,
+    id: u8,
+    usage: u32,
+    fields: &mut [HidreportField],
+) -> HidreportAnswer
+    ensures { ListsOf (field_for_listed direction (given_id has_id id) usage) options
+        descriptor.now fields.old fields.new result }
+{
+    match read(alloc, descriptor, options) {
+        Ok(descriptor) => {
+            let report = report_with_id(&descriptor, direction, given_id(has_id, id));
+            write_field(field_with_usage(report, usage), fields)
+        }
         Err(refused) => refused,
     }
 }
@@ -119,6 +147,28 @@ pub extern "C" fn hidreport_collection_usages(
             write(usages_of(collections.get(index)), usages)
         }
         Err(refused) => refused,
+    }
+}
+
+/// The first field of a report that has a usage.
+fn field_with_usage(report: Option<&RDescReport>, usage: u32) -> Option<&Field>
+    ensures { option_map field_record (option_copied result)
+        ≡ field_with_usage usage (option_copied report.entry) }
+{
+    match report {
+        Some(report) => report.field_for(Usage::from(usage)),
+        None => None,
+    }
+}
+
+/// Writes a field, if there is one.
+fn write_field(field: Option<&Field>, fields: &mut [HidreportField]) -> HidreportAnswer
+    ensures { Lists (Ok (field_or_none (option_map field_record (option_copied field.entry))))
+        fields.old fields.new result }
+{
+    match field {
+        Some(field) => write(slice::from_ref(field), fields),
+        None => HidreportAnswer::counted(0),
     }
 }
 

@@ -1,5 +1,5 @@
 -- What a caller proves of what it reads.
-use Rattle.std.specs.Prelude.{◌≡◌, ◌<◌, ◌≤◌, ℕ, List, ◌++◌, Ok, Some, slice_get}
+use Rattle.std.specs.Prelude.{◌≡◌, ◌<◌, ◌≤◌, ℕ, ℤ, List, ◌++◌, Ok, Some, slice_get}
 use Rattle.hidreport.specs.Entry.{Entry}
 use Rattle.hidreport.specs.ItemType.{ItemType}
 use Rattle.hidreport.specs.Itemising.{itemise, Itemises}
@@ -8,6 +8,7 @@ use Rattle.hidreport.specs.Rebuilt.{items_of, rebuilt_bytes}
 use Rattle.hidreport.specs.Records.{DescriptorRecord, FieldRecord, ReportRecord, place_of}
 use Rattle.hidreport.specs.Segments.{HasNoPush, IsMatched, with_segment}
 use Rattle.hidreport.specs.Spelling.{item_of}
+use Rattle.hidreport.specs.WritingValues.{written}
 use Rattle.hidreport.specs.declared.parser.push_keeps.PushKeeps.{PushKeeps}
 
 -- what is written anew of the items that bytes are
@@ -43,3 +44,8 @@ FieldsAreApart d = (n i j : ℕ) (report : ReportRecord) (f g : FieldRecord)
     → slice_get d.input n ≡ Some report
     → slice_get report.fields i ≡ Some f → slice_get report.fields j ≡ Some g → i < j
     → (place_of f).end ≤ (place_of g).first
+
+-- whatever is written next is what it would have been without the write before
+abbrev pub SecondCounts : FieldRecord → List ℕ → List ℕ → Type 0
+SecondCounts field before after = (others : List ℤ)
+    → written field others after ≡ written field others before

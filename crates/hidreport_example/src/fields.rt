@@ -11,7 +11,8 @@ ghost use Rattle.hidreport.specs.UsageRange.{HasExactly};
 ghost use Rattle.hidreport.specs.Views.{array_record, variable_record};
 ghost use Rattle.hidreport.specs.Working.{FieldWorks};
 ghost use Rattle.hidreport.specs.WritingLaws.{AllRead, Keeps, LeavesOthers, SamePadding, number_in, reads_numbers, written_all};
-ghost use Rattle.hidreport.specs.WritingValues.{value_width, written, written_element};
+ghost use Rattle.hidreport.specs.WritingValues.{value_width, written_element};
+ghost use Rattle.hidreport_example.specs.Laws.{SecondCounts};
 
 use hidreport::{
     ArrayField, FieldValue, InsertError, ParserError, RDescReport, Report, ReportDescriptor, Usage,
@@ -59,9 +60,7 @@ pub fn write(field: &VariableField, bytes: &mut [u8], value: i64) -> Result<(), 
     ensures kept { OnOk result (Keeps (place_of (variable_record field.now)).first
         (covered_bits (variable_record field.now)) bytes.old bytes.new) }
     ensures apart { OnOk result (LeavesOthers (variable_record field.now) bytes.old bytes.new) }
-    ensures last { OnOk result ((others : List ℤ)
-        → written (variable_record field.now) others bytes.new
-        ≡ written (variable_record field.now) others bytes.old) }
+    ensures last { OnOk result (SecondCounts (variable_record field.now) bytes.old bytes.new) }
     ensures again { reads_numbers (variable_record field.now) bytes.old ≡ Ok (value ∷ [])
         → bytes.new ≡ bytes.old }
 {
@@ -74,9 +73,7 @@ pub fn write_all(field: &ArrayField, bytes: &mut [u8], values: &[i64]) -> Result
     ensures kept { OnOk result (Keeps (place_of (array_record field.now)).first
         (covered_bits (array_record field.now)) bytes.old bytes.new) }
     ensures apart { OnOk result (LeavesOthers (array_record field.now) bytes.old bytes.new) }
-    ensures last { OnOk result ((others : List ℤ)
-        → written (array_record field.now) others bytes.new
-        ≡ written (array_record field.now) others bytes.old) }
+    ensures last { OnOk result (SecondCounts (array_record field.now) bytes.old bytes.new) }
     ensures again { reads_numbers (array_record field.now) bytes.old ≡ Ok values.now
         → bytes.new ≡ bytes.old }
 {

@@ -91,6 +91,15 @@ impl<'a> Record<'a> {
         follow(rt, file, self.stream, known, stream, recording)
     }
 
+    /// How reports are shown.
+    fn shown(&self, settings: &Settings) -> Shown {
+        match (self.is_raw, settings.is_json) {
+            (true, _) => Shown::Raw,
+            (false, true) => Shown::Json,
+            (false, false) => Shown::Line,
+        }
+    }
+
     /// What is shown before the first report.
     fn recording<'b, R: AllocGlobal>(
         &self,
@@ -103,13 +112,7 @@ impl<'a> Record<'a> {
         for descriptor in known {
             lines.push(Lines::new(rt.alloc(), descriptor, self.only_changes)?)?;
         }
-        let shown = if self.is_raw {
-            Shown::Raw
-        } else if settings.is_json {
-            Shown::Json
-        } else {
-            Shown::Line
-        };
+        let shown = self.shown(settings);
         let mut text = String::new(rt.alloc());
         if shown == Shown::Raw {
             add_heads(&mut text, given)?;

@@ -12,36 +12,36 @@ use Rattle.hidreport.proofs.repairing.repair.Goals as goal
 
 pub returns-clause-untouched : goal.returns-clause-untouched
 returns-clause-untouched c = λ no ok.
-    subst (λ r. AnswersBy repaired_view c.repaired_bytes.result r)
+    subst (λ r. AnswersBy repaired_view c.mended.result r)
     (untouched-ok c.args.options c.args.bytes.now
     (parse_as c.args.options.parse c.args.bytes.now)
     (are_bytes c.args.bytes.now (λ i. omega (arith, c.type_inv.bytes i))) no refl ok)
-    c.repaired_bytes.ensures
+    c.mended.ensures
 
 pub returns-clause-accepted : goal.returns-clause-accepted
 returns-clause-accepted c =
-    accepts-answer c.args.options c.args.bytes.now c.repaired_bytes.result
-    c.repaired_bytes.ensures
+    accepts-answer c.args.options c.args.bytes.now c.mended.result
+    c.mended.ensures
 
 pub returns-clause-kept : goal.returns-clause-kept
 returns-clause-kept c =
-    repair-so c.args.options c.args.bytes.now c.repaired_bytes.result c.repaired_bytes.ensures
+    repair-so c.args.options c.args.bytes.now c.mended.result c.mended.ensures
 
 pub returns-clause-bits : goal.returns-clause-bits
-returns-clause-bits c = repair-keeps-bits c.args.options c.args.bytes.now c.repaired_bytes.result
-    (are_bytes c.args.bytes.now (λ i. omega (arith, c.type_inv.bytes i))) c.repaired_bytes.ensures
+returns-clause-bits c = repair-keeps-bits c.args.options c.args.bytes.now c.mended.result
+    (are_bytes c.args.bytes.now (λ i. omega (arith, c.type_inv.bytes i))) c.mended.ensures
 
 pub returns-clause-own_bytes : goal.returns-clause-own_bytes
 returns-clause-own_bytes c = repair-no-mismatch c.args.options c.args.bytes.now
-    c.repaired_bytes.result c.repaired_bytes.ensures
+    c.mended.result c.mended.ensures
 
 pub returns-clause-again : goal.returns-clause-again
-returns-clause-again c = answer-stays c.args.options c.args.bytes.now c.repaired_bytes.result
-    c.repaired_bytes.ensures (returns-clause-bits c)
+returns-clause-again c = answer-stays c.args.options c.args.bytes.now c.mended.result
+    c.mended.ensures (returns-clause-bits c)
 
 pub returns-clause-rebuilt : goal.returns-clause-rebuilt
-returns-clause-rebuilt c = answer-rebuilds c.args.options c.repaired_bytes.result
+returns-clause-rebuilt c = answer-rebuilds c.args.options c.mended.result
 
 pub returns-clause-unlimited : goal.returns-clause-unlimited
 returns-clause-unlimited c = λ none any offset. repair-unlimited c.args.options c.args.bytes.now
-    c.repaired_bytes.result c.repaired_bytes.ensures none any offset
+    c.mended.result c.mended.ensures none any offset

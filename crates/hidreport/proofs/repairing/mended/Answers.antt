@@ -2,7 +2,7 @@ use Rattle.std.proofs.Common.{◌∙◌, Ok, ap, arith, refl, sym}
 use Rattle.hidreport_lists.proofs.CutLemmas.{are_bytes}
 use Rattle.hidreport.specs.Options.{parse_as}
 use Rattle.hidreport.proofs.UntouchedLemmas.{untouched-ok}
-use Rattle.hidreport.proofs.repairing.repaired_bytes.Goals as goal
+use Rattle.hidreport.proofs.repairing.mended.Goals as goal
 
 pub returns-then-is_read : goal.returns-then-is_read
 returns-then-is_read c =

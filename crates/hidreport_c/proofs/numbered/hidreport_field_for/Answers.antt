@@ -1,7 +1,7 @@
 use Rattle.hidreport_c.proofs.ListsLemmas.{lists-unread}
 use Rattle.hidreport_c.specs.Lookup.{field_for_listed, given_id}
 use Rattle.hidreport_c.specs.Options.{options_of}
-use Rattle.hidreport_c.proofs.lookup.hidreport_field_for.Goals as goal
+use Rattle.hidreport_c.proofs.numbered.hidreport_field_for.Goals as goal
 
 pub returns-in-Err : goal.returns-in-Err
 returns-in-Err c =

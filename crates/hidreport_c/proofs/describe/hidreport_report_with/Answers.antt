@@ -1,7 +1,7 @@
 use Rattle.hidreport_c.proofs.ListsLemmas.{lists-unread}
 use Rattle.hidreport_c.specs.Lookup.{given_id, report_listed}
 use Rattle.hidreport_c.specs.Options.{options_of}
-use Rattle.hidreport_c.proofs.lookup.hidreport_report_with.Goals as goal
+use Rattle.hidreport_c.proofs.describe.hidreport_report_with.Goals as goal
 
 pub returns-in-Err : goal.returns-in-Err
 returns-in-Err c =
