@@ -9,9 +9,9 @@ set -eu
 
 top=$(cd "$(dirname "$0")/../.." && pwd)
 . "$top/checks/common/needs.sh"
-need_rt from_c
+need_rt installed
 command -v cc > /dev/null || {
-    echo 'from_c: no `cc` on the path' >&2
+    echo 'installed: no `cc` on the path' >&2
     exit 2
 }
 scratch=$(mktemp -d)
@@ -20,7 +20,7 @@ prefix="$scratch/prefix"
 data="$top/crates/hidreport_main/data"
 
 wrong() {
-    echo "from_c: $1" >&2
+    echo "installed: $1" >&2
     exit 1
 }
 
@@ -37,7 +37,7 @@ if command -v pkg-config > /dev/null; then
     grep -qF "## $version " "$top/CHANGELOG.md" ||
         wrong "CHANGELOG.md has no version $version"
 else
-    echo 'from_c: no `pkg-config` on the path, so its file is not tried'
+    echo 'installed: no `pkg-config` on the path, so its file is not tried'
     flags="-I$prefix/include -L$prefix/lib -lhidreport"
 fi
 # What is linked by these is the shared library.
@@ -66,14 +66,14 @@ if command -v c++ > /dev/null; then
         "$scratch/c/mouse.cc" $flags
     [ "$("$scratch/plus" | tr '\n' ' ')" = '00010030 00010031 ' ] || wrong 'C++ gets other usages'
 else
-    echo 'from_c: no `c++` on the path, so the header is not tried from C++'
+    echo 'installed: no `c++` on the path, so the header is not tried from C++'
 fi
 
 watched="$scratch/test"
 if command -v valgrind > /dev/null; then
     watched="valgrind -q --error-exitcode=9 --leak-check=full $scratch/test"
 else
-    echo 'from_c: no `valgrind` on the path, so the test runs without it'
+    echo 'installed: no `valgrind` on the path, so the test runs without it'
 fi
 
 runs=0
@@ -145,7 +145,7 @@ fn main() {
 END
     (cd "$scratch/user" && cargo run --offline --quiet) || wrong 'a cargo program fails'
 else
-    echo 'from_c: no `cargo` on the path, so the cargo package is left out'
+    echo 'installed: no `cargo` on the path, so the cargo package is left out'
 fi
-echo "from_c: a C program shows the values of a mouse, and $runs answers are those of the program"
+echo "installed: a C program shows the values of a mouse, and $runs answers are those of the program"
 bash "$top/checks/c/cases.sh" "$prefix"

@@ -1,5 +1,5 @@
 #!/bin/bash
-# c_library.sh ARCHIVE [TARGET TEXT]
+# library.sh ARCHIVE [TARGET TEXT]
 # Builds the library for C over the libraries that `rt ci` has just proved. `rt lib` would prove
 # these once more, since rt ci leaves them without the sums by which rt knows what it has built.
 # ARCHIVE is the path of the archive to be made. With two more words it is for TARGET, as
