@@ -5,7 +5,7 @@ them has, or that has another number; its status is 0 where they are the same.""
 import re
 import sys
 
-TABLE = 'crates/hid_output/src/macros/bpf_names.rt'
+TABLE = 'crates/hid_macros/src/bpf_names.rt'
 
 
 def of_header(path):

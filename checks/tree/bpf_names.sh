@@ -1,5 +1,5 @@
 #!/bin/bash
-# Writes crates/hid_output/src/macros/bpf_names.rt, the names that Linux's hid_report_helpers.h (of
+# Writes crates/hid_macros/src/bpf_names.rt, the names that Linux's hid_report_helpers.h (of
 # udev-hid-bpf) gives pages and usages, from crates/hidreport_usages/data/usages.txt by that header's
 # rules: a name's letters, digits and `_`, with Plus for + and a word for a first digit, of variant
 # types and exponents up to the colon. With --check it writes nothing, and fails where that file is
@@ -80,8 +80,8 @@ count=$(wc -l < "$fresh/rows")
 } > "$fresh/bpf_names.rt"
 
 if [ "${1-}" != --check ]; then
-    cp "$fresh/bpf_names.rt" hid_output/src/macros/bpf_names.rt
-elif ! cmp -s "$fresh/bpf_names.rt" hid_output/src/macros/bpf_names.rt; then
-    echo 'bpf_names: crates/hid_output/src/macros/bpf_names.rt is stale: checks/tree/bpf_names.sh writes it' >&2
+    cp "$fresh/bpf_names.rt" hid_macros/src/bpf_names.rt
+elif ! cmp -s "$fresh/bpf_names.rt" hid_macros/src/bpf_names.rt; then
+    echo 'bpf_names: crates/hid_macros/src/bpf_names.rt is stale: checks/tree/bpf_names.sh writes it' >&2
     exit 1
 fi

@@ -1,16 +1,18 @@
 //! What the words of a command line ask for.
-use crate::commands::{
-    Check, Compile, Convert, Decode, Diff, Fields, Inputs, List, Map, Page, Record, Set, Uhid,
-    Values, id_named,
-};
-use crate::ending::Ending;
-use crate::world::World;
 use anyhow::{Result, bail};
 use clap::ArgMatches;
-use hid_findings::host_findings::Host;
+use hid_compare::Diff;
+use hid_findings::{Check, Host};
+use hid_input::inputs::Inputs;
 use hid_input::settings::Settings;
-use hid_items::target::{ReportTarget, Target};
-use hid_text::words::direction_named;
+use hid_input::world::World;
+use hid_output::ending::Ending;
+use hid_page::Page;
+use hid_show::{Decode, Fields, List, Map};
+use hid_targets::{ReportTarget, Target};
+use hid_values::{Record, Values};
+use hid_words::direction_named;
+use hid_write::{Compile, Convert, Set, Uhid, id_named};
 use hidreport::Direction;
 use std::alloc::{AllocError, Global};
 

@@ -1,9 +1,9 @@
 //! The words that `hid` knows.
 use crate::arguments::{Argument, COMMANDS, Kind, OPTIONS, arguments_of};
 use clap::{Arg, ArgAction, Command};
-use hid_findings::host_findings::HOSTS;
-use hid_input::input::FORM_WORDS;
-use hid_items::target::{TARGETS, report_targets};
+use hid_findings::HOSTS;
+use hid_given::FORM_WORDS;
+use hid_targets::{TARGETS, report_targets};
 use std::alloc::{AllocError, Global};
 
 static PUSHES: [&str; 2] = ["globals", "all"];

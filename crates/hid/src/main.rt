@@ -6,19 +6,15 @@
 mod arguments;
 mod command;
 mod command_line;
-mod commands;
-mod ending;
 mod settings;
-mod wanted_usage;
-mod world;
 
 use crate::command::Command;
 use crate::command_line::command_line;
-use crate::ending::Ending;
 use crate::settings::settings_of;
-use crate::world::World;
 use anyhow::{Context, Result, bail};
 use clap::ArgMatches;
+use hid_input::world::World;
+use hid_output::ending::Ending;
 use hid_output::{escaped, escaped_lines};
 use std::alloc::{AllocError, Global};
 use std::io::IsTerminal;

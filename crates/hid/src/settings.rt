@@ -1,6 +1,6 @@
 //! The options of all commands, by the words of the command line.
 use clap::ArgMatches;
-use hid_input::input::Form;
+use hid_given::Form;
 use hid_input::settings::{LIMIT, Settings};
 use hidreport::{ParseOptions, PushKeeps, UsagesBy};
 

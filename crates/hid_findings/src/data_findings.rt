@@ -2,7 +2,7 @@
 use crate::finding::{Finding, Source, tell};
 use crate::local_usages::LocalUsages;
 use hid_items::items::Globals;
-use hid_text::words::{add_usage_on_page, plural};
+use hid_words::{add_usage_on_page, plural};
 use hidreport::Usage;
 use std::alloc::{AllocError, Global};
 use std::fmt::Write;

@@ -1,9 +1,9 @@
 //! What a host refuses or may read otherwise, as far as it is known.
 use crate::finding::{Finding, Source, tell};
-use crate::linux_reading::{Doubt, LinuxReading};
 use crate::windows_reading::{refusal_remark, tell_windows};
 use crate::windows_refusal::WindowsRefusal;
-use hid_text::report::add_title;
+use hid_linux::linux_reading::{Doubt, LinuxReading};
+use hid_report::add_title;
 use hidreport::{Direction, ParserError, RDescReport, Report, ReportDescriptor};
 use hidreport_linux::Unmapped;
 use std::alloc::AllocError;

@@ -3,16 +3,16 @@
 //! Licence: MIT (LICENSE).
 #![tactic(auto)]
 
+mod check;
 mod data_findings;
-pub mod finding;
-pub mod findings;
-pub mod host_findings;
-mod item_number;
-pub mod linux_reading;
-mod linux_reports;
-mod linux_usages;
+mod finding;
+mod findings;
+mod host_findings;
 mod local_usages;
 mod other_usages;
 mod report_findings;
 mod windows_reading;
 mod windows_refusal;
+
+pub use check::Check;
+pub use host_findings::{HOSTS, Host};

@@ -2,8 +2,8 @@
 use crate::finding::{Finding, Source};
 use hid_input::settings::Settings;
 use hid_items::item_lines::{offset_of, remark_of};
-use hid_text::report::add_title;
-use hid_text::words::add_name;
+use hid_report::add_title;
+use hid_words::add_name;
 use hidreport::{
     Direction, Field, ParseOptions, ParserError, RDescReport, Report, ReportDescriptor, UsagesBy,
 };

@@ -1,6 +1,6 @@
 //! What is odd in the reports of a descriptor, and what the standard says.
 use crate::finding::{Finding, Source, tell};
-use hid_text::report::add_title;
+use hid_report::add_title;
 use hidreport::{Collection, Direction, Field, RDescReport, Report, ReportDescriptor};
 use std::alloc::AllocError;
 

@@ -1,9 +1,10 @@
-//! What the program `hid` reads: files, streams and texts in the forms that people have, and the
-//! options that say how.
+//! Where the program `hid` reads: files, devices and streams, and the options that say how.
 //! Licence: MIT (LICENSE).
 #![tactic(auto)]
 
 pub mod input;
+pub mod inputs;
 pub mod parsing;
 pub mod reads;
 pub mod settings;
+pub mod world;

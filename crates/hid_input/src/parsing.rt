@@ -1,8 +1,9 @@
 //! Descriptors of inputs, parsed as the options say; a refusal says what helps.
-use crate::input::{Form, Given, descriptor_named, given_beside};
+use crate::input::{descriptor_named, given_beside};
 use crate::reads::Reads;
 use crate::settings::Settings;
 use anyhow::{Result, anyhow, bail};
+use hid_given::{Form, Given};
 use hidreport::{Direction, Outline, ParseOptions, ParserError, Report, ReportDescriptor, repair};
 use std::alloc::Global;
 

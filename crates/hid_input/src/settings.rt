@@ -1,5 +1,5 @@
 //! What the options of all commands say.
-use crate::input::Form;
+use hid_given::Form;
 use hidreport::{ParseOptions, PushKeeps, RepairOptions, UsagesBy};
 
 /// The most bytes of a file that is read whole.

@@ -1,6 +1,6 @@
 //! Data of an item that is greater than what is read of it.
 use crate::items::PlacedItem;
-use hid_text::words::number_of;
+use hid_words::number_of;
 use hidreport::hid::{GlobalItem, ItemType};
 use std::alloc::{AllocError, Global};
 

@@ -4,7 +4,7 @@ use crate::items::{ItemCursor, ItemState, PlacedItem};
 use crate::moved_usages::StoodUsages;
 use anyhow::Result;
 use hid_output::{add_bytes, add_json, digits_of};
-use hid_text::words::{add_depth, add_item, number_of};
+use hid_words::{add_depth, add_item, number_of};
 use hidreport::hid::ItemType;
 use hidreport::{ParseOptions, ParserError};
 use hidreport_usages::item_name;

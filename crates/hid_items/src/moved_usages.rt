@@ -1,5 +1,5 @@
 //! The usages before a main item that are of its page, though they stand under another.
-use hid_text::words::add_page;
+use hid_words::add_page;
 use hidreport::hid::{GlobalItem, ItemType, LocalItem, MainItem};
 use hidreport::types::UsagePage;
 use hidreport::{ParseOptions, PushKeeps, UsagesBy};

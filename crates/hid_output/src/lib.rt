@@ -3,8 +3,8 @@
 //! Licence: MIT (LICENSE).
 #![tactic(auto)]
 
+pub mod ending;
 pub mod html;
-pub mod macros;
 
 use anyhow::{Context, Result};
 use serde::Serialize;

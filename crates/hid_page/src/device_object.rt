@@ -1,6 +1,6 @@
 //! What a page says of its input.
 use anyhow::Result;
-use hid_input::input::Given;
+use hid_given::Given;
 use hid_input::settings::Settings;
 use hid_items::item_lines::{offset_of, remark_of};
 use hid_output::html::add_html;

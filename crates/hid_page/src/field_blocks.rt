@@ -1,9 +1,9 @@
 //! The reports and fields in a page.
 use crate::sheet::Sheet;
 use anyhow::Result;
-use hid_text::field_object::add_field_object;
-use hid_text::line_object::{add_line_object, add_report_object};
-use hid_text::report::{FieldLine, field_lines};
+use hid_objects::field_object::add_field_object;
+use hid_objects::line_object::{add_line_object, add_report_object};
+use hid_report::{FieldLine, field_lines};
 use hidreport::{Direction, RDescReport, Report, ReportDescriptor};
 
 /// Writes the blocks of the reports with their lines and of the fields.

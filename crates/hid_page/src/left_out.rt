@@ -1,7 +1,7 @@
 //! What isn't put into a page, and what is said of it.
 use crate::sheet::Sheet;
 use anyhow::Result;
-use hid_input::input::Given;
+use hid_given::Given;
 use hid_output::add_json;
 use serde::Serialize;
 

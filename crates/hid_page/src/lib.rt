@@ -2,11 +2,14 @@
 //! Licence: MIT (LICENSE).
 #![tactic(auto)]
 
-pub mod device_object;
-pub mod field_blocks;
-pub mod item_blocks;
-pub mod left_out;
+mod device_object;
+mod field_blocks;
+mod item_blocks;
+mod left_out;
 mod made_bits;
-pub mod samples;
-pub mod sheet;
-pub mod shell;
+mod page;
+mod samples;
+mod sheet;
+mod shell;
+
+pub use page::Page;

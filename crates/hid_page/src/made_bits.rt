@@ -2,7 +2,7 @@
 use anyhow::Result;
 use hid_items::items::{ItemCursor, ItemState};
 use hid_output::add_json;
-use hid_text::words::word_of;
+use hid_words::word_of;
 use hidreport::Direction;
 use hidreport::hid::{ItemType, MainItem};
 use serde::Serialize;

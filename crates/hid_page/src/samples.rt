@@ -1,10 +1,11 @@
 //! The reports in a page that inputs have.
 use crate::sheet::Sheet;
 use anyhow::{Context, Result};
-use hid_input::input::{Given, GivenReport, reports_named};
+use hid_given::{Given, GivenReport};
+use hid_input::input::reports_named;
 use hid_input::reads::Reads;
 use hid_input::settings::Settings;
-use hid_text::sample_object::add_sample_object;
+use hid_objects::sample_object::add_sample_object;
 use hidreport::{Direction, RDescReport, Report, ReportDescriptor};
 
 /// The inputs that reports are read of.

@@ -1,7 +1,7 @@
 //! Descriptors that are mended before they are read.
-use crate::input::given::Given;
 use crate::settings::Settings;
 use anyhow::Result;
+use hid_given::Given;
 use hid_output::{add_bytes, escaped};
 use hidreport::{Change, Reason, repair};
 

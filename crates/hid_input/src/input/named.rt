@@ -1,12 +1,11 @@
 //! Inputs by the names that a command's words say.
-use crate::input::form::{Form, Wanted};
-use crate::input::given::Given;
 use crate::input::machine::{machine_device, node_meant};
 use crate::input::mending::mend;
 use crate::input::whole::{given_of, text_of};
 use crate::reads::Reads;
 use crate::settings::{LONGEST_INPUT, Settings};
 use anyhow::{Result, bail, ensure};
+use hid_given::{Form, Given, Wanted};
 use hid_output::escaped;
 use std::alloc::{AllocError, Global};
 use std::fmt::Write;

@@ -1,8 +1,8 @@
 //! A whole input, in the form that is named or the one that it has.
-use crate::input::capture::{is_capture, read_capture};
-use crate::input::form::{Form, FormLines, Remarks, Wanted, is_blank};
-use crate::input::given::{Found, Given, GivenReport};
 use anyhow::{Context, Result, bail, ensure};
+use hid_captures::{is_capture, read_capture};
+use hid_forms::{FormLines, Remarks, form_of, is_blank};
+use hid_given::{Form, Found, Given, GivenReport, Wanted};
 use std::alloc::Global;
 
 /// What the bytes of an input say. Bytes that are all text are read as text unless `form` says
@@ -133,7 +133,7 @@ fn is_remark(alloc: Global, remarks: &mut Remarks, line: &str) -> Result<bool> {
 
 /// The form of a text whose first lines that say something are these; the second may be empty.
 pub fn form_of_lines(number: u64, line: &str, next: &str) -> Result<Form> {
-    match Form::of_lines(line, next).context(format_args!("line {number}"))? {
+    match form_of(line, next).context(format_args!("line {number}"))? {
         Some(form) => Ok(form),
         None => bail!(
             "line {number}: in none of the forms of --form; as bytes: --form or --report-form bytes"

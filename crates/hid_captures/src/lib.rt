@@ -1,0 +1,11 @@
+//! Captures of USB traffic that `hid` reads: files of pcap and pcapng, as usbmon makes them.
+//! Licence: MIT (LICENSE).
+#![tactic(auto)]
+
+mod byte_order;
+mod capture;
+mod interfaces;
+mod packets;
+mod urb;
+
+pub use packets::{is_capture, read_capture};

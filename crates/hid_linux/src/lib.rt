@@ -1,0 +1,8 @@
+//! What Linux makes of a descriptor's items: whether it takes them, and what it reads.
+//! Licence: MIT (LICENSE).
+#![tactic(auto)]
+
+mod item_number;
+pub mod linux_reading;
+mod linux_reports;
+mod linux_usages;

@@ -1,0 +1,209 @@
+//! What Linux makes of a field: event codes in words and as JSON.
+use hid_words::{add_spaces, add_usage};
+use hidreport::{Field, Usage};
+use hidreport_linux::{Axis, Event, EventType, InputDevices, Item, Unmapped};
+use serde::Serialize;
+use std::alloc::{AllocError, Global};
+use std::fmt::Write;
+
+/// What Linux gives some usages that follow each other: one that has an event, or all that have none
+/// for the same reason.
+#[derive(Clone, Copy, Drop)]
+pub struct Answered {
+    first: Usage,
+    last: Usage,
+    answer: Result<Event, Unmapped>,
+}
+
+/// What Linux gives usages of an item, in their order.
+pub fn answers_of(
+    alloc: Global,
+    devices: &mut InputDevices,
+    item: &mut Item,
+    usages: &[Usage],
+) -> Result<Vec<Answered>, AllocError> {
+    let mut answers: Vec<Answered> = Vec::new(alloc);
+    for usage in usages {
+        let answer = devices.event(item, *usage);
+        let next = Answered {
+            first: *usage,
+            last: *usage,
+            answer,
+        };
+        match answers.last_mut() {
+            Some(before) if before.goes_on(&next) => before.last = *usage,
+            _ => answers.push(next)?,
+        }
+    }
+    Ok(answers)
+}
+
+impl Answered {
+    /// Whether the next usage has none for the same reason.
+    fn goes_on(&self, next: &Answered) -> bool {
+        let (Err(reason), Err(next_reason)) = (self.answer, next.answer) else {
+            return false;
+        };
+        reason == next_reason && u32::from(self.last).checked_add(1) == Some(u32::from(next.first))
+    }
+
+    /// Appends the usages and what they are given, in a line.
+    fn add_line(&self, text: &mut String, indent: usize) -> Result<(), AllocError> {
+        text.push_str("\n")?;
+        add_spaces(text, indent)?;
+        add_usage(text, self.first)?;
+        if self.first != self.last {
+            text.push_str(" to ")?;
+            add_usage(text, self.last)?;
+        }
+        add_answer(text, self.answer)
+    }
+}
+
+/// Appends what the usages of a field are given: that of a variable field behind its words, those of
+/// an array in lines of their own, so far in.
+pub fn add_answers(
+    text: &mut String,
+    field: &Field,
+    answers: &[Answered],
+    indent: usize,
+) -> Result<(), AllocError> {
+    match field {
+        Field::Constant(_) => text.push_str(" -> none: constant"),
+        Field::Variable(_) => {
+            for answered in answers {
+                add_answer(text, answered.answer)?;
+            }
+            Ok(())
+        }
+        Field::Array(_) => add_lines(text, answers, indent),
+    }
+}
+
+/// Appends what usages are given, each in a line that begins so far in.
+pub fn add_lines(text: &mut String, answers: &[Answered], indent: usize) -> Result<(), AllocError> {
+    for answered in answers {
+        answered.add_line(text, indent)?;
+    }
+    Ok(())
+}
+
+/// Appends a code with all that is known of it, or why there is none.
+fn add_answer(text: &mut String, answer: Result<Event, Unmapped>) -> Result<(), AllocError> {
+    match answer {
+        Ok(event) => add_event(text, &event),
+        Err(reason) => write!(text, " -> none: {reason}"),
+    }
+}
+
+fn add_event(text: &mut String, event: &Event) -> Result<(), AllocError> {
+    let code = event.code;
+    write!(text, " -> {code}")?;
+    for beside in event.role.beside() {
+        write!(text, " {beside}")?;
+    }
+    match event.axis {
+        Some(axis) => add_axis(text, &axis),
+        None if event.code.event_type == EventType::Absolute => {
+            text.push_str(" (bounds not known without --lenient)")
+        }
+        None => Ok(()),
+    }
+}
+
+/// Appends the bounds of an axis, and what of the rest isn't 0.
+fn add_axis(text: &mut String, axis: &Axis) -> Result<(), AllocError> {
+    let (low, high) = (axis.minimum, axis.maximum);
+    write!(text, " ({low} to {high}")?;
+    for (name, number) in [
+        ("fuzz", axis.fuzz),
+        ("flat", axis.flat),
+        ("resolution", axis.resolution),
+    ] {
+        if number != 0 {
+            write!(text, ", {name} {number}")?;
+        }
+    }
+    text.push_str(")")
+}
+
+/// An axis as JSON.
+#[derive(Clone, Copy, Drop, Serialize)]
+struct AxisObject {
+    minimum: i32,
+    maximum: i32,
+    fuzz: i32,
+    flat: i32,
+    resolution: i32,
+}
+
+/// What Linux gives usages, as JSON.
+#[derive(Drop, Serialize)]
+pub struct AnswerObject {
+    first: u32,
+    last: u32,
+    #[serde(skip_serializing_if = "Option::is_none")]
+    event_type: Option<&'static str>,
+    #[serde(skip_serializing_if = "Option::is_none")]
+    code: Option<u16>,
+    #[serde(skip_serializing_if = "Option::is_none")]
+    name: Option<&'static str>,
+    #[serde(skip_serializing_if = "Vec::is_empty")]
+    beside: Vec<&'static str>,
+    #[serde(skip_serializing_if = "Option::is_none")]
+    axis: Option<AxisObject>,
+    #[serde(skip_serializing_if = "Option::is_none")]
+    none: Option<&'static str>,
+}
+
+/// What the usages of a field are given, as JSON.
+pub fn objects_of(alloc: Global, answers: &[Answered]) -> Result<Vec<AnswerObject>, AllocError> {
+    let mut objects = Vec::new(alloc);
+    for answered in answers {
+        objects.push(object_of(alloc, answered)?)?;
+    }
+    Ok(objects)
+}
+
+fn object_of(alloc: Global, answered: &Answered) -> Result<AnswerObject, AllocError> {
+    let mut object = AnswerObject {
+        first: u32::from(answered.first),
+        last: u32::from(answered.last),
+        event_type: None,
+        code: None,
+        name: None,
+        beside: Vec::new(alloc),
+        axis: None,
+        none: None,
+    };
+    match answered.answer {
+        Ok(event) => object.add_event(&event)?,
+        Err(reason) => object.none = Some(reason.reason()),
+    }
+    Ok(object)
+}
+
+impl AnswerObject {
+    fn add_event(&mut self, event: &Event) -> Result<(), AllocError> {
+        self.event_type = Some(event.code.event_type.name());
+        self.code = Some(event.code.number);
+        self.name = event.code.name();
+        for beside in event.role.beside() {
+            if let Some(name) = beside.name() {
+                self.beside.push(name)?;
+            }
+        }
+        self.axis = event.axis.map(axis_object);
+        Ok(())
+    }
+}
+
+fn axis_object(axis: Axis) -> AxisObject {
+    AxisObject {
+        minimum: axis.minimum,
+        maximum: axis.maximum,
+        fuzz: axis.fuzz,
+        flat: axis.flat,
+        resolution: axis.resolution,
+    }
+}

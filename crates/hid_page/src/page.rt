@@ -1,0 +1,153 @@
+//! `hid page`: a page of HTML that shows a descriptor and its reports, and needs nothing else.
+use crate::device_object::{add_device_object, add_fault_object, add_heading};
+use crate::field_blocks::show_fields;
+use crate::item_blocks::{ItemBlocks, show_made_bits};
+use crate::left_out::{Most, show_notes};
+use crate::samples::{Streams, show_samples, streams_of};
+use crate::sheet::Sheet;
+use crate::shell::{AFTER_DATA, BEFORE_DATA, BEFORE_HEADING, BEFORE_TEXT, BEFORE_TITLE};
+use anyhow::{Result, bail};
+use hid_given::Given;
+use hid_input::inputs::Inputs;
+use hid_input::parsing::{descriptor_within, with_advice};
+use hid_input::settings::Settings;
+use hid_input::world::World;
+use hid_output::ending::Ending;
+use hid_output::flush;
+use hidreport::{ParserError, ReportDescriptor};
+use std::alloc::Global;
+
+/// Writes a page of HTML.
+#[derive(Drop)]
+pub struct Page<'a> {
+    /// The inputs.
+    pub inputs: Inputs<'a>,
+    /// Whether nothing is left out.
+    pub shows_all: bool,
+}
+
+impl<'a> Page<'a> {
+    /// Writes the page; a descriptor that can't be read is refused behind it.
+    pub fn run<R: World>(&self, rt: &R, settings: &Settings) -> Result<Ending> {
+        let given = descriptor_within(rt, settings, self.inputs.file)?;
+        let bytes = given.descriptor();
+        match ReportDescriptor::try_from_with(rt.alloc(), bytes, settings.parse) {
+            Ok(descriptor) => self.show_read(rt, settings, &given, &descriptor),
+            Err(ParserError::OutOfMemory) => bail!("out of memory"),
+            Err(fault) => {
+                self.show_refused(rt, settings, &given, &fault)?;
+                Err(with_advice(rt.alloc(), settings, bytes, fault))
+            }
+        }
+    }
+
+    /// A page in which nothing stands yet.
+    fn sheet(&self, alloc: Global) -> Sheet {
+        let most = if self.shows_all {
+            Most::all()
+        } else {
+            Most::usual()
+        };
+        Sheet::new(alloc, most)
+    }
+
+    /// Writes the page of a descriptor that is read.
+    fn show_read<R: World>(
+        &self,
+        rt: &R,
+        settings: &Settings,
+        given: &Given,
+        descriptor: &ReportDescriptor,
+    ) -> Result<Ending> {
+        let streams = streams_of(rt, settings, &self.inputs.reports)?;
+        let mut sheet = self.sheet(rt.alloc());
+        self.show_items(rt, settings, given, None, &mut sheet)?;
+        show_made_bits(rt, given.descriptor(), &mut sheet)?;
+        show_fields(rt, descriptor, &mut sheet)?;
+        self.show_streams(rt, given, &streams, descriptor, &mut sheet)?;
+        show_notes(rt, given, &mut sheet)?;
+        end(rt, &mut sheet)?;
+        Ok(if sheet.left_out.unknown == 0 {
+            Ending::Done
+        } else {
+            Ending::Refused
+        })
+    }
+
+    /// Writes the page of a descriptor that is refused, without fields and reports.
+    fn show_refused<R: AllocGlobal + Print + Eprint>(
+        &self,
+        rt: &R,
+        settings: &Settings,
+        given: &Given,
+        fault: &ParserError,
+    ) -> Result<()> {
+        let mut sheet = self.sheet(rt.alloc());
+        self.show_items(rt, settings, given, Some(fault), &mut sheet)?;
+        for id in ["made", "lines", "fields", "samples"] {
+            sheet.begin(id)?;
+            sheet.end()?;
+        }
+        show_notes(rt, given, &mut sheet)?;
+        end(rt, &mut sheet)
+    }
+
+    /// Writes all that comes before the fields.
+    fn show_items<R: AllocGlobal + Print>(
+        &self,
+        rt: &R,
+        settings: &Settings,
+        given: &Given,
+        fault: Option<&ParserError>,
+        sheet: &mut Sheet,
+    ) -> Result<()> {
+        let bytes = given.descriptor();
+        let blocks = ItemBlocks {
+            settings,
+            bytes,
+            fault,
+        };
+        let file = self.inputs.file;
+        sheet.text.push_str(BEFORE_TITLE)?;
+        add_heading(&mut sheet.text, given, file)?;
+        sheet.text.push_str(BEFORE_HEADING)?;
+        add_heading(&mut sheet.text, given, file)?;
+        sheet.text.push_str(BEFORE_TEXT)?;
+        blocks.show_text(rt, sheet)?;
+        sheet.text.push_str(BEFORE_DATA)?;
+        sheet.begin("device")?;
+        add_device_object(&mut sheet.lines, settings, given, file)?;
+        if let Some(fault) = fault {
+            add_fault_object(&mut sheet.lines, fault)?;
+        }
+        sheet.take(rt)?;
+        sheet.end()?;
+        blocks.show_objects(rt, sheet)
+    }
+
+    /// Writes the reports of the inputs that are named, or those beside the descriptor.
+    fn show_streams<R: AllocGlobal + Print>(
+        &self,
+        rt: &R,
+        given: &Given,
+        streams: &Streams,
+        descriptor: &ReportDescriptor,
+        sheet: &mut Sheet,
+    ) -> Result<()> {
+        let direction = self.inputs.direction;
+        sheet.begin("samples")?;
+        if self.inputs.reports.is_empty() {
+            show_samples(rt, given, given, descriptor, direction, sheet)?;
+        }
+        for stream in streams.inputs.iter() {
+            show_samples(rt, given, stream, descriptor, direction, sheet)?;
+        }
+        Ok(sheet.end()?)
+    }
+}
+
+/// Writes the end of the page.
+fn end<R: Print>(rt: &R, sheet: &mut Sheet) -> Result<()> {
+    sheet.text.push_str(AFTER_DATA)?;
+    flush(rt, &mut sheet.text)
+}

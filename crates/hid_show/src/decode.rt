@@ -1,0 +1,65 @@
+//! `hid decode`: the items of a descriptor in words.
+use anyhow::{Result, bail};
+use hid_input::input::descriptor_named;
+use hid_input::settings::Settings;
+use hid_input::world::World;
+use hid_items::item_lines::{ItemLines, ItemStyle};
+use hid_output::ending::Ending;
+use hid_output::{flush, flush_piece};
+use hidreport::{ParserError, ReportDescriptor};
+
+/// Shows the items of a descriptor.
+#[derive(Clone, Copy)]
+pub struct Decode<'a> {
+    /// The descriptor's input.
+    pub file: &'a str,
+}
+
+impl<'a> Decode<'a> {
+    /// Shows each item; then a descriptor that can't be read is refused.
+    pub fn run<R: World>(&self, rt: &R, settings: &Settings) -> Result<Ending> {
+        let given = descriptor_named(rt, settings, self.file)?;
+        let bytes = given.descriptor();
+        let fault = ReportDescriptor::try_from_with(rt.alloc(), bytes, settings.parse).err();
+        match fault {
+            Some(ParserError::OutOfMemory) => bail!("out of memory"),
+            Some(ParserError::BudgetExceeded { offset }) if bytes.len() > settings.longest() => {
+                Err(ParserError::BudgetExceeded { offset }.into())
+            }
+            Some(fault) => {
+                show_items(rt, settings, bytes, Some(&fault))?;
+                Err(fault.into())
+            }
+            None => {
+                show_items(rt, settings, bytes, None)?;
+                Ok(Ending::Done)
+            }
+        }
+    }
+}
+
+/// Shows the lines of all items, a fault's below its item or at the end.
+fn show_items<R: AllocGlobal + Print>(
+    rt: &R,
+    settings: &Settings,
+    bytes: &[u8],
+    fault: Option<&ParserError>,
+) -> Result<()> {
+    let mut text = String::new(rt.alloc());
+    let style = if settings.is_json {
+        ItemStyle::Json
+    } else if settings.is_coloured {
+        ItemStyle::Coloured
+    } else {
+        ItemStyle::Words
+    };
+    let mut lines = ItemLines::new(rt.alloc(), style, settings.parse, bytes, fault);
+    for _ in 0..bytes.len() {
+        if !lines.add_next(&mut text)? {
+            break;
+        }
+        flush_piece(rt, &mut text)?;
+    }
+    lines.end(&mut text)?;
+    flush(rt, &mut text)
+}

@@ -1,0 +1,115 @@
+//! `hid fields`: the reports of a descriptor with their fields, inside their collections.
+use crate::linux_fields::show_linux;
+use anyhow::Result;
+use hid_input::parsing::descriptor_by;
+use hid_input::settings::Settings;
+use hid_input::world::World;
+use hid_objects::field_object::add_field_object;
+use hid_output::ending::Ending;
+use hid_output::{escaped, flush, flush_piece};
+use hid_report::{Block, SameReports, field_lines};
+use hidreport::{Direction, RDescReport, Report, ReportDescriptor};
+
+/// Shows the reports of a descriptor with their fields.
+#[derive(Clone, Copy)]
+pub struct Fields<'a> {
+    /// The descriptor's input.
+    pub file: &'a str,
+    /// Whether each field has a line of its own, and each report is shown by itself.
+    pub shows_each: bool,
+    /// Whether each field has the event codes of Linux behind it.
+    pub shows_linux: bool,
+}
+
+/// Whether a descriptor has no report in any direction.
+fn has_no_report(descriptor: &ReportDescriptor) -> bool {
+    Direction::ALL
+        .iter()
+        .all(|direction| descriptor.reports(*direction).is_empty())
+}
+
+impl<'a> Fields<'a> {
+    /// Shows the reports of the three directions.
+    pub fn run<R: World>(&self, rt: &R, settings: &Settings) -> Result<Ending> {
+        if self.shows_linux {
+            return show_linux(rt, settings, self.file);
+        }
+        let descriptor = descriptor_by(rt, settings, self.file)?;
+        let mut text = String::new(rt.alloc());
+        for direction in Direction::ALL {
+            let reports = descriptor.reports(direction);
+            if settings.is_json {
+                show_objects(rt, &mut text, direction, reports)?;
+            } else {
+                self.show_reports(rt, &mut text, direction, reports)?;
+            }
+        }
+        flush(rt, &mut text)?;
+        if has_no_report(&descriptor) {
+            let file = escaped(rt.alloc(), self.file)?;
+            eprintln!(rt; "hid: {file}: no item makes a field, so there is no report")?;
+        }
+        Ok(Ending::Done)
+    }
+
+    /// Shows reports, those with the same fields once.
+    fn show_reports<R: AllocGlobal + Print>(
+        &self,
+        rt: &R,
+        text: &mut String,
+        direction: Direction,
+        reports: &[RDescReport],
+    ) -> Result<()> {
+        let same = SameReports::of(rt.alloc(), reports, self.shows_each)?;
+        for (place, report) in reports.iter().enumerate() {
+            if same.is_first(place) {
+                same.add_head(text, direction, reports, place)?;
+                self.show_fields(rt, text, report)?;
+            }
+        }
+        Ok(())
+    }
+
+    /// Shows the fields of a report, a line for those side by side that are alike but for their
+    /// bits, and one for a block that stands again.
+    fn show_fields<R: AllocGlobal + Print>(
+        &self,
+        rt: &R,
+        text: &mut String,
+        report: &RDescReport,
+    ) -> Result<()> {
+        let lines = field_lines(rt.alloc(), report, self.shows_each)?;
+        let mut next = 0usize;
+        for place in 0..lines.len() {
+            if place < next {
+                continue;
+            }
+            let rest = lines.get(place..).unwrap_or(&lines);
+            let block = if self.shows_each {
+                Block::line()
+            } else {
+                Block::at(rest)
+            };
+            block.add(text, rest)?;
+            flush_piece(rt, text)?;
+            next = place.saturating_add(block.len());
+        }
+        Ok(())
+    }
+}
+
+/// Shows the fields of reports as JSON.
+fn show_objects<R: Print>(
+    rt: &R,
+    text: &mut String,
+    direction: Direction,
+    reports: &[RDescReport],
+) -> Result<()> {
+    for report in reports {
+        for field in report.fields() {
+            add_field_object(text, direction, report, field)?;
+            flush_piece(rt, text)?;
+        }
+    }
+    Ok(())
+}

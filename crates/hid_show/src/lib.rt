@@ -1,0 +1,14 @@
+//! The commands of `hid` that show what a descriptor says, and which devices there are.
+//! Licence: MIT (LICENSE).
+#![tactic(auto)]
+
+mod decode;
+mod fields;
+mod linux_fields;
+mod list;
+mod map;
+
+pub use decode::Decode;
+pub use fields::Fields;
+pub use list::List;
+pub use map::Map;
