@@ -38,7 +38,7 @@ $(BUILD)/libhidreport.so: $(BUILD)/$(shared)
 $(BUILD)/hid $(BUILD)/hidreport: $(BUILD)/%: $(made)/%.o.gz generated/programs.c generated/heap.c
 	mkdir -p $(BUILD)
 	gzip -dc $< > $@.o
-	$(compile) $(LDFLAGS) -o $@ $@.o generated/programs.c generated/heap.c
+	$(compile) $(LDFLAGS) -Wl,--wrap=main -o $@ $@.o generated/programs.c generated/heap.c
 	rm -f $@.o
 cases = c/cases.c c/cases_print.h c/cases_words.h c/cases_asked.h c/cases_wholes.h c/cases_names.h
 $(BUILD)/ask_static: $(cases) include/hidreport.h $(BUILD)/libhidreport.a

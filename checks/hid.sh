@@ -5,13 +5,12 @@
 # it writes is read back; the pages of `hid page`; bounds of memory and time; the same answers as the
 # library's (CASES is hidreport_cases, as it is built), the same event codes as a model of Linux's and
 # the same collections as one of WebHID's; and what it says beside TShark and lsusb. The parts lie in
-# hid/; they go side by side in three lanes, and what each lane says is shown once it has ended.
+# hid/; they go side by side in lanes, and what each lane says is shown once it has ended.
 set -eu
 hid=$1 other=$2 hidreport=$3 cases=$4
 top=$(cd "$(dirname "$0")/.." && pwd)
 parts=$top/checks/hid
-said=$(mktemp -d)
-trap 'rm -rf "$said"' EXIT
+. "$top/checks/common/lanes.sh"
 
 shown() {
     bash "$parts/runs.sh" "$hid" "$other"
@@ -35,22 +34,15 @@ answered() {
     else
         echo 'hid: no `python3` on the path, so `hid`, the library and the models are not asked the same'
     fi
+}
+
+beside() {
     bash "$parts/beside.sh" tshark "$hid"
     bash "$parts/beside.sh" lsusb "$hid"
 }
 
-lanes=(shown written answered)
-declare -A started
-for lane in "${lanes[@]}"; do
-    (
-        set -e
-        "$lane"
-    ) > "$said/$lane" 2>&1 &
-    started[$lane]=$!
-done
-status=0
-for lane in "${lanes[@]}"; do
-    wait "${started[$lane]}" || status=1
-    cat "$said/$lane"
-done
-exit "$status"
+lane shown shown
+lane written written
+lane answered answered
+lane beside beside
+end_lanes

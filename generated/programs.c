@@ -1,13 +1,18 @@
 /* What the programs ask of the system besides the C library: their words, the environment and the
  * number of an error, and a folder, as the contracts ask for them that the toolchain's pages state.
  * Licence: MIT (LICENSE). */
-#define _POSIX_C_SOURCE 200809L
+#define _GNU_SOURCE
 
 #include <errno.h>
 #include <fcntl.h>
 #include <stddef.h>
 #include <stdlib.h>
 #include <string.h>
+#include <sys/syscall.h>
+#include <unistd.h>
+#ifdef __x86_64__
+#include <cpuid.h>
+#endif
 
 size_t rattle_arg_count(void);
 ptrdiff_t rattle_arg(size_t index, char *start, size_t room);
@@ -22,14 +27,19 @@ static char **words;
 static size_t variable_count;
 static char **variables;
 
-/* The loader of the GNU C library calls this, before `main`, with what `main` is called with. */
-__attribute__((constructor)) static void keep(int argc, char **argv, char **environment)
+/* The program's own, and what the linker calls in its place (-Wl,--wrap=main): no C library but GNU's
+ * hands the words to what it calls before that. */
+int __real_main(int argc, char **argv, char **environment);
+int __wrap_main(int argc, char **argv, char **environment);
+
+int __wrap_main(int argc, char **argv, char **environment)
 {
     count = (size_t)argc;
     words = argv;
     variables = environment;
     while (variables[variable_count] != NULL)
         variable_count++;
+    return __real_main(argc, argv, environment);
 }
 
 /* Puts a text at `start`, and answers its length; -1 where there is none, -2 where there is too
@@ -87,3 +97,42 @@ int rattle_open_dir_at(int folder, const char *name)
 {
     return openat(folder, name, O_RDONLY | O_DIRECTORY | O_NOFOLLOW | O_CLOEXEC);
 }
+
+/* What follows is GNU's C library's own from some version on, and not every other's: so the programs
+ * have it here, and want no version past 2.28. */
+ssize_t __write(int file, const void *start, size_t size);
+int statx(int folder, const char *restrict name, int flags, unsigned mask, void *restrict told);
+ssize_t getdents64(int folder, void *start, size_t size);
+
+/* Another name of `write`. */
+ssize_t __write(int file, const void *start, size_t size)
+{
+    return write(file, start, size);
+}
+
+/* What the system tells of a file. */
+int statx(int folder, const char *restrict name, int flags, unsigned mask, void *restrict told)
+{
+    return (int)syscall(SYS_statx, folder, name, flags, mask, told);
+}
+
+/* The next entries of a folder. */
+ssize_t getdents64(int folder, void *start, size_t size)
+{
+    return syscall(SYS_getdents64, folder, start, size);
+}
+
+#ifdef __x86_64__
+/* What the processor has, by a number of GNU's header <sys/platform/x86.h>: 0 for its leaf 1, 2 for its
+ * leaf 80000001. The programs look at the third register of those that are in use, and want x86-64-v2. */
+const unsigned *__x86_get_cpuid_feature_leaf(unsigned number);
+
+const unsigned *__x86_get_cpuid_feature_leaf(unsigned number)
+{
+    static unsigned leaves[2][8];
+    unsigned *leaf = leaves[number == 2];
+
+    __get_cpuid(number == 2 ? 0x80000001 : 1, &leaf[4], &leaf[5], &leaf[6], &leaf[7]);
+    return leaf;
+}
+#endif
