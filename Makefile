@@ -13,15 +13,19 @@ processor := $(firstword $(subst -, ,$(shell $(CC) -dumpmachine)))
 made = generated/$(processor)-linux
 text = $(made)/hidreport.s
 programs = $(patsubst $(made)/%.o.gz,$(BUILD)/%,$(wildcard $(made)/*.o.gz))
-objects = $(BUILD)/hidreport.o $(BUILD)/heap.o
+objects = $(BUILD)/library.o $(BUILD)/heap.o
 shared = libhidreport.so.$(version)
 askers = $(BUILD)/ask_static $(BUILD)/ask_shared
 compile = $(CC) -std=c11 $(CPPFLAGS) $(CFLAGS) -Iinclude
 
-all: $(BUILD)/libhidreport.a $(BUILD)/libhidreport.so $(programs)
-	@bash checks/generated.sh --fresh
+all: $(BUILD)/libhidreport.a $(BUILD)/libhidreport.so $(programs) $(BUILD)/fresh
 
-$(BUILD)/hidreport.o: $(text)
+# Says where generated/ was made from other sources than these; looked for again where one changes.
+$(BUILD)/fresh: generated/SOURCES include/hidreport.h $(shell find crates/*/src -name '*.rt')
+	@mkdir -p $(BUILD)
+	@said=$$(sh tools/program.sh fresh) || exit; \
+	    if [ -n "$$said" ]; then echo "$$said"; else touch $@; fi
+$(BUILD)/library.o: $(text)
 	mkdir -p $(BUILD)
 	$(CC) $(CFLAGS) -c -o $@ $<
 $(BUILD)/heap.o: generated/heap.c
@@ -37,9 +41,16 @@ $(BUILD)/libhidreport.so: $(BUILD)/$(shared)
 	ln -sf $(shared) $@
 $(BUILD)/hid $(BUILD)/hidreport: $(BUILD)/%: $(made)/%.o.gz generated/programs.c generated/heap.c
 	mkdir -p $(BUILD)
-	gzip -dc $< > $@.o
-	$(compile) $(LDFLAGS) -o $@ $@.o generated/programs.c generated/heap.c
-	rm -f $@.o
+	gzip -dc $< > $@.program.o
+	$(compile) $(LDFLAGS) -o $@.new $@.program.o generated/programs.c generated/heap.c
+	mv $@.new $@
+# What ./hid and ./hidreport run: of these sources, linked, proved or built without a proof.
+run-hid run-hidreport: run-%:
+	@MAKE="$(MAKE)" sh tools/program.sh run $*
+prove: prove-hid prove-hidreport
+prove-hid prove-hidreport: prove-%:
+	sh tools/program.sh prove $*
+
 cases = c/cases.c c/cases_print.h c/cases_words.h c/cases_asked.h c/cases_wholes.h c/cases_names.h
 $(BUILD)/ask_static: $(cases) include/hidreport.h $(BUILD)/libhidreport.a
 	$(compile) $(LDFLAGS) -o $@ c/cases.c $(BUILD)/libhidreport.a
@@ -79,3 +90,4 @@ clean:
 	rm -rf $(BUILD)
 
 .PHONY: all check install install-library install-programs clean
+.PHONY: run-hid run-hidreport prove prove-hid prove-hidreport
