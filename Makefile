@@ -2,10 +2,16 @@
 # programs `hid` and `hidreport`:
 #   make           builds them into build/: a static and a shared library, and the programs
 #   make check     asks both libraries the questions of c/cases.txt
-#   make install   puts all of it into PREFIX, below DESTDIR where that is given
+#   make install   puts all of it into PREFIX, below DESTDIR where that is given; BINDIR, DATADIR,
+#                  INCLUDEDIR and LIBDIR may be named one by one
+#   make prove     proves the programs by the toolchain, so that ./hid and ./hidreport run these
 # CC says for which processor it compiles. RUN runs a program of another one, as qemu-aarch64.
 PREFIX = /usr/local
-CFLAGS = -O2
+BINDIR = $(PREFIX)/bin
+DATADIR = $(PREFIX)/share
+INCLUDEDIR = $(PREFIX)/include
+LIBDIR = $(PREFIX)/lib
+CFLAGS ?= -O2
 BUILD = build
 number = $(shell sed -n 's/^.define HIDREPORT_VERSION_$(1) //p' include/hidreport.h)
 version := $(call number,MAJOR).$(call number,MINOR).$(call number,PATCH)-$(call number,STAGE)
@@ -13,15 +19,21 @@ processor := $(firstword $(subst -, ,$(shell $(CC) -dumpmachine)))
 made = generated/$(processor)-linux
 text = $(made)/hidreport.s
 programs = $(patsubst $(made)/%.o.gz,$(BUILD)/%,$(wildcard $(made)/*.o.gz))
-objects = $(BUILD)/hidreport.o $(BUILD)/heap.o
+objects = $(BUILD)/library.o $(BUILD)/heap.o
 shared = libhidreport.so.$(version)
+# What programs that are linked with it ask for: docs/C.md says when its number is another.
+soname = libhidreport.so.0
 askers = $(BUILD)/ask_static $(BUILD)/ask_shared
 compile = $(CC) -std=c11 $(CPPFLAGS) $(CFLAGS) -Iinclude
 
-all: $(BUILD)/libhidreport.a $(BUILD)/libhidreport.so $(programs)
-	@bash checks/generated.sh --fresh
+all: $(BUILD)/libhidreport.a $(BUILD)/libhidreport.so $(BUILD)/hidreport.3 $(programs) $(BUILD)/fresh
 
-$(BUILD)/hidreport.o: $(text)
+# Says where generated/ was made from other sources than these; looked for again where one changes.
+$(BUILD)/fresh: generated/SOURCES include/hidreport.h $(shell find crates/*/src -name '*.rt')
+	@mkdir -p $(BUILD)
+	@said=$$(sh tools/program.sh fresh) || exit; \
+	    if [ -n "$$said" ]; then echo "$$said"; else touch $@; fi
+$(BUILD)/library.o: $(text)
 	mkdir -p $(BUILD)
 	$(CC) $(CFLAGS) -c -o $@ $<
 $(BUILD)/heap.o: generated/heap.c
@@ -31,15 +43,23 @@ $(BUILD)/libhidreport.a: $(objects)
 	rm -f $@
 	$(AR) rcs $@ $^
 $(BUILD)/$(shared): $(objects) c/hidreport.map
-	$(CC) $(CFLAGS) $(LDFLAGS) -shared -Wl,-soname,$(shared),-z,defs,--gc-sections \
+	$(CC) $(CFLAGS) $(LDFLAGS) -shared -Wl,-soname,$(soname),-z,defs,--gc-sections \
 	    -Wl,--version-script=c/hidreport.map -o $@ $(objects)
 $(BUILD)/libhidreport.so: $(BUILD)/$(shared)
-	ln -sf $(shared) $@
+	ln -sf $(shared) $(BUILD)/$(soname)
+	ln -sf $(soname) $@
 $(BUILD)/hid $(BUILD)/hidreport: $(BUILD)/%: $(made)/%.o.gz generated/programs.c generated/heap.c
 	mkdir -p $(BUILD)
-	gzip -dc $< > $@.o
-	$(compile) $(LDFLAGS) -Wl,--wrap=main -o $@ $@.o generated/programs.c generated/heap.c
-	rm -f $@.o
+	gzip -dc $< > $@.program.o
+	$(compile) $(LDFLAGS) -Wl,--wrap=main -o $@.new $@.program.o generated/programs.c generated/heap.c
+	mv $@.new $@
+# What ./hid and ./hidreport run: of these sources, linked, proved or built without a proof.
+run-hid run-hidreport: run-%:
+	@MAKE="$(MAKE)" sh tools/program.sh run $*
+prove: prove-hid prove-hidreport
+prove-hid prove-hidreport: prove-%:
+	sh tools/program.sh prove $*
+
 cases = c/cases.c c/cases_print.h c/cases_words.h c/cases_asked.h c/cases_wholes.h c/cases_names.h
 $(BUILD)/ask_static: $(cases) include/hidreport.h $(BUILD)/libhidreport.a
 	$(compile) $(LDFLAGS) -o $@ c/cases.c $(BUILD)/libhidreport.a
@@ -55,27 +75,39 @@ check: all $(askers)
 	    echo "$$asker: the wanted answers to $$(grep -c '^[a-z]' $(BUILD)/questions) questions"; \
 	done
 
-into = $(DESTDIR)$(PREFIX)
-package = $(into)/share/hidreport/rust
+# The shell reads where to from its environment, so that a quote or a space in it is one of its letters.
+export BINDIR DATADIR DESTDIR INCLUDEDIR LIBDIR PREFIX
+put = put() { install -D -m 644 "$$1" "$$DESTDIR$$2"; }
+package = $(shell find rust/*.toml rust/build.rs rust/README.md rust/src rust/examples -type f)
+texts = $(wildcard share/*/*/*)
 install: all install-library install-programs
-install-library: $(BUILD)/libhidreport.a $(BUILD)/libhidreport.so
-	mkdir -p "$(into)/include" "$(into)/lib/pkgconfig" "$(into)/share/man/man3"
-	rm -rf "$(package)"
-	mkdir -p "$(package)"
-	cp include/hidreport.h "$(into)/include/"
-	cp $(BUILD)/libhidreport.a $(BUILD)/$(shared) "$(into)/lib/"
-	ln -sf $(shared) "$(into)/lib/libhidreport.so"
-	awk -v version=$(version) -f c/man_page.awk include/hidreport.h \
-	    > "$(into)/share/man/man3/hidreport.3"
-	sed 's/VERSION/$(version)/' c/hidreport.pc > "$(into)/lib/pkgconfig/hidreport.pc"
-	cp -r rust/*.toml rust/README.md rust/build.rs rust/src rust/examples "$(package)/"
-	sed -i 's/^version = .*/version = "$(version)"/' "$(package)/Cargo.toml"
+install-library: $(BUILD)/libhidreport.a $(BUILD)/libhidreport.so $(BUILD)/hidreport.3
+	@$(put) && rm -rf "$$DESTDIR$$DATADIR/hidreport/rust" && \
+	    put include/hidreport.h "$$INCLUDEDIR/hidreport.h" && \
+	    put $(BUILD)/libhidreport.a "$$LIBDIR/libhidreport.a" && \
+	    put $(BUILD)/$(shared) "$$LIBDIR/$(shared)" && \
+	    ln -sf $(shared) "$$DESTDIR$$LIBDIR/$(soname)" && \
+	    ln -sf $(soname) "$$DESTDIR$$LIBDIR/libhidreport.so" && \
+	    put c/hidreport.pc "$$LIBDIR/pkgconfig/hidreport.pc" && \
+	    { if [ "$$LIBDIR $$INCLUDEDIR" = "$$PREFIX/lib $$PREFIX/include" ]; \
+	        then echo 'libdir=$${pcfiledir}/..' && echo 'includedir=$${pcfiledir}/../../include'; \
+	        else echo "libdir=$$LIBDIR" && echo "includedir=$$INCLUDEDIR"; fi && \
+	    sed 's/VERSION/$(version)/' c/hidreport.pc; } > "$$DESTDIR$$LIBDIR/pkgconfig/hidreport.pc" && \
+	    put $(BUILD)/hidreport.3 "$$DATADIR/man/man3/hidreport.3" && \
+	    for file in $(package); do put $$file "$$DATADIR/hidreport/$$file" || exit; done && \
+	    sed -i 's/^version = .*/version = "$(version)"/' "$$DESTDIR$$DATADIR/hidreport/rust/Cargo.toml"
 install-programs: $(programs)
-	$(if $(programs),mkdir -p "$(into)/bin" "$(into)/share")
-	$(if $(programs),cp $(programs) "$(into)/bin/")
-	$(if $(programs),cp -r share/man share/bash-completion share/zsh share/fish "$(into)/share/")
+	@$(put) && for file in $(if $(programs),$(texts)); do \
+	        put $$file "$$DATADIR/$${file#share/}" || exit; done && \
+	    for program in $(programs); do \
+	        install -D -m 755 $$program "$$DESTDIR$$BINDIR/$${program##*/}" || exit; done
+$(BUILD)/hidreport.3: c/man_page.awk include/hidreport.h
+	@mkdir -p $(BUILD)
+	awk -v version=$(version) -f c/man_page.awk include/hidreport.h > $@.new
+	mv $@.new $@
 
 clean:
 	rm -rf $(BUILD)
 
 .PHONY: all check install install-library install-programs clean
+.PHONY: run-hid run-hidreport prove prove-hid prove-hidreport

@@ -3,7 +3,6 @@
 # no toolchain (docs/C.md).
 #   generated.sh [TREE]          checks it; the proofs are those that TREE keeps, or this tree
 #   generated.sh --write [TREE]  makes it anew; without TREE it proves what isn't proved
-#   generated.sh --fresh         says where it was made from other sources than these
 # By the toolchain that generated/SOURCES notes each file is, byte for byte, what the proofs build:
 # a minute where the checks of hidreport_c are kept too (in out/, or in the folder HIDREPORT_KEPT),
 # else three. By any other, and by none, answers decide: with no `rt` on the path the archive that
@@ -16,7 +15,6 @@ set -eu
 
 top=$(cd "$(dirname "$0")/.." && pwd)
 cd "$top"
-crates=(hidreport_types hidreport_items hidreport_lists hidreport hidreport_usages hidreport_c)
 processors=(x86_64 aarch64)
 programs=(hid hidreport)
 packed=("${programs[@]/#/x86_64-linux/}")
@@ -38,10 +36,9 @@ noted() {
     sed -n "s/^$1: //p" generated/SOURCES
 }
 
-# A sum over the code of the library's crates below a folder. (Definitions and proofs make no code.)
+# A sum over the code of a part below a folder. (Definitions and proofs make no code.)
 sum_of() {
-    (cd "$1/crates" && find "${crates[@]/%//src}" -name '*.rt' -type f | LC_ALL=C sort |
-        xargs -d '\n' sha256sum | sha256sum | cut -d ' ' -f 1)
+    sh "$1/tools/program.sh" code "$2"
 }
 
 version_of_header() {
@@ -49,23 +46,19 @@ version_of_header() {
         paste -sd . | sed 's/\.\([0-9]*\)$/-\1/'
 }
 
-# Is a part made from the sources with this sum? Where the version is another besides, that is a fault.
-is_fresh() {
-    local part=$1 sum=$2 line
-    [ "$sum" != "$(noted "$part")" ] || return 0
-    line="stale ($part): made from those of $(noted version), which have changed since"
-    [ "$(version_of_header)" = "$(noted version)" ] || wrong "$line, as the version has"
-    say "$line"
-    return 1
-}
-
-# Which parts are: the library and the programs.
+# Which parts are made from these sources: the library and the programs. Where one isn't that is said, and
+# where the version is another besides it is a fault.
 find_fresh() {
-    local program
+    local part status
     fresh=()
-    ! is_fresh sources "$(sum_of "$top")" || fresh=(library)
-    for program in "${programs[@]}"; do
-        ! is_fresh "code of $program" "$("./$program" --code)" || fresh+=("$program")
+    for part in library "${programs[@]}"; do
+        status=0
+        sh tools/program.sh fresh "$part" || status=$?
+        case $status in
+            0) fresh+=("$part") ;;
+            1) ;;
+            *) exit 1 ;;
+        esac
     done
 }
 
@@ -84,8 +77,8 @@ program_of() {
 
 # Is the program that lies in a tree proved of the sources there?
 is_proved() {
-    [ "$("$1/$2" --sources)" = "$(cat "$1/crates/$(crate_of "$2")/out/built_from" 2> /dev/null)" ] &&
-        [ -x "$(program_of "$1" "$2")" ]
+    [ "$(sh "$1/tools/program.sh" sources "$2")" = "$(cat "$1/build/proved/$2.sources" 2> /dev/null)" ] &&
+        cmp -s "$1/build/proved/$2" "$(program_of "$1" "$2")"
 }
 
 # The program that rt links of an object.
@@ -127,12 +120,12 @@ write() {
         }
         HIDREPORT_KEPT="$top/crates/hidreport_c/out/incremental"
         for program in "${programs[@]}"; do
-            "./$program" --prove
+            make -s "prove-$program"
         done
     fi
-    [ "$(sum_of "$1")" = "$(sum_of "$top")" ] || wrong "$1 has other sources"
+    [ "$(sum_of "$1" library)" = "$(sum_of "$top" library)" ] || wrong "$1 has other sources"
     for program in "${programs[@]}"; do
-        [ "$("$1/$program" --code)" = "$("./$program" --code)" ] || wrong "$1 has other sources"
+        [ "$(sum_of "$1" "$program")" = "$(sum_of "$top" "$program")" ] || wrong "$1 has other sources"
         is_proved "$1" "$program" || wrong "$program isn't proved in $1"
         [ -r "$(program_of "$1" "$program").o" ] || wrong "$1 has no object of $program"
     done
@@ -145,9 +138,9 @@ write() {
         echo 'From what, and by what, checks/generated.sh --write made this folder; then its sums.'
         echo "version: $(version_of_header)"
         echo "toolchain: $(rt version)"
-        echo "sources: $(sum_of "$top")"
+        echo "sources: $(sum_of "$top" library)"
         for program in "${programs[@]}"; do
-            echo "code of $program: $("./$program" --code)"
+            echo "code of $program: $(sum_of "$top" "$program")"
         done
         (cd generated && sha256sum "${files[@]}")
     } > generated/SOURCES
@@ -163,7 +156,7 @@ has_its_sums() {
 # Is it what the proofs build?
 compare() {
     local file
-    [ "$(sum_of "$1")" = "$(noted sources)" ] || wrong "$1 has other sources"
+    [ "$(sum_of "$1" library)" = "$(noted sources)" ] || wrong "$1 has other sources"
     build "$1"
     for file in "${processors[@]/%/-linux/hidreport.s}"; do
         cmp "generated/$file" "$scratch/built/$file" ||
@@ -173,7 +166,7 @@ compare() {
 }
 
 compare_program() {
-    [ "$("$1/$2" --code)" = "$(noted "code of $2")" ] || wrong "$1 has other sources"
+    [ "$(sum_of "$1" "$2")" = "$(noted "code of $2")" ] || wrong "$1 has other sources"
     is_proved "$1" "$2" || wrong "$2 isn't proved in $1"
     gzip -dc "generated/x86_64-linux/$2.o.gz" > "$scratch/$2.o"
     link "$scratch/$2.o" "$scratch/$2" > "$scratch/said" 2>&1 || {
@@ -221,7 +214,7 @@ hide_rt() {
 # What a user has: no more of the tree than these files.
 copy() {
     mkdir -p "$1/crates"
-    cp -r Makefile generated include c rust checks share crates.txt hid hidreport "$1/"
+    cp -r Makefile generated include c rust tools checks share crates.txt hid hidreport "$1/"
     rm -rf "$1/rust/target"
     (cd crates && cp -r --parents hid/data hidreport_main/data hidreport_main/stdout \
         hidreport_cases/data ./*/src "$1/crates/")
@@ -231,7 +224,7 @@ copy() {
 # and it makes the stored runs.
 ask_program() {
     local tree=$1 program=$2 linked
-    linked="$tree/crates/$(crate_of "$program")/out/linked/$program"
+    linked="$tree/build/run/$program"
     case $program in
         hid) set -- fields "$tree/crates/hid/data/mouse.hex" ;;
         *) set -- items "$tree/crates/hidreport_main/data/mouse.rdesc" ;;
@@ -240,7 +233,6 @@ ask_program() {
         wrong "the first call of ./$program fails: $(tail -n 1 "$scratch/errors")"
     grep -q "^$program: linked from generated/" "$scratch/errors" ||
         wrong "./$program isn't linked from generated/"
-    cmp "$linked" "$tree/build/$program" || wrong "make links another $program"
     case $program in
         hid) bash "$tree/checks/hid/runs.sh" "$linked" ;;
         *) sh "$tree/checks/hidreport/statuses.sh" "$linked" ;;
@@ -312,16 +304,10 @@ tree() {
     (cd "${1:-$top}" && pwd)
 }
 
-case ${1-} in
-    --fresh)
-        find_fresh
-        exit 0
-        ;;
-    --write)
-        shift
-        write "$(tree "$@")"
-        ;;
-esac
+if [ "${1-}" = --write ]; then
+    shift
+    write "$(tree "$@")"
+fi
 has_its_sums generated || wrong 'a file has another sum than the one that is noted'
 find_fresh
 [ ${#fresh[@]} -gt 0 ] || exit 0

@@ -1,11 +1,12 @@
 #!/bin/bash
 # hid.sh HID OTHER_HID HIDREPORT CASES
-# The program `hid` from outside: its stored runs, by both compilers' programs; its helps; devices; the
-# samples of the documents (of the program HIDREPORT, too); the names that shells complete; that what
-# it writes is read back; the pages of `hid page`; bounds of memory and time; the same answers as the
-# library's (CASES is hidreport_cases, as it is built), the same event codes as a model of Linux's and
-# the same collections as one of WebHID's; and what it says beside TShark and lsusb. The parts lie in
-# hid/; they go side by side in lanes, and what each lane says is shown once it has ended.
+# The program `hid` from outside: its stored runs, by both compilers' programs; its options and those of
+# HIDREPORT in all texts that have them; devices; the samples of the documents (of HIDREPORT, too); the
+# names that shells complete; that what it writes is read back; the pages of `hid page`; bounds of memory
+# and time; the same answers as the library's (CASES is hidreport_cases, as it is built), the same event
+# codes as a model of Linux's and the same collections as one of WebHID's; and what it says beside TShark
+# and lsusb. The parts lie in hid/; they go side by side in lanes, and what each lane says is shown once
+# it has ended.
 set -eu
 hid=$1 other=$2 hidreport=$3 cases=$4
 top=$(cd "$(dirname "$0")/.." && pwd)
@@ -14,7 +15,7 @@ parts=$top/checks/hid
 
 shown() {
     bash "$parts/runs.sh" "$hid" "$other"
-    bash "$parts/help.sh" "$hid"
+    bash "$parts/options.sh" "$hid" "$hidreport"
     bash "$parts/devices.sh" "$hid"
     bash "$parts/samples.sh" "$hid" "$hidreport"
     bash "$parts/names.sh" "$hid"

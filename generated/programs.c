@@ -1,10 +1,12 @@
 /* What the programs ask of the system besides the C library: their words, the environment and the
- * number of an error, and a folder, as the contracts ask for them that the toolchain's pages state.
+ * number of an error, and a folder, as the contracts ask for them that the toolchain's pages state;
+ * and a signal that they would ignore, and don't, so that a closed pipe ends them quietly.
  * Licence: MIT (LICENSE). */
 #define _GNU_SOURCE
 
 #include <errno.h>
 #include <fcntl.h>
+#include <signal.h>
 #include <stddef.h>
 #include <stdlib.h>
 #include <string.h>
@@ -21,6 +23,7 @@ ptrdiff_t rattle_env_at(size_t index, char *start, size_t room);
 int rattle_errno(void);
 void rattle_set_errno(int error);
 int rattle_open_dir_at(int folder, const char *name);
+void (*__sysv_signal(int number, void (*handler)(int)))(int);
 
 static size_t count;
 static char **words;
@@ -136,3 +139,12 @@ const unsigned *__x86_get_cpuid_feature_leaf(unsigned number)
     return leaf;
 }
 #endif
+
+/* The programs call this, the C library's own, once: at their start, to ignore SIGPIPE. It stays as it
+ * was when they were called, so that one whose output is closed ends by it, as `head` closes it. */
+void (*__sysv_signal(int number, void (*handler)(int)))(int)
+{
+    (void)number;
+    (void)handler;
+    return SIG_DFL;
+}

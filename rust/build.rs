@@ -28,8 +28,16 @@ fn main() {
 fn found(package: &Path) -> PathBuf {
     match [package.join("generated"), package.join("../generated")].iter().find(|it| it.is_dir()) {
         Some(generated) => made(generated),
-        None => package.join("../../../lib"),
+        None => installed(&package.join("../../..")),
     }
+}
+
+/// The folder of a PREFIX with the library: lib, or one where a distribution has it.
+fn installed(prefix: &Path) -> PathBuf {
+    let of_processor = format!("lib/{}-linux-gnu", variable("CARGO_CFG_TARGET_ARCH"));
+    let folders = ["lib", "lib64", &of_processor].map(|it| prefix.join(it));
+    let found = folders.iter().find(|it| it.join("libhidreport.a").is_file());
+    found.unwrap_or(&folders[0]).clone()
 }
 
 /// Makes the library, and answers in which folder.
@@ -66,8 +74,14 @@ fn compiler(processor: &str) -> String {
     })
 }
 
+/// Runs a tool that may be several words, as `ccache gcc` is, unless they are the name of a file.
 fn run<'a>(tool: &str, arguments: impl Iterator<Item = &'a PathBuf>) {
-    match Command::new(tool).args(arguments).status() {
+    let words: Vec<&str> = match Path::new(tool).is_file() {
+        true => vec![tool],
+        false => tool.split_whitespace().collect(),
+    };
+    let (name, first) = words.split_first().unwrap_or_else(|| fail("CC or AR has no words"));
+    match Command::new(name).args(first).args(arguments).status() {
         Ok(status) if status.success() => {}
         Ok(status) => fail(&format!("{tool} ended with {status}")),
         Err(error) => fail(&format!("{tool}: {error}")),

@@ -4,7 +4,7 @@
 # the test prints is compared with what the program `hidreport` prints, over the descriptors of
 # bench/ and reports with several ids, whole and cut short, under valgrind. It is no part of the
 # gate, since it needs a C compiler; where cargo, a C++ compiler or valgrind is missing it says so
-# and goes on. From a clean clone it takes as long as ./hidreport --prove; else a minute.
+# and goes on. From a clean clone it takes as long as `make prove-hidreport`; else a minute.
 set -eu
 
 top=$(cd "$(dirname "$0")/../.." && pwd)
@@ -24,8 +24,7 @@ wrong() {
     exit 1
 }
 
-# The launcher proves and builds the program where that isn't done.
-"$top/hidreport" --prove
+make -s -C "$top" prove-hidreport
 "$top/hidreport" values "$data/mouse.rdesc" "$data/mouse.report" > "$scratch/mouse"
 program="$top/crates/hidreport_main/out/hidreport_main"
 "$top/install" "$prefix" c > "$scratch/said" || wrong 'nothing was installed'

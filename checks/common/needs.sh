@@ -8,9 +8,9 @@ need_rt() {
     }
 }
 
-# A folder can be written.
+# A folder can be written: it is made where it isn't there, and nothing is put into it.
 need_room() {
-    { mkdir -p "$2" && : > "$2/.room" && rm "$2/.room"; } 2> /dev/null || {
+    { mkdir -p "$2" && [ -w "$2" ] && [ -x "$2" ]; } 2> /dev/null || {
         echo "$1: the folder $2 can't be written" >&2
         exit 2
     }

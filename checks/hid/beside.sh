@@ -11,7 +11,7 @@ other=${1:-tshark}
 self=beside_$other
 shown=$top/compare/$other.txt
 differences=$top/compare/${other}_differences.txt
-program=${2:-$top/crates/hid/out/hid}
+program=${2:-$top/build/run/hid}
 [ -f "$shown" ] || {
     echo "beside: there is no $shown" >&2
     exit 2

@@ -1,11 +1,11 @@
 #!/bin/bash
 # The HID devices of a machine, by `hid list` and by the names that other commands take for them: on
 # a tree made as Linux makes /sys/class/hidraw, and on trees where something is missing. Its argument
-# is the program; else it is the one that ./hid built.
+# is the program; else it is the one that ./hid runs.
 set -euo pipefail
 
 top=$(cd "$(dirname "$0")/../.." && pwd)
-program=$(readlink -f "${1:-$top/crates/hid/out/hid}")
+program=$(readlink -f "${1:-$top/build/run/hid}")
 [ -x "$program" ] || {
     echo "hid_devices: no program $program" >&2
     exit 2

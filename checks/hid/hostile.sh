@@ -3,11 +3,11 @@
 # that announce 2^32 - 1 fields, elements or bytes, 64 KB of one item or of one line of each form, a
 # megabyte of them, reports and lines without an end. What is too much is refused in words, by its own
 # bounds: never for want of memory. And no control character of an input reaches the terminal.
-# The argument, if any, is the program to look at; else the one that ./hid built.
+# The argument, if any, is the program to look at; else the one that ./hid runs.
 set -euo pipefail
 
 top=$(cd "$(dirname "$0")/../.." && pwd)
-program=$(readlink -f "${1:-$top/crates/hid/out/hid}")
+program=$(readlink -f "${1:-$top/build/run/hid}")
 [ -x "$program" ] || {
     echo "hid_hostile: no program $program" >&2
     exit 2

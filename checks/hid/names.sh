@@ -2,11 +2,11 @@
 # The names that `hid set --names` shows: each is taken, and those of fields with one value set each
 # another bit. And that bash completes them behind `hid set FILE ID`, in quotes or behind backslashes as
 # they were begun; zsh and fish, too, where these are there. The argument, if any, is the program to
-# look at; else the one that ./hid built.
+# look at; else the one that ./hid runs.
 set -euo pipefail
 
 top=$(cd "$(dirname "$0")/../.." && pwd)
-program=$(readlink -f "${1:-$top/crates/hid/out/hid}")
+program=$(readlink -f "${1:-$top/build/run/hid}")
 [ -x "$program" ] || {
     echo "hid_names: no program $program" >&2
     exit 2

@@ -2,10 +2,10 @@
 # What `hid page` writes: its JSON is what `hid decode`, `fields`, `record` and `values` say of the
 # same inputs, nothing of an input is markup or script, and its policy lets run just its own script
 # (page.py); where `chromium` is on the path, what a browser makes of it, too (page_browser.py). The
-# argument, if any, is the program; else it is the one that ./hid built.
+# argument, if any, is the program; else it is the one that ./hid runs.
 set -eu
 top=$(cd "$(dirname "$0")/../.." && pwd)
-program=$(readlink -f "${1:-$top/crates/hid/out/hid}")
+program=$(readlink -f "${1:-$top/build/run/hid}")
 [ -x "$program" ] || {
     echo "hid_page: no program $program" >&2
     exit 2

@@ -9,8 +9,8 @@
 set -euo pipefail
 
 top=$(cd "$(dirname "$0")/../.." && pwd)
-hid=$(readlink -f "${1:-$top/crates/hid/out/hid}")
-hidreport=$(readlink -f "${2:-$top/crates/hidreport_main/out/hidreport_main}")
+hid=$(readlink -f "${1:-$top/build/run/hid}")
+hidreport=$(readlink -f "${2:-$top/build/run/hidreport}")
 for program in "$hid" "$hidreport"; do
     [ -x "$program" ] || {
         echo "samples: no program $program" >&2

@@ -4,11 +4,11 @@
 # to others (checks/hid/written.py), what `hid fields` folds is what it shows line by line
 # (checks/hid/fields.py), what `hid uhid` writes is events (checks/hid/uhid.sh). Then what no stored run
 # shows (checks/hid/runs.sh): a stream's times, and refusals for which it takes more than a file. Its
-# argument is the program; else it is the one that ./hid built.
+# argument is the program; else it is the one that ./hid runs.
 set -eu
 
 top=$(cd "$(dirname "$0")/../.." && pwd)
-program=${1:-$top/crates/hid/out/hid}
+program=${1:-$top/build/run/hid}
 [ -x "$program" ] || {
     echo "hid_texts: no program $program" >&2
     exit 2

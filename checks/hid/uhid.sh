@@ -2,11 +2,11 @@
 # What `hid uhid` writes is, byte for byte, what a program in C makes of the same recording by the
 # structs of linux/uhid.h, and each event is written at once, as the kernel wants it; then what it
 # says and refuses where that takes more than a stored run. The argument is the program; else it is
-# the one that ./hid built. Without a C compiler or that header nothing is tried.
+# the one that ./hid runs. Without a C compiler or that header nothing is tried.
 set -euo pipefail
 
 top=$(cd "$(dirname "$0")/../.." && pwd)
-program=$(readlink -f "${1:-$top/crates/hid/out/hid}")
+program=$(readlink -f "${1:-$top/build/run/hid}")
 [ -x "$program" ] || {
     echo "hid_uhid: no program $program" >&2
     exit 2

@@ -4,11 +4,11 @@
 # lies, has no reports. Within a limit of 65,536 files are answered in 64 MB and a second: those
 # that ask for much, 64 KB of one item, ones of more than 1 MiB, and ones without end. `items` and
 # `rebuild` of 64 KB are, too.
-# The argument, if any, is the program to look at; else the one that ./hidreport built.
+# The argument, if any, is the program to look at; else the one that ./hidreport runs.
 set -eu
 
 top=$(cd "$(dirname "$0")/../.." && pwd)
-program=${1:-"$top/crates/hidreport_main/out/hidreport_main"}
+program=${1:-"$top/build/run/hidreport"}
 if [ ! -x "$program" ]; then
     echo "little_memory: no program $program" >&2
     exit 2

@@ -1,32 +1,25 @@
 #!/bin/sh
 # The program's statuses and what it prints, from outside: 0, 1 and 2, also where a file, a folder or the
-# output is no good. ./hidreport proves and builds the program first, where it isn't built. The argument, if
-# any, is another program to look at.
+# output is no good. The argument is the program; else it is the one that ./hidreport runs.
 set -eu
+export LC_ALL=C
 
 top=$(cd "$(dirname "$0")/../.." && pwd)
-. "$top/checks/common/needs.sh"
 crate="$top/crates/hidreport_main"
 mouse="$crate/data/mouse.rdesc"
 report="$crate/data/mouse.report"
 scratch=$(mktemp -d)
 trap 'rm -rf "$scratch"' EXIT
 
-if [ $# -gt 0 ]; then
-    program=$1
-else
-    "$top/hidreport" --prove && "$top/hidreport" values "$mouse" "$report" > "$scratch/first" || {
-        echo 'statuses: ./hidreport shows no values' >&2
-        exit 1
-    }
-    program="$crate/out/hidreport_main"
-fi
+[ $# -gt 0 ] || make -s -C "$top" run-hidreport
+program=${1-$top/build/run/hidreport}
 if [ ! -x "$program" ]; then
     echo "statuses: no program $program" >&2
     exit 2
 fi
 
-usage=$(sed -n "s/^usage='\(.*\)'$/\1/p" "$top/hidreport")
+usage='usage: hidreport items FILE | values FILE REPORT | values-within LIMIT FILE REPORT | '
+usage="${usage}values-globals FILE REPORT | values-globals-within LIMIT FILE REPORT | rebuild FILE"
 passed=0
 
 # What is shown, the status and the one line that are wanted, and the words; the output is $scratch/out where it isn't told.

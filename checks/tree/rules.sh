@@ -83,7 +83,6 @@ README.md Version $version (
 CHANGELOG.md ## $version (
 crates/hid/src/command_line.rt .version("$version")
 crates/hid/data/words.txt | hid $version
-share/help/version hid $version
 share/man/man1/hid.1 "hidreport $version"
 share/man/man1/hidreport.1 "hidreport $version"
 rust/Cargo.toml version = "$version"

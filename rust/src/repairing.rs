@@ -3,7 +3,7 @@ use crate::c;
 use crate::error::ParserError;
 use crate::options::ParseOptions;
 
-pub use crate::c::{Change, Reason as Reason};
+pub use crate::c::{Change, Reason};
 
 /// What [`repair`] mends, and how what it writes is read.
 #[derive(Clone, Copy, Debug, PartialEq, Eq)]

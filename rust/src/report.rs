@@ -16,7 +16,8 @@ pub trait Report {
 
     /// How many bytes the report has, its id counted: its bits, rounded up.
     fn size_in_bytes(&self) -> usize {
-        self.size_in_bits().div_ceil(8)
+        let bits = self.size_in_bits();
+        bits / 8 + usize::from(bits % 8 != 0)
     }
 }
 

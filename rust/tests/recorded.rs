@@ -38,7 +38,10 @@ fn parsed(read: &mut Read, options: ParseOptions, bytes: &str, has_ids: bool) ->
 /// The field with a number, with its public parts changed as a question says.
 fn changed(read: &Read, words: &str) -> Field {
     let words: Vec<&str> = words.split(' ').collect();
-    let [number, bits, count, minimum] = words[..] else { panic!("{words:?}") };
+    let (number, bits, count, minimum) = match words[..] {
+        [number, bits, count, minimum] => (number, bits, count, minimum),
+        _ => panic!("{words:?}"),
+    };
     let number: u32 = number.parse().expect("a field's number");
     let descriptor = read.as_ref().expect("a descriptor");
     let reports =
@@ -81,7 +84,10 @@ fn outcome(answer: Result<(), InsertError>, bytes: &[u8], before: &[u8]) -> Stri
 /// `FIELD FIRST..END COUNT MINIMUM / NUMBER .. / BYTES`; an index stands before one number.
 fn inserted(read: &Read, rest: &str, is_one: bool) -> String {
     let parts: Vec<&str> = rest.split(" / ").collect();
-    let [field, numbers, bytes] = parts[..] else { panic!("{rest}") };
+    let (field, numbers, bytes) = match parts[..] {
+        [field, numbers, bytes] => (field, numbers, bytes),
+        _ => panic!("{rest}"),
+    };
     let (index, numbers) = match numbers.split_once(' ') {
         Some((index, number)) if is_one => (index.parse().expect("an index"), number),
         _ => (0, numbers),

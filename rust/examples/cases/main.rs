@@ -124,8 +124,9 @@ impl Asked {
 
     /// Questions of a direction.
     fn ask_direction(&mut self, kind: &str, word: &str, descriptor: &[u8], report: &[u8]) {
-        let Some(direction) = direction_of(word) else {
-            return println!("  count 0 offset 0 accepted");
+        let direction = match direction_of(word) {
+            Some(direction) => direction,
+            None => return println!("  count 0 offset 0 accepted"),
         };
         match kind {
             "describe" => {
@@ -163,8 +164,9 @@ impl Asked {
 
     /// Questions of one report or one field, by a direction, an id and a usage.
     fn ask_lookup(&mut self, kind: &str, words: &[&str], descriptor: &[u8]) {
-        let Some(direction) = direction_of(words[0]) else {
-            return println!("  count 0 offset 0 accepted");
+        let direction = match direction_of(words[0]) {
+            Some(direction) => direction,
+            None => return println!("  count 0 offset 0 accepted"),
         };
         let (options, id) = (self.options, id_of(words[1]));
         if kind == "field-for" {
@@ -262,8 +264,9 @@ impl Asked {
 
     /// Questions of a repair.
     fn ask_repair(&self, kind: &str, words: &[&str], descriptor: &[u8]) {
-        let (Some(mends), room) = (mends_of(words[0]), room_of(words[1])) else {
-            return say_unknown(kind);
+        let (mends, room) = match mends_of(words[0]) {
+            Some(mends) => (mends, room_of(words[1])),
+            None => return say_unknown(kind),
         };
         if kind == "repair" {
             let bytes = counted(hidreport::c::repair(descriptor, self.options, mends));

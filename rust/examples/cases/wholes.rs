@@ -47,7 +47,7 @@ fn ask_values(asked: &Asked, kind: &str, room: &str, report: &[u8]) {
 }
 
 /// Answers a question of these kinds, and no other.
-pub fn ask(asked: &mut Asked, kind: &str, words: &[&str], report: &[u8]) -> bool {
+pub(crate) fn ask(asked: &mut Asked, kind: &str, words: &[&str], report: &[u8]) -> bool {
     if matches!(kind, "read" | "read-available") {
         ask_values(asked, kind, words[0], report);
         return true;
@@ -57,9 +57,12 @@ pub fn ask(asked: &mut Asked, kind: &str, words: &[&str], report: &[u8]) -> bool
     {
         return false;
     }
-    let Some(direction) = direction_of(words[0]) else {
-        println!("  count 0 offset 0 accepted");
-        return true;
+    let direction = match direction_of(words[0]) {
+        Some(direction) => direction,
+        None => {
+            println!("  count 0 offset 0 accepted");
+            return true;
+        }
     };
     let (options, descriptor) = (asked.options, || bytes_of(&words[1..].concat()));
     match kind {

@@ -1,13 +1,21 @@
 #!/bin/bash
-# The options of `hid`: those that share/help tells of each command (checks/hid/help.sh holds it to
-# the program), those of its page of man, and those that bash, zsh and fish complete are the same,
-# with their values; so are its commands with their arguments. docs/HID.md names no other option.
-# Then the commands of `hidreport`, by its usage. It needs no program, and neither zsh nor fish: in
-# their files each option has a line, with the help's words for what it is for.
+# options.sh HID HIDREPORT
+# The options of `hid`: those that its help tells of each command, those of its page of man, and those
+# that bash, zsh and fish complete are the same, with their values; so are its commands with their
+# arguments. docs/HID.md names no other option. Then the commands of `hidreport`, by its usage. It
+# needs neither zsh nor fish: in their files each option has a line, with the help's words for what it
+# is for.
 set -euo pipefail
+export LC_ALL=C
 
 top=$(cd "$(dirname "$0")/../.." && pwd)
-help="$top/share/help"
+scratch=$(mktemp -d)
+trap 'rm -rf "$scratch"' EXIT
+# A program calls itself by its file's name.
+cp "$1" "$scratch/hid"
+cp "$2" "$scratch/hidreport"
+help=$scratch/help
+mkdir "$help"
 answers=0
 
 # same WHAT ONE OTHER: two lists, a word or a text in each line, whose order is free.
@@ -136,14 +144,24 @@ completed() {
 }
 
 # A folder with one file, which is seen among what is completed.
-scratch=$(mktemp -d)
-trap 'rm -rf "$scratch"' EXIT
-cd "$scratch"
+mkdir "$scratch/folder"
+cd "$scratch/folder"
 : > a_file
 
+# What the program tells of itself and of each command; other words for the same tell no other.
+"$scratch/hid" --help > "$help/help"
 page=$(plain hid)
 of_all=$(helped help)
 commands=$(sed -n '/^Commands:/,/^$/s/^  \([a-z]*\) .*/\1/p' "$help/help" | grep -v '^help$')
+for command in $commands; do
+    "$scratch/hid" "$command" --help > "$help/of_$command"
+    same "hid $command -h" "$(< "$help/of_$command")" "$("$scratch/hid" "$command" -h)"
+done
+for words in -h help; do
+    same "hid $words" "$(< "$help/help")" "$("$scratch/hid" $words)"
+done
+same 'hid without words' "$(< "$help/help")"$'\n2' "$("$scratch/hid" 2>&1 || echo "$?")"
+same 'hid -V' "$("$scratch/hid" --version)" "$("$scratch/hid" -V)"
 [ "$(wc -l <<< "$commands")" -ge 10 ] && [ "$(wc -l <<< "$of_all")" -ge 12 ] || {
     echo 'hid_options: the help tells of fewer commands or options' >&2
     exit 1
@@ -208,16 +226,17 @@ for command in $commands; do
     told+=$'\n'$of_it
 done
 
-# No text names an option that none has; --prove is the launcher's.
+# No text names an option that none has.
 for text in share/man/man1/hid.1 docs/HID.md; do
     beyond=$(sed 's/\\-/-/g; s/ -e .*//' "$top/$text" | options | grep -e -- -- | LC_ALL=C sort -u |
-        grep -vxF -e --prove -e "$(names <<< "$told")" || true)
+        grep -vxF -e "$(names <<< "$told")" || true)
     same "options in $text that there are not" '' "$beyond"
 done
 
 # The commands of `hidreport`, with their arguments.
 page=$(plain hidreport)
-usage=$(sed -n "s/^usage='usage: hidreport \(.*\)'$/\1/p" "$top/hidreport" | sed 's/ | /\n/g')
+usage=$("$scratch/hidreport" || [ $? -eq 2 ])
+usage=$(sed 's/^usage: hidreport //; s/ | /\n/g' <<< "$usage")
 same 'SYNOPSIS of hidreport.1' "$usage"$'\n--help' \
     "$(section SYNOPSIS | tr '\n' ' ' | sed 's/ \.br /\n/g; s/hidreport //g; s/ $//')"
 same 'what is completed behind hidreport' "$(names <<< "$usage"; echo --help)" \
