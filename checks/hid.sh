@@ -8,6 +8,7 @@
 # and lsusb. The parts lie in hid/; they go side by side in lanes, and what each lane says is shown once
 # it has ended.
 set -eu
+export LC_ALL=C
 hid=$1 other=$2 hidreport=$3 cases=$4
 top=$(cd "$(dirname "$0")/.." && pwd)
 parts=$top/checks/hid

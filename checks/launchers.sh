@@ -2,6 +2,7 @@
 # What ./hid, ./hidreport and ./install do around the programs (launchers/launcher.sh, install.sh), in
 # copies with stand-ins for what they prove. It takes two minutes, and leaves nothing behind.
 set -eu
+export LC_ALL=C
 cd "$(dirname "$0")/launchers"
 bash launcher.sh
 bash install.sh

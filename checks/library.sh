@@ -5,6 +5,7 @@
 # (from_elsewhere), and the examples of the doc comments (doc_examples). The parts lie in library/;
 # it takes some five minutes, and leaves nothing behind.
 set -eu
+export LC_ALL=C
 cd "$(dirname "$0")/library"
 for part in second_setting builder_states item_allocations refused_memory from_elsewhere doc_examples; do
     bash "$part.sh"

@@ -3,6 +3,7 @@
 # and every crate of tests without a proof, runs them all, and compares what is printed with what is
 # stored. Its status is 0 where all is as it should be. It proves nothing: that is the gate's.
 set -u
+export LC_ALL=C
 top=$(cd "$(dirname "$0")/.." && pwd)
 cd "$top"
 . checks/common/needs.sh

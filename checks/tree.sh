@@ -3,6 +3,7 @@
 # and codes are those of their texts (tree/usage_tables.sh, bpf_names.sh), and that the page that
 # `hid page` writes is that of crates/hid_page/page (tree/page.sh). Its status is 0 where all hold.
 set -eu
+export LC_ALL=C
 cd "$(dirname "$0")/tree"
 bash rules.sh
 bash usage_tables.sh --check

@@ -8,6 +8,7 @@
 # the library over what `rt ci` has just proved (checks/c/library.sh), in two minutes. Where no C
 # compiler is there, or no cargo, it says so and leaves that part out.
 set -eu
+export LC_ALL=C
 
 top=$(cd "$(dirname "$0")/../.." && pwd)
 scratch=$(mktemp -d)

@@ -6,6 +6,7 @@
 # gate, since it needs a C compiler; where cargo, a C++ compiler or valgrind is missing it says so
 # and goes on. From a clean clone it takes as long as `make prove-hidreport`; else a minute.
 set -eu
+export LC_ALL=C
 
 top=$(cd "$(dirname "$0")/../.." && pwd)
 . "$top/checks/common/needs.sh"

@@ -7,6 +7,7 @@
 # HIDREPORT_PROVED names another tree whose proved libraries are taken, HIDREPORT_KEPT a folder in
 # which what is checked is kept for the next call.
 set -eu
+export LC_ALL=C
 
 top=$(cd "$(dirname "$0")/../.." && pwd)
 kit=$(dirname "$(rt doc)")

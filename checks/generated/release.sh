@@ -3,6 +3,7 @@
 # and `make install` in half a minute, a program in C linked from what is installed, and the installed
 # programs. It is no part of the gate: it is run before a version gets its number. Leaves nothing behind.
 set -euo pipefail
+export LC_ALL=C
 
 top=$(cd "$(dirname "$0")/../.." && pwd)
 scratch=$(mktemp -d)

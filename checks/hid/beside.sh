@@ -5,6 +5,7 @@
 # reason. Nothing but `hid` is run. The second argument is that program; else it is the one that
 # ./hid built.
 set -eu
+export LC_ALL=C
 
 top=$(cd "$(dirname "$0")/../.." && pwd)
 other=${1:-tshark}

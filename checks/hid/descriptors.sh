@@ -4,6 +4,7 @@
 # says what is read, by a Push that keeps all and the standard's usages; else -. Bytes that are
 # written as a number of times are left out.
 set -eu
+export LC_ALL=C
 
 top=$(cd "$(dirname "$0")/../.." && pwd)
 {

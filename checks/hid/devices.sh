@@ -3,6 +3,7 @@
 # a tree made as Linux makes /sys/class/hidraw, and on trees where something is missing. Its argument
 # is the program; else it is the one that ./hid runs.
 set -euo pipefail
+export LC_ALL=C
 
 top=$(cd "$(dirname "$0")/../.." && pwd)
 program=$(readlink -f "${1:-$top/build/run/hid}")

@@ -5,6 +5,7 @@
 # bounds: never for want of memory. And no control character of an input reaches the terminal.
 # The argument, if any, is the program to look at; else the one that ./hid runs.
 set -euo pipefail
+export LC_ALL=C
 
 top=$(cd "$(dirname "$0")/../.." && pwd)
 program=$(readlink -f "${1:-$top/build/run/hid}")
@@ -271,10 +272,16 @@ printf 'Usage Page (Generic \033[31m Desktop)\n' > escaping
 printf 'Usage Page (Generic %s Desktop)\n' "$mark" > turning
 printf 'E: \033[2J 3 01 05 fb\n' > escaping_time
 printf 'E: 0%s0 3 01 05 fb\n' "$mark" > turning_time
+# An escape, a character that turns a line's direction, one of C1, or DEL.
+has_control() {
+    grep -qP '\x1b|\xe2\x80[\xaa-\xae]|\xc2[\x80-\x9f]|\x7f'
+}
+for spoilt in 'a\033b' "a${mark}b" 'a\302\233b' 'a\177b'; do
+    printf "$spoilt" | has_control || fault "a control character would not be noticed: $spoilt"
+done
 silent() {
     run "$@"
-    ! cat output errors | grep -qP '\x1b|\xe2\x80[\xaa-\xae]|\xc2[\x80-\x9f]' ||
-        fault "$* lets a control character through"
+    ! cat output errors | has_control || fault "$* lets a control character through"
 }
 silent fields named
 silent page --device 0 named

@@ -4,6 +4,7 @@
 # they were begun; zsh and fish, too, where these are there. The argument, if any, is the program to
 # look at; else the one that ./hid runs.
 set -euo pipefail
+export LC_ALL=C
 
 top=$(cd "$(dirname "$0")/../.." && pwd)
 program=$(readlink -f "${1:-$top/build/run/hid}")

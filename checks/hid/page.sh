@@ -4,6 +4,7 @@
 # (page.py); where `chromium` is on the path, what a browser makes of it, too (page_browser.py). The
 # argument, if any, is the program; else it is the one that ./hid runs.
 set -eu
+export LC_ALL=C
 top=$(cd "$(dirname "$0")/../.." && pwd)
 program=$(readlink -f "${1:-$top/build/run/hid}")
 [ -x "$program" ] || {

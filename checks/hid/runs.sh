@@ -4,6 +4,7 @@
 # which makes all runs; without one a program is built that isn't proved (`rt try`): there standard
 # error stands behind standard output, and bytes that are no text aren't compared.
 set -euo pipefail
+export LC_ALL=C
 
 top=$(cd "$(dirname "$0")/../.." && pwd)
 . "$top/checks/common/needs.sh"

@@ -7,6 +7,7 @@
 # the beginning of the output that is stored beside them, `..` standing for what is left out;
 # `./values` of docs/C.md writes what `hidreport values` does, without its first line and the kinds.
 set -euo pipefail
+export LC_ALL=C
 
 top=$(cd "$(dirname "$0")/../.." && pwd)
 hid=$(readlink -f "${1:-$top/build/run/hid}")

@@ -6,6 +6,7 @@
 # shows (checks/hid/runs.sh): a stream's times, and refusals for which it takes more than a file. Its
 # argument is the program; else it is the one that ./hid runs.
 set -eu
+export LC_ALL=C
 
 top=$(cd "$(dirname "$0")/../.." && pwd)
 program=${1:-$top/build/run/hid}

@@ -4,6 +4,7 @@
 # says and refuses where that takes more than a stored run. The argument is the program; else it is
 # the one that ./hid runs. Without a C compiler or that header nothing is tried.
 set -euo pipefail
+export LC_ALL=C
 
 top=$(cd "$(dirname "$0")/../.." && pwd)
 program=$(readlink -f "${1:-$top/build/run/hid}")

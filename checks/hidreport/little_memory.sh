@@ -6,6 +6,7 @@
 # `rebuild` of 64 KB are, too.
 # The argument, if any, is the program to look at; else the one that ./hidreport runs.
 set -eu
+export LC_ALL=C
 
 top=$(cd "$(dirname "$0")/../.." && pwd)
 program=${1:-"$top/build/run/hidreport"}

@@ -4,6 +4,7 @@
 # what it reads, with stand-ins for `rt`, for the library and for the programs that the launchers
 # prove; and without `rt` from stand-ins in generated/. It takes seconds, and leaves nothing behind.
 set -euo pipefail
+export LC_ALL=C
 
 top=$(cd "$(dirname "$0")/../.." && pwd)
 for command in ar cc make; do

@@ -3,6 +3,7 @@
 # eighteen states and five calls no other pair compiles. Proves nothing, takes about a minute, and leaves nothing behind.
 # Its argument, if any, is the repository to look at.
 set -eu
+export LC_ALL=C
 
 . "$(dirname "$0")/../common/needs.sh"
 . "$(dirname "$0")/../common/probe.sh"

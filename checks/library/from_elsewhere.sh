@@ -3,6 +3,7 @@
 # their four lines. A crate that names `hidreport` alone of these reads a mouse's descriptor and a report. `rt try` runs it before any proof, so
 # this takes half a minute; `rt check` in its folder would prove the four and then the crate. Leaves nothing behind.
 set -eu
+export LC_ALL=C
 
 top=$(cd "$(dirname "$0")/../.." && pwd)
 . "$top/checks/common/needs.sh"

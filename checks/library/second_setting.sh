@@ -4,6 +4,7 @@
 # Proves nothing, takes about half a minute, and leaves nothing behind.
 # Its argument, if any, is the repository to look at.
 set -eu
+export LC_ALL=C
 
 . "$(dirname "$0")/../common/needs.sh"
 . "$(dirname "$0")/../common/probe.sh"

@@ -6,6 +6,7 @@
 # many parts side by side as there are processors (at most two: LANES=2 bash checks/mutations/edits.sh NAME).
 # Its status is 0 where every file is an edit, and each was refused.
 set -eu
+export LC_ALL=C
 
 top=$(cd "$(dirname "$0")/../.." && pwd)
 . "$top/checks/common/needs.sh"

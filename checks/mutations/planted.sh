@@ -10,6 +10,7 @@
 # earlier checks of the crates kept, if there is something. It is run before a version gets its
 # number. Its status is 0 where all are noticed.
 set -eu
+export LC_ALL=C
 
 top=$(cd "$(dirname "$0")/../.." && pwd)
 . "$top/checks/common/needs.sh"

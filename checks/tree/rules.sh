@@ -2,6 +2,7 @@
 # What can be seen without a build, in a second: the tree's rules that no compiler knows.
 # Its status is 0 where all hold; each that doesn't is a line.
 set -u
+export LC_ALL=C
 cd "$(dirname "$0")/../.."
 faults=0
 
@@ -90,9 +91,21 @@ rust/Cargo.lock version = "$version"
 END_OF_FILES
 
 # Texts: 100 columns, tables apart.
-long=$(grep -nE '^[^|].{100,}' README.md CONTRIBUTING.md CHANGELOG.md docs/*.md compare/*.md \
+long=$(LC_ALL=C.UTF-8 grep -nE '^[^|].{100,}' README.md CONTRIBUTING.md CHANGELOG.md docs/*.md compare/*.md \
     bench/*.md | cut -d: -f1,2)
 [ -z "$long" ] || fault "lines past 100 columns:" $long
+
+# Scripts: each reads and sorts by bytes, whatever the locale; those that are read by `.` have no line of
+# their own. And what they may lack stands in the gate's list of tools.
+while read -r script; do
+    ! grep -q '^set -' "$script" || grep -qx 'export LC_ALL=C' "$script" ||
+        fault "$script doesn't set LC_ALL=C"
+done < <(git ls-files '.ci/run' 'checks/*.sh')
+while read -r tool; do
+    grep -q "^$tool |" checks/common/tools.txt ||
+        fault "a script looks for \`$tool\`, which checks/common/tools.txt doesn't have"
+done < <(git ls-files 'checks/*.sh' | xargs grep -ohE 'command -v [a-z][a-z0-9+-]*' | cut -d ' ' -f 3 | sort -u |
+    grep -vxE 'rt|rattle|flock|apt-get')
 
 [ "$faults" -eq 0 ] || exit 1
 echo 'rules: all rules of the tree hold'
