@@ -10,7 +10,7 @@
 # stale: one line says so, and it is a fault only where the version is another. A spoilt byte and a
 # name too many are tried each time, and have to be refused. Of the programs what the kit links of
 # the packed objects is compared with those that lie in out/ once they are proved; they make their
-# stored runs. (--write wants their objects there, too: rt ci leaves none of a program that it kept.)
+# stored runs. What they are for aarch64 is built anew (generated/object.sh), in two minutes.
 set -eu
 export LC_ALL=C
 
@@ -18,8 +18,12 @@ top=$(cd "$(dirname "$0")/.." && pwd)
 cd "$top"
 processors=(x86_64 aarch64)
 programs=(hid hidreport)
-packed=("${programs[@]/#/x86_64-linux/}")
-files=(heap.c programs.c "${processors[@]/%/-linux/hidreport.s}" "${packed[@]/%/.o.gz}")
+files=(heap.c programs.c "${processors[@]/%/-linux/hidreport.s}")
+for processor in "${processors[@]}"; do
+    for program in "${programs[@]}"; do
+        files+=("$processor-linux/$program.o.gz")
+    done
+done
 scratch=$(mktemp -d)
 trap 'rm -rf "$scratch"' EXIT
 
@@ -63,8 +67,7 @@ find_fresh() {
     done
 }
 
-# The crate of a program, and what lies there once it is proved: the program, and the object of one that
-# was proved there and then.
+# The crate of a program, and what lies there once it is proved.
 crate_of() {
     case $1 in
         hid) echo hid ;;
@@ -110,8 +113,17 @@ build() {
     done
 }
 
+# The object of a program for a processor, into the scratch folder.
+build_object() {
+    bash checks/generated/object.sh "$1" "$2" "$3-unknown-linux-gnu" "$scratch/$2.$3.o" \
+        > "$scratch/said" 2>&1 || {
+        tail -n 20 "$scratch/said" >&2
+        wrong "no object of $2 was built for $3"
+    }
+}
+
 write() {
-    local program
+    local program processor
     . checks/common/needs.sh
     need_rt generated
     if [ "$1" = "$top" ]; then
@@ -128,13 +140,16 @@ write() {
     for program in "${programs[@]}"; do
         [ "$(sum_of "$1" "$program")" = "$(sum_of "$top" "$program")" ] || wrong "$1 has other sources"
         is_proved "$1" "$program" || wrong "$program isn't proved in $1"
-        [ -r "$(program_of "$1" "$program").o" ] || wrong "$1 has no object of $program"
     done
     build "$1"
-    cp -r "$scratch/built/." generated/
     for program in "${programs[@]}"; do
-        gzip -9 -n -c "$(program_of "$1" "$program").o" > "generated/x86_64-linux/$program.o.gz"
+        for processor in "${processors[@]}"; do
+            build_object "$1" "$program" "$processor"
+            gzip -9 -n -c "$scratch/$program.$processor.o" \
+                > "$scratch/built/$processor-linux/$program.o.gz"
+        done
     done
+    cp -r "$scratch/built/." generated/
     {
         echo 'From what, and by what, checks/generated.sh --write made this folder; then its sums.'
         echo "version: $(version_of_header)"
@@ -176,6 +191,9 @@ compare_program() {
     }
     cmp "$scratch/$2" "$(program_of "$1" "$2")" ||
         wrong "generated/x86_64-linux/$2.o.gz isn't what the proofs build"
+    build_object "$1" "$2" aarch64
+    gzip -dc "generated/aarch64-linux/$2.o.gz" | cmp - "$scratch/$2.aarch64.o" ||
+        wrong "generated/aarch64-linux/$2.o.gz isn't what the proofs build"
     say "$2 is byte for byte what the proofs build"
 }
 

@@ -1,5 +1,6 @@
 # Lanes side by side: to be read by `.`, not run. `lane NAME COMMAND ..` starts one, what it says goes to a
-# file; `end_lanes` waits for all, shows what each said and how long it took, and fails where one did.
+# file; `end_lanes` waits for all, shows what each said and how long it took, and fails where one did. Where
+# `lanes_said` names a file, it gets all of it too.
 lane_folder=
 lane_names=()
 declare -A lane_of
@@ -31,6 +32,7 @@ end_lanes() {
             echo "FAILED: $name" >> "$lane_folder/$name"
         }
         cat "$lane_folder/$name"
+        [ -z "${lanes_said:-}" ] || cat "$lane_folder/$name" >> "$lanes_said"
     done
     lane_names=()
     rm -rf "$lane_folder"

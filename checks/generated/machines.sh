@@ -78,6 +78,10 @@ ask_versions() {
     done
 }
 
+for program in hid hidreport; do
+    # What is stale says so, and other scripts fail for it where it is a fault.
+    sh "$tree/tools/program.sh" fresh "$program" || exit 0
+done
 if [ "$(uname -m)" = x86_64 ]; then
     ask_versions
     link static cc -static
