@@ -212,6 +212,12 @@ CASES = [
         "0509 " + " ".join(f"09{n:02x}" for n in range(1, 9)) + " 2501 7501 950a 8102",
         "0509 " + " ".join(f"19{n:02x} 29{n + 1:02x}" for n in range(1, 21, 2)) + " 7501 9518 8102",
         "0501 " + " ".join(f"09{n:02x}" for n in range(1, 12)) + " 0509 7501 950b 8102"]),
+    ("A range with a page of its own, in an array; an empty range holds no move of the page back.", [
+        "1b30000100 2b31000100 1500 2501 7508 9501 8100", "0501 0930 0509 1905 2902 7508 9501 8102",
+        "0501 0930 0509 1905 2905 7508 9502 8102"]),
+    ("Nine usages in the first of two sets.", [
+        "0501 a901 " + " ".join(f"09{n:02x}" for n in range(0x30, 0x39))
+        + " a900 a901 0901 a900 7508 9509 8102"]),
 ]
 
 

@@ -237,7 +237,7 @@ CASES = [
         ("as-usual", "0501093074950181 02".replace(" ", "")), ("as-usual", "05010930750894 8102".replace(" ", "")),
         ("as-usual", "84050109307508950181 02".replace(" ", "")), ("as-usual", "74"), ("as-usual", "84"), ("as-usual", "94"),
     ]),
-    ("Local items without data are 0, those of tags that the standard keeps for later, too.", [
+    ("Local items without data are 0, reserved ones, too.", [
         ("as-usual", "08"), ("as-usual", "18"), ("as-usual", "28"), ("as-usual", "38"), ("as-usual", "48"),
         ("as-usual", "58"), ("as-usual", "68"), ("as-usual", "78"), ("as-usual", "88"), ("as-usual", "98"),
         ("as-usual", "a8"), ("as-usual", "b8"), ("as-usual", "f8"),
@@ -254,10 +254,12 @@ CASES = [
         ("as-usual", "050108007508950109308102"), ("as-usual", "0930a40931b40005010932750895018102"),
         ("globals", "0501a40930b400093175089501 8102".replace(" ", "")), ("as-usual", "0930"), ("as-usual", "050109300093 31"[:0] + "0501093000"),
         ("as-usual", "05010930d00931d0093275089501 8102".replace(" ", "")),
+        ("as-usual", "b901d100"), ("as-usual", "b901d100050109307508950181 02".replace(" ", "")),
     ]),
     ("A data item with data and without a usage is padding of the same size.", [
         ("as-usual", "750895018102"), ("as-usual", "750895018100"), ("as-usual", "750895019102"), ("as-usual", "75089501b102"),
-        ("as-usual", "75089501820201"), ("as-usual", "750895018302010000"), ("as-usual", "75089501b2 8201".replace(" ", "")),
+        ("as-usual", "75089501820201"), ("as-usual", "750895018302010000"),
+        ("as-usual", "750895018300000001"), ("as-usual", "75089501b300010200"), ("as-usual", "75089501b2 8201".replace(" ", "")),
         ("as-usual", "05010930750895018102 8102".replace(" ", "")), ("as-usual", "050919052901750195088102"),
         ("as-usual", "050109307508950181028102 09318102".replace(" ", "")),
         ("as-usual", "0501750895018102a4 0930 8102 b48102".replace(" ", "")), ("globals", "050109 30a475089501b48102 75089501 8102".replace(" ", "")),
@@ -291,6 +293,7 @@ CASES = [
         ("within=1", "750895018102"), ("within=0", "750895018102"), ("within=1", "75089501800501 0930 8102".replace(" ", "")),
         ("within=2", "75089501800501 0930 8102".replace(" ", "")), ("longest=5", "7508950180"), ("longest=4", "7508950180"),
         ("longest=6", "7508950180"), ("longest=7", "00000000000501"), ("longest=6", "00000000000501"),
+        ("longest=65535", "32768*0501"), ("longest=65536", "32769*0501"), ("longest=131071", "65536*0501"),
     ]),
 ]
 
