@@ -611,9 +611,10 @@ def descriptors():
     listed = subprocess.run(["bash", os.path.join(TOP, "checks/hid/descriptors.sh")],
                             capture_output=True, check=True).stdout.decode()
     found = [line.split()[0] for line in listed.splitlines()]
-    for line in open(os.path.join(TOP, "compare/devices.txt")):
-        if line.strip() and not line.startswith("#"):
-            found.append(line.split(":")[-1].replace(" ", "").strip())
+    for name in "devices", "linux_made":
+        for line in open(os.path.join(TOP, f"compare/{name}.txt")):
+            if line.strip() and not line.startswith("#"):
+                found.append(line.split(":")[-1].replace(" ", "").strip())
     return [bytes.fromhex(digits) for digits in dict.fromkeys(found)]
 
 
