@@ -23,7 +23,7 @@ unset MAKEFLAGS MFLAGS MAKELEVEL
             flock 9
         }
     fi
-    exec make -s "run-$name" >&2 9<&-
+    make -s "run-$name" >&2
 ) || exit 2
 
 # Whether a word is the name of a file that can be read and isn't UTF-8: the programs open none such.

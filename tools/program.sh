@@ -155,8 +155,7 @@ is_current() {
 
 make_current() {
     is_current || {
-        mkdir -p build/run
-        : > "$run.now"
+        { mkdir -p build/run && touch "$run.now"; } 2> /dev/null || refuse "the folder build can't be written"
         choose
         mv "$run.now" "$run.at"
     }

@@ -1,5 +1,5 @@
 #!/bin/bash
-# What ./release writes: twice the same bytes; from them, with no `rt` on the path, `make`, `make check`
+# What ./release writes: the same bytes each time, by other settings of git, too; from them, with no `rt` on the path, `make`, `make check`
 # and `make install` in half a minute, a program in C linked from what is installed, and the installed
 # programs. It is no part of the gate: it is run before a version gets its number. Leaves nothing behind.
 set -euo pipefail
@@ -14,11 +14,24 @@ wrong() {
     exit 1
 }
 
-for folder in first second; do
-    "$top/release" "$scratch/$folder" > /dev/null
-done
-archive=$(cd "$scratch/first" && ls)
-cmp "$scratch/first/$archive" "$scratch/second/$archive" || wrong 'two calls write other bytes'
+# With a link where an older one put a file of its own.
+mkdir "$scratch/first"
+echo kept > "$scratch/own"
+ln -s "$scratch/own" "$scratch/first/.room"
+asked=0
+while read -r folder settings; do
+    printf '[%s]\n\t%s\n' $settings > "$scratch/settings"
+    GIT_CONFIG_GLOBAL=$scratch/settings "$top/release" "$scratch/$folder" > /dev/null
+    archive=$(cd "$scratch/$folder" && ls)
+    cmp "$scratch/first/$archive" "$scratch/$folder/$archive" || wrong "by $settings other bytes are written"
+    asked=$((asked + 1))
+done << END
+first core autocrlf=false
+second tar umask=0077
+third core autocrlf=true
+fourth core eol=crlf
+END
+[ "$(cat "$scratch/own")" = kept ] || wrong 'a file that a link leads to is emptied'
 tar -C "$scratch" -xf "$scratch/first/$archive"
 tree=$scratch/${archive%.tar.xz}
 
@@ -57,4 +70,4 @@ if [ "$(uname -m)" = x86_64 ]; then
     (cd "$tree/crates/hid/data" && "$scratch/prefix/bin/hid" values --down keyboard.hex keyboard.report) \
         2> /dev/null | grep -qxF 'Keyboard A' || wrong 'hid shows other values'
 fi
-echo "release: $archive, twice the same bytes, made and installed in $((SECONDS - begun)) s"
+echo "release: $archive, the same bytes $asked times, made and installed in $((SECONDS - begun)) s"
