@@ -88,6 +88,10 @@ share/man/man1/hid.1 "hidreport $version"
 share/man/man1/hidreport.1 "hidreport $version"
 rust/Cargo.toml version = "$version"
 rust/Cargo.lock version = "$version"
+python/hidreport/__init__.py __version__ = "$version"
+python/hidreport/_c.py VERSION = 0x$(sed 's/[.-]/ /g' <<< "$version" | xargs printf '%02x%02x%02x%02x')
+python/pyproject.toml version = "${version%-*}.post${version#*-}"
+python/backend.py VERSION = "hidreport", "${version%-*}.post${version#*-}"
 END_OF_FILES
 
 # Texts: 100 columns, tables apart.
