@@ -87,9 +87,11 @@ else
 fi
 
 # A program in C, by pkg-config, linked with the shared library.
-flags=$(PKG_CONFIG_SYSROOT_DIR="$root" PKG_CONFIG_LIBDIR="$library/pkgconfig" pkg-config --cflags --libs hidreport)
-# shellcheck disable=SC2086
-cc -o values "$top/c/values.c" -I"$root/usr/include" -L"$library" $flags
+export PKG_CONFIG_SYSROOT_DIR="$root" PKG_CONFIG_LIBDIR="$library/pkgconfig"
+export PKG_CONFIG_ALLOW_SYSTEM_CFLAGS=1 PKG_CONFIG_ALLOW_SYSTEM_LIBS=1
+# shellcheck disable=SC2046
+cc -o values "$top/c/values.c" $(pkg-config --cflags --libs hidreport) > said 2>&1 ||
+    wrong "a program isn't built by: $(pkg-config --cflags --libs hidreport)"
 is 'what a program asks for' libhidreport.so.0 "$(readelf -dW values | sed -n 's/.*NEEDED.*\[\(libhid.*\)\]/\1/p')"
 is 'a program in C' $'0..8 00010030 5\n8..16 00010031 -5' \
     "$(LD_LIBRARY_PATH=$library ./values "$data/mouse.rdesc" "$data/mouse.report")"
