@@ -239,8 +239,15 @@ copy() {
         hidreport_cases/data ./*/src "$1/crates/")
 }
 
-# A program of the copy: the first call of its launcher links it, within five seconds, as `make` does,
-# and it makes the stored runs.
+# Does a closed pipe end a call by the signal, as it ends `grep`, with no word of it?
+ends_quietly() {
+    local status
+    status=$({ { sleep 0.2 && "$@" 2> "$scratch/errors" || echo "$?" >&3; } | :; } 3>&1)
+    [ "$status" = 141 ] && ! grep -qi pipe "$scratch/errors"
+}
+
+# A program of the copy: the first call of its launcher links it, within five seconds, and it makes the
+# stored runs.
 ask_program() {
     local tree=$1 program=$2 linked
     linked="$tree/build/run/$program"
@@ -252,6 +259,7 @@ ask_program() {
         wrong "the first call of ./$program fails: $(tail -n 1 "$scratch/errors")"
     grep -q "^$program: linked from generated/" "$scratch/errors" ||
         wrong "./$program isn't linked from generated/"
+    ends_quietly "$linked" "$@" || wrong "$program ends otherwise where its output is closed"
     case $program in
         hid) bash "$tree/checks/hid/runs.sh" "$linked" ;;
         *) sh "$tree/checks/hidreport/statuses.sh" "$linked" ;;
@@ -259,7 +267,7 @@ ask_program() {
         tail -n 20 "$scratch/said" >&2
         wrong "$program as it is linked goes otherwise"
     }
-    say "./$program links what generated/ has, and that makes its stored runs"
+    say "./$program links what generated/ has, and that makes its stored runs, and ends quietly by a closed pipe"
 }
 
 # The answers from C and Rust on this processor.
