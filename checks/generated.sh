@@ -223,8 +223,8 @@ copy() {
     mkdir -p "$1/crates"
     cp -r Makefile generated include c rust checks share crates.txt hid hidreport "$1/"
     rm -rf "$1/rust/target"
-    (cd crates && cp -r --parents hid/data hidreport_main/data hidreport_main/stdout \
-        hidreport_cases/data ./*/src "$1/crates/")
+    cp -r --parents crates/hid/data crates/hidreport_main/data crates/hidreport_main/stdout \
+        tests/hidreport_cases/data crates/*/src "$1/"
 }
 
 # A program of the copy: the first call of its launcher links it, within five seconds, as `make` does,
