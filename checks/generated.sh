@@ -235,8 +235,8 @@ copy() {
     mkdir -p "$1/crates"
     cp -r Makefile generated include c rust tools checks share crates.txt hid hidreport "$1/"
     rm -rf "$1/rust/target"
-    (cd crates && cp -r --parents hid/data hidreport_main/data hidreport_main/stdout \
-        hidreport_cases/data ./*/src "$1/crates/")
+    cp -r --parents crates/hid/data crates/hidreport_main/data crates/hidreport_main/stdout \
+        tests/hidreport_cases/data crates/*/src "$1/"
 }
 
 # Does a closed pipe end a call by the signal, as it ends `grep`, with no word of it?

@@ -3,10 +3,10 @@
 # The program `hid` from outside: its stored runs, by both compilers' programs; its options and those of
 # HIDREPORT in all texts that have them; devices; the samples of the documents (of HIDREPORT, too); the
 # names that shells complete; that what it writes is read back; the pages of `hid page`; bounds of memory
-# and time; the same answers as the library's (CASES is hidreport_cases, as it is built), the same event
-# codes as a model of Linux's and the same collections as one of WebHID's; and what it says beside TShark
-# and lsusb. The parts lie in hid/; they go side by side in lanes, and what each lane says is shown once
-# it has ended.
+# and time; the same answers as the library's (CASES is the program that `checks/library/tests.sh --keep
+# CASES` builds), the same event codes as a model of Linux's and the same collections as one of WebHID's;
+# and what it says beside TShark and lsusb. The parts lie in hid/; they go side by side in lanes, and what
+# each lane says is shown once it has ended.
 set -eu
 export LC_ALL=C
 hid=$1 other=$2 hidreport=$3 cases=$4

@@ -1,6 +1,6 @@
 #!/bin/bash
-# A contributor's loop of minutes: formats all crates, looks at the tree's rules, builds every program
-# and every crate of tests without a proof, runs them all, and compares what is printed with what is
+# A contributor's loop of minutes: formats all sources, looks at the tree's rules, builds every program
+# and the crates of tests/ without a proof, runs them all, and compares what is printed with what is
 # stored. Its status is 0 where all is as it should be. It proves nothing: that is the gate's.
 set -u
 export LC_ALL=C
@@ -11,11 +11,6 @@ need_rt quick
 scratch=$(mktemp -d)
 trap 'rm -rf "$scratch"' EXIT
 export top scratch
-
-# Runs a crate's tests.
-try_tests() {
-    (cd "$top/crates/$1" && rt try --test --seconds 300) > "$scratch/$1.said" 2>&1
-}
 
 # Runs a program on the words, data and input beside it, and compares what it prints.
 try_program() {
@@ -31,17 +26,15 @@ try_program() {
     diff "$scratch/$1.stdout" stdout >> "$scratch/$1.said"
 }
 
-# Tells in a line how a crate's tests, its program or the stored runs of `hid` went, and where they
-# went wrong all that was said.
+# Tells in a line how the cases, the tests, a crate's program or the stored runs of `hid` went, and
+# where they went wrong all that was said.
 try_one() {
     begun=$SECONDS
-    if [ "$1" = hid ]; then
-        bash "$top/checks/hid/runs.sh" > "$scratch/$1.said" 2>&1
-    elif [ -f "$top/crates/$1/src/main.rt" ]; then
-        try_program "$1"
-    else
-        try_tests "$1"
-    fi
+    case $1 in
+        hid) bash "$top/checks/hid/runs.sh" > "$scratch/$1.said" 2>&1 ;;
+        cases | tests) bash "$top/checks/library/tests.sh" "$1" > "$scratch/$1.said" 2>&1 ;;
+        *) try_program "$1" ;;
+    esac
     ended=$?
     if [ "$ended" -eq 0 ]; then
         echo "$1: as it should be ($((SECONDS - begun)) s)"
@@ -51,21 +44,23 @@ try_one() {
     fi
     return "$ended"
 }
-export -f try_tests try_program try_one
+export -f try_program try_one
 
 for crate in crates/*; do
     (cd "$crate" && rt fmt) > /dev/null || exit 1
 done
+# Those of no crate of crates/ end otherwise than in .rt (checks/tree/rules.sh).
+find checks tests -name '*.source' | while read -r source; do
+    cp "$source" "$scratch/source.rt"
+    rattle fmt --write "$scratch/source.rt" > /dev/null || exit 1
+    cmp -s "$scratch/source.rt" "$source" || cp "$scratch/source.rt" "$source"
+done || exit 1
 bash checks/tree.sh || exit 1
 
 # What takes longest begins first.
-tried=(hid hidreport_cases hidreport_tests)
+tried=(hid cases tests)
 for folder in crates/*; do
-    crate=${folder##*/}
-    case " ${tried[*]} " in *" $crate "*) continue ;; esac
-    if [ -f "$folder/src/main.rt" ] || grep -rqF '#[test]' "$folder/src"; then
-        tried+=("$crate")
-    fi
+    [ ! -f "$folder/src/main.rt" ] || [ "$folder" = crates/hid ] || tried+=("${folder##*/}")
 done
 printf '%s\n' "${tried[@]}" | xargs -P "$(nproc)" -I CRATE bash -c 'try_one CRATE' || exit 1
 echo "quick: all as it should be ($SECONDS s)"

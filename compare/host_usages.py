@@ -1,5 +1,5 @@
 #!/usr/bin/env python3
-"""Prints crates/hidreport_cases/data/host_usages.txt: the usages of each field as hosts read them, by
+"""Prints tests/hidreport_cases/data/host_usages.txt: the usages of each field as hosts read them, by
 a model of how Linux's hid-core finds them (drivers/hid/hid-core.c: hid_add_usage, complete_usage,
 hid_concatenate_last_usage_page, hid_parser_local, hid_add_field), which knows nothing of this
 library's code. Three things are as the library has them: an item's usages have no greatest number
@@ -13,7 +13,7 @@ import re
 import sys
 
 TOP = os.path.dirname(os.path.dirname(os.path.abspath(__file__)))
-DATA_FILES = os.path.join(TOP, "crates/hidreport_cases/data")
+DATA_FILES = os.path.join(TOP, "tests/hidreport_cases/data")
 SIZES = [0, 1, 2, 4]
 DIRECTIONS = {0x80: "input", 0x90: "output", 0xB0: "feature"}
 

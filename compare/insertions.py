@@ -2,7 +2,7 @@
 
 By the definition alone, on whole numbers, without this library: the bytes of a report are one
 number, the first byte the lowest; the field's bits in it become those of the value modulo 2 to the
-width. `python3 compare/insertions.py` prints crates/hidreport_cases/data/insertions.txt, the same
+width. `python3 compare/insertions.py` prints tests/hidreport_cases/data/insertions.txt, the same
 each time.
 """
 

@@ -1,5 +1,5 @@
 #!/usr/bin/env python3
-"""Prints crates/hidreport_cases/data/repairs.txt: descriptors that hosts accept, and what is made of
+"""Prints tests/hidreport_cases/data/repairs.txt: descriptors that hosts accept, and what is made of
 them, by a model of how Linux's hid-core reads items (drivers/hid/hid-core.c: fetch_item,
 hid_parser_main, hid_parser_global, hid_parser_local, hid_add_field, hid_open_report), which knows
 nothing of this library's code. With the word `refused` it prints repairs_of_refused.txt: the same of
@@ -13,7 +13,7 @@ from collections import Counter
 from host_usages import LocalUsages
 
 DATA_FILES = os.path.join(os.path.dirname(os.path.dirname(os.path.abspath(__file__))),
-                          "crates/hidreport_cases/data")
+                          "tests/hidreport_cases/data")
 SIZES = [0, 1, 2, 4]
 GLOBALS = {0x04: "page", 0x14: "logical minimum", 0x24: "logical maximum",
            0x34: "physical minimum", 0x44: "physical maximum", 0x54: "exponent", 0x64: "unit",

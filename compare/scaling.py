@@ -3,7 +3,7 @@
 By the standard's formulas alone (Section 6.2.2.7), on exact fractions, without this library:
 resolution = (logical maximum - logical minimum) / (physical maximum - physical minimum), and a
 value is a count of such steps above the logical minimum. `python3 compare/scaling.py` prints
-crates/hidreport_cases/data/scaling.txt.
+tests/hidreport_cases/data/scaling.txt.
 """
 
 from fractions import Fraction

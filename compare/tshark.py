@@ -24,7 +24,7 @@ HEADER = """\
 # offset, and two spaces deeper for each collection around it. Behind ` = ` stands the number of an
 # item that has no parenthesis. Written by compare/tshark.py, which reads the lines `descriptor` of
 # this file, and those behind `## ` which say where they are from: a file of bench/descriptors or of
-# crates/hid/data, or a line of a file of crates/hidreport_cases/data; the last were written
+# crates/hid/data, or a line of a file of tests/hidreport_cases/data; the last were written
 # for this file. checks/hid/beside.sh compares what `hid decode` says."""
 
 

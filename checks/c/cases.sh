@@ -66,7 +66,7 @@ if cargo --version > /dev/null 2>&1; then
     ask 'a Rust program' "$scratch/rust/target/debug/examples/cases"
     cp -r "$top/rust/tests" "$scratch/rust/"
     (cd "$scratch/rust" && HIDREPORT_LIB_DIR="$prefix/lib" \
-        HIDREPORT_CASES="$top/crates/hidreport_cases/data" cargo test --offline --quiet) \
+        HIDREPORT_CASES="$top/tests/hidreport_cases/data" cargo test --offline --quiet) \
         > "$scratch/said" 2>&1 || {
         tail -n 20 "$scratch/said"
         echo 'c_cases: a test of the cargo package fails'

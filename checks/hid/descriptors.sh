@@ -1,5 +1,5 @@
 #!/bin/bash
-# The descriptors that the cases (crates/hidreport_cases/data) ask about, and those of
+# The descriptors that the cases (tests/hidreport_cases/data) ask about, and those of
 # bench/descriptors: each in a line, behind it 1 where its case says that it is refused, 0 where it
 # says what is read, by a Push that keeps all and the standard's usages; else -. Bytes that are
 # written as a number of times are left out.
@@ -24,7 +24,7 @@ top=$(cd "$(dirname "$0")/../.." && pwd)
             for (it in both) asks(both[it], "-")
         }
         END { for (bytes in said) print bytes, said[bytes] }' \
-        "$top"/crates/hidreport_cases/data/*.txt
+        "$top"/tests/hidreport_cases/data/*.txt
     for file in "$top"/bench/descriptors/*.txt; do
         echo "$(sed 's/#.*//' "$file" | tr -d ' \n')" 0
     done

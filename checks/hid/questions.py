@@ -3,10 +3,11 @@
 number that differs. The library's answers are those that the program `hidreport_cases` gives to
 questions without an answer (docs/TESTING.md). Random numbers are the same in each run.
 
-    hid_questions.py [--spoil KIND] [HID CASES]
+    questions.py [--spoil KIND] HID CASES
 
-HID and CASES are the two programs; without them those that the gate has built. Of each kind of
-number one answer of `hid` is also spoilt, which has to be noticed; `--spoil KIND` spoils all of them.
+HID and CASES are the two programs (checks/library/tests.sh --keep FILE builds the second). Of each
+kind of number one answer of `hid` is also spoilt, which has to be noticed; `--spoil KIND` spoils all
+of them.
 """
 
 import json
@@ -14,7 +15,6 @@ import multiprocessing
 import os
 import random
 import re
-import resource
 import subprocess
 import sys
 import tempfile
@@ -82,7 +82,7 @@ def spoil(said):
 def descriptors():
     """The descriptors of the cases, of bench/descriptors and of `hid`, each once, as digits."""
     found = []
-    folder = f"{TOP}/crates/hidreport_cases/data"
+    folder = f"{TOP}/tests/hidreport_cases/data"
     asked = re.compile(r"(?:parse|parse-globals|parse-hosts|host-usages|shape|rebuild|list|repair [^/]*/) ([0-9a-f ]+)$")
     for name in sorted(os.listdir(folder)):
         with open(f"{folder}/{name}", encoding="utf-8") as lines:
@@ -104,9 +104,9 @@ def descriptors():
 # The library.
 
 
-def limit_memory():
-    """At most 4 GB for a program: what is listed without a limit may be more than there is."""
-    resource.setrlimit(resource.RLIMIT_AS, (4 << 30, 4 << 30))
+# At most 2 GB in one piece: what is listed without a limit may be more than there is memory. CASES is
+# built without a proof, with AddressSanitizer, beside which nothing else bounds what a program takes.
+LITTLE_MEMORY = "allocator_may_return_null=1:max_allocation_size_mb=2048:quarantine_size_mb=16"
 
 
 def ask_file(job):
@@ -120,7 +120,7 @@ def ask_file(job):
         cwd=scratch,
         capture_output=True,
         check=False,
-        preexec_fn=limit_memory,
+        env={**os.environ, "ASAN_OPTIONS": LITTLE_MEMORY},
     )
     os.remove(f"{scratch}/{name}")
     if b"OutOfMemory" in asked.stderr:
@@ -644,8 +644,9 @@ def main():
     words = sys.argv[1:]
     if words[:1] == ["--spoil"]:
         spoilt_kind, words = words[1], words[2:]
-    built = [f"{TOP}/crates/{it}/out/{it}" for it in ("hid", "hidreport_cases")]
-    hid, cases = words or built
+    if len(words) != 2:
+        sys.exit("usage: questions.py [--spoil KIND] HID CASES")
+    hid, cases = words
     for program in (hid, cases):
         if not os.access(program, os.X_OK):
             sys.exit(f"hid_questions: no program {program}")

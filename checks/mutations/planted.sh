@@ -14,6 +14,7 @@ export LC_ALL=C
 
 top=$(cd "$(dirname "$0")/../.." && pwd)
 . "$top/checks/common/needs.sh"
+. "$top/checks/common/tests.sh"
 need_rt planted
 scratch=$(mktemp -d)
 trap 'rm -rf "$scratch"' EXIT
@@ -133,7 +134,8 @@ goes_well() {
         (cd "$crates/hidreport_tests" && rt try --test --seconds 200) > "$scratch/said" 2>&1
         return
     fi
-    bash "$scratch/meanings/checks/common/unproved.sh" hidreport_cases "$scratch/cases" || return 2
+    bash "$top/checks/common/unproved.sh" hidreport_cases "$scratch/cases" "$scratch/meanings" ||
+        return 2
     (cd "$crates/hidreport_cases/data" && "$scratch/cases" "$asked") > "$scratch/said" 2>&1
 }
 
@@ -157,19 +159,8 @@ try_meaning() {
 }
 
 try_meanings() {
-    local before=$noticed missed=$others folder
-    mkdir -p "$scratch/meanings/crates"
-    git init -q "$scratch/meanings"
-    cp "$top/crates.txt" "$top/HANDLES" "$scratch/meanings"
-    cp -r "$top/checks" "$scratch/meanings"
-    for folder in "$top"/crates/*/; do
-        folder=$(basename "$folder")
-        mkdir "$scratch/meanings/crates/$folder"
-        for part in src specs proofs data; do
-            [ ! -d "$top/crates/$folder/$part" ] ||
-                cp -r "$top/crates/$folder/$part" "$scratch/meanings/crates/$folder"
-        done
-    done
+    local before=$noticed missed=$others
+    make_tree_with_tests "$scratch/meanings"
     number=0
     while read -r word text; do
         case $word in

@@ -57,22 +57,27 @@ tried=$(ls crates/*/must-fail/*.edit | wc -l)
 # Layout: each source is as `rt fmt` writes it.
 mapfile -t sources < <(find crates \( -name '*.rt' -path '*/src/*' -o -name '*.antt' \) \
     -not -path '*/out/*')
-# Those of checks/library are no crate's, so the kit wants no .rt there: copies are looked at.
+# Those of checks/library and tests/ are not proved, so the kit wants no .rt there: copies are looked at.
 copies=$(mktemp -d)
 trap 'rm -rf "$copies"' EXIT
 while read -r source; do
     sources+=("$copies/$(sed 's|/|_|g; s|source$|rt|' <<< "$source")")
     cp "$source" "${sources[-1]}"
-done < <(find checks -name '*.source')
+done < <(find checks tests -name '*.source')
 if command -v rattle > /dev/null; then
     rattle fmt --check "${sources[@]}" > /dev/null 2>&1 || fault 'a source is not as rt fmt writes it'
 else
     fault "no \`rattle\` on the path, so nothing is known of the sources' layout"
 fi
 
-# Cases: each file of them is asked.
-[ "$(ls crates/hidreport_cases/data)" = "$(cat crates/hidreport_cases/args)" ] ||
-    fault 'crates/hidreport_cases: args names other files than data/ has'
+# Tests: none lies in a crate, which would be proved twice; each folder is listed, and each file of
+# cases is asked.
+found=$(grep -rlF --include='*.rt' '#[test]' crates/*/src)
+[ -z "$found" ] || fault "tests go into tests/hidreport_tests:" $found
+[ "$(sed 's/:.*//' tests/crates.list | LC_ALL=C sort)" = "$(ls -d tests/*/ | sed 's|.*/\(.*\)/|\1|')" ] ||
+    fault 'tests/crates.list and tests/ name other crates'
+[ "$(ls tests/hidreport_cases/data)" = "$(cat tests/hidreport_cases/args)" ] ||
+    fault 'tests/hidreport_cases: args names other files than data/ has'
 
 # Version: the header has it, and each file that repeats it has the same.
 version=$(sed -n 's/^#define HIDREPORT_VERSION_[A-Z]* \([0-9][0-9]*\)$/\1/p' include/hidreport.h |

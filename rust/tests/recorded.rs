@@ -1,4 +1,4 @@
-//! Asks this package what the library's own cases ask (crates/hidreport_cases/data of the
+//! Asks this package what the library's own cases ask (tests/hidreport_cases/data of the
 //! repository): descriptors and reports with the answers of the Rust crate, of the standard and of
 //! independent models. HIDREPORT_CASES names another folder with them.
 mod wording;
@@ -158,7 +158,7 @@ fn cases(text: &str) -> Vec<(&str, String)> {
 #[test]
 fn the_answers_are_those_of_the_cases() {
     let data = env::var("HIDREPORT_CASES").map(PathBuf::from).unwrap_or_else(|_| {
-        Path::new(env!("CARGO_MANIFEST_DIR")).join("../crates/hidreport_cases/data")
+        Path::new(env!("CARGO_MANIFEST_DIR")).join("../tests/hidreport_cases/data")
     });
     let files = fs::read_dir(&data).expect("the folder with the cases");
     let mut asked: BTreeMap<&str, usize> = BTreeMap::new();

@@ -3,6 +3,7 @@
 #![tactic(auto)]
 
 pub mod fields;
+pub mod generic;
 pub mod laws;
 pub mod limits;
 pub mod plain;
