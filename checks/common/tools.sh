@@ -24,11 +24,12 @@ install_missing() {
         return 0
     fi
     export DEBIAN_FRONTEND=noninteractive
-    apt-get update -qq > /dev/null 2>&1 || return 0
+    local patience=(-o Acquire::Retries=1 -o Acquire::http::Timeout=20 -o DPkg::Lock::Timeout=120)
+    apt-get update -qq "${patience[@]}" > /dev/null 2>&1 || return 0
     # One by one, so that one that isn't there keeps no other out.
     for package in $packages; do
         echo "tools: installing $package"
-        apt-get install -y -qq "$package" > /dev/null 2>&1 || true
+        apt-get install -y -qq "${patience[@]}" "$package" > /dev/null 2>&1 || true
     done
 }
 
