@@ -1,8 +1,7 @@
 #!/bin/bash
 # The runs of `hid` that crates/hid/data/*.txt store (docs/TESTING.md): of each its standard output, its
 # standard error and its status are those that stand below it. Its arguments are programs, each of
-# which makes all runs; without one a program is built that isn't proved (`rt try`): there standard
-# error stands behind standard output, and bytes that are no text aren't compared.
+# which makes all runs; without one a program is built that isn't proved (common/unproved.sh).
 set -euo pipefail
 export LC_ALL=C
 
@@ -86,47 +85,20 @@ try_program() {
     done
 }
 
-# All runs by a program that isn't proved, at once. It calls itself `program`.
-try_unproved() {
-    local name words files=() file
-    mkdir "$scratch/cases"
-    for name in $(names); do
-        eval "words=($(< "$scratch/runs/$name.words"))"
-        cp "$scratch/runs/$name" "$scratch/cases/$name"
-        printf '%s\n' "${words[@]}" > "$scratch/cases/$name.args"
-        [ ${#words[@]} -gt 0 ] || : > "$scratch/cases/$name.args"
-    done
-    for file in "$data"/*; do
-        files+=(--data "${file##*/}=$file")
-    done
-    (cd "$top/crates/hid" && rt try --seconds 300 --cases "$scratch/cases" "${files[@]}") \
-        > "$scratch/said" 2>&1 || true
-    for name in $(names); do
-        sed -n "/^== $name\$/,/^case=$name /p" "$scratch/said" |
-            sed '1d; s/^case=.* status=\([0-9]*\) .*/= \1/' > "$scratch/got"
-        name="$scratch/runs/$name"
-        {
-            sed -n 's/^[|!] \{0,1\}//; /^= /!s/^Usage: hid/Usage: program/; /^= /!p' "$name.wanted"
-            grep '^= ' "$name.wanted" || echo '= 0'
-        } > "$scratch/wanted"
-        if ! iconv -f UTF-8 -t UTF-8 "$scratch/got" > /dev/null 2>&1; then
-            sed -i '$!d' "$scratch/got" "$scratch/wanted"
-        fi
-        compare "$scratch/wanted" "$name"
-    done
-}
-
 gather
 if [ $# -eq 0 ]; then
     need_rt hid_runs
-    try_unproved
-else
-    for program; do
-        try_program "$program"
-    done
+    bash "$top/checks/common/unproved.sh" hid "$scratch/unproved" || {
+        tail -n 20 "$scratch/unproved.said"
+        exit 1
+    }
+    set -- "$scratch/unproved"
 fi
+for program; do
+    try_program "$program"
+done
 [ "$differing" -eq 0 ] || {
     echo "hid_runs: $differing runs go otherwise"
     exit 1
 }
-echo "hid_runs: $(names | wc -l) runs as stored, by each of $(($# > 0 ? $# : 1)) programs"
+echo "hid_runs: $(names | wc -l) runs as stored, by each of $# programs"
