@@ -33,9 +33,12 @@ $(BUILD)/fresh: generated/SOURCES include/hidreport.h $(shell find crates/*/src 
 	@mkdir -p $(BUILD)
 	@said=$$(sh tools/program.sh fresh) || exit; \
 	    if [ -n "$$said" ]; then echo "$$said"; else touch $@; fi
+# Jumps that cross a block of 32 bytes are slow on x86-64 processors of 2015 to 2019.
+branches = $(shell $(CC) -Wa,-mbranches-within-32B-boundaries -c -x assembler -o /dev/null \
+    /dev/null 2> /dev/null && echo -Wa,-mbranches-within-32B-boundaries)
 $(BUILD)/library.o: $(text)
 	mkdir -p $(BUILD)
-	$(CC) $(CFLAGS) -c -o $@ $<
+	$(CC) $(CFLAGS) $(branches) -c -o $@ $<
 $(BUILD)/heap.o: generated/heap.c
 	mkdir -p $(BUILD)
 	$(compile) -fPIC -c -o $@ $<
