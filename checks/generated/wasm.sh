@@ -1,0 +1,85 @@
+#!/bin/bash
+# wasm.sh TEXT MODULE: makes MODULE, the library for C as WebAssembly, of TEXT: what the toolchain lowered
+# the proved library to for aarch64 (checks/c/library.sh keeps it). Its lines stay but for these: the
+# target's name and layout; what asks for probes of the stack; one instruction of that processor, written
+# out. A module in which there is anything else that only some processors know, or that asks for more of
+# a system than memory, is refused. Debian's `wasm-opt` makes addresses of 32 bits of those of 64, which
+# all browsers and Node take. This step is tested, not proved. `wasm.sh --spoil TEXT` sees that what isn't
+# known is refused.
+set -euo pipefail
+export LC_ALL=C
+
+top=$(cd "$(dirname "$0")/../.." && pwd)
+tools=$(dirname "$(rt doc)")/toolchain/bin
+scratch=$(mktemp -d)
+trap 'rm -rf "$scratch"' EXIT
+
+wrong() {
+    echo "wasm: $1" >&2
+    exit 1
+}
+
+# The text for WebAssembly, in the scratch folder.
+retarget() {
+    local unknown
+    unknown=$(grep -o '@llvm\.[a-z0-9.]*' "$1" | sort -u | grep -vxE '@llvm\.(aarch64\.neon\.addp\.v16i8|(abs|bswap|cttz|ctlz|ctpop|fshl|fshr|smax|smin|umax|umin)\.(v[0-9]*)?i[0-9]*|lifetime\.(start|end)\.p0|load\.relative\.i64|mem(cpy|move)\.p0\.p0\.i64|memset\.p0\.i64|trap|assume|(uadd|usub|sadd|ssub)\.sat\.i[0-9]*|(umul|uadd|usub|smul|sadd|ssub)\.with\.overflow\.i[0-9]*|vector\.reduce\.(or|and|add)\.v[0-9]*i[0-9]*|)' || true)
+    [ -z "$unknown" ] || wrong "not known: $(tr '\n' ' ' <<< "$unknown")"
+    # (Assembly without an instruction keeps the order of what is written.)
+    ! grep -E ' asm [a-z"]|^module asm' "$1" | grep -qv 'call void asm sideeffect "", "~{memory}"()' ||
+        wrong 'inline assembly is not known'
+    unknown=$(sed -n 's/^declare .*@\([A-Za-z_][A-Za-z0-9_.]*\)(.*/\1/p' "$1" | grep -v '^llvm\.' |
+        grep -vxE 'rattle_(alloc|realloc|dealloc)' || true)
+    [ -z "$unknown" ] || wrong "asked of a system: $(tr '\n' ' ' <<< "$unknown")"
+    sed -E 's/^target datalayout = .*/target datalayout = "e-m:e-p:64:64-p10:8:8-p20:8:8-i64:64-i128:128-n32:64-S128-ni:1:10:20"/
+        s/^target triple = .*/target triple = "wasm64-unknown-unknown"/
+        s/ "(probe-stack|stack-probe-size)"="[^"]*"//g
+        /^declare .*@llvm\.aarch64\.neon\.addp\.v16i8\(/d
+        s/@llvm\.aarch64\.neon\.addp\.v16i8/@add_pairs/g' "$1" > "$scratch/module.ll"
+    cat >> "$scratch/module.ll" << END_OF_PAIRS
+
+define internal <16 x i8> @add_pairs(<16 x i8> %left, <16 x i8> %right) {
+  %even = shufflevector <16 x i8> %left, <16 x i8> %right, <16 x i32> <$(places 0)>
+  %odd = shufflevector <16 x i8> %left, <16 x i8> %right, <16 x i32> <$(places 1)>
+  %sum = add <16 x i8> %even, %odd
+  ret <16 x i8> %sum
+}
+END_OF_PAIRS
+}
+
+# Every other place of 32, from this one on.
+places() {
+    seq -f 'i32 %.0f' -s ', ' "$1" 2 31
+}
+
+compile() {
+    "$tools/clang" --target=wasm64-unknown-unknown --no-default-config -mbulk-memory -O2 "$@"
+}
+
+link() {
+    local exported
+    mapfile -t exported < <(sed -n 's/^[a-z].*[ *]\(hidreport_[a-z_]*\)(.*/--export=\1/p' \
+        "$top/include/hidreport.h" "$top/generated/wasm.c" | sort -u)
+    ln -s "$tools/ld.lld" "$scratch/wasm-ld"
+    "$scratch/wasm-ld" -mwasm64 --no-entry --gc-sections --strip-all -z stack-size=1048576 "${exported[@]}" \
+        --export=rattle_alloc --export=rattle_dealloc -o "$scratch/wide.wasm" "$scratch/module.o" "$scratch/wasm.o"
+    wasm-opt --enable-memory64 --enable-bulk-memory --enable-sign-ext --enable-mutable-globals \
+        --memory64-lowering -o "$1" "$scratch/wide.wasm"
+}
+
+if [ "$1" = --spoil ]; then
+    refused=0
+    retarget "$2"
+    for line in 'declare i64 @llvm.aarch64.crc32x(i64)' 'declare i32 @getpid()' 'module asm "nop"' \
+        '  call void asm sideeffect "nop", ""()'; do
+        { cat "$2" && echo "$line"; } > "$scratch/spoilt.ll"
+        ! (retarget "$scratch/spoilt.ll") 2> /dev/null || wrong "not refused: $line"
+        refused=$((refused + 1))
+    done
+    echo "wasm: $refused modules with something that isn't known are refused"
+    exit 0
+fi
+command -v wasm-opt > /dev/null || wrong 'no `wasm-opt` on the path (package binaryen)'
+retarget "$1"
+compile -x ir -c "$scratch/module.ll" -o "$scratch/module.o"
+compile -ffreestanding -nostdlib -Wall -Wextra -Werror -c "$top/generated/wasm.c" -o "$scratch/wasm.o"
+link "$2"
