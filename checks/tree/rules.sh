@@ -87,6 +87,7 @@ share/man/man1/hid.1 "hidreport $version"
 share/man/man1/hidreport.1 "hidreport $version"
 rust/Cargo.toml version = "$version"
 rust/Cargo.lock version = "$version"
+debian/changelog hidreport (${version/-/\~}-1)
 END_OF_FILES
 
 # Texts: 100 columns, tables apart.
