@@ -91,7 +91,7 @@ debian/changelog hidreport (${version/-/\~}-1)
 END_OF_FILES
 
 # Texts: 100 columns, tables apart.
-long=$(grep -nE '^[^|].{100,}' README.md CONTRIBUTING.md CHANGELOG.md docs/*.md compare/*.md \
+long=$(grep -nE '^[^|].{100,}' README.md CONTRIBUTING.md CHANGELOG.md SECURITY.md docs/*.md compare/*.md \
     bench/*.md | cut -d: -f1,2)
 [ -z "$long" ] || fault "lines past 100 columns:" $long
 
