@@ -1,7 +1,8 @@
 #!/bin/bash
 # What can be seen without a build, in seconds: the tree's rules (tree/rules.sh), that the tables of names
-# and codes are those of their texts (tree/usage_tables.sh, bpf_names.sh), and that the page that
-# `hid page` writes is that of crates/hid_page/page (tree/page.sh). Its status is 0 where all hold.
+# and codes are those of their texts (tree/usage_tables.sh, bpf_names.sh), that the page that
+# `hid page` writes is that of crates/hid_page/page (tree/page.sh), and that the header declares what its
+# soname promises (tree/soname.sh). Its status is 0 where all hold.
 set -eu
 export LC_ALL=C
 cd "$(dirname "$0")/tree"
@@ -9,3 +10,4 @@ bash rules.sh
 bash usage_tables.sh --check
 bash bpf_names.sh --check
 bash page.sh --check
+bash soname.sh --check

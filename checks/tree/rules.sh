@@ -97,10 +97,13 @@ python/hidreport/__init__.py __version__ = "$version"
 python/hidreport/_c.py VERSION = 0x$(sed 's/[.-]/ /g' <<< "$version" | xargs printf '%02x%02x%02x%02x')
 python/pyproject.toml version = "${version%-*}.post${version#*-}"
 python/backend.py VERSION = "hidreport", "${version%-*}.post${version#*-}"
+js/package.json "version": "$version"
+js/src/library.js VERSION = 0x$(sed 's/[.-]/ /g' <<< "$version" | xargs printf '%02x%02x%02x%02x')
+debian/changelog hidreport (${version/-/\~}-1)
 END_OF_FILES
 
 # Texts: 100 columns, tables apart.
-long=$(LC_ALL=C.UTF-8 grep -nE '^[^|].{100,}' README.md CONTRIBUTING.md CHANGELOG.md docs/*.md compare/*.md \
+long=$(LC_ALL=C.UTF-8 grep -nE '^[^|].{100,}' README.md CONTRIBUTING.md CHANGELOG.md SECURITY.md docs/*.md compare/*.md \
     bench/*.md | cut -d: -f1,2)
 [ -z "$long" ] || fault "lines past 100 columns:" $long
 
