@@ -18,7 +18,7 @@ top=$(cd "$(dirname "$0")/.." && pwd)
 cd "$top"
 processors=(x86_64 aarch64)
 programs=(hid hidreport)
-files=(heap.c programs.c "${processors[@]/%/-linux/hidreport.s}")
+files=(heap.c programs.c wasm.c wasm/hidreport.wasm "${processors[@]/%/-linux/hidreport.s}")
 for processor in "${processors[@]}"; do
     for program in "${programs[@]}"; do
         files+=("$processor-linux/$program.o.gz")
@@ -110,7 +110,18 @@ build() {
             tail -n 20 "$scratch/said" >&2
             wrong "nothing was built for $processor"
         }
+        mv "$scratch/built/$processor-linux/hidreport.s.ll" "$scratch/$processor.ll"
     done
+    command -v wasm-opt > /dev/null || return 0
+    mkdir "$scratch/built/wasm"
+    bash checks/generated/wasm.sh --spoil "$scratch/aarch64.ll"
+    bash checks/generated/wasm.sh "$scratch/aarch64.ll" "$scratch/built/wasm/hidreport.wasm" ||
+        wrong 'no WebAssembly was built'
+}
+
+# The program whose version decides the bytes of WebAssembly.
+lowered_by() {
+    wasm-opt --version 2> /dev/null || echo none
 }
 
 # The object of a program for a processor, into the scratch folder.
@@ -126,6 +137,7 @@ write() {
     local program processor
     . checks/common/needs.sh
     need_rt generated
+    [ "$(lowered_by)" != none ] || wrong 'no `wasm-opt` on the path (package binaryen)'
     if [ "$1" = "$top" ]; then
         (cd crates/hidreport_c && rt lib) > "$scratch/said" 2>&1 || {
             tail -n 20 "$scratch/said" >&2
@@ -154,6 +166,7 @@ write() {
         echo 'From what, and by what, checks/generated.sh --write made this folder; then its sums.'
         echo "version: $(version_of_header)"
         echo "toolchain: $(rt version)"
+        echo "lowered by: $(lowered_by)"
         echo "sources: $(sum_of "$top" library)"
         for program in "${programs[@]}"; do
             echo "code of $program: $(sum_of "$top" "$program")"
@@ -178,6 +191,12 @@ compare() {
         cmp "generated/$file" "$scratch/built/$file" ||
             wrong "generated/$file isn't what the proofs build"
     done
+    if [ "$(lowered_by)" = "$(noted 'lowered by')" ]; then
+        cmp generated/wasm/hidreport.wasm "$scratch/built/wasm/hidreport.wasm" ||
+            wrong "generated/wasm/hidreport.wasm isn't what the proofs build"
+    else
+        say "WebAssembly was made by $(noted 'lowered by'), so by $(lowered_by) answers alone decide"
+    fi
     say 'the library is byte for byte what the proofs build'
 }
 

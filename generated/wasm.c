@@ -33,7 +33,8 @@ static struct block *grown(number power)
     }
     if (room - end < size) {
         number pages = (size - (room - end) + PAGE - 1) / PAGE;
-        if (__builtin_wasm_memory_grow(0, pages) == (number)-1)
+        /* The answer where it may not has as many bits as addresses: 64, or in the end 32. */
+        if (pages > PAGE || (unsigned)__builtin_wasm_memory_grow(0, pages) == (unsigned)-1)
             return 0;
         room += pages * PAGE;
     }
@@ -73,6 +74,8 @@ void rattle_dealloc(void *start)
 {
     struct block *block = (struct block *)start - 1;
 
+    if (!start)
+        return;
     block->next = free_blocks[block->power];
     free_blocks[block->power] = block;
 }
@@ -82,6 +85,8 @@ struct tried rattle_realloc(void *start, number kept, number size, number alignm
 {
     struct tried tried;
 
+    if (!start)
+        return rattle_alloc(size, alignment);
     if ((1ull << ((struct block *)start - 1)->power) - sizeof(struct block) >= size)
         return (struct tried){1, start};
     tried = rattle_alloc(size, alignment);

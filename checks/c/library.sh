@@ -3,7 +3,8 @@
 # Builds the library for C over the libraries that `rt ci` has just proved. `rt lib` would prove
 # these once more, since rt ci leaves them without the sums by which rt knows what it has built.
 # ARCHIVE is the path of the archive to be made. With two more words it is for TARGET, as
-# aarch64-unknown-linux-gnu, and TEXT gets what was compiled as assembly, which gas and clang read.
+# aarch64-unknown-linux-gnu, and TEXT gets what was compiled as assembly, which gas and clang read, and
+# TEXT.ll as LLVM's own text, of which checks/generated/wasm.sh makes WebAssembly.
 # HIDREPORT_PROVED names another tree whose proved libraries are taken, HIDREPORT_KEPT a folder in
 # which what is checked is kept for the next call.
 set -eu
@@ -34,6 +35,11 @@ if [ $# -eq 3 ]; then
 case " $* " in
     *' -c '*)
         "$clang" "$@" || exit
+        previous=
+        for word; do
+            [ "$previous" != ir ] || cp "$word" "$text.ll"
+            previous=$word
+        done
         left=$#
         while [ "$left" -gt 0 ]; do
             word=$1

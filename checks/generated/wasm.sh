@@ -2,7 +2,7 @@
 # wasm.sh TEXT MODULE: makes MODULE, the library for C as WebAssembly, of TEXT: what the toolchain lowered
 # the proved library to for aarch64 (checks/c/library.sh keeps it). Its lines stay but for these: the
 # target's name and layout; what asks for probes of the stack; one instruction of that processor, written
-# out. A module in which there is anything else that only some processors know, or that asks for more of
+# out; tables of differences of addresses, which become tables of addresses. A module in which there is anything else that only some processors know, or that asks for more of
 # a system than memory, is refused. Debian's `wasm-opt` makes addresses of 32 bits of those of 64, which
 # all browsers and Node take. This step is tested, not proved. `wasm.sh --spoil TEXT` sees that what isn't
 # known is refused.
@@ -33,8 +33,17 @@ retarget() {
     sed -E 's/^target datalayout = .*/target datalayout = "e-m:e-p:64:64-p10:8:8-p20:8:8-i64:64-i128:128-n32:64-S128-ni:1:10:20"/
         s/^target triple = .*/target triple = "wasm64-unknown-unknown"/
         s/ "(probe-stack|stack-probe-size)"="[^"]*"//g
-        /^declare .*@llvm\.aarch64\.neon\.addp\.v16i8\(/d
+        /^declare .*@llvm\.(aarch64\.neon\.addp\.v16i8|load\.relative\.i64)\(/d
+        /^uselistorder/d
+        /^@switch\.table\.[^ ]*\.rel = /{
+            s/\[([0-9]*) x i32\]/[\1 x ptr]/
+            s/i32 trunc \(i64 sub \(i64 ptrtoint \(ptr (@[^ ]*) to i64\), i64 ptrtoint \(ptr @[^ ]* to i64\)\) to i32\)/ptr \1/g
+            s/align 4$/align 8/
+        }
+        s/^( *%)([^ ]*) = call ptr @llvm\.load\.relative\.i64\(ptr (@[^ ,]*), i64 (%[^ )]*)\).*/\1\2.at = shl i64 \4, 1\n\1\2.place = getelementptr i8, ptr \3, i64 %\2.at\n\1\2 = load ptr, ptr %\2.place, align 8/
         s/@llvm\.aarch64\.neon\.addp\.v16i8/@add_pairs/g' "$1" > "$scratch/module.ll"
+    ! grep -qE 'load\.relative|ptrtoint \(.*i64 sub|i64 sub \(' "$scratch/module.ll" ||
+        wrong 'a table of differences is not known'
     cat >> "$scratch/module.ll" << END_OF_PAIRS
 
 define internal <16 x i8> @add_pairs(<16 x i8> %left, <16 x i8> %right) {

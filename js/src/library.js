@@ -170,3 +170,8 @@ export function numbersOf(values) {
   });
   return new Uint8Array(array.buffer);
 }
+
+/** How many bytes the module's memory has. */
+export function memory() {
+  return library.memory.buffer.byteLength;
+}

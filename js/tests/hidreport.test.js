@@ -1,0 +1,122 @@
+// The questions that C, Rust and Python are asked, too, and the classes above them. Expected values are
+// those of c/cases.txt, and of the standard worked by hand.
+import assert from "node:assert/strict";
+import { readFileSync } from "node:fs";
+import { test } from "node:test";
+
+import * as hid from "../index.js";
+import { answers, bytesIn } from "./cases.js";
+
+const QUESTIONS = 672;
+const MOUSE = bytesIn("05010902a1010901a1000509190129031500250195037501810295017505810105010930"
+  + "093115 81257f750895028106c0c0");
+
+test("all questions", () => {
+  const lines = readFileSync(new URL("../../c/cases.txt", import.meta.url), "utf8").replace(/\n$/, "").split("\n");
+  const questions = lines.filter((line) => !line.startsWith("  "));
+  assert.equal(questions.filter((line) => /^[a-z]/.test(line)).length, QUESTIONS);
+  const got = answers(questions);
+  lines.forEach((line, k) => assert.equal(got[k], line));
+  assert.equal(got.length, lines.length);
+});
+
+test("another answer is noticed", () => {
+  assert.notEqual(answers(["usage-name 00010030"]).at(-1), "  Y");
+});
+
+test("fields", () => {
+  const device = hid.ReportDescriptor.from(MOUSE);
+  const [report] = device.inputReports;
+  assert.deepEqual([device.outputReports, device.featureReports], [[], []]);
+  assert.deepEqual([report.reportId, report.sizeInBits, report.sizeInBytes], [undefined, 24, 3]);
+  const x = report.fieldFor(new hid.Usage(1, 0x30));
+  assert.deepEqual([x.id, x.bits, x.kind, x.isSigned],
+    [4, { start: 8, end: 16 }, hid.Kind.VARIABLE, true]);
+  assert.deepEqual([x.logicalMinimum, x.logicalMaximum, x.unit, x.physicalMinimum],
+    [-127, 127, undefined, undefined]);
+  assert.deepEqual([x.flags.isRelative, x.flags.wraps], [true, false]);
+  assert.deepEqual(x.collections.map((it) => [it.kindName, it.usages[0].name]),
+    [["Application", "Mouse"], ["Physical", "Pointer"]]);
+  assert.equal(report.fields[3].kind, hid.Kind.CONSTANT);
+  assert.deepEqual([report.fields[3].usages, report.fields[3].collections], [[], []]);
+});
+
+test("values", () => {
+  const [report] = hid.ReportDescriptor.from(MOUSE).inputReports;
+  const data = bytesIn("0505fb");
+  assert.deepEqual(report.read(data), [1, 0, 1, 5, -5]);
+  assert.deepEqual(report.values(data).map(([field, values]) => [field.id, values]),
+    [[0, [1]], [1, [0]], [2, [1]], [4, [5]], [5, [-5]]]);
+  assert.deepEqual(report.readAvailable(data.slice(0, 2)), [1, 0, 1, 5]);
+  assert.throws(() => report.read(data.slice(0, 2)), hid.OutOfBounds);
+  assert.throws(() => report.fields[4].extractOne(data, 1), hid.OutOfBounds);
+  report.fields[4].insertOne(data, -128);
+  assert.deepEqual(data, bytesIn("0580fb"));
+  for (const value of [128, -129, 2n ** 63n, -(2n ** 80n)]) {
+    assert.throws(() => report.fields[4].insertOne(data, value), hid.DoesNotFit);
+  }
+  assert.throws(() => report.write(data, [0, 0, 0, 0]), hid.WrongCount);
+  assert.deepEqual(data, bytesIn("0580fb"));
+  report.write(data, [0, 1, 0, 1, -1]);
+  assert.deepEqual([data, report.blank()], [bytesIn("0201ff"), bytesIn("000000")]);
+  const { numerator, denominator } = report.fields[4].normalized(127);
+  assert.equal(numerator, denominator);
+});
+
+test("ids and arrays", () => {
+  const device = hid.ReportDescriptor.from(bytesIn("0501 7508 9501 8505 0930 8102 8506 0931 8102"));
+  assert.deepEqual(device.inputReports.map((it) => it.reportId), [5, 6]);
+  assert.deepEqual(device.findInputReport([6, 42]).read([6, 42]), [42]);
+  assert.equal(device.findInputReport([7, 42]), undefined);
+  assert.equal(device.findInputReport([]), undefined);
+  assert.throws(() => device.inputReports[1].fields[0].extract([5, 42]), hid.MismatchingReportId);
+  const [field] = hid.ReportDescriptor.from(bytesIn("0507 1904 2907 1501 2504 7508 9503 8100"))
+    .inputReports[0].fields;
+  assert.deepEqual(field.extract([1, 4, 0]), [1, 4, 0]);
+  assert.deepEqual(field.usageOf(4), new hid.Usage(7, 7));
+  assert.equal(field.usageOf(0), undefined);
+  assert.equal(field.valueFor(new hid.Usage(7, 4)), 1);
+  assert.equal(field.valueFor(new hid.Usage(7, 8)), undefined);
+  assert.equal(field.nullValue, 0);
+});
+
+test("refusals", () => {
+  assert.throws(() => hid.ReportDescriptor.from([5, 1, 0xc0]),
+    (error) => error instanceof hid.InvalidData && error.offset === 2
+      && error.text === "Too many EndCollection");
+  assert.throws(() => hid.ReportDescriptor.from(MOUSE, { limit: 1 }),
+    (error) => error instanceof hid.BudgetExceeded && error.offset === 4);
+  assert.throws(() => hid.ReportDescriptor.from(MOUSE, { push: 7 }), hid.UnknownOption);
+  assert.throws(() => hid.items([5]), hid.InvalidData);
+  assert.equal(hid.ReportDescriptor.from(MOUSE, { limit: null }).inputReports.length, 1);
+});
+
+test("items, repairs and names", () => {
+  assert.deepEqual(hid.items([5, 1, 0xc0]).map((it) => [it.offset, it.name]),
+    [[0, "Usage Page"], [2, "End Collection"]]);
+  assert.equal(hid.items([0x81, 2])[0].flagWords, "Data,Var,Abs,NoNull");
+  assert.deepEqual(hid.frontItems([5, 1, 5]).map((it) => it.offset), [0]);
+  assert.deepEqual(hid.rebuild(bytesIn("060100c4")), bytesIn("0501"));
+  const { bytes, changes } = hid.repair(bytesIn("750895018300000001"));
+  assert.deepEqual(bytes, bytesIn("750895018301000001"));
+  assert.deepEqual(changes, [{ offset: 4, stood: 5, stands: 5, reason: hid.Reason.NO_USAGE }]);
+  assert.throws(() => hid.repair([0xc0]), hid.InvalidData);
+  const mouse = hid.ReportDescriptor.from(MOUSE);
+  assert.equal(mouse.isAlike(hid.ReportDescriptor.from(hid.rebuild(MOUSE))), true);
+  assert.equal(mouse.isAlike(hid.ReportDescriptor.from([5, 1])), false);
+  assert.deepEqual(hid.Usage.byName("X"), new hid.Usage(1, 0x30));
+  assert.deepEqual(hid.Usage.byName("Button 3", 9), new hid.Usage(9, 3));
+  assert.equal(hid.Usage.byName("No such name"), undefined);
+  assert.deepEqual([hid.pageByName("Button"), hid.pageName(9)], [9, "Button"]);
+});
+
+test("memory is given back, and refused in words", async () => {
+  const { memory } = await import("../src/library.js");
+  for (let k = 0; k < 10; k++) hid.ReportDescriptor.from(MOUSE);
+  const before = memory();
+  for (let k = 0; k < 10_000; k++) hid.ReportDescriptor.from(MOUSE);
+  assert.equal(memory(), before);
+  assert.throws(() => hid.ReportDescriptor.from(bytesIn("0501 0930 7508 97ffffff00 8102"), { limit: null }),
+    hid.OutOfMemory);
+  assert.equal(hid.ReportDescriptor.from(MOUSE).inputReports.length, 1);
+});
