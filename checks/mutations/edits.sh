@@ -1,6 +1,6 @@
 #!/bin/bash
-# Tries every edit that the prover must refuse: those of the gate, crates/NAME/must-fail/, and those
-# beside, crates/NAME/more-edits/. Its arguments are the crates; without any, all that have edits.
+# Tries every edit that the prover must refuse, crates/NAME/more-edits/*.edit. Its arguments are the
+# crates; without any, all that have edits.
 # It works in a copy, which it removes. Each crate is proved as it stands first: of one that isn't,
 # every edit would be refused. Then the edits are tried in parts of at most 36, a folder each, and as
 # many parts side by side as there are processors (at most two: LANES=2 bash checks/mutations/edits.sh NAME).
@@ -15,13 +15,9 @@ lanes=${LANES:-$(nproc)}
 scratch=$(mktemp -d)
 trap 'rm -rf "$scratch"' EXIT
 
-# The files of a crate's two folders, whatever they are.
+# The files of a crate's folder of edits, whatever they are.
 files_of() {
-    for folder in must-fail more-edits; do
-        if [ -d "$top/crates/$1/$folder" ]; then
-            find "$top/crates/$1/$folder" ! -type d | LC_ALL=C sort
-        fi
-    done
+    [ ! -d "$top/crates/$1/more-edits" ] || find "$top/crates/$1/more-edits" ! -type d | LC_ALL=C sort
 }
 
 # The crates, lowest first.

@@ -22,7 +22,7 @@ for crate in $listed; do
 done
 
 # Edits: each file that one names is there, and has each `old:` text just once.
-for edit in crates/*/must-fail/*.edit crates/*/more-edits/*.edit; do
+for edit in crates/*/more-edits/*.edit; do
     file=
     while IFS= read -r line; do
         case $line in
@@ -49,10 +49,8 @@ for plants in checks/mutations/planted/*.txt; do
         esac
     done < "$plants"
 done
-tried=$(ls crates/*/must-fail/*.edit | wc -l)
-[ "$tried" -le 20 ] || fault "the gate would try $tried edits, more than 20"
-[ ! -d crates/hidreport/must-fail ] ||
-    fault 'edits of hidreport lie in more-edits: the gate would prove it once more, for 15 minutes'
+found=$(ls crates/*/must-fail/* 2> /dev/null)
+[ -z "$found" ] || fault "edits lie in more-edits: for these rt ci would prove a crate once more:" $found
 
 # Layout: each source is as `rt fmt` writes it.
 mapfile -t sources < <(find crates \( -name '*.rt' -path '*/src/*' -o -name '*.antt' \) \
