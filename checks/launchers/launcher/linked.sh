@@ -55,8 +55,8 @@ for round in 1 2 3 4 5 6 7 8; do
 done
 # While one runs another may be made.
 : > "$scratch/waits"
-"$copy/hid" wait "$scratch/waits" > "$scratch/out1" 2>&1 &
-until [ -s "$scratch/out1" ]; do sleep 0.02; done
+"$copy/hid" wait "$scratch/waits" > "$scratch/running" 2>&1 &
+await '^linked: <wait>' "$scratch/running"
 flock -n "$copy/Makefile" true || wrong 'a program that runs keeps the lock'
 rm "$scratch/waits"
 wait $! || true
