@@ -206,7 +206,7 @@ echo old | tee "$scratch/a prefix/share/hidreport/rust/src/old.rs" "$scratch/a p
     "$scratch/own" > "$scratch/a prefix/lib/pkgconfig/hidreport.pc"
 ln -s "$scratch/own" "$scratch/a prefix/.room"
 call 0 "$last a prefix" 'a prefix'
-rm "$scratch/a prefix/.room"
+rm -f "$scratch/a prefix/.room"
 is_whole "$scratch/a prefix" "$scratch/whole"
 [ "$(cat "$scratch/own")" = old ] || wrong 'a file that a link leads to is emptied'
 
