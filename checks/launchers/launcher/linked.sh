@@ -3,7 +3,7 @@
 for called in hid hidreport; do
     # (Where all processors are at work, within two seconds in one of three times.)
     for round in 1 2 3; do
-        rm -rf "$copy/build"
+        rm -rf "$copy/build/$called"* "$copy/build/run/$called"*
         begun=$(date +%s%N)
         call 0 x
         took=$((($(date +%s%N) - begun) / 1000000))
