@@ -11,7 +11,8 @@ for called in hid hidreport; do
     done
     [ "$took" -lt 2000 ] || wrong "the first output comes late: in $took ms"
     shows 'the first call' 0 'linked: <0> <x>' 0 1
-    says 'the first call' "$called: linked from generated/, which a-kit made of these sources once they were proved"
+    says 'the first call' \
+        "$called: linked from generated/, which a-kit made of these sources once they were proved"
     call 0 'y z'
     shows 'the second call' 0 'linked: <0> <y z>' 0 0
 done
