@@ -286,7 +286,7 @@ ask_program() {
         tail -n 20 "$scratch/said" >&2
         wrong "$program as it is linked goes otherwise"
     }
-    say "./$program links what generated/ has, and that makes its stored runs, and ends quietly by a closed pipe"
+    say "./$program links what generated/ has; that makes its stored runs, and ends quietly by a closed pipe"
 }
 
 # The answers from C and Rust on this processor.

@@ -4,7 +4,7 @@
 # A program in C++ tries the header's defaults.
 # Then the tests of the cargo package are run: its numbers, its refusals, and want of memory in either
 # of the two calls that a list takes. Its argument is a folder that ./install filled; without one it
-# fills one, which takes half a minute behind a check of `hidreport_c`. With `behind-ci` it builds
+# fills one. With `behind-ci` it builds
 # the library over what `rt ci` has just proved (checks/c/library.sh), in two minutes. Where no C
 # compiler is there, or no cargo, it says so and leaves that part out.
 set -eu
@@ -23,7 +23,7 @@ if [ "$prefix" = behind-ci ]; then
     export HIDREPORT_ARCHIVE="$scratch/libhidreport_c.a"
     bash "$top/checks/c/library.sh" "$HIDREPORT_ARCHIVE" > "$scratch/said" 2>&1 || {
         tail -n 5 "$scratch/said"
-        echo 'c_cases: not built over what rt ci has proved, so all is proved once more'
+        echo 'c_cases: not built over what rt ci has proved, so what ./install has is asked'
         unset HIDREPORT_ARCHIVE
     }
 fi

@@ -22,9 +22,9 @@ command -v apt-get > /dev/null || wrong 'no `apt-get` on the path'
 # What these two need besides what is installed.
 mkdir "$scratch/packages" "$scratch/root"
 chmod 755 "$scratch" "$scratch/packages"
-(cd "$scratch/packages" && apt-get download rustc cargo libstd-rust-1.63 libstd-rust-dev libllvm14 libgit2-1.5 \
-    libhttp-parser2.9 libssh2-1 libmbedtls14 libmbedx509-1 libmbedcrypto7 libcurl3-gnutls) > "$scratch/said" 2>&1 ||
-    wrong 'the packages of Debian 12 are not there'
+(cd "$scratch/packages" && apt-get download rustc cargo libstd-rust-1.63 libstd-rust-dev libllvm14 \
+    libgit2-1.5 libhttp-parser2.9 libssh2-1 libmbedtls14 libmbedx509-1 libmbedcrypto7 libcurl3-gnutls) \
+    > "$scratch/said" 2>&1 || wrong 'the packages of Debian 12 are not there'
 for package in "$scratch"/packages/*.deb; do
     dpkg -x "$package" "$scratch/root"
 done
@@ -41,7 +41,8 @@ cp -R "$top/crates/hidreport_cases" "$top/crates/hidreport_main" "$scratch/tree/
 cd "$scratch/tree/rust"
 try() {
     rm -rf target
-    CC=$1 LD_LIBRARY_PATH=$libraries cargo test --offline --locked > "$scratch/said" 2>&1 || wrong "CC=$1: the tests fail"
+    CC=$1 LD_LIBRARY_PATH=$libraries cargo test --offline --locked > "$scratch/said" 2>&1 ||
+        wrong "CC=$1: the tests fail"
     [ "$(grep -c '^test result: ok' "$scratch/said")" -eq 3 ] || wrong "CC=$1: other tests than three kinds"
     [ "$(grep -c '^test .* ok$' "$scratch/said")" -ge 15 ] || wrong "CC=$1: fewer tests"
     asked=$((asked + 3))

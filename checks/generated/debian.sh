@@ -32,7 +32,8 @@ mkdir "$tree"
 (cd "$top" && git ls-files -z | xargs -0 cp -P --parents -t "$tree" --)
 (cd "$tree" && dpkg-buildpackage -us -uc -b) > "$scratch/said" 2>&1 || wrong 'nothing is built'
 cd "$scratch"
-is 'the packages' "${packages[*]}" "$(for file in *.deb; do echo "${file%%_*}"; done | grep -v dbgsym | xargs)"
+is 'the packages' "${packages[*]}" \
+    "$(for file in *.deb; do echo "${file%%_*}"; done | grep -v dbgsym | xargs)"
 lintian --fail-on error ./*.changes > said 2>&1 || wrong 'lintian finds errors'
 is 'errors of lintian' 0 "$(grep -c '^E:' said || true)"
 
@@ -49,14 +50,16 @@ is 'as many files' "$(wc -l < wanted)" "$(sort -u packed | wc -l)"
 # A root that has Debian's C library and nothing else.
 root=$scratch/root
 mkdir -p "$root/var/lib/dpkg/info" "$root/var/lib/dpkg/updates" "$root/tmp"
-dpkg-query -s libc6 | sed '/^Conffiles:/,/^[A-Z]/{/^Conffiles:/d;/^ /d}' > "$root/var/lib/dpkg/status"
+dpkg-query -s libc6 | sed '/^Conffiles:/,/^[A-Z]/{/^Conffiles:/d;/^ /d}' \
+    > "$root/var/lib/dpkg/status"
 in_root() {
     fakeroot dpkg --root="$root" --force-not-root --log="$scratch/log" "$@" > said 2>&1
 }
 ! in_root --install libhidreport-dev_*.deb || wrong 'headers are installed without their library'
 is 'a package by itself' 1 "$(grep -c 'depends on libhidreport0' said)"
 in_root --purge libhidreport-dev || wrong 'libhidreport-dev is not removed'
-in_root --install hidreport_*.deb libhidreport-dev_*.deb libhidreport0_*.deb || wrong 'the packages are not installed'
+in_root --install hidreport_*.deb libhidreport-dev_*.deb libhidreport0_*.deb ||
+    wrong 'the packages are not installed'
 is 'installed' "${packages[*]}" "$(dpkg-query --admindir="$root/var/lib/dpkg" -W \
     -f '${db:Status-Status} ${Package}\n' | sed -n 's/^installed //p' | grep -vx libc6 | xargs)"
 
@@ -92,13 +95,15 @@ export PKG_CONFIG_ALLOW_SYSTEM_CFLAGS=1 PKG_CONFIG_ALLOW_SYSTEM_LIBS=1
 # shellcheck disable=SC2046
 cc -o values "$top/c/values.c" $(pkg-config --cflags --libs hidreport) > said 2>&1 ||
     wrong "a program isn't built by: $(pkg-config --cflags --libs hidreport)"
-is 'what a program asks for' libhidreport.so.0 "$(readelf -dW values | sed -n 's/.*NEEDED.*\[\(libhid.*\)\]/\1/p')"
+is 'what a program asks for' libhidreport.so.0 \
+    "$(readelf -dW values | sed -n 's/.*NEEDED.*\[\(libhid.*\)\]/\1/p')"
 is 'a program in C' $'0..8 00010030 5\n8..16 00010031 -5' \
     "$(LD_LIBRARY_PATH=$library ./values "$data/mouse.rdesc" "$data/mouse.report")"
 if command -v cargo > /dev/null; then
     mkdir -p uses/src
     printf '[package]\nname = "uses"\nversion = "0.1.0"\nedition = "2021"\n[dependencies]\n' > uses/Cargo.toml
-    echo "hidreport = { package = \"hidreport-proved\", path = \"$root/usr/share/hidreport/rust\" }" >> uses/Cargo.toml
+    echo "hidreport = { package = \"hidreport-proved\", path = \"$root/usr/share/hidreport/rust\" }" \
+        >> uses/Cargo.toml
     echo 'fn main() { println!("{}", hidreport::ReportDescriptor::try_from(&[5u8, 1][..]).is_ok()); }' \
         > uses/src/main.rs
     is 'a program in Rust' true "$(cd uses && cargo run -q --offline 2>&1)"
@@ -107,5 +112,6 @@ else
 fi
 
 in_root --purge "${packages[@]}" || wrong 'the packages are not removed'
-is 'what is left' '' "$(find "$root" -path "$root/usr/*" -not -type d -not -name 'libc.so*' -not -name 'ld-linux*')"
+is 'what is left' '' \
+    "$(find "$root" -path "$root/usr/*" -not -type d -not -name 'libc.so*' -not -name 'ld-linux*')"
 echo "debian: ${packages[*]}: $asked answers"

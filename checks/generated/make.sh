@@ -77,7 +77,8 @@ for round in 1 2 3 4 5; do
         *) make_in "$tree" -j8 install DESTDIR="$tree/root" PREFIX=/usr ;;
     esac
     make_in "$tree" -j8 check
-    products "$tree" | diff "$scratch/wanted" - > "$scratch/said" || wrong "round $round: other products"
+    products "$tree" | diff "$scratch/wanted" - > "$scratch/said" ||
+        wrong "round $round: other products"
     diff -r --no-dereference "$scratch/serial/root" "$tree/root" > "$scratch/said" ||
         wrong "round $round: other files are installed"
     diff <(functions) <(shown -g "$tree/build/libhidreport.a") > "$scratch/said" ||
@@ -94,5 +95,6 @@ echo >> "$scratch/serial/build/hid"
 ! products "$scratch/serial" | diff "$scratch/wanted" - > "$scratch/said" ||
     wrong 'a byte more is not noticed'
 touch "$scratch/serial/generated/heap.c"
-! make -q --no-print-directory -C "$scratch/serial" || wrong '`make -q` sees nothing to do behind a newer source'
+! make -q --no-print-directory -C "$scratch/serial" ||
+    wrong '`make -q` sees nothing to do behind a newer source'
 echo "make: $((asked + 3)) answers, the same with eight jobs as with one"

@@ -1,7 +1,8 @@
 #!/bin/bash
-# What ./release writes: the same bytes each time, by other settings of git, too; from them, with no `rt` on the path, `make`, `make check`
-# and `make install` in half a minute, a program in C linked from what is installed, and the installed
-# programs. It is no part of the gate: it is run before a version gets its number. Leaves nothing behind.
+# What ./release writes: the same bytes each time, by other settings of git, too; from them, with no `rt`
+# on the path, `make`, `make check` and `make install` in half a minute, a program in C linked from what is
+# installed, and the installed programs. It is no part of the gate: it is run before a version gets its
+# number. Leaves nothing behind.
 set -euo pipefail
 export LC_ALL=C
 

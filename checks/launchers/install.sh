@@ -17,12 +17,12 @@ answers=0
 processor=$(cc -dumpmachine)
 made="$copy/generated/${processor%%-*}-linux"
 mkdir -p "$copy/checks/common" "$copy/crates" "$made" "$scratch/bin" "$scratch/rust"
-cp -R "$top/install" "$top/Makefile" "$top/tools" "$top/crates.txt" "$top/c" "$top/include" "$top/share" "$copy"
+cp -R "$top"/{install,Makefile,tools,crates.txt,c,include,share} "$copy"
 cp "$top/checks/common/needs.sh" "$copy/checks/common"
 cp "$top/generated/heap.c" "$top/generated/programs.c" "$copy/generated"
 (cd "$top/crates" && cp -R --parents ./*/src "$copy/crates")
-(cd "$top/rust" && find . -type f -not -path './target/*' -not -path './tests/*' -not -name Cargo.lock -print0 |
-    xargs -0 cp --parents -t "$scratch/rust")
+(cd "$top/rust" && find . -type f -not -path './target/*' -not -path './tests/*' -not -name Cargo.lock \
+    -exec cp --parents -t "$scratch/rust" {} +)
 # What cargo leaves, and a version that isn't the header's: neither is installed.
 cp -R "$scratch/rust" "$copy/rust"
 mkdir "$copy/rust/target"
@@ -206,7 +206,7 @@ echo old | tee "$scratch/a prefix/share/hidreport/rust/src/old.rs" "$scratch/a p
     "$scratch/own" > "$scratch/a prefix/lib/pkgconfig/hidreport.pc"
 ln -s "$scratch/own" "$scratch/a prefix/.room"
 call 0 "$last a prefix" 'a prefix'
-rm "$scratch/a prefix/.room"
+rm -f "$scratch/a prefix/.room"
 is_whole "$scratch/a prefix" "$scratch/whole"
 [ "$(cat "$scratch/own")" = old ] || wrong 'a file that a link leads to is emptied'
 
@@ -219,8 +219,9 @@ grep -qxF 'libdir=/usr/lib/of_processor' "$root/usr/lib/of_processor/pkgconfig/h
     grep -qxF 'includedir=/usr/include/of_it' "$root/usr/lib/of_processor/pkgconfig/hidreport.pc" ||
     wrong 'hidreport.pc has other folders'
 has_modes "$root"
-mv "$root/usr/lib/of_processor" "$root/usr/of_lib" && rm -r "$root/usr/lib" && mv "$root/usr/of_lib" "$root/usr/lib"
-mv "$root/usr/include/of_it/hidreport.h" "$root/usr/include" && rmdir "$root/usr/include/of_it"
+for folder in lib/of_processor include/of_it; do
+    mv "$root/usr/$folder"/* "$root/usr/${folder%/*}" && rmdir "$root/usr/$folder"
+done
 cp "$scratch/whole/lib/pkgconfig/hidreport.pc" "$root/usr/lib/pkgconfig"
 is_whole "$root/usr" "$scratch/whole"
 answers=$((answers + 3))

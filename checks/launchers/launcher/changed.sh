@@ -28,7 +28,7 @@ call 0
 shows 'other files, and a time' 0 'tried: <0>' 0 1
 # A change of the same size and time, a file that comes, one that goes; then all as it was.
 cp -p "$main" "$scratch/kept"
-sed -i 's/auto/otua/' "$main"
+sed 's/auto/otua/' "$scratch/kept" > "$main"
 touch -r "$scratch/kept" "$main"
 call 0
 shows 'a change of the same size and time' 0 'tried: <0>' 1 $tried
@@ -41,27 +41,35 @@ shows 'a removed file' 0 'tried: <0>' 1 $tried
 sed -i '/^hidreport_types:/s/$/ hidreport_transfer/' "$copy/crates.txt"
 call 0
 shows 'the crates are the same' 0 'tried: <0>' 0 1
+sed -i '/^hidreport_main:/s/$/ hidreport_example/' "$copy/crates.txt"
+call 0
+shows 'a crate more' 0 'tried: <0>' 1 $tried
 
-# What is edited while the program is built isn't what was built, so the next call builds it.
-: > "$scratch/slow"
-echo >> "$main"
-: > "$scratch/calls"
-PATH=$path "$copy/hidreport" 0 > "$scratch/first" 2>&1 &
-until grep -q '^try' "$scratch/calls"; do sleep 0.02; done
-echo >> "$main"
-rm "$scratch/slow"
-wait $! || wrong 'a build beside an edit'
-call 0
-shows 'an edit while it was built' 0 'tried: <0>' 1 $tried
-call 0
-shows 'the call after that' 0 'tried: <0>' 0 1
+# What is edited while the program is built isn't what was built, so the next call builds it, also where
+# the source is again as it was.
+for again in no yes; do
+    : > "$scratch/slow"
+    echo >> "$main"
+    cp "$main" "$scratch/kept"
+    : > "$scratch/calls"
+    PATH=$path "$copy/hidreport" 0 > "$scratch/first" 2>&1 &
+    await '^try' "$scratch/calls"
+    echo >> "$main"
+    rm "$scratch/slow"
+    wait $! || wrong 'a build beside an edit'
+    [ $again = no ] || cp "$scratch/kept" "$main"
+    call 0
+    shows "an edit while it was built, as it was: $again" 0 'tried: <0>' 1 $tried
+    call 0
+    shows 'the call after that' 0 'tried: <0>' 0 1
+done
 
 # A call beside a build waits for it, says so, and builds nothing.
 : > "$scratch/slow"
 echo >> "$main"
 : > "$scratch/calls"
 PATH=$path "$copy/hidreport" 0 > "$scratch/first" 2>&1 &
-until grep -q '^try' "$scratch/calls"; do sleep 0.02; done
+await '^try' "$scratch/calls"
 (sleep 3 && rm "$scratch/slow") &
 call 4
 wait

@@ -15,7 +15,8 @@ fault_of() {
                 if (crate[i] in stood) print crate[i] " stands twice"
                 many = split(below[crate[i]], needed, " ")
                 for (j = 1; j <= many; j++) {
-                    if (needed[j] in below && !(needed[j] in stood)) print crate[i] " stands without " needed[j]
+                    if (needed[j] in below && !(needed[j] in stood))
+                        print crate[i] " stands without " needed[j]
                     used[needed[j]]
                 }
                 stood[crate[i]]
