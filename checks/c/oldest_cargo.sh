@@ -34,10 +34,11 @@ wanted=$(sed -n 's/^rust-version = "\(.*\)"$/\1/p' "$top/rust/Cargo.toml")
 LD_LIBRARY_PATH=$libraries rustc --version > "$scratch/said" 2>&1 || wrong 'rustc does not run'
 grep -q "^rustc $wanted\." "$scratch/said" || wrong "rust/Cargo.toml wants rustc $wanted, and this is another"
 
-mkdir -p "$scratch/tree/crates"
+mkdir -p "$scratch/tree/crates" "$scratch/tree/tests"
 cp -R "$top/rust" "$top/generated" "$top/c" "$top/include" "$scratch/tree"
 rm -rf "$scratch/tree/rust/target"
-cp -R "$top/crates/hidreport_cases" "$top/crates/hidreport_main" "$scratch/tree/crates"
+cp -R "$top/crates/hidreport_main" "$scratch/tree/crates"
+cp -R "$top/tests/hidreport_cases" "$scratch/tree/tests"
 cd "$scratch/tree/rust"
 try() {
     rm -rf target
