@@ -17,7 +17,8 @@ that reason alone. The twins go together in the same way, and there every functi
 What is proved of the twins is kept for the edits. Nothing below is proved again: the libraries are
 those that `rt ci` has left in crates/*/out, or in those of the tree HIDREPORT_PROVED.
 
---spoil NAME swaps the wrong body NAME and its twin, which has to be noticed twice.
+--spoil NAME swaps the wrong body NAME and its twin, which has to be noticed twice. A folder that
+WRONG_BODIES_LOG names gets what the prover says of each copy.
 """
 
 import os
