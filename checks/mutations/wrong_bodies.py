@@ -123,7 +123,8 @@ def libraries():
 
 def words_for(crate):
     """The words by which `rattle check` reads the crate in the current folder."""
-    kit = os.path.dirname(subprocess.run(["rt", "doc"], capture_output=True, text=True, check=True).stdout.strip())
+    said = subprocess.run(["rt", "doc"], capture_output=True, text=True, check=True).stdout
+    kit = os.path.dirname(said.strip())
     proved = os.environ.get("HIDREPORT_PROVED", TOP)
     own = libraries()
     words = [f"{kit}/bin/rattle", "check", "--crate-name", crate, "src/lib.rt"]
@@ -131,7 +132,7 @@ def words_for(crate):
     for name in ["std", *own[crate]]:
         folder = f"{proved}/crates/{name}/out/rlib" if name in own else f"{kit}/rlibs"
         if not os.path.isdir(f"{folder}/{name}.rlib"):
-            sys.exit(f"wrong_bodies: no {folder}/{name}.rlib; `rt ci` leaves it, or `rt lib` in crates/{name}")
+            sys.exit(f"wrong_bodies: no {folder}/{name}.rlib: `rt ci` leaves it")
         words += ["--extern", f"{name}={folder}/{name}.rlib"]
         if name in own:
             words += ["-L", f"dependency={folder}"]
@@ -245,10 +246,10 @@ def main():
     if faults:
         sys.exit(f"wrong_bodies: {len(faults)} faults")
     count = sum(map(len, tried.values()))
-    taken = os.times()
+    spent = os.times().children_user + os.times().children_system
     print(
         f"wrong_bodies: {count} are refused, each by its clause, and their twins are proved, in "
-        f"{time.monotonic() - begun:.0f} s, {taken.children_user + taken.children_system:.0f} of processor time"
+        f"{time.monotonic() - begun:.0f} s, {spent:.0f} of processor time"
     )
 
 
