@@ -17,7 +17,8 @@ that reason alone. The twins go together in the same way, and there every functi
 What is proved of the twins is kept for the edits. Nothing below is proved again: the libraries are
 those that `rt ci` has left in crates/*/out, or in those of the tree HIDREPORT_PROVED.
 
---spoil NAME swaps the wrong body NAME and its twin, which has to be noticed twice.
+--spoil NAME swaps the wrong body NAME and its twin, which has to be noticed twice. A folder that
+WRONG_BODIES_LOG names gets what the prover says of each copy.
 """
 
 import os
@@ -122,7 +123,8 @@ def libraries():
 
 def words_for(crate):
     """The words by which `rattle check` reads the crate in the current folder."""
-    kit = os.path.dirname(subprocess.run(["rt", "doc"], capture_output=True, text=True, check=True).stdout.strip())
+    said = subprocess.run(["rt", "doc"], capture_output=True, text=True, check=True).stdout
+    kit = os.path.dirname(said.strip())
     proved = os.environ.get("HIDREPORT_PROVED", TOP)
     own = libraries()
     words = [f"{kit}/bin/rattle", "check", "--crate-name", crate, "src/lib.rt"]
@@ -130,7 +132,7 @@ def words_for(crate):
     for name in ["std", *own[crate]]:
         folder = f"{proved}/crates/{name}/out/rlib" if name in own else f"{kit}/rlibs"
         if not os.path.isdir(f"{folder}/{name}.rlib"):
-            sys.exit(f"wrong_bodies: no {folder}/{name}.rlib; `rt ci` leaves it, or `rt lib` in crates/{name}")
+            sys.exit(f"wrong_bodies: no {folder}/{name}.rlib: `rt ci` leaves it")
         words += ["--extern", f"{name}={folder}/{name}.rlib"]
         if name in own:
             words += ["-L", f"dependency={folder}"]
@@ -244,11 +246,10 @@ def main():
     if faults:
         sys.exit(f"wrong_bodies: {len(faults)} faults")
     count = sum(map(len, tried.values()))
-    taken = os.times()
+    spent = os.times().children_user + os.times().children_system
     print(f"wrong_bodies: {count} are refused, each by its clause, and their twins are proved")
     print(
-        f"wrong_bodies: in {time.monotonic() - begun:.0f} s, "
-        f"{taken.children_user + taken.children_system:.0f} of processor time"
+        f"wrong_bodies: in {time.monotonic() - begun:.0f} s, {spent:.0f} of processor time"
     )
 
 
