@@ -21,9 +21,16 @@ wrong() {
     exit 1
 }
 
+# The folder of a way to link them, by its name: make takes no space there.
+folder_of() {
+    echo "$scratch/${1//[ ,]/_}"
+}
+
 # Links the programs: NAME COMPILER FLAGS.
 link() {
-    make -s -C "$tree" BUILD="$scratch/$1" CC="$2" LDFLAGS="$3" "$scratch/$1/hid" "$scratch/$1/hidreport" \
+    local folder
+    folder=$(folder_of "$1")
+    make -s -C "$tree" BUILD="$folder" CC="$2" LDFLAGS="$3" "$folder/hid" "$folder/hidreport" \
         > "$scratch/said" 2>&1 || {
         tail -n 20 "$scratch/said" >&2
         wrong "the programs aren't linked: $1"
@@ -32,16 +39,17 @@ link() {
 
 # Asks them; behind the name what runs them, where this machine doesn't.
 ask() {
-    local name=$1 program folder=$scratch/$1
+    local name=$1 program folder
+    folder=$(folder_of "$1")
     shift
     if [ $# -gt 0 ]; then
-        mkdir "$scratch/$name.run"
+        mkdir "$folder.run"
         for program in hid hidreport; do
             printf '#!/bin/sh\nexec %s -0 %s %s "$@"\n' "$*" "$program" "$folder/$program" \
-                > "$scratch/$name.run/$program"
-            chmod +x "$scratch/$name.run/$program"
+                > "$folder.run/$program"
+            chmod +x "$folder.run/$program"
         done
-        folder=$scratch/$name.run
+        folder=$folder.run
     fi
     [ -z "$is_spoilt" ] || printf '#!/bin/sh\n"%s" "$@" | sed s/Keyboard/keyboard/\n' "$folder/hid" \
         > "$scratch/hid"
