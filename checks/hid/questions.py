@@ -667,8 +667,9 @@ def main():
         sys.exit(f"hid_questions: only {asked} questions were asked")
     print(
         f"hid_questions: {asked} questions of {len(answers.asked)} kinds about {len(all_digits)} "
-        f"descriptors, answered alike, in {time.monotonic() - begun:.0f} s"
+        "descriptors, answered alike"
     )
+    print(f"hid_questions: in {time.monotonic() - begun:.0f} s")
 
 
 def ask_all(pool, all_digits):
