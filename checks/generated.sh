@@ -265,7 +265,7 @@ ends_quietly() {
     [ "$status" = 141 ] && ! grep -qi pipe "$scratch/errors"
 }
 
-# A program of the copy: the first call of its launcher links it, within five seconds, and it makes the
+# A program of the copy: the first call of its launcher links it, in at most five seconds of a processor, and it makes the
 # stored runs.
 ask_program() {
     local tree=$1 program=$2 linked
@@ -274,7 +274,7 @@ ask_program() {
         hid) set -- fields "$tree/crates/hid/data/mouse.hex" ;;
         *) set -- items "$tree/crates/hidreport_main/data/mouse.rdesc" ;;
     esac
-    timeout 5 "$tree/$program" "$@" > "$scratch/said" 2> "$scratch/errors" ||
+    (ulimit -t 5 && timeout 60 "$tree/$program" "$@") > "$scratch/said" 2> "$scratch/errors" ||
         wrong "the first call of ./$program fails: $(tail -n 1 "$scratch/errors")"
     grep -q "^$program: linked from generated/" "$scratch/errors" ||
         wrong "./$program isn't linked from generated/"
