@@ -265,8 +265,8 @@ ends_quietly() {
     [ "$status" = 141 ] && ! grep -qi pipe "$scratch/errors"
 }
 
-# A program of the copy: the first call of its launcher links it, in at most five seconds of a processor, and it makes the
-# stored runs.
+# A program of the copy: the first call of its launcher links it, in at most five seconds of a processor,
+# and it makes the stored runs.
 ask_program() {
     local tree=$1 program=$2 linked
     linked="$tree/build/run/$program"
