@@ -109,14 +109,14 @@ export class ReportDescriptor {
       return new Report(report, direction, own.map((view) => {
         usage += Number(view.getBigUint64(32, true));
         const named = usages.slice(usage - Number(view.getBigUint64(32, true)), usage);
-        return new Field(view, named, this.#collections(view));
+        return new Field(view, named, () => this.#collections(view));
       }));
     }));
   }
 
   /** The collections around a field; those around two fields are the same where the innermost is. */
   #collections(view) {
-    if (view.getBigUint64(88, true) === 0n) return [];
+    if (view.getBigUint64(88, true) === 0n) return Object.freeze([]);
     const innermost = view.getUint32(96, true);
     if (!this.#around.has(innermost)) {
       const field = view.getUint32(0, true);

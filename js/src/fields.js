@@ -36,8 +36,9 @@ function choiceOf(view) {
 export class Field {
   #data;
   #usages;
+  #around;
 
-  constructor(view, usages, collections) {
+  constructor(view, usages, around) {
     const given = (has, at, signed) => {
       if (!view.getUint8(56 + has)) return undefined;
       return signed ? view.getInt32(56 + at, true) : view.getUint32(56 + at, true);
@@ -66,9 +67,13 @@ export class Field {
       FLAGS.map((name, k) => [name, view.getUint8(104 + k) !== 0])));
     /** The id that a report begins with to be read, if any. */
     this.reportId = view.getUint8(111) ? view.getUint8(112) : undefined;
-    /** The collections it lies in, outermost first. */
-    this.collections = collections;
+    this.#around = around;
     Object.freeze(this);
+  }
+
+  /** The collections it lies in, outermost first; none of padding. */
+  get collections() {
+    return this.#around();
   }
 
   /** The bytes of the library's own struct. */

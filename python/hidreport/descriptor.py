@@ -96,7 +96,7 @@ class ReportDescriptor:
         fields = iter(self._listed("describe", direction))
         usages = iter(self._listed("describe_usages", direction))
         return tuple(Report(report, direction, [
-            Field(field, list(islice(usages, field.usages.count)), self._around(field))
+            Field(field, list(islice(usages, field.usages.count)), self._around)
             for field in islice(fields, report.field_count)]) for report in reports)
 
     def _around(self, field: "_c.Field") -> Tuple[Collection, ...]:

@@ -3,7 +3,7 @@
 from dataclasses import dataclass
 from enum import IntEnum
 from fractions import Fraction
-from typing import Iterable, List, Optional, Sequence, Tuple
+from typing import Callable, Iterable, List, Optional, Sequence, Tuple
 
 from . import _c
 from .errors import check
@@ -53,8 +53,9 @@ class Field:
     """A field of a report: a variable, an array or padding. Nothing of it changes."""
 
     def __init__(self, of: "_c.Field", usages: Sequence[int],
-                 collections: Sequence[Collection]) -> None:
+                 around: Callable[["_c.Field"], Tuple[Collection, ...]]) -> None:
         self._field = of
+        self._around = around
         self._usages = _c.numbers(_c.c_uint32, usages)
         measures = of.measures
         #: Its number, counted over the descriptor.
@@ -77,8 +78,11 @@ class Field:
         self.unit = _given(measures, "unit")
         self.unit_exponent = _given(measures, "unit_exponent")
         self.flags = Flags(*(getattr(of.flags, name) for name, _ in _c.Flags._fields_))
-        #: The collections it lies in, outermost first.
-        self.collections = tuple(collections)
+
+    @property
+    def collections(self) -> Tuple[Collection, ...]:
+        """The collections it lies in, outermost first; none of padding."""
+        return self._around(self._field)
 
     @property
     def usage(self) -> Optional[Usage]:
