@@ -1,21 +1,35 @@
 #!/bin/bash
 # said.sh LOG: what the gate's scripts said has each line of checks/said.txt, whose numbers are exact: a
 # script that asks fewer questions than it did, or none, is noticed. A row may begin with [TOOL]: its line
-# is wanted where that is on the path. It sees first that each row's loss would be noticed.
+# is wanted where that is on the path, with [fresh] where generated/ is made of these sources. It sees last
+# that each row's loss would be noticed.
 set -euo pipefail
 export LC_ALL=C
 log=$1
 rows=$(dirname "$0")/../said.txt
+stale=$(sh "$(dirname "$0")/../../tools/program.sh" fresh) || true
+
+# Whether all that a row asks for is there.
+is_there() {
+    local tool
+    for tool; do
+        case $tool in
+            fresh) [ -z "$stale" ] || return 1 ;;
+            *) command -v "$tool" > /dev/null || return 1 ;;
+        esac
+    done
+}
 
 # The lines that are wanted here.
 wanted() {
-    local line tool
+    local line tools
     while IFS= read -r line; do
         case $line in
             '#'* | '') ;;
             '['*)
-                tool=${line%%]*}
-                ! command -v "${tool#\[}" > /dev/null || echo "${line#*\] }"
+                tools=${line%%]*}
+                # shellcheck disable=SC2086
+                ! is_there ${tools#\[} || echo "${line#*\] }"
                 ;;
             *) echo "$line" ;;
         esac
