@@ -92,7 +92,10 @@ fn listed<T: Clone>(
     call: impl Fn(*mut T, usize) -> sys::Answer,
 ) -> Result<Vec<T>, Unlisted> {
     let count = counted(call(std::ptr::null_mut(), 0))?;
-    let mut list = vec![empty; count];
+    let mut list = Vec::new();
+    list.try_reserve_exact(count)
+        .map_err(|_| Unlisted { status: Status::OutOfMemory, offset: 0 })?;
+    list.resize(count, empty);
     counted(call(list.as_mut_ptr(), list.len()))?;
     Ok(list)
 }
@@ -317,6 +320,8 @@ mod tests {
         assert_eq!(listed(7, refusing(1)), lacking);
         assert_eq!(listed(7, refusing(2)), lacking);
         assert_eq!(listed(7, refusing(3)), Ok(vec![7, 7]));
+        let endless = |_list, _room| sys::Answer { count: usize::MAX, offset: 0, status: 0 };
+        assert_eq!(listed(7u8, endless), lacking);
     }
 
     #[test]

@@ -1,5 +1,6 @@
 //! Reports.
 use crate::c;
+use crate::error::ParserError;
 use crate::field::Field;
 use crate::types::ReportId;
 
@@ -32,8 +33,12 @@ pub struct RDescReport {
 impl RDescReport {
     /// The bytes of the report without values, which its fields may fill: its id, where it has one,
     /// and zeros.
-    pub fn blank(&self) -> Vec<u8> {
-        c::blank(&self.as_c)
+    ///
+    /// # Errors
+    ///
+    /// - `OutOfMemory`: so many bytes were refused; a few bytes can announce a report of 2^60.
+    pub fn blank(&self) -> Result<Vec<u8>, ParserError> {
+        Ok(c::blank(&self.as_c)?)
     }
 }
 

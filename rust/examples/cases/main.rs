@@ -183,7 +183,7 @@ impl Asked {
 
     /// The report that was found last, without values.
     fn ask_blank(&self, room: usize) {
-        let bytes = hidreport::c::blank(&self.report);
+        let bytes = hidreport::c::blank(&self.report).unwrap_or_default();
         println!("  count {} offset 0 accepted", bytes.len());
         print_bytes(&bytes[..room.min(bytes.len())]);
     }

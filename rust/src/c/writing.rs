@@ -6,9 +6,9 @@ use crate::c::sys::{self, Field, Report};
 // SAFETY of all calls below: as of those in lib.rs.
 
 /// The bytes of a report without values: its id, where it has one, and zeros.
-pub fn blank(report: &Report) -> Vec<u8> {
+pub fn blank(report: &Report) -> Result<Vec<u8>, Status> {
     let bytes = listed(0, |bytes, room| unsafe { sys::hidreport_blank(report, bytes, room) });
-    bytes.unwrap_or_default()
+    bytes.map_err(|unlisted| unlisted.status)
 }
 
 /// Writes value `index` of a field, counted from 0, into a report: its bits become those of the
@@ -54,7 +54,7 @@ mod tests {
         let fields = describe(KEYS, options, Direction::Output).unwrap();
         let report =
             crate::c::report_with(KEYS, options, Direction::Output, Some(5)).unwrap().unwrap();
-        let mut bytes = blank(&report);
+        let mut bytes = blank(&report).unwrap();
         assert_eq!(bytes, [5, 0, 0]);
         let usages = crate::c::usages(KEYS, options, fields[0].number).unwrap();
         let value = value_of(&fields[0], 0x0007_0006, &usages).unwrap();
@@ -65,5 +65,15 @@ mod tests {
         assert_eq!(insert(&fields[0], &mut bytes, 0, 256), Err(Status::DoesNotFit));
         assert_eq!(insert_all(&fields[0], &mut bytes, &[1]), Err(Status::WrongCount));
         assert_eq!(bytes, [5, 0, 3]);
+    }
+
+    /// Sixteen bytes that announce an array of 2^31 bits, 2^32 - 1 times: nobody has such memory.
+    #[test]
+    fn a_report_without_end_is_refused() {
+        let great = b"\x05\x01\x09\x30\x77\x00\x00\x00\x80\x97\xff\xff\xff\xff\x81\x00";
+        let options = Options::default();
+        let report =
+            crate::c::report_with(great, options, Direction::Input, None).unwrap().unwrap();
+        assert_eq!(blank(&report), Err(Status::OutOfMemory));
     }
 }
