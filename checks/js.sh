@@ -35,37 +35,45 @@ cp "$top/c/cases.txt" "$scratch/c"
 cd "$scratch/js"
 ask || wrong "a test fails: $(grep -A 8 '^not ok' "$scratch/said" | head -n 30)"
 
-# What a browser answers to the same questions, by a server of this machine's own.
+# What a browser answers to the same questions: the page asks this machine's own server for a file that is
+# named as what it found.
 in_browser() {
+    local server browser turn
     cat > "$scratch/index.html" << 'END_OF_PAGE'
-<!doctype html><pre>nothing</pre><script type="module">
+<!doctype html><script type="module">
 import { answers } from "./js/tests/cases.js";
 const lines = (await (await fetch("c/cases.txt")).text()).replace(/\n$/, "").split("\n");
 const got = answers(lines.filter((line) => !line.startsWith("  ")));
 const other = lines.findIndex((line, k) => got[k] !== line);
-document.querySelector("pre").textContent = other < 0 && got.length === lines.length
-  ? `${lines.filter((line) => /^[a-z]/.test(line)).length} alike` : `another answer in line ${other + 1}`;
+fetch(other < 0 && got.length === lines.length
+  ? `found/${lines.filter((line) => /^[a-z]/.test(line)).length}-alike` : `found/another-answer-${other + 1}`);
 </script>
 END_OF_PAGE
     python3 -u -m http.server 0 --bind 127.0.0.1 --directory "$scratch" > "$scratch/served" 2>&1 &
     server=$!
-    for ((turn = 0; turn < 100; turn++)); do
+    for ((turn = 0; turn < 200; turn++)); do
         ! grep -q ' port ' "$scratch/served" || break
         sleep 0.1
     done
-    port=$(sed -n 's/.* port \([0-9]*\) .*/\1/p' "$scratch/served")
-    said=$(timeout 120 chromium --headless --no-sandbox --disable-gpu --virtual-time-budget=60000 \
-        --dump-dom "http://127.0.0.1:$port/index.html" 2> "$scratch/said" | sed -n 's/.*<pre>\(.*\)<\/pre>.*/\1/p')
-    kill "$server"
-    echo "$said"
+    chromium --headless --no-sandbox --disable-gpu --user-data-dir="$scratch/profile" --remote-debugging-port=0 \
+        "http://127.0.0.1:$(sed -n 's/.* port \([0-9]*\) .*/\1/p' "$scratch/served")/index.html" \
+        > "$scratch/said" 2>&1 &
+    browser=$!
+    for ((turn = 0; turn < 1200; turn++)); do
+        ! grep -q 'GET /found/' "$scratch/served" || break
+        sleep 0.1
+    done
+    kill "$browser" "$server"
+    wait "$browser" "$server" 2> /dev/null || true
+    sed -n 's/.*GET \/found\/\([^ ]*\) .*/\1/p' "$scratch/served" | head -n 1
 }
 if command -v chromium > /dev/null && command -v python3 > /dev/null; then
     questions=$(grep -c '^[a-z]' "$top/c/cases.txt")
     said=$(in_browser)
-    [ "$said" = "$questions alike" ] || wrong "in a browser: $said"
+    [ "$said" = "$questions-alike" ] || wrong "in a browser: $said"
     sed -i 's/^  X$/  Z/' "$scratch/c/cases.txt"
     said=$(in_browser)
-    [ "${said#another answer}" != "$said" ] || wrong "another answer is not noticed in a browser: $said"
+    [ "${said#another-answer}" != "$said" ] || wrong "another answer is not noticed in a browser: $said"
     cp "$top/c/cases.txt" "$scratch/c"
     echo "js: a browser answers $questions questions"
 else
