@@ -53,7 +53,7 @@ export class Report {
   /** Writes the values of all fields, in order, or none where one is refused. */
   write(report, values) {
     const data = numbersOf(values);
-    check(written("write", [new Place(this.#fields), BigInt(this.fields.length)], asBytes(report),
+    check(written("write", [new Place(this.#fields), BigInt(this.fields.length)], report,
       new Place(data), BigInt(data.length / 8)));
   }
 

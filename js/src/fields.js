@@ -108,13 +108,13 @@ export class Field {
   /** Writes one of its values; no other bit of the report changes. */
   insertOne(report, value, index = 0) {
     const [whole] = new BigInt64Array(numbersOf([value]).buffer);
-    check(written("insert", [new Place(this.#data)], asBytes(report), BigInt(index), whole));
+    check(written("insert", [new Place(this.#data)], report, BigInt(index), whole));
   }
 
   /** Writes all its values, in order, or none where one is refused. */
   insert(report, values) {
     const data = numbersOf(values);
-    check(written("insert_all", [new Place(this.#data)], asBytes(report), new Place(data),
+    check(written("insert_all", [new Place(this.#data)], report, new Place(data),
       BigInt(data.length / 8)));
   }
 

@@ -103,8 +103,9 @@ export function struct(name, ...args) {
   });
 }
 
-/** A call that writes into these bytes: its status. */
+/** A call that writes into these bytes, which are the caller's own: its status. */
 export function written(name, before, data, ...args) {
+  if (!(data instanceof Uint8Array)) throw new TypeError("a report that is written is a Uint8Array");
   return within((room) => {
     const first = before.flatMap((it) => put(room, it));
     const start = room.bytes(data);

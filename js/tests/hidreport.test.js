@@ -59,6 +59,9 @@ test("values", () => {
   assert.deepEqual(data, bytesIn("0580fb"));
   report.write(data, [0, 1, 0, 1, -1]);
   assert.deepEqual([data, report.blank()], [bytesIn("0201ff"), bytesIn("000000")]);
+  assert.throws(() => report.write([2, 1, 255], [0, 0, 0, 0, 0]), TypeError);
+  assert.throws(() => report.fields[4].insertOne([2, 1, 255], 1), TypeError);
+  assert.throws(() => report.fields[4].insert([2, 1, 255], [1]), TypeError);
   const { numerator, denominator } = report.fields[4].normalized(127);
   assert.equal(numerator, denominator);
 });
