@@ -1,11 +1,14 @@
 # The library for C and Rust from generated/, by a C compiler alone (docs/C.md), and on x86-64 the
 # programs `hid` and `hidreport`:
 #   make           builds them into build/: a static and a shared library, and the programs
+#   make page      writes build/hid.html, the program `hid` whole in a page (docs/PAGE.md)
 #   make check     asks both libraries the questions of c/cases.txt
 #   make install   puts all of it into PREFIX, below DESTDIR where that is given; BINDIR, DATADIR,
 #                  INCLUDEDIR and LIBDIR may be named one by one
 #   make prove     proves the programs by the toolchain, so that ./hid and ./hidreport run these
-# CC says for which processor it compiles. RUN runs a program of another one, as qemu-aarch64.
+# CC says for which processor and system it compiles; where generated/ has no assembly for these, and
+# with PORTABLE=yes, the library is generated/portable/hidreport.c (docs/C.md). RUN runs a program of
+# another processor or system, as qemu-aarch64 or wine.
 PREFIX = /usr/local
 BINDIR = $(PREFIX)/bin
 DATADIR = $(PREFIX)/share
@@ -15,18 +18,23 @@ CFLAGS ?= -O2
 BUILD = build
 number = $(shell sed -n 's/^.define HIDREPORT_VERSION_$(1) //p' include/hidreport.h)
 version := $(call number,MAJOR).$(call number,MINOR).$(call number,PATCH)-$(call number,STAGE)
-processor := $(firstword $(subst -, ,$(shell $(CC) -dumpmachine)))
+machine := $(shell $(CC) -dumpmachine)
+processor := $(firstword $(subst -, ,$(machine)))
+is_linux := $(findstring -linux,$(machine))
+exe := $(if $(findstring mingw,$(machine)),.exe)
 made = generated/$(processor)-linux
 text = $(made)/hidreport.s
-programs = $(patsubst $(made)/%.o.gz,$(BUILD)/%,$(wildcard $(made)/*.o.gz))
-objects = $(BUILD)/library.o $(BUILD)/heap.o
+programs = $(if $(is_linux),$(patsubst $(made)/%.o.gz,$(BUILD)/%,$(wildcard $(made)/*.o.gz)))
+objects = $(if $(and $(is_linux),$(wildcard $(text)),$(if $(PORTABLE),,yes)), \
+    $(BUILD)/library.o $(BUILD)/heap.o,$(BUILD)/portable.o)
 shared = libhidreport.so.$(version)
 # What programs that are linked with it ask for: docs/C.md says when its number is another.
 soname = libhidreport.so.0
-askers = $(BUILD)/ask_static $(BUILD)/ask_shared
+askers = $(BUILD)/ask_static$(exe) $(if $(is_linux),$(BUILD)/ask_shared)
 compile = $(CC) -std=c11 $(CPPFLAGS) $(CFLAGS) -Iinclude
 
-all: $(BUILD)/libhidreport.a $(BUILD)/libhidreport.so $(BUILD)/hidreport.3 $(programs) $(BUILD)/fresh
+libraries = $(BUILD)/libhidreport.a $(if $(is_linux),$(BUILD)/libhidreport.so)
+all: $(libraries) $(BUILD)/hidreport.3 $(programs) $(BUILD)/fresh
 
 # Says where generated/ was made from other sources than these; looked for again where one changes.
 $(BUILD)/fresh: generated/SOURCES include/hidreport.h $(shell find crates/*/src -name '*.rt')
@@ -42,6 +50,9 @@ $(BUILD)/library.o: $(text)
 $(BUILD)/heap.o: generated/heap.c
 	mkdir -p $(BUILD)
 	$(compile) -fPIC -c -o $@ $<
+$(BUILD)/portable.o: generated/portable/hidreport.c include/hidreport.h
+	mkdir -p $(BUILD)
+	$(compile) $(if $(is_linux),-fPIC) -c -o $@ $<
 $(BUILD)/libhidreport.a: $(objects)
 	rm -f $@
 	$(AR) rcs $@ $^
@@ -63,17 +74,26 @@ prove: prove-hid prove-hidreport
 prove-hid prove-hidreport: prove-%:
 	sh tools/program.sh prove $*
 
+# The program `hid` whole, in one page.
+page: $(BUILD)/hid.html
+$(BUILD)/hid.html: tools/page.sh generated/wasm/hid.wasm.gz include/hidreport.h $(wildcard page/*) \
+    $(wildcard crates/hid_page/page/*) $(addprefix js/src/,host.js memory_files.js collections.js)
+	@mkdir -p $(BUILD)
+	sh tools/page.sh $(version) > $@.new
+	mv $@.new $@
+
 cases = c/cases.c c/cases_print.h c/cases_words.h c/cases_asked.h c/cases_wholes.h c/cases_names.h
-$(BUILD)/ask_static: $(cases) include/hidreport.h $(BUILD)/libhidreport.a
+$(BUILD)/ask_static$(exe): $(cases) include/hidreport.h $(BUILD)/libhidreport.a
 	$(compile) $(LDFLAGS) -o $@ c/cases.c $(BUILD)/libhidreport.a
 $(BUILD)/ask_shared: $(cases) include/hidreport.h $(BUILD)/libhidreport.so
 	$(compile) $(LDFLAGS) -o $@ c/cases.c $(BUILD)/libhidreport.so -Wl,-rpath,'$$ORIGIN'
 
-# One of the cases is that memory is refused, so there is little.
+# One of the cases is that memory is refused, so there is little where it isn't refused by itself.
 check: all $(askers)
 	@grep -v '^  ' c/cases.txt > $(BUILD)/questions
 	@for asker in $(askers); do \
-	    (ulimit -v 4000000 && $(RUN) $$asker < $(BUILD)/questions) > $(BUILD)/answers && \
+	    ($(if $(is_linux),ulimit -v 4000000 &&) $(RUN) $$asker < $(BUILD)/questions) | tr -d '\r' \
+	        > $(BUILD)/answers && \
 	    diff c/cases.txt $(BUILD)/answers || { echo "$$asker: other answers"; exit 1; }; \
 	    echo "$$asker: the wanted answers to $$(grep -c '^[a-z]' $(BUILD)/questions) questions"; \
 	done
@@ -112,5 +132,5 @@ $(BUILD)/hidreport.3: c/man_page.awk include/hidreport.h
 clean:
 	rm -rf $(BUILD)
 
-.PHONY: all check install install-library install-programs clean
+.PHONY: all page check install install-library install-programs clean
 .PHONY: run-hid run-hidreport prove prove-hid prove-hidreport

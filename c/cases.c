@@ -91,13 +91,9 @@ static void list_usages(const char *field, const char *none)
 
 static void collections(const char *field, const char *none)
 {
-    static struct hidreport_collection c[ROOM];
-    size_t count = print_answer(
-        hidreport_collections(bytes, length, options, number_of(field), c, ROOM));
     (void)none;
-    for (size_t i = 0; i < count; i++)
-        printf("  #%" PRIu32 " %s usages %zu %08" PRIx32 "\n", c[i].number,
-               collection_of(c[i].kind), c[i].usage_count, c[i].usage);
+    print_collections(
+        hidreport_collections(bytes, length, options, number_of(field), around, ROOM));
 }
 
 static void collection_usages(const char *field, const char *index)
@@ -293,7 +289,8 @@ static const struct {
     {"alike", 0, alike},             {"front-items", 1, front_items},
     {"groups", 1, groups},           {"group-usage", 2, group_usage},
     {"group-field", 2, group_field}, {"describe-usages", 1, describe_usages},
-    {"find-usages", 1, find_usages},
+    {"find-usages", 1, find_usages}, {"describe-collections", 1, describe_collections},
+    {"describe-collection-usages", 1, describe_collection_usages},
     {"read", 1, read_all},           {"read-available", 1, read_available},
     {"usage-name", 1, usage_name},   {"usage-by-name", 1, usage_by_name},
     {"page-name", 1, page_name},     {"page-by-name", 1, page_by_name},

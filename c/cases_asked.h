@@ -33,3 +33,14 @@ static const struct hidreport_field *field_of(const char *word)
         refuse("no such field", word);
     return &fields[number_of(word)];
 }
+
+/* Collections, of which there is room for as many. */
+static struct hidreport_collection around[ROOM];
+
+static void print_collections(struct hidreport_answer answer)
+{
+    size_t count = print_answer(answer);
+    for (size_t i = 0; i < count; i++)
+        printf("  #%" PRIu32 " %s usages %zu %08" PRIx32 "\n", around[i].number,
+               collection_of(around[i].kind), around[i].usage_count, around[i].usage);
+}

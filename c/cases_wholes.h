@@ -1,4 +1,4 @@
-/* Questions of groups, and of all usages and all values at once. */
+/* Questions of groups, and of all usages, collections and values at once. */
 #include "cases_asked.h"
 
 static void groups(const char *direction, const char *none)
@@ -43,6 +43,20 @@ static void find_usages(const char *direction, const char *none)
     (void)none;
     keep_usages(hidreport_find_usages(bytes, length, options, direction_of(direction), report,
                                       report_length, usages, ROOM));
+}
+
+static void describe_collections(const char *direction, const char *none)
+{
+    (void)none;
+    print_collections(hidreport_describe_collections(bytes, length, options,
+                                                     direction_of(direction), around, ROOM));
+}
+
+static void describe_collection_usages(const char *direction, const char *none)
+{
+    (void)none;
+    keep_usages(hidreport_describe_collection_usages(bytes, length, options,
+                                                     direction_of(direction), usages, ROOM));
 }
 
 static void print_read(struct hidreport_answer answer, size_t room, const int64_t *numbers)

@@ -159,6 +159,10 @@ static void ask(const struct row *row, const uint8_t *bytes, size_t length)
     look(row, "collections", hidreport_collections(bytes, length, options, 0, NULL, 0));
     look(row, "collection_usages",
          hidreport_collection_usages(bytes, length, options, 0, 0, NULL, 0));
+    look(row, "describe_collections",
+         hidreport_describe_collections(bytes, length, options, HIDREPORT_INPUT, NULL, 0));
+    look(row, "describe_collection_usages",
+         hidreport_describe_collection_usages(bytes, length, options, HIDREPORT_INPUT, NULL, 0));
     look(row, "repair",
          hidreport_repair(bytes, length, options, HIDREPORT_MEND_DEFAULT, NULL, 0));
     look(row, "changes",
@@ -259,7 +263,11 @@ int main(void)
     ask_to_write_more_than_counted(say);
     ask_for_numbers(say);
     ask_for_texts(say);
+#ifdef PORTABLE
+    (void)ask_without_memory;
+#else
     ask_without_memory(say);
+#endif
     printf("hostile: %u answers\n", looked_at);
     return wrong;
 }

@@ -65,6 +65,8 @@ static struct hidreport_answer call(int number, void *array)
     case 8: return hidreport_usage_name(0x90005, array, 8);
     case 9: return hidreport_page_name(7, array, 8);
     case 10: return hidreport_group_field(KEYS, 0, 0, array, 1);
+    case 11: return hidreport_describe_collections(KEYS, array, 1);
+    case 12: return hidreport_describe_collection_usages(KEYS, array, 1);
     default: return hidreport_flag_words(keys + 20, 2, array, 8);
     }
 }
@@ -76,7 +78,7 @@ static void ask_without_memory(saying *say)
     static const uint8_t before[sizeof(struct hidreport_field)];
     static struct hidreport_field array;
 
-    for (int number = 0; number <= 11; number++) {
+    for (int number = 0; number <= 13; number++) {
         struct hidreport_answer answer = {0, 0, HIDREPORT_OUT_OF_MEMORY};
         size_t pieces = 1;
         for (; pieces < 1000 && answer.status == HIDREPORT_OUT_OF_MEMORY; pieces++) {

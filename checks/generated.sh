@@ -18,7 +18,7 @@ top=$(cd "$(dirname "$0")/.." && pwd)
 cd "$top"
 processors=(x86_64 aarch64)
 programs=(hid hidreport)
-files=(heap.c programs.c wasm.c wasm/hidreport.wasm "${processors[@]/%/-linux/hidreport.s}")
+files=(heap.c programs.c wasm.c wasm/hidreport.wasm wasm/hid.wasm.gz portable/hidreport.c "${processors[@]/%/-linux/hidreport.s}")
 for processor in "${processors[@]}"; do
     for program in "${programs[@]}"; do
         files+=("$processor-linux/$program.o.gz")
@@ -113,24 +113,39 @@ build() {
         mv "$scratch/built/$processor-linux/hidreport.s.ll" "$scratch/$processor.ll"
     done
     command -v wasm-opt > /dev/null || return 0
-    mkdir "$scratch/built/wasm"
+    mkdir -p "$scratch/built/wasm"
     bash checks/generated/wasm.sh --spoil "$scratch/aarch64.ll"
     bash checks/generated/wasm.sh "$scratch/aarch64.ll" "$scratch/built/wasm/hidreport.wasm" ||
         wrong 'no WebAssembly was built'
+    command -v wasm2c > /dev/null || return 0
+    mkdir -p "$scratch/built/portable"
+    bash checks/generated/portable.sh "$scratch/built/wasm/hidreport.wasm" \
+        "$scratch/built/portable/hidreport.c" || wrong 'no portable C was built'
 }
 
-# The program whose version decides the bytes of WebAssembly.
+# The program whose version decides the bytes of WebAssembly, and that of portable C.
 lowered_by() {
     wasm-opt --version 2> /dev/null || echo none
 }
 
-# The object of a program for a processor, into the scratch folder.
+written_by() {
+    echo "wasm2c $(wasm2c --version 2> /dev/null || echo none)"
+}
+
+# The object of a program for a processor, into the scratch folder, and what it was compiled of.
 build_object() {
     bash checks/generated/object.sh "$1" "$2" "$3-unknown-linux-gnu" "$scratch/$2.$3.o" \
-        > "$scratch/said" 2>&1 || {
+        "$scratch/$2.$3" > "$scratch/said" 2>&1 || {
         tail -n 20 "$scratch/said" >&2
         wrong "no object of $2 was built for $3"
     }
+}
+
+# `hid` as WebAssembly, packed, of what its object for aarch64 was compiled of, into the scratch folder.
+build_hid_module() {
+    bash checks/generated/wasm.sh --program "$scratch/hid.aarch64.ll" "$scratch/hid.wasm" ||
+        wrong 'no WebAssembly of hid was built'
+    gzip -9 -n -c "$scratch/hid.wasm" > "$scratch/hid.wasm.gz"
 }
 
 write() {
@@ -138,6 +153,7 @@ write() {
     . checks/common/needs.sh
     need_rt generated
     [ "$(lowered_by)" != none ] || wrong 'no `wasm-opt` on the path (package binaryen)'
+    command -v wasm2c > /dev/null || wrong 'no `wasm2c` on the path (package wabt)'
     if [ "$1" = "$top" ]; then
         (cd crates/hidreport_c && rt lib) > "$scratch/said" 2>&1 || {
             tail -n 20 "$scratch/said" >&2
@@ -161,12 +177,15 @@ write() {
                 > "$scratch/built/$processor-linux/$program.o.gz"
         done
     done
+    build_hid_module
+    cp "$scratch/hid.wasm.gz" "$scratch/built/wasm/"
     cp -r "$scratch/built/." generated/
     {
         echo 'From what, and by what, checks/generated.sh --write made this folder; then its sums.'
         echo "version: $(version_of_header)"
         echo "toolchain: $(rt version)"
         echo "lowered by: $(lowered_by)"
+        echo "written by: $(written_by)"
         echo "sources: $(sum_of "$top" library)"
         for program in "${programs[@]}"; do
             echo "code of $program: $(sum_of "$top" "$program")"
@@ -194,6 +213,12 @@ compare() {
     if [ "$(lowered_by)" = "$(noted 'lowered by')" ]; then
         cmp generated/wasm/hidreport.wasm "$scratch/built/wasm/hidreport.wasm" ||
             wrong "generated/wasm/hidreport.wasm isn't what the proofs build"
+        if [ "$(written_by)" = "$(noted 'written by')" ]; then
+            cmp generated/portable/hidreport.c "$scratch/built/portable/hidreport.c" ||
+                wrong "generated/portable/hidreport.c isn't what the proofs build"
+        else
+            say "portable C was made by $(noted 'written by'), so by $(written_by) answers alone decide"
+        fi
     else
         say "WebAssembly was made by $(noted 'lowered by'), so by $(lowered_by) answers alone decide"
     fi
@@ -213,6 +238,11 @@ compare_program() {
     build_object "$1" "$2" aarch64
     gzip -dc "generated/aarch64-linux/$2.o.gz" | cmp - "$scratch/$2.aarch64.o" ||
         wrong "generated/aarch64-linux/$2.o.gz isn't what the proofs build"
+    if [ "$2" = hid ] && [ "$(lowered_by)" = "$(noted 'lowered by')" ]; then
+        build_hid_module
+        gzip -dc generated/wasm/hid.wasm.gz | cmp - "$scratch/hid.wasm" ||
+            wrong "generated/wasm/hid.wasm.gz isn't what the proofs build"
+    fi
     say "$2 is byte for byte what the proofs build"
 }
 
@@ -280,7 +310,7 @@ ask_program() {
         wrong "./$program isn't linked from generated/"
     ends_quietly "$linked" "$@" || wrong "$program ends otherwise where its output is closed"
     case $program in
-        hid) bash "$tree/checks/hid/runs.sh" "$linked" ;;
+        hid) python3 "$tree/checks/hid/runs.py" "$linked" ;;
         *) sh "$tree/checks/hidreport/statuses.sh" "$linked" ;;
     esac > "$scratch/said" 2>&1 || {
         tail -n 20 "$scratch/said" >&2
@@ -301,6 +331,7 @@ ask_here() {
         wrong 'the archive answers otherwise'
     }
     cat "$scratch/said"
+    bash "$1/checks/c/growth.sh" "$scratch/prefix" || wrong 'a call grows too fast'
     command -v cargo > /dev/null || return 0
     (cd "$1/rust" && cargo test --offline --quiet) > "$scratch/said" 2>&1 || {
         tail -n 20 "$scratch/said" >&2

@@ -15,7 +15,8 @@ parts=$top/checks/hid
 . "$top/checks/common/lanes.sh"
 
 shown() {
-    bash "$parts/runs.sh" "$hid" "$other"
+    python3 "$parts/runs.py" "$hid" "$other"
+    python3 "$parts/told.py"
     bash "$parts/options.sh" "$hid" "$hidreport"
     bash "$parts/devices.sh" "$hid"
     bash "$parts/samples.sh" "$hid" "$hidreport"
@@ -31,6 +32,8 @@ written() {
 answered() {
     if command -v python3 > /dev/null; then
         python3 "$parts/questions.py" "$hid" "$cases"
+        python3 "$parts/as_linux.py" "$hid"
+        python3 "$top/compare/linux_readings.py" model
         python3 "$top/compare/linux_events.py" "$hid"
         python3 "$top/compare/webhid.py" "$hid"
     else

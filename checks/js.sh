@@ -1,7 +1,10 @@
 #!/bin/bash
 # js/: its tests by Node over generated/wasm, and once more of the package as `npm pack` makes it, from
-# nowhere else; each question of c/cases.txt is one of them. A module that answers otherwise, and none, are
-# tried each time, and have to be noticed.
+# nowhere else; each question of c/cases.txt is one of them. `hid` of the package makes all
+# stored runs in one process of Node (hid/serve.mjs), and some in one each.
+# A module that answers otherwise, and none, are tried each time, and have to be noticed.
+# What WebHID tells of a device becomes its fields (js/webhid.mjs). Where `tsc` is on the path the types are
+# tried by a use of all exports and by wrong uses, which it has to refuse (js/types).
 set -euo pipefail
 export LC_ALL=C
 top=$(cd "$(dirname "$0")/.." && pwd)
@@ -25,7 +28,7 @@ wrong() {
 ask() {
     node --test tests/ > "$scratch/said" 2>&1 || return 1
     tests=$(sed -n 's/^# pass //p' "$scratch/said")
-    [ "$tests" -eq 8 ]
+    [ "$tests" -eq 9 ]
 }
 
 mkdir "$scratch/generated" "$scratch/c"
@@ -34,6 +37,36 @@ cp -r "$top/generated/wasm" "$scratch/generated"
 cp "$top/c/cases.txt" "$scratch/c"
 cd "$scratch/js"
 ask || wrong "a test fails: $(grep -A 8 '^not ok' "$scratch/said" | head -n 30)"
+
+# The types, as a program has them that npm installs the package for; how many wrong uses are refused.
+types() {
+    (cd "$scratch/types" && tsc -p .) > "$scratch/said" 2>&1 &&
+        node "$top/checks/js/exports.mjs" "$scratch/js" "$scratch/types/uses.mts" > "$scratch/said" 2>&1
+}
+if command -v tsc > /dev/null; then
+    mkdir -p "$scratch/types/node_modules"
+    cp "$top"/checks/js/types/* "$scratch/types"
+    ln -s "$scratch/js" "$scratch/types/node_modules/hidreport"
+    types || wrong "types: $(head -n 5 "$scratch/said")"
+    echo "$(< "$scratch/said"), $(grep -c '@ts-expect-error' "$scratch/types/refused.mts") wrong uses are refused"
+    sed -i 's/readonly inputReports/inputReports/' "$scratch/js/index.d.ts"
+    ! types || wrong 'a type that lets more through is not noticed'
+    cp "$top/js/index.d.ts" "$scratch/js"
+else
+    echo 'js: no `tsc` on the path, so the types are not tried'
+fi
+
+# A device of WebHID.
+webhid() {
+    node "$top/checks/js/webhid.mjs" "$scratch/js" "$@" > "$scratch/said" 2>&1
+}
+webhid || wrong "$(head -n 5 "$scratch/said")"
+cat "$scratch/said"
+for edit in 's/item.reportSize);/item.reportCount);/' 's/reportId === 0 ?/reportId !== 0 ?/'; do
+    sed -i "$edit" "$scratch/js/src/collections.js" "$scratch/js/src/webhid.js"
+    ! webhid 10 || wrong "devices of WebHID: that $edit is not noticed"
+    cp "$top"/js/src/*.js "$scratch/js/src"
+done
 
 # What a browser answers to the same questions: the page asks this machine's own server for a file that is
 # named as what it found.
@@ -76,6 +109,7 @@ if command -v chromium > /dev/null && command -v python3 > /dev/null; then
     [ "${said#another-answer}" != "$said" ] || wrong "another answer is not noticed in a browser: $said"
     cp "$top/c/cases.txt" "$scratch/c"
     echo "js: a browser answers $questions questions"
+    node "$top/checks/js/example.mjs" "$scratch"
 else
     echo 'js: no `chromium` or no `python3` on the path, so no browser is asked'
 fi
@@ -92,4 +126,34 @@ rm -r "$scratch/generated"
 cp -r tests "$scratch/package/"
 cd "$scratch/package"
 ask || wrong "a test of the package fails: $(grep -A 8 '^not ok' "$scratch/said" | head -n 30)"
+
+# The program of the package, by its own name; where its output is closed it ends quietly.
+by_node() {
+    printf '#!/bin/sh\nexec node --liftoff-only "%s/bin/hid.js" "$@"\n' "$scratch/package" > "$scratch/hid"
+    chmod +x "$scratch/hid"
+    python3 "$top/checks/hid/runs.py" "$scratch/package/hid.wasm.gz" > "$scratch/all" 2>&1 &&
+        python3 "$top/checks/hid/runs.py" --every 80 "$scratch/hid" > "$scratch/said" 2>&1
+}
+if [ ! -e "$scratch/package/hid.wasm.gz" ] || ! command -v python3 > /dev/null; then
+    echo 'js: no `python3` on the path, or no module of hid, so its runs are not tried'
+else
+    by_node || {
+        tail -n 20 "$scratch/all" "$scratch/said" >&2
+        wrong 'hid by Node goes otherwise'
+    }
+    runs() {
+        sed -n 's/^hid_runs: \([0-9]*\) runs.*/\1/p' "$1"
+    }
+    echo "js: $(runs "$scratch/all") runs of hid over WebAssembly in one process of Node, $(runs "$scratch/said") in one each"
+    status=0
+    "$scratch/hid" decode "$top/crates/hid/data/mouse.hex" > /dev/full 2> "$scratch/errors" || status=$?
+    [ "$status" -eq 1 ] && grep -q 'No space left on device (os error 28)' "$scratch/errors" ||
+        wrong "a full device is not told: $status"
+    { "$scratch/hid" decode "$top/crates/hid/data/mouse.hex" 2> "$scratch/errors" || echo "$?" > "$scratch/status"; } | true
+    [ "$(< "$scratch/status")" = 141 ] && ! grep -qi pipe "$scratch/errors" || wrong 'a closed pipe is told'
+    mv "$scratch/package/hid.wasm.gz" "$scratch/hid.wasm.gz"
+    gzip -dc "$scratch/hid.wasm.gz" | sed 's/Generic Desktop/Generic Dasktop/' | gzip -c > "$scratch/package/hid.wasm.gz"
+    ! by_node || wrong 'a module of hid that answers otherwise is not noticed'
+    mv "$scratch/hid.wasm.gz" "$scratch/package/"
+fi
 echo "js: $tests tests and $(grep -c '^[a-z]' "$top/c/cases.txt") questions, also of the packed package"

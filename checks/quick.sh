@@ -31,7 +31,7 @@ try_program() {
 try_one() {
     begun=$SECONDS
     case $1 in
-        hid) bash "$top/checks/hid/runs.sh" > "$scratch/$1.said" 2>&1 ;;
+        hid) python3 "$top/checks/hid/runs.py" > "$scratch/$1.said" 2>&1 ;;
         cases | tests) bash "$top/checks/library/tests.sh" "$1" > "$scratch/$1.said" 2>&1 ;;
         *) try_program "$1" ;;
     esac

@@ -2,19 +2,17 @@
 """Says which event codes Linux gives the usages of a descriptor, by a model of hid-core's parser and of
 hid-input (Linux 6.12: drivers/hid/hid-core.c, drivers/hid/hid-input.c, for hid-generic without quirks),
 which knows nothing of this library's code; the codes of keys alone it has from
-crates/hidreport_linux/data/events.txt, which --kernel compares with the kernel's own files.
+crates/hidreport_linux/data/events.txt, which checks/tree/event_facts.sh compares with the kernel's own.
 
     linux_events.py HID [WORDS ..]   compares it with `HID --json fields --linux` over all descriptors
                                      that checks/hid/descriptors.sh and compare/devices.txt have
     linux_events.py --model HEX      says the model's answers
-    linux_events.py --kernel DIR     compares events.txt with the sources of a kernel
 """
 import collections
 import itertools
 import json
 import multiprocessing
 import os
-import re
 import subprocess
 import sys
 import tempfile
@@ -82,9 +80,10 @@ def signed(data):
     return int.from_bytes(data, "little", signed=True) if data else 0
 
 
-def wrap(number):
-    """A number of 32 bits with a sign."""
-    return (number + 2**31) % 2**32 - 2**31
+def wrap(number, bits=32):
+    """The low bits of a number, with a sign."""
+    half = 2**(bits - 1)
+    return (number + half) % (2 * half) - half
 
 
 Collection = collections.namedtuple("Collection", "kind usage parent")
@@ -107,7 +106,7 @@ class Parser:
                             count=0, id=0)
         self.pushed, self.open, self.collections = [], [], []
         self.reports = {INPUT: {}, OUTPUT: {}, FEATURE: {}}
-        self.mains, self.driver = [], ""
+        self.mains, self.driver, self.no_touch = [], "", False
         self.clear()
         self.read(raw)
 
@@ -116,6 +115,8 @@ class Parser:
 
     def read(self, raw):
         at = 0
+        if not raw:
+            raise Refused("no items")
         while at < len(raw):
             head = raw[at]
             if head >= 0xF0:
@@ -196,10 +197,13 @@ class Parser:
         elif tag == 1:
             self.minimum = number
         else:
-            if (number - self.minimum) % 2**32 + len(self.usages) >= 12288:
+            if (number - self.minimum + len(self.usages)) % 2**32 >= 12288:
                 number = (12288 - len(self.usages) + self.minimum - 1) % 2**32
                 if number == 0:
                     raise Refused("too many usages")
+            if number == 2**32 - 1:
+                # It counts on from 0 until there are too many.
+                raise Refused("too many usages")
             for one in range(self.minimum, number + 1):
                 self.add_usage(one, len(data))
 
@@ -444,12 +448,28 @@ def resolution(main, code):
 
 
 class Device:
+    """An input device: its codes, and the numbers of its axes, which the last usage sets."""
+
     def __init__(self, application):
-        self.application, self.bits = application, set()
+        self.application, self.bits, self.axes = application, set(), {}
 
 
-def configure(device, main, usage):
-    """One usage: its code, if it has one, and the numbers of an axis."""
+class Event:
+    """What a usage has: its code, the axis of its device, and the codes beside it."""
+
+    def __init__(self, kind, code, device, beside, is_pressure):
+        self.kind, self.code, self.device, self.beside = kind, code, device, beside
+        self.is_pressure = is_pressure
+
+    def row(self, parser):
+        """The same behind all usages: a pressure has BTN_TOUCH while the quirk for it stands."""
+        axis = self.device.axes.get(self.code) if self.kind == "EV_ABS" else None
+        beside = self.beside + (["BTN_TOUCH"] if self.is_pressure and parser.no_touch else [])
+        return self.kind, self.code, axis, beside
+
+
+def configure(parser, device, main, usage):
+    """One usage: its event, if it has one."""
     if main.flags & 1 or main.count < 1 or main.direction == OUTPUT and usage >> 16 != 8:
         return None
     bits = device.bits
@@ -457,17 +477,22 @@ def configure(device, main, usage):
         kind, code, shares = want(main, usage)
     except Unmapped:
         return None
-    page, number = usage >> 16, usage & 0xFFFF
+    page, number, beside = usage >> 16, usage & 0xFFFF, []
     direction = page == 1 and 0x90 <= number <= 0x93
-    hat = usage == 0x10039 and main.lmin < main.lmax
+    hat = usage == 0x10039 and wrap(main.lmin, 16) < wrap(main.lmax, 16)
+    pressure = page == 0x0D and number & 0xFF == 0x30
     if (kind, code) == CODES["REL_WHEEL_HI_RES"]:
-        bits.add(CODES["REL_WHEEL"])
+        beside.append("REL_WHEEL")
     if (kind, code) == CODES["REL_HWHEEL_HI_RES"]:
-        bits.add(CODES["REL_HWHEEL"])
-    if page == 0x0D and number & 0xFF == 0x30:
+        beside.append("REL_HWHEEL")
+    if pressure and CODES["BTN_TOUCH"] not in bits:
+        parser.no_touch = True
         bits.add(CODES["BTN_TOUCH"])
+    if page == 0x0D and number & 0xFF in (0x33, 0x42, 0x43):
+        parser.no_touch = False
     if page == 0x0D and number & 0xFF == 0x45:
-        bits.add(CODES["BTN_TOOL_RUBBER"])
+        beside.append("BTN_TOOL_RUBBER")
+    bits.update(CODES[name] for name in beside)
     if code > LIMITS[kind]:
         return None
     if shares:
@@ -475,19 +500,20 @@ def configure(device, main, usage):
     if (kind, code) in bits:
         return None
     bits.add((kind, code))
-    axis = None
     if kind == "EV_ABS":
         low, high = main.lmin, main.lmax
         span = wrap(high - low) if main.application in (0x10004, 0x10005) else 0
-        axis = [low, high, span >> 8, span >> 4, resolution(main, code)]
+        device.axes[code] = [low, high, span >> 8, span >> 4, resolution(main, code)]
         if hat or direction:
-            axis = [-1, 1, 0, 0, axis[4]]
+            device.axes[code] = device.axes[code + 1] = [-1, 1, 0, 0, device.axes[code][4]]
             bits.add(("EV_ABS", code + 1))
+            beside.append("ABS_HAT0Y")
         if direction:
             main.hat = True
         if code == 0x20 and main.flags & 4:
             bits |= {CODES["KEY_VOLUMEUP"], CODES["KEY_VOLUMEDOWN"]}
-    return kind, code, axis
+            beside += ["KEY_VOLUMEDOWN", "KEY_VOLUMEUP"]
+    return Event(kind, code, device, beside, pressure)
 
 
 def is_input(usage):
@@ -516,7 +542,7 @@ def connect(parser):
             for main in report["fields"]:
                 usages = main.own + main.own[-1:] * (main.count - len(main.own))
                 for index, usage in enumerate(usages):
-                    main.events[index] = configure(device, main, usage)
+                    main.events[index] = configure(parser, device, main, usage)
 
 
 def answers(raw):
@@ -528,22 +554,23 @@ def answers(raw):
         for number, report in parser.reports[direction].items():
             for main in parser.mains:
                 if (main.direction, main.id) == (direction, number) and main.size * main.count:
-                    rows += rows_of(main, bool(number))
+                    rows += rows_of(parser, main, bool(number))
     return parser, rows
 
 
-def rows_of(main, has_id):
+def rows_of(parser, main, has_id):
     """Rows of (direction, id, first bit, usage, event); usages without a field have no first bit."""
+    events = {index: event and event.row(parser) for index, event in main.events.items()}
     first = main.offset + (8 if has_id else 0)
     if main.flags & 1 or not main.own:
         return []
     if main.flags & 2:
         usages = main.own + main.own[-1:] * (main.count - len(main.own))
-        return [(main.direction, main.id, first + main.size * k, usages[k], main.events.get(k))
+        return [(main.direction, main.id, first + main.size * k, usages[k], events.get(k))
                 for k in range(main.count)] + [
-                    (main.direction, main.id, None, usages[k], main.events.get(k))
+                    (main.direction, main.id, None, usages[k], events.get(k))
                     for k in range(main.count, len(usages))]
-    return [(main.direction, main.id, first, usage, main.events.get(k))
+    return [(main.direction, main.id, first, usage, events.get(k))
             for k, usage in enumerate(main.own)]
 
 
@@ -558,24 +585,6 @@ def said_of(program, raw, words):
     if run.returncode:
         return None, said
     return [json.loads(line) for line in run.stdout.decode().splitlines()], said
-
-
-# In place of an axis whose bounds `hid` reads otherwise than Linux, and doesn't say.
-UNSAID = "bounds that are not known"
-
-
-def has_reversed_bounds(field):
-    """Whether `hid` reads a maximum of a field below its minimum, as Linux may not."""
-    return any(field.get(f"{kind}_minimum") is not None
-               and field[f"{kind}_maximum"] < field[f"{kind}_minimum"]
-               for kind in ("logical", "physical"))
-
-
-def are_same(own, theirs):
-    """Whether two rows are the same, but for what `hid` doesn't say."""
-    if None not in (own, theirs) and None not in (own[4], theirs[4]) and own[4][2] == UNSAID:
-        return own[:4] == theirs[:4] and own[4][:2] == theirs[4][:2]
-    return own == theirs
 
 
 def asked(program, raw, words):
@@ -594,10 +603,7 @@ def asked(program, raw, words):
                 axis = answer.get("axis")
                 axis = axis and [axis[k] for k in ("minimum", "maximum", "fuzz", "flat",
                                                    "resolution")]
-                is_unsaid = "start" not in field or has_reversed_bounds(field)
-                if axis is None and answer["event_type"] == "EV_ABS" and is_unsaid:
-                    axis = UNSAID
-                event = (answer["event_type"], answer["code"], axis)
+                event = (answer["event_type"], answer["code"], axis, answer.get("beside", []))
                 name = NAMES.get(event[:2])
                 assert answer.get("name") == name, (answer, name)
             if field["kind"] != "padding":
@@ -642,24 +648,23 @@ def compare_one(question):
     """What kind of answer there is to a descriptor, how many events, and what is wrong."""
     program, words, raw = question
     rows, said = asked(program, raw, words)
-    if rows is None:
-        return "refused by hid", 0, ""
-    count = sum(row[4] is not None for row in rows)
+    count = sum(row[4] is not None for row in rows or [])
     try:
         parser, wanted = answers(raw)
     except Refused as refused:
-        is_said = "Linux refuses it" in said or "codes aren't known" in said
+        is_said = rows is None or "codes aren't known" in said
         fault = "" if is_said and not count else f"Linux refuses it: {refused}"
         return "refused by Linux", 0, fault
-    if "Linux refuses it" in said:
-        return "compared", 0, f"{said}: Linux doesn't"
+    if rows is None:
+        fault = f"{said}: Linux doesn't" if "Linux refuses it" in said else ""
+        return "refused by hid", 0, fault
     if "codes aren't known" in said:
         return "not known", 0, f"{count} events" if count else ""
     driver = parser.driver
     if ("takes such a device" in said) != bool(driver) or driver not in said:
         return "compared", count, f"{said}, and not {driver}"
     for own, theirs in itertools.zip_longest(rows, wanted):
-        if not are_same(own, theirs):
+        if own != theirs:
             return "compared", count, f"hid {own}, the model {theirs}"
     return "compared", count, ""
 
@@ -684,60 +689,11 @@ def compare(program, words):
     return counts["faults"] != 0 or counts["events"] < LEAST
 
 
-def keys_of_kernel(source):
-    """The keys of usages that hid-input.c has in its table and in its cases."""
-    table = re.search(r"hid_keyboard\[256\] = \{(.*?)\}", source, re.S)[1]
-    codes = [240 if word.strip() == "unk" else int(word) for word in table.split(",") if word.strip()]
-    keys = {0x070000 + id: code for id, code in enumerate(codes) if code not in (0, 240)}
-    body = source[source.index("static void hidinput_configure_usage"):source.index("mapped:\n")]
-    marks = {"TELEPHONY": 0x0B, "CONSUMER": 0x0C, "CAMERA": 0x90, "HPVENDOR": 0xFF7F,
-             "HPVENDOR2": 0xFF01, "PID": 0x0F}
-    for part in re.split(r"\n\tcase HID_UP_", body)[1:]:
-        page = marks.get(re.match(r"\w+", part)[0])
-        for id, name in re.findall(r"case 0x([0-9a-f]+):\s*map_key_clear\((\w+)\)", part):
-            if page:
-                keys[page << 16 | int(id, 16)] = name
-        for row, cases in re.findall(r"0xf0\) == 0x([8ab])0\)(.*?)\n\t\t}\n", part, re.S):
-            for id, name in re.findall(r"case 0x0?([0-9a-f]):\s*map_key_clear\((\w+)\)", cases):
-                keys[0x010000 | int(row + id, 16)] = name
-    return keys
-
-
-def compare_kernel(folder):
-    """Whether events.txt has the codes and the keys of a kernel's sources."""
-    header = open(os.path.join(folder, "include/uapi/linux/input-event-codes.h")).read()
-    numbers, faults = {}, 0
-    for name, value in re.findall(r"^#define\s+([A-Z]+_\w+)\s+(\w+)", header, re.M):
-        numbers[name] = numbers[value] if value in numbers else int(value, 0)
-    for name, (_, number) in CODES.items():
-        if numbers.get(name) != number:
-            faults += 1
-            print(f"{name}: {number}, in the kernel {numbers.get(name)}")
-    known = {(KINDS[n[:3].replace("BTN", "KEY")], c) for n, c in numbers.items()
-             if n[:3] in ("KEY", "BTN", "REL", "ABS", "MSC", "LED")
-             and not re.fullmatch(r"[A-Z]+_(MAX|CNT|RESERVED)", n)}
-    for code in sorted(known - set(NAMES)):
-        faults += 1
-        print(f"{code}: has no name")
-    keys = keys_of_kernel(open(os.path.join(folder, "drivers/hid/hid-input.c")).read())
-    apart = {0x01003D, 0x01003E, 0x01009B}
-    for usage in sorted(set(keys) | set(KEYS)):
-        wanted = keys.get(usage)
-        wanted = numbers.get(wanted, wanted)
-        if usage >> 16 != 0x0D and usage not in apart and KEYS.get(usage) != wanted:
-            faults += 1
-            print(f"{usage:08x}: {KEYS.get(usage)}, in the kernel {wanted}")
-    print(f"{len(CODES)} codes, {len(keys)} keys, {faults} faults")
-    return faults != 0
-
-
 def main(words):
     if words[:1] == ["--model"]:
         for row in answers(bytes.fromhex("".join(words[1:])))[1]:
             print(row)
         return 0
-    if words[:1] == ["--kernel"]:
-        return compare_kernel(words[1])
     return compare(words[0], words[1:])
 
 

@@ -136,10 +136,11 @@ def run(words, data):
 
 def asked(words, data):
     """Whether a descriptor is answered as the model does, and the answer; none of one that is refused."""
-    refused = run([*words, "fields"], data)[0]
+    refused = any(json.loads(line).get("odd", "").startswith("refused: ")
+                  for line in run([*words, "--json", "check"], data)[1].splitlines())
     status, said = run([*words, "convert", "--to", "webhid"], data)
     if refused or status:
-        return refused == status == 1 and not said, None
+        return refused and status == 1 and not said, None
     answer = json.loads(said)
     return answer == model(data), answer
 

@@ -38,7 +38,7 @@ def found_by_windows(path):
 
 
 def fields_of(program, descriptor, rule):
-    said = subprocess.run([program, "fields", "--json", "--usages", rule, "--form", "hex", "-"],
+    said = subprocess.run([program, "fields", "--json", "--as", rule, "--form", "hex", "-"],
                           input=descriptor.hex().encode(), capture_output=True, check=True).stdout
     return [json.loads(line) for line in said.decode().splitlines()]
 
@@ -72,7 +72,7 @@ def is_found(fields, question):
 def main():
     folder, program = sys.argv[1:]
     differing = 0
-    for rule in ("standard", "hosts"):
+    for rule in ("standard", "linux"):
         count = devices = 0
         for path in sorted(glob.glob(os.path.join(folder, "*.pp_data"))):
             beside = path[:-len(".pp_data")] + "_real.rpt_desc"

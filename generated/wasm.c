@@ -1,5 +1,5 @@
-/* What the module of WebAssembly asks of a system: memory, in blocks of powers of two, of which each that
- * is given back is used again; and products of 128 bits. Licence: MIT (LICENSE). */
+/* What the modules of WebAssembly ask of a system: memory, in blocks of powers of two, of which each that
+ * is given back is used again; and products, quotients and shifts of 128 bits. Licence: MIT (LICENSE). */
 typedef unsigned long long number;
 typedef unsigned __int128 wide;
 
@@ -49,6 +49,9 @@ struct tried rattle_realloc(void *start, number kept, number size, number alignm
 void rattle_dealloc(void *start);
 void *hidreport_answer_room(void);
 wide __multi3(wide left, wide right);
+wide __udivti3(wide left, wide right);
+wide __ashlti3(wide left, int bits);
+wide __lshrti3(wide left, int bits);
 
 /* Memory for `size` bytes, if there is any: where there is none, `start` owns nothing. */
 struct tried rattle_alloc(number size, number alignment)
@@ -108,6 +111,46 @@ wide __multi3(wide left, wide right)
 
     high += a * (number)(right >> 64) + (number)(left >> 64) * b;
     return (wide)high << 64 | (other << 32 | (low & 0xffffffff));
+}
+
+/* A number moved up, and down, by less than 128 bits. */
+wide __ashlti3(wide left, int bits)
+{
+    number low = (number)left, high = (number)(left >> 64);
+
+    if (bits == 0)
+        return left;
+    if (bits >= 64)
+        return (wide)(low << (bits - 64)) << 64;
+    return (wide)(high << bits | low >> (64 - bits)) << 64 | low << bits;
+}
+
+wide __lshrti3(wide left, int bits)
+{
+    number low = (number)left, high = (number)(left >> 64);
+
+    if (bits == 0)
+        return left;
+    if (bits >= 64)
+        return high >> (bits - 64);
+    return (wide)(high >> bits) << 64 | (low >> bits | high << (64 - bits));
+}
+
+/* Their quotient, bit by bit from the highest. */
+wide __udivti3(wide left, wide right)
+{
+    wide quotient = 0, rest = 0;
+
+    for (int bit = 0; bit < 128; bit++) {
+        rest = rest << 1 | left >> 127;
+        left <<= 1;
+        quotient <<= 1;
+        if (rest >= right) {
+            rest -= right;
+            quotient |= 1;
+        }
+    }
+    return quotient;
 }
 
 /* Room for a struct that a call answers. */

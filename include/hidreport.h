@@ -367,6 +367,22 @@ struct hidreport_answer hidreport_collection_usages(const uint8_t *descriptor, s
                                                     uint32_t field, size_t index, uint32_t *usages,
                                                     size_t room);
 
+/* The collections of all fields that hidreport_describe lists, in their order: those of a field,
+ * outermost first, as many as its `collections.count`, behind those of the field before. */
+struct hidreport_answer hidreport_describe_collections(const uint8_t *descriptor, size_t length,
+                                                       struct hidreport_options options,
+                                                       uint32_t direction,
+                                                       struct hidreport_collection *collections,
+                                                       size_t room);
+
+/* The usages of all these collections, in their order: those of a collection, as many as its
+ * `usage_count`, behind those of the one before. */
+struct hidreport_answer hidreport_describe_collection_usages(const uint8_t *descriptor,
+                                                             size_t length,
+                                                             struct hidreport_options options,
+                                                             uint32_t direction, uint32_t *usages,
+                                                             size_t room);
+
 /* Whether two descriptors, read by these options, announce the same: the same reports in each
  * direction, with fields that are equal in all parts. Their bytes may differ. */
 struct hidreport_likeness hidreport_is_alike(const uint8_t *descriptor, size_t length,

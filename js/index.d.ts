@@ -142,3 +142,69 @@ export function rebuild(descriptor: Bytes): Uint8Array;
 export function repair(
   descriptor: Bytes, options?: ParseOptions, mends?: number,
 ): { bytes: Uint8Array; changes: Change[] };
+
+/** An item of a report, as WebHID tells it: the members that a descriptor is made of. */
+export interface HidItem {
+  readonly isAbsolute?: boolean;
+  readonly isArray?: boolean;
+  readonly isBufferedBytes?: boolean;
+  readonly isConstant?: boolean;
+  readonly isLinear?: boolean;
+  readonly isRange?: boolean;
+  readonly isVolatile?: boolean;
+  readonly hasNull?: boolean;
+  readonly hasPreferredState?: boolean;
+  readonly wrap?: boolean;
+  readonly usages?: readonly number[];
+  readonly usageMinimum?: number;
+  readonly usageMaximum?: number;
+  readonly reportSize?: number;
+  readonly reportCount?: number;
+  readonly unitExponent?: number;
+  readonly unitSystem?: string;
+  readonly logicalMinimum?: number;
+  readonly logicalMaximum?: number;
+  readonly physicalMinimum?: number;
+  readonly physicalMaximum?: number;
+}
+export interface HidReport {
+  readonly reportId?: number;
+  readonly items?: readonly HidItem[];
+}
+/** A collection of `HIDDevice.collections`. */
+export interface HidCollection {
+  readonly usagePage?: number;
+  readonly usage?: number;
+  readonly type?: number;
+  readonly children?: readonly HidCollection[];
+  readonly inputReports?: readonly HidReport[];
+  readonly outputReports?: readonly HidReport[];
+  readonly featureReports?: readonly HidReport[];
+}
+/** What an `inputreport` event has. */
+export interface HidInput {
+  readonly reportId: number;
+  readonly data: DataView;
+}
+/** What is asked of a `HIDDevice`. */
+export interface HidSource {
+  readonly collections: readonly HidCollection[];
+  addEventListener(type: "inputreport", listener: (event: HidInput) => void): void;
+  removeEventListener(type: "inputreport", listener: (event: HidInput) => void): void;
+}
+/** A value of an event, by the name of its usage; of an array one for each usage that is held. */
+export interface HidValue {
+  readonly name: string;
+  readonly value: number;
+  readonly usage: Usage;
+  readonly field: Field;
+}
+export class HidDevice {
+  constructor(device: HidSource, options?: ParseOptions);
+  static from(device: HidSource, options?: ParseOptions): HidDevice;
+  readonly device: HidSource;
+  readonly descriptor: ReportDescriptor;
+  values(event: HidInput): HidValue[];
+  listen(call: (values: HidValue[], event: HidInput) => void): () => void;
+}
+export function descriptorOf(collections: readonly HidCollection[]): Uint8Array;

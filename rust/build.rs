@@ -1,5 +1,6 @@
 //! Makes the static library `hidreport` of the assembly in `generated/`, by a C compiler and `ar`,
-//! and links it. `generated/` lies in the repository, a folder up, or in this one. Where neither
+//! and links it; for a processor or a system without one, and where HIDREPORT_PORTABLE is set, of
+//! `generated/portable/hidreport.c`. `generated/` lies in the repository, a folder up, or in this one. Where neither
 //! is, as below an installed PREFIX/share/hidreport/rust, the library of PREFIX/lib is linked.
 //! HIDREPORT_LIB_DIR names a folder that has libhidreport.a; CC and AR name the tools.
 use std::env;
@@ -7,7 +8,7 @@ use std::path::{Path, PathBuf};
 use std::process::{exit, Command};
 
 fn main() {
-    for name in ["HIDREPORT_LIB_DIR", "CC", "AR"] {
+    for name in ["HIDREPORT_LIB_DIR", "HIDREPORT_PORTABLE", "CC", "AR"] {
         println!("cargo:rerun-if-env-changed={name}");
     }
     let package = PathBuf::from(variable("CARGO_MANIFEST_DIR"));
@@ -44,32 +45,42 @@ fn installed(prefix: &Path) -> PathBuf {
 fn made(generated: &Path) -> PathBuf {
     let processor = variable("CARGO_CFG_TARGET_ARCH");
     let text = generated.join(format!("{processor}-linux/hidreport.s"));
-    if variable("CARGO_CFG_TARGET_OS") != "linux" || !text.is_file() {
-        fail("the library is there for Linux on x86-64 and aarch64 alone");
-    }
-    let heap = generated.join("heap.c");
+    let is_native = variable("CARGO_CFG_TARGET_OS") == "linux"
+        && text.is_file()
+        && env::var_os("HIDREPORT_PORTABLE").is_none();
+    let sources = match is_native {
+        true => vec![(text, "hidreport.o"), (generated.join("heap.c"), "heap.o")],
+        false => vec![(generated.join("portable/hidreport.c"), "portable.o")],
+    };
     let folder = PathBuf::from(variable("OUT_DIR"));
-    let archive = folder.join("libhidreport.a");
-    let mut members = vec![Path::new("rcs").to_path_buf(), archive];
-    for (source, name) in [(&text, "hidreport.o"), (&heap, "heap.o")] {
+    let mut members = vec![PathBuf::from("rcs"), folder.join("libhidreport.a")];
+    for (source, name) in sources {
         println!("cargo:rerun-if-changed={}", source.display());
         let member = folder.join(name);
-        let arguments = ["-O2", "-fPIC", "-c", "-o"].map(PathBuf::from);
-        run(&compiler(&processor), arguments.iter().chain([&member, source]));
+        let mut arguments = ["-O2", "-c", "-o"].map(PathBuf::from).to_vec();
+        arguments.extend([member.clone(), source]);
+        if variable("CARGO_CFG_TARGET_OS") == "linux" {
+            arguments.push(PathBuf::from("-fPIC"));
+        }
+        run(&tool("CC", "gcc"), arguments.iter());
         members.push(member);
     }
-    run(&env::var("AR").unwrap_or_else(|_| "ar".into()), members.iter());
+    run(&tool("AR", "ar"), members.iter());
     folder
 }
 
-/// CC, or the C compiler for a processor.
-fn compiler(processor: &str) -> String {
-    env::var("CC").unwrap_or_else(|_| {
-        let is_ours = variable("HOST").starts_with(&format!("{processor}-"));
-        if is_ours {
-            "cc".into()
-        } else {
-            format!("{processor}-linux-gnu-gcc")
+/// The tool that a variable names, or the one for the target: this machine's own, or a cross compiler's.
+fn tool(name: &str, called: &str) -> String {
+    env::var(name).unwrap_or_else(|_| {
+        let processor = variable("CARGO_CFG_TARGET_ARCH");
+        let is_ours = variable("HOST") == variable("TARGET");
+        match (is_ours, variable("CARGO_CFG_TARGET_OS").as_str()) {
+            (true, _) if called == "gcc" => "cc".into(),
+            (true, _) => called.into(),
+            (false, "windows") => format!("{processor}-w64-mingw32-{called}"),
+            (false, _) if processor == "arm" => format!("arm-linux-gnueabihf-{called}"),
+            (false, _) if called == "ar" => called.into(),
+            (false, _) => format!("{processor}-linux-gnu-{called}"),
         }
     })
 }

@@ -21,42 +21,11 @@ done
 more=()
 [ -z "${HIDREPORT_KEPT:-}" ] || more+=(--incremental "$HIDREPORT_KEPT")
 
-# The compiler is called by its path, and no variable reaches it: so a folder of links stands for
-# the toolchain, in which it is a script that writes the text too, by the same options.
 if [ $# -eq 3 ]; then
+    . "$top/checks/generated/keeps_text.sh"
     scratch=$(mktemp -d)
     trap 'rm -rf "$scratch"' EXIT
-    mkdir "$scratch/bin"
-    ln -s "$kit"/toolchain/* "$scratch/" 2> /dev/null || true
-    ln -s "$kit"/toolchain/bin/* "$scratch/bin/"
-    rm "$scratch/bin/clang"
-    printf '#!/bin/sh\nclang=%q\ntext=%q\n' "$kit/toolchain/bin/clang" "$3" > "$scratch/bin/clang"
-    cat >> "$scratch/bin/clang" << 'END_OF_CLANG'
-case " $* " in
-    *' -c '*)
-        "$clang" "$@" || exit
-        previous=
-        for word; do
-            [ "$previous" != ir ] || cp "$word" "$text.ll"
-            previous=$word
-        done
-        left=$#
-        while [ "$left" -gt 0 ]; do
-            word=$1
-            shift
-            left=$((left - 1))
-            case $word in
-                -c) set -- "$@" -S -fno-addrsig ;;
-                -o) shift && left=$((left - 1)) ;;
-                *) set -- "$@" "$word" ;;
-            esac
-        done
-        set -- "$@" -o "$text"
-        ;;
-esac
-exec "$clang" "$@"
-END_OF_CLANG
-    chmod +x "$scratch/bin/clang"
+    keeps_text "$kit" "$scratch" "$3" assembly
     toolchain=$scratch
     more+=(--target "$2")
 fi

@@ -1,9 +1,20 @@
 # Lanes side by side: to be read by `.`, not run. `lane NAME COMMAND ..` starts one, what it says goes to a
-# file; `end_lanes` waits for all, shows what each said and how long it took, and fails where one did. Where
-# `lanes_said` names a file, it gets all of it too.
+# file; `end_lanes` waits for all, shows what each said and how long it took, by the clock and of processor
+# time, and fails where one did. Where `lanes_said` names a file, it gets all of it too. `spent FILE` is how
+# many seconds of processor time the processes of a shell took that have ended, by what its `times` wrote.
 lane_folder=
 lane_names=()
 declare -A lane_of
+
+spent() {
+    awk 'NR == 2 {
+        for (i = 1; i <= 2; i++) {
+            split($i, part, "[ms]")
+            all += part[1] * 60 + part[2]
+        }
+        printf "%.0f\n", all
+    }' "$1"
+}
 
 lane() {
     local name=$1
@@ -18,7 +29,8 @@ lane() {
             "$@"
         )
         status=$?
-        echo "$name: $((SECONDS - begun)) s"
+        times > "$lane_folder/$name.times"
+        echo "$name: $((SECONDS - begun)) s, $(spent "$lane_folder/$name.times") of processor time"
         exit "$status"
     ) > "$lane_folder/$name" 2>&1 &
     lane_of[$name]=$!

@@ -54,7 +54,7 @@ ask() {
     [ -z "$is_spoilt" ] || printf '#!/bin/sh\n"%s" "$@" | sed s/Keyboard/keyboard/\n' "$folder/hid" \
         > "$scratch/hid"
     [ -z "$is_spoilt" ] || { chmod +x "$scratch/hid" && folder=$scratch; }
-    bash "$top/checks/hid/runs.sh" "$folder/hid" > "$scratch/said" 2>&1 || {
+    python3 "$top/checks/hid/runs.py" "$folder/hid" > "$scratch/said" 2>&1 || {
         [ -z "$is_spoilt" ] || { echo 'machines: a program that goes otherwise is noticed' && exit 0; }
         tail -n 20 "$scratch/said" >&2
         wrong "hid goes otherwise: $name"

@@ -1,5 +1,6 @@
 #!/bin/bash
-# What ./release writes: the same bytes each time, by other settings of git, too; from them, with no `rt`
+# What ./release writes: the tarball, the wheel and the package for JavaScript, the same bytes each time,
+# by other settings of git, too; these two are installed and read the mouse; from the tarball, with no `rt`
 # on the path, `make`, `make check` and `make install` in half a minute, a program in C linked from what is
 # installed, and the installed programs. It is no part of the gate: it is run before a version gets its
 # number. Leaves nothing behind.
@@ -22,10 +23,12 @@ ln -s "$scratch/own" "$scratch/first/.room"
 asked=0
 while read -r folder settings; do
     printf '[%s]\n\t%s\n' $settings > "$scratch/settings"
-    GIT_CONFIG_GLOBAL=$scratch/settings "$top/release" "$scratch/$folder" > /dev/null
-    archive=$(cd "$scratch/$folder" && ls)
-    cmp "$scratch/first/$archive" "$scratch/$folder/$archive" || wrong "by $settings other bytes are written"
-    asked=$((asked + 1))
+    GIT_CONFIG_GLOBAL=$scratch/settings "$top/release" "$scratch/$folder" > "$scratch/said" 2>&1 ||
+        wrong "by $settings: $(tail -n 3 "$scratch/said")"
+    for file in "$scratch/$folder"/*.tar.xz "$scratch/$folder"/*.whl "$scratch/$folder"/*.tgz; do
+        cmp "$scratch/first/${file##*/}" "$file" || wrong "by $settings other bytes are written"
+        asked=$((asked + 1))
+    done
 done << END
 first core autocrlf=false
 second tar umask=0077
@@ -33,6 +36,23 @@ third core autocrlf=true
 fourth core eol=crlf
 END
 [ "$(cat "$scratch/own")" = kept ] || wrong 'a file that a link leads to is emptied'
+archive=$(cd "$scratch/first" && ls -- *.tar.xz)
+
+# The packages, installed from nowhere else.
+mouse='05010902a1010901a10005091901290315002501950375018102950175058101050109300931158125'
+mouse+=7f750895028106c0c0
+python3 -m venv "$scratch/venv"
+"$scratch/venv/bin/pip" install -q --no-index "$scratch/first"/*.whl > "$scratch/said" 2>&1 ||
+    wrong "the wheel isn't installed: $(tail -n 3 "$scratch/said")"
+read_mouse="import hidreport
+device = hidreport.ReportDescriptor(bytes.fromhex('$mouse'))
+print([values for field, values in device.input_reports[0].values(bytes([0, 5, 0xfb])) if values][-2:])"
+[ "$(cd / && "$scratch/venv/bin/python" -c "$read_mouse")" = '[[5], [-5]]' ] || wrong 'the wheel reads otherwise'
+mkdir "$scratch/node"
+(cd "$scratch/node" && npm install --silent --offline "$scratch/first"/*.tgz) > "$scratch/said" 2>&1 ||
+    wrong "the package for JavaScript isn't installed: $(tail -n 3 "$scratch/said")"
+[ "$(cd "$scratch/node" && echo "$mouse" | npx --offline hid values --form hex - <(echo 00 05 fb) 2> /dev/null |
+    grep -c 'X\|Y')" -gt 0 ] || wrong 'hid of the package for JavaScript reads otherwise'
 tar -C "$scratch" -xf "$scratch/first/$archive"
 tree=$scratch/${archive%.tar.xz}
 
@@ -71,4 +91,4 @@ if [ "$(uname -m)" = x86_64 ]; then
     (cd "$tree/crates/hid/data" && "$scratch/prefix/bin/hid" values --down keyboard.hex keyboard.report) \
         2> /dev/null | grep -qxF 'Keyboard A' || wrong 'hid shows other values'
 fi
-echo "release: $archive, the same bytes $asked times, made and installed in $((SECONDS - begun)) s"
+echo "release: $archive and two packages, the same bytes $asked times, made and installed in $((SECONDS - begun)) s"

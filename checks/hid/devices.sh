@@ -49,7 +49,7 @@ device sys 10 hid-generic 0003:0000046D:0000C31C 'Logitech USB Keyboard' "$data/
 device mouse 0 hid-generic 0003:0000046D:0000C077 'Logitech USB Optical Mouse' "$data/mouse.hex" 12 4
 
 wants 0 '/dev/hidraw0: Logitech USB Optical Mouse
-  USB 046d:c077, driver hid-generic, event12, event4
+  USB 046d:c077, driver hid-generic, event4, event12
   Input report: 24 bits
 /dev/hidraw2: a \u{1b}[31m pad
   Bluetooth 0001:0002
@@ -59,8 +59,13 @@ wants 0 '/dev/hidraw0: Logitech USB Optical Mouse
   Input report: 64 bits
   Output report: 8 bits' list --sysfs sys
 
-wants 0 '{"node":"/dev/hidraw0","name":"Logitech USB Optical Mouse","bus":3,"vendor":1133,"product":49271,"driver":"hid-generic","input":["event12","event4"],"reports":[{"direction":"input","report":null,"bits":24}]}' \
+wants 0 '{"node":"/dev/hidraw0","name":"Logitech USB Optical Mouse","bus":3,"vendor":1133,"product":49271,"driver":"hid-generic","input":["event4","event12"],"reports":[{"direction":"input","report":null,"bits":24}]}' \
     list --json --sysfs mouse
+
+# What a terminal may not be given stands as JSON has it.
+device odd 4 '' 0003:00000001:00000002 "$(printf 'a\302\233b\177c\342\200\256d')" "$data/mouse.hex"
+wants 0 '{"node":"/dev/hidraw4","name":"a\u009bb\u007fc\u202ed","bus":3,"vendor":1,"product":2,"driver":"","input":[],"reports":[{"direction":"input","report":null,"bits":24}]}' \
+    list --json --sysfs odd
 
 # Buses by their names, and one without.
 device buses 0 '' 0006:00000001:00000002 one "$data/mouse.hex"
@@ -97,6 +102,13 @@ echo 05 01 > Optical
 wants 0 'hid: Optical: read as hex text
 05 01' convert --sysfs sys Optical
 
+# The descriptor of a node is bytes, though they may be digits of hex text.
+device digits 3 hid-generic 0003:0000046D:0000C077 'a mouse' "$data/mouse.hex"
+printf '05 01' > digits/class/hidraw/hidraw3/device/report_descriptor
+wants 0 'hid: hidraw3: is /dev/hidraw3
+hid: hidraw3: read as bytes
+30 35 20 30 31' convert --sysfs digits hidraw3
+
 # What means several devices, or none; a descriptor that is refused; what isn't as Linux writes it.
 wants 1 'hid: Logitech: means hidraw0, hidraw10' convert --sysfs sys Logitech
 wants 1 'hid: 046d:c078: No such file or directory (os error 2)' convert --sysfs sys 046d:c078
@@ -109,8 +121,8 @@ device refused 1 hid-generic 0003:0000046D:0000C077 "$(printf 'a \351')" "$data/
 printf '\300' > refused/class/hidraw/hidraw1/device/report_descriptor
 wants 1 '/dev/hidraw1: a �
   USB 046d:c077, driver hid-generic
-  refused: invalid data at offset 0: Too many EndCollection' list --sysfs refused
-wants 1 '{"node":"/dev/hidraw1","name":"a �","bus":3,"vendor":1133,"product":49271,"driver":"hid-generic","input":[],"reports":null,"refused":"invalid data at offset 0: Too many EndCollection"}' \
+  refused: Linux refuses it at offset 0: an End Collection without a collection' list --sysfs refused
+wants 1 '{"node":"/dev/hidraw1","name":"a �","bus":3,"vendor":1133,"product":49271,"driver":"hid-generic","input":[],"reports":null,"refused":"Linux refuses it at offset 0: an End Collection without a collection"}' \
     list --json --sysfs refused
 device three 0 '' 0003:0000046D 'a mouse' "$data/mouse.hex"
 wants 1 "hid: list: three/class/hidraw/hidraw0/device/uevent: HID_ID isn't three numbers" \

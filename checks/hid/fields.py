@@ -27,7 +27,7 @@ program = None
 
 def fields(digits, *options):
     """What `hid fields` writes of a descriptor; none where it is refused."""
-    words = [program, 'fields', '--form', 'hex', '--limit', '4096', *options, '-']
+    words = [program, '--as', 'standard', 'fields', '--form', 'hex', '--limit', '4096', *options, '-']
     got = subprocess.run(words, input=digits.encode() + b'\n', capture_output=True, check=False)
     return got.stdout.decode() if got.returncode == 0 else None
 

@@ -193,7 +193,8 @@ for shape in $shapes; do
     run diff mouse "$shape"
     run set "$shape" - X=1
     run set --names "$shape" -
-    run --lenient fields "$shape"
+    run --as standard fields "$shape"
+    run --as linux decode "$shape"
     for to in hex c rust bytes recording kernel zephyr tinyusb lufa hid-bpf libinput webhid; do
         run convert --to "$to" "$shape"
     done
@@ -213,17 +214,17 @@ done
 # What lies behind a report's bytes is said once.
 printf '\005' > report
 for words in '' --json --down; do
-    run values $words elements report
+    run --as standard values $words elements report
     [ "$(wc -l < errors)" -le 4 ] || fault "values $words of an endless array says $(wc -l < errors) lines"
 done
-run record elements report
+run --as standard record elements report
 
 # A great report isn't made; one that comes in pieces is put together once.
-says 'more than 65536' set padding - X=1
-says 'more than 65536' set --direction feature feature -
+says 'more than 65536' --as standard set padding - X=1
+says 'more than 65536' --as standard set --direction feature feature -
 printf '\005\001\011\060\165\010\225\001\201\002\165\040\227\000\011\075\000\201\001' > great
 head -c 16000001 /dev/zero > great_report
-kilobytes=256000 run record great great_report
+kilobytes=256000 run --as standard record great great_report
 [ "$(wc -l < output)" -eq 1 ] || fault "a report of 16 MB is shown in $(wc -l < output) lines"
 
 # What WebHID lists again in each collection.

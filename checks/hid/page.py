@@ -222,15 +222,22 @@ def look_at_samples(about, page, words):
 
 
 def look_at(about, *words, reports=()):
-    """A page of one descriptor that is read or refused."""
-    is_read = subprocess.run([program, "fields", *words], capture_output=True,
-                             check=False).returncode == 0
+    """A page of one descriptor that is read or refused, as Linux reads it."""
+    read = subprocess.run([program, "fields", *words], capture_output=True, check=False)
+    is_read = read.returncode == 0
     status = 0 if is_read else 1
     page = Page(run("page", "--all", *words, *reports, status=(status,)))
     look_at_shell(about, page)
-    decoded = lines_of(run("decode", "--json", *words, status=(status,)))
+    refusal = re.search(r"Linux refuses it at offset (\d+): ([^:\n]*)", read.stderr.decode())
+    if refusal:
+        fault = {"offset": int(refusal[1]), "fault": f"Linux refuses it: {refusal[2]}"}
+        same(f"{about}: refusal", [fault], page.blocks["device"][1:])
+        same(f"{about}: fields", [], page.blocks["fields"])
+        return page
+    words_of_items = ("decode", "--as", "linux")
+    decoded = lines_of(run(*words_of_items, "--json", *words, status=(status,)))
     same(f"{about}: items", decoded, page.blocks["items"])
-    same(f"{about}: text", run("decode", "--color", "never", *words, status=(status,)),
+    same(f"{about}: text", run(*words_of_items, "--color", "never", *words, status=(status,)),
          page.inner("pre")[0])
     same(f"{about}: fault", [line for line in decoded if "fault" in line], page.blocks["device"][1:])
     if not is_read:

@@ -177,7 +177,7 @@ def look_at_names(folder):
     shown = Shown(text)
     same("name", NAME, shown.heading)
     same("name: images", [], [tag for tag, _ in shown.tags if tag in ("img", "b", "iframe")])
-    shown = show("refused", page_of(folder, "refused", os.path.join(DATA, "no_usage.hex")),
+    shown = show("refused", page_of(folder, "refused", os.path.join(DATA, "odd.hex")),
                  "--dump-dom")
     same("refused", True, "Refused at offset" in shown and 'class="fault"' in shown)
 

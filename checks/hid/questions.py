@@ -134,7 +134,16 @@ def ask_file(job):
     return answers
 
 
-def ask_library(pool, blocks, together=400):
+def ask_apart(job):
+    """The same where no question needs one before it: where memory ends each is asked alone."""
+    number, questions = job
+    answers = ask_file(job)
+    if answers[0] is not None or len(questions) == 1:
+        return answers
+    return [ask_file((f"{number}_{n}", [it]))[0] for n, it in enumerate(questions)]
+
+
+def ask_library(pool, blocks, together=400, ask=ask_file):
     """The answers to blocks of questions, each of which is asked behind those before it; so many
     are asked of one program."""
     jobs, lines = [], []
@@ -144,7 +153,7 @@ def ask_library(pool, blocks, together=400):
             jobs.append((len(jobs), lines))
             lines = []
     jobs.append((len(jobs), lines))
-    answers = [it for part in pool.map(ask_file, jobs) for it in part]
+    answers = [it for part in pool.map(ask, jobs) for it in part]
     at = 0
     for block in blocks:
         yield answers[at : at + len(block)]
@@ -255,7 +264,7 @@ def reports_of(answer):
 def ask_hid(words, given=b""):
     """The status and the output of `hid`, and what it says on standard error."""
     got = subprocess.run(
-        [programs["hid"], *words], input=given, capture_output=True, check=False, close_fds=False
+        [programs["hid"], "--as", "standard", *words], input=given, capture_output=True, check=False, close_fds=False
     )
     return got.returncode, got.stdout, got.stderr.decode("utf-8", "replace")
 
@@ -603,7 +612,7 @@ def with_readings(pool, all_digits, parsed):
         reports = reports_of(answer) or []
         fits = sum(field.get("count", 1) for it in reports for field in it["fields"]) < 2_000
         plan = list(chosen_reports(digits, reports)) if fits else []
-        block = [f"parse-hosts {digits}"]
+        block = [f"parse-within 2000000 {digits}"]
         for _at, given, arrays in plan:
             block.append(f"read {given}")
             block += [f"usage-of {field} / {given}" for field in arrays]
@@ -674,7 +683,7 @@ def main():
 
 def ask_all(pool, all_digits):
     answers = Answers()
-    blocks = [[f"parse-hosts {it}", f"list {it}"] for it in all_digits]
+    blocks = [[f"parse-within 2000000 {it}", f"list {it}"] for it in all_digits]
     first = list(ask_library(pool, blocks))
     parsed = [it[0] for it in first]
     fields = with_exponents(pool, parsed)
@@ -686,7 +695,7 @@ def ask_all(pool, all_digits):
     for part in pool.imap_unordered(ask_descriptor, jobs, 8):
         answers.add(part)
     changed = list(changed_ones(all_digits, parsed))
-    others = ask_library(pool, [[f"parse-hosts {it[1]}"] for it in changed], together=1)
+    others = ask_library(pool, [[f"parse-within 2000000 {it[1]}"] for it in changed], 16, ask_apart)
     jobs = [(*it, other[0]) for it, other in zip(changed, others)]
     for part in pool.imap_unordered(ask_changed, jobs, 32):
         answers.add(part)

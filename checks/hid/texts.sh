@@ -1,9 +1,9 @@
 #!/bin/bash
-# What `hid decode` writes is compiled to the same bytes: of each descriptor of the tree
-# (checks/hid/descriptors.sh), refused ones too. What `hid convert` writes of them is the same bytes
+# What `hid decode` writes is compiled to the same bytes (checks/hid/compiled.py): of each descriptor of the
+# tree (checks/hid/descriptors.sh), refused ones too. What `hid convert` writes of them is the same bytes
 # to others (checks/hid/written.py), what `hid fields` folds is what it shows line by line
 # (checks/hid/fields.py), what `hid uhid` writes is events (checks/hid/uhid.sh). Then what no stored run
-# shows (checks/hid/runs.sh): a stream's times, and refusals for which it takes more than a file. Its
+# shows (checks/hid/runs.py): a stream's times, and refusals for which it takes more than a file. Its
 # argument is the program; else it is the one that ./hid runs.
 set -eu
 export LC_ALL=C
@@ -19,54 +19,13 @@ trap 'rm -rf "$scratch"' EXIT
 
 bash "$top/checks/hid/descriptors.sh" > "$scratch/descriptors"
 
-# The text of a descriptor, and the status.
-decode() {
-    status=0
-    echo "$digits" | "$program" decode --form hex "$@" - > "$scratch/text" 2> "$scratch/errors" ||
-        status=$?
-    [ "$status" -le 1 ] || {
-        cat "$scratch/errors" >&2
-        exit 1
-    }
-}
-
-# Each has the status of its case, and comes back, as hosts read it, too.
-comes_back() {
-    local got
-    got=$("$program" compile --to hex "$scratch/text" 2> "$scratch/errors" | tr -d ' \n')
-    if [ "$got" != "$digits" ] || [ -s "$scratch/errors" ]; then
-        echo "hid_texts: $digits is compiled to $got" >&2
-        cat "$scratch/errors" >&2
-        exit 1
-    fi
-}
-refused=0
-while read -r digits wanted; do
-    decode --push all --usages standard
-    [ "$wanted" = - ] || [ "$status" -eq "$wanted" ] || {
-        echo "hid_texts: $digits is decoded with the status $status" >&2
-        exit 1
-    }
-    refused=$((refused + status))
-    comes_back
-    mv "$scratch/text" "$scratch/standard"
-    decode
-    cmp -s "$scratch/text" "$scratch/standard" || comes_back
-done < "$scratch/descriptors"
-asked=$(wc -l < "$scratch/descriptors")
-known=$(grep -c '[01]$' "$scratch/descriptors")
-[ "$asked" -ge 2700 ] && [ "$known" -ge 2200 ] || {
-    echo "hid_texts: only $asked descriptors, $known of them with their status" >&2
-    exit 1
-}
-echo "hid_texts: $asked descriptors, $refused refused, decoded and compiled to the same bytes"
 if command -v python3 > /dev/null; then
+    python3 "$top/checks/hid/compiled.py" "$program" < "$scratch/descriptors"
     cut -d ' ' -f 1 "$scratch/descriptors" | python3 "$top/checks/hid/written.py" "$program"
     cut -d ' ' -f 1 "$scratch/descriptors" | python3 "$top/checks/hid/fields.py" "$program"
     python3 "$top/compare/usbmon.py" --check
 else
-    echo 'hid_texts: no `python3` on the path, so nobody else reads what `hid convert` writes'
-    echo 'hid_texts: nor is what `hid fields` folds compared with what `--all` shows'
+    echo 'hid_texts: no `python3` on the path, so what is decoded, converted and folded is not tried'
 fi
 bash "$top/checks/hid/uhid.sh" "$program"
 

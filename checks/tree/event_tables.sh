@@ -1,8 +1,9 @@
 #!/bin/bash
 # Writes the tables of hidreport_linux from crates/hidreport_linux/data/events.txt, which a person
 # edits: src/name_table.rt and src/code_table.rt. With --check it writes nothing, and fails where one
-# of them is stale.
+# of them is stale. First it compares events.txt with a second source (event_facts.sh).
 set -euo pipefail
+bash "$(dirname "$0")/event_facts.sh"
 cd "$(dirname "$0")/../../crates/hidreport_linux"
 export LC_ALL=C
 fresh=$(mktemp -d)

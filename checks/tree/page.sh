@@ -10,7 +10,7 @@ fresh=$(mktemp -d)
 trap 'rm -rf "$fresh"' EXIT
 
 # The script's parts, in the order in which they stand.
-{ echo; cat page/{model,links,parts,map,fields,items,samples,plots,page}.js; } > "$fresh/script"
+{ echo; sed 's,.*,page/&.js,' page/parts.list | xargs cat; } > "$fresh/script"
 { echo; cat page/page.css; } > "$fresh/style"
 
 # The hash of a file's bytes, as a policy has it.

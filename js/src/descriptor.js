@@ -109,23 +109,42 @@ export class ReportDescriptor {
       return new Report(report, direction, own.map((view) => {
         usage += Number(view.getBigUint64(32, true));
         const named = usages.slice(usage - Number(view.getBigUint64(32, true)), usage);
-        return new Field(view, named, () => this.#collections(view));
+        return new Field(view, named, () => this.#collections(direction, view));
       }));
     }));
   }
 
   /** The collections around a field; those around two fields are the same where the innermost is. */
-  #collections(view) {
+  #collections(direction, view) {
     if (view.getBigUint64(88, true) === 0n) return Object.freeze([]);
-    const innermost = view.getUint32(96, true);
-    if (!this.#around.has(innermost)) {
-      const field = view.getUint32(0, true);
-      this.#around.set(innermost, Object.freeze(this.#listed("collections", 24, field)
-        .map((it, index) => new Collection(it.getUint32(0, true), it.getUint32(4, true),
-          this.#listed("collection_usages", 4, field, BigInt(index))
-            .map((usage) => Usage.fromNumber(usage.getUint32(0, true)))))));
+    if (!this.#around.has(direction)) this.#around.set(direction, this.#readCollections(direction));
+    return this.#around.get(direction).get(view.getUint32(96, true));
+  }
+
+  /** The collections around all fields of a direction, by the number of the innermost. */
+  #readCollections(direction) {
+    const listed = this.#listed("describe_collections", 24, direction);
+    const usages = this.#listed("describe_collection_usages", 4, direction);
+    const known = new Map();
+    const around = new Map();
+    let next = 0;
+    let usage = 0;
+    const collectionOf = (it) => {
+      const number = it.getUint32(0, true);
+      usage += Number(it.getBigUint64(8, true));
+      if (!known.has(number)) {
+        const named = usages.slice(usage - Number(it.getBigUint64(8, true)), usage);
+        known.set(number, new Collection(number, it.getUint32(4, true),
+          named.map((own) => Usage.fromNumber(own.getUint32(0, true)))));
+      }
+      return known.get(number);
+    };
+    for (const { data } of this.#reports[direction].flatMap((report) => report.fields)) {
+      const count = Number(new DataView(data.buffer).getBigUint64(88, true));
+      const own = listed.slice(next, next += count).map(collectionOf);
+      if (count > 0 && !around.has(own[count - 1].id)) around.set(own[count - 1].id, Object.freeze(own));
     }
-    return this.#around.get(innermost);
+    return around;
   }
 
   /** The input reports, in the order of their first fields. */

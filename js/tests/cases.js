@@ -19,6 +19,7 @@ const WORDS = Object.fromEntries([
     "usage-on-page"].map((kind) => [kind, 2]),
   ...["usages-by", "reports", "describe", "find", "usages", "collections", "repair-message", "values",
     "blank", "field", "null-value", "write", "front-items", "groups", "describe-usages",
+    "describe-collections", "describe-collection-usages",
     "find-usages", "read", "read-available", "usage-name", "usage-by-name", "page-name",
     "page-by-name", "collection-name"].map((kind) => [kind, 1]),
 ]);
@@ -128,15 +129,18 @@ class Asked {
       case "usages": return this.ofUsages("usages", [...of, way]);
       case "describe-usages": return this.ofUsages("describe_usages", [...of, way]);
       case "find-usages": return this.ofUsages("find_usages", [...of, way, report]);
+      case "describe-collection-usages":
+        return this.ofUsages("describe_collection_usages", [...of, way]);
       case "collection-usages": return this.ofUsages("collection_usages", [...of, way, places[0]]);
       case "group-usage": return this.ofUsages("group_usage", [...of, way, ...places]);
       case "groups": return this.list(groupLines, 104, "groups", [...of, way]);
       case "collections":
+      case "describe-collections":
         return this.list((v) => {
           const kindOf = v.getUint32(4, true);
           return [`#${v.getUint32(0, true)} ${COLLECTIONS[kindOf] ?? kindOf} usages `
             + `${v.getBigUint64(8, true)} ${hex8(v.getUint32(16, true))}`];
-        }, 24, "collections", [...of, way]);
+        }, 24, kind.replace("-", "_"), [...of, way]);
       default: return this.answerMore(kind, first, second, data, report);
     }
   }

@@ -7,7 +7,7 @@ import { test } from "node:test";
 import * as hid from "../index.js";
 import { answers, bytesIn } from "./cases.js";
 
-const QUESTIONS = 672;
+const QUESTIONS = 700;
 const MOUSE = bytesIn("05010902a1010901a1000509190129031500250195037501810295017505810105010930"
   + "093115 81257f750895028106c0c0");
 
@@ -122,4 +122,44 @@ test("memory is given back, and refused in words", async () => {
   assert.throws(() => hid.ReportDescriptor.from(bytesIn("0501 0930 7508 97ffffff00 8102"), { limit: null }),
     hid.OutOfMemory);
   assert.equal(hid.ReportDescriptor.from(MOUSE).inputReports.length, 1);
+});
+
+/** An item as WebHID tells it, of a unit that is none. */
+function webHidItem(members) {
+  return { isAbsolute: true, isArray: false, isBufferedBytes: false, isConstant: false, isLinear: true,
+    isRange: false, isVolatile: false, hasNull: false, hasPreferredState: true, wrap: false, usages: [],
+    unitExponent: 0, unitSystem: "none", physicalMinimum: 0, physicalMaximum: 0, logicalMinimum: 0,
+    logicalMaximum: 1, reportSize: 1, reportCount: 1, ...members };
+}
+
+test("a device of WebHID", () => {
+  const buttons = webHidItem({ isRange: true, usageMinimum: 0x90001, usageMaximum: 0x90003, reportCount: 3 });
+  const padding = webHidItem({ isConstant: true, reportSize: 5 });
+  const wheels = webHidItem({ isAbsolute: false, usages: [0x10030, 0x10031], reportSize: 8, reportCount: 2,
+    logicalMinimum: -127, logicalMaximum: 127 });
+  const keys = webHidItem({ isArray: true, isRange: true, usageMinimum: 0x70000, usageMaximum: 0x70065,
+    reportSize: 8, reportCount: 2, logicalMaximum: 101 });
+  const reportOf = (reportId, ...items) => ({ reportId, items });
+  const pointer = { usagePage: 1, usage: 1, type: 0, children: [], inputReports: [reportOf(1, buttons, padding, wheels)] };
+  const mouse = { ...pointer, usage: 2, type: 1, children: [pointer] };
+  const keyboard = { usagePage: 1, usage: 6, type: 1, children: [], inputReports: [reportOf(2, keys)] };
+  const listeners = new Set();
+  const device = hid.HidDevice.from({ collections: [mouse, keyboard], addEventListener: (type, it) => listeners.add(it),
+    removeEventListener: (type, it) => listeners.delete(it) });
+  const event = (reportId, ...bytes) => ({ reportId, data: new DataView(Uint8Array.from(bytes).buffer) });
+  const said = (values) => values.map(({ name, value }) => [name, value]);
+  assert.deepEqual(said(device.values(event(1, 1, 5, 0xfb))),
+    [["Button 1", 1], ["Button 2", 0], ["Button 3", 0], ["X", 5], ["Y", -5]]);
+  assert.deepEqual(said(device.values(event(2, 4, 0))), [["Keyboard A", 1]]);
+  assert.deepEqual(said(device.values(event(1, 1))), [["Button 1", 1], ["Button 2", 0], ["Button 3", 0]]);
+  assert.deepEqual(device.values(event(3, 1)), []);
+  const kinds = device.descriptor.inputReports[0].fields[0].collections.map((it) => [it.kindName, it.usages[0].name]);
+  assert.deepEqual(kinds, [["Application", "Mouse"], ["Physical", "Pointer"]]);
+  const heard = [];
+  const stop = device.listen((values) => heard.push(said(values)));
+  for (const listener of listeners) listener(event(2, 0, 5));
+  stop();
+  assert.deepEqual(heard, [[["Keyboard B", 1]]]);
+  assert.equal(listeners.size, 0);
+  assert.throws(() => hid.descriptorOf([{ ...mouse, inputReports: [] }]), TypeError);
 });

@@ -120,6 +120,8 @@ FUNCTIONS = {
     "find_usages": (Answer, IN + (BYTES, c_size_t), c_uint32),
     "collections": (Answer, OF + (c_uint32,), Collection),
     "collection_usages": (Answer, OF + (c_uint32, c_size_t), c_uint32),
+    "describe_collections": (Answer, OF + (c_uint32,), Collection),
+    "describe_collection_usages": (Answer, OF + (c_uint32,), c_uint32),
     "is_alike": (Likeness, (BYTES, c_size_t, BYTES, c_size_t, Options), None),
     "message": (Answer, OF, c_uint8),
     "items": (Answer, (BYTES, c_size_t), Item),

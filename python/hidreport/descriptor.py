@@ -1,6 +1,7 @@
 """Report descriptors: what reports they announce, and the reports' fields."""
 
 from enum import IntEnum
+from functools import partial
 from itertools import islice
 from typing import Dict, Iterable, Iterator, List, Optional, Tuple
 
@@ -81,7 +82,7 @@ class ReportDescriptor:
         #: The bytes that were read.
         self.bytes = bytes(descriptor)
         self.options = options
-        self._collections: Dict[int, Tuple[Collection, ...]] = {}
+        self._collections: Dict[Direction, Dict[int, Tuple[Collection, ...]]] = {}
         self._asked = (self.bytes, len(self.bytes), options._as_c())
         self._reports = {way: self._read(way) for way in Direction}
 
@@ -95,22 +96,34 @@ class ReportDescriptor:
         reports = self._listed("reports", direction)
         fields = iter(self._listed("describe", direction))
         usages = iter(self._listed("describe_usages", direction))
+        around = partial(self._around, direction)
         return tuple(Report(report, direction, [
-            Field(field, list(islice(usages, field.usages.count)), self._around)
+            Field(field, list(islice(usages, field.usages.count)), around)
             for field in islice(fields, report.field_count)]) for report in reports)
 
-    def _around(self, field: "_c.Field") -> Tuple[Collection, ...]:
+    def _around(self, direction: Direction, field: "_c.Field") -> Tuple[Collection, ...]:
         """The collections around a field; those around two fields are the same where the innermost
         one is."""
         if field.collections.count == 0:
             return ()
-        innermost = field.collections.innermost
-        if innermost not in self._collections:
-            self._collections[innermost] = tuple(
-                Collection(it.number, it.kind, tuple(map(Usage.from_number, self._listed(
-                    "collection_usages", field.number, index))))
-                for index, it in enumerate(self._listed("collections", field.number)))
-        return self._collections[innermost]
+        if direction not in self._collections:
+            self._collections[direction] = self._read_collections(direction)
+        return self._collections[direction][field.collections.innermost]
+
+    def _read_collections(self, direction: Direction) -> Dict[int, Tuple[Collection, ...]]:
+        """The collections around all fields of a direction, by the number of the innermost."""
+        listed = iter(self._listed("describe_collections", direction))
+        usages = iter(self._listed("describe_collection_usages", direction))
+        known: Dict[int, Collection] = {}
+        around: Dict[int, Tuple[Collection, ...]] = {}
+        for field in (it._field for report in self._reports[direction] for it in report.fields):
+            own = []
+            for it in islice(listed, field.collections.count):
+                named = tuple(map(Usage.from_number, islice(usages, it.usage_count)))
+                own.append(known.setdefault(it.number, Collection(it.number, it.kind, named)))
+            if own:
+                around.setdefault(own[-1].id, tuple(own))
+        return around
 
     @property
     def input_reports(self) -> Tuple[Report, ...]:

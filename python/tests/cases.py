@@ -23,6 +23,7 @@ WORDS = {kind: 2 for kind in ("options collection-usages repair changes value us
 WORDS.update({kind: 1 for kind in (
     "usages-by reports describe find usages collections repair-message values blank field "
     "null-value write front-items groups describe-usages find-usages read read-available usage-name "
+    "describe-collections describe-collection-usages "
     "usage-by-name page-name page-by-name collection-name").split()})
 
 
@@ -136,16 +137,18 @@ class Asked:
             return self.of_usages("describe_usages", *of, way)
         if kind == "find-usages":
             return self.of_usages("find_usages", *of, way, *sent)
+        if kind == "describe-collection-usages":
+            return self.of_usages("describe_collection_usages", *of, way)
         if kind == "collection-usages":
             return self.of_usages("collection_usages", *of, way, int(second))
         if kind == "group-usage":
             return self.of_usages("group_usage", *of, way, *map(int, second.split("=")))
         if kind == "groups":
             return self.listed(group_lines, "groups", *of, way)
-        if kind == "collections":
+        if kind in ("collections", "describe-collections"):
             return self.listed(lambda c: [f"#{c.number} {_collection(c.kind)} usages "
                                           f"{c.usage_count} {c.usage:08x}"],
-                               "collections", *of, way)
+                               kind.replace("-", "_"), *of, way)
         return self.answer_more(kind, first, second, data, report)
 
     def choose(self, kind: str, first: str, second: str) -> List[str]:

@@ -25,7 +25,8 @@ pub use sys::{
     Change, Collection, Collections, Field, Flags, Group, Item, Measures, Options, Report, Usages,
 };
 pub use wholes::{
-    describe_usages, find_usages, group_field, group_usage, groups, read, read_available, write,
+    describe_collection_usages, describe_collections, describe_usages, find_usages, group_field,
+    group_usage, groups, read, read_available, write,
 };
 pub use writing::{blank, insert, insert_all, null_value, value_of};
 
@@ -37,6 +38,9 @@ pub const DEFAULT_LIMIT: usize = 65_536;
 
 /// No limit: a descriptor takes what memory it asks for.
 pub const NO_LIMIT: usize = usize::MAX;
+
+/// As much is there in most lists, at most; a longer one is asked for twice.
+const FEW: usize = 64;
 
 impl Default for Options {
     fn default() -> Options {
@@ -85,18 +89,29 @@ fn counted(answer: sys::Answer) -> Result<usize, Unlisted> {
     }
 }
 
-/// All that a call has, which is asked twice: how much there is, and then for all of it. Either
-/// answer may be a refusal, since either takes memory.
+/// All that a call has. It is asked with so much room first, and once more where that was too little;
+/// either answer may be a refusal, since either takes memory.
 fn listed<T: Clone>(
+    guess: usize,
     empty: T,
     call: impl Fn(*mut T, usize) -> sys::Answer,
 ) -> Result<Vec<T>, Unlisted> {
-    let count = counted(call(std::ptr::null_mut(), 0))?;
+    let mut list = with_room(guess, &empty)?;
+    let mut count = counted(call(list.as_mut_ptr(), list.len()))?;
+    if count > list.len() {
+        list = with_room(count, &empty)?;
+        count = counted(call(list.as_mut_ptr(), list.len()))?;
+    }
+    list.truncate(count);
+    Ok(list)
+}
+
+/// A list of so many that a call fills.
+fn with_room<T: Clone>(count: usize, empty: &T) -> Result<Vec<T>, Unlisted> {
     let mut list = Vec::new();
     list.try_reserve_exact(count)
         .map_err(|_| Unlisted { status: Status::OutOfMemory, offset: 0 })?;
-    list.resize(count, empty);
-    counted(call(list.as_mut_ptr(), list.len()))?;
+    list.resize(count, empty.clone());
     Ok(list)
 }
 
@@ -104,7 +119,7 @@ fn listed<T: Clone>(
 // the call is over, and none that is written overlaps one that is read; no room is a length of 0.
 
 fn text_of(call: impl Fn(*mut u8, usize) -> sys::Answer) -> Result<String, Status> {
-    match listed(0, call) {
+    match listed(0, 0, call) {
         Ok(text) => Ok(String::from_utf8_lossy(&text).into_owned()),
         Err(unlisted) => Err(unlisted.status),
     }
@@ -129,11 +144,12 @@ pub fn items_message(descriptor: &[u8]) -> Result<String, Status> {
 fn listed_in<T: Clone>(
     descriptor: &[u8],
     options: Options,
+    guess: usize,
     empty: T,
     call: impl Fn(*const u8, usize, *mut T, usize) -> sys::Answer,
 ) -> Result<Vec<T>, Refusal> {
     let (bytes, length) = (descriptor.as_ptr(), descriptor.len());
-    listed(empty, |list, room| call(bytes, length, list, room)).map_err(|unlisted| Refusal {
+    listed(guess, empty, |list, room| call(bytes, length, list, room)).map_err(|unlisted| Refusal {
         status: unlisted.status,
         offset: unlisted.offset,
         message: message(descriptor, options).unwrap_or_default(),
@@ -147,7 +163,7 @@ pub fn reports(
     direction: Direction,
 ) -> Result<Vec<Report>, Refusal> {
     let empty = Report::default();
-    listed_in(descriptor, options, empty, |bytes, length, list, room| unsafe {
+    listed_in(descriptor, options, FEW, empty, |bytes, length, list, room| unsafe {
         sys::hidreport_reports(bytes, length, options, direction.into(), list, room)
     })
 }
@@ -159,7 +175,7 @@ pub fn describe(
     direction: Direction,
 ) -> Result<Vec<Field>, Refusal> {
     let empty = Field::default();
-    listed_in(descriptor, options, empty, |bytes, length, list, room| unsafe {
+    listed_in(descriptor, options, FEW, empty, |bytes, length, list, room| unsafe {
         sys::hidreport_describe(bytes, length, options, direction.into(), list, room)
     })
 }
@@ -173,14 +189,14 @@ pub fn find(
 ) -> Result<Vec<Field>, Refusal> {
     let (first, size) = (report.as_ptr(), report.len());
     let empty = Field::default();
-    listed_in(descriptor, options, empty, |bytes, length, list, room| unsafe {
+    listed_in(descriptor, options, FEW, empty, |bytes, length, list, room| unsafe {
         sys::hidreport_find(bytes, length, options, direction.into(), first, size, list, room)
     })
 }
 
 /// The usages of the field with this number, each with its page in the upper 16 bits.
 pub fn usages(descriptor: &[u8], options: Options, field: u32) -> Result<Vec<u32>, Refusal> {
-    listed_in(descriptor, options, 0, |bytes, length, list, room| unsafe {
+    listed_in(descriptor, options, FEW, 0, |bytes, length, list, room| unsafe {
         sys::hidreport_usages(bytes, length, options, field, list, room)
     })
 }
@@ -192,7 +208,7 @@ pub fn collections(
     field: u32,
 ) -> Result<Vec<Collection>, Refusal> {
     let empty = Collection::default();
-    listed_in(descriptor, options, empty, |bytes, length, list, room| unsafe {
+    listed_in(descriptor, options, FEW, empty, |bytes, length, list, room| unsafe {
         sys::hidreport_collections(bytes, length, options, field, list, room)
     })
 }
@@ -204,7 +220,7 @@ pub fn collection_usages(
     field: u32,
     index: usize,
 ) -> Result<Vec<u32>, Refusal> {
-    listed_in(descriptor, options, 0, |bytes, length, list, room| unsafe {
+    listed_in(descriptor, options, FEW, 0, |bytes, length, list, room| unsafe {
         sys::hidreport_collection_usages(bytes, length, options, field, index, list, room)
     })
 }
@@ -219,7 +235,7 @@ fn items_refusal(descriptor: &[u8], unlisted: Unlisted) -> Refusal {
 
 /// Where the items of a descriptor stand.
 pub fn items(descriptor: &[u8]) -> Result<Vec<Item>, Refusal> {
-    listed(Item::default(), |items, room| unsafe {
+    listed(descriptor.len().min(FEW), Item::default(), |items, room| unsafe {
         sys::hidreport_items(descriptor.as_ptr(), descriptor.len(), items, room)
     })
     .map_err(|unlisted| items_refusal(descriptor, unlisted))
@@ -228,7 +244,7 @@ pub fn items(descriptor: &[u8]) -> Result<Vec<Item>, Refusal> {
 /// Where the items stand before the first that can't be read, or all: behind the last of them
 /// stands what `items` refuses.
 pub fn front_items(descriptor: &[u8]) -> Vec<Item> {
-    let items = listed(Item::default(), |items, room| unsafe {
+    let items = listed(descriptor.len().min(FEW), Item::default(), |items, room| unsafe {
         sys::hidreport_front_items(descriptor.as_ptr(), descriptor.len(), items, room)
     });
     items.unwrap_or_default()
@@ -236,7 +252,7 @@ pub fn front_items(descriptor: &[u8]) -> Vec<Item> {
 
 /// A descriptor written anew, each item in its shortest spelling.
 pub fn rebuild(descriptor: &[u8]) -> Result<Vec<u8>, Refusal> {
-    listed(0, |bytes, room| unsafe {
+    listed(descriptor.len(), 0, |bytes, room| unsafe {
         sys::hidreport_rebuild(descriptor.as_ptr(), descriptor.len(), bytes, room)
     })
     .map_err(|unlisted| items_refusal(descriptor, unlisted))
@@ -250,7 +266,7 @@ pub fn value(field: &Field, report: &[u8], index: usize) -> Result<i64, Status> 
 
 /// The values of a field in a report.
 pub fn values(field: &Field, report: &[u8]) -> Result<Vec<i64>, Status> {
-    listed(0, |values, room| unsafe {
+    listed(field.value_count.min(FEW), 0, |values, room| unsafe {
         sys::hidreport_values(field, report.as_ptr(), report.len(), values, room)
     })
     .map_err(|unlisted| unlisted.status)
@@ -317,11 +333,14 @@ mod tests {
     #[test]
     fn want_of_memory_in_either_call_is_told() {
         let lacking = Err(Unlisted { status: Status::OutOfMemory, offset: 0 });
-        assert_eq!(listed(7, refusing(1)), lacking);
-        assert_eq!(listed(7, refusing(2)), lacking);
-        assert_eq!(listed(7, refusing(3)), Ok(vec![7, 7]));
+        assert_eq!(listed(0, 7, refusing(1)), lacking);
+        assert_eq!(listed(0, 7, refusing(2)), lacking);
+        assert_eq!(listed(0, 7, refusing(3)), Ok(vec![7, 7]));
+        assert_eq!(listed(3, 7, refusing(1)), lacking);
+        assert_eq!(listed(3, 7, refusing(2)), Ok(vec![7, 7]));
+        assert_eq!(listed(usize::MAX, 7, refusing(3)), lacking);
         let endless = |_list, _room| sys::Answer { count: usize::MAX, offset: 0, status: 0 };
-        assert_eq!(listed(7u8, endless), lacking);
+        assert_eq!(listed(0, 7u8, endless), lacking);
     }
 
     #[test]

@@ -2,7 +2,7 @@
 use crate::c::Direction;
 use crate::error::ParserError;
 use crate::options::ParseOptions;
-use crate::reading::Reading;
+use crate::reading::reports;
 use crate::report::RDescReport;
 use crate::types::ReportId;
 
@@ -31,11 +31,11 @@ impl ReportDescriptor {
         bytes: &[u8],
         options: ParseOptions,
     ) -> Result<ReportDescriptor, ParserError> {
-        let mut reading = Reading::new(bytes, options.into());
+        let options = options.into();
         Ok(ReportDescriptor {
-            input: reading.reports(Direction::Input)?,
-            output: reading.reports(Direction::Output)?,
-            feature: reading.reports(Direction::Feature)?,
+            input: reports(bytes, options, Direction::Input)?,
+            output: reports(bytes, options, Direction::Output)?,
+            feature: reports(bytes, options, Direction::Feature)?,
         })
     }
 

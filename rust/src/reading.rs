@@ -13,42 +13,112 @@ use crate::variable_field::VariableField;
 use std::collections::HashMap;
 use std::sync::Arc;
 
-/// A descriptor that is being read.
-pub(crate) struct Reading<'a> {
-    bytes: &'a [u8],
+/// The reports of a direction with their fields.
+///
+/// The descriptor is read once for the reports; where there are any, once for their fields, once for
+/// the collections around these, if there are any, and at most twice more: for usages that aren't
+/// told with these.
+pub(crate) fn reports(
+    bytes: &[u8],
     options: c::Options,
-    /// The collections around an innermost one, by its number.
-    around: HashMap<u32, Vec<Collection>>,
-    /// The usages of a collection, by its number.
-    usages: HashMap<u32, Arc<[Usage]>>,
+    direction: Direction,
+) -> Result<Vec<RDescReport>, ParserError> {
+    let reports = c::reports(bytes, options, direction)?;
+    if reports.is_empty() {
+        return Ok(Vec::new());
+    }
+    let fields = c::describe(bytes, options, direction)?;
+    let usages = match fields.iter().any(|field| is_array(field) && !counts_up(&field.usages)) {
+        true => c::describe_usages(bytes, options, direction)?,
+        false => Vec::new(),
+    };
+    let around = match fields.iter().any(|field| field.collections.count > 0) {
+        true => c::describe_collections(bytes, options, direction)?,
+        false => Vec::new(),
+    };
+    let numbers = match around.iter().any(|collection| collection.usage_count > 1) {
+        true => c::describe_collection_usages(bytes, options, direction)?,
+        false => Vec::new(),
+    };
+    let reading = Reading {
+        direction,
+        usages: Taken::of(&usages),
+        around: Taken::of(&around),
+        numbers: Taken::of(&numbers),
+        known: HashMap::new(),
+    };
+    reading.reports(&reports, &fields)
+}
+
+fn is_array(field: &c::Field) -> bool {
+    FieldKind::try_from(field.kind) == Ok(FieldKind::Array)
+}
+
+/// Whether usages are all those from the first to the last.
+fn counts_up(usages: &c::Usages) -> bool {
+    let between = u64::from(usages.last).checked_sub(u64::from(usages.first));
+    usages.is_range && between.map(|more| more + 1) == Some(usages.count as u64)
+}
+
+/// A list that is taken from its front; an empty one wasn't asked for.
+struct Taken<'a, T> {
+    left: &'a [T],
+}
+
+impl<'a, T> Taken<'a, T> {
+    fn of(list: &'a [T]) -> Taken<'a, T> {
+        Taken { left: list }
+    }
+
+    /// The next of them, so many; none of a list that wasn't asked for.
+    fn take(&mut self, count: usize) -> &'a [T] {
+        let (taken, left) = self.left.split_at(count.min(self.left.len()));
+        self.left = left;
+        taken
+    }
+}
+
+/// The fields of a direction, which are gone over in their order, with what is listed of them.
+struct Reading<'a> {
+    direction: Direction,
+    /// The usages of the fields.
+    usages: Taken<'a, u32>,
+    /// The collections around the fields.
+    around: Taken<'a, c::Collection>,
+    /// The usages of these collections.
+    numbers: Taken<'a, u32>,
+    /// Each collection that was seen, by its number.
+    known: HashMap<u32, Collection>,
 }
 
 impl Reading<'_> {
-    pub(crate) fn new(bytes: &[u8], options: c::Options) -> Reading<'_> {
-        Reading { bytes, options, around: HashMap::new(), usages: HashMap::new() }
-    }
-
-    /// The reports of a direction with their fields, which the library lists report by report.
-    pub(crate) fn reports(
-        &mut self,
-        direction: Direction,
+    /// The fields are listed report by report.
+    fn reports(
+        mut self,
+        reports: &[c::Report],
+        fields: &[c::Field],
     ) -> Result<Vec<RDescReport>, ParserError> {
-        let reports = c::reports(self.bytes, self.options, direction)?;
-        let fields = c::describe(self.bytes, self.options, direction)?;
-        let mut left = fields.as_slice();
-        let mut read = Vec::with_capacity(reports.len());
+        let mut read = with_room(reports.len())?;
+        let mut fields = Taken::of(fields);
         for report in reports {
-            let (own, behind) = left.split_at(report.field_count);
-            left = behind;
-            let fields =
-                own.iter().map(|field| self.field(field, direction)).collect::<Result<_, _>>()?;
-            let report_id = report.has_id.then_some(ReportId(report.id));
-            read.push(RDescReport { report_id, fields, as_c: report });
+            let own = fields.take(report.field_count);
+            read.push(self.report(report, own)?);
         }
         Ok(read)
     }
 
-    fn field(&mut self, field: &c::Field, direction: Direction) -> Result<Field, ParserError> {
+    fn report(&mut self, report: &c::Report, own: &[c::Field]) -> Result<RDescReport, ParserError> {
+        let mut fields = with_room(own.len())?;
+        for field in own {
+            fields.push(self.field(field)?);
+        }
+        let report_id = report.has_id.then_some(ReportId(report.id));
+        Ok(RDescReport { report_id, fields, as_c: *report })
+    }
+
+    fn field(&mut self, field: &c::Field) -> Result<Field, ParserError> {
+        let usages = self.usages.take(field.usages.count);
+        let collections = self.collections(field.collections.count)?;
         let id = FieldId(field.number);
         let report_id = field.has_report_id.then_some(ReportId(field.report_id));
         let bits = field.first_bit..field.end_bit;
@@ -57,12 +127,12 @@ impl Reading<'_> {
         if kind == FieldKind::Constant {
             return Ok(Field::Constant(ConstantField { id, report_id, bits }));
         }
-        let attributes = Attributes { flags: field.flags, is_input: direction == Direction::Input };
+        let is_input = self.direction == Direction::Input;
+        let attributes = Attributes { flags: field.flags, is_input };
         let measures = field.measures;
         let (logical_minimum, logical_maximum) = measures.logical();
         let (physical_minimum, physical_maximum) = measures.physical();
         let (unit, unit_exponent) = measures.unit_and_exponent();
-        let collections = self.collections(field)?;
         Ok(if kind == FieldKind::Variable {
             Field::Variable(VariableField {
                 id,
@@ -79,7 +149,7 @@ impl Reading<'_> {
                 attributes,
             })
         } else {
-            let numbers = self.array_usages(field)?;
+            let numbers = array_usages(&field.usages, usages)?;
             Field::Array(ArrayField {
                 id,
                 report_id,
@@ -92,7 +162,7 @@ impl Reading<'_> {
                 unit,
                 unit_exponent,
                 collections,
-                usages: numbers.iter().map(|number| Usage::from(*number)).collect(),
+                usages: usages_of(&numbers)?.into(),
                 numbers: numbers.into(),
                 is_usage_range: field.usages.is_range,
                 attributes,
@@ -100,55 +170,63 @@ impl Reading<'_> {
         })
     }
 
-    /// The usages of an array; where they count up from the first to the last, without asking.
-    fn array_usages(&self, field: &c::Field) -> Result<Vec<u32>, ParserError> {
-        let c::Usages { count, first, last, is_range } = field.usages;
-        let between = u64::from(last).checked_sub(u64::from(first));
-        if is_range && between.map(|more| more + 1) == Some(count as u64) {
-            return Ok((first..=last).collect());
+    /// The next collections, so many: those around a field, outermost first.
+    fn collections(&mut self, count: usize) -> Result<Vec<Collection>, ParserError> {
+        let mut read = with_room(count)?;
+        for of in self.around.take(count) {
+            let numbers = self.numbers.take(of.usage_count);
+            let collection = match self.known.get(&of.number) {
+                Some(known) => known.clone(),
+                None => self.first_seen(of, numbers)?,
+            };
+            read.push(collection);
         }
-        Ok(c::usages(self.bytes, self.options, field.number)?)
-    }
-
-    /// The collections around a field, which are those around its innermost one.
-    fn collections(&mut self, field: &c::Field) -> Result<Vec<Collection>, ParserError> {
-        if field.collections.count == 0 {
-            return Ok(Vec::new());
-        }
-        if let Some(known) = self.around.get(&field.collections.innermost) {
-            return Ok(known.clone());
-        }
-        let mut read = Vec::with_capacity(field.collections.count);
-        for (index, of) in
-            c::collections(self.bytes, self.options, field.number)?.iter().enumerate()
-        {
-            read.push(Collection {
-                id: CollectionId(of.number),
-                collection_type: CollectionType::try_from(of.kind)
-                    .expect("the library of this version has no other"),
-                usages: self.collection_usages(field.number, index, of)?,
-            });
-        }
-        self.around.insert(field.collections.innermost, read.clone());
         Ok(read)
     }
 
-    fn collection_usages(
+    /// A collection that no field before lies in. Where it has one usage at most, that is told with
+    /// it.
+    fn first_seen(
         &mut self,
-        field: u32,
-        index: usize,
         of: &c::Collection,
-    ) -> Result<Arc<[Usage]>, ParserError> {
-        if let Some(known) = self.usages.get(&of.number) {
-            return Ok(known.clone());
-        }
-        let numbers = match of.usage_count {
-            0 => Vec::new(),
-            1 => vec![of.usage],
-            _ => c::collection_usages(self.bytes, self.options, field, index)?,
+        numbers: &[u32],
+    ) -> Result<Collection, ParserError> {
+        let usages: Arc<[Usage]> = match of.usage_count {
+            0 => Arc::new([]),
+            1 => Arc::new([Usage::from(of.usage)]),
+            _ => usages_of(numbers)?.into(),
         };
-        let usages: Arc<[Usage]> = numbers.into_iter().map(Usage::from).collect();
-        self.usages.insert(of.number, usages.clone());
-        Ok(usages)
+        let collection = Collection {
+            id: CollectionId(of.number),
+            collection_type: CollectionType::try_from(of.kind)
+                .expect("the library of this version has no other"),
+            usages,
+        };
+        self.known.try_reserve(1).map_err(|_| ParserError::OutOfMemory)?;
+        self.known.insert(of.number, collection.clone());
+        Ok(collection)
     }
+}
+
+/// The usages of an array, where they weren't asked for those from the first to the last.
+fn array_usages(told: &c::Usages, listed: &[u32]) -> Result<Vec<u32>, ParserError> {
+    let mut numbers = with_room(told.count)?;
+    match counts_up(told) {
+        true => numbers.extend(told.first..=told.last),
+        false => numbers.extend_from_slice(listed),
+    }
+    Ok(numbers)
+}
+
+fn usages_of(numbers: &[u32]) -> Result<Vec<Usage>, ParserError> {
+    let mut usages = with_room(numbers.len())?;
+    usages.extend(numbers.iter().map(|number| Usage::from(*number)));
+    Ok(usages)
+}
+
+/// An empty list with room for so many.
+fn with_room<T>(count: usize) -> Result<Vec<T>, ParserError> {
+    let mut list = Vec::new();
+    list.try_reserve_exact(count).map_err(|_| ParserError::OutOfMemory)?;
+    Ok(list)
 }

@@ -21,11 +21,8 @@ pub enum Kind {
     /// What inputs hold.
     Form,
 
-    /// What a Push keeps.
-    Push,
-
-    /// By which rule usages are found.
-    Usages,
+    /// Whose reading of descriptors is meant.
+    Reading,
 
     /// When names are in colour.
     Colour,
@@ -50,7 +47,7 @@ pub enum Kind {
 pub type Argument = (&'static str, Kind, &'static str);
 
 /// The options of all commands.
-pub static OPTIONS: [Argument; 10] = [
+pub static OPTIONS: [Argument; 8] = [
     (
         "form",
         Kind::Form,
@@ -72,19 +69,9 @@ pub static OPTIONS: [Argument; 10] = [
         "The most that a descriptor may list, 131072 where it isn't said",
     ),
     (
-        "push",
-        Kind::Push,
-        "What a Push keeps: globals, as hosts read, or all",
-    ),
-    (
-        "usages",
-        Kind::Usages,
-        "How usages are found: as hosts read them, or by the standard's letter",
-    ),
-    (
-        "lenient",
-        Kind::Setting,
-        "Mend the descriptor first, as Linux reads it",
+        "as",
+        Kind::Reading,
+        "Read as Linux does, which is so where nothing is said, or by the standard's letter",
     ),
     (
         "json",
@@ -96,6 +83,19 @@ pub static OPTIONS: [Argument; 10] = [
         "sysfs",
         Kind::Folder,
         "The folder in which Linux tells of devices",
+    ),
+];
+
+/// Options that are no more, and what is said in their place.
+pub static REPLACED: [(&str, &str); 3] = [
+    (
+        "--lenient",
+        "descriptors are read as Linux reads them, but for --as standard",
+    ),
+    ("--push", "--as linux keeps globals, --as standard all"),
+    (
+        "--usages",
+        "--as linux finds usages as hosts do, --as standard by its letter",
     ),
 ];
 

@@ -118,9 +118,9 @@ impl<'a> Command<'a> {
     /// Why these options can't be met together, where they can't.
     pub fn conflict(&self, settings: &Settings) -> Option<&'static str> {
         match self {
-            Command::Fields(command) if command.shows_linux && !settings.reads_as_hosts() => Some(
-                "--linux shows what Linux reads: without --usages standard and --push all",
-            ),
+            Command::Fields(command) if command.shows_linux && !settings.reads_as_linux() => {
+                Some("--linux shows what Linux reads: without --as standard")
+            }
             Command::Values(command) if command.is_down && settings.is_json => {
                 Some("--down and --json can't both be met")
             }

@@ -1,14 +1,11 @@
 //! The words that `hid` knows.
 use crate::arguments::{Argument, COMMANDS, Kind, OPTIONS, arguments_of};
+use crate::settings::READINGS;
 use clap::{Arg, ArgAction, Command};
 use hid_findings::HOSTS;
 use hid_given::FORM_WORDS;
 use hid_targets::{TARGETS, report_targets};
 use std::alloc::{AllocError, Global};
-
-static PUSHES: [&str; 2] = ["globals", "all"];
-
-static USAGES: [&str; 2] = ["hosts", "standard"];
 
 static COLOURS: [&str; 3] = ["auto", "always", "never"];
 
@@ -64,8 +61,7 @@ fn argument_of<'a>(alloc: Global, argument: Argument) -> Arg<'a> {
                 .value_parser(clap::value_parser!(usize)),
         ),
         Kind::Form => of_all(choice(arg, name, "FORM", &FORM_WORDS)),
-        Kind::Push => of_all(choice(arg, name, "WHAT", &PUSHES).default_value("globals")),
-        Kind::Usages => of_all(choice(arg, name, "RULE", &USAGES).default_value("hosts")),
+        Kind::Reading => of_all(choice(arg, name, "READING", &READINGS)),
         Kind::Colour => of_all(choice(arg, name, "WHEN", &COLOURS).default_value("auto")),
         Kind::Direction => choice(arg, name, "DIRECTION", &DIRECTIONS).default_value("input"),
         Kind::Host => choice(arg, name, "HOST", &HOSTS),

@@ -8,6 +8,7 @@ mod command;
 mod command_line;
 mod settings;
 
+use crate::arguments::REPLACED;
 use crate::command::Command;
 use crate::command_line::command_line;
 use crate::settings::settings_of;
@@ -80,8 +81,21 @@ fn answer<R: World>(rt: &R, is_terminal: bool) -> Result<Ending> {
                 return Ok(Ending::Done);
             }
             eprint!(rt; "{text}")?;
+            for (option, instead) in REPLACED {
+                if words.iter().any(|word| is_option(word, option)) {
+                    eprintln!(rt; "hid: {option} is no more: {instead}")?;
+                }
+            }
             Ok(Ending::Misused)
         }
+    }
+}
+
+/// Whether a word is this option, alone or with its value.
+fn is_option(word: &str, option: &str) -> bool {
+    match word.strip_prefix(option) {
+        Some(rest) => rest.is_empty() || rest.starts_with("="),
+        None => false,
     }
 }
 

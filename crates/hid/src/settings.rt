@@ -1,33 +1,20 @@
 //! The options of all commands, by the words of the command line.
 use clap::ArgMatches;
 use hid_given::Form;
-use hid_input::settings::{LIMIT, Settings};
-use hidreport::{ParseOptions, PushKeeps, UsagesBy};
+use hid_input::settings::{LIMIT, ReadAs, Settings};
+use hidreport::ParseOptions;
 
 /// What the words of a command line say; whether `auto` means colour is told.
 pub fn settings_of<'a>(matches: &ArgMatches<'a>, is_terminal: bool) -> Settings<'a> {
     let limit = matches.get_one::<usize>("limit").unwrap_or(LIMIT);
-    let keeps_all = matches.get_str("push") == Some("all");
-    let by_standard = matches.get_str("usages") == Some("standard");
+    let read_as = matches.get_str("as").and_then(read_as_named);
+    let reading = read_as.unwrap_or(ReadAs::Linux);
     Settings {
         form: matches.get_str("form").and_then(Form::named),
         report_form: matches.get_str("report-form").and_then(Form::named),
         device: matches.get_one::<usize>("device"),
-        parse: ParseOptions {
-            push_keeps: if keeps_all {
-                PushKeeps::All
-            } else {
-                PushKeeps::Globals
-            },
-            usages: if by_standard {
-                UsagesBy::Standard
-            } else {
-                UsagesBy::Hosts
-            },
-            limit: Some(limit),
-            longest: longest(limit),
-        },
-        is_lenient: matches.get_flag("lenient"),
+        parse: reading.parse_options(Some(limit), longest(limit)),
+        read_as,
         is_json: matches.get_flag("json"),
         is_coloured: match matches.get_str("color") {
             Some("always") => true,
@@ -35,6 +22,18 @@ pub fn settings_of<'a>(matches: &ArgMatches<'a>, is_terminal: bool) -> Settings<
             _ => is_terminal,
         },
         sysfs: matches.get_str("sysfs").unwrap_or("/sys"),
+    }
+}
+
+/// The words of the readings.
+pub static READINGS: [&str; 2] = ["linux", "standard"];
+
+/// The reading of a word.
+fn read_as_named(word: &str) -> Option<ReadAs> {
+    match word {
+        "linux" => Some(ReadAs::Linux),
+        "standard" => Some(ReadAs::Standard),
+        _ => None,
     }
 }
 

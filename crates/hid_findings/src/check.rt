@@ -1,7 +1,7 @@
 //! `hid check`: what is odd in a descriptor.
 use crate::finding::Finding;
-use crate::findings::findings;
-use crate::host_findings::Host;
+use crate::findings::{Checked, findings};
+use crate::host_findings::{Host, Verdict};
 use anyhow::{Result, bail};
 use hid_input::parsing::descriptor_within;
 use hid_input::settings::Settings;
@@ -30,12 +30,20 @@ struct OddObject<'a> {
     source: &'a str,
 }
 
+/// What a host does with a descriptor, as JSON.
+#[derive(Drop, Serialize)]
+struct VerdictObject<'a> {
+    host: &'a str,
+    is_taken: bool,
+    mended: usize,
+}
+
 impl<'a> Check<'a> {
     /// Shows each finding; something odd is refused.
     pub fn run<R: World>(&self, rt: &R, settings: &Settings) -> Result<Ending> {
         let given = descriptor_within(rt, settings, self.file)?;
-        let findings = checked(rt.alloc(), settings, given.descriptor(), self.host)?;
-        show_findings(rt, settings, &findings)
+        let found = checked(rt.alloc(), settings, given.descriptor(), self.host)?;
+        show_findings(rt, settings, &found)
     }
 }
 
@@ -45,7 +53,7 @@ fn checked(
     settings: &Settings,
     bytes: &[u8],
     host: Option<Host>,
-) -> Result<Vec<Finding>> {
+) -> Result<Checked> {
     let parsed = ReportDescriptor::try_from_with(alloc, bytes, settings.parse);
     if let Err(ParserError::OutOfMemory) = parsed {
         bail!("out of memory");
@@ -56,19 +64,48 @@ fn checked(
 fn show_findings<R: AllocGlobal + Print>(
     rt: &R,
     settings: &Settings,
-    findings: &[Finding],
+    found: &Checked,
 ) -> Result<Ending> {
     let mut text = String::new(rt.alloc());
-    for finding in findings {
+    for finding in found.findings.iter() {
         add_finding(&mut text, settings, finding)?;
         flush_piece(rt, &mut text)?;
     }
+    if let Some(verdict) = found.verdict {
+        add_verdict(&mut text, settings, verdict)?;
+    }
     flush(rt, &mut text)?;
-    Ok(if findings.is_empty() {
+    Ok(if found.findings.is_empty() {
         Ending::Done
     } else {
         Ending::Refused
     })
+}
+
+/// Appends the line of what Linux does with a descriptor.
+fn add_verdict(text: &mut String, settings: &Settings, verdict: Verdict) -> Result<()> {
+    let (is_taken, mended) = match verdict {
+        Verdict::Taken(mended) => (true, mended),
+        Verdict::Refused => (false, 0),
+    };
+    if settings.is_json {
+        let host = "linux";
+        return add_json(
+            text,
+            &VerdictObject {
+                host,
+                is_taken,
+                mended,
+            },
+        );
+    }
+    match (is_taken, mended) {
+        (false, _) => text.push_str("Linux refuses it\n")?,
+        (true, 0) => text.push_str("Linux takes it\n")?,
+        (true, 1) => text.push_str("Linux takes it, with 1 item mended\n")?,
+        (true, count) => writeln!(text, "Linux takes it, with {count} items mended")?,
+    }
+    Ok(())
 }
 
 /// Appends the line of a finding.

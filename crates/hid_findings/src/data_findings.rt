@@ -4,6 +4,7 @@ use crate::local_usages::LocalUsages;
 use hid_items::items::Globals;
 use hid_words::{add_usage_on_page, plural};
 use hidreport::Usage;
+use hidreport::hid::ItemFlags;
 use std::alloc::{AllocError, Global};
 use std::fmt::Write;
 
@@ -19,6 +20,8 @@ pub struct DataItem {
     pub offset: usize,
     /// Whether each field has a usage.
     pub is_variable: bool,
+    /// All its flags.
+    pub flags: ItemFlags,
     /// The globals in force.
     pub globals: Globals,
     /// The usages before it.
@@ -144,7 +147,7 @@ impl DataItem {
     }
 
     /// Whether there are usages of no vendor, the last one with a meaning, and no alternatives.
-    fn has_known_usages(&self) -> bool {
+    pub fn has_known_usages(&self) -> bool {
         let last = self.usages.last(self.globals.page);
         self.usages.count > 0
             && !self.usages.has_sets
@@ -154,7 +157,7 @@ impl DataItem {
 }
 
 /// Whether a usage is an axis or a wheel of Generic Desktop, X to Hat Switch.
-fn is_axis(usage: &Usage) -> bool {
+pub fn is_axis(usage: &Usage) -> bool {
     (0x1_0030..=0x1_0039).contains(&u32::from(usage))
 }
 

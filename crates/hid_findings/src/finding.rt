@@ -40,6 +40,10 @@ pub enum Source {
     Transactions,
     /// Axes of Generic Desktop.
     Axes,
+    /// Other usages of Generic Desktop.
+    Desktop,
+    /// Touch pads as Windows wants them.
+    TouchPads,
     /// Linux's parser.
     Linux,
     /// What Windows' parser says.
@@ -62,6 +66,8 @@ impl Source {
             Source::Reports => "USB HID 1.11, Section 8.4",
             Source::Transactions => "USB 2.0, Section 5.7.3",
             Source::Axes => "HID Usage Tables, Axis Usages",
+            Source::Desktop => "HID Usage Tables, Generic Desktop Page",
+            Source::TouchPads => "Windows Precision Touchpad",
             Source::Linux => "hid-core of Linux 6.12",
             Source::Windows => "Windows' hidpddi.h",
         }

@@ -1,15 +1,16 @@
 //! What is odd in a descriptor, and what the standard says.
 use crate::data_findings::{DataItem, tell_unit};
 use crate::finding::{Finding, Source, tell};
-use crate::host_findings::{Host, tell_host};
+use crate::host_findings::{Host, Verdict, tell_host};
 use crate::local_usages::LocalUsages;
+use crate::mistakes::tell_mistakes;
 use crate::other_usages::tell_other_usages;
 use crate::report_findings::tell_reports;
 use hid_input::settings::Settings;
 use hid_items::cut_data::cut_remark;
 use hid_items::item_lines::{offset_of, remark_of};
 use hid_items::items::{ItemCursor, ItemState, PlacedItem};
-use hidreport::hid::{CollectionItem, GlobalItem, ItemFlags, ItemType, MainDataItem, MainItem};
+use hidreport::hid::{CollectionItem, GlobalItem, ItemFlags, ItemType, MainItem};
 use hidreport::{ParserError, ReportDescriptor};
 use std::alloc::{AllocError, Global};
 
@@ -21,16 +22,26 @@ struct Watch {
     state: ItemState,
     usages: LocalUsages,
     told_unit: Option<u32>,
+    told_switches: Option<usize>,
 }
 
-/// All that is odd, in the order of the offsets; what is of no item comes last.
+/// What is odd in a descriptor.
+#[derive(Drop)]
+pub struct Checked {
+    /// All that is odd, in the order of the offsets; what is of no item comes last.
+    pub findings: Vec<Finding>,
+    /// What the host does with the descriptor, where that is known.
+    pub verdict: Option<Verdict>,
+}
+
+/// All that is odd, and what the host does.
 pub fn findings(
     alloc: Global,
     settings: &Settings,
     bytes: &[u8],
     parsed: &Result<ReportDescriptor, ParserError>,
     host: Option<Host>,
-) -> Result<Vec<Finding>, AllocError> {
+) -> Result<Checked, AllocError> {
     let mut watch = Watch::new(alloc);
     watch.pass_all(bytes)?;
     match parsed {
@@ -41,11 +52,12 @@ pub fn findings(
         Err(fault) => watch.tell_refusal(fault)?,
     }
     let mut findings = watch.findings;
-    if let Some(host) = host {
-        tell_host(bytes, parsed, host, &mut findings)?;
-    }
+    let verdict = match host {
+        Some(host) => tell_host(settings, bytes, parsed, host, &mut findings)?,
+        None => None,
+    };
     findings.sort_by_key(|it| it.offset.unwrap_or(usize::MAX))?;
-    Ok(findings)
+    Ok(Checked { findings, verdict })
 }
 
 impl Watch {
@@ -57,6 +69,7 @@ impl Watch {
             state: ItemState::new(alloc),
             usages: LocalUsages::new(),
             told_unit: None,
+            told_switches: None,
         }
     }
 
@@ -156,14 +169,17 @@ impl Watch {
         if flags.is_constant {
             return Ok(());
         }
+        let is_variable = flags.is_variable;
         let item = DataItem {
             alloc: self.alloc,
             offset,
-            is_variable: flags.is_variable,
+            is_variable,
+            flags,
             globals: self.state.globals,
             usages: self.usages,
         };
         item.tell(&mut self.findings)?;
+        tell_mistakes(&item, &mut self.told_switches, &mut self.findings)?;
         tell_unit(&mut self.findings, &item, &mut self.told_unit)
     }
 

@@ -2,15 +2,19 @@
 use crate::finding::{Finding, Source, tell};
 use crate::windows_reading::{refusal_remark, tell_windows};
 use crate::windows_refusal::WindowsRefusal;
-use hid_linux::linux_reading::{Doubt, LinuxReading};
+use hid_input::settings::Settings;
+use hid_linux::linux_reading::{Doubt, LeftOut, LinuxReading};
+use hid_output::add_bytes;
 use hid_report::add_title;
-use hidreport::{Direction, ParserError, RDescReport, Report, ReportDescriptor};
+use hidreport::{
+    Change, Direction, ParserError, RDescReport, Reason, Report, ReportDescriptor, repair,
+};
 use hidreport_linux::Unmapped;
 use std::alloc::AllocError;
-use std::fmt::Write;
 
-/// The most bits of a report without its id, as Linux counts them.
-const MOST_BITS: usize = 8 * (16_384 - 1);
+/// What Linux does with a Resolution Multiplier of the widest bounds.
+const OVERFLOW: &str =
+    "Linux divides -2147483648 by -1, which overflows, for a Resolution Multiplier of these bounds";
 
 /// The words of the hosts.
 pub static HOSTS: [&str; 2] = ["linux", "windows"];
@@ -35,39 +39,73 @@ impl Host {
     }
 }
 
-/// Notes what a host refuses in the items, and in the reports of a descriptor that is read.
+/// What a host does with a descriptor.
+#[derive(Clone, Copy, Debug, PartialEq, Eq)]
+pub enum Verdict {
+    /// It takes the descriptor, with so many items mended.
+    Taken(usize),
+    /// It refuses the descriptor.
+    Refused,
+}
+
+/// Notes what a host refuses or mends in a descriptor; answers what it does with it, where that is
+/// known.
 pub fn tell_host(
+    settings: &Settings,
     bytes: &[u8],
     parsed: &Result<ReportDescriptor, ParserError>,
     host: Host,
     findings: &mut Vec<Finding>,
-) -> Result<(), AllocError> {
-    match host {
-        Host::Linux => tell_linux(bytes, findings)?,
-        Host::Windows => tell_windows(bytes, findings)?,
+) -> Result<Option<Verdict>, AllocError> {
+    if host == Host::Linux {
+        return Ok(Some(tell_linux(settings, bytes, findings)?));
     }
+    tell_windows(bytes, findings)?;
     let Ok(descriptor) = parsed else {
-        return Ok(());
+        return Ok(None);
     };
     for direction in Direction::ALL {
         for report in descriptor.reports(direction) {
-            tell_report(direction, report, host, findings)?;
+            tell_report(direction, report, findings)?;
         }
     }
-    Ok(())
+    Ok(None)
 }
 
-/// Notes what is the matter for hid-core: the first doubt, and the first refusal.
-fn tell_linux(bytes: &[u8], findings: &mut Vec<Finding>) -> Result<(), AllocError> {
-    let reading = LinuxReading::of(*findings.allocator(), bytes)?;
+/// Notes what is the matter for hid-core: the first doubt, and the first refusal; or what it mends,
+/// and where it divides what overflows.
+fn tell_linux(
+    settings: &Settings,
+    bytes: &[u8],
+    findings: &mut Vec<Finding>,
+) -> Result<Verdict, AllocError> {
+    let alloc = *findings.allocator();
+    let reading = LinuxReading::of(alloc, bytes)?;
     if let Some(doubt) = reading.doubt
         && doubt.unmapped != Unmapped::Refused
     {
-        tell_doubt(findings, "Linux may find other usages: ", doubt)?;
+        tell_doubt(findings, "Linux may read it otherwise: ", doubt)?;
     }
-    match reading.refusal {
-        Some(refusal) => tell_doubt(findings, "Linux refuses it: ", refusal),
-        None => Ok(()),
+    if let Some(refusal) = reading.refusal {
+        tell_doubt(findings, "Linux refuses it: ", refusal)?;
+        return Ok(Verdict::Refused);
+    }
+    if let Some(LeftOut { offset, what }) = reading.left_out {
+        let remark = format!(in alloc; "Linux leaves out {what}")?;
+        tell(findings, Some(offset), &remark, Source::Linux)?;
+    }
+    if let Some(offset) = reading.overflow {
+        tell(findings, Some(offset), OVERFLOW, Source::Linux)?;
+    }
+    match repair(alloc, bytes, settings.repair()) {
+        Ok(repaired) => {
+            for change in repaired.changes.iter() {
+                tell_change(findings, change)?;
+            }
+            Ok(Verdict::Taken(repaired.changes.len()))
+        }
+        Err(ParserError::OutOfMemory) => Err(AllocError),
+        Err(_past_limit) => Ok(Verdict::Taken(0)),
     }
 }
 
@@ -77,31 +115,46 @@ fn tell_doubt(findings: &mut Vec<Finding>, before: &str, doubt: Doubt) -> Result
     tell(findings, Some(doubt.offset), &remark, Source::Linux)
 }
 
-/// Notes a report that is too long for Linux, or no whole number of bytes for Windows.
+/// Notes what Linux reads in the place of an item.
+fn tell_change(findings: &mut Vec<Finding>, change: &Change) -> Result<(), AllocError> {
+    let mut remark = String::from_str(*findings.allocator(), "Linux ")?;
+    if change.stands.is_empty() {
+        remark.push_str("leaves it out: ")?;
+    } else {
+        remark.push_str("reads it as ")?;
+        add_bytes(&mut remark, &change.stands)?;
+        remark.push_str(": ")?;
+    }
+    remark.push_str(why(change.reason))?;
+    tell(findings, Some(change.offset), &remark, Source::Linux)
+}
+
+/// Why Linux reads something else than what stands there.
+fn why(reason: Reason) -> &'static str {
+    match reason {
+        Reason::NoData => "the item has no data",
+        Reason::UnknownMainItem => "no main item has this tag",
+        Reason::EndedLocal => "it stands before what is left out",
+        Reason::NoUsage => "data without a usage is padding",
+        Reason::UnsignedMaximum => "a maximum has no sign where its minimum has none",
+        Reason::CutShort => "the item is cut short",
+    }
+}
+
+/// Notes a report that is no whole number of bytes, for Windows.
 fn tell_report(
     direction: Direction,
     report: &RDescReport,
-    host: Host,
     findings: &mut Vec<Finding>,
 ) -> Result<(), AllocError> {
+    if report.size_in_bits() % 8 == 0 {
+        return Ok(());
+    }
     let alloc = *findings.allocator();
     let mut remark = String::new(alloc);
     add_title(&mut remark, direction, report)?;
     remark.push_str(": ")?;
-    let id_bits = if report.report_id().is_some() { 8 } else { 0 };
-    let bits = report.size_in_bits();
-    if host == Host::Linux && bits.saturating_sub(id_bits) > MOST_BITS {
-        let most = MOST_BITS / 8;
-        write!(
-            remark,
-            "Linux refuses it: more than {most} bytes without the id"
-        )?;
-        return tell(findings, None, &remark, Source::Linux);
-    }
-    if host == Host::Windows && bits % 8 != 0 {
-        let refusal = refusal_remark(alloc, WindowsRefusal::Unaligned)?;
-        remark.push_str(refusal.as_str())?;
-        return tell(findings, None, &remark, Source::Windows);
-    }
-    Ok(())
+    let refusal = refusal_remark(alloc, WindowsRefusal::Unaligned)?;
+    remark.push_str(refusal.as_str())?;
+    tell(findings, None, &remark, Source::Windows)
 }

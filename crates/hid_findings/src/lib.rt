@@ -9,6 +9,7 @@ mod finding;
 mod findings;
 mod host_findings;
 mod local_usages;
+mod mistakes;
 mod other_usages;
 mod report_findings;
 mod windows_reading;

@@ -7,6 +7,13 @@ use std::alloc::AllocError;
 /// The most bytes of an interrupt transaction at full speed (USB 2.0, 5.7.3).
 const TRANSACTION: usize = 64;
 
+/// Usages of Digitizers.
+const TOUCH_PAD: u32 = 0x000d_0005;
+
+const CONTACT_ID: u32 = 0x000d_0051;
+
+const CONTACT_COUNT_MAXIMUM: u32 = 0x000d_0055;
+
 /// Notes what is odd in each report.
 pub fn tell_reports(
     descriptor: &ReportDescriptor,
@@ -24,7 +31,49 @@ pub fn tell_reports(
             }
         }
     }
-    Ok(())
+    tell_contacts(descriptor, findings)
+}
+
+/// Notes that a touch pad which names its contacts doesn't say how many it has.
+fn tell_contacts(
+    descriptor: &ReportDescriptor,
+    findings: &mut Vec<Finding>,
+) -> Result<(), AllocError> {
+    let mut is_touch_pad = false;
+    for report in descriptor.reports(Direction::Input) {
+        is_touch_pad = is_touch_pad || report.fields().iter().any(is_contact_of_pad);
+    }
+    let mut says_maximum = false;
+    for report in descriptor.reports(Direction::Feature) {
+        says_maximum = says_maximum || report.fields().iter().any(is_contact_maximum);
+    }
+    if !is_touch_pad || says_maximum {
+        return Ok(());
+    }
+    let remark = "a Touch Pad with contacts has no Feature for Contact Count Maximum";
+    tell(findings, None, remark, Source::TouchPads)
+}
+
+/// Whether a field is the id of a contact in a Touch Pad.
+fn is_contact_of_pad(field: &Field) -> bool {
+    let is_in_pad = match field.collections().first() {
+        Some(outermost) => outermost
+            .usages()
+            .iter()
+            .any(|usage| u32::from(usage) == TOUCH_PAD),
+        None => false,
+    };
+    is_in_pad && is_of(field, CONTACT_ID)
+}
+
+/// Whether a field is the most contacts that a device has.
+fn is_contact_maximum(field: &Field) -> bool {
+    is_of(field, CONTACT_COUNT_MAXIMUM)
+}
+
+/// Whether a field is of a usage.
+fn is_of(field: &Field, usage: u32) -> bool {
+    field.usages().iter().any(|own| u32::from(own) == usage)
 }
 
 /// Whether some report has an id.

@@ -4,7 +4,7 @@ use crate::finding::{Finding, Source, tell};
 use crate::local_usages::LocalUsages;
 use crate::windows_refusal::WindowsRefusal;
 use hid_items::items::{ItemCursor, ItemState, PlacedItem};
-use hidreport::hid::{GlobalItem, ItemFlags, ItemType, LocalItem, MainDataItem, MainItem};
+use hidreport::hid::{GlobalItem, ItemFlags, ItemType, LocalItem, MainItem};
 use std::alloc::{AllocError, Global};
 use std::fmt::Write;
 

@@ -252,7 +252,8 @@ impl OffsetLines {
     }
 
     /// Whether the line is missing that is the number of bytes alone: `hexdump` and `od` write it,
-    /// and without it only a line that isn't full shows where the bytes end.
+    /// and without it only a line that isn't full, with the characters of its bytes, shows where
+    /// these end.
     fn lacks_length(&self) -> bool {
         if self.has_length || self.has_colon || self.digits < 6 {
             return false;
@@ -262,7 +263,7 @@ impl OffsetLines {
         } else {
             self.first
         };
-        self.has_words() || self.last >= full
+        !self.has_characters || self.has_words() || self.last >= full
     }
 
     /// Takes the descriptor or the report.

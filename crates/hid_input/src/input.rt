@@ -1,13 +1,11 @@
 //! What is read: descriptors and reports, in the forms that people have them.
 
 mod machine;
-mod mending;
 mod named;
 mod stream;
 mod whole;
 
 pub use machine::{MachineDevice, folder_of, machine_devices};
-pub use mending::mend;
 pub use named::{
     bytes_named, descriptor_named, descriptors_named, given_beside, is_node, node_named,
     reports_named, text_named,

@@ -2,8 +2,10 @@
 //! Licence: MIT (LICENSE).
 #![tactic(auto)]
 
+mod advice;
 pub mod input;
 pub mod inputs;
+pub mod linux_read;
 pub mod parsing;
 pub mod reads;
 pub mod settings;

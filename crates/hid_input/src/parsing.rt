@@ -1,23 +1,22 @@
 //! Descriptors of inputs, parsed as the options say; a refusal says what helps.
+use crate::advice::past_limit;
 use crate::input::{descriptor_named, given_beside};
+use crate::linux_read::{LinuxRead, mended, read_by_linux};
 use crate::reads::Reads;
-use crate::settings::Settings;
+use crate::settings::{ReadAs, Settings};
 use anyhow::{Result, anyhow, bail};
 use hid_given::{Form, Given};
-use hidreport::{Direction, Outline, ParseOptions, ParserError, Report, ReportDescriptor, repair};
+use hidreport::{Direction, ParseOptions, ParserError, Report, ReportDescriptor};
 use std::alloc::Global;
 
-/// How often a limit is doubled to find one that is enough.
-const MOST_DOUBLED: usize = 4;
-
-/// The descriptor of an input, parsed.
+/// The descriptor of an input, read.
 pub fn descriptor_by<R: Reads>(
     rt: &R,
     settings: &Settings,
     name: &str,
 ) -> Result<ReportDescriptor> {
     let given = descriptor_named(rt, settings, name)?;
-    parsed(rt.alloc(), settings, given.descriptor())
+    read(rt, settings, name, given.descriptor())
 }
 
 /// The same of an input beside another one, and the input's form.
@@ -27,7 +26,7 @@ pub fn descriptor_beside<R: Reads>(
     name: &str,
 ) -> Result<(ReportDescriptor, Form)> {
     let given = given_beside(rt, settings, name)?;
-    let descriptor = parsed(rt.alloc(), settings, given.descriptor())?;
+    let descriptor = read(rt, settings, name, given.descriptor())?;
     Ok((descriptor, given.form))
 }
 
@@ -47,7 +46,31 @@ pub fn check_length(settings: &Settings, bytes: &[u8]) -> Result<()> {
     Ok(())
 }
 
-/// The descriptor, parsed; a refusal that an option mends or that a greater limit avoids says so.
+/// A descriptor, read as the options say; says on standard error what Linux mends in it.
+pub fn read<R: AllocGlobal + Eprint>(
+    rt: &R,
+    settings: &Settings,
+    name: &str,
+    bytes: &[u8],
+) -> Result<ReportDescriptor> {
+    if settings.reads_as_linux() {
+        let repaired = mended(rt, settings, name, bytes)?;
+        return parsed(rt.alloc(), settings, &repaired.bytes);
+    }
+    parsed(rt.alloc(), settings, bytes)
+}
+
+/// The same, of a device of the machine: without a word.
+pub fn read_silently(alloc: Global, settings: &Settings, bytes: &[u8]) -> Result<ReportDescriptor> {
+    if settings.reads_as_linux() {
+        let read = read_by_linux(alloc, settings, bytes)?;
+        return parsed(alloc, settings, &read.repaired.bytes);
+    }
+    parsed(alloc, settings, bytes)
+}
+
+/// A descriptor's bytes as they are, parsed; a refusal that a reading as Linux's or a greater limit
+/// avoids says so.
 pub fn parsed(alloc: Global, settings: &Settings, bytes: &[u8]) -> Result<ReportDescriptor> {
     match ReportDescriptor::try_from_with(alloc, bytes, settings.parse) {
         Ok(descriptor) => Ok(descriptor),
@@ -55,17 +78,18 @@ pub fn parsed(alloc: Global, settings: &Settings, bytes: &[u8]) -> Result<Report
     }
 }
 
-/// The descriptors of all devices, parsed, which share what may be listed.
-pub fn all_parsed(
-    alloc: Global,
+/// The descriptors of all devices, read, which share what may be listed.
+pub fn all_read<R: AllocGlobal + Eprint>(
+    rt: &R,
     settings: &Settings,
+    name: &str,
     given: &Given,
 ) -> Result<Vec<ReportDescriptor>> {
     let mut limit = settings.parse.limit;
-    let mut known = Vec::new(alloc);
+    let mut known = Vec::new(rt.alloc());
     for device in given.devices.iter() {
         let within = limited(settings, limit);
-        let descriptor = parsed(alloc, &within, &device.descriptor)?;
+        let descriptor = read(rt, &within, name, &device.descriptor)?;
         let listed = listed_by(&descriptor);
         limit = limit.map(|limit| limit.saturating_sub(listed));
         known.push(descriptor)?;
@@ -84,7 +108,7 @@ fn limited<'a>(settings: &Settings<'a>, limit: Option<usize>) -> Settings<'a> {
         report_form: settings.report_form,
         device: settings.device,
         parse,
-        is_lenient: settings.is_lenient,
+        read_as: settings.read_as,
         is_json: settings.is_json,
         is_coloured: settings.is_coloured,
         sysfs: settings.sysfs,
@@ -111,38 +135,11 @@ pub fn with_advice(
     bytes: &[u8],
     fault: ParserError,
 ) -> anyhow::Error {
-    match fault {
-        ParserError::BudgetExceeded { .. } => match enough(alloc, settings, bytes) {
-            Some((limit, true)) => anyhow!("{fault}: --limit {limit} is enough"),
-            Some((limit, false)) => anyhow!("{fault}: --limit {limit} isn't enough either"),
-            None => fault.into(),
-        },
-        ParserError::InvalidData { .. } if !settings.is_lenient => {
-            match repair(alloc, bytes, settings.repair()) {
-                Ok(_repaired) => anyhow!("{fault}: --lenient mends it"),
-                Err(_fault) => fault.into(),
-            }
-        }
-        fault => fault.into(),
+    if let ParserError::InvalidData { .. } = &fault
+        && settings.read_as != Some(ReadAs::Linux)
+        && LinuxRead::of(alloc, settings, bytes).is_ok()
+    {
+        return anyhow!("{fault}: --as linux reads it");
     }
-}
-
-/// A limit under which a descriptor is read, up to a power of two, and whether it is; the last that
-/// was tried where none is.
-fn enough(alloc: Global, settings: &Settings, bytes: &[u8]) -> Option<(usize, bool)> {
-    let mut limit = settings.parse.limit?.max(bytes.len()).max(1);
-    for _ in 0..MOST_DOUBLED {
-        limit = limit.checked_mul(2)?;
-        let options = ParseOptions {
-            limit: Some(limit),
-            longest: None,
-            ..settings.parse
-        };
-        match Outline::try_from_with(alloc, bytes, options) {
-            Err(ParserError::BudgetExceeded { .. }) => {}
-            Ok(_outline) => return Some((limit, true)),
-            Err(_fault) => return None,
-        }
-    }
-    Some((limit, false))
+    past_limit(alloc, settings, bytes, fault)
 }

@@ -11,6 +11,32 @@ pub const LONGEST_LINE: usize = 1024 * 1024;
 /// The most that a descriptor may list, where nothing else is said.
 pub const LIMIT: usize = 131_072;
 
+/// Whose reading of descriptors is meant.
+#[derive(Clone, Copy, Debug, PartialEq, Eq)]
+pub enum ReadAs {
+    /// Linux's: mended, a Push keeps globals, and usages are found as hosts find them.
+    Linux,
+
+    /// That of the standard, by its letter.
+    Standard,
+}
+
+impl ReadAs {
+    /// How a descriptor is parsed that is read so, under these bounds.
+    pub fn parse_options(self, limit: Option<usize>, longest: Option<usize>) -> ParseOptions {
+        let (push_keeps, usages) = match self {
+            ReadAs::Linux => (PushKeeps::Globals, UsagesBy::Hosts),
+            ReadAs::Standard => (PushKeeps::All, UsagesBy::Standard),
+        };
+        ParseOptions {
+            push_keeps,
+            usages,
+            limit,
+            longest,
+        }
+    }
+}
+
 /// The options of all commands.
 #[derive(Clone, Copy)]
 pub struct Settings<'a> {
@@ -20,10 +46,10 @@ pub struct Settings<'a> {
     pub report_form: Option<Form>,
     /// The device that is meant, of an input that has several.
     pub device: Option<usize>,
-    /// How descriptors are read.
+    /// How descriptors are parsed.
     pub parse: ParseOptions,
-    /// Whether they are mended first.
-    pub is_lenient: bool,
+    /// Whose reading of descriptors is meant, where it was said.
+    pub read_as: Option<ReadAs>,
     /// Whether answers are JSON.
     pub is_json: bool,
     /// Whether names are shown in colour.
@@ -33,18 +59,24 @@ pub struct Settings<'a> {
 }
 
 impl Settings<'_> {
-    /// How a descriptor is mended: all that can be.
+    /// How a descriptor is parsed that is read so.
+    pub fn parse_as(&self, reading: ReadAs) -> ParseOptions {
+        reading.parse_options(self.parse.limit, self.parse.longest)
+    }
+
+    /// How a descriptor is mended that Linux takes.
     pub fn repair(&self) -> RepairOptions {
         RepairOptions {
-            parse: self.parse,
-            leave_out_cut_short: true,
+            parse: self.parse_as(ReadAs::Linux),
+            leave_out_cut_short: false,
             unsigned_maxima: true,
         }
     }
 
-    /// Whether descriptors are read as hosts do.
-    pub fn reads_as_hosts(&self) -> bool {
-        self.parse.usages == UsagesBy::Hosts && self.parse.push_keeps == PushKeeps::Globals
+    /// Whether reports and fields are those that Linux reads, which is so unless the standard's are
+    /// asked for.
+    pub fn reads_as_linux(&self) -> bool {
+        self.read_as != Some(ReadAs::Standard)
     }
 
     /// The most bytes of a descriptor, and of a report that is written.

@@ -2,7 +2,10 @@
 //! Licence: MIT (LICENSE).
 #![tactic(auto)]
 
+mod doubt;
 mod item_number;
+mod linux_globals;
+mod linux_locals;
 pub mod linux_reading;
 mod linux_reports;
 mod linux_usages;

@@ -1,8 +1,10 @@
 //! How Linux's hid-core reads a descriptor that `hid` reads, too: what it refuses, where it may
 //! find other usages, which application a report has, and which driver takes the device.
+pub use crate::doubt::{Doubt, LeftOut};
 use crate::item_number::{signed, size_of, unsigned};
+use crate::linux_globals::LinuxGlobals;
+use crate::linux_locals::LinuxLocals;
 use crate::linux_reports::LinuxReports;
-use crate::linux_usages::LinuxUsages;
 use hidreport::Direction;
 use hidreport_linux::{Driver, Unmapped, is_input_application};
 use std::alloc::{AllocError, Global};
@@ -13,44 +15,29 @@ const MOST_ELEMENTS: u32 = 12_288;
 /// The most bits of an element.
 const MOST_BITS: u32 = 256;
 
+/// The most bits of a report without its id: of 16,384 bytes one may be the id's.
+const MOST_REPORT_BITS: u32 = 8 * (16_384 - 1);
+
+/// The most items of a report that name usages.
+const MOST_ITEMS: u32 = 256;
+
 /// The most Pushes that wait for their Pops.
 const MOST_PUSHES: usize = 4;
 
-/// Why no codes are known of a descriptor.
-#[derive(Clone, Copy, Debug, PartialEq, Eq)]
-pub struct Doubt {
-    /// The offset of the item.
-    pub offset: usize,
-    /// Whether Linux refuses it, or may find other usages.
-    pub unmapped: Unmapped,
-    /// What is the matter.
-    pub reason: &'static str,
-}
-
-/// The globals that matter, as hid-core keeps them.
-#[derive(Clone, Copy)]
-struct Globals {
-    minimum: i32,
-    maximum: i32,
-    shown_maximum: i32,
-    id: u32,
-    page: u32,
-}
+/// The usage by which the numbers of a wheel are multiplied.
+const RESOLUTION_MULTIPLIER: u32 = 0x0001_0048;
 
 /// What hid-core has read so far.
 #[derive(Drop)]
 pub struct LinuxReading {
-    globals: Globals,
-    pushed: Vec<Globals>,
+    globals: LinuxGlobals,
+    pushed: Vec<LinuxGlobals>,
     /// For each open collection the application in force in it, 0 where there is none.
     open: Vec<u32>,
     reports: LinuxReports,
-    usages: LinuxUsages,
-    usage_minimum: u32,
-    is_in_set: bool,
+    locals: LinuxLocals,
     has_ids: bool,
     lacks_ids: bool,
-    sets: usize,
     /// How many applications there are.
     pub applications: usize,
     /// Whether a collection makes it one of an input device.
@@ -61,33 +48,33 @@ pub struct LinuxReading {
     pub doubt: Option<Doubt>,
     /// The first for which it is refused.
     pub refusal: Option<Doubt>,
+    /// The first that is left out.
+    pub left_out: Option<LeftOut>,
+    /// Whether an item without bits names usages, which have codes nevertheless.
+    pub has_items_without_bits: bool,
+    /// The offset of the first Resolution Multiplier at which hid-core divides -2147483648 by -1.
+    pub overflow: Option<usize>,
 }
 
 impl LinuxReading {
     /// Reads a descriptor.
     pub fn of(alloc: Global, bytes: &[u8]) -> Result<LinuxReading, AllocError> {
         let mut reading = LinuxReading {
-            globals: Globals {
-                minimum: 0,
-                maximum: 0,
-                shown_maximum: 0,
-                id: 0,
-                page: 0,
-            },
+            globals: LinuxGlobals::none(),
             pushed: Vec::new(alloc),
             open: Vec::new(alloc),
             reports: LinuxReports::new(alloc)?,
-            usages: LinuxUsages::new(alloc),
-            usage_minimum: 0,
-            is_in_set: false,
+            locals: LinuxLocals::new(alloc),
             has_ids: false,
             lacks_ids: false,
-            sets: 0,
             applications: 0,
             has_input: false,
             driver: None,
             doubt: None,
             refusal: None,
+            left_out: None,
+            has_items_without_bits: false,
+            overflow: None,
         };
         reading.pass_all(bytes)?;
         Ok(reading)
@@ -123,6 +110,9 @@ impl LinuxReading {
             self.pass(offset, *head, data)?;
             rest = behind;
         }
+        if bytes.is_empty() {
+            self.refuse(0, "no item");
+        }
         self.end(bytes.len());
         Ok(())
     }
@@ -146,6 +136,13 @@ impl LinuxReading {
         self.tell(offset, Unmapped::Refused, reason);
     }
 
+    /// Keeps what is left out, if it is the first.
+    fn leave_out(&mut self, offset: usize, what: &'static str) {
+        if self.left_out.is_none() {
+            self.left_out = Some(LeftOut { offset, what });
+        }
+    }
+
     /// Goes over an item.
     fn pass(&mut self, offset: usize, head: u8, data: &[u8]) -> Result<(), AllocError> {
         if head >= 0xf0 {
@@ -157,14 +154,14 @@ impl LinuxReading {
             0xa4 => self.push(offset)?,
             0xb4 => self.pop(offset),
             0x14 => self.globals.minimum = signed(data),
-            0x24 => self.pass_maximum(data),
+            0x24 => self.globals.pass_maximum(data),
             0xa0 => self.open(number & 0xff)?,
             0xc0 => self.close(offset),
             0x80 => self.pass_data(offset, Direction::Input, number),
             0x90 => self.pass_data(offset, Direction::Output, number),
             0xb0 => self.pass_data(offset, Direction::Feature, number),
             head => match head & 0x0c {
-                0x00 => self.end_locals(),
+                0x00 => self.locals.clear(),
                 0x04 => self.pass_global(offset, head, number),
                 0x08 => self.pass_local(offset, head, number, data.len())?,
                 _ => {}
@@ -189,8 +186,8 @@ impl LinuxReading {
 
     /// A collection: what it is of is the first usage.
     fn open(&mut self, kind: u32) -> Result<(), AllocError> {
-        self.usages.complete(self.globals.page);
-        let usage = self.usages.first();
+        self.locals.usages.complete(self.globals.page);
+        let usage = self.locals.usages.first();
         if kind == 1 {
             self.applications = self.applications.saturating_add(1);
         }
@@ -203,7 +200,7 @@ impl LinuxReading {
         } else {
             self.application_in_force()
         };
-        self.end_locals();
+        self.locals.clear();
         Ok(self.open.push(application)?)
     }
 
@@ -218,7 +215,7 @@ impl LinuxReading {
         if kind <= 1 && self.globals.page == 0x20 {
             self.driver = Some(Driver::SensorHub);
         }
-        if self.globals.page == 0xffd1 && self.usages.have(0xffd1_0001) {
+        if self.globals.page == 0xffd1 && self.locals.usages.have(0xffd1_0001) {
             self.driver = None;
         }
     }
@@ -227,32 +224,17 @@ impl LinuxReading {
         if self.open.pop().is_none() {
             self.refuse(offset, "an End Collection without a collection");
         }
-        self.end_locals();
-    }
-
-    fn end_locals(&mut self) {
-        self.usages.clear();
-        self.usage_minimum = 0;
-        self.is_in_set = false;
-        self.sets = 0;
-    }
-
-    /// A Logical Maximum has no sign where the minimum has none.
-    fn pass_maximum(&mut self, data: &[u8]) {
-        self.globals.shown_maximum = signed(data);
-        self.globals.maximum = if self.globals.minimum < 0 {
-            signed(data)
-        } else {
-            unsigned(data).cast_signed()
-        };
+        self.locals.clear();
     }
 
     fn pass_global(&mut self, offset: usize, head: u8, number: u32) {
         match head {
-            0x04 if number > 0xffff => self.doubt_usages(offset, "a page of more than 16 bits"),
+            0x04 if number > 0xffff => self.doubt_at(offset, "a page of more than 16 bits"),
             0x04 => self.globals.page = number,
             0x74 if number > MOST_BITS => self.refuse(offset, "a size of more than 256 bits"),
+            0x74 => self.globals.size = number,
             0x94 if number > MOST_ELEMENTS => self.refuse(offset, "a count of more than 12288"),
+            0x94 => self.globals.count = number,
             0x84 if number == 0 || number > 0xff => self.refuse(offset, "a report id that is none"),
             0x84 => self.globals.id = number,
             0xc4 | 0xd4 | 0xe4 => self.refuse(offset, "a global item that is none"),
@@ -260,11 +242,11 @@ impl LinuxReading {
         }
     }
 
-    fn doubt_usages(&mut self, offset: usize, reason: &'static str) {
+    fn doubt_at(&mut self, offset: usize, reason: &'static str) {
         self.tell(offset, Unmapped::NotKnown, reason);
     }
 
-    /// A local item; usages of sets behind the first are left out.
+    /// A local item.
     fn pass_local(
         &mut self,
         offset: usize,
@@ -272,100 +254,69 @@ impl LinuxReading {
         number: u32,
         size: usize,
     ) -> Result<(), AllocError> {
-        if head == 0xa8 {
-            self.pass_delimiter(offset, number != 0);
-            return Ok(());
+        let told = self.locals.pass(head, number, size, self.globals.page)?;
+        if let Some(reason) = told.doubt {
+            self.doubt_at(offset, reason);
         }
-        if self.sets > 1 {
-            return Ok(());
+        if let Some(reason) = told.refusal {
+            self.refuse(offset, reason);
         }
-        match head {
-            0x08 => self.pass_usages(offset, number, 1, size)?,
-            0x18 => self.usage_minimum = number,
-            0x28 if number < self.usage_minimum => {
-                self.doubt_usages(offset, "a Usage Maximum below its minimum");
-            }
-            0x28 => {
-                if size == 4 && number < 0x1_0000 {
-                    self.doubt_usages(offset, "a Usage Maximum of four bytes without a page");
-                }
-                let first = self.usage_minimum;
-                let count = number.saturating_sub(first).saturating_add(1);
-                self.pass_usages(offset, first, count, size)?;
-            }
-            _ => {}
+        if told.is_cut {
+            self.leave_out(offset, "usages past the first 12288 of an item");
         }
         Ok(())
-    }
-
-    /// Usages from one on; those behind the most are left out, and none may come behind these.
-    fn pass_usages(
-        &mut self,
-        offset: usize,
-        first: u32,
-        count: u32,
-        size: usize,
-    ) -> Result<(), AllocError> {
-        if self.usages.are_full() {
-            self.doubt_usages(offset, "usages behind the first 12288");
-        }
-        let page = if size > 2 {
-            None
-        } else {
-            Some(self.globals.page)
-        };
-        self.usages.add(first, count, page)
-    }
-
-    fn pass_delimiter(&mut self, offset: usize, opens: bool) {
-        if opens == self.is_in_set {
-            self.refuse(offset, "a Delimiter within a set, or that ends none");
-        }
-        self.is_in_set = opens;
-        if opens {
-            self.sets = self.sets.saturating_add(1);
-        }
     }
 
     /// An Input, Output or Feature: its report is there from now on, whatever else it says.
     fn pass_data(&mut self, offset: usize, direction: Direction, flags: u32) {
         let application = self.application_in_force();
-        let has_usages = !self.usages.are_none();
-        self.reports
+        let has_usages = !self.locals.usages.are_none();
+        let items = self
+            .reports
             .pass(direction, self.globals.id, application, has_usages);
-        self.usages.complete(self.globals.page);
+        if items > MOST_ITEMS {
+            self.leave_out(offset, "items past the first 256 of a report");
+        }
+        self.locals.usages.complete(self.globals.page);
         let has_values = direction == Direction::Input && flags & 1 == 0;
-        if has_values && self.usages.have(0x000d_0051) {
+        if has_values && self.locals.usages.have(0x000d_0051) {
             self.driver = Some(Driver::Multitouch);
         }
+        if has_usages && self.globals.count > 0 {
+            self.pass_elements(offset, direction);
+        }
         self.pass_bounds(offset);
-        self.end_locals();
+        let bits = self.globals.size.saturating_mul(self.globals.count);
+        if self.reports.add_bits(direction, self.globals.id, bits) > MOST_REPORT_BITS {
+            self.refuse(offset, "a report of more than 16383 bytes");
+        }
+        self.locals.clear();
+    }
+
+    /// The elements of such an item that names usages. hid-core divides 0 less the minimum of a
+    /// multiplier by the span of its bounds, in 32 bits each.
+    fn pass_elements(&mut self, offset: usize, direction: Direction) {
+        if self.globals.size == 0 {
+            self.has_items_without_bits = true;
+        }
+        let is_multiplier = direction == Direction::Feature
+            && self.locals.usages.have(RESOLUTION_MULTIPLIER);
+        let are_widest = self.globals.minimum == i32::MIN && self.globals.maximum == i32::MAX;
+        if is_multiplier && are_widest && self.overflow.is_none() {
+            self.overflow = Some(offset);
+        }
     }
 
     /// The bounds of such an item, and whether its report has an id.
     fn pass_bounds(&mut self, offset: usize) {
-        let Globals {
-            minimum,
-            maximum,
-            shown_maximum,
-            id,
-            ..
-        } = self.globals;
-        let is_below = if minimum < 0 {
-            maximum < minimum
-        } else {
-            maximum.cast_unsigned() < minimum.cast_unsigned()
-        };
-        if is_below {
+        if self.globals.are_below() {
             self.refuse(offset, "a Logical Maximum below its minimum");
         }
-        if maximum != shown_maximum && shown_maximum >= minimum {
-            self.doubt_usages(offset, "a Logical Maximum that was set before its minimum");
-        }
+        let id = self.globals.id;
         self.has_ids = self.has_ids || id != 0;
         self.lacks_ids = self.lacks_ids || id == 0;
         if self.has_ids && self.lacks_ids {
-            self.doubt_usages(offset, "a report without an id beside others");
+            self.doubt_at(offset, "a report without an id beside others");
         }
     }
 
@@ -374,7 +325,7 @@ impl LinuxReading {
         if !self.open.is_empty() {
             self.refuse(offset, "a collection that isn't closed");
         }
-        if self.is_in_set {
+        if self.locals.is_in_set {
             self.refuse(offset, "a set of usages that isn't closed");
         }
     }

@@ -28,9 +28,9 @@ impl LinuxUsages {
         }
     }
 
-    /// Whether there are as many as are kept, or more were named.
-    pub(crate) fn are_full(&self) -> bool {
-        self.count >= MOST_USAGES
+    /// How many there are.
+    pub(crate) fn count(&self) -> u32 {
+        self.count
     }
 
     /// Whether there are none.
@@ -44,22 +44,17 @@ impl LinuxUsages {
         self.count = 0;
     }
 
-    /// Adds so many from one on, on this page where they have none of their own; those behind the
-    /// most are left out.
+    /// Adds so many from one on, on this page where they have none of their own.
     pub(crate) fn add(
         &mut self,
         first: u32,
         count: u32,
         page: Option<u32>,
     ) -> Result<(), AllocError> {
-        let kept = count.min(MOST_USAGES.saturating_sub(self.count));
         self.count = self.count.saturating_add(count);
-        if kept == 0 {
-            return Ok(());
-        }
         let named = Named {
             first,
-            last: first.saturating_add(kept.saturating_sub(1)),
+            last: first.saturating_add(count.saturating_sub(1)),
             has_page: page.is_none(),
         };
         Ok(

@@ -1,7 +1,7 @@
 //! What Linux makes of a field: event codes in words and as JSON.
 use hid_words::{add_spaces, add_usage};
 use hidreport::{Field, Usage};
-use hidreport_linux::{Axis, Event, EventType, InputDevices, Item, Unmapped};
+use hidreport_linux::{Axis, Event, EventCode, InputDevices, Item, Role, Unmapped};
 use serde::Serialize;
 use std::alloc::{AllocError, Global};
 use std::fmt::Write;
@@ -12,23 +12,33 @@ use std::fmt::Write;
 pub struct Answered {
     first: Usage,
     last: Usage,
-    answer: Result<Event, Unmapped>,
+    answer: Result<GivenCode, Unmapped>,
 }
 
-/// What Linux gives usages of an item, in their order.
+/// An event with what the other usages of the descriptor leave it.
+#[derive(Clone, Copy, Drop)]
+struct GivenCode {
+    code: EventCode,
+    /// What else it does, if the codes beside it are its own.
+    role: Role,
+    axis: Option<Axis>,
+}
+
+/// What Linux gives usages of an item, in their order; `all` are the same input devices behind all
+/// usages.
 pub fn answers_of(
     alloc: Global,
     devices: &mut InputDevices,
+    all: &InputDevices,
     item: &mut Item,
     usages: &[Usage],
 ) -> Result<Vec<Answered>, AllocError> {
     let mut answers: Vec<Answered> = Vec::new(alloc);
     for usage in usages {
-        let answer = devices.event(item, *usage);
         let next = Answered {
             first: *usage,
             last: *usage,
-            answer,
+            answer: given(all, devices.event(item, *usage)),
         };
         match answers.last_mut() {
             Some(before) if before.goes_on(&next) => before.last = *usage,
@@ -36,6 +46,27 @@ pub fn answers_of(
         }
     }
     Ok(answers)
+}
+
+/// What an event has behind all usages.
+fn given(all: &InputDevices, answer: Result<Event, Unmapped>) -> Result<GivenCode, Unmapped> {
+    match answer {
+        Ok(event) => Ok(GivenCode {
+            code: event.code,
+            role: role_in(all, &event),
+            axis: all.axis(&event),
+        }),
+        Err(reason) => Err(reason),
+    }
+}
+
+/// The role of an event, if it has the codes beside it.
+fn role_in(all: &InputDevices, event: &Event) -> Role {
+    if all.beside(event).is_empty() {
+        Role::Plain
+    } else {
+        event.role
+    }
 }
 
 impl Answered {
@@ -89,24 +120,21 @@ pub fn add_lines(text: &mut String, answers: &[Answered], indent: usize) -> Resu
 }
 
 /// Appends a code with all that is known of it, or why there is none.
-fn add_answer(text: &mut String, answer: Result<Event, Unmapped>) -> Result<(), AllocError> {
+fn add_answer(text: &mut String, answer: Result<GivenCode, Unmapped>) -> Result<(), AllocError> {
     match answer {
-        Ok(event) => add_event(text, &event),
+        Ok(given) => add_given(text, &given),
         Err(reason) => write!(text, " -> none: {reason}"),
     }
 }
 
-fn add_event(text: &mut String, event: &Event) -> Result<(), AllocError> {
-    let code = event.code;
+fn add_given(text: &mut String, given: &GivenCode) -> Result<(), AllocError> {
+    let code = given.code;
     write!(text, " -> {code}")?;
-    for beside in event.role.beside() {
+    for beside in given.role.beside() {
         write!(text, " {beside}")?;
     }
-    match event.axis {
+    match given.axis {
         Some(axis) => add_axis(text, &axis),
-        None if event.code.event_type == EventType::Absolute => {
-            text.push_str(" (bounds not known without --lenient)")
-        }
         None => Ok(()),
     }
 }
@@ -177,23 +205,23 @@ fn object_of(alloc: Global, answered: &Answered) -> Result<AnswerObject, AllocEr
         none: None,
     };
     match answered.answer {
-        Ok(event) => object.add_event(&event)?,
+        Ok(given) => object.add_given(&given)?,
         Err(reason) => object.none = Some(reason.reason()),
     }
     Ok(object)
 }
 
 impl AnswerObject {
-    fn add_event(&mut self, event: &Event) -> Result<(), AllocError> {
-        self.event_type = Some(event.code.event_type.name());
-        self.code = Some(event.code.number);
-        self.name = event.code.name();
-        for beside in event.role.beside() {
+    fn add_given(&mut self, given: &GivenCode) -> Result<(), AllocError> {
+        self.event_type = Some(given.code.event_type.name());
+        self.code = Some(given.code.number);
+        self.name = given.code.name();
+        for beside in given.role.beside() {
             if let Some(name) = beside.name() {
                 self.beside.push(name)?;
             }
         }
-        self.axis = event.axis.map(axis_object);
+        self.axis = given.axis.map(axis_object);
         Ok(())
     }
 }

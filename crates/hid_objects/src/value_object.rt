@@ -105,7 +105,10 @@ fn add_variable(
         name: name_of(*text.allocator(), field.usage)?,
         usage: u32::from(field.usage),
         value,
-        is_outside: is_outside(field, value.unwrap_or(0)),
+        is_outside: match value {
+            Some(value) => is_outside(field, value),
+            None => false,
+        },
         physical: physical_of(field, value),
     };
     add_json(text, &object)

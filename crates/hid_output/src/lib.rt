@@ -73,11 +73,28 @@ pub fn digits_of(alloc: Global, bytes: &[u8]) -> Result<String, AllocError> {
     Ok(digits)
 }
 
-/// Appends a value of JSON as a line.
+/// Appends a value of JSON as a line; what a terminal may not be given is written as `\u....`.
 pub fn add_json<T: Serialize>(text: &mut String, value: &T) -> Result<()> {
     let line = serde_json::to_string(*text.allocator(), value)?;
-    text.push_str(line.as_str())?;
-    text.push_str("\n")?;
+    if line.chars().all(is_plain) {
+        text.push_str(line.as_str())?;
+    } else {
+        add_escaped_json(text, line.as_str())?;
+    }
+    Ok(text.push_str("\n")?)
+}
+
+/// Appends JSON whose strings have letters that a terminal may not be given: they are all below
+/// 65,536, so four digits write them.
+fn add_escaped_json(text: &mut String, line: &str) -> Result<(), AllocError> {
+    for letter in line.chars() {
+        if is_plain(letter) {
+            text.push(letter)?;
+        } else {
+            let number = u32::from(letter);
+            write!(text, "\\u{number:04x}")?;
+        }
+    }
     Ok(())
 }
 

@@ -42,7 +42,7 @@ function passGlobal(state, item) {
     const kept = state.pushed.pop();
     if (kept === undefined) return;
     state.globals = kept.globals;
-    if (device.keeps_all) state.locals = kept.locals;
+    if (device.by_standard) state.locals = kept.locals;
   } else {
     state.globals.set(item.tag, item);
   }

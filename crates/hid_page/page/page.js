@@ -22,9 +22,7 @@ function factsOf() {
 // What has to be known of how the descriptor was read.
 function readings() {
   const said = [];
-  if (device.is_lenient) said.push('The descriptor was mended first, where Linux mends it.');
-  if (device.by_standard) said.push('Usages are found by the letter of the standard.');
-  if (device.keeps_all) said.push('A Push keeps all that is in force, not globals alone.');
+  if (device.by_standard) said.push('Read by the letter of the standard, not as Linux reads it.');
   return said.concat(notes.map((note) => plain(note.note)));
 }
 

@@ -5,7 +5,7 @@ use hid_input::settings::Settings;
 use hid_items::item_lines::{offset_of, remark_of};
 use hid_output::html::add_html;
 use hid_output::{add_json, escaped};
-use hidreport::{ParserError, PushKeeps, UsagesBy};
+use hidreport::ParserError;
 use serde::Serialize;
 use std::alloc::AllocError;
 
@@ -17,9 +17,7 @@ struct DeviceObject<'a> {
     name: Option<&'a str>,
     ids: Option<&'a str>,
     bytes: usize,
-    keeps_all: bool,
     by_standard: bool,
-    is_lenient: bool,
 }
 
 /// Why the descriptor is refused, as JSON.
@@ -42,9 +40,7 @@ pub fn add_device_object(
         name: name_of(given),
         ids: ids_of(given),
         bytes: given.descriptor().len(),
-        keeps_all: settings.parse.push_keeps == PushKeeps::All,
-        by_standard: settings.parse.usages == UsagesBy::Standard,
-        is_lenient: settings.is_lenient,
+        by_standard: !settings.reads_as_linux(),
     };
     add_json(lines, &object)
 }

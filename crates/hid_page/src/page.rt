@@ -9,13 +9,15 @@ use crate::shell::{AFTER_DATA, BEFORE_DATA, BEFORE_HEADING, BEFORE_TEXT, BEFORE_
 use anyhow::{Result, bail};
 use hid_given::Given;
 use hid_input::inputs::Inputs;
+use hid_input::linux_read::{LinuxRead, Unread, refused};
 use hid_input::parsing::{descriptor_within, with_advice};
 use hid_input::settings::Settings;
 use hid_input::world::World;
+use hid_linux::linux_reading::Doubt;
 use hid_output::ending::Ending;
 use hid_output::flush;
 use hidreport::{ParserError, ReportDescriptor};
-use std::alloc::Global;
+use std::alloc::{AllocError, Global};
 
 /// Writes a page of HTML.
 #[derive(Drop)]
@@ -29,16 +31,58 @@ pub struct Page<'a> {
 impl<'a> Page<'a> {
     /// Writes the page; a descriptor that can't be read is refused behind it.
     pub fn run<R: World>(&self, rt: &R, settings: &Settings) -> Result<Ending> {
-        let given = descriptor_within(rt, settings, self.inputs.file)?;
-        let bytes = given.descriptor();
-        match ReportDescriptor::try_from_with(rt.alloc(), bytes, settings.parse) {
-            Ok(descriptor) => self.show_read(rt, settings, &given, &descriptor),
-            Err(ParserError::OutOfMemory) => bail!("out of memory"),
-            Err(fault) => {
-                self.show_refused(rt, settings, &given, &fault)?;
-                Err(with_advice(rt.alloc(), settings, bytes, fault))
+        let mut given = descriptor_within(rt, settings, self.inputs.file)?;
+        if settings.reads_as_linux() {
+            match LinuxRead::of(rt.alloc(), settings, given.descriptor()) {
+                Ok(read) => self.mend(rt, &mut given, read)?,
+                Err(Unread::Refused(refusal)) => {
+                    let fault = fault_of(rt.alloc(), refusal)?;
+                    self.show_refused(rt, settings, &given, &fault)?;
+                    return Err(refused(rt.alloc(), settings, given.descriptor(), refusal));
+                }
+                Err(Unread::Fault(fault)) => return self.show_fault(rt, settings, &given, fault),
             }
         }
+        match ReportDescriptor::try_from_with(rt.alloc(), given.descriptor(), settings.parse) {
+            Ok(descriptor) => self.show_read(rt, settings, &given, &descriptor),
+            Err(fault) => self.show_fault(rt, settings, &given, fault),
+        }
+    }
+
+    /// Puts the descriptor that Linux reads in the place of the given one.
+    fn mend<R: AllocGlobal + Eprint>(
+        &self,
+        rt: &R,
+        given: &mut Given,
+        read: LinuxRead,
+    ) -> Result<()> {
+        read.tell_mended(rt, self.inputs.file)?;
+        read.tell_doubt(rt, self.inputs.file)?;
+        let count = read.repaired.changes.len();
+        if count > 0 {
+            let items = if count == 1 { "item is" } else { "items are" };
+            let note = format!(in rt.alloc(); "{count} {items} mended, as Linux reads it")?;
+            given.notes.push(note)?;
+        }
+        if let Some(device) = given.devices.first_mut() {
+            device.descriptor = read.repaired.bytes;
+        }
+        Ok(())
+    }
+
+    /// Writes the page of a descriptor that can't be read, and refuses it.
+    fn show_fault<R: World>(
+        &self,
+        rt: &R,
+        settings: &Settings,
+        given: &Given,
+        fault: ParserError,
+    ) -> Result<Ending> {
+        if let ParserError::OutOfMemory = fault {
+            bail!("out of memory");
+        }
+        self.show_refused(rt, settings, given, &fault)?;
+        Err(with_advice(rt.alloc(), settings, given.descriptor(), fault))
     }
 
     /// A page in which nothing stands yet.
@@ -150,4 +194,11 @@ impl<'a> Page<'a> {
 fn end<R: Print>(rt: &R, sheet: &mut Sheet) -> Result<()> {
     sheet.text.push_str(AFTER_DATA)?;
     flush(rt, &mut sheet.text)
+}
+
+/// That Linux refuses a descriptor, as a fault of its item.
+fn fault_of(alloc: Global, refusal: Doubt) -> Result<ParserError, AllocError> {
+    let (offset, reason) = (refusal.offset, refusal.reason);
+    let message = format!(in alloc; "Linux refuses it: {reason}")?;
+    Ok(ParserError::InvalidData { offset, message })
 }

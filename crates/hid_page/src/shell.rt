@@ -8,7 +8,7 @@ pub const BEFORE_TITLE: &str = "\
 <html lang=\"en\">\n\
 <head>\n\
 <meta charset=\"utf-8\">\n\
-<meta http-equiv=\"Content-Security-Policy\" content=\"default-src 'none'; script-src 'sha256-J042OFd0Q9xa22XB+dFt8+VbH7Xn++vfxtHQD0HPNBM='; style-src 'sha256-IHFfdsbjPRayGXfGNQ3md4unQnG4BexzS5A3eGCQkgY='; base-uri 'none'; form-action 'none'; require-trusted-types-for 'script'; trusted-types 'none'\">\n\
+<meta http-equiv=\"Content-Security-Policy\" content=\"default-src 'none'; script-src 'sha256-kzyhInKQ3zNLFSvsMDxXo/qAvbUQLQIc3tEJjbxDfQ4='; style-src 'sha256-IHFfdsbjPRayGXfGNQ3md4unQnG4BexzS5A3eGCQkgY='; base-uri 'none'; form-action 'none'; require-trusted-types-for 'script'; trusted-types 'none'\">\n\
 <meta name=\"viewport\" content=\"width=device-width, initial-scale=1\">\n\
 <meta name=\"color-scheme\" content=\"light dark\">\n\
 <meta name=\"referrer\" content=\"no-referrer\">\n\
@@ -473,7 +473,7 @@ function passGlobal(state, item) {\n\
 \x20   const kept = state.pushed.pop();\n\
 \x20   if (kept === undefined) return;\n\
 \x20   state.globals = kept.globals;\n\
-\x20   if (device.keeps_all) state.locals = kept.locals;\n\
+\x20   if (device.by_standard) state.locals = kept.locals;\n\
 \x20 } else {\n\
 \x20   state.globals.set(item.tag, item);\n\
 \x20 }\n\
@@ -1156,9 +1156,7 @@ function factsOf() {\n\
 // What has to be known of how the descriptor was read.\n\
 function readings() {\n\
 \x20 const said = [];\n\
-\x20 if (device.is_lenient) said.push('The descriptor was mended first, where Linux mends it.');\n\
-\x20 if (device.by_standard) said.push('Usages are found by the letter of the standard.');\n\
-\x20 if (device.keeps_all) said.push('A Push keeps all that is in force, not globals alone.');\n\
+\x20 if (device.by_standard) said.push('Read by the letter of the standard, not as Linux reads it.');\n\
 \x20 return said.concat(notes.map((note) => plain(note.note)));\n\
 }\n\
 \n\

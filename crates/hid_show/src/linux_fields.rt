@@ -1,10 +1,11 @@
 //! `hid fields --linux`: each field with the event codes that Linux gives its usages.
+use crate::linux_copy::{LinuxCopy, devices_before, has_no_bits, id_of, pass_item};
 use anyhow::Result;
-use hid_input::input::{descriptor_named, mend};
+use hid_input::input::descriptor_named;
+use hid_input::linux_read::read_by_linux;
 use hid_input::parsing::parsed;
 use hid_input::settings::Settings;
 use hid_input::world::World;
-use hid_items::items::ItemCursor;
 use hid_linux::linux_reading::{Doubt, LinuxReading};
 use hid_objects::field_object::{RestObject, object_of};
 use hid_objects::linux::{Answered, add_answers, add_lines, answers_of, objects_of};
@@ -12,38 +13,36 @@ use hid_output::ending::Ending;
 use hid_output::{add_json, flush, flush_piece};
 use hid_report::{FieldLine, add_head, around};
 use hid_words::{add_field, add_spaces, indent_of};
-use hidreport::{Collection, Direction, Field, Group, Outline, OutlineReport, RDescReport, Report};
-use hidreport_linux::{Driver, InputDevices, Item, Unmapped};
-use std::alloc::{AllocError, Global};
+use hidreport::{Collection, Direction, Field, Group, OutlineReport, RDescReport, Report, Usage};
+use hidreport_linux::{Driver, InputDevices, Item};
+use std::alloc::AllocError;
 
 /// How much deeper than its array's the usages of an array stand.
 const DEEPER: usize = 12;
 
 /// Shows the reports of a descriptor with their fields, and what Linux gives each.
 pub fn show_linux<R: World>(rt: &R, settings: &Settings, file: &str) -> Result<Ending> {
-    let mut given = descriptor_named(rt, &unmended(settings), file)?;
+    let given = descriptor_named(rt, &unmended(settings), file)?;
+    let read = read_by_linux(rt.alloc(), settings, given.descriptor())?;
+    read.tell_mended(rt, file)?;
     let reading = LinuxReading::of(rt.alloc(), given.descriptor())?;
-    if settings.is_lenient {
-        mend(rt, settings, file, &mut given)?;
-    }
-    let bytes = given.descriptor();
+    let bytes = read.repaired.bytes.as_slice();
     let descriptor = parsed(rt.alloc(), settings, bytes)?;
-    let arrays = with_arrays(rt.alloc(), bytes)?;
-    let named = parsed(rt.alloc(), settings, &arrays)?;
-    let outline = Outline::try_from_with(rt.alloc(), bytes, settings.parse)?;
+    let copy = LinuxCopy::of(rt.alloc(), settings, bytes, &reading)?;
     let mut shown = Shown {
         text: String::new(rt.alloc()),
-        devices: InputDevices::new(rt.alloc(), reading.applications, reading.unmapped()),
+        devices: devices_before(rt.alloc(), &reading),
+        all: copy.devices(rt.alloc(), &reading)?,
         reading,
         is_json: settings.is_json,
     };
     for direction in Direction::ALL {
-        let parts = outline
-            .reports(direction)
-            .iter()
-            .zip(named.reports(direction));
-        for (report, (outline, named)) in descriptor.reports(direction).iter().zip(parts) {
-            shown.show_report(rt, direction, report, (outline, named))?;
+        let (outlines, arrays) = copy.reports(direction);
+        for parts in outlines.iter().zip(arrays) {
+            let id = parts.0.report_id();
+            let mut reports = descriptor.reports(direction).iter();
+            let report = reports.find(|report| report.report_id() == id);
+            shown.show_report(rt, direction, report, parts)?;
         }
     }
     flush(rt, &mut shown.text)?;
@@ -54,7 +53,7 @@ pub fn show_linux<R: World>(rt: &R, settings: &Settings, file: &str) -> Result<E
 /// The same options, by which a descriptor isn't mended when it is read.
 fn unmended<'a>(settings: &Settings<'a>) -> Settings<'a> {
     Settings {
-        is_lenient: false,
+        read_as: None,
         ..*settings
     }
 }
@@ -63,12 +62,7 @@ fn unmended<'a>(settings: &Settings<'a>) -> Settings<'a> {
 fn tell<R: Eprint>(rt: &R, doubt: Option<Doubt>, driver: Option<Driver>) -> Result<()> {
     if let Some(doubt) = doubt {
         let (offset, reason) = (doubt.offset, doubt.reason);
-        match doubt.unmapped {
-            Unmapped::Refused => eprintln!(rt;
-                "hid: Linux refuses it at offset {offset}: {reason}"
-            )?,
-            _ => eprintln!(rt; "hid: the codes aren't known for offset {offset}: {reason}")?,
-        }
+        eprintln!(rt; "hid: the codes aren't known for offset {offset}: {reason}")?;
     }
     if let Some(driver) = driver {
         let name = driver.name();
@@ -79,47 +73,69 @@ fn tell<R: Eprint>(rt: &R, doubt: Option<Doubt>, driver: Option<Driver>) -> Resu
     Ok(())
 }
 
-/// What is shown so far.
+/// What is shown so far; `all` are the input devices behind all usages.
 #[derive(Drop)]
 struct Shown {
     text: String,
     devices: InputDevices,
+    all: InputDevices,
     reading: LinuxReading,
     is_json: bool,
 }
 
 impl Shown {
-    /// Shows a report.
+    /// Shows a report; one of elements without bits is none, and goes on to its device.
     fn show_report<R: Print>(
         &mut self,
         rt: &R,
         direction: Direction,
-        report: &RDescReport,
+        report: Option<&RDescReport>,
         parts: (&OutlineReport, &RDescReport),
     ) -> Result<()> {
         let (outline, named) = parts;
+        let application = self.reading.application(direction, id_of(outline));
+        self.devices.enter(application)?;
+        let Some(report) = report else {
+            self.pass_report(direction, parts);
+            return Ok(());
+        };
         if !self.is_json {
             add_head(&mut self.text, direction, report)?;
         }
-        let id = report.report_id().map_or(0, |id| u32::from(u8::from(id)));
-        let application = self.reading.application(direction, id);
-        self.devices.enter(application)?;
         let mut fields = report.fields();
         let mut open: &[Collection] = &[];
-        for (group, all) in outline.groups().iter().zip(named.fields()) {
-            let (own, rest) = fields.split_at(group.field_count().min(fields.len()));
+        for (group, array) in outline.groups().iter().zip(named.fields()) {
             let mut item = self.devices.begin(direction, group);
+            if has_no_bits(group) {
+                pass_item(&mut self.devices, &mut item, group, array);
+                continue;
+            }
+            let (own, rest) = fields.split_at(group.field_count().min(fields.len()));
             open = self.show_item(rt, direction, report, &mut item, own, open)?;
             fields = rest;
             if group.is_variable() {
-                let alloc = *self.text.allocator();
-                let rest = all.usages().get(own.len()..).unwrap_or(&[]);
-                let answers = answers_of(alloc, &mut self.devices, &mut item, rest)?;
+                let rest = array.usages().get(own.len()..).unwrap_or(&[]);
+                let answers = self.answers(&mut item, rest)?;
                 self.show_rest((direction, report), group, &answers, open.len())?;
                 flush_piece(rt, &mut self.text)?;
             }
         }
         Ok(())
+    }
+
+    /// Goes over the usages of a report that isn't shown.
+    fn pass_report(&mut self, direction: Direction, parts: (&OutlineReport, &RDescReport)) {
+        let (outline, named) = parts;
+        for (group, array) in outline.groups().iter().zip(named.fields()) {
+            let mut item = self.devices.begin(direction, group);
+            pass_item(&mut self.devices, &mut item, group, array);
+        }
+    }
+
+    /// What Linux gives usages of an item.
+    fn answers(&mut self, item: &mut Item, usages: &[Usage]) -> Result<Vec<Answered>, AllocError> {
+        let alloc = *self.text.allocator();
+        answers_of(alloc, &mut self.devices, &self.all, item, usages)
     }
 
     /// Shows the fields of an item, and answers the collections around the last.
@@ -135,7 +151,7 @@ impl Shown {
         let mut open = before;
         for field in fields {
             let alloc = *self.text.allocator();
-            let answers = answers_of(alloc, &mut self.devices, item, field.usages())?;
+            let answers = self.answers(item, field.usages())?;
             if self.is_json {
                 let mut object = object_of(alloc, direction, report, field)?;
                 object.add_linux(objects_of(alloc, &answers)?);
@@ -201,16 +217,4 @@ fn add_opened(
         FieldLine::Opens(depth, collection).add(text)?;
     }
     Ok(())
-}
-
-/// The same descriptor with each item an array, whose fields have all usages that an item names.
-fn with_arrays(alloc: Global, bytes: &[u8]) -> Result<Vec<u8>, AllocError> {
-    let mut arrays = Vec::from_slice(alloc, bytes)?;
-    for entry in ItemCursor::new(bytes) {
-        let is_data = matches!(entry.bytes, [0x80..=0x83 | 0x90..=0x93 | 0xb0..=0xb3, _, ..]);
-        if is_data && let Some(flags) = arrays.get_mut(entry.offset.saturating_add(1)) {
-            *flags &= 0xfd;
-        }
-    }
-    Ok(arrays)
 }

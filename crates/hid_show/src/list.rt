@@ -1,7 +1,7 @@
 //! `hid list`: the HID devices of the machine.
 use anyhow::{Context, Result};
 use hid_input::input::{MachineDevice, bytes_named, folder_of, machine_devices};
-use hid_input::parsing::parsed;
+use hid_input::parsing::read_silently;
 use hid_input::settings::Settings;
 use hid_input::world::World;
 use hid_output::ending::Ending;
@@ -71,7 +71,7 @@ fn add_device<R: AllocGlobal + Files + Clone + Drop + Input>(
     let input = input_nodes(rt, folder.as_str())?;
     let path = format!(in rt.alloc(); "{folder}/report_descriptor")?;
     let bytes = bytes_named(rt, path.as_str()).context(format_args!("{path}"))?;
-    let descriptor = parsed(rt.alloc(), settings, &bytes);
+    let descriptor = read_silently(rt.alloc(), settings, &bytes);
     let is_read = descriptor.is_ok();
     if settings.is_json {
         add_object(text, device, &input, descriptor)?;
@@ -193,8 +193,14 @@ fn input_nodes<R: AllocGlobal + Files + Clone + Drop>(rt: &R, folder: &str) -> R
             }
         }
     }
-    nodes.sort()?;
+    nodes.sort_by_key(|node| number_of(node))?;
     Ok(nodes)
+}
+
+/// The number of an event node, behind all others where it has none.
+fn number_of(node: &String) -> usize {
+    let digits = node.as_str().strip_prefix("event").unwrap_or("");
+    digits.parse::<usize>().unwrap_or(usize::MAX)
 }
 
 /// The names in a folder; none where there is no such folder.

@@ -8,7 +8,7 @@ use anyhow::{Result, ensure};
 use hid_items::items::{ItemCursor, ItemState, PlacedItem};
 use hid_output::add_json;
 use hidreport::Direction;
-use hidreport::hid::{ItemType, MainDataItem, MainItem};
+use hidreport::hid::{ItemType, MainItem};
 use hidreport_items::ItemFlags;
 use std::alloc::{AllocError, Global};
 use std::fmt::Write;

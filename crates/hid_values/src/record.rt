@@ -3,7 +3,7 @@ use crate::report_time::{add_stamp, add_time};
 use anyhow::{Context, Result, bail};
 use hid_given::{Form, Given, GivenReport};
 use hid_input::input::{Stream, descriptors_named, is_node, node_named};
-use hid_input::parsing::all_parsed;
+use hid_input::parsing::all_read;
 use hid_input::settings::Settings;
 use hid_input::world::World;
 use hid_objects::value_object::add_value_objects;
@@ -68,7 +68,7 @@ impl<'a> Record<'a> {
     /// Shows each report as it comes, up to the end of the stream.
     pub fn run<R: World>(&self, rt: &R, settings: &Settings) -> Result<Ending> {
         let given = descriptors_named(rt, settings, self.file)?;
-        let known = all_parsed(rt.alloc(), settings, &given)?;
+        let known = all_read(rt, settings, self.file, &given)?;
         let mut recording = self.recording(rt, settings, &given, &known)?;
         let node = node_named(rt, settings, self.stream)?;
         let stream = Stream::new(rt.alloc(), settings.report_form, is_node(node.as_str()));

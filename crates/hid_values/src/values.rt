@@ -4,7 +4,7 @@ use anyhow::{Context, Result, anyhow, bail, ensure};
 use hid_given::{Given, GivenReport};
 use hid_input::input::{descriptors_named, reports_named};
 use hid_input::inputs::Inputs;
-use hid_input::parsing::all_parsed;
+use hid_input::parsing::all_read;
 use hid_input::settings::Settings;
 use hid_input::world::World;
 use hid_objects::value_object::add_value_objects;
@@ -36,9 +36,14 @@ impl<'a> Values<'a> {
     /// Shows the values of all reports.
     pub fn run<R: World>(&self, rt: &R, settings: &Settings) -> Result<Ending> {
         let given = descriptors_named(rt, settings, self.inputs.file)?;
-        if self.inputs.reports.is_empty() {
-            ensure!(!given.reports.is_empty(), "no report");
-            self.show_all(rt, settings, &given, &given)?;
+        let alone = self.inputs.reports.is_empty();
+        ensure!(!alone || !given.reports.is_empty(), "no report");
+        let known = all_read(rt, settings, self.inputs.file, &given)?;
+        for descriptor in known.iter() {
+            tell_mixed(rt, descriptor, self.inputs.direction)?;
+        }
+        if alone {
+            self.show_all(rt, settings, (&given, &known), &given)?;
             return Ok(Ending::Done);
         }
         for (index, name) in self.inputs.reports.iter().enumerate() {
@@ -46,25 +51,22 @@ impl<'a> Values<'a> {
                 show(rt, "\n")?;
             }
             let reports = reports_named(rt, settings, name).context(format_args!("{name}"))?;
-            self.show_all(rt, settings, &given, &reports)
+            self.show_all(rt, settings, (&given, &known), &reports)
                 .context(format_args!("{name}"))?;
         }
         Ok(Ending::Done)
     }
 
-    /// Shows the reports of an input, each device's by its own descriptor.
+    /// Shows the reports of an input, each by the descriptor of its device.
     fn show_all<R: AllocGlobal + Print + Eprint>(
         &self,
         rt: &R,
         settings: &Settings,
-        given: &Given,
+        devices: (&Given, &[ReportDescriptor]),
         reports: &Given,
     ) -> Result<()> {
+        let (given, known) = devices;
         let mut text = String::new(rt.alloc());
-        let known = all_parsed(rt.alloc(), settings, given)?;
-        for descriptor in known.iter() {
-            tell_mixed(rt, descriptor, self.inputs.direction)?;
-        }
         for (report, number) in reports.reports.iter().zip(1u64..) {
             let place = given.place_of(reports.form, report);
             let shown = match place.and_then(|place| known.get(place)) {

@@ -30,6 +30,10 @@ pub record Attributes : Type 0 where
   pub flags : Flags
   pub volatile : Option Bool
 
+-- the six flags of its item that a field with data shows, apart from `volatile`
+abbrev pub field_flags : Flags → Flags
+field_flags flags = record flags { constant = false; variable = false; volatile = false }
+
 -- a field: one value with a usage, several values that choose among usages (whether those are a
 -- range, and how many values), or padding
 pub data FieldRecord : Type 0 where

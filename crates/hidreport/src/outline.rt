@@ -7,6 +7,7 @@ ghost use Rattle.hidreport.specs.Meaning.{parse_by};
 ghost use Rattle.hidreport.specs.Options.{parse_as, reading_of};
 ghost use Rattle.hidreport.specs.Tiling.{IsTiled};
 ghost use Rattle.hidreport.specs.Weight.{descriptor_weight};
+ghost use Rattle.hidreport.specs.Working.{AllOwn, AllWork};
 
 use crate::descriptor::ReportDescriptor;
 use crate::field::data_item::Direction;
@@ -134,11 +135,7 @@ impl Outline {
     pub fn reports(&self, direction: Direction) -> &[OutlineReport]
         ensures { result.now ≡ reports_of direction self.now }
     {
-        match direction {
-            Direction::Input => self.input_reports(),
-            Direction::Output => self.output_reports(),
-            Direction::Feature => self.feature_reports(),
-        }
+        self.reports.of(direction)
     }
 
     /// The report with this id in a direction (Section 5.6), for `None` the one without an id.
@@ -153,15 +150,14 @@ impl Outline {
     /// Finds the report of a direction that the bytes of a report are of: the first where it has no
     /// id, else the one with the first byte as its id (Section 5.6).
     ///
-    /// It is `None` where there is none, or no bytes.
+    /// It is `None` where there is none, or no bytes. What `ReportDescriptor::find_report` says of
+    /// the fields holds of those that the groups are, laid out (`own`, `works`).
     pub fn find_report(&self, direction: Direction, bytes: &[u8]) -> Option<&OutlineReport>
-        ensures { option_copied result ≡ find_report (reports_of direction self.now) bytes.now }
+        ensures found { option_copied result
+            ≡ find_report (reports_of direction self.now) bytes.now }
+        ensures own { IfSome (option_copied result) (AllOwn bytes.now) }
+        ensures works { IfSome (option_copied result) (AllWork bytes.now) }
     {
-        let id = *bytes.first()?;
-        let first = self.reports(direction).first()?;
-        match first.id {
-            None => Some(first),
-            Some(_) => self.report(direction, Some(ReportId::from(id))),
-        }
+        self.reports.find(direction, bytes)
     }
 }

@@ -110,8 +110,7 @@ pub trait Report {
           fields = parts self.now;
         }) bytes.items) }
     {
-        let mut bytes = vec![in alloc; 0; self.size_in_bytes()]?;
-        put_id(self.report_id(), &mut bytes);
+        let bytes = blank_of(alloc, self.report_id(), self.size_in_bits())?;
         Ok(bytes)
     }
 }
@@ -136,6 +135,20 @@ fn field_with_usage(fields: &[Field], usage: Usage) -> Option<&Field>
         ≡ find (λ field. has_usage usage (field_record field)) fields.now }
 {
     fields.iter().find(|field| field.has_usage(usage))
+}
+
+/// The bytes of a report of so many bits without values: its id, if it has one, and zeroes.
+pub(crate) fn blank_of(
+    alloc: Global,
+    report_id: &Option<ReportId>,
+    size: usize,
+) -> Result<Vec<u8>, AllocError>
+    ensures blank { IfOk result (λ bytes. bytes.items ≡ blank_bytes report_id.now size) }
+    ensures bytes { IfOk result (λ bytes. AreBytes bytes.items) }
+{
+    let mut bytes = vec![in alloc; 0; size.div_ceil(8)]?;
+    put_id(report_id, &mut bytes);
+    Ok(bytes)
 }
 
 /// Puts an id in place of the first byte, if there is one.

@@ -7,7 +7,7 @@ use Rattle.hidreport.proofs.AvailableLemmas.{before-part, before-whole, length-a
 use Rattle.hidreport.specs.Answer.{Refusal}
 use Rattle.hidreport.specs.Reader.{numbers_before}
 use Rattle.hidreport.specs.Reading.{ValueRecord}
-use Rattle.hidreport_c.proofs.UsageListsLemmas.{flat-next}
+use Rattle.hidreport_c.proofs.ListingLemmas.{flat-next}
 use Rattle.hidreport_c.specs.Reading.{alone_at, alone_in, there_at, there_in}
 use Rattle.hidreport_c.specs.Value.{element_at}
 use Rattle.hidreport_c.specs.declared.structs.HidreportField.{HidreportField}

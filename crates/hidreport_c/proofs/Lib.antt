@@ -4,12 +4,12 @@ pub mod FieldsLemmas
 pub mod FrontItemsLemmas
 pub mod GroupLemmas
 pub mod InsertLemmas
+pub mod ListingLemmas
 pub mod ListsLemmas
 pub mod ReadDescribedLemmas
 pub mod ReadingLemmas
 pub mod WritingLemmas
 pub mod RepairLemmas
-pub mod UsageListsLemmas
 pub mod UsagesLemmas
 pub mod ValueLemmas
 pub mod ValuesLemmas

@@ -8,6 +8,7 @@ pub mod Group
 pub mod Insert
 pub mod ItemName
 pub mod Items
+pub mod Listings
 pub mod Lookup
 pub mod Message
 pub mod Name
@@ -19,7 +20,6 @@ pub mod Report
 pub mod Scaling
 pub mod Standing
 pub mod Status
-pub mod UsageLists
 pub mod Usages
 pub mod Value
 pub mod Writing

@@ -1,12 +1,9 @@
-//! What a descriptor announces in a direction: its reports, their fields, and the usages of these.
-ghost use Rattle.std.specs.Prelude.{◌≡◌, ◌<◌, ◌^◌, Ok, IfSome, length, option_copied, ◌≤◌, IsNone, map, option_to_list};
+//! What a descriptor announces in a direction: its reports and their fields.
+ghost use Rattle.std.specs.Prelude.{◌≡◌, ◌<◌, ◌^◌, Ok, IfSome, length, option_copied};
 ghost use Rattle.hidreport.specs.Lookup.{find_report};
-ghost use Rattle.hidreport_c.specs.Answer.{Lists, ListsOf, array_after};
+ghost use Rattle.hidreport_c.specs.Answer.{Lists, ListsOf};
 ghost use Rattle.hidreport_c.specs.Describe.{described_fields, fields_as_c, found_fields, fields_or_none, reports_in_direction};
 ghost use Rattle.hidreport_c.specs.Report.{described_reports, report_as_c};
-ghost use Rattle.hidreport.specs.Records.{fields_in_all, usages_in};
-ghost use Rattle.hidreport.specs.Views.{field_record};
-ghost use Rattle.hidreport_c.specs.UsageLists.{described_usages, found_usages, usages_in_all};
 ghost use Rattle.hidreport.specs.UsageNumber.{usage_number};
 ghost use Rattle.hidreport_c.specs.Lookup.{given_id, report_in, report_listed, report_or_none};
 
@@ -14,7 +11,7 @@ use crate::answer::read;
 use crate::part::{Part, write, write_behind};
 use crate::status::OUT_OF_MEMORY;
 use crate::structs::{HidreportAnswer, HidreportField, HidreportOptions, HidreportReport};
-use hidreport::{Direction, Field, RDescReport, Report, ReportDescriptor, ReportId, Usage};
+use hidreport::{Direction, RDescReport, Report, ReportDescriptor, ReportId, Usage};
 use std::alloc::Global;
 use std::slice;
 
@@ -245,120 +242,5 @@ pub extern "C" fn hidreport_report_with(
             write_report(found, reports)
         }
         Err(refused) => refused,
-    }
-}
-
-/// The usages of all fields that `hidreport_describe` lists (Section 6.2.2.8), those of each field
-/// behind those of the field before, as many as its `usages.count`.
-///
-/// They are written, counted and refused as `hidreport_describe` says.
-#[unsafe(no_mangle)]
-pub extern "C" fn hidreport_describe_usages(
-    alloc: Global,
-    descriptor: &[u8],
-    options: HidreportOptions,
-    direction: u32,
-    usages: &mut [u32],
-) -> HidreportAnswer
-    ensures { ListsOf (described_usages direction) options descriptor.now usages.old usages.new
-        result }
-{
-    match read(alloc, descriptor, options) {
-        Ok(descriptor) => write_all(reports_of(&descriptor, direction), usages),
-        Err(refused) => refused,
-    }
-}
-
-/// The same of the fields that `hidreport_find` finds.
-///
-/// They are written, counted and refused as `hidreport_describe` says.
-#[unsafe(no_mangle)]
-pub extern "C" fn hidreport_find_usages(
-    alloc: Global,
-    descriptor: &[u8],
-    options: HidreportOptions,
-    direction: u32,
-    report: &[u8],
-    usages: &mut [u32],
-) -> HidreportAnswer
-    ensures { ListsOf (found_usages direction report.now) options descriptor.now usages.old
-        usages.new result }
-{
-    match read(alloc, descriptor, options) {
-        Ok(descriptor) => write_all(found_of(&descriptor, direction, report), usages),
-        Err(refused) => refused,
-    }
-}
-
-/// The report of a direction that these bytes are of, or none.
-fn found_of<'a>(
-    descriptor: &'a ReportDescriptor,
-    direction: u32,
-    report: &[u8],
-) -> &'a [RDescReport]
-    ensures { result.now
-        ≡ option_to_list (find_report (reports_in_direction direction descriptor.now) report.now) }
-{
-    match report_of(descriptor, direction, report) {
-        Some(found) => slice::from_ref(found),
-        None => &[],
-    }
-}
-
-/// Writes the usages of the fields of these reports.
-fn write_all(reports: &[RDescReport], usages: &mut [u32]) -> HidreportAnswer
-    ensures { Lists (Ok (usages_in_all (fields_in_all reports.now))) usages.old usages.new result }
-{
-    if put_all(reports, &mut []).is_none() {
-        return HidreportAnswer::refused(OUT_OF_MEMORY);
-    }
-    match put_all(reports, usages) {
-        Some(count) => HidreportAnswer::counted(count),
-        None => HidreportAnswer::refused(OUT_OF_MEMORY),
-    }
-}
-
-/// Puts the usages of the fields of these reports in place of the first of `usages`, as many as
-/// there is room for; how many there are, unless there are more than memory could hold.
-fn put_all(reports: &[RDescReport], usages: &mut [u32]) -> Option<usize>
-    ensures some { IfSome result (λ count.
-        (count ≡ length (usages_in_all (fields_in_all reports.now)))
-        × (usages.new ≡ array_after (usages_in_all (fields_in_all reports.now)) usages.old)) }
-    ensures none { IsNone result → 2 ^ 64 ≤ length (usages_in_all (fields_in_all reports.now)) }
-{
-    let mut count: usize = 0;
-    for report in reports {
-        let begun = count.min(usages.len());
-        let listed = put_usages(report.fields(), &mut usages[begun..])?;
-        count = count.checked_add(listed)?;
-    }
-    Some(count)
-}
-
-/// The same of these fields.
-fn put_usages(fields: &[Field], usages: &mut [u32]) -> Option<usize>
-    ensures some { IfSome result (λ count.
-        (count ≡ length (usages_in_all (map field_record fields.now)))
-        × (usages.new ≡ array_after (usages_in_all (map field_record fields.now)) usages.old)) }
-    ensures none { IsNone result → 2 ^ 64 ≤ length (usages_in_all (map field_record fields.now)) }
-{
-    let mut count: usize = 0;
-    for field in fields {
-        let begun = count.min(usages.len());
-        let listed = usages_of(field);
-        write(listed, &mut usages[begun..]);
-        count = count.checked_add(listed.len())?;
-    }
-    Some(count)
-}
-
-/// The usages of a field.
-fn usages_of(field: &Field) -> &[Usage]
-    ensures { result.now ≡ usages_in (field_record field.now) }
-{
-    match field {
-        Field::Variable(field) => slice::from_ref(&field.usage),
-        Field::Array(field) => field.usages(),
-        Field::Constant(_) => &[],
     }
 }

@@ -1,12 +1,11 @@
 ghost use Rattle.std.specs.Prelude.{◌≡◌, is_some, pos, unwrap_or};
 ghost use Rattle.hidreport.specs.Views.{field_record};
-ghost use Rattle.hidreport_c.specs.Field.{as_c, collections_as_c, flags_as_c, flags_with, nothing_measured, nothing_set, usages_as_c};
+ghost use Rattle.hidreport_c.specs.Field.{as_c, collections_as_c, flags_as_c, nothing_measured, nothing_set, usages_as_c};
 
 use crate::part::Part;
 use crate::structs::{
     HidreportCollections, HidreportField, HidreportFlags, HidreportMeasures, HidreportUsages,
 };
-use hidreport::hid::ItemFlags;
 use hidreport::{
     Collection, Field, FieldAttributes, LogicalMaximum, LogicalMinimum, PhysicalMaximum,
     PhysicalMinimum, Unit, UnitExponent, Usage,
@@ -172,27 +171,29 @@ fn flags_of(field: &Field) -> HidreportFlags
 pub(crate) fn nothing_set() -> HidreportFlags
     ensures { result ≡ nothing_set }
 {
-    flags_with(ItemFlags::default(), None)
+    HidreportFlags {
+        is_relative: false,
+        wraps: false,
+        is_nonlinear: false,
+        has_no_preferred_state: false,
+        has_null_state: false,
+        is_buffered_bytes: false,
+        is_volatile: false,
+    }
 }
 
+/// The flags of a field, and whether its value may change by itself, if that is said.
 pub(crate) fn attributes_of<F: FieldAttributes>(field: &F) -> HidreportFlags
     ensures { result ≡ flags_as_c (F.attributes field.now) }
 {
-    flags_with(field.flags(), field.is_volatile())
-}
-
-/// The flags of an item that C has, and whether the value may change by itself, if that is said.
-fn flags_with(flags: ItemFlags, is_volatile: Option<bool>) -> HidreportFlags
-    ensures { result ≡ flags_with flags is_volatile }
-{
     HidreportFlags {
-        is_relative: flags.is_relative,
-        wraps: flags.wraps,
-        is_nonlinear: flags.is_nonlinear,
-        has_no_preferred_state: flags.has_no_preferred_state,
-        has_null_state: flags.has_null_state,
-        is_buffered_bytes: flags.is_buffered_bytes,
-        is_volatile: is_volatile.unwrap_or(false),
+        is_relative: field.is_relative(),
+        wraps: field.wraps(),
+        is_nonlinear: field.is_nonlinear(),
+        has_no_preferred_state: field.has_no_preferred_state(),
+        has_null_state: field.has_null_state(),
+        is_buffered_bytes: field.is_buffered_bytes(),
+        is_volatile: field.is_volatile().unwrap_or(false),
     }
 }
 

@@ -12,6 +12,8 @@ mod group;
 mod insert;
 mod item_name;
 mod items;
+mod listing;
+mod listings;
 mod message;
 mod name;
 mod numbered;

@@ -1,5 +1,5 @@
 -- Reports that their fields fill, of which laws are told.
-use Rattle.std.proofs.Common.{◌≢◌, ℕ, List, [], ◌∷◌, Option, inr, refl, arith}
+use Rattle.std.proofs.Common.{◌≢◌, ℕ, [], ◌∷◌, Option, inr, refl, arith}
 use Rattle.hidreport.specs.Places.{id_bits}
 use Rattle.hidreport.specs.Records.{FieldRecord}
 use Rattle.hidreport.specs.Tiling.{Covers, Each, HasNoRest, HasRange, IsFilled, IsOf}

@@ -1,8 +1,11 @@
 pub mod AgreeLemmas
 pub mod ByteLemmas
 pub mod ChangeLemmas
+pub mod CutLemmas
 pub mod FilledLemmas
 pub mod MatchedLemmas
+pub mod PaddingLemmas
 pub mod PieceLemmas
 pub mod RelationLemmas
+pub mod ScaleLemmas
 pub mod StandingLemmas

@@ -31,3 +31,13 @@ another_page = page_at 0 2 ∷ []
 abbrev pub long_alone : List Entry
 long_alone =
     record { offset = 0; bytes = 0xfe ∷ 1 ∷ 0xf0 ∷ 0xc0 ∷ []; item = item.Long } ∷ []
+
+-- the same where the Pop stands at an offset
+abbrev pub page_and_pop_at : ℕ → List Entry
+page_and_pop_at offset = page_at 0 1 ∷ pop_at offset ∷ []
+
+-- of `05 01 a4 b4 b4`
+abbrev pub pushed_and_popped : List Entry
+pushed_and_popped = page_at 0 1
+    ∷ record { offset = 2; bytes = 0xa4 ∷ []; item = item.Global global.Push }
+    ∷ pop_at 3 ∷ pop_at 4 ∷ []

@@ -4,6 +4,7 @@ pub mod Lookups
 pub mod Mouse
 pub mod Rebuilt
 pub mod Repairs
+pub mod Scales
 pub mod Summary
 pub mod Tiled
 pub mod Within

@@ -36,6 +36,9 @@ pub fn numbers_stand_where_there_is_room()
     ensures changed { ReadsInto (Err errors.OutOfBounds) (pos 7 ∷ []) (pos 1 ∷ []) (Err OutOfBounds)
         → ⊥ }
     ensures given { ReadsInto (Ok 0) [] [] (Err OutOfBounds) → ⊥ }
+    ensures otherwise { ReadsInto (Ok 1) (pos 7 ∷ []) (pos 2 ∷ []) (Ok (pos 1 ∷ [])) → ⊥ }
+    ensures another { ReadsInto (Err errors.OutOfBounds) [] [] (Err MismatchingReportId) → ⊥ }
+    ensures not_refused { ReadsInto (Err errors.OutOfBounds) [] [] (Ok []) → ⊥ }
 {}
 
 /// Of a report that is cut short there is what stands before the first value that isn't there.
@@ -56,4 +59,11 @@ pub fn runs_stand_for_fields_of_their_values()
     ensures none { StandFor [] [] }
     ensures more { StandFor [] (one_run 0 8 ∷ []) → ⊥ }
     ensures elsewhere { StandFor (variable_at 0 8 (pos 0) ∷ []) (one_run 1 8 ∷ []) → ⊥ }
+{}
+
+/// Runs of a report that is cut short have what its fields have: where one of two has too many bits
+/// the whole is never read, whichever comes first.
+pub fn runs_stand_for_fields_that_are_cut()
+    ensures { StandFor (variable_at 0 40 (pos 0) ∷ variable_at 0 8 (pos 0) ∷ [])
+        (one_run 0 8 ∷ one_run 0 40 ∷ []) → ⊥ }
 {}

@@ -6,7 +6,7 @@ ghost use Rattle.hidreport.specs.ItemType.TheVariants as item;
 ghost use Rattle.hidreport.specs.declared.field.data_item.Direction.TheVariants.{Input};
 ghost use Rattle.hidreport.specs.Options.{default_options, globals_only_options, reading_of};
 ghost use Rattle.hidreport.specs.Places.{start};
-ghost use Rattle.hidreport.specs.RepairLaws.{IsRepairOf, KeepsBits, SamePlaces};
+ghost use Rattle.hidreport.specs.RepairLaws.{IsOneItem, IsRepairOf, KeepsBits, SamePlaces};
 ghost use Rattle.hidreport_definitions.specs.Hex.{hex};
 ghost use Rattle.hidreport_definitions.specs.Repairs.{as_hid_core, by_globals, fields_by, input, left_out_at, output, padded_at, repaired_to};
 
@@ -45,6 +45,14 @@ pub fn a_change_is_what_it_says()
     ensures reversed { IsRepairOf (hex (codes "81 02 91 02")) (repaired_to (codes "81 03 91 03")
         (padded_at 2 (codes "91 02") (codes "91 03") ∷ padded_at 0 (codes "81 02") (codes "81 03")
         ∷ [])) → ⊥ }
+{}
+
+/// An item is a header and at most what follows it.
+pub fn one_item_is_a_header_and_its_data()
+    ensures whole { IsOneItem (hex (codes "05 01")) }
+    ensures cut { IsOneItem (hex (codes "05")) }
+    ensures nothing { IsOneItem [] → ⊥ }
+    ensures more { IsOneItem (hex (codes "05 01 02")) → ⊥ }
 {}
 
 /// Items lie in the same places whatever their flags and maxima are, by both readings of a Push.

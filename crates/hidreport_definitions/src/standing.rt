@@ -1,7 +1,7 @@
 //! The number that stands for a usage of an array, and one that stands for none: numbers that are
 //! the least such, and some that break just one part of that.
-ghost use Rattle.std.specs.Prelude.{pos, negsuc, [], ◌∷◌, None, Some, true, false};
-ghost use Rattle.hidreport.specs.Standing.{IsLeastFor, IsLeastUnchosen, IsNullNumber};
+ghost use Rattle.std.specs.Prelude.{◌≡◌, pos, negsuc, [], ◌∷◌, None, Some, true, false};
+ghost use Rattle.hidreport.specs.Standing.{IsLeastFor, IsLeastUnchosen, IsNullNumber, is_null, is_unchosen};
 ghost use Rattle.hidreport.specs.Usages.{make_usage, range_from};
 ghost use Rattle.hidreport.specs.declared.field.usage.Usage.{Usage};
 
@@ -45,6 +45,21 @@ pub fn a_number_without_a_usage_is_the_least()
     ensures later { IsLeastUnchosen (range_from 9 1 2) 2 false (pos 0) (pos 3) (Some (pos 3)) → ⊥ }
     ensures none { IsLeastUnchosen (range_from 9 1 2) 2 false (pos 0) (pos 3) None → ⊥ }
     ensures no_bits { IsLeastUnchosen (range_from 9 1 2) 0 false (pos 0) (pos 3) None }
+    ensures one_bit { is_unchosen (range_from 9 1 1) 1 false (pos 0) (pos 1) (pos 1) ≡ true }
+    ensures widest { is_unchosen (range_from 9 1 1) 32 false (pos 0) (pos 0xffff_ffff)
+        (pos 0xffff_ffff) ≡ true }
+    ensures too_many_bits { is_unchosen (range_from 9 1 1) 33 false (pos 0) (pos 1) (pos 1)
+        ≡ false }
+{}
+
+/// A number past the bounds is a null value of 32 bits and no more.
+pub fn a_null_value_has_at_most_32_bits()
+    ensures one_bit { is_null 1 false (pos 1) (pos 1) (pos 0) ≡ true }
+    ensures widest { is_null 32 false (pos 0) (pos 0x7fff_ffff) (pos 0xffff_ffff) ≡ true }
+    ensures too_many_bits { is_null 33 false (pos 1) (pos 1) (pos 0) ≡ false }
+    ensures no_bits { is_null 0 true (pos 1) (pos 1) (pos 0) ≡ false }
+    ensures within { is_null 8 false (pos 0) (pos 1) (pos 1) ≡ false }
+    ensures too_great { is_null 8 false (pos 0) (pos 255) (pos 256) ≡ false }
 {}
 
 /// A number outside the bounds comes before one within them.
@@ -53,6 +68,11 @@ pub fn a_number_outside_the_bounds_comes_first()
     ensures below { IsNullNumber {A = Usage} [] 4 true (negsuc 0) (pos 7) (Some (negsuc 1)) }
     ensures above { IsNullNumber {A = Usage} [] 4 false (pos 0) (pos 8) (Some (pos 9)) }
     ensures within { IsNullNumber (range_from 9 1 2) 2 false (pos 0) (pos 3) (Some (pos 2)) }
+    ensures zero_before_below { IsNullNumber {A = Usage} [] 4 false (pos 2) (pos 8) (Some (pos 0)) }
+    ensures below_before_above { IsNullNumber {A = Usage} [] 5 true (negsuc 0) (pos 7)
+        (Some (negsuc 1)) }
+    ensures greatest { IsNullNumber {A = Usage} [] 32 false (pos 0) (pos 0x7fff_ffff)
+        (Some (pos 0x8000_0000)) }
     ensures not_above { IsNullNumber {A = Usage} [] 4 false (pos 1) (pos 8) (Some (pos 9)) → ⊥ }
     ensures not_within { IsNullNumber (range_from 9 1 2) 2 false (pos 1) (pos 3) (Some (pos 3))
         → ⊥ }

@@ -41,6 +41,12 @@ pub fn a_report_is_written_at_once()
         (hex (codes "05 12")) }
 {}
 
+/// Two fields with bits before, between and behind them.
+pub fn several_fields_are_written_at_once()
+    ensures { IsReportWritten (variable_at 4 8 (pos 0) ∷ variable_at 12 16 (pos 0) ∷ [])
+        (pos 1 ∷ pos 2 ∷ []) (hex (codes "05 0f 03")) (hex (codes "15 2f 03")) }
+{}
+
 /// Bytes that read the same, but aren't those that writing the field gives.
 pub fn written_at_once_is_written_one_by_one()
     ensures { IsReportWritten (byte_field 5 0 ∷ []) (pos 1 ∷ []) (5 ∷ 0 ∷ []) (5 ∷ 257 ∷ []) → ⊥ }
@@ -55,6 +61,33 @@ pub fn written_at_once_is_read_again()
 pub fn padding_is_kept_by_a_write()
     ensures size { IsReportWritten [] [] (0 ∷ []) (0 ∷ 0 ∷ []) → ⊥ }
     ensures bits { IsReportWritten [] [] (0 ∷ []) (1 ∷ []) → ⊥ }
+{}
+
+/// Each of several fields is written one by one: a report whose second byte is no byte isn't what
+/// writing its second field gives.
+pub fn each_of_several_fields_is_written()
+    ensures first { IsReportWritten (variable_at 0 8 (pos 0) ∷ variable_at 8 16 (pos 0) ∷ [])
+        (pos 1 ∷ pos 2 ∷ []) (0 ∷ 0 ∷ []) (257 ∷ 2 ∷ []) → ⊥ }
+    ensures second { IsReportWritten (variable_at 0 8 (pos 0) ∷ variable_at 8 16 (pos 0) ∷ [])
+        (pos 1 ∷ pos 2 ∷ []) (0 ∷ 0 ∷ []) (1 ∷ 258 ∷ []) → ⊥ }
+{}
+
+/// Each of several fields reads its own number again.
+pub fn each_of_several_fields_is_read_again()
+    ensures first { IsReportWritten (byte_field 261 0 ∷ of_report 261 (variable_at 16 24 (pos 0))
+        ∷ []) (pos 1 ∷ pos 2 ∷ []) (261 ∷ 0 ∷ 0 ∷ []) (5 ∷ 1 ∷ 2 ∷ []) → ⊥ }
+    ensures second { IsReportWritten (byte_field 5 0 ∷ of_report 5 (variable_at 16 24 (pos 0))
+        ∷ []) (pos 1 ∷ pos 2 ∷ []) (5 ∷ 0 ∷ 0 ∷ []) (5 ∷ 1 ∷ 3 ∷ []) → ⊥ }
+{}
+
+/// The bits before, between and behind several fields stay.
+pub fn bits_around_several_fields_are_kept()
+    ensures before { IsReportWritten (variable_at 4 8 (pos 0) ∷ variable_at 12 16 (pos 0) ∷ [])
+        (pos 1 ∷ pos 2 ∷ []) (0 ∷ 0 ∷ []) (0x11 ∷ 0x20 ∷ []) → ⊥ }
+    ensures between { IsReportWritten (variable_at 4 8 (pos 0) ∷ variable_at 12 16 (pos 0) ∷ [])
+        (pos 1 ∷ pos 2 ∷ []) (0 ∷ 0 ∷ []) (0x10 ∷ 0x21 ∷ []) → ⊥ }
+    ensures behind { IsReportWritten (variable_at 4 8 (pos 0) ∷ variable_at 8 12 (pos 0) ∷ [])
+        (pos 1 ∷ pos 2 ∷ []) (0 ∷ 0 ∷ []) (0x10 ∷ 0x12 ∷ []) → ⊥ }
 {}
 
 /// A run without values, in the byte of the id, reads what a field without values reads behind it;

@@ -6,6 +6,7 @@ pub mod fields;
 pub mod generic;
 pub mod laws;
 pub mod limits;
+pub mod own_types;
 pub mod plain;
 pub mod rewriting;
 pub mod values;

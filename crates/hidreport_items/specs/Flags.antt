@@ -1,5 +1,5 @@
 -- The flags of a data item (Section 6.2.2.5).
-use Rattle.std.specs.Prelude.{ℕ, Bool, ◌/◌, ◌%◌, ◌^◌, ◌==◌}
+use Rattle.std.specs.Prelude.{ℕ, Bool, false, ◌/◌, ◌%◌, ◌^◌, ◌==◌}
 
 -- the nine flags, each by its name where it is 1
 pub record Flags : Type 0 where
@@ -30,3 +30,7 @@ flags_of number = record {
   volatile = is_flag_set number 7;
   buffered_bytes = is_flag_set number 8;
 }
+
+-- the eight that an Input has too: all but flag 7
+abbrev pub shared_flags : Flags → Flags
+shared_flags flags = record flags { volatile = false }

@@ -1,6 +1,6 @@
 //! The flags of data items (Section 6.2.2.5).
 ghost use Rattle.std.specs.Prelude.{◌≡◌, not};
-ghost use Rattle.hidreport_items.specs.Flags.{Flags, flags_of};
+ghost use Rattle.hidreport_items.specs.Flags.{Flags, flags_of, shared_flags};
 ghost use Rattle.hidreport_items.specs.ItemFaults.{told_answer};
 ghost use Rattle.hidreport_items.specs.Spelling.{output_item};
 
@@ -10,71 +10,61 @@ use std::marker::Model;
 
 /// The flags of Input, Output and Feature items (Section 6.2.2.5).
 ///
-/// Each flag has two calls, one for each of its states: exactly one of them answers true. All come
-/// from `flags`, so a type of your own needs only that.
+/// Each flag has two calls, one for each of its states: exactly one of them answers true. A type of
+/// your own says the eight flags that all three items have; the other calls come from these.
 pub trait MainDataItem {
     /// The flags of the item.
     ghost item_flags: { Self → Flags };
 
-    /// All nine flags of the item (Section 6.2.2.5).
-    fn flags(&self) -> ItemFlags
-        ensures { result ≡ item_flags self.now };
-
     /// Whether the fields are padding (Constant, flag 0): nothing is read from them or written to
     /// them.
     fn is_constant(&self) -> bool
-        ensures { result ≡ (item_flags self.now).constant }
-    {
-        self.flags().is_constant
-    }
+        ensures { result ≡ (item_flags self.now).constant };
 
     /// Whether each element is a field with a usage of its own (Variable, flag 1).
     fn is_variable(&self) -> bool
-        ensures { result ≡ (item_flags self.now).variable }
-    {
-        self.flags().is_variable
-    }
+        ensures { result ≡ (item_flags self.now).variable };
 
     /// Whether a value is a change since the last report (Relative, flag 2).
     fn is_relative(&self) -> bool
-        ensures { result ≡ (item_flags self.now).relative }
-    {
-        self.flags().is_relative
-    }
+        ensures { result ≡ (item_flags self.now).relative };
 
     /// Whether a value past one logical bound goes on at the other (Wrap, flag 3).
     fn wraps(&self) -> bool
-        ensures { result ≡ (item_flags self.now).wrap }
-    {
-        self.flags().wraps
-    }
+        ensures { result ≡ (item_flags self.now).wrap };
 
     /// Whether values aren't linear in what was measured (Non Linear, flag 4).
     fn is_nonlinear(&self) -> bool
-        ensures { result ≡ (item_flags self.now).nonlinear }
-    {
-        self.flags().is_nonlinear
-    }
+        ensures { result ≡ (item_flags self.now).nonlinear };
 
     /// Whether the control doesn't come back to a state when it is let go (No Preferred, flag 5).
     fn has_no_preferred_state(&self) -> bool
-        ensures { result ≡ (item_flags self.now).no_preferred_state }
-    {
-        self.flags().has_no_preferred_state
-    }
+        ensures { result ≡ (item_flags self.now).no_preferred_state };
 
     /// Whether the control has a state in which it sends no meaningful data (Null State, flag 6).
     fn has_null_state(&self) -> bool
-        ensures { result ≡ (item_flags self.now).null_state }
-    {
-        self.flags().has_null_state
-    }
+        ensures { result ≡ (item_flags self.now).null_state };
 
     /// Whether the field is a stream of bytes (Buffered Bytes, flag 8).
     fn is_buffered_bytes(&self) -> bool
-        ensures { result ≡ (item_flags self.now).buffered_bytes }
+        ensures { result ≡ (item_flags self.now).buffered_bytes };
+
+    /// The eight flags at once; `is_volatile` (flag 7), which an Input hasn't, is said by the item
+    /// itself: a type of which it isn't known leaves it off.
+    fn flags(&self) -> ItemFlags
+        ensures { shared_flags result ≡ shared_flags (item_flags self.now) }
     {
-        self.flags().is_buffered_bytes
+        ItemFlags {
+            is_constant: self.is_constant(),
+            is_variable: self.is_variable(),
+            is_relative: self.is_relative(),
+            wraps: self.wraps(),
+            is_nonlinear: self.is_nonlinear(),
+            has_no_preferred_state: self.has_no_preferred_state(),
+            has_null_state: self.has_null_state(),
+            is_volatile: false,
+            is_buffered_bytes: self.is_buffered_bytes(),
+        }
     }
 
     /// Whether the fields carry data (Data): not `is_constant`.

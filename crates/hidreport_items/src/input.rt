@@ -63,6 +63,13 @@ impl InputItem {
         self.written().to_vec(alloc)
     }
 
+    /// The item's flags; Volatile (flag 7) is off, since an Input hasn't it (Section 6.2.2.5).
+    pub fn flags(&self) -> ItemFlags
+        ensures { result ≡ self.now }
+    {
+        self.flags
+    }
+
     /// The item with these flags; it has no flag 7.
     pub(crate) fn from_flags(flags: ItemFlags) -> InputItem
         ensures { result ≡ record flags { volatile = false } }
@@ -92,6 +99,38 @@ impl Spelled for InputItem {
 
 impl MainDataItem for InputItem {
     ghost item_flags = { λ flags. flags };
+
+    fn is_constant(&self) -> bool {
+        self.flags.is_constant
+    }
+
+    fn is_variable(&self) -> bool {
+        self.flags.is_variable
+    }
+
+    fn is_relative(&self) -> bool {
+        self.flags.is_relative
+    }
+
+    fn wraps(&self) -> bool {
+        self.flags.wraps
+    }
+
+    fn is_nonlinear(&self) -> bool {
+        self.flags.is_nonlinear
+    }
+
+    fn has_no_preferred_state(&self) -> bool {
+        self.flags.has_no_preferred_state
+    }
+
+    fn has_null_state(&self) -> bool {
+        self.flags.has_null_state
+    }
+
+    fn is_buffered_bytes(&self) -> bool {
+        self.flags.is_buffered_bytes
+    }
 
     fn flags(&self) -> ItemFlags {
         self.flags

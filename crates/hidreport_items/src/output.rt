@@ -68,6 +68,13 @@ impl OutputItem {
 }
 
 impl OutputItem {
+    /// The item's nine flags (Section 6.2.2.5).
+    pub fn flags(&self) -> ItemFlags
+        ensures { result ≡ self.now }
+    {
+        self.flags
+    }
+
     /// Whether the value may change without the host (Volatile, flag 7; Section 6.2.2.5).
     pub fn is_volatile(&self) -> bool
         ensures { result ≡ self.now.volatile }
@@ -99,6 +106,38 @@ impl Spelled for OutputItem {
 
 impl MainDataItem for OutputItem {
     ghost item_flags = { λ flags. flags };
+
+    fn is_constant(&self) -> bool {
+        self.flags.is_constant
+    }
+
+    fn is_variable(&self) -> bool {
+        self.flags.is_variable
+    }
+
+    fn is_relative(&self) -> bool {
+        self.flags.is_relative
+    }
+
+    fn wraps(&self) -> bool {
+        self.flags.wraps
+    }
+
+    fn is_nonlinear(&self) -> bool {
+        self.flags.is_nonlinear
+    }
+
+    fn has_no_preferred_state(&self) -> bool {
+        self.flags.has_no_preferred_state
+    }
+
+    fn has_null_state(&self) -> bool {
+        self.flags.has_null_state
+    }
+
+    fn is_buffered_bytes(&self) -> bool {
+        self.flags.is_buffered_bytes
+    }
 
     fn flags(&self) -> ItemFlags {
         self.flags

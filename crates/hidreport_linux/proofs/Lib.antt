@@ -1,0 +1,4 @@
+pub mod AxisLemmas
+pub mod ClaimLemmas
+pub mod GivenLemmas
+pub mod ResolutionLemmas

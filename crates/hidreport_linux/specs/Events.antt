@@ -1,5 +1,5 @@
 -- What a usage asks for, whatever lies before it (Linux 6.12, hid-input).
-use Rattle.std.specs.Prelude.{ℕ, Bool, true, false, ◌+◌, ◌-◌, ◌/◌, ◌%◌, ◌==◌, ◌||◌, ◌&&◌, nat_lt, nat_le, not}
+use Rattle.std.specs.Prelude.{ℕ, Bool, true, false, ◌+◌, ◌-◌, ◌/◌, ◌%◌, ◌==◌, ◌||◌, ◌&&◌, nat_lt, not}
 use Rattle.std.specs.Prelude.{if◌then◌else◌, Option, Some, None, Result, Ok, Err}
 use Rattle.hidreport.specs.declared.field.data_item.Direction.{Direction}
 use Rattle.hidreport.specs.declared.field.data_item.Direction.TheVariants.{Input, Output, Feature}

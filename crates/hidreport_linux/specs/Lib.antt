@@ -1,4 +1,14 @@
+pub mod Asking
+pub mod Axes
+pub mod AxisNumbers
 pub mod Buttons
+pub mod Claims
+pub mod Devices
+pub mod DevicesRecord
 pub mod Events
+pub mod Names
+pub mod Places
+pub mod Reasons
+pub mod Resolution
 pub mod Rows
 pub mod Types

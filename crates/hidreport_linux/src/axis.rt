@@ -1,13 +1,18 @@
 //! Absolute axes.
+ghost use Rattle.std.specs.Prelude.{◌≡◌};
+ghost use Rattle.hidreport_linux.specs.Asking.{exponent_of, low_half};
+ghost use Rattle.hidreport_linux.specs.AxisNumbers.{flat_of, fuzz_of, trembles};
+
 use crate::event_code::EventCode;
 use crate::place::Place;
+use crate::resolution::{resolution, span};
 use crate::wanted::Role;
 use hidreport::{Group, UnitExponent};
 
 /// The numbers of an item that an axis has its own from, as hid-core keeps them: 0 where one wasn't
 /// set.
 #[derive(Clone, Copy, Debug, PartialEq, Eq)]
-pub struct Measures {
+pub(crate) struct Measures {
     /// The least value.
     pub minimum: i32,
 
@@ -28,14 +33,20 @@ pub struct Measures {
 }
 
 impl Measures {
-    /// Whether hid-core reads the same bounds: where a maximum is below its minimum, it reads the
-    /// maximum without a sign.
-    pub(crate) fn are_known(&self) -> bool {
-        self.minimum <= self.maximum && self.physical_minimum <= self.physical_maximum
+    ghost use Rattle.std.specs.Prelude.{◌≡◌};
+    ghost use Rattle.hidreport_linux.specs.Asking.{are_apart, measures_of};
+
+    /// Whether the bounds of a hat are apart, of which hid-input keeps 16 bits.
+    pub(crate) fn are_apart(&self) -> bool
+        ensures { result ≡ are_apart self.now }
+    {
+        low_half(self.minimum) < low_half(self.maximum)
     }
 
     /// Those of an item.
-    pub(crate) fn of(group: &Group) -> Measures {
+    pub(crate) fn of(group: &Group) -> Measures
+        ensures { result ≡ measures_of group.now }
+    {
         Measures {
             minimum: i32::from(group.logical_minimum()),
             maximum: i32::from(group.logical_maximum()),
@@ -45,6 +56,13 @@ impl Measures {
             exponent: group.unit_exponent().map_or(0, exponent_of),
         }
     }
+}
+
+/// The low 16 bits of a number, with a sign.
+fn low_half(number: i32) -> i16
+    ensures { result ≡ low_half number }
+{
+    ((number.cast_unsigned() % 0x1_0000) as u16).cast_signed()
 }
 
 /// What an absolute axis says of itself.
@@ -66,16 +84,10 @@ pub struct Axis {
     pub resolution: i32,
 }
 
-/// The axes that are of lengths, and those that are of angles.
-const LENGTHS: [u16; 9] = [0x00, 0x01, 0x02, 0x30, 0x31, 0x35, 0x36, 0x3c, 0x3d];
-
-const ANGLES: [u16; 6] = [0x03, 0x04, 0x05, 0x08, 0x1a, 0x1b];
-
-/// After so many powers of ten no number of 32 bits has any bit left.
-const MOST_POWERS: u32 = 32;
-
 /// The power of ten that a unit exponent stands for, of four bits or of all.
-fn exponent_of(exponent: UnitExponent) -> i32 {
+fn exponent_of(exponent: UnitExponent) -> i32
+    ensures { result ≡ exponent_of exponent }
+{
     match i32::from(exponent) {
         nibble @ 8..=15 => nibble - 16,
         number => number,
@@ -83,93 +95,61 @@ fn exponent_of(exponent: UnitExponent) -> i32 {
 }
 
 impl Axis {
+    ghost use Rattle.std.specs.Prelude.{◌≡◌};
+    ghost use Rattle.hidreport_linux.specs.AxisNumbers.{axis_by};
+
     /// That of a code that is an absolute axis: a hat goes from -1 to 1.
-    pub(crate) fn of(code: EventCode, role: Role, place: &Place, measures: &Measures) -> Axis {
-        if role == Role::Direction || role == Role::Hat {
-            return Axis::of_hat();
+    #[tactic(auto, unfolding(crate::specs::AxisNumbers::axis_by))]
+    pub(crate) fn of(code: EventCode, role: Role, place: &Place, measures: &Measures) -> Axis
+        ensures { result ≡ axis_by code role place.now measures.now }
+    {
+        if role.is_hat() {
+            return Axis {
+                minimum: -1,
+                maximum: 1,
+                fuzz: 0,
+                flat: 0,
+                resolution: 0,
+            };
         }
-        let span = measures.maximum.wrapping_sub(measures.minimum);
-        let trembles = place.application == 0x0001_0004 || place.application == 0x0001_0005;
         Axis {
             minimum: measures.minimum,
             maximum: measures.maximum,
-            fuzz: if trembles { span >> 8 } else { 0 },
-            flat: if trembles { span >> 4 } else { 0 },
+            fuzz: fuzz_of(place, measures),
+            flat: flat_of(place, measures),
             resolution: resolution(code.number, measures).unwrap_or(0),
         }
     }
-
-    fn of_hat() -> Axis {
-        Axis {
-            minimum: -1,
-            maximum: 1,
-            fuzz: 0,
-            flat: 0,
-            resolution: 0,
-        }
-    }
 }
 
-/// The units for each millimetre or radian; none where the unit, the bounds or their size don't
-/// allow one.
-fn resolution(code: u16, measures: &Measures) -> Option<i32> {
-    let span = measures.maximum.wrapping_sub(measures.minimum);
-    let stands_for = measures
-        .physical_maximum
-        .wrapping_sub(measures.physical_minimum);
-    if span <= 0 || stands_for <= 0 {
-        return None;
-    }
-    let (span, stands_for, moved) = if LENGTHS.contains(&code) {
-        match measures.unit {
-            0x11 => (span, stands_for, 1),
-            0x13 => (span, times(stands_for, 254)?, -1),
-            _ => return None,
-        }
-    } else if ANGLES.contains(&code) {
-        match measures.unit {
-            0x12 => (span, stands_for, 0),
-            0x14 => (times(span, 573)?, stands_for, 1),
-            _ => return None,
-        }
+/// Whether axes tremble: those of a joystick or a gamepad.
+#[tactic(auto, unfolding(crate::specs::AxisNumbers::trembles))]
+fn trembles(place: &Place) -> bool
+    ensures { result ≡ trembles place.now }
+{
+    place.application == 0x0001_0004 || place.application == 0x0001_0005
+}
+
+/// By how much values tremble.
+#[tactic(auto, unfolding(crate::specs::AxisNumbers::fuzz_of))]
+fn fuzz_of(place: &Place, measures: &Measures) -> i32
+    ensures { result ≡ fuzz_of place.now measures.now }
+{
+    if trembles(place) {
+        span(measures.minimum, measures.maximum) >> 8
     } else {
-        return None;
-    };
-    divided(span, stands_for, measures.exponent.wrapping_add(moved))
-}
-
-/// The span by what it stands for times a power of ten, rounded to the nearest.
-fn divided(span: i32, stands_for: i32, exponent: i32) -> Option<i32> {
-    let powers = exponent.unsigned_abs();
-    if exponent < 0 {
-        return rounded(with_powers(span, powers)?, stands_for);
+        0
     }
-    rounded(span, with_powers(stands_for, powers)?)
 }
 
-/// A number times so many tens; none where a product is less than the one before.
-fn with_powers(number: i32, powers: u32) -> Option<i32> {
-    let mut product = number;
-    for _ in 0..powers.min(MOST_POWERS + 1) {
-        product = times(product, 10)?;
-    }
-    Some(product)
-}
-
-/// A product of 32 bits, the others cut off; none where it is less than the number.
-fn times(number: i32, factor: i32) -> Option<i32> {
-    let product = number.wrapping_mul(factor);
-    if product < number {
-        None
+/// How far from the middle values count as the middle.
+#[tactic(auto, unfolding(crate::specs::AxisNumbers::flat_of))]
+fn flat_of(place: &Place, measures: &Measures) -> i32
+    ensures { result ≡ flat_of place.now measures.now }
+{
+    if trembles(place) {
+        span(measures.minimum, measures.maximum) >> 4
     } else {
-        Some(product)
+        0
     }
-}
-
-/// A quotient, rounded to the nearest, of 32 bits.
-fn rounded(number: i32, divisor: i32) -> Option<i32> {
-    if divisor <= 0 {
-        return None;
-    }
-    Some(number.wrapping_add(divisor / 2) / divisor)
 }

@@ -1,9 +1,11 @@
 //! The event of a usage.
-use crate::axis::Axis;
 use crate::event_code::EventCode;
 use crate::wanted::Role;
 
 /// The event that a usage has.
+///
+/// `InputDevices::axis` and `InputDevices::beside` say the rest of it, once all usages of the
+/// descriptor are gone over.
 #[derive(Clone, Copy, Debug, PartialEq, Eq)]
 pub struct Event {
     /// The code.
@@ -12,7 +14,6 @@ pub struct Event {
     /// What else it does.
     pub role: Role,
 
-    /// Of an absolute axis its bounds and resolution; `None` where a maximum is below its minimum,
-    /// since hid-core reads it without a sign.
-    pub axis: Option<Axis>,
+    /// The input device, counted from 0.
+    pub device: usize,
 }

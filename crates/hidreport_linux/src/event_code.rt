@@ -1,4 +1,7 @@
 //! Event codes, and what they are called.
+ghost use Rattle.std.specs.Prelude.{◌≡◌, map, option_copied};
+ghost use Rattle.hidreport_linux.specs.Names.{key_text, name_in, text_at, text_of};
+
 use crate::name_table::{AXES, HIGH_KEYS, LAMPS, LOW_KEYS, MIDDLE_KEYS, MOTIONS, OTHERS};
 use std::fmt;
 
@@ -63,13 +66,14 @@ pub struct EventCode {
 }
 
 impl EventCode {
-    ghost use Rattle.std.specs.Prelude.{◌≡◌};
+    ghost use Rattle.std.specs.Prelude.{◌≡◌, option_copied};
     ghost use Rattle.hidreport_linux.specs.declared.event_code.EventType.TheVariants.{
       Absolute,
       Key,
       Relative,
     };
     ghost use Rattle.hidreport_linux.specs.Events.{code};
+    ghost use Rattle.hidreport_linux.specs.Names.{code_name};
 
     /// A key or a button.
     pub fn key(number: u16) -> EventCode
@@ -104,34 +108,54 @@ impl EventCode {
     /// The name, such as `KEY_A`; `None` where the number has none.
     ///
     /// Where a number has several names, it is the first that isn't the name of a range.
-    pub fn name(self) -> Option<&'static str> {
-        let place = usize::from(self.number);
-        let name = match self.event_type {
-            EventType::Key => key_name(place),
-            EventType::Relative => name_at(&MOTIONS, place),
-            EventType::Absolute => name_at(&AXES, place),
-            EventType::Other => name_at(&OTHERS, place),
-            EventType::Led => name_at(&LAMPS, place),
-        };
-        if name.is_empty() { None } else { Some(name) }
+    pub fn name(self) -> Option<&'static str>
+        ensures { option_copied result ≡ code_name self }
+    {
+        name_in(text_of(self.event_type, usize::from(self.number)))
     }
 }
 
-/// The name of a key.
-fn key_name(place: usize) -> &'static str {
-    if place < 256 {
-        LOW_KEYS[place]
-    } else if place < 512 {
-        MIDDLE_KEYS[place - 256]
+/// A text as a name; an empty one is none.
+fn name_in(text: &'static str) -> Option<&'static str>
+    ensures { option_copied result ≡ name_in text.now }
+{
+    if text.is_empty() { None } else { Some(text) }
+}
+
+/// The text of a number of a type, empty where it has no name.
+#[tactic(auto, unfolding(crate::specs::Names::text_of))]
+fn text_of(event_type: EventType, number: usize) -> &'static str
+    ensures { result.now ≡ text_of event_type number }
+{
+    match event_type {
+        EventType::Key => key_text(number),
+        EventType::Relative => text_at(&MOTIONS, number),
+        EventType::Absolute => text_at(&AXES, number),
+        EventType::Other => text_at(&OTHERS, number),
+        EventType::Led => text_at(&LAMPS, number),
+    }
+}
+
+/// The text of a key.
+#[tactic(auto, unfolding(crate::specs::Names::key_text))]
+fn key_text(number: usize) -> &'static str
+    ensures { result.now ≡ key_text number }
+{
+    if number < 256 {
+        text_at(&LOW_KEYS, number)
+    } else if number < 512 {
+        text_at(&MIDDLE_KEYS, number - 256)
     } else {
-        name_at(&HIGH_KEYS, place - 512)
+        text_at(&HIGH_KEYS, number - 512)
     }
 }
 
-/// The name at a place, empty where there is none.
-fn name_at(names: &[&'static str], place: usize) -> &'static str {
-    match names.get(place) {
-        Some(name) => name,
+/// The text at a place of a table, empty past its end.
+fn text_at(texts: &[&'static str], place: usize) -> &'static str
+    ensures { result.now ≡ text_at (map (λ text. text.now) texts.now) place }
+{
+    match texts.get(place) {
+        Some(text) => text,
         None => "",
     }
 }

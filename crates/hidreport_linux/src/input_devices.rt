@@ -1,22 +1,24 @@
 //! The input devices of a descriptor.
-ghost use Rattle.std.specs.Prelude.{◌≡◌};
+ghost use Rattle.std.specs.Prelude.{◌≡◌, ℕ, List, [], ◌∷◌, ◌++◌, if◌then◌else◌, slice_get, Some};
+ghost use Rattle.std.specs.List.{position_from};
+ghost use Rattle.hidreport_linux.specs.Devices.{AnswersAt, answered_by, axis_at, event_of, is_switch, KeepsOthers, sets, StandsAt, takes};
+ghost use Rattle.hidreport_linux.specs.declared.event_code.EventCode.{EventCode};
+ghost use Rattle.hidreport_linux.specs.declared.wanted.Wanted.{Wanted};
 ghost use Rattle.hidreport_linux.specs.Types.{is_input_application};
 
-use crate::axis::{Axis, Measures};
+use crate::axis::Axis;
 use crate::event::Event;
-use crate::event_code::{EventCode, EventType};
+use crate::event_code::EventCode;
 use crate::input_device::InputDevice;
-use crate::place::Place;
+use crate::item::Item;
 use crate::unmapped::Unmapped;
 use crate::wanted::{Role, Wanted};
 use hidreport::{Direction, Group, Usage};
 use std::alloc::{AllocError, Global};
+use std::marker::Model;
 
 /// The items of a report that hid-core keeps, at most.
 const MOST_ITEMS: usize = 256;
-
-/// The usages of an item that hid-core keeps, at most.
-const MOST_USAGES: usize = 12_288;
 
 /// The input devices that Linux makes of a descriptor, while its items are gone over in order:
 /// the input reports, the output reports, then the feature reports.
@@ -27,28 +29,45 @@ pub struct InputDevices {
     items: usize,
     is_by_application: bool,
     unmapped: Option<Unmapped>,
+    /// Whether pressures say `BTN_TOUCH`, since no switch does.
+    says_touch: bool,
 }
 
-/// An item of a report whose usages are gone over.
-#[derive(Clone, Copy)]
-pub struct Item {
-    place: Place,
-    measures: Measures,
-    is_past: bool,
-    usages: usize,
-    has_direction: bool,
+impl Model for InputDevices {
+    ghost use Rattle.hidreport_linux.specs.DevicesRecord.{DevicesRecord};
+
+    ghost Value = { DevicesRecord };
+
+    ghost view = { λ d. record {
+      devices = d.devices.items;
+      current = d.current;
+      items = d.items;
+      is_by_application = d.is_by_application;
+      unmapped = d.unmapped;
+      says_touch = d.says_touch;
+    } };
 }
 
 impl InputDevices {
+    ghost use Rattle.std.specs.Prelude.{◌≡◌, nat_le, List, Ok, OnErr, OnOk, Some};
+    ghost use Rattle.hidreport.specs.UsageNumber.{usage_number};
+    ghost use Rattle.hidreport_linux.specs.Asking.{asked, item_of};
+    ghost use Rattle.hidreport_linux.specs.Devices.{axis_behind, axis_in, answered, answered_by, behind, beside_in, current_device, device_for, Enters, GoesBehind, has_now, behind_item, no_devices, Stands, StaysAt, touch_after, touch_behind};
+    ghost use Rattle.hidreport_linux.specs.declared.event.Event.{Event};
+    ghost use Rattle.hidreport_linux.specs.declared.wanted.Wanted.{Wanted};
+
     /// Before the first report of a descriptor that has so many applications. Where something is
     /// the matter with all of it, no usage has an event.
-    pub fn new(alloc: Global, applications: usize, unmapped: Option<Unmapped>) -> InputDevices {
+    pub fn new(alloc: Global, applications: usize, unmapped: Option<Unmapped>) -> InputDevices
+        ensures { result ≡ no_devices applications unmapped }
+    {
         InputDevices {
             devices: Vec::new(alloc),
             current: 0,
             items: 0,
             is_by_application: applications > 1,
             unmapped,
+            says_touch: false,
         }
     }
 
@@ -58,51 +77,61 @@ impl InputDevices {
     ///
     /// # Errors
     ///
-    /// - `AllocError`: memory for another input device is refused.
-    pub fn enter(&mut self, application: Option<u32>) -> Result<(), AllocError> {
-        self.items = 0;
-        let Some(application) = application else {
-            return Ok(());
-        };
+    /// - `AllocError`: memory for another input device is refused; the devices are as before.
+    pub fn enter(&mut self, application: Option<u32>) -> Result<(), AllocError>
+        ensures entered { OnOk result (Enters application self.old self.new) }
+        ensures refused { OnErr result (self.new ≡ self.old) }
+    {
+        match application {
+            Some(application) => self.enter_device(application),
+            None => {
+                self.items = 0;
+                Ok(())
+            }
+        }
+    }
+
+    /// The same of a report that has a device: one that is there, or a new one.
+    fn enter_device(&mut self, application: u32) -> Result<(), AllocError>
+        ensures entered { OnOk result (Enters (Some application) self.old self.new) }
+        ensures refused { OnErr result (self.new ≡ self.old) }
+    {
         match self.device_for(application) {
             Some(index) => self.current = index,
             None => {
-                self.current = self.devices.len();
+                let index = self.devices.len();
                 self.devices.push(InputDevice::new(application))?;
+                self.current = index;
             }
         }
+        self.items = 0;
         Ok(())
     }
 
     /// The device that a report with this application goes to, if there is one yet.
-    fn device_for(&self, application: u32) -> Option<usize> {
-        if !self.is_by_application {
-            return if self.devices.is_empty() {
-                None
-            } else {
-                Some(0)
-            };
+    fn device_for(&self, application: u32) -> Option<usize>
+        ensures { result ≡ device_for application self.now }
+    {
+        if self.is_by_application {
+            return index_for(application, &self.devices);
         }
-        let goes_to_keyboard = application == 0x0001_0080 || application == 0x000c_0001;
-        self.devices.iter().position(|device| {
-            device.application == application
-                || goes_to_keyboard && device.application == 0x0001_0006
-        })
+        if self.devices.is_empty() {
+            None
+        } else {
+            Some(0)
+        }
     }
 
     /// Goes on to an item of the report.
-    pub fn begin(&mut self, direction: Direction, group: &Group) -> Item {
+    pub fn begin(&mut self, direction: Direction, group: &Group) -> Item
+        ensures item { result ≡ item_of direction group.now (nat_le 256 self.old.items) }
+        ensures counted { self.new ≡ behind_item group.now self.old }
+    {
         let is_past = self.items >= MOST_ITEMS;
-        if group.usage(0).is_some() {
-            self.items = self.items.saturating_add(1);
+        if group.usage(0).is_some() && !is_past {
+            self.items += 1;
         }
-        Item {
-            place: Place::of(direction, group),
-            measures: Measures::of(group),
-            is_past,
-            usages: 0,
-            has_direction: false,
-        }
+        Item::new(direction, group, is_past)
     }
 
     /// The event of the next usage of an item.
@@ -113,70 +142,175 @@ impl InputDevices {
     /// - What `Wanted::of` refuses.
     /// - `Refused`, `NotKnown`, `NoInput`: by the descriptor.
     /// - `OtherDirection`, `Taken`, `PastCodes`: by the codes of the usages before it.
-    pub fn event(&mut self, item: &mut Item, usage: Usage) -> Result<Event, Unmapped> {
+    pub fn event(&mut self, item: &mut Item, usage: Usage) -> Result<Event, Unmapped>
+        ensures answer { result
+            ≡ answered self.old (asked item.old self.old.unmapped (usage_number usage)) }
+        ensures item { item.new ≡ behind result item.old }
+        ensures behind { (before : List Wanted) → Stands self.old before → GoesBehind before
+            (asked item.old self.old.unmapped (usage_number usage)) result self.old self.new }
+        ensures stays { StaysAt self.old self.new }
+        ensures touch { self.new.says_touch ≡ touch_after (usage_number usage)
+            (asked item.old self.old.unmapped (usage_number usage)) self.old }
+        ensures axes { (event : Event) → axis_in self.new event
+            ≡ axis_behind item.old result self.old event }
+    {
         let usage = u32::from(usage);
-        item.count()?;
-        let wanted = Wanted::of(usage, &item.place)?;
-        if let Some(unmapped) = self.unmapped {
-            return Err(unmapped);
+        let asked = item.ask(usage, self.unmapped);
+        let answer = self.answer(item, usage, asked);
+        item.count();
+        if let Ok(event) = answer {
+            item.pass(event.role);
         }
-        if wanted.role == Role::Direction && item.has_direction {
-            return Err(Unmapped::OtherDirection);
+        answer
+    }
+
+    /// What a usage is answered by what it asks for.
+    fn answer(
+        &mut self,
+        item: &Item,
+        usage: u32,
+        asked: Result<Wanted, Unmapped>,
+    ) -> Result<Event, Unmapped>
+        ensures answer { result ≡ answered self.old asked }
+        ensures behind { (before : List Wanted) → Stands self.old before
+            → GoesBehind before asked result self.old self.new }
+        ensures stays { StaysAt self.old self.new }
+        ensures touch { self.new.says_touch ≡ touch_after usage asked self.old }
+        ensures axes { (event : Event) → axis_in self.new event
+            ≡ axis_behind item.now result self.old event }
+    {
+        match asked {
+            Ok(wanted) => self.give(item, usage, wanted),
+            Err(reason) => Err(reason),
         }
-        let role = item.role_of(wanted.role);
-        let Some(device) = self.devices.get_mut(self.current) else {
-            return Err(Unmapped::NoInput);
-        };
-        device.give(wanted, role)?;
-        item.pass(role);
-        Ok(item.event_of(wanted.code, role))
+    }
+
+    /// Gives a usage the code that it asks for.
+    fn give(&mut self, item: &Item, usage: u32, wanted: Wanted) -> Result<Event, Unmapped>
+        ensures answer { result ≡ answered_by (current_device self.old) self.old.current wanted }
+        ensures behind { (before : List Wanted) → Stands self.old before
+            → GoesBehind before (Ok wanted) result self.old self.new }
+        ensures stays { StaysAt self.old self.new }
+        ensures touch { self.new.says_touch ≡ touch_behind usage wanted.role self.old }
+        ensures axes { (event : Event) → axis_in self.new event
+            ≡ axis_behind item.now result self.old event }
+    {
+        let says_touch = self.touch_behind(usage, wanted.role);
+        let axis = item.axis(&wanted);
+        let answer = give_at(&mut self.devices, self.current, wanted, axis);
+        self.says_touch = says_touch;
+        answer
+    }
+
+    /// Whether pressures say `BTN_TOUCH` behind a usage: from one on whose device has no such code,
+    /// up to the next switch.
+    fn touch_behind(&self, usage: u32, role: Role) -> bool
+        ensures { result ≡ touch_behind usage role self.now }
+    {
+        if is_switch(usage) {
+            return false;
+        }
+        if role.is_pressure() && !self.has(EventCode::key(0x14a)) {
+            return true;
+        }
+        self.says_touch
+    }
+
+    /// Whether the device that the report goes to has a code.
+    fn has(&self, code: EventCode) -> bool
+        ensures { result ≡ has_now code self.now }
+    {
+        match self.devices.get(self.current) {
+            Some(device) => device.has(code),
+            None => false,
+        }
+    }
+
+    /// What the axis of an event says of itself, by the last usage so far that has it; `None` of a
+    /// code that is no axis.
+    pub fn axis(&self, event: &Event) -> Option<Axis>
+        ensures { result ≡ axis_in self.now event.now }
+    {
+        match self.devices.get(event.device) {
+            Some(device) => device.axis(event.code),
+            None => None,
+        }
+    }
+
+    /// The codes that the usage of an event also has: a pressure has `BTN_TOUCH` where no switch
+    /// says it.
+    pub fn beside(&self, event: &Event) -> &'static [EventCode]
+        ensures { result.now ≡ beside_in self.now event.now.role }
+    {
+        if event.role.is_pressure() && !self.says_touch {
+            return &[];
+        }
+        event.role.beside()
     }
 }
 
-impl Item {
-    /// Counts a usage, where it is kept.
-    fn count(&mut self) -> Result<(), Unmapped> {
-        if self.is_past {
-            return Err(Unmapped::PastItems);
-        }
-        if self.usages >= MOST_USAGES {
-            return Err(Unmapped::PastUsages);
-        }
-        self.usages = self.usages.saturating_add(1);
-        Ok(())
+/// Gives a usage the code that it asks for of the device at an index.
+fn give_at(
+    devices: &mut [InputDevice],
+    index: usize,
+    wanted: Wanted,
+    axis: Axis,
+) -> Result<Event, Unmapped>
+    ensures answer { result ≡ answered_by (slice_get devices.old index) index wanted }
+    ensures behind { (before : List Wanted) → StandsAt devices.old index before
+        → AnswersAt devices.old index before wanted result
+        × StandsAt devices.new index (before ++ wanted ∷ []) }
+    ensures others { KeepsOthers index devices.old devices.new }
+    ensures axes { (code : EventCode) (place : ℕ) → axis_at code place devices.new
+        ≡ (if sets result code place then Some axis else axis_at code place devices.old) }
+{
+    if index >= devices.len() {
+        return Err(Unmapped::NoInput);
     }
+    let given = devices[index].give(wanted, axis);
+    event_of(index, given)
+}
 
-    /// What a usage of the item does beside its own code.
-    fn role_of(&self, role: Role) -> Role {
-        // A maximum below the minimum is one that hid-core reads without a sign, above it.
-        let is_apart = self.measures.minimum != self.measures.maximum;
-        match role {
-            Role::Hat if !is_apart => Role::Plain,
-            Role::Volume if !self.place.is_relative => Role::Plain,
-            _ => role,
+/// The event of a usage that gets its code of a device.
+fn event_of(device: usize, given: Result<Wanted, Unmapped>) -> Result<Event, Unmapped>
+    ensures { result ≡ event_of device given }
+{
+    match given {
+        Ok(wanted) => Ok(Event {
+            code: wanted.code,
+            role: wanted.role,
+            device,
+        }),
+        Err(reason) => Err(reason),
+    }
+}
+
+/// The first device that a report of an application goes to.
+fn index_for(application: u32, devices: &[InputDevice]) -> Option<usize>
+    ensures { result ≡ position_from (takes application) 0 devices.now }
+{
+    for (index, device) in devices.iter().enumerate() {
+        if takes(application, device) {
+            return Some(index);
         }
     }
+    None
+}
 
-    /// Keeps what a usage says of those behind it.
-    fn pass(&mut self, role: Role) {
-        match role {
-            Role::Direction => self.has_direction = true,
-            Role::Radio => self.place.is_relative = true,
-            _ => {}
-        }
-    }
+/// Whether a report of an application goes to a device.
+fn takes(application: u32, device: &InputDevice) -> bool
+    ensures { result ≡ takes application device.now }
+{
+    let goes_to_keyboard = application == 0x0001_0080 || application == 0x000c_0001;
+    device.application == application || goes_to_keyboard && device.application == 0x0001_0006
+}
 
-    /// The event of a usage that has its code.
-    fn event_of(&self, code: EventCode, role: Role) -> Event {
-        let is_hat = role == Role::Hat || role == Role::Direction;
-        let is_known = is_hat || self.measures.are_known();
-        let axis = if code.event_type == EventType::Absolute && is_known {
-            Some(Axis::of(code, role, &self.place, &self.measures))
-        } else {
-            None
-        };
-        Event { code, role, axis }
-    }
+/// Whether it is a usage of Digitizers that says whether the tip touches.
+fn is_switch(usage: u32) -> bool
+    ensures { result ≡ is_switch usage }
+{
+    let low = usage % 0x100;
+    usage / 0x1_0000 == 0x0d && (low == 0x33 || low == 0x42 || low == 0x43)
 }
 
 /// Whether an application or a physical collection of this usage makes its descriptor one of an

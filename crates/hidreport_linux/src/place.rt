@@ -1,5 +1,9 @@
 //! Where a usage lies.
-use hidreport::{Collection, CollectionType, Direction, FieldAttributes, Group, Usage};
+ghost use Rattle.std.specs.Prelude.{◌≡◌, ◌==◌, if◌then◌else◌};
+ghost use Rattle.hidreport.specs.Spelling.{kind_number};
+ghost use Rattle.hidreport_linux.specs.Places.{has_macros, innermost, is_of_macros, usage_of};
+
+use hidreport::{Collection, Direction, FieldAttributes, Group};
 
 /// What hid-input asks of an item's usages beside their numbers.
 ///
@@ -32,55 +36,92 @@ pub struct Place {
 }
 
 impl Place {
+    ghost use Rattle.std.specs.Prelude.{◌≡◌};
+    ghost use Rattle.hidreport_linux.specs.Places.{place_of};
+
     /// That of the usages of an item.
-    pub fn of(direction: Direction, group: &Group) -> Place {
+    pub fn of(direction: Direction, group: &Group) -> Place
+        ensures { result ≡ place_of direction group.now }
+    {
         let around = group.collections();
         Place {
             direction,
             is_constant: group.is_constant(),
             is_relative: group.is_relative(),
             is_bit: group.element_width() == 1,
-            application: innermost(around, CollectionType::Application),
-            physical: innermost(around, CollectionType::Physical),
-            logical: innermost(around, CollectionType::Logical),
+            application: innermost(around, APPLICATION),
+            physical: innermost(around, PHYSICAL),
+            logical: innermost(around, LOGICAL),
             has_macros: has_macros(around),
         }
     }
 }
 
-/// The usage of the innermost collection of a kind, 0 where there is none.
-fn innermost(around: &[Collection], kind: CollectionType) -> u32 {
-    let mut found = 0;
-    for collection in around {
-        if collection.collection_type() == kind {
-            found = usage_of(collection);
-        }
-    }
-    found
-}
+/// The numbers of the kinds of collections.
+const PHYSICAL: u8 = 0;
 
-/// The first usage of a collection, 0 where there is none.
-fn usage_of(collection: &Collection) -> u32 {
-    match collection.usages().first() {
-        Some(usage) => number_of(*usage),
-        None => 0,
-    }
-}
+const APPLICATION: u8 = 1;
 
-fn number_of(usage: Usage) -> u32 {
-    u32::from(usage)
-}
+const LOGICAL: u8 = 2;
+
+const NAMED_ARRAY: u8 = 4;
 
 /// The usage of a named array of programmable buttons.
 const PROGRAMMABLE_BUTTONS: u32 = 0x000c_0003;
 
+/// The usage of the innermost collection of a kind, 0 where there is none.
+fn innermost(around: &[Collection], kind: u8) -> u32
+    ensures { result ≡ innermost kind around.now }
+{
+    let mut found = 0;
+    for collection in around {
+        found = usage_or(found, collection, kind);
+    }
+    found
+}
+
+/// The usage of a collection of a kind, else what was found before.
+fn usage_or(before: u32, collection: &Collection, kind: u8) -> u32
+    ensures { result ≡ (if kind_number collection.now.kind == kind
+        then usage_of collection.now else before) }
+{
+    if kind_of(collection) == kind {
+        usage_of(collection)
+    } else {
+        before
+    }
+}
+
+/// The number of a collection's kind.
+fn kind_of(collection: &Collection) -> u8
+    ensures { result ≡ kind_number collection.now.kind }
+{
+    u8::from(&collection.collection_type())
+}
+
+/// The first usage of a collection, 0 where there is none.
+fn usage_of(collection: &Collection) -> u32
+    ensures { result ≡ usage_of collection.now }
+{
+    match collection.usages().first() {
+        Some(usage) => u32::from(usage),
+        None => 0,
+    }
+}
+
 /// Whether the innermost collection is a named array of programmable buttons.
-fn has_macros(around: &[Collection]) -> bool {
+fn has_macros(around: &[Collection]) -> bool
+    ensures { result ≡ has_macros around.now }
+{
     match around.last() {
-        Some(collection) => {
-            collection.collection_type() == CollectionType::NamedArray
-                && usage_of(collection) == PROGRAMMABLE_BUTTONS
-        }
+        Some(collection) => is_of_macros(collection),
         None => false,
     }
+}
+
+/// Whether a collection is a named array of programmable buttons.
+fn is_of_macros(collection: &Collection) -> bool
+    ensures { result ≡ is_of_macros collection.now }
+{
+    kind_of(collection) == NAMED_ARRAY && usage_of(collection) == PROGRAMMABLE_BUTTONS
 }

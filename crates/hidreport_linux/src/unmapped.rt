@@ -48,8 +48,13 @@ pub enum Unmapped {
 }
 
 impl Unmapped {
+    ghost use Rattle.std.specs.Prelude.{◌≡◌};
+    ghost use Rattle.hidreport_linux.specs.Reasons.{reason_of};
+
     /// The reason in words.
-    pub fn reason(self) -> &'static str {
+    pub fn reason(self) -> &'static str
+        ensures { result.now ≡ reason_of self }
+    {
         match self {
             Unmapped::Constant => "constant",
             Unmapped::Feature => "in a feature report",

@@ -27,7 +27,7 @@ pub enum Role {
     /// A direction of a D-pad, which also has `ABS_HAT0Y`.
     Direction,
 
-    /// A pressure, which also says `BTN_TOUCH` where no switch does.
+    /// A pressure, which also has `BTN_TOUCH`, and says it where no switch does.
     Pressure,
 
     /// An eraser, which also says `BTN_TOOL_RUBBER`.
@@ -41,16 +41,45 @@ pub enum Role {
 }
 
 impl Role {
+    ghost use Rattle.std.specs.Prelude.{◌≡◌};
+    ghost use Rattle.hidreport_linux.specs.Asking.{is_direction, is_pressure};
+    ghost use Rattle.hidreport_linux.specs.AxisNumbers.{is_hat};
+    ghost use Rattle.hidreport_linux.specs.Claims.{beside};
+
     /// The codes that a usage of this role also has.
-    pub fn beside(self) -> &'static [EventCode] {
+    pub fn beside(self) -> &'static [EventCode]
+        ensures { result.now ≡ beside self }
+    {
         match self {
             Role::Wheel => &WHEEL,
             Role::SideWheel => &SIDE_WHEEL,
             Role::Hat | Role::Direction => &SECOND_AXIS,
+            Role::Pressure => &TOUCH,
             Role::Eraser => &RUBBER,
             Role::Volume => &VOLUME_KEYS,
-            Role::Plain | Role::Pressure | Role::Radio => &[],
+            Role::Plain | Role::Radio => &[],
         }
+    }
+
+    /// Whether it is that of a direction of a D-pad.
+    pub(crate) fn is_direction(self) -> bool
+        ensures { result ≡ is_direction self }
+    {
+        matches!(self, Role::Direction)
+    }
+
+    /// Whether it has the axes of a hat.
+    pub(crate) fn is_hat(self) -> bool
+        ensures { result ≡ is_hat self }
+    {
+        matches!(self, Role::Hat | Role::Direction)
+    }
+
+    /// Whether it is that of a pressure.
+    pub(crate) fn is_pressure(self) -> bool
+        ensures { result ≡ is_pressure self }
+    {
+        matches!(self, Role::Pressure)
     }
 }
 
@@ -69,6 +98,8 @@ static WHEEL: [EventCode; 1] = [code!(Relative, 0x08)];
 static SIDE_WHEEL: [EventCode; 1] = [code!(Relative, 0x06)];
 
 static SECOND_AXIS: [EventCode; 1] = [code!(Absolute, 0x11)];
+
+static TOUCH: [EventCode; 1] = [code!(Key, 0x14a)];
 
 static RUBBER: [EventCode; 1] = [code!(Key, 0x141)];
 

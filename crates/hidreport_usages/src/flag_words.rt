@@ -4,7 +4,7 @@ ghost use Rattle.std.specs.Fmt.{WritesOnOk, WritesStyledOnOk};
 ghost use Rattle.hidreport_items.specs.Flags.{Flags};
 ghost use Rattle.hidreport_usages.specs.FlagWords.{flag_text};
 
-use hidreport_items::{FeatureItem, InputItem, ItemFlags, MainDataItem, OutputItem};
+use hidreport_items::{FeatureItem, InputItem, ItemFlags, OutputItem};
 use std::fmt;
 use std::marker::Model;
 

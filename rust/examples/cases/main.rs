@@ -5,7 +5,8 @@ mod wholes;
 mod words;
 
 use hidreport::c::{
-    Direction, Field, Flags, Fraction, Measures, Options, Refusal, Report, Status, Unread,
+    Collection, Direction, Field, Flags, Fraction, Measures, Options, Refusal, Report, Status,
+    Unread,
 };
 use std::io::BufRead;
 use words::{
@@ -101,6 +102,13 @@ fn print_report(r: &Report) {
     println!(" bytes {} fields {}", r.size_in_bytes, r.field_count);
 }
 
+fn print_collections(answer: Result<Vec<Collection>, Refusal>) {
+    for c in counted(answer) {
+        print!("  #{} {}", c.number, collection_of(c.kind));
+        println!(" usages {} {:08x}", c.usage_count, c.usage);
+    }
+}
+
 fn print_choice(value: Option<i64>) {
     println!("  value {} {}", value.unwrap_or(0), u8::from(value.is_some()));
 }
@@ -153,12 +161,7 @@ impl Asked {
                     hidreport::c::collection_usages(descriptor, self.options, number, index);
                 self.keep_usages(answer);
             }
-            _ => {
-                for c in counted(hidreport::c::collections(descriptor, self.options, number)) {
-                    print!("  #{} {}", c.number, collection_of(c.kind));
-                    println!(" usages {} {:08x}", c.usage_count, c.usage);
-                }
-            }
+            _ => print_collections(hidreport::c::collections(descriptor, self.options, number)),
         }
     }
 

@@ -1,6 +1,6 @@
-//! Questions of groups, and of all usages and all values at once.
+//! Questions of groups, and of all usages, collections and values at once.
 use crate::words::{bytes_of, direction_of, kind_of, room_of, words_of};
-use crate::{counted, print_shared, Asked};
+use crate::{counted, print_collections, print_shared, Asked};
 use hidreport::c::{self, Direction, Group};
 
 fn print_group(g: &Group) {
@@ -54,6 +54,7 @@ pub(crate) fn ask(asked: &mut Asked, kind: &str, words: &[&str], report: &[u8]) 
     }
     if !matches!(kind, "groups" | "group-usage" | "group-field")
         && !matches!(kind, "describe-usages" | "find-usages")
+        && !matches!(kind, "describe-collections" | "describe-collection-usages")
     {
         return false;
     }
@@ -70,6 +71,12 @@ pub(crate) fn ask(asked: &mut Asked, kind: &str, words: &[&str], report: &[u8]) 
         "group-usage" | "group-field" => ask_placed(asked, kind, direction, &words[1..]),
         "find-usages" => {
             asked.keep_usages(c::find_usages(&descriptor(), options, direction, report));
+        }
+        "describe-collections" => {
+            print_collections(c::describe_collections(&descriptor(), options, direction));
+        }
+        "describe-collection-usages" => {
+            asked.keep_usages(c::describe_collection_usages(&descriptor(), options, direction));
         }
         _ => asked.keep_usages(c::describe_usages(&descriptor(), options, direction)),
     }

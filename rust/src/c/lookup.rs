@@ -13,7 +13,7 @@ pub fn report_with(
     id: Option<u8>,
 ) -> Result<Option<Report>, Refusal> {
     let (has_id, id, way) = (id.is_some(), id.unwrap_or(0), direction.into());
-    listed_in(descriptor, options, Report::default(), |bytes, length, list, room| unsafe {
+    listed_in(descriptor, options, 1, Report::default(), |bytes, length, list, room| unsafe {
         sys::hidreport_report_with(bytes, length, options, way, has_id, id, list, room)
     })
     .map(|reports| reports.first().copied())
@@ -25,7 +25,7 @@ pub fn field_numbered(
     options: Options,
     number: u32,
 ) -> Result<Option<Field>, Refusal> {
-    listed_in(descriptor, options, Field::default(), |bytes, length, list, room| unsafe {
+    listed_in(descriptor, options, 1, Field::default(), |bytes, length, list, room| unsafe {
         sys::hidreport_field_numbered(bytes, length, options, number, list, room)
     })
     .map(|fields| fields.first().copied())
@@ -40,7 +40,7 @@ pub fn field_for(
     usage: u32,
 ) -> Result<Option<Field>, Refusal> {
     let (has_id, id, way) = (id.is_some(), id.unwrap_or(0), direction.into());
-    listed_in(descriptor, options, Field::default(), |bytes, length, list, room| unsafe {
+    listed_in(descriptor, options, 1, Field::default(), |bytes, length, list, room| unsafe {
         sys::hidreport_field_for(bytes, length, options, way, has_id, id, usage, list, room)
     })
     .map(|fields| fields.first().copied())

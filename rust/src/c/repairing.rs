@@ -1,7 +1,7 @@
 //! Descriptors that hosts accept, made such as are read.
 use crate::c::numbers::{Mends, Status};
 use crate::c::sys::{self, Change, Options};
-use crate::c::{listed, text_of, Refusal, Unlisted};
+use crate::c::{listed, text_of, Refusal, Unlisted, FEW};
 
 // SAFETY of all calls below: as of those in lib.rs.
 
@@ -15,7 +15,7 @@ fn refusal(descriptor: &[u8], options: Options, mends: Mends, unlisted: Unlisted
 
 /// A descriptor that is read by these options, made of one that hosts accept.
 pub fn repair(descriptor: &[u8], options: Options, mends: Mends) -> Result<Vec<u8>, Refusal> {
-    listed(0, |bytes, room| unsafe {
+    listed(descriptor.len(), 0, |bytes, room| unsafe {
         sys::hidreport_repair(
             descriptor.as_ptr(),
             descriptor.len(),
@@ -30,7 +30,7 @@ pub fn repair(descriptor: &[u8], options: Options, mends: Mends) -> Result<Vec<u
 
 /// What `repair` changes, in the order of the offsets; none where the descriptor stays as it is.
 pub fn changes(descriptor: &[u8], options: Options, mends: Mends) -> Result<Vec<Change>, Refusal> {
-    listed(Change::default(), |changes, room| unsafe {
+    listed(FEW, Change::default(), |changes, room| unsafe {
         sys::hidreport_changes(
             descriptor.as_ptr(),
             descriptor.len(),

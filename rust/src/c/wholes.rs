@@ -1,7 +1,7 @@
 //! Groups of fields, and all usages and all values at once.
 use crate::c::numbers::{Direction, Status};
-use crate::c::sys::{self, Field, Group, Options};
-use crate::c::{listed, listed_in, Refusal};
+use crate::c::sys::{self, Collection, Field, Group, Options};
+use crate::c::{listed, listed_in, Refusal, FEW};
 
 // SAFETY of all calls below: as of those in lib.rs.
 
@@ -12,7 +12,7 @@ pub fn groups(
     direction: Direction,
 ) -> Result<Vec<Group>, Refusal> {
     let empty = Group::default();
-    listed_in(descriptor, options, empty, |bytes, length, list, room| unsafe {
+    listed_in(descriptor, options, FEW, empty, |bytes, length, list, room| unsafe {
         sys::hidreport_groups(bytes, length, options, direction.into(), list, room)
     })
 }
@@ -27,7 +27,7 @@ pub fn group_usage(
     index: usize,
 ) -> Result<Option<u32>, Refusal> {
     let way = direction.into();
-    listed_in(descriptor, options, 0, |bytes, length, list, room| unsafe {
+    listed_in(descriptor, options, FEW, 0, |bytes, length, list, room| unsafe {
         sys::hidreport_group_usage(bytes, length, options, way, group, index, list, room)
     })
     .map(|usages| usages.first().copied())
@@ -42,7 +42,7 @@ pub fn group_field(
     index: usize,
 ) -> Result<Option<Field>, Refusal> {
     let way = direction.into();
-    listed_in(descriptor, options, Field::default(), |bytes, length, list, room| unsafe {
+    listed_in(descriptor, options, 1, Field::default(), |bytes, length, list, room| unsafe {
         sys::hidreport_group_field(bytes, length, options, way, group, index, list, room)
     })
     .map(|fields| fields.first().copied())
@@ -55,8 +55,33 @@ pub fn describe_usages(
     options: Options,
     direction: Direction,
 ) -> Result<Vec<u32>, Refusal> {
-    listed_in(descriptor, options, 0, |bytes, length, list, room| unsafe {
+    listed_in(descriptor, options, FEW, 0, |bytes, length, list, room| unsafe {
         sys::hidreport_describe_usages(bytes, length, options, direction.into(), list, room)
+    })
+}
+
+/// The collections of all fields that `describe` lists, those of each field behind those of the field
+/// before.
+pub fn describe_collections(
+    descriptor: &[u8],
+    options: Options,
+    direction: Direction,
+) -> Result<Vec<Collection>, Refusal> {
+    let empty = Collection::default();
+    listed_in(descriptor, options, FEW, empty, |bytes, length, list, room| unsafe {
+        sys::hidreport_describe_collections(bytes, length, options, direction.into(), list, room)
+    })
+}
+
+/// The usages of all these collections, those of each behind those of the one before.
+pub fn describe_collection_usages(
+    descriptor: &[u8],
+    options: Options,
+    direction: Direction,
+) -> Result<Vec<u32>, Refusal> {
+    let way = direction.into();
+    listed_in(descriptor, options, FEW, 0, |bytes, length, list, room| unsafe {
+        sys::hidreport_describe_collection_usages(bytes, length, options, way, list, room)
     })
 }
 
@@ -68,7 +93,7 @@ pub fn find_usages(
     report: &[u8],
 ) -> Result<Vec<u32>, Refusal> {
     let (way, first, size) = (direction.into(), report.as_ptr(), report.len());
-    listed_in(descriptor, options, 0, |bytes, length, list, room| unsafe {
+    listed_in(descriptor, options, FEW, 0, |bytes, length, list, room| unsafe {
         sys::hidreport_find_usages(bytes, length, options, way, first, size, list, room)
     })
 }
@@ -76,7 +101,7 @@ pub fn find_usages(
 /// All values of these fields in a report, those of each field behind those of the field before.
 pub fn read(fields: &[Field], report: &[u8]) -> Result<Vec<i64>, Status> {
     let (first, count) = (fields.as_ptr(), fields.len());
-    listed(0, |values, room| unsafe {
+    listed(count.min(FEW), 0, |values, room| unsafe {
         sys::hidreport_read(first, count, report.as_ptr(), report.len(), values, room)
     })
     .map_err(|unlisted| unlisted.status)
@@ -85,7 +110,7 @@ pub fn read(fields: &[Field], report: &[u8]) -> Result<Vec<i64>, Status> {
 /// The values of these fields that the bytes of a report have, up to the first that they don't have.
 pub fn read_available(fields: &[Field], report: &[u8]) -> Result<Vec<i64>, Status> {
     let (first, count) = (fields.as_ptr(), fields.len());
-    listed(0, |values, room| unsafe {
+    listed(count.min(FEW), 0, |values, room| unsafe {
         sys::hidreport_read_available(first, count, report.as_ptr(), report.len(), values, room)
     })
     .map_err(|unlisted| unlisted.status)

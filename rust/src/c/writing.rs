@@ -1,14 +1,16 @@
 //! Reports written.
-use crate::c::listed;
 use crate::c::numbers::Status;
 use crate::c::sys::{self, Field, Report};
+use crate::c::{listed, FEW};
 
 // SAFETY of all calls below: as of those in lib.rs.
 
 /// The bytes of a report without values: its id, where it has one, and zeros.
 pub fn blank(report: &Report) -> Result<Vec<u8>, Status> {
-    let bytes = listed(0, |bytes, room| unsafe { sys::hidreport_blank(report, bytes, room) });
-    bytes.map_err(|unlisted| unlisted.status)
+    listed(report.size_in_bytes.min(FEW), 0, |bytes, room| unsafe {
+        sys::hidreport_blank(report, bytes, room)
+    })
+    .map_err(|unlisted| unlisted.status)
 }
 
 /// Writes value `index` of a field, counted from 0, into a report: its bits become those of the

@@ -26,9 +26,7 @@ complete -c hid -l form -x -a "bytes hex recorder dump source python offsets lib
 complete -c hid -l report-form -x -a "bytes hex recorder dump source python offsets libinput debugfs lsusb usbmon" -d "What the reports' input holds, where it isn't to be guessed"
 complete -c hid -l device -x -d "The device that is meant, of an input that has several"
 complete -c hid -l limit -x -d "The most that a descriptor may list, 131072 where it isn't said"
-complete -c hid -l push -x -a "globals all" -d "What a Push keeps: globals, as hosts read, or all"
-complete -c hid -l usages -x -a "hosts standard" -d "How usages are found: as hosts read them, or by the standard's letter"
-complete -c hid -l lenient -d "Mend the descriptor first, as Linux reads it"
+complete -c hid -l as -x -a "linux standard" -d "Read as Linux does, which is so where nothing is said, or by the standard's letter"
 complete -c hid -l json -d "Write an object of JSON in each line"
 complete -c hid -l color -x -a "auto always never" -d "Show names in colour"
 complete -c hid -l sysfs -x -a "(__fish_complete_directories)" -d "The folder in which Linux tells of devices"
@@ -64,13 +62,11 @@ function __hid_names
     set -l place 2
     while test $place -le (count $tokens)
         switch $tokens[$place]
-            case --form --report-form --device --limit --push --usages --direction --sysfs
+            case --form --report-form --device --limit --as --direction --sysfs
                 set -a options $tokens[$place] $tokens[(math $place + 1)]
                 set place (math $place + 1)
             case --color --to
                 set place (math $place + 1)
-            case --lenient
-                set -a options $tokens[$place]
             case -
                 set -a words -
             case '-*'

@@ -1,9 +1,9 @@
 //! Inputs by the names that a command's words say.
 use crate::input::machine::{machine_device, node_meant};
-use crate::input::mending::mend;
 use crate::input::whole::{given_of, text_of};
+use crate::linux_read::mended;
 use crate::reads::Reads;
-use crate::settings::{LONGEST_INPUT, Settings};
+use crate::settings::{LONGEST_INPUT, ReadAs, Settings};
 use anyhow::{Result, bail, ensure};
 use hid_given::{Form, Given, Wanted};
 use hid_output::escaped;
@@ -102,8 +102,14 @@ fn described<R: Reads>(rt: &R, settings: &Settings, name: &str) -> Result<Given>
     }
     let path = descriptor_path(rt.alloc(), settings, node.as_str())?;
     let bytes = bytes_named(rt, path.as_str())?;
-    let mut given = given_of(rt.alloc(), bytes, settings.form, Wanted::Descriptors)?;
-    if let Some(number) = node.as_str().strip_prefix("/dev/hidraw") {
+    let number = node.as_str().strip_prefix("/dev/hidraw");
+    let form = if number.is_some() {
+        settings.form.or(Some(Form::Bytes))
+    } else {
+        settings.form
+    };
+    let mut given = given_of(rt.alloc(), bytes, form, Wanted::Descriptors)?;
+    if let Some(number) = number {
         name_device(rt, settings, number, &mut given)?;
     }
     if settings.form.is_none() {
@@ -124,8 +130,10 @@ fn chosen<R: Reads>(
 ) -> Result<Given> {
     let mut given = given;
     choose(&mut given, device)?;
-    if settings.is_lenient {
-        mend(rt, settings, name, &mut given)?;
+    if settings.read_as == Some(ReadAs::Linux) {
+        for device in given.devices.iter_mut() {
+            device.descriptor = mended(rt, settings, name, &device.descriptor)?.bytes;
+        }
     }
     Ok(given)
 }

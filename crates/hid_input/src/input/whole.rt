@@ -73,21 +73,38 @@ pub fn text_of(bytes: &[u8]) -> Option<&str> {
     if is_text(text) { Some(text) } else { None }
 }
 
-/// Refuses bytes that are all text but for characters that programs put beside it: those of
-/// UTF-16, an escape of colours, the end of a file of DOS.
+/// Of how many bytes one at least is no character of a text, where they aren't text.
+const OF_BYTES_ONE_ODD: usize = 5;
+
+/// Refuses bytes that may be text: in UTF-16, with few that are none, or all text but for what
+/// programs put beside it, an escape of colours and the end of a file of DOS.
 fn check_bytes(bytes: &[u8]) -> Result<()> {
     ensure!(
         !matches!(bytes, [0xff, 0xfe, _, 0, ..] | [0xfe, 0xff, 0, _, ..]),
         "is text in UTF-16, and is read in UTF-8; or as --form or --report-form bytes"
     );
-    let Ok(text) = str::from_utf8(bytes) else {
-        return Ok(());
+    let is_spoilt = match str::from_utf8(bytes) {
+        Ok(text) => is_spoilt(text),
+        Err(_other) => false,
     };
     ensure!(
-        !is_spoilt(text),
+        !is_spoilt,
         "is text with control characters, and is read without; or as --form or --report-form bytes"
     );
+    let count = bytes.len();
+    let odd = bytes.iter().filter(|byte| !is_letter(**byte)).count();
+    let first = bytes.iter().position(|byte| !is_letter(*byte)).unwrap_or(0);
+    ensure!(
+        odd.saturating_mul(OF_BYTES_ONE_ODD) >= count,
+        "is text but for {odd} of {count} bytes, the first at offset {first}; or as --form or \
+         --report-form bytes"
+    );
     Ok(())
+}
+
+/// Whether a byte is a character of a text in ASCII.
+fn is_letter(byte: u8) -> bool {
+    matches!(byte, b'\t' | b'\n' | b'\r' | b' '..=b'~')
 }
 
 /// Whether a text is one but for escapes and ends of files.

@@ -174,6 +174,14 @@ impl ArrayField {
         self.element_numbers().null_value(self.usages.len())
     }
 
+    /// The flags of the item that made the field, all nine (Section 6.2.2.5); Volatile is off in an
+    /// input report.
+    pub fn flags(&self) -> ItemFlags
+        ensures { result ≡ (array_attributes self.now).flags }
+    {
+        self.item.flags
+    }
+
     /// Whether the values can be below 0: the logical minimum is (Section 6.2.2.7).
     pub fn is_signed(&self) -> bool
         ensures { result ≡ int_lt self.now.logical_minimum (pos 0) }
@@ -498,11 +506,35 @@ impl ArrayField {
 impl FieldAttributes for ArrayField {
     ghost attributes = { array_attributes };
 
-    fn flags(&self) -> ItemFlags {
-        self.item.flags
+    fn is_relative(&self) -> bool {
+        self.item.flags.is_relative
+    }
+
+    fn wraps(&self) -> bool {
+        self.item.flags.wraps
+    }
+
+    fn is_nonlinear(&self) -> bool {
+        self.item.flags.is_nonlinear
+    }
+
+    fn has_no_preferred_state(&self) -> bool {
+        self.item.flags.has_no_preferred_state
+    }
+
+    fn has_null_state(&self) -> bool {
+        self.item.flags.has_null_state
+    }
+
+    fn is_buffered_bytes(&self) -> bool {
+        self.item.flags.is_buffered_bytes
     }
 
     fn is_volatile(&self) -> Option<bool> {
         self.item.volatile()
+    }
+
+    fn flags(&self) -> ItemFlags {
+        self.item.flags
     }
 }

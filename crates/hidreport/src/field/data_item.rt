@@ -5,7 +5,7 @@ ghost use Rattle.hidreport_items.specs.declared.main_item.MainItem.TheVariants a
 ghost use Rattle.hidreport.specs.Fields.{field_count, volatile_in};
 ghost use Rattle.hidreport.specs.Parser.DataItem.{as_item};
 
-use hidreport_items::{FeatureItem, InputItem, ItemFlags, MainDataItem, OutputItem};
+use hidreport_items::{FeatureItem, InputItem, ItemFlags, OutputItem};
 
 /// The three directions in which reports go (Section 6.2.2.4).
 #[derive(Clone, Copy, Debug, PartialEq, Eq)]

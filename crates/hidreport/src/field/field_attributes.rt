@@ -1,66 +1,64 @@
 //! The attributes that fields have from the flags of their item (Section 6.2.2.5).
 ghost use Rattle.std.specs.Prelude.{◌≡◌, not, option_map};
-ghost use Rattle.hidreport.specs.Records.{Attributes};
+ghost use Rattle.hidreport.specs.Records.{Attributes, field_flags};
 
 use hidreport_items::ItemFlags;
 
 /// The attributes that a field has from the flags of its item (Section 6.2.2.5).
 ///
-/// Each attribute has two calls, one for each of its states: exactly one of them answers true. All
-/// come from `flags` and `is_volatile`, so a type of your own needs only these.
+/// Each attribute has two calls, one for each of its states: exactly one of them answers true. A
+/// type of your own says seven of them; the other calls come from these.
 pub trait FieldAttributes {
     /// What the field has, apart from its place and its usages.
     ghost attributes: { Self → Attributes };
 
-    /// The flags of the field's item (Section 6.2.2.5).
-    fn flags(&self) -> ItemFlags
-        ensures { result ≡ (attributes self.now).flags };
+    /// Whether a value is a change since the last report (Relative, flag 2).
+    fn is_relative(&self) -> bool
+        ensures { result ≡ (attributes self.now).flags.relative };
+
+    /// Whether a value past one logical bound goes on at the other (Wrap, flag 3).
+    fn wraps(&self) -> bool
+        ensures { result ≡ (attributes self.now).flags.wrap };
+
+    /// Whether values aren't linear in what was measured (Non Linear, flag 4).
+    fn is_nonlinear(&self) -> bool
+        ensures { result ≡ (attributes self.now).flags.nonlinear };
+
+    /// Whether the control doesn't come back to a state when it is let go (No Preferred, flag 5).
+    fn has_no_preferred_state(&self) -> bool
+        ensures { result ≡ (attributes self.now).flags.no_preferred_state };
+
+    /// Whether the control has a state in which it sends no meaningful data (Null State, flag 6).
+    fn has_null_state(&self) -> bool
+        ensures { result ≡ (attributes self.now).flags.null_state };
+
+    /// Whether the field is a stream of bytes (Buffered Bytes, flag 8).
+    fn is_buffered_bytes(&self) -> bool
+        ensures { result ≡ (attributes self.now).flags.buffered_bytes };
 
     /// Whether the device may change the value without the host (Volatile, flag 7); `None` in an
     /// input report, whose items have no such flag.
     fn is_volatile(&self) -> Option<bool>
         ensures { result ≡ (attributes self.now).volatile };
 
-    /// Whether a value is a change since the last report (Relative, flag 2).
-    fn is_relative(&self) -> bool
-        ensures { result ≡ (attributes self.now).flags.relative }
+    /// The six flags above at once, as those of an item (Section 6.2.2.5).
+    ///
+    /// The item's other three, `is_constant`, `is_variable` and `is_volatile`, are there where the
+    /// type knows them, and else off.
+    fn flags(&self) -> ItemFlags
+        ensures { field_flags result ≡ field_flags (attributes self.now).flags }
     {
-        self.flags().is_relative
-    }
-
-    /// Whether a value past one logical bound goes on at the other (Wrap, flag 3).
-    fn wraps(&self) -> bool
-        ensures { result ≡ (attributes self.now).flags.wrap }
-    {
-        self.flags().wraps
-    }
-
-    /// Whether values aren't linear in what was measured (Non Linear, flag 4).
-    fn is_nonlinear(&self) -> bool
-        ensures { result ≡ (attributes self.now).flags.nonlinear }
-    {
-        self.flags().is_nonlinear
-    }
-
-    /// Whether the control doesn't come back to a state when it is let go (No Preferred, flag 5).
-    fn has_no_preferred_state(&self) -> bool
-        ensures { result ≡ (attributes self.now).flags.no_preferred_state }
-    {
-        self.flags().has_no_preferred_state
-    }
-
-    /// Whether the control has a state in which it sends no meaningful data (Null State, flag 6).
-    fn has_null_state(&self) -> bool
-        ensures { result ≡ (attributes self.now).flags.null_state }
-    {
-        self.flags().has_null_state
-    }
-
-    /// Whether the field is a stream of bytes (Buffered Bytes, flag 8).
-    fn is_buffered_bytes(&self) -> bool
-        ensures { result ≡ (attributes self.now).flags.buffered_bytes }
-    {
-        self.flags().is_buffered_bytes
+        ItemFlags {
+            is_relative: self.is_relative(),
+            wraps: self.wraps(),
+            is_nonlinear: self.is_nonlinear(),
+            has_no_preferred_state: self.has_no_preferred_state(),
+            has_null_state: self.has_null_state(),
+            is_buffered_bytes: self.is_buffered_bytes(),
+            is_constant: false,
+            is_variable: false,
+            is_volatile: false,
+        }
     }
 
     /// Whether a value is counted from a fixed origin (Absolute): not `is_relative`.

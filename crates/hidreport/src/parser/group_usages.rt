@@ -30,7 +30,7 @@ pub(crate) enum GroupUsages {
 }
 
 impl GroupUsages {
-    ghost use Rattle.std.specs.Prelude.{◌≡◌, ◌++◌, [], IfOk, IfSome, IsNone, OnOk, map, option_map, false, flat_map, slice_get};
+    ghost use Rattle.std.specs.Prelude.{◌≡◌, ◌++◌, [], IfOk, IfSome, IsNone, OnOk, is_some, length, map, nat_lt, option_map, false, flat_map, slice_get};
     ghost use Rattle.hidreport.specs.Fields.{usage_at};
     ghost use Rattle.hidreport.specs.HostUsages.{span_usages};
     ghost use Rattle.hidreport.specs.Parser.Groups.{HasFirst, own_usages};
@@ -158,6 +158,7 @@ impl GroupUsages {
     pub(crate) fn at(&self, c: usize) -> Option<Usage>
         ensures some { IfSome result (λ usage. usage ≡ usage_at (own_usages self.now).usages c) }
         ensures none { IsNone result → (own_usages self.now).usages ≡ [] }
+        ensures there { is_some result ≡ nat_lt 0 (length (own_usages self.now).usages) }
     {
         match self {
             GroupUsages::Range(bounds) => Usages::Range(*bounds).at_if_some(c),

@@ -37,7 +37,7 @@ pub(crate) enum Usages<'a> {
 }
 
 impl<'a> Usages<'a> {
-    ghost use Rattle.std.specs.Prelude.{◌≡◌, ◌<◌, ◌≤◌, ◌^◌, [], false, length, take, IfOk, IfSome, IsNone};
+    ghost use Rattle.std.specs.Prelude.{◌≡◌, ◌<◌, ◌≤◌, ◌^◌, [], false, is_some, length, nat_lt, take, IfOk, IfSome, IsNone};
     ghost use Rattle.hidreport.specs.Fields.{usage_at};
     ghost use Rattle.hidreport.specs.Parser.Usages.{usage_list};
 
@@ -85,6 +85,7 @@ impl<'a> Usages<'a> {
     pub(crate) fn at_if_some(&self, c: usize) -> Option<Usage>
         ensures some { IfSome result (λ usage. usage ≡ usage_at (usage_list self.now).usages c) }
         ensures none { IsNone result → (usage_list self.now).usages ≡ [] }
+        ensures there { is_some result ≡ nat_lt 0 (length (usage_list self.now).usages) }
     {
         if self.count() == 0 {
             return None;

@@ -41,7 +41,7 @@ impl Model for Group {
 }
 
 impl Group {
-    ghost use Rattle.std.specs.Prelude.{◌≡◌, ◌+◌, ◌*◌, ◌++◌, [], IfOk, IfSome, IsNone, OnOk, is_some, map, nat_lt, option_map, slice_get};
+    ghost use Rattle.std.specs.Prelude.{◌≡◌, ◌+◌, ◌*◌, ◌++◌, [], IfOk, IfSome, IsNone, OnOk, is_some, length, map, nat_lt, option_map, slice_get};
     ghost use Rattle.hidreport.specs.Fields.{field_count, usage_at};
     ghost use Rattle.hidreport.specs.Groups.{group_fields};
     ghost use Rattle.hidreport.specs.Parser.Groups.{group_of};
@@ -137,6 +137,14 @@ impl Group {
         Some(self.layout.bits(index))
     }
 
+    /// The flags of the item that makes the fields, all nine (Section 6.2.2.5); Volatile is off in an
+    /// input report.
+    pub fn flags(&self) -> ItemFlags
+        ensures { result ≡ self.now.flags }
+    {
+        self.layout.item.flags
+    }
+
     /// Whether the fields are padding (Constant, Section 6.2.2.5).
     pub fn is_constant(&self) -> bool
         ensures { result ≡ self.now.flags.constant }
@@ -159,6 +167,7 @@ impl Group {
     pub fn usage(&self, index: usize) -> Option<Usage>
         ensures some { IfSome result (λ usage. usage ≡ usage_at self.now.usages.usages index) }
         ensures none { IsNone result → self.now.usages.usages ≡ [] }
+        ensures there { is_some result ≡ nat_lt 0 (length self.now.usages.usages) }
     {
         self.usages.at(index)
     }
@@ -238,11 +247,35 @@ fn usages_for(alloc: Global, layout: &Layout, usages: &Usages) -> Result<GroupUs
 impl FieldAttributes for Group {
     ghost attributes = { λ g. g.shared };
 
-    fn flags(&self) -> ItemFlags {
-        self.layout.item.flags
+    fn is_relative(&self) -> bool {
+        self.layout.item.flags.is_relative
+    }
+
+    fn wraps(&self) -> bool {
+        self.layout.item.flags.wraps
+    }
+
+    fn is_nonlinear(&self) -> bool {
+        self.layout.item.flags.is_nonlinear
+    }
+
+    fn has_no_preferred_state(&self) -> bool {
+        self.layout.item.flags.has_no_preferred_state
+    }
+
+    fn has_null_state(&self) -> bool {
+        self.layout.item.flags.has_null_state
+    }
+
+    fn is_buffered_bytes(&self) -> bool {
+        self.layout.item.flags.is_buffered_bytes
     }
 
     fn is_volatile(&self) -> Option<bool> {
         self.layout.item.volatile()
+    }
+
+    fn flags(&self) -> ItemFlags {
+        self.layout.item.flags
     }
 }

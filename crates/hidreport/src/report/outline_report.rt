@@ -1,14 +1,17 @@
 //! A report, its fields in groups (Section 5.6).
 ghost use Rattle.std.specs.Prelude.{◌≡◌, IfOk, map, option_copied};
+ghost use Rattle.hidreport.specs.Blank.{blank_bytes};
 ghost use Rattle.hidreport.specs.Groups.{fields_of_groups};
 ghost use Rattle.hidreport.specs.Lookup.{report_with};
 ghost use Rattle.hidreport.specs.Making.{same_key};
 ghost use Rattle.hidreport.specs.Views.{field_record};
+ghost use Rattle.hidreport.specs.Working.{TakesAll};
+ghost use Rattle.hidreport.specs.WritingLaws.{IsWhole};
 
 use crate::field::Field;
-use crate::report::RDescReport;
 use crate::report::group::Group;
 use crate::report::reports::is_same_id;
+use crate::report::{RDescReport, blank_of};
 use hidreport_types::ReportId;
 use std::alloc::{AllocError, Global};
 use std::marker::Model;
@@ -65,6 +68,21 @@ impl OutlineReport {
         ensures { result ≡ (self.now.size + 7) / 8 }
     {
         self.size.div_ceil(8)
+    }
+
+    /// The bytes of a report without values, as `Report::blank` makes them of the fields: as many as
+    /// the report has, the first its id, where it has one, and all other bits 0 (Section 5.6).
+    ///
+    /// # Errors
+    ///
+    /// - `AllocError`: memory for the bytes is refused.
+    pub fn blank(&self, alloc: Global) -> Result<Vec<u8>, AllocError>
+        ensures blank { IfOk result (λ bytes. bytes.items ≡ blank_bytes self.now.id self.now.size) }
+        ensures whole { IfOk result (λ bytes. IsWhole self.now bytes.items) }
+        ensures takes { IfOk result (λ bytes. TakesAll self.now bytes.items) }
+    {
+        let bytes = blank_of(alloc, &self.id, self.size)?;
+        Ok(bytes)
     }
 
     /// The same report with its fields listed.

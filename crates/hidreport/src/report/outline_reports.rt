@@ -1,9 +1,11 @@
 //! The reports of the three directions, their fields in groups.
 ghost use Rattle.std.specs.Prelude.{◌≡◌, IfOk};
 
+use crate::field::data_item::Direction;
 use crate::report::RDescReport;
-use crate::report::outline_report::OutlineReport;
+use crate::report::outline_report::{OutlineReport, find_with_id};
 use crate::report::reports::Reports;
+use hidreport_types::ReportId;
 use std::alloc::{AllocError, Global};
 use std::marker::Model;
 
@@ -28,7 +30,32 @@ impl Model for OutlineReports {
 }
 
 impl OutlineReports {
-    ghost use Rattle.std.specs.Prelude.{◌≡◌, IfOk};
+    ghost use Rattle.std.specs.Prelude.{◌≡◌, IfOk, option_copied};
+    ghost use Rattle.hidreport.specs.Lookup.{find_report, reports_of};
+
+    /// Those of a direction.
+    pub(crate) fn of(&self, direction: Direction) -> &[OutlineReport]
+        ensures { result.now ≡ reports_of direction self.now }
+    {
+        match direction {
+            Direction::Input => &self.input,
+            Direction::Output => &self.output,
+            Direction::Feature => &self.feature,
+        }
+    }
+
+    /// The one of a direction that a report's bytes are of.
+    pub(crate) fn find(&self, direction: Direction, bytes: &[u8]) -> Option<&OutlineReport>
+        ensures { option_copied result ≡ find_report (reports_of direction self.now) bytes.now }
+    {
+        let id = *bytes.first()?;
+        let reports = self.of(direction);
+        let first = reports.first()?;
+        match first.id {
+            None => Some(first),
+            Some(_) => find_with_id(reports, Some(ReportId::from(id))),
+        }
+    }
 
     /// The same reports, their fields listed.
     pub(crate) fn lay_out(&self, alloc: Global) -> Result<Reports, AllocError>

@@ -147,6 +147,24 @@ extern "C" {
         room: usize,
     ) -> Answer;
 
+    pub fn hidreport_describe_collections(
+        descriptor: *const u8,
+        length: usize,
+        options: Options,
+        direction: u32,
+        collections: *mut Collection,
+        room: usize,
+    ) -> Answer;
+
+    pub fn hidreport_describe_collection_usages(
+        descriptor: *const u8,
+        length: usize,
+        options: Options,
+        direction: u32,
+        usages: *mut u32,
+        room: usize,
+    ) -> Answer;
+
     pub fn hidreport_is_alike(
         descriptor: *const u8,
         length: usize,

@@ -1,0 +1,45 @@
+//! What helps where a limit refuses a descriptor.
+use crate::settings::Settings;
+use anyhow::anyhow;
+use hidreport::{Outline, ParseOptions, ParserError};
+use std::alloc::Global;
+
+/// How often a limit is doubled to find one that is enough.
+const MOST_DOUBLED: usize = 4;
+
+/// Why a descriptor is refused; where a limit does so, which is enough.
+pub fn past_limit(
+    alloc: Global,
+    settings: &Settings,
+    bytes: &[u8],
+    fault: ParserError,
+) -> anyhow::Error {
+    match fault {
+        ParserError::BudgetExceeded { .. } => match enough(alloc, settings, bytes) {
+            Some((limit, true)) => anyhow!("{fault}: --limit {limit} is enough"),
+            Some((limit, false)) => anyhow!("{fault}: --limit {limit} isn't enough either"),
+            None => fault.into(),
+        },
+        fault => fault.into(),
+    }
+}
+
+/// A limit under which a descriptor is read, up to a power of two, and whether it is; the last that
+/// was tried where none is.
+fn enough(alloc: Global, settings: &Settings, bytes: &[u8]) -> Option<(usize, bool)> {
+    let mut limit = settings.parse.limit?.max(bytes.len()).max(1);
+    for _ in 0..MOST_DOUBLED {
+        limit = limit.checked_mul(2)?;
+        let options = ParseOptions {
+            limit: Some(limit),
+            longest: None,
+            ..settings.parse
+        };
+        match Outline::try_from_with(alloc, bytes, options) {
+            Err(ParserError::BudgetExceeded { .. }) => {}
+            Ok(_outline) => return Some((limit, true)),
+            Err(_fault) => return None,
+        }
+    }
+    Some((limit, false))
+}

@@ -1,0 +1,11 @@
+use Rattle.std.proofs.Common.{arith, pos, refl}
+use Rattle.std.proofs.lemmas.Int.{ints}
+use Rattle.hidreport_definitions.proofs.scaling.a_falling_line_does_not_rise.Goals as goal
+
+pub returns : goal.returns
+returns c = λ scale. omega (
+  arith,
+  ints,
+  (scale.falling (pos 1) (pos 2) _ _
+      (omega (arith, ints)) (omega (arith, ints)) refl refl).1,
+)
