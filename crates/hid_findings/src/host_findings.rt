@@ -3,13 +3,12 @@ use crate::finding::{Finding, Source, tell};
 use crate::windows_reading::{refusal_remark, tell_windows};
 use crate::windows_refusal::WindowsRefusal;
 use hid_input::settings::Settings;
-use hid_linux::linux_reading::{Doubt, LeftOut, LinuxReading};
 use hid_output::add_bytes;
 use hid_report::add_title;
 use hidreport::{
     Change, Direction, ParserError, RDescReport, Reason, Report, ReportDescriptor, repair,
 };
-use hidreport_linux::Unmapped;
+use hidreport_linux::LinuxReading;
 use std::alloc::AllocError;
 
 /// What Linux does with a Resolution Multiplier of the widest bounds.
@@ -81,20 +80,20 @@ fn tell_linux(
 ) -> Result<Verdict, AllocError> {
     let alloc = *findings.allocator();
     let reading = LinuxReading::of(alloc, bytes)?;
-    if let Some(doubt) = reading.doubt
-        && doubt.unmapped != Unmapped::Refused
-    {
-        tell_doubt(findings, "Linux may read it otherwise: ", doubt)?;
+    if let Some(doubt) = reading.doubt() {
+        let remark = format!(in alloc; "Linux may read it otherwise: {}", doubt.reason.text())?;
+        tell(findings, Some(doubt.offset), &remark, Source::Linux)?;
     }
-    if let Some(refusal) = reading.refusal {
-        tell_doubt(findings, "Linux refuses it: ", refusal)?;
+    if let Some(refusal) = reading.refusal() {
+        let remark = format!(in alloc; "Linux refuses it: {}", refusal.reason.text())?;
+        tell(findings, Some(refusal.offset), &remark, Source::Linux)?;
         return Ok(Verdict::Refused);
     }
-    if let Some(LeftOut { offset, what }) = reading.left_out {
-        let remark = format!(in alloc; "Linux leaves out {what}")?;
-        tell(findings, Some(offset), &remark, Source::Linux)?;
+    if let Some(omission) = reading.left_out() {
+        let remark = format!(in alloc; "Linux leaves out {}", omission.what.text())?;
+        tell(findings, Some(omission.offset), &remark, Source::Linux)?;
     }
-    if let Some(offset) = reading.overflow {
+    if let Some(offset) = reading.overflow() {
         tell(findings, Some(offset), OVERFLOW, Source::Linux)?;
     }
     match repair(alloc, bytes, settings.repair()) {
@@ -107,12 +106,6 @@ fn tell_linux(
         Err(ParserError::OutOfMemory) => Err(AllocError),
         Err(_past_limit) => Ok(Verdict::Taken(0)),
     }
-}
-
-fn tell_doubt(findings: &mut Vec<Finding>, before: &str, doubt: Doubt) -> Result<(), AllocError> {
-    let mut remark = String::from_str(*findings.allocator(), before)?;
-    remark.push_str(doubt.reason)?;
-    tell(findings, Some(doubt.offset), &remark, Source::Linux)
 }
 
 /// Notes what Linux reads in the place of an item.

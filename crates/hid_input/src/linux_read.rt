@@ -2,9 +2,9 @@
 use crate::advice::past_limit;
 use crate::settings::{ReadAs, Settings};
 use anyhow::{Result, anyhow};
-use hid_linux::linux_reading::{Doubt, LeftOut, LinuxReading};
 use hid_output::escaped;
 use hidreport::{Outline, ParserError, Repaired, repair};
+use hidreport_linux::{Doubt, LinuxReading, Omission, Refusal};
 use std::alloc::{AllocError, Global};
 
 /// What Linux reads in a descriptor.
@@ -15,14 +15,14 @@ pub struct LinuxRead {
     /// Where it may read otherwise.
     pub doubt: Option<Doubt>,
     /// What it leaves out.
-    pub left_out: Option<LeftOut>,
+    pub left_out: Option<Omission>,
 }
 
 /// Why a descriptor isn't read as Linux reads it.
 #[derive(Drop)]
 pub enum Unread {
     /// Linux refuses it.
-    Refused(Doubt),
+    Refused(Refusal),
 
     /// It is longer than a descriptor may be, lists more than it may, or memory is refused.
     Fault(ParserError),
@@ -43,14 +43,14 @@ impl LinuxRead {
             return Err(Unread::Fault(ParserError::BudgetExceeded { offset }));
         }
         let reading = LinuxReading::of(alloc, bytes)?;
-        if let Some(refusal) = reading.refusal {
+        if let Some(refusal) = reading.refusal() {
             return Err(Unread::Refused(refusal));
         }
         match repair(alloc, bytes, settings.repair()) {
             Ok(repaired) => Ok(LinuxRead {
                 repaired,
-                doubt: reading.doubt,
-                left_out: reading.left_out,
+                doubt: reading.doubt(),
+                left_out: reading.left_out(),
             }),
             Err(fault) => Err(Unread::Fault(fault)),
         }
@@ -72,11 +72,11 @@ impl LinuxRead {
     pub fn tell_doubt<R: AllocGlobal + Eprint>(&self, rt: &R, name: &str) -> Result<()> {
         let name = escaped(rt.alloc(), name)?;
         if let Some(left_out) = self.left_out {
-            let LeftOut { offset, what } = left_out;
+            let (offset, what) = (left_out.offset, left_out.what.text());
             eprintln!(rt; "hid: {name}: Linux leaves out at offset {offset}: {what}")?;
         }
         if let Some(doubt) = self.doubt {
-            let (offset, reason) = (doubt.offset, doubt.reason);
+            let (offset, reason) = (doubt.offset, doubt.reason.text());
             eprintln!(rt; "hid: {name}: Linux may read it otherwise at offset {offset}: {reason}")?;
         }
         Ok(())
@@ -95,8 +95,13 @@ impl Unread {
 }
 
 /// That Linux refuses a descriptor; says so where the standard's reading takes it.
-pub fn refused(alloc: Global, settings: &Settings, bytes: &[u8], refusal: Doubt) -> anyhow::Error {
-    let (offset, reason) = (refusal.offset, refusal.reason);
+pub fn refused(
+    alloc: Global,
+    settings: &Settings,
+    bytes: &[u8],
+    refusal: Refusal,
+) -> anyhow::Error {
+    let (offset, reason) = (refusal.offset, refusal.reason.text());
     match Outline::try_from_with(alloc, bytes, settings.parse_as(ReadAs::Standard)) {
         Ok(_outline) => {
             anyhow!("Linux refuses it at offset {offset}: {reason}: --as standard reads it")

@@ -13,10 +13,10 @@ use hid_input::linux_read::{LinuxRead, Unread, refused};
 use hid_input::parsing::{descriptor_within, with_advice};
 use hid_input::settings::Settings;
 use hid_input::world::World;
-use hid_linux::linux_reading::Doubt;
 use hid_output::ending::Ending;
 use hid_output::flush;
 use hidreport::{ParserError, ReportDescriptor};
+use hidreport_linux::Refusal;
 use std::alloc::{AllocError, Global};
 
 /// Writes a page of HTML.
@@ -197,8 +197,8 @@ fn end<R: Print>(rt: &R, sheet: &mut Sheet) -> Result<()> {
 }
 
 /// That Linux refuses a descriptor, as a fault of its item.
-fn fault_of(alloc: Global, refusal: Doubt) -> Result<ParserError, AllocError> {
-    let (offset, reason) = (refusal.offset, refusal.reason);
+fn fault_of(alloc: Global, refusal: Refusal) -> Result<ParserError, AllocError> {
+    let (offset, reason) = (refusal.offset, refusal.reason.text());
     let message = format!(in alloc; "Linux refuses it: {reason}")?;
     Ok(ParserError::InvalidData { offset, message })
 }

@@ -3,12 +3,11 @@ use anyhow::Result;
 use hid_input::parsing::parsed;
 use hid_input::settings::Settings;
 use hid_items::items::ItemCursor;
-use hid_linux::linux_reading::LinuxReading;
 use hidreport::{
     Direction, Field, Group, Outline, OutlineReport, ParseOptions, RDescReport, RepairOptions,
     Report, ReportDescriptor, repair,
 };
-use hidreport_linux::{InputDevices, Item};
+use hidreport_linux::{InputDevices, Item, LinuxReading};
 use std::alloc::{AllocError, Global};
 
 /// More bits than an element of a descriptor has that Linux takes.
@@ -38,7 +37,7 @@ impl LinuxCopy {
             ..settings.parse
         };
         let mut copy = Vec::from_slice(alloc, bytes)?;
-        if reading.unmapped().is_none() && reading.has_items_without_bits {
+        if reading.unmapped().is_none() && reading.has_items_without_bits() {
             let sized = with_bits(alloc, &copy)?;
             let options = RepairOptions {
                 parse,
@@ -68,7 +67,7 @@ impl LinuxCopy {
         alloc: Global,
         reading: &LinuxReading,
     ) -> Result<InputDevices, AllocError> {
-        let mut devices = devices_before(alloc, reading);
+        let mut devices = reading.input_devices(alloc);
         if reading.unmapped().is_some() {
             return Ok(devices);
         }
@@ -84,11 +83,6 @@ impl LinuxCopy {
         }
         Ok(devices)
     }
-}
-
-/// The input devices before the first report.
-pub(crate) fn devices_before(alloc: Global, reading: &LinuxReading) -> InputDevices {
-    InputDevices::new(alloc, reading.applications, reading.unmapped())
 }
 
 /// The id of a report, 0 where it has none.

@@ -1,12 +1,11 @@
 //! `hid fields --linux`: each field with the event codes that Linux gives its usages.
-use crate::linux_copy::{LinuxCopy, devices_before, has_no_bits, id_of, pass_item};
+use crate::linux_copy::{LinuxCopy, has_no_bits, id_of, pass_item};
 use anyhow::Result;
 use hid_input::input::descriptor_named;
 use hid_input::linux_read::read_by_linux;
 use hid_input::parsing::parsed;
 use hid_input::settings::Settings;
 use hid_input::world::World;
-use hid_linux::linux_reading::{Doubt, LinuxReading};
 use hid_objects::field_object::{RestObject, object_of};
 use hid_objects::linux::{Answered, add_answers, add_lines, answers_of, objects_of};
 use hid_output::ending::Ending;
@@ -14,7 +13,7 @@ use hid_output::{add_json, flush, flush_piece};
 use hid_report::{FieldLine, add_head, around};
 use hid_words::{add_field, add_spaces, indent_of};
 use hidreport::{Collection, Direction, Field, Group, OutlineReport, RDescReport, Report, Usage};
-use hidreport_linux::{Driver, InputDevices, Item};
+use hidreport_linux::{Doubt, Driver, InputDevices, Item, LinuxReading};
 use std::alloc::AllocError;
 
 /// How much deeper than its array's the usages of an array stand.
@@ -31,7 +30,7 @@ pub fn show_linux<R: World>(rt: &R, settings: &Settings, file: &str) -> Result<E
     let copy = LinuxCopy::of(rt.alloc(), settings, bytes, &reading)?;
     let mut shown = Shown {
         text: String::new(rt.alloc()),
-        devices: devices_before(rt.alloc(), &reading),
+        devices: reading.input_devices(rt.alloc()),
         all: copy.devices(rt.alloc(), &reading)?,
         reading,
         is_json: settings.is_json,
@@ -46,7 +45,7 @@ pub fn show_linux<R: World>(rt: &R, settings: &Settings, file: &str) -> Result<E
         }
     }
     flush(rt, &mut shown.text)?;
-    tell(rt, shown.reading.doubt, shown.reading.driver)?;
+    tell(rt, shown.reading.doubt(), shown.reading.driver())?;
     Ok(Ending::Done)
 }
 
@@ -61,7 +60,7 @@ fn unmended<'a>(settings: &Settings<'a>) -> Settings<'a> {
 /// Says why no codes are known, and which driver takes the device.
 fn tell<R: Eprint>(rt: &R, doubt: Option<Doubt>, driver: Option<Driver>) -> Result<()> {
     if let Some(doubt) = doubt {
-        let (offset, reason) = (doubt.offset, doubt.reason);
+        let (offset, reason) = (doubt.offset, doubt.reason.text());
         eprintln!(rt; "hid: the codes aren't known for offset {offset}: {reason}")?;
     }
     if let Some(driver) = driver {

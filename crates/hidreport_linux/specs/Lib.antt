@@ -3,9 +3,17 @@ pub mod Axes
 pub mod AxisNumbers
 pub mod Buttons
 pub mod Claims
+pub mod CoreItems
+pub mod CoreKept
+pub mod CoreLocals
+pub mod CoreReading
+pub mod CoreReasons
+pub mod CoreReports
+pub mod CoreUsages
 pub mod Devices
 pub mod DevicesRecord
 pub mod Events
+pub mod LinuxDevice
 pub mod Names
 pub mod Places
 pub mod Reasons

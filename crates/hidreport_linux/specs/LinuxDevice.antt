@@ -1,0 +1,59 @@
+-- A device as Linux reads its descriptor (hid-core of Linux 6.12).
+use Rattle.std.specs.Prelude.{◌≡◌, ◌≢◌, ◌⊎◌, ℕ, true, false, List, Option, Some, None, Result, Ok, Err}
+use Rattle.hidreport_lists.specs.Answer.{Refuses}
+use Rattle.hidreport_lists.specs.declared.error.ParserError.{ParserError}
+use Rattle.hidreport_lists.specs.declared.error.ParserError.TheVariants as errors
+use Rattle.hidreport.specs.Options.{parse_as}
+use Rattle.hidreport.specs.Records.{DescriptorRecord}
+use Rattle.hidreport.specs.Repair.{RepairedRecord, repaired}
+use Rattle.hidreport.specs.declared.parser.push_keeps.PushKeeps.TheVariants as push_keeps
+use Rattle.hidreport.specs.declared.parser.usages_by.UsagesBy.TheVariants as usages_by
+use Rattle.hidreport.specs.declared.repairing.repair_options.RepairOptions.{RepairOptions}
+use Rattle.hidreport_linux.specs.CoreKept.{ReadingRecord}
+use Rattle.hidreport_linux.specs.CoreReading.{linux_reading}
+use Rattle.hidreport_linux.specs.declared.linux_device.LinuxRefusal.{LinuxRefusal}
+use Rattle.hidreport_linux.specs.declared.linux_device.LinuxRefusal.TheVariants as linux
+
+-- Linux takes the descriptor: hid-core refuses none of its items, and nothing is left open
+abbrev pub IsTakenByLinux : List ℕ → Type 0
+IsTakenByLinux bytes = (linux_reading bytes).refusal ≡ None
+
+-- maxima have no sign where minima have none, a Push keeps globals alone, and usages are as hosts
+-- find them
+abbrev pub linux_options : Option ℕ → RepairOptions
+linux_options limit = record {
+  parse = record {
+    push_keeps = push_keeps.Globals;
+    usages = usages_by.Hosts;
+    limit = limit;
+    longest = None;
+  };
+  leave_out_cut_short = false;
+  unsigned_maxima = true;
+}
+
+-- what is read of the items, the mended descriptor, and its reports
+pub record DeviceRecord : Type 0 where
+  pub reading : ReadingRecord
+  pub repaired : RepairedRecord
+  pub outline : DescriptorRecord
+
+-- Linux takes the descriptor, and reads it so: mended, its reports are these
+pub record IsDevice (limit : Option ℕ) (bytes : List ℕ) (device : DeviceRecord) : Type 0 where
+  pub taken : IsTakenByLinux bytes
+  pub reading : device.reading ≡ linux_reading bytes
+  pub mended : repaired (linux_options limit) bytes ≡ Ok device.repaired
+  pub reports : parse_as (linux_options limit).parse device.repaired.bytes ≡ Ok device.outline
+
+-- memory is refused; or Linux takes the descriptor, and what is mended is refused
+abbrev pub IsUnread : Option ℕ → List ℕ → ParserError → Type 0
+IsUnread limit bytes errors.OutOfMemory = Unit {0}
+IsUnread limit bytes fault =
+    IsTakenByLinux bytes × Refuses fault (repaired (linux_options limit) bytes)
+
+-- a descriptor is read as Linux reads it, or refused where Linux refuses it
+abbrev pub LinuxAnswers : Option ℕ → List ℕ → Result DeviceRecord LinuxRefusal → Type 0
+LinuxAnswers limit bytes (Ok device) = IsDevice limit bytes device
+LinuxAnswers limit bytes (Err (linux.Refused offset reason)) =
+    (linux_reading bytes).refusal ≡ Some (record { offset = offset; reason = reason })
+LinuxAnswers limit bytes (Err (linux.Unread fault)) = IsUnread limit bytes fault

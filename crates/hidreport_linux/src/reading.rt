@@ -1,0 +1,510 @@
+//! How Linux's hid-core reads a descriptor.
+ghost use Rattle.std.specs.Prelude.{◌≡◌};
+ghost use Rattle.hidreport_items.specs.Spelling.{data_length};
+ghost use Rattle.hidreport_linux.specs.CoreReading.{is_feature, is_input};
+
+mod core_globals;
+mod core_item;
+mod core_locals;
+mod core_named;
+mod core_reports;
+mod core_usages;
+mod number;
+pub(crate) mod placed;
+pub(crate) mod reasons;
+
+use crate::driver::Driver;
+use crate::input_devices::{InputDevices, is_input_application};
+use crate::unmapped::Unmapped;
+use core_globals::CoreGlobals;
+use core_item::CoreItem;
+use core_locals::CoreLocals;
+use core_reports::CoreReports;
+use hidreport::Direction;
+use placed::{Doubt, Omission, Refusal};
+use reasons::{DoubtReason, LeftOut, RefusalReason};
+use std::alloc::{AllocError, Global};
+use std::marker::Model;
+
+/// The most elements of an item.
+const MOST_ELEMENTS: u32 = 12_288;
+
+/// The most bits of an element.
+const MOST_BITS: u32 = 256;
+
+/// The most bits of a report without its id: of 16,384 bytes one may be the id's.
+const MOST_REPORT_BITS: u32 = 131_064;
+
+/// The most items of a report that name usages.
+const MOST_ITEMS: u32 = 256;
+
+/// The most Pushes that wait for their Pops.
+const MOST_PUSHES: usize = 4;
+
+/// How Linux's hid-core reads the items of a descriptor: whether it takes them, where it may find
+/// other usages than `usages` by hosts, and what it makes of its collections.
+///
+/// It is that of Linux 6.12, item by item.
+#[derive(Drop)]
+pub struct LinuxReading {
+    globals: CoreGlobals,
+    pushed: Vec<CoreGlobals>,
+    open: Vec<u32>,
+    reports: CoreReports,
+    locals: CoreLocals,
+    has_ids: bool,
+    lacks_ids: bool,
+    applications: usize,
+    has_input: bool,
+    driver: Option<Driver>,
+    doubt: Option<Doubt>,
+    refusal: Option<Refusal>,
+    left_out: Option<Omission>,
+    has_items_without_bits: bool,
+    overflow: Option<usize>,
+}
+
+impl Model for LinuxReading {
+    ghost use Rattle.hidreport_linux.specs.CoreKept.{ReadingRecord};
+
+    ghost Value = { ReadingRecord };
+
+    ghost view = { λ r. record {
+      globals = r.globals;
+      pushed = r.pushed.items;
+      open = r.open.items;
+      reports = r.reports;
+      locals = r.locals;
+      has_ids = r.has_ids;
+      lacks_ids = r.lacks_ids;
+      applications = r.applications;
+      has_input = r.has_input;
+      driver = r.driver;
+      doubt = r.doubt;
+      refusal = r.refusal;
+      left_out = r.left_out;
+      has_items_without_bits = r.has_items_without_bits;
+      overflow = r.overflow;
+    } };
+}
+
+impl LinuxReading {
+    ghost use Rattle.std.specs.Prelude.{◌≡◌, IfOk, OnOk, length};
+    ghost use Rattle.hidreport_linux.specs.CoreKept.{nothing_kept};
+    ghost use Rattle.hidreport_linux.specs.CoreReading.{application_in_force, behind, behind_collection, behind_data, behind_elements, behind_end, behind_id, behind_item, behind_local_item, behind_pop, bits_of, data_refusal, driver_behind, ended, linux_reading, overflows, read_all, refusal_of, refused, unmapped_in, with_cut, with_doubt};
+    ghost use Rattle.hidreport_linux.specs.CoreReports.{application_of};
+    ghost use Rattle.hidreport_linux.specs.Devices.{no_devices};
+
+    /// Reads the items of a descriptor, up to the first that is refused.
+    ///
+    /// # Errors
+    ///
+    /// - `AllocError`: memory is refused.
+    pub fn of(alloc: Global, bytes: &[u8]) -> Result<LinuxReading, AllocError>
+        ensures { IfOk result (λ reading. reading ≡ linux_reading bytes.now) }
+    {
+        let mut reading = LinuxReading::nothing(alloc);
+        if bytes.is_empty() {
+            reading.refuse(0, RefusalReason::NoItem);
+            return Ok(reading);
+        }
+        reading.read(bytes)?;
+        Ok(reading)
+    }
+
+    /// Before the first item.
+    fn nothing(alloc: Global) -> LinuxReading
+        ensures { result ≡ nothing_kept }
+    {
+        let locals = CoreLocals::new(alloc);
+        LinuxReading {
+            globals: CoreGlobals::none(),
+            pushed: Vec::new(alloc),
+            open: Vec::new(alloc),
+            reports: CoreReports::none(),
+            locals,
+            has_ids: false,
+            lacks_ids: false,
+            applications: 0,
+            has_input: false,
+            driver: None,
+            doubt: None,
+            refusal: None,
+            left_out: None,
+            has_items_without_bits: false,
+            overflow: None,
+        }
+    }
+
+    /// Reads all items: each is a header and its data.
+    fn read(&mut self, bytes: &[u8]) -> Result<(), AllocError>
+        ensures { OnOk result (self.new
+            ≡ read_all (length bytes.now) (length bytes.now) bytes.now self.old) }
+    {
+        let mut rest = bytes;
+        let mut left = bytes.len();
+        while left > 0 {
+            left -= 1;
+            let Some((header, behind)) = rest.split_first() else {
+                break;
+            };
+            let offset = bytes.len().saturating_sub(rest.len());
+            let Some((data, behind)) = behind.split_at_checked(size_of(*header)) else {
+                self.refuse(offset, RefusalReason::CutShort);
+                return Ok(());
+            };
+            let item = CoreItem::of(*header, data);
+            if let Some(reason) = self.refusal_of(item) {
+                self.refuse(offset, reason);
+                return Ok(());
+            }
+            self.pass(offset, item)?;
+            rest = behind;
+        }
+        self.end(bytes.len());
+        Ok(())
+    }
+
+    /// That an item is refused.
+    fn refuse(&mut self, offset: usize, reason: RefusalReason)
+        ensures { self.new ≡ refused offset reason self.old }
+    {
+        self.refusal = Some(Refusal { offset, reason });
+    }
+
+    /// That an item may be read otherwise, which is kept if it is the first.
+    fn doubt_at(&mut self, offset: usize, reason: DoubtReason)
+        ensures { self.new ≡ with_doubt offset reason self.old }
+    {
+        if self.doubt.is_none() {
+            self.doubt = Some(Doubt { offset, reason });
+        }
+    }
+
+    /// That something is left out, which is kept if it is the first.
+    fn leave_out(&mut self, offset: usize, what: LeftOut)
+        ensures { self.new ≡ with_cut offset what self.old }
+    {
+        if self.left_out.is_none() {
+            self.left_out = Some(Omission { offset, what });
+        }
+    }
+
+    /// Why an item is refused behind those before it.
+    fn refusal_of(&self, item: CoreItem) -> Option<RefusalReason>
+        ensures { result ≡ refusal_of item self.now }
+    {
+        match item {
+            CoreItem::Long => Some(RefusalReason::LongItem),
+            CoreItem::UnknownGlobal => Some(RefusalReason::UnknownGlobal),
+            CoreItem::Push if self.pushed.len() >= MOST_PUSHES => Some(RefusalReason::PastPushes),
+            CoreItem::Pop if self.pushed.is_empty() => Some(RefusalReason::LonePop),
+            CoreItem::EndCollection if self.open.is_empty() => Some(RefusalReason::LoneEnd),
+            CoreItem::ReportSize(bits) if bits > MOST_BITS => Some(RefusalReason::PastBits),
+            CoreItem::ReportCount(count) if count > MOST_ELEMENTS => Some(RefusalReason::PastCount),
+            CoreItem::ReportId(id) if id == 0 || id > 0xff => Some(RefusalReason::NoId),
+            CoreItem::Data(direction, _) => self.data_refusal(direction),
+            item => self.locals.refusal(item),
+        }
+    }
+
+    /// Why an Input, Output or Feature is refused.
+    fn data_refusal(&self, direction: Direction) -> Option<RefusalReason>
+        ensures { result ≡ data_refusal direction self.now }
+    {
+        if self.globals.are_below() {
+            return Some(RefusalReason::BelowMinimum);
+        }
+        let report = self.reports.of(direction, self.globals.id);
+        if report.bits.saturating_add(self.bits()) > MOST_REPORT_BITS {
+            return Some(RefusalReason::LongReport);
+        }
+        None
+    }
+
+    /// How many bits the elements of an item have.
+    fn bits(&self) -> u32
+        ensures { result ≡ bits_of self.now.globals }
+    {
+        self.globals.size.saturating_mul(self.globals.count)
+    }
+
+    /// Goes over an item that isn't refused.
+    fn pass(&mut self, offset: usize, item: CoreItem) -> Result<(), AllocError>
+        ensures { OnOk result (self.new ≡ behind offset item self.old) }
+    {
+        match item {
+            CoreItem::Push => Ok(self.pushed.push(self.globals)?),
+            CoreItem::Pop => {
+                self.pop();
+                Ok(())
+            }
+            CoreItem::Collection(kind) => self.pass_collection(kind),
+            CoreItem::EndCollection => {
+                self.close();
+                Ok(())
+            }
+            CoreItem::Data(direction, flags) => {
+                self.pass_data(offset, direction, flags);
+                Ok(())
+            }
+            CoreItem::UnknownMain => {
+                self.locals.clear();
+                Ok(())
+            }
+            item => self.pass_other(offset, item),
+        }
+    }
+
+    /// Goes over a global or a local item.
+    fn pass_other(&mut self, offset: usize, item: CoreItem) -> Result<(), AllocError>
+        ensures { OnOk result (self.new ≡ behind_item offset item self.old) }
+    {
+        match item {
+            CoreItem::LogicalMinimum(number) => self.globals.minimum = number,
+            CoreItem::LogicalMaximum(signed, number) => self.globals.set_maximum(signed, number),
+            CoreItem::ReportSize(bits) => self.globals.size = bits,
+            CoreItem::ReportCount(count) => self.globals.count = count,
+            CoreItem::ReportId(id) => self.globals.id = id,
+            CoreItem::UsagePage(page) if page > 0xffff => {
+                self.doubt_at(offset, DoubtReason::WidePage);
+            }
+            CoreItem::UsagePage(page) => self.globals.page = page,
+            item => return self.pass_local(offset, item),
+        }
+        Ok(())
+    }
+
+    /// Goes over a local item.
+    fn pass_local(&mut self, offset: usize, item: CoreItem) -> Result<(), AllocError>
+        ensures { OnOk result (self.new ≡ behind_local_item offset item self.old) }
+    {
+        if let Some(reason) = self.locals.doubt(item) {
+            self.doubt_at(offset, reason);
+        }
+        if self.locals.cuts(item) {
+            self.leave_out(offset, LeftOut::Usages);
+        }
+        self.locals.pass(item, self.globals.page)
+    }
+
+    /// The globals are those before the last Push again.
+    fn pop(&mut self)
+        ensures { self.new ≡ behind_pop self.old }
+    {
+        if let Some(globals) = self.pushed.pop() {
+            self.globals = globals;
+        }
+    }
+
+    /// A collection: what it is of is the first usage.
+    fn pass_collection(&mut self, kind: u32) -> Result<(), AllocError>
+        ensures { OnOk result (self.new ≡ behind_collection kind self.old) }
+    {
+        let usage = self.locals.first(self.globals.page);
+        let application = if kind == 1 {
+            usage
+        } else {
+            self.application_in_force()
+        };
+        self.open.push(application)?;
+        if kind == 1 && self.applications < 2 {
+            self.applications += 1;
+        }
+        self.has_input = self.has_input || kind <= 1 && is_input_application(usage);
+        self.driver = self.driver_behind(kind);
+        self.locals.clear();
+        Ok(())
+    }
+
+    /// The usage of the innermost open application, 0 where there is none.
+    fn application_in_force(&self) -> u32
+        ensures { result ≡ application_in_force self.now }
+    {
+        self.open.last().copied().unwrap_or(0)
+    }
+
+    /// The driver that asks for the device behind a collection: one of sensors, or hid-vivaldi, which
+    /// gives the same codes as hid-generic. The last item that asks for a driver gets its own.
+    fn driver_behind(&self, kind: u32) -> Option<Driver>
+        ensures { result ≡ driver_behind kind self.now }
+    {
+        let page = self.globals.page;
+        if page == 0xffd1 && self.locals.have(page, 0xffd1_0001) {
+            return None;
+        }
+        if kind <= 1 && page == 0x20 {
+            return Some(Driver::SensorHub);
+        }
+        self.driver
+    }
+
+    fn close(&mut self)
+        ensures { self.new ≡ behind_end self.old }
+    {
+        let _closed = self.open.pop();
+        self.locals.clear();
+    }
+
+    /// An Input, Output or Feature.
+    fn pass_data(&mut self, offset: usize, direction: Direction, flags: u32)
+        ensures { self.new ≡ behind_data offset direction flags self.old }
+    {
+        let (page, id) = (self.globals.page, self.globals.id);
+        let has_usages = self.locals.have_usages();
+        let (application, bits) = (self.application_in_force(), self.bits());
+        self.reports.add(direction, id, application, has_usages, bits);
+        if self.reports.of(direction, id).items > MOST_ITEMS {
+            self.leave_out(offset, LeftOut::Items);
+        }
+        let has_values = is_input(direction) && flags % 2 == 0;
+        if has_values && self.locals.have(page, 0x000d_0051) {
+            self.driver = Some(Driver::Multitouch);
+        }
+        if has_usages && self.globals.count > 0 {
+            self.pass_elements(offset, direction);
+        }
+        self.pass_id(offset);
+        self.locals.clear();
+    }
+
+    /// The elements of an item that names usages. hid-core divides 0 less the minimum of a
+    /// multiplier by the span of its bounds, in 32 bits each.
+    fn pass_elements(&mut self, offset: usize, direction: Direction)
+        ensures { self.new ≡ behind_elements offset direction self.old }
+    {
+        if self.globals.size == 0 {
+            self.has_items_without_bits = true;
+        }
+        if self.overflow.is_none() && self.overflows(direction) {
+            self.overflow = Some(offset);
+        }
+    }
+
+    /// Whether hid-core divides the least number by -1 for an item.
+    fn overflows(&self, direction: Direction) -> bool
+        ensures { result ≡ overflows direction self.now }
+    {
+        is_feature(direction)
+            && self.globals.are_widest()
+            && self.locals.have(self.globals.page, 0x0001_0048)
+    }
+
+    /// Whether the report of an item has an id.
+    fn pass_id(&mut self, offset: usize)
+        ensures { self.new ≡ behind_id offset self.old }
+    {
+        let has_id = self.globals.id != 0;
+        self.has_ids = self.has_ids || has_id;
+        self.lacks_ids = self.lacks_ids || !has_id;
+        if self.has_ids && self.lacks_ids {
+            self.doubt_at(offset, DoubtReason::LacksId);
+        }
+    }
+
+    /// Behind the last item.
+    fn end(&mut self, offset: usize)
+        ensures { self.new ≡ ended offset self.old }
+    {
+        if !self.open.is_empty() {
+            self.refuse(offset, RefusalReason::OpenCollection);
+        } else if self.locals.is_in_set() {
+            self.refuse(offset, RefusalReason::OpenSet);
+        }
+    }
+
+    /// Why the descriptor is refused, if it is.
+    pub fn refusal(&self) -> Option<Refusal>
+        ensures { result ≡ self.now.refusal }
+    {
+        self.refusal
+    }
+
+    /// Where hid-core may read the descriptor otherwise first, if it may.
+    pub fn doubt(&self) -> Option<Doubt>
+        ensures { result ≡ self.now.doubt }
+    {
+        self.doubt
+    }
+
+    /// What hid-core leaves out first, if it does.
+    pub fn left_out(&self) -> Option<Omission>
+        ensures { result ≡ self.now.left_out }
+    {
+        self.left_out
+    }
+
+    /// The driver that takes the device from hid-generic for what the descriptor says, if one does.
+    pub fn driver(&self) -> Option<Driver>
+        ensures { result ≡ self.now.driver }
+    {
+        self.driver
+    }
+
+    /// Whether an item without bits names usages, which have codes nevertheless.
+    pub fn has_items_without_bits(&self) -> bool
+        ensures { result ≡ self.now.has_items_without_bits }
+    {
+        self.has_items_without_bits
+    }
+
+    /// The offset of the first Resolution Multiplier at which hid-core divides -2147483648 by -1.
+    pub fn overflow(&self) -> Option<usize>
+        ensures { result ≡ self.now.overflow }
+    {
+        self.overflow
+    }
+
+    /// The application of the report of a direction with an id, 0 for none: the usage of the
+    /// innermost one around its first item, 0 where it lies in none. It is `None` of a report
+    /// without an item that names usages.
+    pub fn application(&self, direction: Direction, id: u32) -> Option<u32>
+        ensures { result ≡ application_of direction id self.now.reports }
+    {
+        self.reports.application(direction, id)
+    }
+
+    /// Why no usage of the descriptor has an event, where none has.
+    pub fn unmapped(&self) -> Option<Unmapped>
+        ensures { result ≡ unmapped_in self.now }
+    {
+        if self.refusal.is_some() {
+            Some(Unmapped::Refused)
+        } else if self.doubt.is_some() {
+            Some(Unmapped::NotKnown)
+        } else if self.has_input {
+            None
+        } else {
+            Some(Unmapped::NoInput)
+        }
+    }
+
+    /// The input devices that Linux makes of the descriptor, before its first report.
+    pub fn input_devices(&self, alloc: Global) -> InputDevices
+        ensures { result ≡ no_devices self.now.applications (unmapped_in self.now) }
+    {
+        InputDevices::new(alloc, self.applications, self.unmapped())
+    }
+}
+
+/// How many bytes of data the item with this header has.
+fn size_of(header: u8) -> usize
+    ensures { result ≡ data_length header }
+{
+    match header % 4 {
+        3 => 4,
+        size => usize::from(size),
+    }
+}
+
+fn is_input(direction: Direction) -> bool
+    ensures { result ≡ is_input direction }
+{
+    matches!(direction, Direction::Input)
+}
+
+fn is_feature(direction: Direction) -> bool
+    ensures { result ≡ is_feature direction }
+{
+    matches!(direction, Direction::Feature)
+}
