@@ -3,20 +3,9 @@ use crate::advice::past_limit;
 use crate::settings::{ReadAs, Settings};
 use anyhow::{Result, anyhow};
 use hid_output::escaped;
-use hidreport::{Outline, ParserError, Repaired, repair};
-use hidreport_linux::{Doubt, LinuxReading, Omission, Refusal};
-use std::alloc::{AllocError, Global};
-
-/// What Linux reads in a descriptor.
-#[derive(Drop)]
-pub struct LinuxRead {
-    /// The descriptor that it reads, and what is mended for it.
-    pub repaired: Repaired,
-    /// Where it may read otherwise.
-    pub doubt: Option<Doubt>,
-    /// What it leaves out.
-    pub left_out: Option<Omission>,
-}
+use hidreport::{Outline, ParserError};
+use hidreport_linux::{LinuxDevice, LinuxRefusal, Refusal};
+use std::alloc::Global;
 
 /// Why a descriptor isn't read as Linux reads it.
 #[derive(Drop)]
@@ -28,59 +17,70 @@ pub enum Unread {
     Fault(ParserError),
 }
 
-impl From<AllocError> for Unread {
-    fn from(_refused: AllocError) -> Unread {
-        Unread::Fault(ParserError::OutOfMemory)
+impl From<LinuxRefusal> for Unread {
+    fn from(refusal: LinuxRefusal) -> Unread {
+        match refusal {
+            LinuxRefusal::Refused { offset, reason } => {
+                Unread::Refused(Refusal { offset, reason })
+            }
+            LinuxRefusal::Unread(fault) => Unread::Fault(fault),
+        }
     }
 }
 
-impl LinuxRead {
-    /// That of a descriptor.
-    pub fn of(alloc: Global, settings: &Settings, bytes: &[u8]) -> Result<LinuxRead, Unread> {
-        if let Some(offset) = settings.parse.longest
-            && offset < bytes.len()
-        {
-            return Err(Unread::Fault(ParserError::BudgetExceeded { offset }));
-        }
-        let reading = LinuxReading::of(alloc, bytes)?;
-        if let Some(refusal) = reading.refusal() {
-            return Err(Unread::Refused(refusal));
-        }
-        match repair(alloc, bytes, settings.repair()) {
-            Ok(repaired) => Ok(LinuxRead {
-                repaired,
-                doubt: reading.doubt(),
-                left_out: reading.left_out(),
-            }),
-            Err(fault) => Err(Unread::Fault(fault)),
-        }
+/// The device of a descriptor, as Linux reads it.
+///
+/// # Errors
+///
+/// - it is longer than a descriptor may be, or lists more than it may;
+/// - Linux refuses it.
+pub fn linux_device(
+    alloc: Global,
+    settings: &Settings,
+    bytes: &[u8],
+) -> Result<LinuxDevice, Unread> {
+    if let Some(offset) = settings.parse.longest
+        && offset < bytes.len()
+    {
+        return Err(Unread::Fault(ParserError::BudgetExceeded { offset }));
     }
+    let device = LinuxDevice::of(alloc, bytes, settings.parse.limit)?;
+    Ok(device)
+}
 
-    /// Says on standard error how many items are mended.
-    pub fn tell_mended<R: AllocGlobal + Eprint>(&self, rt: &R, name: &str) -> Result<()> {
-        let count = self.repaired.changes.len();
-        if count == 0 {
-            return Ok(());
-        }
-        let name = escaped(rt.alloc(), name)?;
-        let items = if count == 1 { "item is" } else { "items are" };
-        let which = "as Linux reads it: hid check --for linux shows which";
-        Ok(eprintln!(rt; "hid: {name}: {count} {items} mended, {which}")?)
+/// Says on standard error how many items of a device are mended.
+pub fn tell_mended<R: AllocGlobal + Eprint>(
+    rt: &R,
+    name: &str,
+    device: &LinuxDevice,
+) -> Result<()> {
+    let count = device.changes().len();
+    if count == 0 {
+        return Ok(());
     }
+    let name = escaped(rt.alloc(), name)?;
+    let items = if count == 1 { "item is" } else { "items are" };
+    let which = "as Linux reads it: hid check --for linux shows which";
+    Ok(eprintln!(rt; "hid: {name}: {count} {items} mended, {which}")?)
+}
 
-    /// Says on standard error what Linux leaves out, and where it may read otherwise.
-    pub fn tell_doubt<R: AllocGlobal + Eprint>(&self, rt: &R, name: &str) -> Result<()> {
-        let name = escaped(rt.alloc(), name)?;
-        if let Some(left_out) = self.left_out {
-            let (offset, what) = (left_out.offset, left_out.what.text());
-            eprintln!(rt; "hid: {name}: Linux leaves out at offset {offset}: {what}")?;
-        }
-        if let Some(doubt) = self.doubt {
-            let (offset, reason) = (doubt.offset, doubt.reason.text());
-            eprintln!(rt; "hid: {name}: Linux may read it otherwise at offset {offset}: {reason}")?;
-        }
-        Ok(())
+/// Says on standard error what Linux leaves out of a device's descriptor, and where it may read it
+/// otherwise.
+pub fn tell_doubt<R: AllocGlobal + Eprint>(
+    rt: &R,
+    name: &str,
+    device: &LinuxDevice,
+) -> Result<()> {
+    let name = escaped(rt.alloc(), name)?;
+    if let Some(left_out) = device.reading().left_out() {
+        let (offset, what) = (left_out.offset, left_out.what.text());
+        eprintln!(rt; "hid: {name}: Linux leaves out at offset {offset}: {what}")?;
     }
+    if let Some(doubt) = device.reading().doubt() {
+        let (offset, reason) = (doubt.offset, doubt.reason.text());
+        eprintln!(rt; "hid: {name}: Linux may read it otherwise at offset {offset}: {reason}")?;
+    }
+    Ok(())
 }
 
 impl Unread {
@@ -110,8 +110,8 @@ pub fn refused(
     }
 }
 
-/// A descriptor as Linux reads it. Says on standard error how many items are mended, what Linux
-/// leaves out, and where it may read otherwise.
+/// A device as Linux reads it. Says on standard error how many items are mended, what Linux leaves
+/// out, and where it may read otherwise.
 ///
 /// # Errors
 ///
@@ -122,11 +122,11 @@ pub fn mended<R: AllocGlobal + Eprint>(
     settings: &Settings,
     name: &str,
     bytes: &[u8],
-) -> Result<Repaired> {
-    let read = read_by_linux(rt.alloc(), settings, bytes)?;
-    read.tell_mended(rt, name)?;
-    read.tell_doubt(rt, name)?;
-    Ok(read.repaired)
+) -> Result<LinuxDevice> {
+    let device = read_by_linux(rt.alloc(), settings, bytes)?;
+    tell_mended(rt, name, &device)?;
+    tell_doubt(rt, name, &device)?;
+    Ok(device)
 }
 
 /// The same without a word.
@@ -134,9 +134,9 @@ pub fn mended<R: AllocGlobal + Eprint>(
 /// # Errors
 ///
 /// - those of `mended`.
-pub fn read_by_linux(alloc: Global, settings: &Settings, bytes: &[u8]) -> Result<LinuxRead> {
-    match LinuxRead::of(alloc, settings, bytes) {
-        Ok(read) => Ok(read),
+pub fn read_by_linux(alloc: Global, settings: &Settings, bytes: &[u8]) -> Result<LinuxDevice> {
+    match linux_device(alloc, settings, bytes) {
+        Ok(device) => Ok(device),
         Err(unread) => Err(unread.with_advice(alloc, settings, bytes)),
     }
 }

@@ -1,7 +1,7 @@
 //! Descriptors of inputs, parsed as the options say; a refusal says what helps.
 use crate::advice::past_limit;
 use crate::input::{descriptor_named, given_beside};
-use crate::linux_read::{LinuxRead, mended, read_by_linux};
+use crate::linux_read::{linux_device, mended, read_by_linux};
 use crate::reads::Reads;
 use crate::settings::{ReadAs, Settings};
 use anyhow::{Result, anyhow, bail};
@@ -54,8 +54,8 @@ pub fn read<R: AllocGlobal + Eprint>(
     bytes: &[u8],
 ) -> Result<ReportDescriptor> {
     if settings.reads_as_linux() {
-        let repaired = mended(rt, settings, name, bytes)?;
-        return parsed(rt.alloc(), settings, &repaired.bytes);
+        let device = mended(rt, settings, name, bytes)?;
+        return Ok(device.outline().lay_out(rt.alloc())?);
     }
     parsed(rt.alloc(), settings, bytes)
 }
@@ -63,8 +63,8 @@ pub fn read<R: AllocGlobal + Eprint>(
 /// The same, of a device of the machine: without a word.
 pub fn read_silently(alloc: Global, settings: &Settings, bytes: &[u8]) -> Result<ReportDescriptor> {
     if settings.reads_as_linux() {
-        let read = read_by_linux(alloc, settings, bytes)?;
-        return parsed(alloc, settings, &read.repaired.bytes);
+        let device = read_by_linux(alloc, settings, bytes)?;
+        return Ok(device.outline().lay_out(alloc)?);
     }
     parsed(alloc, settings, bytes)
 }
@@ -137,7 +137,7 @@ pub fn with_advice(
 ) -> anyhow::Error {
     if let ParserError::InvalidData { .. } = &fault
         && settings.read_as != Some(ReadAs::Linux)
-        && LinuxRead::of(alloc, settings, bytes).is_ok()
+        && linux_device(alloc, settings, bytes).is_ok()
     {
         return anyhow!("{fault}: --as linux reads it");
     }

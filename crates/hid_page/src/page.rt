@@ -9,14 +9,14 @@ use crate::shell::{AFTER_DATA, BEFORE_DATA, BEFORE_HEADING, BEFORE_TEXT, BEFORE_
 use anyhow::{Result, bail};
 use hid_given::Given;
 use hid_input::inputs::Inputs;
-use hid_input::linux_read::{LinuxRead, Unread, refused};
+use hid_input::linux_read::{Unread, linux_device, refused, tell_doubt, tell_mended};
 use hid_input::parsing::{descriptor_within, with_advice};
 use hid_input::settings::Settings;
 use hid_input::world::World;
 use hid_output::ending::Ending;
 use hid_output::flush;
 use hidreport::{ParserError, ReportDescriptor};
-use hidreport_linux::Refusal;
+use hidreport_linux::{LinuxDevice, Refusal};
 use std::alloc::{AllocError, Global};
 
 /// Writes a page of HTML.
@@ -33,8 +33,8 @@ impl<'a> Page<'a> {
     pub fn run<R: World>(&self, rt: &R, settings: &Settings) -> Result<Ending> {
         let mut given = descriptor_within(rt, settings, self.inputs.file)?;
         if settings.reads_as_linux() {
-            match LinuxRead::of(rt.alloc(), settings, given.descriptor()) {
-                Ok(read) => self.mend(rt, &mut given, read)?,
+            match linux_device(rt.alloc(), settings, given.descriptor()) {
+                Ok(device) => self.mend(rt, &mut given, device)?,
                 Err(Unread::Refused(refusal)) => {
                     let fault = fault_of(rt.alloc(), refusal)?;
                     self.show_refused(rt, settings, &given, &fault)?;
@@ -54,18 +54,18 @@ impl<'a> Page<'a> {
         &self,
         rt: &R,
         given: &mut Given,
-        read: LinuxRead,
+        read: LinuxDevice,
     ) -> Result<()> {
-        read.tell_mended(rt, self.inputs.file)?;
-        read.tell_doubt(rt, self.inputs.file)?;
-        let count = read.repaired.changes.len();
+        tell_mended(rt, self.inputs.file, &read)?;
+        tell_doubt(rt, self.inputs.file, &read)?;
+        let count = read.changes().len();
         if count > 0 {
             let items = if count == 1 { "item is" } else { "items are" };
             let note = format!(in rt.alloc(); "{count} {items} mended, as Linux reads it")?;
             given.notes.push(note)?;
         }
         if let Some(device) = given.devices.first_mut() {
-            device.descriptor = read.repaired.bytes;
+            device.descriptor = read.into_bytes();
         }
         Ok(())
     }

@@ -2,8 +2,7 @@
 use crate::linux_copy::{LinuxCopy, has_no_bits, id_of, pass_item};
 use anyhow::Result;
 use hid_input::input::descriptor_named;
-use hid_input::linux_read::read_by_linux;
-use hid_input::parsing::parsed;
+use hid_input::linux_read::{read_by_linux, tell_mended};
 use hid_input::settings::Settings;
 use hid_input::world::World;
 use hid_objects::field_object::{RestObject, object_of};
@@ -23,11 +22,10 @@ const DEEPER: usize = 12;
 pub fn show_linux<R: World>(rt: &R, settings: &Settings, file: &str) -> Result<Ending> {
     let given = descriptor_named(rt, &unmended(settings), file)?;
     let read = read_by_linux(rt.alloc(), settings, given.descriptor())?;
-    read.tell_mended(rt, file)?;
-    let reading = LinuxReading::of(rt.alloc(), given.descriptor())?;
-    let bytes = read.repaired.bytes.as_slice();
-    let descriptor = parsed(rt.alloc(), settings, bytes)?;
-    let copy = LinuxCopy::of(rt.alloc(), settings, bytes, &reading)?;
+    tell_mended(rt, file, &read)?;
+    let descriptor = read.outline().lay_out(rt.alloc())?;
+    let copy = LinuxCopy::of(rt.alloc(), settings, read.bytes(), read.reading())?;
+    let reading = read.into_reading();
     let mut shown = Shown {
         text: String::new(rt.alloc()),
         devices: reading.input_devices(rt.alloc()),

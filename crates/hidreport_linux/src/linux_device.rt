@@ -147,6 +147,20 @@ impl LinuxDevice {
         self.repaired.changes.as_slice()
     }
 
+    /// The bytes that Linux reads, alone.
+    pub fn into_bytes(self) -> Vec<u8>
+        ensures { result.items ≡ self.repaired.bytes }
+    {
+        self.repaired.bytes
+    }
+
+    /// What Linux makes of its items and collections, alone.
+    pub fn into_reading(self) -> LinuxReading
+        ensures { result ≡ self.reading }
+    {
+        self.reading
+    }
+
     /// The input devices that Linux makes of it, before its first report.
     pub fn input_devices(&self, alloc: Global) -> InputDevices
         ensures { result ≡ no_devices self.now.reading.applications (unmapped_in self.now.reading) }

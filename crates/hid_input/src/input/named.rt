@@ -132,7 +132,8 @@ fn chosen<R: Reads>(
     choose(&mut given, device)?;
     if settings.read_as == Some(ReadAs::Linux) {
         for device in given.devices.iter_mut() {
-            device.descriptor = mended(rt, settings, name, &device.descriptor)?.bytes;
+            let read = mended(rt, settings, name, &device.descriptor)?;
+            device.descriptor = read.into_bytes();
         }
     }
     Ok(given)
