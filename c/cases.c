@@ -26,6 +26,7 @@ static void choose_usages(const char *by, const char *none)
     (void)none;
     options.usages = strcmp(by, "standard") == 0 ? HIDREPORT_USAGES_STANDARD
                      : strcmp(by, "hosts") == 0  ? HIDREPORT_USAGES_HOSTS
+                     : strcmp(by, "linux") == 0  ? HIDREPORT_USAGES_LINUX
                                                  : number_of(by);
 }
 

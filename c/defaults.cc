@@ -41,10 +41,12 @@ int main()
 {
     const hidreport_options plain = {65536, HIDREPORT_PUSH_ALL, HIDREPORT_USAGES_STANDARD};
     const hidreport_options linux_way = {65536, HIDREPORT_PUSH_GLOBALS, HIDREPORT_USAGES_HOSTS};
+    const hidreport_options as_linux = {65536, HIDREPORT_PUSH_GLOBALS, HIDREPORT_USAGES_LINUX};
     const hidreport_options no_limit = {HIDREPORT_NO_LIMIT, HIDREPORT_PUSH_ALL,
                                         HIDREPORT_USAGES_STANDARD};
     if (!read_alike(HIDREPORT_DEFAULTS, plain) ||
-        !read_alike(HIDREPORT_REPAIR_DEFAULTS, linux_way)) {
+        !read_alike(HIDREPORT_REPAIR_DEFAULTS, linux_way) ||
+        !read_alike(HIDREPORT_AS_LINUX, as_linux)) {
         std::printf("defaults: they ask for something else\n");
         return 1;
     }

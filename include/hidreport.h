@@ -78,7 +78,11 @@ enum hidreport_push {
 /* `usages`: by which rule an item finds its usages (Section 6.2.2.8) */
 enum hidreport_usages_by {
     HIDREPORT_USAGES_STANDARD = 0, /* by the letter of the standard, as the Rust crate has it */
-    HIDREPORT_USAGES_HOSTS = 1     /* as hosts read them, by Linux's rules */
+    HIDREPORT_USAGES_HOSTS = 1,    /* as hosts read them, by Linux's rules */
+    /* all as Linux reads it: what Linux takes is mended first, at the offsets of the bytes that are
+     * given; what it refuses is HIDREPORT_INVALID_DATA with its reason. For this `push` has to be
+     * HIDREPORT_PUSH_GLOBALS, and it is none for a repair. */
+    HIDREPORT_USAGES_LINUX = 2
 };
 
 /* `mends`: what a repair mends besides, one of these or the sum */
@@ -101,7 +105,7 @@ enum hidreport_reason {
     HIDREPORT_CUT_SHORT = 5          /* an item was cut short, and is left out */
 };
 
-/* How a descriptor is read. Most programs pass HIDREPORT_DEFAULTS. */
+/* How a descriptor is read: HIDREPORT_AS_LINUX or HIDREPORT_DEFAULTS, or by parts. */
 struct hidreport_options {
     /* The most that may be listed: a field counts 1, with 1 for each usage of an array, for each
      * collection around the field and for each usage of that; so does a collection, with 1 for each
@@ -117,13 +121,17 @@ struct hidreport_options {
 /* No limit: a descriptor takes what memory it asks for, up to all that there is. */
 #define HIDREPORT_NO_LIMIT SIZE_MAX
 
-/* `..._REPAIR_DEFAULTS` are for a repair, and for reading what it writes: a Push keeps what Linux
+/* HIDREPORT_AS_LINUX is what a Linux machine reads in a descriptor, for remappers, recorders and
+ * tests of devices; HIDREPORT_DEFAULTS is the letter of the standard, for printers and compilers.
+ * `..._REPAIR_DEFAULTS` are for a repair, and for reading what it writes: a Push keeps what Linux
  * keeps, and usages are those that Linux reads. */
 #ifdef __cplusplus
 #define HIDREPORT_DEFAULTS \
     (hidreport_options{HIDREPORT_DEFAULT_LIMIT, HIDREPORT_PUSH_ALL, HIDREPORT_USAGES_STANDARD})
 #define HIDREPORT_REPAIR_DEFAULTS \
     (hidreport_options{HIDREPORT_DEFAULT_LIMIT, HIDREPORT_PUSH_GLOBALS, HIDREPORT_USAGES_HOSTS})
+#define HIDREPORT_AS_LINUX \
+    (hidreport_options{HIDREPORT_DEFAULT_LIMIT, HIDREPORT_PUSH_GLOBALS, HIDREPORT_USAGES_LINUX})
 #else
 #define HIDREPORT_DEFAULTS                                                                    \
     ((struct hidreport_options){HIDREPORT_DEFAULT_LIMIT, HIDREPORT_PUSH_ALL,                  \
@@ -131,6 +139,9 @@ struct hidreport_options {
 #define HIDREPORT_REPAIR_DEFAULTS                                                             \
     ((struct hidreport_options){HIDREPORT_DEFAULT_LIMIT, HIDREPORT_PUSH_GLOBALS,              \
                                 HIDREPORT_USAGES_HOSTS})
+#define HIDREPORT_AS_LINUX                                                                    \
+    ((struct hidreport_options){HIDREPORT_DEFAULT_LIMIT, HIDREPORT_PUSH_GLOBALS,              \
+                                HIDREPORT_USAGES_LINUX})
 #endif
 
 struct hidreport_answer {

@@ -32,7 +32,7 @@ export function pageByName(name: string): number | undefined;
 export const Kind: { readonly VARIABLE: 0; readonly ARRAY: 1; readonly CONSTANT: 2 };
 export const Direction: { readonly INPUT: 0; readonly OUTPUT: 1; readonly FEATURE: 2 };
 export const Push: { readonly ALL: 0; readonly GLOBALS: 1 };
-export const UsagesBy: { readonly STANDARD: 0; readonly HOSTS: 1 };
+export const UsagesBy: { readonly STANDARD: 0; readonly HOSTS: 1; readonly LINUX: 2 };
 export const Mends: {
   readonly DEFAULT: 0; readonly CUT_SHORT: 1; readonly UNSIGNED_MAXIMA: 2;
 };
@@ -48,6 +48,7 @@ export interface ParseOptions {
   readonly usages?: number;
 }
 export const HOSTS: ParseOptions;
+export const LINUX: ParseOptions;
 
 export interface Flags {
   readonly isRelative: boolean;

@@ -3,7 +3,7 @@ export { BudgetExceeded, DoesNotFit, HidReportError, InvalidData, MismatchingRep
   OutOfMemory, UnknownOption, WrongCount } from "./src/errors.js";
 export { Collection, Field, Kind } from "./src/fields.js";
 export { Direction, Report, ReportDescriptor } from "./src/descriptor.js";
-export { HOSTS, Item, Mends, Push, Reason, UsagesBy, frontItems, items, rebuild, repair }
+export { HOSTS, Item, LINUX, Mends, Push, Reason, UsagesBy, frontItems, items, rebuild, repair }
   from "./src/items.js";
 export { Usage, pageByName, pageName } from "./src/usages.js";
 export { descriptorOf } from "./src/collections.js";

@@ -5,10 +5,13 @@ import { asBytes, bytesOf, listed, optionsOf, text } from "./library.js";
 export const Push = Object.freeze({ ALL: 0, GLOBALS: 1 });
 
 /** By which rule an item finds its usages (Section 6.2.2.8). */
-export const UsagesBy = Object.freeze({ STANDARD: 0, HOSTS: 1 });
+export const UsagesBy = Object.freeze({ STANDARD: 0, HOSTS: 1, LINUX: 2 });
 
 /** As Linux finds usages and keeps a Push: for a repair, and for reading what it writes. */
 export const HOSTS = Object.freeze({ push: Push.GLOBALS, usages: UsagesBy.HOSTS });
+
+/** All as a Linux machine reads it: what it takes is mended first, what it refuses is refused. */
+export const LINUX = Object.freeze({ push: Push.GLOBALS, usages: UsagesBy.LINUX });
 
 /** What a repair mends besides: one of these, or the sum. */
 export const Mends = Object.freeze({ DEFAULT: 0, CUT_SHORT: 1, UNSIGNED_MAXIMA: 2 });

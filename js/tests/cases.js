@@ -147,7 +147,7 @@ class Asked {
 
   choose(kind, first, second) {
     if (kind === "usages-by") {
-      this.options.usages = { standard: 0, hosts: 1 }[first] ?? numberIn(first);
+      this.options.usages = { standard: 0, hosts: 1, linux: 2 }[first] ?? numberIn(first);
       return [];
     }
     this.options = {

@@ -13,14 +13,14 @@ from .errors import (BudgetExceeded, DoesNotFit, HidReportError, InvalidData,
                      MismatchingReportId, OutOfBounds, UnknownOption, WrongCount)
 from .fields import Collection, Field, Flags, Kind
 from .items import Item, front_items, items, rebuild
-from .options import HOSTS, Mends, ParseOptions, Push, UsagesBy
+from .options import HOSTS, LINUX, Mends, ParseOptions, Push, UsagesBy
 from .repairing import Change, Reason, repair
 from .usages import Usage, page_by_name, page_name
 
 __version__ = "0.6.0-9"
 
 __all__ = [
-    "HOSTS", "BudgetExceeded", "Change", "Collection", "Direction", "DoesNotFit", "Field",
+    "HOSTS", "LINUX", "BudgetExceeded", "Change", "Collection", "Direction", "DoesNotFit", "Field",
     "Flags", "HidReportError", "InvalidData", "Item", "Kind", "Mends", "MismatchingReportId",
     "OutOfBounds", "ParseOptions", "Push", "Reason", "Report", "ReportDescriptor",
     "UnknownOption", "Usage", "UsagesBy", "WrongCount", "front_items", "items", "page_by_name",

@@ -23,6 +23,8 @@ class UsagesBy(IntEnum):
     STANDARD = 0
     #: As hosts read them, by Linux's rules.
     HOSTS = 1
+    #: All as Linux reads it: what it takes is mended first, what it refuses is refused.
+    LINUX = 2
 
 
 class Mends(IntFlag):
@@ -51,3 +53,6 @@ class ParseOptions:
 
 #: As Linux finds usages and keeps a Push: for a repair, and for reading what it writes.
 HOSTS = ParseOptions(push=Push.GLOBALS, usages=UsagesBy.HOSTS)
+
+#: What a Linux machine reads, for remappers, recorders and tests of devices.
+LINUX = ParseOptions(push=Push.GLOBALS, usages=UsagesBy.LINUX)

@@ -153,7 +153,7 @@ class Asked:
 
     def choose(self, kind: str, first: str, second: str) -> List[str]:
         if kind == "usages-by":
-            self.options.usages = {"standard": 0, "hosts": 1}.get(first, _number(first))
+            self.options.usages = {"standard": 0, "hosts": 1, "linux": 2}.get(first, _number(first))
             return []
         limit = {"default": 65536, "none": _c.NO_LIMIT}.get(first)
         push = {"default": 0, "all": 0, "globals": 1}.get(second)

@@ -25,8 +25,15 @@ impl ParseOptions {
         ParseOptions { limit: Some(c::DEFAULT_LIMIT), ..ParseOptions::default() }
     }
 
-    /// As Linux reads a descriptor: a Push keeps global items alone, and usages are found by its
-    /// rule.
+    /// What a Linux machine reads in a descriptor: what it takes is mended first, what it refuses is
+    /// [`InvalidData`](crate::ParserError::InvalidData) at its item. For remappers, recorders and
+    /// tests of devices.
+    pub fn as_linux() -> ParseOptions {
+        ParseOptions { usages: UsagesBy::Linux, ..ParseOptions::as_hosts() }
+    }
+
+    /// For a repair, and for what it writes: a Push keeps global items alone, and usages are found as
+    /// Linux finds them.
     pub fn as_hosts() -> ParseOptions {
         ParseOptions { push_keeps: PushKeeps::Globals, usages: UsagesBy::Hosts, limit: None }
     }

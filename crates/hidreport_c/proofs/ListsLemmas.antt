@@ -14,11 +14,11 @@ use Rattle.std.proofs.lemmas.List.{take_rest}
 use Rattle.std.specs.Prelude.{min}
 use Rattle.std.proofs.Math.Seq.{drop-nil, take-nil}
 use Rattle.hidreport.specs.Answer.{Refusal, Refuses, InvalidData, OutOfBounds, MismatchingReportId, BudgetExceeded}
-use Rattle.hidreport.specs.Options.{parse_as}
+use Rattle.hidreport_c.specs.Options.{read_by}
+use Rattle.hidreport_c.specs.declared.options.Reading.{Reading}
 use Rattle.hidreport.specs.Records.{DescriptorRecord}
 use Rattle.hidreport.specs.ParserError.{ParserError}
 use Rattle.hidreport.specs.ParserError.TheVariants as errors
-use Rattle.hidreport.specs.declared.parse_options.ParseOptions.{ParseOptions}
 use Rattle.hidreport_c.specs.Answer.{Lists, ListsBy, IsRead, Tells, array_after}
 use Rattle.hidreport_c.specs.Answer.{counted, error_as_c, listed, refusal_as_c}
 use Rattle.hidreport_c.specs.Message.{Says, message_in, message_of, words_of}
@@ -240,20 +240,20 @@ says-nothing chosen options answer x old told is read h =
     (rw read (inl (h, sym (written-none old))))
 
 -- what is told in place of a descriptor is told of each list in it
-pub lists-unread : {A : Type 0} (told : HidreportAnswer) (options : Option ParseOptions)
+pub lists-unread : {A : Type 0} (told : HidreportAnswer) (options : Option Reading)
     (bytes : List ℕ) (parts : DescriptorRecord → List A) (old : List A)
     → IsRead (Err told) options bytes
-    → ListsBy (λ chosen. listed parts (parse_as chosen bytes)) options old old told
+    → ListsBy (λ chosen. listed parts (read_by chosen bytes)) options old old told
 lists-unread told None bytes parts old h = (h, refl)
 lists-unread told (Some options) bytes parts old h =
-    told-refused told (parse_as options bytes) parts old h
+    told-refused told (read_by options bytes) parts old h
 
 -- a list in a descriptor that was read is told as it is there
-pub lists-read : {A : Type 0} (d : DescriptorRecord) (options : Option ParseOptions)
+pub lists-read : {A : Type 0} (d : DescriptorRecord) (options : Option Reading)
     (bytes : List ℕ) (parts : DescriptorRecord → List A) (old new : List A)
     (told : HidreportAnswer) → IsRead (Ok d) options bytes
     → Lists (Ok (parts d)) old new told
-    → ListsBy (λ chosen. listed parts (parse_as chosen bytes)) options old new told
+    → ListsBy (λ chosen. listed parts (read_by chosen bytes)) options old new told
 lists-read d None bytes parts old new told h lists = absurd h
 lists-read d (Some options) bytes parts old new told h lists =
     rw h lists

@@ -1,8 +1,8 @@
 -- Whether two descriptors are the same in all parts.
 use Rattle.std.specs.Prelude.{◌≡◌, ◌⊎◌, ◌↔◌, IsTrue, Bool, false, true, List, ℕ, Ok, Err, Option}
 use Rattle.hidreport.specs.Records.{DescriptorRecord}
-use Rattle.hidreport.specs.declared.parse_options.ParseOptions.{ParseOptions}
 use Rattle.hidreport_c.specs.Answer.{IsRead}
+use Rattle.hidreport_c.specs.declared.options.Reading.{Reading}
 use Rattle.hidreport_c.specs.declared.structs.HidreportLikeness.{HidreportLikeness}
 use Rattle.hidreport_c.specs.declared.structs.HidreportAnswer.{HidreportAnswer}
 
@@ -21,7 +21,7 @@ compared is_alike =
     record { offset = 0; status = 0; is_of_other = false; is_alike = is_alike }
 
 -- the caller is told whether they are the same, or why the first, or else the second, isn't read
-abbrev pub Likens : Option ParseOptions → List ℕ → List ℕ → HidreportLikeness → Type 0
+abbrev pub Likens : Option Reading → List ℕ → List ℕ → HidreportLikeness → Type 0
 Likens options first second told =
     ((answer : HidreportAnswer) × IsRead (Err answer) options first × (told ≡ unlike false answer))
     ⊎ ((one : DescriptorRecord) × IsRead (Ok one) options first

@@ -2,12 +2,11 @@
 use Rattle.std.specs.Prelude.{◌≡◌, ◌⊎◌, ℕ, List, [], ◌++◌, length, take, drop, Result, Ok, Err}
 use Rattle.std.specs.Prelude.{Option, None, Some}
 use Rattle.hidreport.specs.Answer.{Refusal, InvalidData, OutOfBounds, MismatchingReportId, BudgetExceeded}
-use Rattle.hidreport.specs.Options.{parse_as}
 use Rattle.hidreport.specs.Records.{DescriptorRecord}
 use Rattle.hidreport.specs.ParserError.{ParserError}
 use Rattle.hidreport.specs.ParserError.TheVariants as errors
-use Rattle.hidreport.specs.declared.parse_options.ParseOptions.{ParseOptions}
-use Rattle.hidreport_c.specs.Options.{options_of}
+use Rattle.hidreport_c.specs.Options.{read_by, reading_of}
+use Rattle.hidreport_c.specs.declared.options.Reading.{Reading}
 use Rattle.hidreport_c.specs.Status.{status_of}
 use Rattle.hidreport_c.specs.declared.structs.HidreportAnswer.{HidreportAnswer}
 use Rattle.hidreport_c.specs.declared.structs.HidreportOptions.{HidreportOptions}
@@ -79,7 +78,7 @@ ListsBy answer (Some options) old new told = Lists (answer options) old new told
 abbrev pub ListsOf : {A : Type 0} → (DescriptorRecord → List A) → HidreportOptions → List ℕ
     → List A → List A → HidreportAnswer → Type 0
 ListsOf parts options bytes =
-    ListsBy (λ chosen. listed parts (parse_as chosen bytes)) (options_of options)
+    ListsBy (λ chosen. listed parts (read_by chosen bytes)) (reading_of options)
 
 -- an error as C has it
 abbrev pub error_as_c : ParserError → HidreportAnswer
@@ -95,8 +94,8 @@ Tells told (Ok descriptor) = told ≡ no_memory
 Tells told (Err refusal) = (told ≡ no_memory) ⊎ (told ≡ refusal_as_c refusal)
 
 -- the descriptor that bytes are, or what C is told
-abbrev pub IsRead : Result DescriptorRecord HidreportAnswer → Option ParseOptions → List ℕ → Type 0
+abbrev pub IsRead : Result DescriptorRecord HidreportAnswer → Option Reading → List ℕ → Type 0
 IsRead (Ok descriptor) None bytes = ⊥
 IsRead (Err told) None bytes = told ≡ unknown_option
-IsRead (Ok descriptor) (Some options) bytes = parse_as options bytes ≡ Ok descriptor
-IsRead (Err told) (Some options) bytes = Tells told (parse_as options bytes)
+IsRead (Ok descriptor) (Some options) bytes = read_by options bytes ≡ Ok descriptor
+IsRead (Err told) (Some options) bytes = Tells told (read_by options bytes)

@@ -5,16 +5,15 @@ use Rattle.std.specs.Prelude.{slice_get, Option, None, Some, Result, Ok, Err}
 use Rattle.hidreport.specs.Answer.{Refusal}
 use Rattle.hidreport.specs.Fields.{field_count, usage_at}
 use Rattle.hidreport.specs.Groups.{GroupRecord, fields_of_groups, group_fields}
-use Rattle.hidreport.specs.Options.{parse_as}
 use Rattle.hidreport.specs.Records.{DescriptorRecord, FieldRecord, fields_in_all}
 use Rattle.hidreport.specs.UsageNumber.{usage_number}
-use Rattle.hidreport.specs.declared.parse_options.ParseOptions.{ParseOptions}
 use Rattle.hidreport_c.specs.Answer.{Lists, no_memory, refusal_as_c, unknown_option}
 use Rattle.hidreport_c.specs.Describe.{reports_in_direction}
 use Rattle.hidreport_c.specs.Field.{collections_as_c, flags_as_c, measures_as_c, nothing_measured}
 use Rattle.hidreport_c.specs.Field.{nothing_set}
 use Rattle.hidreport_c.specs.Lookup.{field_or_none}
-use Rattle.hidreport_c.specs.Options.{options_of}
+use Rattle.hidreport_c.specs.Options.{read_by, reading_of}
+use Rattle.hidreport_c.specs.declared.options.Reading.{Reading}
 use Rattle.hidreport_c.specs.declared.structs.HidreportAnswer.{HidreportAnswer}
 use Rattle.hidreport_c.specs.declared.structs.HidreportField.{HidreportField}
 use Rattle.hidreport_c.specs.declared.structs.HidreportFlags.{HidreportFlags}
@@ -101,13 +100,13 @@ InGroupsBy parts direction (Err refusal) old new told =
     ((told ≡ refusal_as_c refusal) ⊎ (told ≡ no_memory)) × (new ≡ old)
 
 -- where an option says nothing the caller is told so, and the array is as it was
-abbrev pub InGroupsWith : {A : Type 0} → (List GroupRecord → List A) → ℕ → Option ParseOptions
+abbrev pub InGroupsWith : {A : Type 0} → (List GroupRecord → List A) → ℕ → Option Reading
     → List ℕ → List A → List A → HidreportAnswer → Type 0
 InGroupsWith parts direction None bytes old new told = (told ≡ unknown_option) × (new ≡ old)
 InGroupsWith parts direction (Some options) bytes old new told =
-    InGroupsBy parts direction (parse_as options bytes) old new told
+    InGroupsBy parts direction (read_by options bytes) old new told
 
 -- what is listed of the groups of a direction, by these options
 abbrev pub InGroupsOf : {A : Type 0} → (List GroupRecord → List A) → ℕ → HidreportOptions
     → List ℕ → List A → List A → HidreportAnswer → Type 0
-InGroupsOf parts direction options = InGroupsWith parts direction (options_of options)
+InGroupsOf parts direction options = InGroupsWith parts direction (reading_of options)

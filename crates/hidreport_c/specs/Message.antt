@@ -3,14 +3,14 @@ use Rattle.std.specs.Prelude.{◌≡◌, ℕ, List, [], codes, length, string_by
 use Rattle.std.specs.Prelude.{Option, None, Some}
 use Rattle.hidreport.specs.Answer.{Refusal, InvalidData, OutOfBounds, MismatchingReportId, BudgetExceeded}
 use Rattle.hidreport.specs.Itemising.{as_refusal, itemise}
-use Rattle.hidreport.specs.Options.{parse_as}
 use Rattle.hidreport.specs.Repair.{repaired}
 use Rattle.hidreport.specs.Spelling.{item_of}
 use Rattle.hidreport.specs.ParserError.{ParserError}
 use Rattle.hidreport.specs.ParserError.TheVariants as errors
-use Rattle.hidreport.specs.declared.parse_options.ParseOptions.{ParseOptions}
 use Rattle.hidreport.specs.declared.repairing.repair_options.RepairOptions.{RepairOptions}
 use Rattle.hidreport_c.specs.Answer.{array_after, counted, no_memory}
+use Rattle.hidreport_c.specs.Options.{read_by}
+use Rattle.hidreport_c.specs.declared.options.Reading.{Reading}
 use Rattle.hidreport_c.specs.declared.structs.HidreportAnswer.{HidreportAnswer}
 
 -- the words of a refusal, without where it stands
@@ -27,8 +27,8 @@ message_in (Err refusal) = Ok (message_of refusal)
 
 -- those of a descriptor that is read by these options, of one that is repaired by them, and of bytes
 -- as items
-abbrev pub parse_message : List ℕ → ParseOptions → Result (List ℕ) Refusal
-parse_message bytes options = message_in (parse_as options bytes)
+abbrev pub parse_message : List ℕ → Reading → Result (List ℕ) Refusal
+parse_message bytes options = message_in (read_by options bytes)
 
 abbrev pub repair_message : List ℕ → RepairOptions → Result (List ℕ) Refusal
 repair_message bytes options = message_in (repaired options bytes)

@@ -1,10 +1,17 @@
 -- How C asks for a descriptor to be read (Sections 6.2.2.7 and 6.2.2.8).
-use Rattle.std.specs.Prelude.{ℕ, ◌==◌, ◌^◌, ◌-◌, if◌then◌else◌, Option, None, Some}
+use Rattle.std.specs.Prelude.{ℕ, ◌==◌, ◌^◌, ◌-◌, if◌then◌else◌, List, length, Option, None, Some}
+use Rattle.std.specs.Prelude.{option_map, Result}
+use Rattle.hidreport_lists.specs.Answer.{Refusal}
+use Rattle.hidreport.specs.Options.{parse_as, past_longest, unless_too_long}
+use Rattle.hidreport.specs.Records.{DescriptorRecord}
 use Rattle.hidreport.specs.declared.parse_options.ParseOptions.{ParseOptions}
 use Rattle.hidreport.specs.declared.parser.push_keeps.PushKeeps.{PushKeeps}
 use Rattle.hidreport.specs.declared.parser.push_keeps.PushKeeps.TheVariants as a_push_keeps
 use Rattle.hidreport.specs.declared.parser.usages_by.UsagesBy.{UsagesBy}
 use Rattle.hidreport.specs.declared.parser.usages_by.UsagesBy.TheVariants as usages_by
+use Rattle.hidreport_linux.specs.LinuxDevice.{linux_parse}
+use Rattle.hidreport_c.specs.declared.options.Reading.{Reading}
+use Rattle.hidreport_c.specs.declared.options.Reading.TheVariants as reading
 use Rattle.hidreport_c.specs.declared.structs.HidreportOptions.{HidreportOptions}
 
 -- what a Push keeps: 0 globals and locals, 1 globals alone
@@ -43,3 +50,24 @@ with_limit limit (Some keeps) (Some usages) = Some (record {
 abbrev pub options_of : HidreportOptions → Option ParseOptions
 options_of options =
     with_limit (limit_of options.limit) (push_keeps_of options.push) (usages_of options.usages)
+
+-- as Linux reads a descriptor, with a Push of globals alone
+abbrev pub linux_by : ℕ → Option ℕ → Option Reading
+linux_by push limit =
+    if push == 1 then Some (reading.AsLinux limit (longest_of limit)) else None
+
+-- how a descriptor is read: 2 for usages is as Linux reads all of it
+abbrev pub reading_of : HidreportOptions → Option Reading
+reading_of options =
+    if options.usages == 2 then linux_by options.push (limit_of options.limit)
+    else option_map reading.By (options_of options)
+
+-- what Linux reads of a descriptor that isn't too long
+abbrev pub as_linux : Option ℕ → Option ℕ → List ℕ → Result DescriptorRecord Refusal
+as_linux limit longest bytes =
+    unless_too_long (past_longest longest (length bytes)) (linux_parse limit bytes)
+
+-- the reports that bytes announce, or why they are refused
+abbrev pub read_by : Reading → List ℕ → Result DescriptorRecord Refusal
+read_by (reading.By options) bytes = parse_as options bytes
+read_by (reading.AsLinux limit longest) bytes = as_linux limit longest bytes

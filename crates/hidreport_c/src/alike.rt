@@ -1,7 +1,7 @@
 //! Descriptors compared.
 ghost use Rattle.std.specs.Prelude.{◌≡◌};
 ghost use Rattle.hidreport_c.specs.Alike.{Likens, unlike};
-ghost use Rattle.hidreport_c.specs.Options.{options_of};
+ghost use Rattle.hidreport_c.specs.Options.{reading_of};
 
 use crate::answer::read;
 use crate::status::ACCEPTED;
@@ -34,7 +34,7 @@ pub extern "C" fn hidreport_is_alike(
     other: &[u8],
     options: HidreportOptions,
 ) -> HidreportLikeness
-    ensures { Likens (options_of options) descriptor.now other.now result }
+    ensures { Likens (reading_of options) descriptor.now other.now result }
 {
     match read(alloc, descriptor, options) {
         Ok(first) => match read(alloc, other, options) {

@@ -1,7 +1,7 @@
 //! What C is told of a list, and how a descriptor is read for it.
 ghost use Rattle.std.specs.Prelude.{◌≡◌, length};
 ghost use Rattle.hidreport_c.specs.Answer.{IsRead, array_after, counted, error_as_c, refused};
-ghost use Rattle.hidreport_c.specs.Options.{options_of};
+ghost use Rattle.hidreport_c.specs.Options.{reading_of};
 
 use crate::status::{
     ACCEPTED, BUDGET_EXCEEDED, INVALID_DATA, MISMATCHING_REPORT_ID, OUT_OF_BOUNDS, OUT_OF_MEMORY,
@@ -41,12 +41,12 @@ pub(crate) fn read(
     bytes: &[u8],
     options: HidreportOptions,
 ) -> Result<ReportDescriptor, HidreportAnswer>
-    ensures { IsRead result (options_of options) bytes.now }
+    ensures { IsRead result (reading_of options) bytes.now }
 {
-    let Some(options) = options.chosen() else {
+    let Some(reading) = options.reading() else {
         return Err(HidreportAnswer::refused(UNKNOWN_OPTION));
     };
-    match ReportDescriptor::try_from_with(alloc, bytes, options) {
+    match reading.descriptor(alloc, bytes) {
         Ok(descriptor) => Ok(descriptor),
         Err(error) => Err(refusal(&error)),
     }
@@ -58,12 +58,12 @@ pub(crate) fn outline(
     bytes: &[u8],
     options: HidreportOptions,
 ) -> Result<Outline, HidreportAnswer>
-    ensures { IsRead result (options_of options) bytes.now }
+    ensures { IsRead result (reading_of options) bytes.now }
 {
-    let Some(options) = options.chosen() else {
+    let Some(reading) = options.reading() else {
         return Err(HidreportAnswer::refused(UNKNOWN_OPTION));
     };
-    match Outline::try_from_with(alloc, bytes, options) {
+    match reading.outline(alloc, bytes) {
         Ok(outline) => Ok(outline),
         Err(error) => Err(refusal(&error)),
     }

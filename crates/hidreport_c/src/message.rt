@@ -1,14 +1,14 @@
 //! What is wrong with a descriptor, as text.
 ghost use Rattle.hidreport_c.specs.Answer.{Lists, ListsBy};
 ghost use Rattle.hidreport_c.specs.Message.{Says, items_message, parse_message, repair_message, words_of};
-ghost use Rattle.hidreport_c.specs.Options.{options_of};
+ghost use Rattle.hidreport_c.specs.Options.{options_of, reading_of};
 ghost use Rattle.hidreport_c.specs.Repair.{repair_options_of};
 
 use crate::answer::write_bytes;
 use crate::status::{OUT_OF_MEMORY, UNKNOWN_OPTION};
 use crate::structs::{HidreportAnswer, HidreportOptions};
 use hidreport::hid::ReportDescriptorItems;
-use hidreport::{ParserError, ReportDescriptor, repair};
+use hidreport::{ParserError, repair};
 use std::alloc::Global;
 
 /// What a descriptor is refused for by these options, in the words of `ParserError` without the
@@ -21,12 +21,12 @@ pub extern "C" fn hidreport_message(
     options: HidreportOptions,
     text: &mut [u8],
 ) -> HidreportAnswer
-    ensures { ListsBy (parse_message descriptor.now) (options_of options) text.old text.new result }
+    ensures { ListsBy (parse_message descriptor.now) (reading_of options) text.old text.new result }
 {
-    let Some(options) = options.chosen() else {
+    let Some(reading) = options.reading() else {
         return HidreportAnswer::refused(UNKNOWN_OPTION);
     };
-    match ReportDescriptor::try_from_with(alloc, descriptor, options) {
+    match reading.descriptor(alloc, descriptor) {
         Ok(_) => HidreportAnswer::counted(0),
         Err(error) => write_message(&error, text),
     }

@@ -1,18 +1,21 @@
 -- A device as Linux reads its descriptor (hid-core of Linux 6.12).
 use Rattle.std.specs.Prelude.{◌≡◌, ◌≢◌, ◌⊎◌, ℕ, true, false, List, Option, Some, None, Result, Ok, Err}
-use Rattle.hidreport_lists.specs.Answer.{Refuses}
+use Rattle.hidreport_lists.specs.Answer.{Refusal, InvalidData, Refuses}
 use Rattle.hidreport_lists.specs.declared.error.ParserError.{ParserError}
 use Rattle.hidreport_lists.specs.declared.error.ParserError.TheVariants as errors
 use Rattle.hidreport.specs.Options.{parse_as}
 use Rattle.hidreport.specs.Records.{DescriptorRecord}
 use Rattle.hidreport.specs.Repair.{RepairedRecord, repaired}
+use Rattle.hidreport.specs.declared.parse_options.ParseOptions.{ParseOptions}
 use Rattle.hidreport.specs.declared.parser.push_keeps.PushKeeps.TheVariants as push_keeps
 use Rattle.hidreport.specs.declared.parser.usages_by.UsagesBy.TheVariants as usages_by
 use Rattle.hidreport.specs.declared.repairing.repair_options.RepairOptions.{RepairOptions}
 use Rattle.hidreport_linux.specs.CoreKept.{ReadingRecord}
 use Rattle.hidreport_linux.specs.CoreReading.{linux_reading}
+use Rattle.hidreport_linux.specs.CoreReasons.{refusal_text}
 use Rattle.hidreport_linux.specs.declared.linux_device.LinuxRefusal.{LinuxRefusal}
 use Rattle.hidreport_linux.specs.declared.linux_device.LinuxRefusal.TheVariants as linux
+use Rattle.hidreport_linux.specs.declared.reading.placed.Refusal as placed
 
 -- Linux takes the descriptor: hid-core refuses none of its items, and nothing is left open
 abbrev pub IsTakenByLinux : List ℕ → Type 0
@@ -31,6 +34,23 @@ linux_options limit = record {
   leave_out_cut_short = false;
   unsigned_maxima = true;
 }
+
+-- the reports of what is mended, or why it isn't
+abbrev pub then_parsed : ParseOptions → Result RepairedRecord Refusal
+    → Result DescriptorRecord Refusal
+then_parsed options (Ok mended) = parse_as options mended.bytes
+then_parsed options (Err refusal) = Err refusal
+
+-- unless Linux refuses the descriptor
+abbrev pub unless_linux_refuses : Option placed.Refusal → Result DescriptorRecord Refusal
+    → Result DescriptorRecord Refusal
+unless_linux_refuses None answer = answer
+unless_linux_refuses (Some r) answer = Err (InvalidData r.offset (refusal_text r.reason))
+
+-- the reports of a descriptor as Linux reads it, under a limit, if any; or its first fault
+abbrev pub linux_parse : Option ℕ → List ℕ → Result DescriptorRecord Refusal
+linux_parse limit bytes = unless_linux_refuses (linux_reading bytes).refusal
+    (then_parsed (linux_options limit).parse (repaired (linux_options limit) bytes))
 
 -- what is read of the items, the mended descriptor, and its reports
 pub record DeviceRecord : Type 0 where

@@ -35,7 +35,7 @@ pub use event::Event;
 pub use event_code::{EventCode, EventType};
 pub use input_devices::{InputDevices, is_input_application};
 pub use item::Item;
-pub use linux_device::{LinuxDevice, LinuxRefusal};
+pub use linux_device::{LinuxDevice, LinuxRefusal, outline_as_linux};
 pub use place::Place;
 pub use reading::LinuxReading;
 pub use reading::placed::{Doubt, Omission, Refusal};

@@ -1,6 +1,7 @@
 //! A device as Linux reads its descriptor.
 ghost use Rattle.std.specs.Prelude.{◌≡◌};
-ghost use Rattle.hidreport_linux.specs.LinuxDevice.{linux_options};
+ghost use Rattle.hidreport_lists.specs.Answer.{Answers};
+ghost use Rattle.hidreport_linux.specs.LinuxDevice.{linux_options, linux_parse};
 
 use crate::input_devices::InputDevices;
 use crate::reading::LinuxReading;
@@ -167,6 +168,31 @@ impl LinuxDevice {
     {
         self.reading.input_devices(alloc)
     }
+}
+
+/// The reports of a descriptor as Linux reads it, where listing it weighs no more than a limit, if
+/// there is one: those of `LinuxDevice::of`.
+///
+/// # Errors
+///
+/// - `InvalidData` at the item's offset, with a `RefusalReason`'s words: Linux refuses the descriptor.
+/// - `BudgetExceeded`: it lists more than the limit.
+/// - `OutOfMemory`: memory is refused; this says nothing of the bytes.
+pub fn outline_as_linux(
+    alloc: Global,
+    bytes: &[u8],
+    limit: Option<usize>,
+) -> Result<Outline, ParserError>
+    ensures { Answers result (linux_parse limit bytes.now) }
+{
+    let reading = LinuxReading::of(alloc, bytes)?;
+    if let Some(refusal) = reading.refusal() {
+        return Err(refusal.error(alloc));
+    }
+    let options = linux_options(limit);
+    let repaired = repair(alloc, bytes, options)?;
+    let outline = Outline::try_from_with(alloc, repaired.bytes.as_slice(), options.parse)?;
+    Ok(outline)
 }
 
 /// The options by which Linux's reading is put together: maxima without a sign, a Push of global

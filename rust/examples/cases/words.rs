@@ -49,6 +49,7 @@ pub fn usages_by(word: &str) -> Option<UsagesBy> {
     match word {
         "standard" => Some(UsagesBy::Standard),
         "hosts" => Some(UsagesBy::Hosts),
+        "linux" => Some(UsagesBy::Linux),
         _ => UsagesBy::try_from(word.parse::<u32>().expect("a number")).ok(),
     }
 }

@@ -126,6 +126,9 @@ numbers! {
         Standard = 0,
         /// As hosts read them, by Linux's rules.
         Hosts = 1,
+        /// All as Linux reads it: what it takes is mended first, what it refuses is refused. A Push
+        /// has to keep global items alone; for a repair this says nothing.
+        Linux = 2,
     }
 }
 
@@ -251,7 +254,7 @@ mod tests {
         both_ways::<Status>(&[1, 2, 3, 4, 5, 6, 7, 8]);
         both_ways::<FieldKind>(&[0, 1, 2]);
         both_ways::<Push>(&[0, 1]);
-        both_ways::<UsagesBy>(&[0, 1]);
+        both_ways::<UsagesBy>(&[0, 1, 2]);
         both_ways::<Reason>(&[0, 1, 2, 3, 4, 5]);
         both_ways::<CollectionKind>(&(0..256).collect::<Vec<u32>>());
         both_ways::<Mends>(&[0, 1, 2, 3]);
