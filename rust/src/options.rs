@@ -8,7 +8,8 @@ pub use crate::c::{Push as PushKeeps, UsagesBy};
 /// limited.
 #[derive(Clone, Copy, Debug, PartialEq, Eq)]
 pub struct ParseOptions {
-    /// What a Push keeps for its Pop (Section 6.2.2.7).
+    /// What a Push keeps for its Pop (Section 6.2.2.7); as Linux reads it is global items alone,
+    /// whatever is said here.
     pub push_keeps: PushKeeps,
     /// By which rule an item finds its usages (Section 6.2.2.8).
     pub usages: UsagesBy,
@@ -49,7 +50,10 @@ impl From<ParseOptions> for c::Options {
     fn from(options: ParseOptions) -> c::Options {
         c::Options {
             limit: options.limit.unwrap_or(c::NO_LIMIT),
-            push: options.push_keeps,
+            push: match options.usages {
+                UsagesBy::Linux => PushKeeps::Globals,
+                UsagesBy::Standard | UsagesBy::Hosts => options.push_keeps,
+            },
             usages: options.usages,
         }
     }

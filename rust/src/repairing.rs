@@ -1,14 +1,15 @@
 //! Descriptors that hosts accept, made such as are read.
 use crate::c;
 use crate::error::ParserError;
-use crate::options::ParseOptions;
+use crate::options::{ParseOptions, UsagesBy};
 
 pub use crate::c::{Change, Reason};
 
 /// What [`repair`] mends, and how what it writes is read.
 #[derive(Clone, Copy, Debug, PartialEq, Eq)]
 pub struct RepairOptions {
-    /// How the repaired descriptor is read: by default as Linux reads it.
+    /// How the repaired descriptor is read: by default as hosts find usages and keep a Push, which
+    /// `UsagesBy::Linux` is here, too.
     pub parse: ParseOptions,
     /// Whether an item that is cut short is left out, with all bytes from there on. Linux refuses
     /// it.
@@ -49,7 +50,10 @@ pub fn repair(bytes: &[u8], options: RepairOptions) -> Result<Repaired, ParserEr
         cut_short: options.leave_out_cut_short,
         unsigned_maxima: options.unsigned_maxima,
     };
-    let parse = options.parse.into();
+    let mut parse: c::Options = options.parse.into();
+    if parse.usages == UsagesBy::Linux {
+        parse.usages = UsagesBy::Hosts;
+    }
     Ok(Repaired {
         bytes: c::repair(bytes, parse, mends)?,
         changes: c::changes(bytes, parse, mends)?,
