@@ -12,7 +12,7 @@ scratch=$(mktemp -d)
 trap 'rm -rf "$scratch"' EXIT
 
 # What is copied: sources, definitions and proofs. The edits that must fail, and what `rt` made, stay here.
-for crate in hidreport_types hidreport_items hidreport_lists hidreport; do
+for crate in hidreport_types hidreport_items hidreport_lists hidreport_fields hidreport; do
     mkdir -p "$scratch/crates/$crate"
     for part in src specs proofs; do
         cp -R "$top/crates/$crate/$part" "$scratch/crates/$crate/"

@@ -15,7 +15,7 @@ use crate::parse_options::ParseOptions;
 use crate::parser::push_keeps::PushKeeps;
 use crate::report::RDescReport;
 use crate::report::reports::{Reports, find_with_id, likely_report};
-use hidreport_fields::field::data_item::Direction;
+use hidreport_fields::Direction;
 use hidreport_lists::ParserError;
 use hidreport_types::ReportId;
 use std::alloc::Global;

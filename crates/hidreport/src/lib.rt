@@ -98,24 +98,15 @@ pub mod hid {
 /// Numbers in the bits of a report, for callers who keep fields in a form of their own (Section 5.8);
 /// `FieldValue::from_bits` reads them.
 pub mod bits {
-    pub use hidreport_fields::field::written_bits::{all_fit, fits, put_values};
+    pub use hidreport_fields::{all_fit, fits, put_values};
 }
 
 pub use descriptor::ReportDescriptor;
 pub use hid::CollectionItem as CollectionType;
-pub use hidreport_fields::field::array_field::ArrayField;
-pub use hidreport_fields::field::collection::{Collection, CollectionId};
-pub use hidreport_fields::field::constant_field::ConstantField;
-pub use hidreport_fields::field::data_item::Direction;
-pub use hidreport_fields::field::element_numbers::ElementNumbers;
-pub use hidreport_fields::field::field_attributes::FieldAttributes;
-pub use hidreport_fields::field::fraction::Fraction;
-pub use hidreport_fields::field::insert_error::InsertError;
-pub use hidreport_fields::field::usage::Usage;
-pub use hidreport_fields::field::usage_range::UsageRange;
-pub use hidreport_fields::field::value::FieldValue;
-pub use hidreport_fields::field::variable_field::VariableField;
-pub use hidreport_fields::field::{Field, FieldId};
+pub use hidreport_fields::{
+    ArrayField, Collection, CollectionId, ConstantField, Direction, ElementNumbers, Field,
+    FieldAttributes, FieldId, FieldValue, Fraction, InsertError, Usage, UsageRange, VariableField,
+};
 pub use hidreport_lists::{ParserError, Reason};
 pub use laws::{
     blank_reports_have_their_id_alone, built_bytes_mean_their_items, scaled_values_lie_on_a_line,

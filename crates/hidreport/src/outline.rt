@@ -14,7 +14,7 @@ use crate::parse_options::ParseOptions;
 use crate::parser;
 use crate::report::outline_report::{OutlineReport, find_with_id};
 use crate::report::outline_reports::OutlineReports;
-use hidreport_fields::field::data_item::Direction;
+use hidreport_fields::Direction;
 use hidreport_lists::ParserError;
 use hidreport_types::ReportId;
 use std::alloc::{AllocError, Global};

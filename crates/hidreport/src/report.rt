@@ -14,8 +14,7 @@ pub(crate) mod outline_reports;
 pub(crate) mod reader;
 pub(crate) mod reports;
 
-use hidreport_fields::field::usage::Usage;
-use hidreport_fields::field::{Field, FieldId, are_alike};
+use hidreport_fields::{Field, FieldId, Usage, are_alike};
 use hidreport_types::ReportId;
 use std::alloc::{AllocError, Global};
 use std::marker::Model;

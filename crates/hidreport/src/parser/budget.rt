@@ -6,7 +6,7 @@ ghost use Rattle.hidreport.specs.Parser.Usages.{usage_list};
 
 use crate::parser::fault::Fault;
 use crate::parser::usages::Usages;
-use hidreport_fields::field::data_item::DataItem;
+use hidreport_fields::DataItem;
 use std::marker::Model;
 
 /// How much a parse may still list, in what `try_from_within` counts; without a limit, anything.

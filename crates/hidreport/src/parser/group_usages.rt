@@ -8,8 +8,7 @@ use crate::parser::local_usages::LocalUsage;
 use crate::parser::usage_bounds::UsageBounds;
 use crate::parser::usage_span::UsageSpan;
 use crate::parser::usages::Usages;
-use hidreport_fields::field::Field;
-use hidreport_fields::field::usage::Usage;
+use hidreport_fields::{Field, Usage};
 use hidreport_types::UsagePage;
 use std::alloc::{AllocError, Global};
 

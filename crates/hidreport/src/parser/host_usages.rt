@@ -6,7 +6,7 @@ ghost use Rattle.hidreport.specs.HostUsages.{completed, first_set, host_spans, m
 
 use crate::parser::paged_local::PagedLocal;
 use crate::parser::usage_span::UsageSpan;
-use hidreport_fields::field::usage::Usage;
+use hidreport_fields::Usage;
 use hidreport_items::LocalItem;
 use hidreport_types::{UsageId, UsagePage};
 use std::alloc::{AllocError, Global};

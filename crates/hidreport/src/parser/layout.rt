@@ -4,12 +4,10 @@ ghost use Rattle.hidreport.specs.Fields.{usage_at};
 ghost use Rattle.hidreport.specs.Parser.Usages.{usage_list};
 
 use crate::parser::usages::Usages;
-use hidreport_fields::field::collection::Collection;
-use hidreport_fields::field::data_item::DataItem;
-use hidreport_fields::field::making::{Choices, Place, make_array, make_padding, make_variable};
-use hidreport_fields::field::measures::Measures;
-use hidreport_fields::field::usage::Usage;
-use hidreport_fields::field::{Field, numbered_field};
+use hidreport_fields::{
+    Choices, Collection, DataItem, Field, Measures, Place, Usage, make_array, make_padding,
+    make_variable, numbered_field,
+};
 use hidreport_types::{ReportCount, ReportId};
 use std::alloc::{AllocError, Global};
 use std::ops::Range;

@@ -1,9 +1,7 @@
 //! A collection that is open (Section 6.2.2.6).
 use crate::parser::usage_bounds::UsageBounds;
 use crate::parser::usages::Usages;
-use hidreport_fields::field::collection::{
-    Collection, CollectionUsages, make_collection, numbered_collection,
-};
+use hidreport_fields::{Collection, CollectionUsages, make_collection, numbered_collection};
 use hidreport_items::CollectionItem;
 use std::alloc::{AllocError, Global};
 use std::marker::Model;

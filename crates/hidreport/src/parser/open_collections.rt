@@ -3,8 +3,7 @@ ghost use Rattle.std.specs.Prelude.{◌≡◌, IfOk};
 
 use crate::parser::open_collection::OpenCollection;
 use crate::parser::usages::Usages;
-use hidreport_fields::field::collection::Collection;
-use hidreport_fields::field::data_item::DataItem;
+use hidreport_fields::{Collection, DataItem};
 use hidreport_items::CollectionItem;
 use std::alloc::{AllocError, Global};
 use std::marker::Model;

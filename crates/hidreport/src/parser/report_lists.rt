@@ -4,7 +4,7 @@ use crate::parser::report_list::ReportList;
 use crate::parser::slot::{Room, Slot};
 use crate::parser::usages::Usages;
 use crate::report::outline_reports::OutlineReports;
-use hidreport_fields::field::data_item::Direction;
+use hidreport_fields::Direction;
 use hidreport_types::ReportId;
 use std::alloc::{AllocError, Global};
 use std::marker::Model;

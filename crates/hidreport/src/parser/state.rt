@@ -13,7 +13,7 @@ use crate::parser::report_lists::ReportLists;
 use crate::parser::usage_span::UsageSpan;
 use crate::parser::usages::{Usages, spans_in, usages_of};
 use crate::report::outline_reports::OutlineReports;
-use hidreport_fields::field::data_item::DataItem;
+use hidreport_fields::DataItem;
 use hidreport_items::{CollectionItem, GlobalItem, ItemType, MainItem};
 use std::alloc::{AllocError, Global};
 use std::marker::Model;

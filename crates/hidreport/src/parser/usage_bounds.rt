@@ -3,7 +3,7 @@ ghost use Rattle.std.specs.Prelude.{◌≡◌, ◌%◌, IfOk};
 ghost use Rattle.hidreport_fields.specs.UsageRange.{make_usage};
 
 use crate::parser::local_usages::LocalUsage;
-use hidreport_fields::field::usage::Usage;
+use hidreport_fields::Usage;
 use hidreport_types::{UsageId, UsagePage};
 use std::alloc::{AllocError, Global};
 

@@ -15,7 +15,7 @@ use crate::parser::locals::Locals;
 use crate::parser::usage_bounds::UsageBounds;
 use crate::parser::usage_span::UsageSpan;
 use crate::parser::usages_by::UsagesBy;
-use hidreport_fields::field::usage::Usage;
+use hidreport_fields::Usage;
 use hidreport_types::UsagePage;
 use std::alloc::{AllocError, Global};
 

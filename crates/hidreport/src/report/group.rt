@@ -7,10 +7,7 @@ ghost use Rattle.hidreport.specs.Parser.Usages.{usage_list};
 use crate::parser::group_usages::GroupUsages;
 use crate::parser::layout::Layout;
 use crate::parser::usages::Usages;
-use hidreport_fields::field::Field;
-use hidreport_fields::field::collection::Collection;
-use hidreport_fields::field::field_attributes::FieldAttributes;
-use hidreport_fields::field::usage::Usage;
+use hidreport_fields::{Collection, Field, FieldAttributes, Usage};
 use hidreport_items::ItemFlags;
 use hidreport_types::{
     LogicalMaximum, LogicalMinimum, PhysicalMaximum, PhysicalMinimum, ReportId, Unit, UnitExponent,

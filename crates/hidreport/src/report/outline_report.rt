@@ -11,7 +11,7 @@ ghost use Rattle.hidreport_fields.specs.WritingLaws.{IsWhole};
 use crate::report::group::Group;
 use crate::report::reports::is_same_id;
 use crate::report::{RDescReport, blank_of};
-use hidreport_fields::field::Field;
+use hidreport_fields::Field;
 use hidreport_types::ReportId;
 use std::alloc::{AllocError, Global};
 use std::marker::Model;

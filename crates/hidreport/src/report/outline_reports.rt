@@ -4,7 +4,7 @@ ghost use Rattle.std.specs.Prelude.{◌≡◌, IfOk};
 use crate::report::RDescReport;
 use crate::report::outline_report::{OutlineReport, find_with_id};
 use crate::report::reports::Reports;
-use hidreport_fields::field::data_item::Direction;
+use hidreport_fields::Direction;
 use hidreport_types::ReportId;
 use std::alloc::{AllocError, Global};
 use std::marker::Model;

@@ -12,7 +12,7 @@ mod run;
 mod run_list;
 
 use crate::report::{RDescReport, Report};
-use hidreport_fields::field::insert_error::InsertError;
+use hidreport_fields::InsertError;
 use hidreport_lists::ParserError;
 use run_list::RunList;
 use std::alloc::{AllocError, Global};

@@ -4,7 +4,7 @@ ghost use Rattle.hidreport_fields.specs.Lookup.{IsOneWith, report_with};
 ghost use Rattle.hidreport_fields.specs.ReportIds.{same_key};
 
 use crate::report::RDescReport;
-use hidreport_fields::field::data_item::Direction;
+use hidreport_fields::Direction;
 use hidreport_types::ReportId;
 use std::alloc::Global;
 use std::marker::Model;

@@ -4,6 +4,7 @@ ghost use Rattle.std.specs.Cmp.Rules.{comparing, hashing};
 ghost use Rattle.std.specs.Hash as fed;
 ghost use Rattle.std.specs.Ordering.{on};
 ghost use Rattle.std.proofs.Common.{rules};
+ghost use Rattle.hidreport_fields.specs.CollectionUsages.{collection_usages};
 
 use crate::field::usage::{Usage, are_same};
 use hidreport_items::CollectionItem;

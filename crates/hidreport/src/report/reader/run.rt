@@ -9,10 +9,9 @@ ghost use Rattle.hidreport.specs.Runs.{HasNarrowValues, HasAllValues, IsPlain, J
 ghost use Rattle.hidreport_fields.specs.Views.{field_record};
 ghost use Rattle.hidreport_fields.specs.WritingValues.{fits, put};
 
-use hidreport_fields::field::Field;
-use hidreport_fields::field::array_field::width_of_elements;
-use hidreport_fields::field::value::{check_id, read_bits};
-use hidreport_fields::field::written_bits::{all_fit, begins_in_id, put_values};
+use hidreport_fields::{
+    Field, all_fit, begins_in_id, check_id, put_values, read_bits, width_of_elements,
+};
 use hidreport_lists::ParserError;
 use hidreport_types::ReportId;
 use std::marker::Model;

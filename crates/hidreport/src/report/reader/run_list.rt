@@ -14,8 +14,7 @@ ghost use Rattle.hidreport_fields.specs.WritingValues.{where_read};
 ghost use Rattle.hidreport_fields.specs.declared.field.insert_error.InsertError.{InsertError};
 
 use crate::report::reader::run::{Run, short_word};
-use hidreport_fields::field::Field;
-use hidreport_fields::field::insert_error::InsertError;
+use hidreport_fields::{Field, InsertError};
 use hidreport_lists::ParserError;
 use hidreport_types::ReportId;
 use std::alloc::{AllocError, Global};
