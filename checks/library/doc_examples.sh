@@ -11,7 +11,7 @@ export LC_ALL=C
 . "$(dirname "$0")/../common/probe.sh"
 need_rt doc_examples
 repository=${1:-$(dirname "$0")/../..}
-crates=(hidreport_types hidreport_items hidreport_lists hidreport hidreport_usages)
+crates=(hidreport_types hidreport_items hidreport_lists hidreport_fields hidreport hidreport_usages)
 # At least so many are found.
 least=26
 

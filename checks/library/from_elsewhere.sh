@@ -1,7 +1,7 @@
 #!/bin/sh
-# Uses the library from another repository, as somebody new would, from an empty folder: four folders of crates/ are copied, and of crates.txt
-# their four lines. A crate that names `hidreport` alone of these reads a mouse's descriptor and a report. `rt try` runs it before any proof, so
-# this takes half a minute; `rt check` in its folder would prove the four and then the crate. Leaves nothing behind.
+# Uses the library from another repository, as somebody new would, from an empty folder: five folders of crates/ are copied, and of crates.txt
+# their five lines. A crate that names `hidreport` and `hidreport_fields` of these reads a mouse's descriptor and a report. `rt try` runs it before any proof, so
+# this takes half a minute; `rt check` in its folder would prove the five and then the crate. Leaves nothing behind.
 set -eu
 export LC_ALL=C
 
@@ -12,7 +12,7 @@ scratch=$(mktemp -d)
 trap 'rm -rf "$scratch"' EXIT
 
 # What is copied: sources, definitions and proofs. The edits that must fail, and what `rt` made, stay here.
-for crate in hidreport_types hidreport_items hidreport_lists hidreport; do
+for crate in hidreport_types hidreport_items hidreport_lists hidreport_fields hidreport; do
     mkdir -p "$scratch/crates/$crate"
     for part in src specs proofs; do
         cp -R "$top/crates/$crate/$part" "$scratch/crates/$crate/"
@@ -21,7 +21,7 @@ for crate in hidreport_types hidreport_items hidreport_lists hidreport; do
 done
 
 # What is new: a line and a file.
-echo 'reader: hidreport anyhow' >> "$scratch/crates.txt"
+echo 'reader: hidreport hidreport_fields anyhow' >> "$scratch/crates.txt"
 mkdir -p "$scratch/crates/reader/src"
 cp "$top/checks/library/from_elsewhere/main.source" "$scratch/crates/reader/src/main.rt"
 

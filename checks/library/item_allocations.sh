@@ -12,7 +12,7 @@ export LC_ALL=C
 . "$(dirname "$0")/../common/probe.sh"
 need_rt item_allocations
 make_probe item_allocations "${1:-$(dirname "$0")/../..}" \
-    hidreport_types hidreport_items hidreport_lists hidreport
+    hidreport_types hidreport_items hidreport_lists hidreport_fields hidreport
 
 # More allocations than the descriptor of the calls takes, or a list of items may.
 all=65

@@ -67,7 +67,7 @@ stand_in() {
         rm -rf "${crate:?}/$folder"
         cp -r "$top/crates/hidreport_definitions/$folder" "$crate"
     done
-    for folder in hidreport hidreport_lists hidreport_items hidreport_types; do
+    for folder in hidreport hidreport_fields hidreport_lists hidreport_items hidreport_types; do
         if [ -f "$top/crates/$folder/specs/$1.antt" ]; then
             cp "$top/crates/$folder/specs/$1.antt" "$crate/specs/Planted.antt"
         fi
@@ -104,11 +104,11 @@ try_law() {
 }
 
 try_laws() {
-    copy_crates "$scratch/laws" hidreport_types hidreport_items hidreport_lists hidreport
+    copy_crates "$scratch/laws" hidreport_types hidreport_items hidreport_lists hidreport_fields hidreport
     cp -r "$top/crates/hidreport_definitions" "$scratch/laws/crates"
-    sed -n '/^hidreport_types:\|^hidreport_items:\|^hidreport_lists:\|^hidreport:/p' \
+    sed -n '/^hidreport_types:\|^hidreport_items:\|^hidreport_lists:\|^hidreport_fields:\|^hidreport:/p' \
         "$top/crates.txt" > "$scratch/laws/crates.txt"
-    echo 'hidreport_definitions: hidreport hidreport_lists hidreport_items hidreport_types' \
+    echo 'hidreport_definitions: hidreport hidreport_fields hidreport_lists hidreport_items hidreport_types' \
         >> "$scratch/laws/crates.txt"
     : > "$scratch/proved"
     number=0

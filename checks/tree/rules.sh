@@ -41,7 +41,7 @@ for plants in checks/mutations/planted/*.txt; do
     while IFS= read -r line; do
         case $line in
             'file: '*) files=("crates/${line#file: }") ;;
-            'law: '*) mapfile -t files < <(ls crates/hidreport{_types,_items,_lists,}/specs/"${line#law: }.antt" 2> /dev/null) ;;
+            'law: '*) mapfile -t files < <(ls crates/hidreport{_types,_items,_lists,_fields,}/specs/"${line#law: }.antt" 2> /dev/null) ;;
             'old: '*)
                 times=$(cat "${files[@]}" 2> /dev/null | grep -oF -e "${line#old: }" | wc -l)
                 [ "$times" -eq 1 ] || fault "$plants: a text stands $times times: ${line#old: }"

@@ -3,9 +3,9 @@ use Rattle.std.proofs.Common.{◌≡◌, ℕ, zero, suc, ◌+◌, ◌-◌, ◌<�
 use Rattle.std.proofs.Common.{Result, Ok, Err, refl, sym, ap, ◌∙◌, arith, ℤ}
 use Rattle.std.proofs.lemmas.Grind.{common_steps}
 use Rattle.hidreport_lists.specs.Answer.{Refusal}
-use Rattle.hidreport.specs.Choosing.{value_number}
+use Rattle.hidreport_fields.specs.Choosing.{value_number}
 use Rattle.hidreport.specs.Reader.{each_alone, numbers_before}
-use Rattle.hidreport.specs.Reading.{ValueRecord}
+use Rattle.hidreport_fields.specs.Reading.{ValueRecord}
 
 -- where all are there, those behind follow
 pub before-whole : (xs ys : List (Result ValueRecord Refusal))

@@ -6,21 +6,21 @@ use Rattle.std.specs.Prelude.{replicate, slice_get, slice_index}
 use Rattle.std.proofs.lemmas.Grind.{common_steps}
 use Rattle.std.proofs.lemmas.Nat.Bits.{same_from_bits_below}
 use Rattle.hidreport_items.specs.Spelling.{AreBytes}
-use Rattle.hidreport.specs.BitValue.{bit}
+use Rattle.hidreport_fields.specs.BitValue.{bit}
 use Rattle.hidreport.specs.Blank.{blank_bytes, with_first}
-use Rattle.hidreport.specs.Bits.{covered_bits}
-use Rattle.hidreport.specs.Places.{id_bits}
-use Rattle.hidreport.specs.Records.{FieldRecord, ReportRecord, own_id, place_of}
-use Rattle.hidreport.specs.Tiling.{Covers, Each, HasNoRest, IsOf}
+use Rattle.hidreport_fields.specs.Bits.{covered_bits}
+use Rattle.hidreport_fields.specs.ReportIds.{id_bits}
+use Rattle.hidreport_fields.specs.Records.{FieldRecord, ReportRecord, own_id, place_of}
+use Rattle.hidreport_fields.specs.Tiling.{Covers, Each, HasNoRest, IsOf}
 use Rattle.hidreport.specs.Working.{FitAll, IsNarrow, TakesAll}
-use Rattle.hidreport.specs.WritingLaws.{Keeps, then_written, written_all}
-use Rattle.hidreport.specs.WritingValues.{written}
-use Rattle.hidreport.specs.declared.field.insert_error.InsertError.{InsertError}
-use Rattle.hidreport.proofs.IsWrittenLemmas.{is-written}
+use Rattle.hidreport_fields.specs.WritingLaws.{Keeps, then_written, written_all}
+use Rattle.hidreport_fields.specs.WritingValues.{written}
+use Rattle.hidreport_fields.specs.declared.field.insert_error.InsertError.{InsertError}
+use Rattle.hidreport_fields.proofs.IsWrittenLemmas.{is-written}
 use Rattle.hidreport.proofs.OwnReportsLemmas.{of-none, of-some}
 use Rattle.hidreport.proofs.WholeLemmas.{written-are}
 use Rattle.hidreport.proofs.WorkLemmas.{covers-up, fields-work}
-use Rattle.hidreport.proofs.WrittenBitsLemmas.{bit-head, bit-tail}
+use Rattle.hidreport_fields.proofs.WrittenBitsLemmas.{bit-head, bit-tail}
 
 -- the bytes of a report with an id begin with it
 abbrev pub Begins : Option ℕ → List ℕ → Type 0

@@ -19,18 +19,19 @@ use Rattle.hidreport.specs.Budget.{parse_within_by, unless_past}
 use Rattle.hidreport.specs.Fields.{fields_of}
 use Rattle.hidreport.specs.ItemState.{first_of}
 use Rattle.hidreport.specs.Kinds.{Indexed, Direction, Input, Output, Feature, data_of, goes}
-use Rattle.hidreport.specs.Making.{extent, same_key}
+use Rattle.hidreport.specs.Making.{extent}
+use Rattle.hidreport_fields.specs.ReportIds.{same_key}
 use Rattle.hidreport.specs.Meaning.{InForce, at_offset, meaning_by, parse_by, parse_items}
 use Rattle.hidreport.specs.MeaningFault.{MeaningFault, BudgetExceeded}
 use Rattle.hidreport.specs.Options.{parse_limited, reading_of}
 use Rattle.hidreport.specs.Parser.Budget.{past_fault, walk_within, weight_in, weight_made_in}
 use Rattle.hidreport.specs.Parser.Machine.{StateRecord, added_to, adds, fault_in, go_on, key_in}
 use Rattle.hidreport.specs.Parser.Machine.{next_state}
-use Rattle.hidreport.specs.Lookup.{reports_of}
+use Rattle.hidreport_fields.specs.Lookup.{reports_of}
 use Rattle.hidreport.specs.Parser.Machine.{next_reports, first_state, start_in}
 use Rattle.hidreport.specs.Parser.Machine.{unless_fault}
 use Rattle.hidreport.specs.Places.{bits_of}
-use Rattle.hidreport.specs.Records.{DescriptorRecord, FieldRecord, ReportRecord}
+use Rattle.hidreport_fields.specs.Records.{DescriptorRecord, FieldRecord, ReportRecord}
 use Rattle.hidreport.specs.declared.parse_options.ParseOptions.{ParseOptions}
 use Rattle.hidreport.specs.Weight.{descriptor_weight, field_weight, first_past, report_weight}
 use Rattle.hidreport.proofs.BudgetWalkLemmas.{walk-within}

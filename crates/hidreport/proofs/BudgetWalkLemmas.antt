@@ -25,7 +25,7 @@ use Rattle.hidreport.specs.Parser.Budget.{weight_opened_in}
 use Rattle.hidreport.specs.Parser.Machine.{StateRecord, fault_in, go_on, next_state, first_state, start_by}
 use Rattle.hidreport.specs.Parser.Machine.{start_in}
 use Rattle.hidreport.specs.Parser.Machine.{unless_fault, walk}
-use Rattle.hidreport.specs.Records.{DescriptorRecord}
+use Rattle.hidreport_fields.specs.Records.{DescriptorRecord}
 use Rattle.hidreport.specs.Usages.{usages_of}
 use Rattle.hidreport.specs.Visibility.{before, level}
 use Rattle.hidreport.specs.declared.parser.push_keeps.PushKeeps.{PushKeeps}

@@ -12,16 +12,17 @@ use Rattle.hidreport_items.specs.declared.item.ItemType.TheVariants as item
 use Rattle.hidreport_items.specs.Flags.{Flags}
 use Rattle.hidreport.specs.Kinds.{Direction, Input, Output, Feature}
 use Rattle.hidreport.specs.MeaningFault.{MeaningFault, TooManyPops}
-use Rattle.hidreport.specs.Parser.DataItem.{item_with}
-use Rattle.hidreport.specs.Fields.{make_fields, attributes, field_count, list_or_none}
+use Rattle.hidreport_fields.specs.DataItem.{item_with}
+use Rattle.hidreport.specs.Fields.{make_fields, attributes, list_or_none}
+use Rattle.hidreport_fields.specs.ItemParts.{field_count}
 use Rattle.hidreport.specs.ItemState.{ItemState, first_of}
 use Rattle.hidreport.specs.Parser.Machine.{StateRecord, after_pop, pushed_copy, step, unless_fault}
 use Rattle.hidreport.specs.Parser.Machine.{last_item_state, next_item_state, next_state, key_in}
 use Rattle.hidreport.specs.Parser.Machine.{start_in}
-use Rattle.hidreport.specs.Lookup.{reports_of}
+use Rattle.hidreport_fields.specs.Lookup.{reports_of}
 use Rattle.hidreport.specs.Parser.Machine.{size_in, first_id, added_to, with_reports}
 use Rattle.hidreport.specs.Making.{extent}
-use Rattle.hidreport.specs.Records.{CollectionRecord, DescriptorRecord, FieldRecord, ReportRecord}
+use Rattle.hidreport_fields.specs.Records.{CollectionRecord, DescriptorRecord, FieldRecord, ReportRecord}
 use Rattle.hidreport.specs.Parser.Usages.{HasUsages, usage_list}
 use Rattle.hidreport.specs.Usages.{UsageList, usages_of}
 use Rattle.hidreport.specs.declared.parser.paged_local.PagedLocal.{PagedLocal}

@@ -2,7 +2,7 @@
 use Rattle.std.proofs.Common.{◌≡◌, ℕ, zero, suc, ◌+◌, ◌-◌, ◌<◌, min, List, [], ◌∷◌, ◌++◌, length}
 use Rattle.std.proofs.Common.{get_or, refl, sym, ap, ◌∙◌, add-one, zero-add, append_assoc, arith}
 use Rattle.hidreport.specs.Fields.{each_from, usage_at}
-use Rattle.hidreport.specs.declared.field.usage.Usage.{Usage}
+use Rattle.hidreport_fields.specs.declared.field.usage.Usage.{Usage}
 
 -- one more at the end
 pub each_from-next : {A : Type 0} (f : ℕ → A) (c n : ℕ)

@@ -7,10 +7,10 @@ use Rattle.std.proofs.lemmas.Bool.Decides.{nat_tests}
 use Rattle.std.proofs.lemmas.List.Elements.{All-cons}
 use Rattle.std.proofs.lemmas.Grind.{common_steps}
 use Rattle.hidreport_items.specs.Spelling.{AreBytes}
-use Rattle.hidreport.specs.BitValue.{sum_of_bits, value}
+use Rattle.hidreport_fields.specs.BitValue.{sum_of_bits, value}
 use Rattle.hidreport.specs.Reader.{filled}
 use Rattle.hidreport.specs.Runs.{RunRecord, number_at, numbers_from, set_from}
-use Rattle.hidreport.proofs.WordLemmas.{sum-from, sum-word}
+use Rattle.hidreport_fields.proofs.WordLemmas.{sum-from, sum-word}
 
 -- one more number
 filled-next : (numbers : List ℤ) (number : ℤ) (values : List ℤ)

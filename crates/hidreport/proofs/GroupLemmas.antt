@@ -5,13 +5,14 @@ use Rattle.std.proofs.Common.{slice_get, subst, sym}
 use Rattle.std.specs.Prelude.{if◌then◌else◌}
 use Rattle.std.proofs.lemmas.Grind.{flat_map-append}
 use Rattle.hidreport_items.specs.Flags.{Flags}
-use Rattle.hidreport.specs.Fields.{Beginning, each_from, field_count, make_fields}
+use Rattle.hidreport.specs.Fields.{Beginning, each_from, make_fields}
+use Rattle.hidreport_fields.specs.ItemParts.{field_count}
 use Rattle.hidreport.specs.Groups.{GroupRecord, fields_of_groups, group_fields}
 use Rattle.hidreport.specs.Parser.Groups.{HasFirst}
 use Rattle.hidreport.specs.Parser.Layout.{IsPossible, laid_out, variable_of}
-use Rattle.hidreport.specs.Records.{Attributes, FieldRecord}
+use Rattle.hidreport_fields.specs.Records.{Attributes, FieldRecord}
 use Rattle.hidreport.specs.Usages.{UsageList}
-use Rattle.hidreport.specs.declared.field.usage.Usage.{Usage}
+use Rattle.hidreport_fields.specs.declared.field.usage.Usage.{Usage}
 use Rattle.hidreport.specs.declared.parser.extent.Extent.{Extent}
 use Rattle.hidreport.specs.declared.parser.layout.Layout.{Layout}
 use Rattle.hidreport.proofs.HostUsageLemmas.{each-first, listed, some-first}

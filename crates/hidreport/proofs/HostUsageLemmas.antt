@@ -16,12 +16,13 @@ use Rattle.hidreport.specs.HostUsages.{completed, first_set, is_lone, lies_on, i
 use Rattle.hidreport.specs.HostUsages.{minimum_behind, opens_set, span_of, spans, span_usage, usages_from}
 use Rattle.hidreport.specs.HostUsages.{span_usages}
 use Rattle.hidreport.specs.ItemState.{local_items}
-use Rattle.hidreport.specs.Tiling.{IsRangeOf}
+use Rattle.hidreport_fields.specs.Tiling.{IsRangeOf}
 use Rattle.hidreport.specs.Parser.Layout.{variable_of, variable_with}
-use Rattle.hidreport.specs.Records.{FieldRecord}
-use Rattle.hidreport.specs.Usages.{UsageList, host_usages, make_usage, range_from, usages_of_spans}
+use Rattle.hidreport_fields.specs.Records.{FieldRecord}
+use Rattle.hidreport.specs.Usages.{UsageList, host_usages, usages_of_spans}
+use Rattle.hidreport_fields.specs.UsageRange.{make_usage, range_from}
 use Rattle.hidreport.specs.declared.parser.layout.Layout.{Layout}
-use Rattle.hidreport.specs.declared.field.usage.Usage.{Usage}
+use Rattle.hidreport_fields.specs.declared.field.usage.Usage.{Usage}
 use Rattle.hidreport.specs.declared.parser.paged_local.PagedLocal.{PagedLocal}
 use Rattle.hidreport.specs.declared.parser.usage_span.UsageSpan.{UsageSpan}
 

@@ -10,14 +10,14 @@ use Rattle.std.proofs.lemmas.Grind.{common_steps}
 use Rattle.std.proofs.lemmas.List.{length-take-le}
 use Rattle.std.proofs.lemmas.List.Folds.{list_all-append}
 use Rattle.hidreport_lists.specs.Answer.{MismatchingReportId, Refusal}
-use Rattle.hidreport.specs.Choosing.{value_number}
+use Rattle.hidreport_fields.specs.Choosing.{value_number}
 use Rattle.hidreport.specs.Reader.{before_numbers, begins_otherwise, each_alone}
-use Rattle.hidreport.specs.Reading.{ValueRecord, before_values, each_value, read_bits, with_id}
+use Rattle.hidreport_fields.specs.Reading.{ValueRecord, before_values, each_value, read_bits, with_id}
 use Rattle.hidreport.specs.Runs.{Joins, RunRecord, place_in, run_reads, run_value}
 use Rattle.hidreport.specs.SameRuns.{SameRuns}
-use Rattle.hidreport.specs.WritingLaws.{numbers_of}
-use Rattle.hidreport.specs.WritingValues.{begins_in_id, fits, put}
-use Rattle.hidreport.proofs.PutValuesLemmas.{put-more, put-none}
+use Rattle.hidreport_fields.specs.WritingLaws.{numbers_of}
+use Rattle.hidreport_fields.specs.WritingValues.{begins_in_id, fits, put}
+use Rattle.hidreport_fields.proofs.PutValuesLemmas.{put-more, put-none}
 use Rattle.hidreport.proofs.RunLemmas.{before-none, before-nothing}
 use Rattle.hidreport.proofs.SameRunsLemmas.{same-behind}
 use Rattle.hidreport.proofs.WholeLemmas.{put-are}

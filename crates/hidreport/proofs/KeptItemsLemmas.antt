@@ -30,7 +30,8 @@ use Rattle.std.specs.Prelude.{◌*◌, ◌||◌, nat_lt, nat_le}
 use Rattle.hidreport.specs.Faults.{Counts, item_fault, data_fault, needed_usages_fault, usage_fault}
 use Rattle.hidreport.specs.Faults.{limit_fault, last_end, id_count}
 use Rattle.hidreport.specs.Places.{bits_of}
-use Rattle.hidreport.specs.Fields.{field_count, fields_made, fields_of, list_or_none, make_fields}
+use Rattle.hidreport_fields.specs.ItemParts.{field_count}
+use Rattle.hidreport.specs.Fields.{fields_made, fields_of, list_or_none, make_fields}
 use Rattle.hidreport.specs.Fields.{attributes}
 use Rattle.hidreport.specs.ItemState.{ItemState, first_of, local_items, paged_local, with_page}
 use Rattle.hidreport.specs.Kinds.{Direction, Input, Output, Feature, data_of, is_main, is_pop}
@@ -40,7 +41,7 @@ use Rattle.hidreport.specs.Budget.{parse_items_within}
 use Rattle.hidreport.specs.Laws.{parse_any}
 use Rattle.hidreport.specs.Meaning.{InForce, at_offset, offset_at, parse_items, refusal_at}
 use Rattle.hidreport.specs.MeaningFault.{MeaningFault}
-use Rattle.hidreport.specs.Records.{CollectionRecord, ReportRecord}
+use Rattle.hidreport_fields.specs.Records.{CollectionRecord, ReportRecord}
 use Rattle.hidreport.specs.Usages.{UsageList, usages_of, usages_under, usages_with, last_local}
 use Rattle.hidreport.specs.Usages.{single_usages, standard_usages}
 use Rattle.hidreport.specs.Usages.{before_usages, on_page, range_usages, as_single, minimum_of}

@@ -15,7 +15,8 @@ use Rattle.hidreport.specs.ItemState.{first_of, local_items}
 use Rattle.hidreport.specs.declared.parser.paged_local.PagedLocal.{PagedLocal}
 use Rattle.hidreport.specs.MeaningFault.{MissingUsagePage}
 use Rattle.hidreport.specs.Parser.Locals.{lacks_page, local_usage, usage_under, without_last}
-use Rattle.hidreport.specs.Usages.{before_usages, last_local, make_usage, single_usages}
+use Rattle.hidreport.specs.Usages.{before_usages, last_local, single_usages}
+use Rattle.hidreport_fields.specs.UsageRange.{make_usage}
 use Rattle.hidreport.specs.declared.parser.local_usages.LocalUsage.{LocalUsage}
 
 -- the last of those with a tag

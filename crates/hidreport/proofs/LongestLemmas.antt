@@ -5,7 +5,7 @@ use Rattle.hidreport_lists.specs.Answer.{Answers, MismatchingReportId, BudgetExc
 use Rattle.hidreport_lists.specs.declared.error.ParserError.{ParserError}
 use Rattle.hidreport.specs.Meaning.{InForce}
 use Rattle.hidreport.specs.Options.{parse_as, parse_limited, past_longest, reading_of, unless_too_long}
-use Rattle.hidreport.specs.Records.{DescriptorRecord}
+use Rattle.hidreport_fields.specs.Records.{DescriptorRecord}
 use Rattle.hidreport.specs.declared.parse_options.ParseOptions.{ParseOptions}
 use Rattle.hidreport.proofs.RefusalLemmas.{never-mismatch, never-over}
 

@@ -4,12 +4,12 @@ use Rattle.std.proofs.Common.{Option, Some, Bor, length, ap, ◌∙◌, refl, ar
 use Rattle.std.proofs.lemmas.Option.{slice_get_read}
 use Rattle.std.specs.Prelude.{count_by, find, slice_get}
 use Rattle.std.specs.Slice.{IsItemAt}
-use Rattle.hidreport.specs.Making.{same_key}
-use Rattle.hidreport.specs.Lookup.{IsOneWith, report_with, reports_of}
-use Rattle.hidreport.specs.Records.{DescriptorRecord, ReportRecord}
-use Rattle.hidreport.specs.Tiling.{HaveOwnIds, IsTiled}
-use Rattle.hidreport.specs.declared.field.data_item.Direction.{Direction}
-use Rattle.hidreport.specs.declared.field.data_item.Direction.TheVariants as direction
+use Rattle.hidreport_fields.specs.ReportIds.{same_key}
+use Rattle.hidreport_fields.specs.Lookup.{IsOneWith, report_with, reports_of}
+use Rattle.hidreport_fields.specs.Records.{DescriptorRecord, ReportRecord}
+use Rattle.hidreport_fields.specs.Tiling.{HaveOwnIds, IsTiled}
+use Rattle.hidreport_fields.specs.declared.field.data_item.Direction.{Direction}
+use Rattle.hidreport_fields.specs.declared.field.data_item.Direction.TheVariants as direction
 use Rattle.hidreport.proofs.TilingLemmas.{count-cons}
 
 counted-by : (b : Bool) (n : ℕ) → b ≡ true → 1 ≤ cond b 1 0 + n

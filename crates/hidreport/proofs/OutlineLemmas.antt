@@ -15,9 +15,10 @@ use Rattle.hidreport.specs.ItemState.{global as in_force}
 use Rattle.hidreport.specs.Kinds.{Direction, Indexed, data_of, goes, is_pop, is_push}
 use Rattle.hidreport.specs.Kinds.{report_count_of, report_id_of, report_size_of}
 use Rattle.hidreport.specs.Making.{both_set, extent, first_report_id, key, makers, makers_of, makes}
-use Rattle.hidreport.specs.Making.{same_key}
+use Rattle.hidreport_fields.specs.ReportIds.{same_key}
 use Rattle.hidreport.specs.Options.{reading_of}
-use Rattle.hidreport.specs.Places.{bits_of, end_before, id_bits, start}
+use Rattle.hidreport.specs.Places.{bits_of, end_before, start}
+use Rattle.hidreport_fields.specs.ReportIds.{id_bits}
 use Rattle.hidreport.specs.RepairLaws.{SamePlaces, item_direction}
 use Rattle.hidreport.specs.Visibility.{before, is_visible, level, stays_up, visible}
 use Rattle.hidreport.proofs.PushReadings.{IsRead, reading-globals}

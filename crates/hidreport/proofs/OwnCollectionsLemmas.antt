@@ -3,9 +3,9 @@
 use Rattle.std.proofs.Common.{◌≡◌, ℕ, zero, suc, List, [], ◌∷◌, ◌++◌, length, take}
 use Rattle.std.proofs.Common.{Some, slice_get, refl, sym, ap, ◌∙◌, subst, append-nil}
 use Rattle.std.proofs.Common.{append_assoc}
-use Rattle.hidreport.specs.Records.{CollectionRecord, FieldRecord}
-use Rattle.hidreport.specs.Tiling.{Each, HaveOwnCollections}
-use Rattle.hidreport.specs.Records.{collections_of}
+use Rattle.hidreport_fields.specs.Records.{CollectionRecord, FieldRecord}
+use Rattle.hidreport_fields.specs.Tiling.{Each, HaveOwnCollections}
+use Rattle.hidreport_fields.specs.Records.{collections_of}
 
 -- each of these, with those around it, stands at its number
 abbrev pub AreOpened : List (List CollectionRecord) → List CollectionRecord → List CollectionRecord

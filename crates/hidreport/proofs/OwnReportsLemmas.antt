@@ -5,16 +5,16 @@ use Rattle.std.proofs.Common.{refl, sym, ap, subst, ◌∙◌, arith}
 use Rattle.std.specs.Prelude.{◌==◌, find}
 use Rattle.std.proofs.lemmas.Grind.{common_steps}
 use Rattle.hidreport_lists.specs.Answer.{Refusal, OutOfBounds, MismatchingReportId}
-use Rattle.hidreport.specs.Lookup.{find_by, find_report, reports_of}
-use Rattle.hidreport.specs.declared.field.data_item.Direction.{Direction}
-use Rattle.hidreport.specs.declared.field.data_item.Direction.TheVariants as direction
-use Rattle.hidreport.specs.Making.{same_key}
-use Rattle.hidreport.specs.Reading.{ValueRecord, before_values, element, each_value, is_signed}
-use Rattle.hidreport.specs.Reading.{one_value, read_bits, reads, values_of, with_id}
-use Rattle.hidreport.specs.Records.{own_id}
-use Rattle.hidreport.specs.Records.{DescriptorRecord, FieldRecord, VariableRecord, ArrayRecord}
-use Rattle.hidreport.specs.Records.{ConstantRecord, ReportRecord}
-use Rattle.hidreport.specs.Tiling.{Each, IsFilled, IsOf, IsTiled}
+use Rattle.hidreport_fields.specs.Lookup.{find_by, find_report, reports_of}
+use Rattle.hidreport_fields.specs.declared.field.data_item.Direction.{Direction}
+use Rattle.hidreport_fields.specs.declared.field.data_item.Direction.TheVariants as direction
+use Rattle.hidreport_fields.specs.ReportIds.{same_key}
+use Rattle.hidreport_fields.specs.Reading.{ValueRecord, before_values, element, each_value, is_signed}
+use Rattle.hidreport_fields.specs.Reading.{one_value, read_bits, reads, values_of, with_id}
+use Rattle.hidreport_fields.specs.Records.{own_id}
+use Rattle.hidreport_fields.specs.Records.{DescriptorRecord, FieldRecord, VariableRecord, ArrayRecord}
+use Rattle.hidreport_fields.specs.Records.{ConstantRecord, ReportRecord}
+use Rattle.hidreport_fields.specs.Tiling.{Each, IsFilled, IsOf, IsTiled}
 use Rattle.hidreport.specs.Working.{AllOwn}
 use Rattle.hidreport.proofs.ReportLemmas.{same_key-equal}
 use Rattle.hidreport.proofs.TilingLemmas.{each-more}

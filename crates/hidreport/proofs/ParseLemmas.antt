@@ -29,7 +29,7 @@ use Rattle.hidreport.specs.Parser.Refusals.{IsFaultOf, IsRefusal, fault_named}
 use Rattle.hidreport.specs.declared.parser.fault.Fault.{Fault}
 use Rattle.hidreport.specs.declared.parse_options.ParseOptions.{ParseOptions}
 use Rattle.hidreport.specs.Options.{parse_limited, reading_of}
-use Rattle.hidreport.specs.Records.{DescriptorRecord}
+use Rattle.hidreport_fields.specs.Records.{DescriptorRecord}
 use Rattle.hidreport.proofs.ReadingLemmas.{walk-meaning}
 use Rattle.hidreport.proofs.BudgetWalkLemmas.{walk-unlimited, walk-within}
 use Rattle.std.proofs.Common.{◌<◌, drop, length, length-drop}

@@ -27,9 +27,9 @@ use Rattle.hidreport.specs.MeaningFault.{MeaningFault, TooManyPops, TooManyEnds}
 use Rattle.hidreport.specs.MeaningFault.{MissingUsageMaximum, MissingUsagePage, MissingUsages}
 use Rattle.hidreport.specs.MeaningFault as meaning_fault
 use Rattle.hidreport.specs.Options.{parse_limited}
-use Rattle.hidreport.specs.Records.{DescriptorRecord}
+use Rattle.hidreport_fields.specs.Records.{DescriptorRecord}
 use Rattle.hidreport.specs.Usages.{UsageList, usages_of}
-use Rattle.hidreport.specs.declared.field.usage.Usage.{Usage}
+use Rattle.hidreport_fields.specs.declared.field.usage.Usage.{Usage}
 use Rattle.hidreport.specs.declared.parser.extent.Extent.{Extent}
 use Rattle.hidreport.proofs.UsageFaultLemmas.{usages-never}
 

@@ -12,7 +12,7 @@ use Rattle.hidreport_lists.specs.declared.error.ParserError.{ParserError}
 use Rattle.hidreport.specs.Meaning.{at_offset, meaning_by, parse_by}
 use Rattle.hidreport.specs.MeaningFault.{MeaningFault}
 use Rattle.hidreport.specs.Options.{parse_as, parse_limited, past_longest, reading_of, unless_too_long}
-use Rattle.hidreport.specs.Records.{DescriptorRecord}
+use Rattle.hidreport_fields.specs.Records.{DescriptorRecord}
 use Rattle.hidreport.specs.Repair.{RepairedRecord, repaired, repaired_view}
 use Rattle.hidreport.specs.RepairLaws.{KeepsBits, RebuildsAlike, StaysRepaired}
 use Rattle.hidreport.specs.declared.parse_options.ParseOptions.{ParseOptions}

@@ -27,14 +27,14 @@ use Rattle.hidreport.specs.Parser.Budget.{is_past, left_behind, weight_in}
 use Rattle.hidreport.specs.Parser.Machine.{StateRecord, counts_in, fault_held, fault_in, first_state}
 use Rattle.hidreport.specs.Parser.Machine.{next_state, step}
 use Rattle.hidreport.specs.Parser.Machine.{unless_fault}
-use Rattle.hidreport.specs.Records.{DescriptorRecord}
+use Rattle.hidreport_fields.specs.Records.{DescriptorRecord}
 use Rattle.hidreport.specs.Repair.{RepairedRecord, all_mended, behind, constant_bytes, fault_at}
 use Rattle.hidreport.specs.Repair.{if_read, is_meant_unsigned, is_missing_usages, joined, mended}
 use Rattle.hidreport.specs.Repair.{padded_by, repaired, repaired_of, repaired_pieces, repaired_view}
 use Rattle.hidreport.specs.Repair.{rewritten, then_mended, then_read, if_faultless, wider_bytes}
 use Rattle.hidreport.specs.Repair.{widened, widened_in, with_mended}
 use Rattle.hidreport.specs.RepairLaws.{KeepsBits}
-use Rattle.hidreport.specs.Tiling.{Each}
+use Rattle.hidreport_fields.specs.Tiling.{Each}
 use Rattle.hidreport.specs.declared.parse_options.ParseOptions.{ParseOptions}
 use Rattle.hidreport.specs.declared.repairing.change.Repaired.{Repaired}
 use Rattle.hidreport.specs.declared.repairing.repair_options.RepairOptions.{RepairOptions}

@@ -24,7 +24,7 @@ use Rattle.hidreport_lists.proofs.ItemLemmas.{enough}
 use Rattle.hidreport_lists.proofs.MendingLemmas.{all-inside}
 use Rattle.hidreport.specs.MeaningFault.{MeaningFault}
 use Rattle.hidreport.specs.Options.{parse_as, past_longest, unless_too_long}
-use Rattle.hidreport.specs.Records.{DescriptorRecord}
+use Rattle.hidreport_fields.specs.Records.{DescriptorRecord}
 use Rattle.hidreport.specs.Repair.{RepairedRecord, all_mended, behind, fault_at, if_read}
 use Rattle.hidreport.specs.Repair.{joined, mended, repaired, repaired_of}
 use Rattle.hidreport.specs.Repair.{repaired_pieces, repaired_view, rewritten_as}
@@ -32,7 +32,7 @@ use Rattle.hidreport.specs.Repair.{then_mended, then_read, if_faultless, widened
 use Rattle.hidreport.specs.Repair.{with_mended}
 use Rattle.hidreport.specs.RepairLaws.{AreInPlace, IsOneItem, IsRepairOf, StandsAsItStood}
 use Rattle.hidreport.specs.RepairLaws.{StoodAsOne}
-use Rattle.hidreport.specs.Tiling.{Each}
+use Rattle.hidreport_fields.specs.Tiling.{Each}
 use Rattle.hidreport.specs.declared.repairing.change.Repaired.{Repaired}
 use Rattle.hidreport.specs.declared.repairing.repair_options.RepairOptions.{RepairOptions}
 

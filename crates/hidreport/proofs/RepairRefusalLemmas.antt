@@ -15,7 +15,7 @@ use Rattle.hidreport.specs.MeaningFault as meaning_fault
 use Rattle.hidreport.specs.MeaningFault.{TooManyPops}
 use Rattle.hidreport.specs.Options.{meaning_as, meaning_limited, parse_as, past_longest}
 use Rattle.hidreport.specs.Options.{reading_of, unless_too_long}
-use Rattle.hidreport.specs.Records.{DescriptorRecord}
+use Rattle.hidreport_fields.specs.Records.{DescriptorRecord}
 use Rattle.hidreport.specs.Repair.{RepairedRecord, all_mended, behind, fault_at, if_read, joined}
 use Rattle.hidreport.specs.Repair.{mended, named_fault, repaired, repaired_of, repaired_pieces, repaired_view}
 use Rattle.hidreport.specs.Repair.{then_mended, then_read, if_faultless, with_mended}

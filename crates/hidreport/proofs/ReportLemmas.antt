@@ -10,10 +10,10 @@ use Rattle.std.proofs.lemmas.List.Elements.{filter-append}
 use Rattle.std.proofs.lemmas.List.Sums.{sum_by-append}
 use Rattle.hidreport.specs.Kinds.{Indexed}
 use Rattle.hidreport.specs.Parser.Machine.{report_made, reports_made, size_in, added_to}
-use Rattle.hidreport.specs.Making.{same_key}
+use Rattle.hidreport_fields.specs.ReportIds.{same_key}
 use Rattle.hidreport.specs.Meaning.{firsts_after}
-use Rattle.hidreport.specs.Places.{id_bits}
-use Rattle.hidreport.specs.Records.{FieldRecord, ReportRecord}
+use Rattle.hidreport_fields.specs.ReportIds.{id_bits}
+use Rattle.hidreport_fields.specs.Records.{FieldRecord, ReportRecord}
 use Rattle.hidreport.proofs.ItemStateLemmas.{or_false}
 
 -- keys that compare alike are one

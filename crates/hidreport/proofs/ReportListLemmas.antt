@@ -6,9 +6,9 @@ use Rattle.std.specs.Prelude.{IsSomeAnd}
 use Rattle.std.proofs.lemmas.Grind.{common_steps}
 use Rattle.hidreport.specs.Parser.Ids.{AllBelow}
 use Rattle.hidreport.specs.Parser.Machine.{added_to, index_in, size_in}
-use Rattle.hidreport.specs.Making.{same_key}
-use Rattle.hidreport.specs.Places.{id_bits}
-use Rattle.hidreport.specs.Records.{FieldRecord, ReportRecord}
+use Rattle.hidreport_fields.specs.ReportIds.{same_key}
+use Rattle.hidreport_fields.specs.ReportIds.{id_bits}
+use Rattle.hidreport_fields.specs.Records.{FieldRecord, ReportRecord}
 use Rattle.hidreport.proofs.ReportLemmas.{same_key-refl}
 
 -- a report with more bits and fields

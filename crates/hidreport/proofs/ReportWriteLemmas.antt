@@ -10,22 +10,22 @@ use Rattle.std.proofs.lemmas.List.{length-drop, length-take-le, take-append-drop
 use Rattle.std.proofs.lemmas.List.Elements.{All-head, All-tail}
 use Rattle.hidreport_items.specs.Spelling.{AreBytes}
 use Rattle.hidreport_lists.specs.Answer.{Refusal}
-use Rattle.hidreport.specs.Bits.{covered_bits}
+use Rattle.hidreport_fields.specs.Bits.{covered_bits}
 use Rattle.hidreport.specs.Reader.{before_numbers, report_numbers}
-use Rattle.hidreport.specs.Reading.{ValueRecord, reads}
-use Rattle.hidreport.specs.Records.{FieldRecord, ReportRecord, place_of}
+use Rattle.hidreport_fields.specs.Reading.{ValueRecord, reads}
+use Rattle.hidreport_fields.specs.Records.{FieldRecord, ReportRecord, place_of}
 use Rattle.hidreport.specs.ReportWriting.{IsReportWritten, all_fit, begins_in_own_id, later_numbers}
 use Rattle.hidreport.specs.ReportWriting.{own_numbers, parted, put_all, report_written}
 use Rattle.hidreport.specs.Runs.{RunRecord, StandFor, runs_written}
-use Rattle.hidreport.specs.Tiling.{IsFilled}
-use Rattle.hidreport.specs.WritingLaws.{AllRead, Keeps, SamePadding, numbers_of, reads_numbers}
-use Rattle.hidreport.specs.WritingLaws.{then_written, written_all}
-use Rattle.hidreport.specs.WritingValues.{Inserts, fits, has_sign, put}
-use Rattle.hidreport.specs.WritingValues.{value_count, value_width, where_read, written}
-use Rattle.hidreport.specs.declared.field.insert_error.InsertError.{InsertError}
-use Rattle.hidreport.specs.declared.field.insert_error.InsertError.TheVariants as refused
-use Rattle.hidreport.proofs.IsWrittenLemmas.{covered, is-written, parts-by}
-use Rattle.hidreport.proofs.KeptBitsLemmas.{put-keeps}
+use Rattle.hidreport_fields.specs.Tiling.{IsFilled}
+use Rattle.hidreport_fields.specs.WritingLaws.{AllRead, Keeps, SamePadding, numbers_of, reads_numbers}
+use Rattle.hidreport_fields.specs.WritingLaws.{then_written, written_all}
+use Rattle.hidreport_fields.specs.WritingValues.{Inserts, fits, has_sign, put}
+use Rattle.hidreport_fields.specs.WritingValues.{value_count, value_width, where_read, written}
+use Rattle.hidreport_fields.specs.declared.field.insert_error.InsertError.{InsertError}
+use Rattle.hidreport_fields.specs.declared.field.insert_error.InsertError.TheVariants as refused
+use Rattle.hidreport_fields.proofs.IsWrittenLemmas.{covered, is-written, parts-by}
+use Rattle.hidreport_fields.proofs.KeptBitsLemmas.{put-keeps}
 use Rattle.hidreport.proofs.WholeLemmas.{is-whole, put-are}
 
 -- an answer, taken apart

@@ -10,15 +10,15 @@ use Rattle.std.specs.List.{list_any}
 use Rattle.hidreport_lists.specs.Answer.{Refusal, MismatchingReportId}
 use Rattle.hidreport.specs.Reader.{available_numbers, before_numbers, begins_otherwise, each_alone}
 use Rattle.hidreport.specs.Reader.{numbers_before, report_numbers, value_alone, values_alone}
-use Rattle.hidreport.specs.Reading.{ValueRecord, before_values, one_value, read_bits}
-use Rattle.hidreport.specs.Reading.{with_id, is_signed}
-use Rattle.hidreport.specs.Records.{FieldRecord, VariableRecord, ArrayRecord, ConstantRecord}
-use Rattle.hidreport.specs.Records.{own_id}
+use Rattle.hidreport_fields.specs.Reading.{ValueRecord, before_values, one_value, read_bits}
+use Rattle.hidreport_fields.specs.Reading.{with_id, is_signed}
+use Rattle.hidreport_fields.specs.Records.{FieldRecord, VariableRecord, ArrayRecord, ConstantRecord}
+use Rattle.hidreport_fields.specs.Records.{own_id}
 use Rattle.hidreport.specs.Runs.{RunRecord, count_in}
 use Rattle.hidreport.specs.Runs.{run_of, run_reads, run_value, runs_of}
 use Rattle.hidreport.specs.Runs.{StandFor, runs_alone, runs_available, runs_read}
-use Rattle.hidreport.specs.WritingLaws.{numbers_of, reads_numbers}
-use Rattle.hidreport.specs.WritingValues.{value_count}
+use Rattle.hidreport_fields.specs.WritingLaws.{numbers_of, reads_numbers}
+use Rattle.hidreport_fields.specs.WritingValues.{value_count}
 use Rattle.hidreport.proofs.RunWriteLemmas.{runs-write}
 
 -- nothing behind

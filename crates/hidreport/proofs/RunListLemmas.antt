@@ -8,11 +8,11 @@ use Rattle.std.proofs.lemmas.List.Sums.{sum_by-append, sum_by-take-le}
 use Rattle.hidreport_lists.specs.Answer.{Refuses}
 use Rattle.hidreport_lists.specs.declared.error.ParserError.{ParserError}
 use Rattle.hidreport.specs.Reader.{each_alone, filled, numbers_before}
-use Rattle.hidreport.specs.Reading.{with_id}
+use Rattle.hidreport_fields.specs.Reading.{with_id}
 use Rattle.hidreport.specs.Runs.{HasAllValues, IsPlain, RunRecord, all_numbers, count_in, is_inside}
 use Rattle.hidreport.specs.Runs.{numbers_from, place_in, run_reads, run_value, runs_alone, runs_read}
 use Rattle.hidreport.specs.Runs.{set_from}
-use Rattle.hidreport.specs.Tiling.{Each}
+use Rattle.hidreport_fields.specs.Tiling.{Each}
 use Rattle.std.proofs.lemmas.List.{length-append, take-append-drop}
 use Rattle.hidreport.proofs.AvailableLemmas.{before-part, before-whole, length-alone}
 use Rattle.hidreport.proofs.FilledLemmas.{filled-more}

@@ -8,15 +8,15 @@ use Rattle.std.proofs.lemmas.Grind.{common_steps}
 use Rattle.hidreport_lists.specs.Answer.{Refusal, OutOfBounds, Refuses}
 use Rattle.hidreport_lists.specs.declared.error.ParserError.{ParserError}
 use Rattle.hidreport_lists.specs.declared.error.ParserError.TheVariants as errors
-use Rattle.hidreport.specs.BitValue.{as_word, value}
+use Rattle.hidreport_fields.specs.BitValue.{as_word, value}
 use Rattle.hidreport.specs.Reader.{ReadsInto, before_numbers, filled}
-use Rattle.hidreport.specs.Reading.{ValueRecord, before_values, each_value, read_bits, with_id}
+use Rattle.hidreport_fields.specs.Reading.{ValueRecord, before_values, each_value, read_bits, with_id}
 use Rattle.hidreport.specs.Runs.{HasAllValues, RunRecord, all_numbers, count_in, is_inside, number_at}
 use Rattle.hidreport.specs.Runs.{numbers_from, place_in, run_reads, run_value, runs_read}
-use Rattle.hidreport.specs.Tiling.{Each}
-use Rattle.hidreport.specs.WritingLaws.{numbers_of}
-use Rattle.hidreport.proofs.ReadBackLemmas.{ReadsAs, id-passes, number-before}
-use Rattle.hidreport.proofs.ValueBitsLemmas.{number-read}
+use Rattle.hidreport_fields.specs.Tiling.{Each}
+use Rattle.hidreport_fields.specs.WritingLaws.{numbers_of}
+use Rattle.hidreport_fields.proofs.ReadBackLemmas.{ReadsAs, id-passes, number-before}
+use Rattle.hidreport_fields.proofs.ValueBitsLemmas.{number-read}
 
 -- a value whose bits are there
 readable : (p w : ℕ) (s : Bool) (bytes : List ℕ) → 0 < w → w ≤ 32 → p + w ≤ 8 * length bytes

@@ -8,18 +8,18 @@ use Rattle.std.proofs.lemmas.Bool.Decides.{nat_tests}
 use Rattle.std.proofs.lemmas.Grind.{common_steps}
 use Rattle.hidreport_items.specs.Spelling.{AreBytes}
 use Rattle.hidreport_lists.specs.Answer.{Refusal}
-use Rattle.hidreport.specs.Reading.{each_value, element_width, is_signed}
-use Rattle.hidreport.specs.Records.{FieldRecord, VariableRecord, ArrayRecord, ConstantRecord}
+use Rattle.hidreport_fields.specs.Reading.{each_value, element_width, is_signed}
+use Rattle.hidreport_fields.specs.Records.{FieldRecord, VariableRecord, ArrayRecord, ConstantRecord}
 use Rattle.hidreport.specs.ReportWriting.{all_fit, all_placed, begins_in_own_id, put_all}
 use Rattle.hidreport.specs.Runs.{HasNarrowValues, HasAllValues, RunRecord, count_in, run_in_id, run_reads}
 use Rattle.hidreport.specs.Runs.{run_value, runs_fit, runs_of, runs_placed, runs_put, runs_read}
 use Rattle.hidreport.specs.Runs.{runs_written}
-use Rattle.hidreport.specs.Tiling.{Each}
-use Rattle.hidreport.specs.WritingValues.{Inserts, fits, put, value_count, where_read}
-use Rattle.hidreport.specs.declared.field.insert_error.InsertError.{InsertError}
-use Rattle.hidreport.specs.declared.field.insert_error.InsertError.TheVariants as refused
-use Rattle.hidreport.proofs.AgainLemmas.{each-size, run-own}
-use Rattle.hidreport.proofs.PutValuesLemmas.{put-none}
+use Rattle.hidreport_fields.specs.Tiling.{Each}
+use Rattle.hidreport_fields.specs.WritingValues.{Inserts, fits, put, value_count, where_read}
+use Rattle.hidreport_fields.specs.declared.field.insert_error.InsertError.{InsertError}
+use Rattle.hidreport_fields.specs.declared.field.insert_error.InsertError.TheVariants as refused
+use Rattle.hidreport_fields.proofs.AgainLemmas.{each-size, run-own}
+use Rattle.hidreport_fields.proofs.PutValuesLemmas.{put-none}
 use Rattle.hidreport.proofs.RunReadLemmas.{all-read, inside-parts}
 use Rattle.hidreport.proofs.WholeLemmas.{put-are}
 use Rattle.hidreport.proofs.WholeReadLemmas.{both, passes}

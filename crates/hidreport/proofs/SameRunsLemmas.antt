@@ -9,15 +9,15 @@ use Rattle.std.proofs.lemmas.List.Folds.{list_any-append}
 use Rattle.std.proofs.lemmas.List.Sums.{sum_by-append, sum_by-cons}
 use Rattle.hidreport_items.specs.Spelling.{AreBytes}
 use Rattle.hidreport_lists.specs.Answer.{MismatchingReportId, Refusal}
-use Rattle.hidreport.specs.Reading.{ValueRecord}
+use Rattle.hidreport_fields.specs.Reading.{ValueRecord}
 use Rattle.hidreport.specs.Reader.{before_numbers, each_alone, numbers_before}
-use Rattle.hidreport.specs.Records.{FieldRecord}
+use Rattle.hidreport_fields.specs.Records.{FieldRecord}
 use Rattle.hidreport.specs.Runs.{RunRecord, StandFor, count_in, run_in_id, run_reads, run_value}
 use Rattle.hidreport.specs.Runs.{run_of, runs_alone, runs_fit, runs_of, runs_placed, runs_put}
 use Rattle.hidreport.specs.Runs.{runs_read}
 use Rattle.hidreport.specs.SameRuns.{SameRuns, of_another}
-use Rattle.hidreport.specs.WritingValues.{fits, put, where_read}
-use Rattle.hidreport.specs.declared.field.insert_error.InsertError.TheVariants as refused
+use Rattle.hidreport_fields.specs.WritingValues.{fits, put, where_read}
+use Rattle.hidreport_fields.specs.declared.field.insert_error.InsertError.TheVariants as refused
 use Rattle.hidreport.proofs.RunLemmas.{runs-append, runs-stand}
 use Rattle.hidreport.proofs.WholeLemmas.{put-are}
 

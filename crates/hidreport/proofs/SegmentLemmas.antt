@@ -23,7 +23,7 @@ use Rattle.hidreport_lists.specs.Entry.{Entry}
 use Rattle.hidreport_lists.specs.Itemising.{itemise}
 use Rattle.hidreport.specs.Budget.{meaning_within_by, parse_items_within}
 use Rattle.hidreport.specs.Meaning.{InForce, meaning_by, parse_items, at_offset}
-use Rattle.hidreport.specs.Records.{DescriptorRecord}
+use Rattle.hidreport_fields.specs.Records.{DescriptorRecord}
 use Rattle.hidreport.specs.Segments.{IsMatched, with_segment, moved_fault}
 use Rattle.hidreport.specs.declared.parser.push_keeps.PushKeeps.{PushKeeps}
 use Rattle.hidreport.proofs.DataLemmas.{quiet, step-push, step-pop, last_item_state-end}

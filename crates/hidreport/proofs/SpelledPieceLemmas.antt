@@ -22,7 +22,7 @@ use Rattle.hidreport_lists.specs.Rebuilt.{items_of}
 use Rattle.hidreport_lists.specs.declared.mending.Reason.TheVariants as reason
 use Rattle.hidreport_lists.proofs.ItemLemmas.{enough}
 use Rattle.hidreport.specs.Repair.{joined}
-use Rattle.hidreport.specs.Tiling.{Each}
+use Rattle.hidreport_fields.specs.Tiling.{Each}
 
 -- the bytes spell the item, if any stands there
 abbrev pub IsSpelled : Option Spelled → Type 0

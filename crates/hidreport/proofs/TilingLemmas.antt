@@ -8,19 +8,21 @@ use Rattle.std.proofs.Math.Nat.{add-mul, mul-div_cancel}
 use Rattle.std.proofs.lemmas.Grind.{common_steps}
 use Rattle.std.proofs.lemmas.Bool.Decides.{nat_tests}
 use Rattle.hidreport_items.specs.Flags.{Flags}
-use Rattle.hidreport.specs.Fields.{Beginning, beginning_at, each_from, field_count, list_or_none}
+use Rattle.hidreport.specs.Fields.{Beginning, beginning_at, each_from, list_or_none}
+use Rattle.hidreport_fields.specs.ItemParts.{field_count}
 use Rattle.hidreport.specs.Fields.{make_fields, make_place}
 use Rattle.hidreport.specs.Fields.{usage_at, variable_fields}
 use Rattle.hidreport.specs.ItemState.{ItemState, first_of, local_items}
-use Rattle.hidreport.specs.Making.{both_set, extent, same_key}
+use Rattle.hidreport.specs.Making.{both_set, extent}
+use Rattle.hidreport_fields.specs.ReportIds.{same_key}
 use Rattle.hidreport.specs.Parser.Machine.{added_to, first_id, size_in}
-use Rattle.hidreport.specs.Places.{id_bits}
-use Rattle.hidreport.specs.Records.{Attributes, CollectionRecord, FieldPlace, FieldRecord}
-use Rattle.hidreport.specs.Records.{VariableRecord, ArrayRecord, ConstantRecord, ReportRecord}
-use Rattle.hidreport.specs.Tiling.{Each, Covers, HasNoRest, HasRange}
-use Rattle.hidreport.specs.Records.{place_of, collections_of}
-use Rattle.hidreport.specs.Tiling.{IsRangeOf, HaveOwnIds, IsOf}
-use Rattle.hidreport.specs.Records.{fields_in_all}
+use Rattle.hidreport_fields.specs.ReportIds.{id_bits}
+use Rattle.hidreport_fields.specs.Records.{Attributes, CollectionRecord, FieldPlace, FieldRecord}
+use Rattle.hidreport_fields.specs.Records.{VariableRecord, ArrayRecord, ConstantRecord, ReportRecord}
+use Rattle.hidreport_fields.specs.Tiling.{Each, Covers, HasNoRest, HasRange}
+use Rattle.hidreport_fields.specs.Records.{place_of, collections_of}
+use Rattle.hidreport_fields.specs.Tiling.{IsRangeOf, HaveOwnIds, IsOf}
+use Rattle.hidreport_fields.specs.Records.{fields_in_all}
 use Rattle.hidreport.specs.Usages.{UsageList, as_single, last_local, maximum_of, minimum_of}
 use Rattle.hidreport.specs.Usages.{range_usages, single_usages, usages_of, usages_under}
 use Rattle.hidreport.specs.Usages.{usages_with}
@@ -30,7 +32,7 @@ use Rattle.hidreport.specs.HostUsages.{host_spans}
 use Rattle.hidreport.specs.declared.parser.usages_by.UsagesBy.{UsagesBy}
 use Rattle.hidreport.specs.declared.parser.usages_by.UsagesBy.TheVariants as usages_by
 use Rattle.hidreport.proofs.HostUsageLemmas.{spans-ranged}
-use Rattle.hidreport.specs.declared.field.usage.Usage.{Usage}
+use Rattle.hidreport_fields.specs.declared.field.usage.Usage.{Usage}
 use Rattle.hidreport.specs.MeaningFault.{MeaningFault}
 use Rattle.hidreport.proofs.OwnCollectionsLemmas.{AreOpened}
 use Rattle.hidreport.proofs.ReportLemmas.{same_key-equal}

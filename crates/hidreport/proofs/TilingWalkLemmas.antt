@@ -21,14 +21,14 @@ use Rattle.hidreport.specs.Meaning.{at_offset, meaning_by, parse_by, parse_items
 use Rattle.hidreport.specs.MeaningFault.{MeaningFault}
 use Rattle.hidreport.specs.Parser.Machine.{StateRecord, first_id, adds, added_to, fault_in, key_in}
 use Rattle.hidreport.specs.Parser.Machine.{new_collection, next_state, next_reports, first_state}
-use Rattle.hidreport.specs.Lookup.{reports_of}
+use Rattle.hidreport_fields.specs.Lookup.{reports_of}
 use Rattle.hidreport.specs.Parser.Machine.{start_in, unless_fault, go_on, walk}
 use Rattle.hidreport.specs.Places.{bits_of}
-use Rattle.hidreport.specs.Records.{CollectionRecord, DescriptorRecord, FieldRecord, ReportRecord}
-use Rattle.hidreport.specs.Tiling.{Each, HasNoRest, HasRange, HaveOwnIds, IsFilled}
-use Rattle.hidreport.specs.Records.{collections_of}
-use Rattle.hidreport.specs.Tiling.{IsOf, IsTiled}
-use Rattle.hidreport.specs.Records.{fields_in_all, reports_in_all}
+use Rattle.hidreport_fields.specs.Records.{CollectionRecord, DescriptorRecord, FieldRecord, ReportRecord}
+use Rattle.hidreport_fields.specs.Tiling.{Each, HasNoRest, HasRange, HaveOwnIds, IsFilled}
+use Rattle.hidreport_fields.specs.Records.{collections_of}
+use Rattle.hidreport_fields.specs.Tiling.{IsOf, IsTiled}
+use Rattle.hidreport_fields.specs.Records.{fields_in_all, reports_in_all}
 use Rattle.hidreport.specs.Usages.{usages_of}
 use Rattle.hidreport.specs.declared.parse_options.ParseOptions.{ParseOptions}
 use Rattle.hidreport.specs.Options.{reading_of}

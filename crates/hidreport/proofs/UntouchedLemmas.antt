@@ -25,7 +25,7 @@ use Rattle.hidreport.specs.Parser.Budget.{is_past, left_behind, past_fault, stop
 use Rattle.hidreport.specs.Parser.Budget.{walk_items, walk_within, weight_in}
 use Rattle.hidreport.specs.Parser.Machine.{StateRecord, fault_in, first_state, go_on, next_state}
 use Rattle.hidreport.specs.Parser.Machine.{step, unless_fault}
-use Rattle.hidreport.specs.Records.{DescriptorRecord}
+use Rattle.hidreport_fields.specs.Records.{DescriptorRecord}
 use Rattle.hidreport.specs.Repair.{RepairedRecord, repaired_of, repaired_view}
 use Rattle.hidreport.specs.Repair.{all_mended, change_in, fault_at, if_read, joined, mended}
 use Rattle.hidreport.specs.Repair.{padded_by, repaired, repaired_pieces, then_mended, then_read}

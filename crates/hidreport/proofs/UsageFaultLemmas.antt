@@ -12,7 +12,7 @@ use Rattle.hidreport.specs.Repair.{is_missing_usages}
 use Rattle.hidreport.specs.Usages.{UsageList, as_single, before_usages, last_local, maximum_of}
 use Rattle.hidreport.specs.Usages.{minimum_of, on_page, range_usages, single_usages}
 use Rattle.hidreport.specs.Usages.{usages_of, usages_under, usages_with}
-use Rattle.hidreport.specs.declared.field.usage.Usage.{Usage}
+use Rattle.hidreport_fields.specs.declared.field.usage.Usage.{Usage}
 use Rattle.hidreport.specs.declared.parser.usages_by.UsagesBy.{UsagesBy}
 use Rattle.hidreport.specs.declared.parser.usages_by.UsagesBy.TheVariants as usages_by
 

@@ -6,10 +6,10 @@ use Rattle.std.proofs.Math.Seq.{take-suc}
 use Rattle.std.proofs.lemmas.List.{map-append}
 use Rattle.hidreport.specs.Fields.{usage_at}
 use Rattle.hidreport.specs.Parser.Locals.{usage_under}
-use Rattle.hidreport.specs.Usages.{make_usage, range_from}
-use Rattle.hidreport.specs.declared.field.usage.Usage.{Usage}
+use Rattle.hidreport_fields.specs.UsageRange.{make_usage, range_from}
+use Rattle.hidreport_fields.specs.declared.field.usage.Usage.{Usage}
 use Rattle.hidreport.specs.declared.parser.local_usages.LocalUsage.{LocalUsage}
-use Rattle.hidreport.proofs.RangeLemmas.{length-range_from}
+use Rattle.hidreport_fields.proofs.RangeLemmas.{length-range_from}
 
 -- usage c of a minimum and a maximum, or the last one
 pub usage_at-range : (page low n c : ℕ)

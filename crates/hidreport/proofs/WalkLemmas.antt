@@ -25,7 +25,7 @@ use Rattle.hidreport.specs.ItemState.{ItemState, first_of}
 use Rattle.hidreport.specs.Kinds.{Indexed, Direction, Input, Output, Feature, data_of, goes}
 use Rattle.hidreport.specs.Kinds.{is_push, is_pop, is_collection, is_end_collection, collection_kind_of}
 use Rattle.hidreport.specs.Parser.Machine.{StateRecord, after_pop, pushed_copy, no_item_state}
-use Rattle.hidreport.specs.Lookup.{reports_of}
+use Rattle.hidreport_fields.specs.Lookup.{reports_of}
 use Rattle.hidreport.specs.Parser.Machine.{reports_made, size_in, first_id, added_to}
 use Rattle.hidreport.specs.Parser.Machine.{key_in, start_in, start_for, counts_in, fault_in, adds}
 use Rattle.hidreport.specs.Parser.Machine.{next_item_state, last_item_state, next_reports}
@@ -38,7 +38,7 @@ use Rattle.hidreport.specs.Meaning.{reports, descriptor}
 use Rattle.hidreport.specs.MeaningFault.{MeaningFault, TooManyEnds, TooManyPops}
 use Rattle.hidreport.specs.OpenCollections.{depth, collections_before, open_at}
 use Rattle.hidreport.specs.Places.{start, bits_of}
-use Rattle.hidreport.specs.Records.{CollectionRecord, FieldRecord, ReportRecord, DescriptorRecord}
+use Rattle.hidreport_fields.specs.Records.{CollectionRecord, FieldRecord, ReportRecord, DescriptorRecord}
 use Rattle.hidreport.specs.Usages.{usages_of}
 use Rattle.hidreport.specs.Visibility.{before, level}
 use Rattle.hidreport.specs.declared.parser.push_keeps.PushKeeps.{PushKeeps}

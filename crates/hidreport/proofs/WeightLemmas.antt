@@ -7,7 +7,8 @@ use Rattle.std.proofs.lemmas.Bool.Decides.{nat_tests}
 use Rattle.std.proofs.lemmas.List.Sums.{sum_by-cons}
 use Rattle.hidreport_items.specs.Flags.{Flags}
 use Rattle.hidreport.specs.Faults.{Counts, data_fault, id_count, last_end, limit_fault}
-use Rattle.hidreport.specs.Fields.{attributes, each_from, field_count, fields_of, list_or_none}
+use Rattle.hidreport.specs.Fields.{attributes, each_from, fields_of, list_or_none}
+use Rattle.hidreport_fields.specs.ItemParts.{field_count}
 use Rattle.hidreport.specs.Fields.{Beginning, beginning_at, make_fields, make_place, usage_at}
 use Rattle.hidreport.specs.ItemState.{ItemState, first_of}
 use Rattle.hidreport.specs.Kinds.{Direction, Input, Output, Feature}
@@ -15,12 +16,12 @@ use Rattle.hidreport.specs.Making.{extent}
 use Rattle.hidreport.specs.MeaningFault.{BudgetExceeded}
 use Rattle.hidreport.specs.Parser.Budget.{is_past, left_behind, past_fault, stop_in, weight_in}
 use Rattle.hidreport.specs.Parser.Budget.{weight_of_each}
-use Rattle.hidreport.specs.Parser.DataItem.{item_with}
+use Rattle.hidreport_fields.specs.DataItem.{item_with}
 use Rattle.hidreport.specs.Parser.Machine.{StateRecord, counts_in, fault_in, first_id, key_in}
-use Rattle.hidreport.specs.Lookup.{reports_of}
+use Rattle.hidreport_fields.specs.Lookup.{reports_of}
 use Rattle.hidreport.specs.Parser.Machine.{size_in, start_in}
 use Rattle.hidreport.specs.Parser.Usages.{HasUsages, usage_list, usages_fault}
-use Rattle.hidreport.specs.Records.{Attributes, FieldRecord, VariableRecord}
+use Rattle.hidreport_fields.specs.Records.{Attributes, FieldRecord, VariableRecord}
 use Rattle.hidreport.specs.Usages.{UsageList, usages_of}
 use Rattle.hidreport.specs.Weight.{collection_weight, field_weight}
 use Rattle.hidreport.specs.declared.parser.usages.Usages.{Usages}

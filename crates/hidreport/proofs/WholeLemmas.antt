@@ -7,21 +7,21 @@ use Rattle.std.proofs.lemmas.Bool.Decides.{nat_tests}
 use Rattle.std.specs.Prelude.{slice_get}
 use Rattle.std.proofs.lemmas.List.Elements.{All-cons}
 use Rattle.hidreport_items.specs.Spelling.{AreBytes}
-use Rattle.hidreport.specs.BitValue.{bit}
-use Rattle.hidreport.specs.Bits.{covered_bits}
-use Rattle.hidreport.specs.Reading.{reads}
-use Rattle.hidreport.specs.Records.{FieldRecord, ReportRecord, place_of}
-use Rattle.hidreport.specs.Tiling.{IsFilled}
-use Rattle.hidreport.specs.WritingValues.{bit_after, bytes_of, put, value_width, written}
-use Rattle.hidreport.specs.WritingLaws.{AllRead, IsWhole, Keeps, SamePadding, numbers_of}
-use Rattle.hidreport.specs.WritingLaws.{then_written, written_all}
-use Rattle.hidreport.specs.declared.field.insert_error.InsertError.{InsertError}
-use Rattle.hidreport.proofs.BitLemmas.{bit-small}
-use Rattle.hidreport.proofs.KeptBitsLemmas.{bit-past}
-use Rattle.hidreport.proofs.IsWrittenLemmas.{covered, is-written, written-parts}
-use Rattle.hidreport.proofs.PutBitsLemmas.{Placed, after-bits, after-inside, place-of}
-use Rattle.hidreport.proofs.PutValuesLemmas.{put-bit}
-use Rattle.hidreport.proofs.WrittenBitsLemmas.{AreBits, bytes-same, number-small}
+use Rattle.hidreport_fields.specs.BitValue.{bit}
+use Rattle.hidreport_fields.specs.Bits.{covered_bits}
+use Rattle.hidreport_fields.specs.Reading.{reads}
+use Rattle.hidreport_fields.specs.Records.{FieldRecord, ReportRecord, place_of}
+use Rattle.hidreport_fields.specs.Tiling.{IsFilled}
+use Rattle.hidreport_fields.specs.WritingValues.{bit_after, bytes_of, put, value_width, written}
+use Rattle.hidreport_fields.specs.WritingLaws.{AllRead, IsWhole, Keeps, SamePadding, numbers_of}
+use Rattle.hidreport_fields.specs.WritingLaws.{then_written, written_all}
+use Rattle.hidreport_fields.specs.declared.field.insert_error.InsertError.{InsertError}
+use Rattle.hidreport_fields.proofs.BitLemmas.{bit-small}
+use Rattle.hidreport_fields.proofs.KeptBitsLemmas.{bit-past}
+use Rattle.hidreport_fields.proofs.IsWrittenLemmas.{covered, is-written, written-parts}
+use Rattle.hidreport_fields.proofs.PutBitsLemmas.{Placed, after-bits, after-inside, place-of}
+use Rattle.hidreport_fields.proofs.PutValuesLemmas.{put-bit}
+use Rattle.hidreport_fields.proofs.WrittenBitsLemmas.{AreBits, bytes-same, number-small}
 
 -- bytes made of bits are bytes
 bytes_of-are : (f : ℕ → ℕ) → AreBits f → (s m : ℕ) → AreBytes (bytes_of f s m)

@@ -4,11 +4,11 @@ use Rattle.std.proofs.Common.{◌++◌, Option, None, Some, Result, Ok, Err, ref
 use Rattle.std.specs.List.{list_any}
 use Rattle.std.proofs.lemmas.Grind.{common_steps}
 use Rattle.hidreport_lists.specs.Answer.{Refusal, MismatchingReportId}
-use Rattle.hidreport.specs.Choosing.{value_number}
+use Rattle.hidreport_fields.specs.Choosing.{value_number}
 use Rattle.hidreport.specs.Reader.{before_numbers, begins_otherwise, each_alone, numbers_before}
-use Rattle.hidreport.specs.Reading.{ValueRecord, before_values, each_value, with_id}
+use Rattle.hidreport_fields.specs.Reading.{ValueRecord, before_values, each_value, with_id}
 use Rattle.hidreport.specs.Runs.{RunRecord, run_reads, run_value, runs_alone, runs_available, runs_read}
-use Rattle.hidreport.specs.WritingLaws.{numbers_of}
+use Rattle.hidreport_fields.specs.WritingLaws.{numbers_of}
 
 -- numbers that were read, and those behind them
 pub record Both (a b : Result (List ℤ) Refusal) (numbers : List ℤ) : Type 0 where

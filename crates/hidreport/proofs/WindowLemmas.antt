@@ -5,8 +5,8 @@ use Rattle.std.proofs.lemmas.List.{length-take-le}
 use Rattle.std.proofs.lemmas.List.Elements.{All-take, All-drop}
 use Rattle.hidreport_items.specs.Numbers.{word}
 use Rattle.hidreport_items.specs.Spelling.{AreBytes}
-use Rattle.hidreport.specs.BitValue.{sum_of_bits}
-use Rattle.hidreport.proofs.WordLemmas.{masked, sum-from, sum-word}
+use Rattle.hidreport_fields.specs.BitValue.{sum_of_bits}
+use Rattle.hidreport_fields.proofs.WordLemmas.{masked, sum-from, sum-word}
 
 -- bits that lie in so many bytes from some place on
 pub window-bits : (bytes : List ℕ) → AreBytes bytes → (place count first width : ℕ)

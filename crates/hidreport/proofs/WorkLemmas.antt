@@ -10,20 +10,20 @@ use Rattle.std.specs.List.{list_all}
 use Rattle.std.proofs.lemmas.Bool.Decides.{nat_tests}
 use Rattle.std.proofs.lemmas.Grind.{common_steps}
 use Rattle.hidreport_lists.specs.Answer.{Refusal, OutOfBounds, MismatchingReportId}
-use Rattle.hidreport.specs.Lookup.{find_report, reports_of}
-use Rattle.hidreport.specs.Places.{id_bits}
-use Rattle.hidreport.specs.Reading.{ValueRecord, before_values, element, element_width, each_value}
-use Rattle.hidreport.specs.Reading.{is_signed, one_value, read_bits, reads, values_of, with_id}
-use Rattle.hidreport.specs.Reading.{element_of, reads_element}
-use Rattle.hidreport.specs.Records.{element_count}
-use Rattle.hidreport.specs.Records.{DescriptorRecord, FieldRecord, VariableRecord, ArrayRecord}
-use Rattle.hidreport.specs.Records.{ConstantRecord, ReportRecord, own_id, place_of}
-use Rattle.hidreport.specs.Tiling.{Covers, Each, HasNoRest, IsFilled, IsOf, IsTiled}
+use Rattle.hidreport_fields.specs.Lookup.{find_report, reports_of}
+use Rattle.hidreport_fields.specs.ReportIds.{id_bits}
+use Rattle.hidreport_fields.specs.Reading.{ValueRecord, before_values, element, element_width, each_value}
+use Rattle.hidreport_fields.specs.Reading.{is_signed, one_value, read_bits, reads, values_of, with_id}
+use Rattle.hidreport_fields.specs.Reading.{element_of, reads_element}
+use Rattle.hidreport_fields.specs.Records.{element_count}
+use Rattle.hidreport_fields.specs.Records.{DescriptorRecord, FieldRecord, VariableRecord, ArrayRecord}
+use Rattle.hidreport_fields.specs.Records.{ConstantRecord, ReportRecord, own_id, place_of}
+use Rattle.hidreport_fields.specs.Tiling.{Covers, Each, HasNoRest, IsFilled, IsOf, IsTiled}
 use Rattle.hidreport.specs.Working.{AllWork, FieldWorks, IsNarrow}
-use Rattle.hidreport.specs.WritingValues.{begins_in_id, fits, has_sign, placed, put, value_count}
-use Rattle.hidreport.specs.WritingValues.{value_width, where_read, written}
-use Rattle.hidreport.specs.declared.field.insert_error.InsertError.TheVariants as refused
-use Rattle.hidreport.specs.declared.field.data_item.Direction.{Direction}
+use Rattle.hidreport_fields.specs.WritingValues.{begins_in_id, fits, has_sign, placed, put, value_count}
+use Rattle.hidreport_fields.specs.WritingValues.{value_width, where_read, written}
+use Rattle.hidreport_fields.specs.declared.field.insert_error.InsertError.TheVariants as refused
+use Rattle.hidreport_fields.specs.declared.field.data_item.Direction.{Direction}
 use Rattle.hidreport.proofs.OwnReportsLemmas.{HoldsOfOwn, filled-of, found-holds}
 
 else-ok : {A E : Type 0} (c : Bool) (x y : Result A E) → c ≡ false → IsOk y → IsOk (cond c x y)

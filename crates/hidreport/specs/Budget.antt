@@ -13,7 +13,7 @@ use Rattle.hidreport.specs.ItemState.{item_state}
 use Rattle.hidreport.specs.Kinds.{Indexed}
 use Rattle.hidreport.specs.Meaning.{InForce, at_offset, empty_descriptor, meaning_by}
 use Rattle.hidreport.specs.MeaningFault.{MeaningFault, BudgetExceeded}
-use Rattle.hidreport.specs.Records.{DescriptorRecord}
+use Rattle.hidreport_fields.specs.Records.{DescriptorRecord}
 use Rattle.hidreport.specs.Weight.{first_past}
 use Rattle.hidreport.specs.declared.parser.usages_by.UsagesBy.TheVariants as usages_by
 

@@ -6,7 +6,8 @@ use Rattle.hidreport_items.specs.declared.main_item.MainItem.TheVariants as main
 use Rattle.hidreport_items.specs.declared.global.GlobalItem.TheVariants as global
 use Rattle.hidreport_items.specs.declared.item.ItemType.{ItemType}
 use Rattle.hidreport_items.specs.declared.item.ItemType.TheVariants as item
-use Rattle.hidreport.specs.Fields.{field_count, fields_before}
+use Rattle.hidreport_fields.specs.ItemParts.{field_count}
+use Rattle.hidreport.specs.Fields.{fields_before}
 use Rattle.hidreport.specs.ItemState.{ItemState, first_of}
 use Rattle.hidreport.specs.Kinds.{Direction, data_of}
 use Rattle.hidreport.specs.Making.{extent}
@@ -16,7 +17,7 @@ use Rattle.hidreport.specs.OpenCollections.{depth, collections_before}
 use Rattle.hidreport.specs.Places.{start}
 use Rattle.hidreport.specs.Usages.{UsageList, usages_of}
 use Rattle.hidreport.specs.Visibility.{level}
-use Rattle.hidreport.specs.declared.field.usage.Usage.{Usage}
+use Rattle.hidreport_fields.specs.declared.field.usage.Usage.{Usage}
 use Rattle.hidreport.specs.declared.parser.extent.Extent.{Extent}
 
 -- the last bit at which a report may end, the greatest number of a `usize`

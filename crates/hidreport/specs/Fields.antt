@@ -1,6 +1,6 @@
 -- Fields (Sections 6.2.2.4, 6.2.2.5 and 5.8): what a data item that makes fields adds to its
 -- report.
-use Rattle.std.specs.Prelude.{ℕ, ℤ, pos, ◌+◌, ◌*◌, zero, suc, Bool, false, if◌then◌else◌, List, []}
+use Rattle.std.specs.Prelude.{ℕ, ℤ, pos, ◌+◌, ◌*◌, zero, suc, false, if◌then◌else◌, List, []}
 use Rattle.std.specs.Prelude.{◌∷◌, map, sum_by, unwrap_or, Option, None, Some, Result, Ok, Err}
 use Rattle.hidreport_items.specs.Flags.{Flags}
 use Rattle.hidreport_items.specs.declared.main_item.CollectionItem.TheVariants as kind
@@ -12,16 +12,15 @@ use Rattle.hidreport.specs.Making.{extent, makers}
 use Rattle.hidreport.specs.MeaningFault.{MeaningFault}
 use Rattle.hidreport.specs.OpenCollections.{open_at, collections_before}
 use Rattle.hidreport.specs.Places.{start}
-use Rattle.hidreport.specs.Records.{CollectionRecord, FieldPlace, Attributes, FieldRecord}
-use Rattle.hidreport.specs.Records.{VariableRecord, ArrayRecord, ConstantRecord}
-use Rattle.hidreport.specs.Usages.{UsageList, usages_of, make_usage}
-use Rattle.hidreport.specs.declared.field.usage.Usage.{Usage}
+use Rattle.hidreport_fields.specs.Records.{CollectionRecord, FieldPlace, Attributes, FieldRecord}
+use Rattle.hidreport_fields.specs.Records.{VariableRecord, ArrayRecord, ConstantRecord}
+use Rattle.hidreport.specs.Usages.{UsageList, usages_of}
+use Rattle.hidreport_fields.specs.UsageRange.{make_usage}
+use Rattle.hidreport_fields.specs.declared.field.usage.Usage.{Usage}
 use Rattle.hidreport.specs.declared.parser.extent.Extent.{Extent}
-use Rattle.hidreport.specs.declared.field.measures.Measures.{Measures}
-
--- one field for a constant item or an array, `count` for a variable item
-abbrev pub field_count : Flags → ℕ → ℕ
-field_count flags count = if flags.constant then 1 else (if flags.variable then count else 1)
+use Rattle.hidreport_fields.specs.declared.field.measures.Measures.{Measures}
+-- what fields alone speak of
+pub use Rattle.hidreport_fields.specs.ItemParts.{field_count, volatile_in, attributes_with}
 
 -- how many fields an item with these flags, size and count makes
 abbrev pub fields_made : Option (Direction × Flags) → Option Extent → ℕ
@@ -63,12 +62,6 @@ physical_bound (Some own) other = Some own
 physical_bound None (Some other) = Some (pos 0)
 physical_bound None None = None
 
--- an input report's fields say nothing of volatility
-abbrev pub volatile_in : Direction → Bool → Option Bool
-volatile_in Input flag = None
-volatile_in Output flag = Some flag
-volatile_in Feature flag = Some flag
-
 -- the numbers that a field with data has from global items; logical bounds that aren't set are 0
 abbrev pub measures : ItemState → Measures
 measures state = record {
@@ -78,21 +71,6 @@ measures state = record {
   physical_maximum = physical_bound state.physical_maximum state.physical_minimum;
   unit = state.unit;
   unit_exponent = state.unit_exponent;
-}
-
--- what a field with data has from these numbers, from its item's flags and from the collections
--- around it
-abbrev pub attributes_with : Direction → Flags → Measures → List CollectionRecord → Attributes
-attributes_with d flags m collections = record {
-  logical_minimum = m.logical_minimum;
-  logical_maximum = m.logical_maximum;
-  physical_minimum = m.physical_minimum;
-  physical_maximum = m.physical_maximum;
-  unit = m.unit;
-  unit_exponent = m.unit_exponent;
-  collections = collections;
-  flags = flags;
-  volatile = volatile_in d flags.volatile;
 }
 
 -- what the fields of one item share

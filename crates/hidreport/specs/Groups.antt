@@ -2,7 +2,7 @@
 use Rattle.std.specs.Prelude.{List, flat_map}
 use Rattle.hidreport_items.specs.Flags.{Flags}
 use Rattle.hidreport.specs.Fields.{Beginning, make_fields}
-use Rattle.hidreport.specs.Records.{Attributes, FieldRecord}
+use Rattle.hidreport_fields.specs.Records.{Attributes, FieldRecord}
 use Rattle.hidreport.specs.Usages.{UsageList}
 use Rattle.hidreport.specs.declared.parser.extent.Extent.{Extent}
 

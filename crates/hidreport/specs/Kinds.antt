@@ -8,9 +8,9 @@ use Rattle.hidreport_items.specs.declared.local.LocalItem.{LocalItem}
 use Rattle.hidreport_items.specs.declared.item.ItemType.{ItemType}
 use Rattle.hidreport_items.specs.declared.item.ItemType.TheVariants as item
 -- the three directions in which reports go (Section 6.2.2.4)
-pub use Rattle.hidreport.specs.declared.field.data_item.Direction.{Direction}
-pub use Rattle.hidreport.specs.declared.field.data_item.Direction.TheVariants.{Input}
-pub use Rattle.hidreport.specs.declared.field.data_item.Direction.TheVariants.{Output, Feature}
+pub use Rattle.hidreport_fields.specs.declared.field.data_item.Direction.{Direction}
+pub use Rattle.hidreport_fields.specs.declared.field.data_item.Direction.TheVariants.{Input}
+pub use Rattle.hidreport_fields.specs.declared.field.data_item.Direction.TheVariants.{Output, Feature}
 
 -- an item and its index in the list of items, counted from 0
 abbrev pub Indexed : Type 0

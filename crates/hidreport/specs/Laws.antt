@@ -10,7 +10,7 @@ use Rattle.hidreport_lists.specs.Itemising.{itemise, Itemises}
 use Rattle.hidreport_lists.specs.Rebuilt.{items_of, kept_entries, rebuilt_bytes, canonical_entries}
 use Rattle.hidreport.specs.Meaning.{at_offset, parse, parse_globals_only}
 use Rattle.hidreport.specs.Options.{meaning_as, parse_limited, reading_of}
-use Rattle.hidreport.specs.Records.{DescriptorRecord}
+use Rattle.hidreport_fields.specs.Records.{DescriptorRecord}
 use Rattle.hidreport.specs.Segments.{HasNoLocal, HasNoPush, IsMatched, moved_fault, with_segment}
 use Rattle.hidreport.specs.declared.parse_options.ParseOptions.{ParseOptions}
 use Rattle.hidreport.specs.declared.parser.push_keeps.PushKeeps.{PushKeeps}

@@ -1,12 +1,13 @@
 -- Making items and their keys (Sections 6.2.2.4 and 6.2.2.7): which data items make fields, and in
 -- which report. `force` is what is in force at each index of the list of items.
-use Rattle.std.specs.Prelude.{ℕ, ◌==◌, ◌||◌, ◌&&◌, Bool, true, false, if◌then◌else◌, List, [], ◌∷◌}
+use Rattle.std.specs.Prelude.{ℕ, ◌==◌, ◌||◌, ◌&&◌, Bool, if◌then◌else◌, List, [], ◌∷◌}
 use Rattle.std.specs.Prelude.{filter, is_some, Option, Some, None}
 use Rattle.hidreport_items.specs.declared.item.ItemType.{ItemType}
 use Rattle.hidreport.specs.ItemState.{ItemState, first_of}
 use Rattle.hidreport.specs.Kinds.{Indexed, Direction, data_of, goes}
 use Rattle.hidreport.specs.Visibility.{before}
 use Rattle.hidreport.specs.declared.parser.extent.Extent.{Extent}
+pub use Rattle.hidreport_fields.specs.ReportIds.{same_key}
 
 -- a report size and a report count of which neither is 0
 abbrev pub both_set : Option ℕ → Option ℕ → Option Extent
@@ -37,13 +38,6 @@ first_report_id state_at (p ∷ ps) = (state_at p.0).report_id
 abbrev pub key : (ℕ → ItemState) → Direction → List ItemType → ℕ → Option ℕ
 key state_at d items k = first_of (state_at k).report_id
     (first_report_id state_at (makers state_at d items k))
-
--- two keys are the same
-abbrev pub same_key : Option ℕ → Option ℕ → Bool
-same_key None None = true
-same_key (Some a) (Some b) = a == b
-same_key None (Some b) = false
-same_key (Some a) None = false
 
 -- the items of direction d before k that add to this report
 abbrev pub makers_of : (ℕ → ItemState) → Direction → Option ℕ → List ItemType → ℕ → List Indexed

@@ -13,11 +13,12 @@ use Rattle.hidreport.specs.Faults.{fault}
 use Rattle.hidreport.specs.Fields.{fields_at}
 use Rattle.hidreport.specs.ItemState.{ItemState, item_state, item_state_globals_only}
 use Rattle.hidreport.specs.Kinds.{Indexed, Direction, Input, Output, Feature}
-use Rattle.hidreport.specs.Making.{key, makers, makers_of, same_key}
+use Rattle.hidreport.specs.Making.{key, makers, makers_of}
+use Rattle.hidreport_fields.specs.ReportIds.{same_key}
 use Rattle.hidreport.specs.MeaningFault.{MeaningFault, text}
 use Rattle.hidreport.specs.MeaningFault as meaning_fault
 use Rattle.hidreport.specs.Places.{end_before}
-use Rattle.hidreport.specs.Records.{ReportRecord, DescriptorRecord}
+use Rattle.hidreport_fields.specs.Records.{ReportRecord, DescriptorRecord}
 use Rattle.hidreport.specs.declared.parser.usages_by.UsagesBy.TheVariants as usages_by
 
 -- A reading of Push and Pop, and of usages: what is in force at each index of a list of items.

@@ -6,7 +6,7 @@ use Rattle.hidreport.specs.Budget.{meaning_within_by, parse_within_by}
 use Rattle.hidreport.specs.ItemState.{item_state, item_state_globals_only}
 use Rattle.hidreport.specs.Meaning.{InForce, meaning_by, parse_by}
 use Rattle.hidreport.specs.MeaningFault.{MeaningFault}
-use Rattle.hidreport.specs.Records.{DescriptorRecord}
+use Rattle.hidreport_fields.specs.Records.{DescriptorRecord}
 use Rattle.hidreport.specs.declared.parse_options.ParseOptions.{ParseOptions}
 use Rattle.hidreport.specs.declared.parser.push_keeps.PushKeeps.{PushKeeps}
 use Rattle.hidreport.specs.declared.parser.push_keeps.PushKeeps.TheVariants as a_push_keeps

@@ -5,11 +5,7 @@ use Rattle.hidreport.specs.ItemState.{ItemState}
 use Rattle.hidreport.specs.Kinds.{Direction}
 use Rattle.hidreport.specs.Making.{extent, key, makers_of}
 use Rattle.hidreport.specs.declared.parser.extent.Extent.{Extent}
-
--- a report with an id begins with one byte for it
-abbrev pub id_bits : Option ℕ → ℕ
-id_bits None = 0
-id_bits (Some id) = 8
+pub use Rattle.hidreport_fields.specs.ReportIds.{id_bits}
 
 -- how many bits an item of this size and count adds
 abbrev pub bits_of : Option Extent → ℕ

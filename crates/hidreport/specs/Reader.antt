@@ -4,12 +4,12 @@ use Rattle.std.specs.Prelude.{[], ◌∷◌, ◌++◌, length, flat_map, Option,
 use Rattle.std.specs.List.{list_any}
 use Rattle.hidreport_lists.specs.Answer.{Refusal, OutOfBounds, MismatchingReportId, Refuses}
 use Rattle.hidreport_lists.specs.declared.error.ParserError.{ParserError}
-use Rattle.hidreport.specs.Choosing.{value_number}
-use Rattle.hidreport.specs.Reading.{ValueRecord, element, is_signed, read_bits}
-use Rattle.hidreport.specs.Records.{FieldRecord, VariableRecord, ArrayRecord, ConstantRecord}
-use Rattle.hidreport.specs.Records.{own_id}
-use Rattle.hidreport.specs.WritingLaws.{reads_numbers}
-use Rattle.hidreport.specs.WritingValues.{value_count}
+use Rattle.hidreport_fields.specs.Choosing.{value_number}
+use Rattle.hidreport_fields.specs.Reading.{ValueRecord, element, is_signed, read_bits}
+use Rattle.hidreport_fields.specs.Records.{FieldRecord, VariableRecord, ArrayRecord, ConstantRecord}
+use Rattle.hidreport_fields.specs.Records.{own_id}
+use Rattle.hidreport_fields.specs.WritingLaws.{reads_numbers}
+use Rattle.hidreport_fields.specs.WritingValues.{value_count}
 
 -- some numbers, and those behind them; the first refusal counts
 abbrev pub before_numbers : Result (List ℤ) Refusal → Result (List ℤ) Refusal

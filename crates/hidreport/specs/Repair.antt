@@ -18,7 +18,7 @@ use Rattle.hidreport.specs.Meaning.{refusal_at}
 use Rattle.hidreport.specs.MeaningFault.{MeaningFault, MissingUsages}
 use Rattle.hidreport.specs.Options.{meaning_as, parse_as, past_longest, reading_of}
 use Rattle.hidreport.specs.Options.{unless_too_long}
-use Rattle.hidreport.specs.Records.{DescriptorRecord}
+use Rattle.hidreport_fields.specs.Records.{DescriptorRecord}
 use Rattle.hidreport.specs.declared.parse_options.ParseOptions.{ParseOptions}
 use Rattle.hidreport.specs.declared.repairing.change.Change.{Change}
 use Rattle.hidreport.specs.declared.repairing.change.Repaired.{Repaired}

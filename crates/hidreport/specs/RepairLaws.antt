@@ -12,9 +12,9 @@ use Rattle.hidreport.specs.Making.{extent, key}
 use Rattle.hidreport.specs.Meaning.{parse_by}
 use Rattle.hidreport.specs.Options.{parse_as, reading_of}
 use Rattle.hidreport.specs.Places.{start}
-use Rattle.hidreport.specs.Records.{DescriptorRecord}
+use Rattle.hidreport_fields.specs.Records.{DescriptorRecord}
 use Rattle.hidreport.specs.Repair.{RepairedRecord, change_in, joined, repaired}
-use Rattle.hidreport.specs.Tiling.{Each}
+use Rattle.hidreport_fields.specs.Tiling.{Each}
 use Rattle.hidreport.specs.declared.parse_options.ParseOptions.{ParseOptions}
 use Rattle.hidreport.specs.declared.repairing.repair_options.RepairOptions.{RepairOptions}
 

@@ -4,13 +4,13 @@ use Rattle.std.specs.Prelude.{◌≡◌, ℕ, ℤ, ◌==◌, ◌&&◌, Bool, tru
 use Rattle.std.specs.Prelude.{length, take, drop, sum_by, Result, Ok, Err}
 use Rattle.std.specs.List.{list_all, list_any}
 use Rattle.hidreport.specs.Reader.{report_numbers}
-use Rattle.hidreport.specs.Records.{FieldRecord, ReportRecord, own_id, place_of}
-use Rattle.hidreport.specs.Tiling.{IsFilled}
-use Rattle.hidreport.specs.WritingLaws.{SamePadding, written_all}
-use Rattle.hidreport.specs.WritingValues.{begins_in_id, fits, has_sign, put, value_count, value_width}
-use Rattle.hidreport.specs.WritingValues.{where_read}
-use Rattle.hidreport.specs.declared.field.insert_error.InsertError.{InsertError}
-use Rattle.hidreport.specs.declared.field.insert_error.InsertError.TheVariants as refused
+use Rattle.hidreport_fields.specs.Records.{FieldRecord, ReportRecord, own_id, place_of}
+use Rattle.hidreport_fields.specs.Tiling.{IsFilled}
+use Rattle.hidreport_fields.specs.WritingLaws.{SamePadding, written_all}
+use Rattle.hidreport_fields.specs.WritingValues.{begins_in_id, fits, has_sign, put, value_count, value_width}
+use Rattle.hidreport_fields.specs.WritingValues.{where_read}
+use Rattle.hidreport_fields.specs.declared.field.insert_error.InsertError.{InsertError}
+use Rattle.hidreport_fields.specs.declared.field.insert_error.InsertError.TheVariants as refused
 
 -- the numbers of one field, of those of a field and all behind it; and those behind
 abbrev pub own_numbers : FieldRecord → List ℤ → List ℤ

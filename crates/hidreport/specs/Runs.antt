@@ -5,17 +5,17 @@ use Rattle.std.specs.Prelude.{slice_set, take, drop, true}
 use Rattle.std.specs.List.{list_all, list_any}
 use Rattle.hidreport_items.specs.Spelling.{AreBytes}
 use Rattle.hidreport_lists.specs.Answer.{Refusal, MismatchingReportId}
-use Rattle.hidreport.specs.BitValue.{value}
+use Rattle.hidreport_fields.specs.BitValue.{value}
 use Rattle.hidreport.specs.Reader.{available_numbers, before_numbers, begins_otherwise, each_alone}
 use Rattle.hidreport.specs.Reader.{numbers_before, report_numbers}
-use Rattle.hidreport.specs.Reading.{ValueRecord, each_value, element_width, is_signed, read_bits}
-use Rattle.hidreport.specs.Reading.{with_id}
-use Rattle.hidreport.specs.Records.{FieldRecord, VariableRecord, ArrayRecord, ConstantRecord}
+use Rattle.hidreport_fields.specs.Reading.{ValueRecord, each_value, element_width, is_signed, read_bits}
+use Rattle.hidreport_fields.specs.Reading.{with_id}
+use Rattle.hidreport_fields.specs.Records.{FieldRecord, VariableRecord, ArrayRecord, ConstantRecord}
 use Rattle.hidreport.specs.ReportWriting.{report_written}
-use Rattle.hidreport.specs.WritingLaws.{numbers_of}
-use Rattle.hidreport.specs.WritingValues.{begins_in_id, fits, put, value_count, where_read}
-use Rattle.hidreport.specs.declared.field.insert_error.InsertError.{InsertError}
-use Rattle.hidreport.specs.declared.field.insert_error.InsertError.TheVariants as refused
+use Rattle.hidreport_fields.specs.WritingLaws.{numbers_of}
+use Rattle.hidreport_fields.specs.WritingValues.{begins_in_id, fits, put, value_count, where_read}
+use Rattle.hidreport_fields.specs.declared.field.insert_error.InsertError.{InsertError}
+use Rattle.hidreport_fields.specs.declared.field.insert_error.InsertError.TheVariants as refused
 
 -- so many values of one width from a bit on, and the id that they are read by
 pub record RunRecord : Type 0 where

@@ -7,7 +7,7 @@ use Rattle.hidreport_items.specs.declared.item.ItemType.{ItemType}
 use Rattle.hidreport_items.specs.declared.item.ItemType.TheVariants as item
 use Rattle.hidreport.specs.MeaningFault.{MeaningFault}
 use Rattle.hidreport.specs.Kinds.{is_main, is_push, is_pop, local_of}
-use Rattle.hidreport.specs.Records.{DescriptorRecord}
+use Rattle.hidreport_fields.specs.Records.{DescriptorRecord}
 
 -- no main item is among these items, and each Push among them is matched by a Pop among them
 pub record IsMatched (items : List ItemType) : Type 0 where

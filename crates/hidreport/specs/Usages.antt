@@ -1,16 +1,17 @@
 -- Usages of an item (Section 6.2.2.8): a range from a minimum to a maximum, or single usages.
-use Rattle.std.specs.Prelude.{ℕ, ◌+◌, ◌-◌, ◌%◌, zero, suc, Bool, true, false, List, [], ◌∷◌, Option}
+use Rattle.std.specs.Prelude.{ℕ, ◌+◌, ◌-◌, Bool, true, false, List, [], ◌∷◌, Option}
 use Rattle.std.specs.Prelude.{None, Some, Result, Ok, Err, flat_map, unwrap_or}
 use Rattle.hidreport_items.specs.declared.local.LocalItem.{LocalItem}
 use Rattle.hidreport_items.specs.declared.local.LocalItem.TheVariants as local
 use Rattle.hidreport.specs.HostUsages.{host_spans, is_lone, span_usages}
 use Rattle.hidreport.specs.ItemState.{ItemState, first_of, local_items}
 use Rattle.hidreport.specs.MeaningFault.{MeaningFault, MissingUsageMaximum, MissingUsagePage}
-use Rattle.hidreport.specs.declared.field.usage.Usage.{Usage}
+use Rattle.hidreport_fields.specs.declared.field.usage.Usage.{Usage}
 use Rattle.hidreport.specs.declared.parser.paged_local.PagedLocal.{PagedLocal}
 use Rattle.hidreport.specs.declared.parser.usage_span.UsageSpan.{UsageSpan}
 use Rattle.hidreport.specs.declared.parser.usages_by.UsagesBy.{UsagesBy}
 use Rattle.hidreport.specs.declared.parser.usages_by.UsagesBy.TheVariants as usages_by
+pub use Rattle.hidreport_fields.specs.UsageRange.{make_usage, range_from}
 
 -- an item's usages, in order, and whether they are those of a range
 pub record UsageList : Type 0 where
@@ -31,15 +32,6 @@ maximum_of _ = None
 abbrev pub last_local : (LocalItem → Option ℕ) → List LocalItem → Option ℕ
 last_local tag [] = None
 last_local tag (x ∷ xs) = first_of (last_local tag xs) (tag x)
-
--- the usage with this page and id
-abbrev pub make_usage : ℕ → ℕ → Usage
-make_usage page id = record { usage_page = page; usage_id = id }
-
--- the low 16 bits of so many numbers from n on, each under the page
-abbrev pub range_from : ℕ → ℕ → ℕ → List Usage
-range_from page n zero = []
-range_from page n (suc more) = make_usage page (n % 65536) ∷ range_from page (n + 1) more
 
 -- a usage before others, unless these have a fault
 abbrev pub before_usages : Usage → Result (List Usage) MeaningFault

@@ -10,8 +10,8 @@ use Rattle.hidreport.specs.Fields.{collection_record, fields_at}
 use Rattle.hidreport.specs.ItemState.{ItemState}
 use Rattle.hidreport.specs.Kinds.{Indexed, Direction, collection_kind_of, data_of}
 use Rattle.hidreport.specs.MeaningFault.{MeaningFault}
-use Rattle.hidreport.specs.Records.{CollectionRecord, FieldRecord, VariableRecord, ArrayRecord}
-use Rattle.hidreport.specs.Records.{ConstantRecord, ReportRecord, DescriptorRecord}
+use Rattle.hidreport_fields.specs.Records.{CollectionRecord, FieldRecord, VariableRecord, ArrayRecord}
+use Rattle.hidreport_fields.specs.Records.{ConstantRecord, ReportRecord, DescriptorRecord}
 use Rattle.hidreport.specs.Visibility.{before}
 
 -- a collection weighs 1 and its usages

@@ -3,12 +3,12 @@ use Rattle.std.specs.Prelude.{◌≡◌, ◌≢◌, ◌*◌, ◌<◌, ◌≤◌,
 use Rattle.std.specs.Prelude.{Err}
 use Rattle.std.specs.List.{list_all}
 use Rattle.hidreport_lists.specs.Answer.{MismatchingReportId}
-use Rattle.hidreport.specs.Reading.{reads as read, reads_element}
-use Rattle.hidreport.specs.Records.{FieldRecord, ReportRecord, element_count}
-use Rattle.hidreport.specs.Tiling.{Each, IsFilled}
-use Rattle.hidreport.specs.WritingLaws.{written_all}
-use Rattle.hidreport.specs.WritingValues.{fits, has_sign, value_count, value_width, written}
-use Rattle.hidreport.specs.WritingValues.{written_element}
+use Rattle.hidreport_fields.specs.Reading.{reads as read, reads_element}
+use Rattle.hidreport_fields.specs.Records.{FieldRecord, ReportRecord, element_count}
+use Rattle.hidreport_fields.specs.Tiling.{Each, IsFilled}
+use Rattle.hidreport_fields.specs.WritingLaws.{written_all}
+use Rattle.hidreport_fields.specs.WritingValues.{fits, has_sign, value_count, value_width, written}
+use Rattle.hidreport_fields.specs.WritingValues.{written_element}
 
 -- its values have at most 32 bits each
 abbrev pub IsNarrow : FieldRecord → Type 0

@@ -3,19 +3,19 @@ ghost use Rattle.std.specs.Prelude.{◌≡◌, ◌≢◌, ◌≤◌, ℕ, [], No
 ghost use Rattle.hidreport_lists.specs.Answer.{Answers};
 ghost use Rattle.hidreport.specs.Budget.{parse_within};
 ghost use Rattle.hidreport.specs.Laws.{AgreeWithoutPush, KeptItemsMean, RebuiltBytesMean, SegmentsAreIdle};
-ghost use Rattle.hidreport.specs.Lookup.{find_report, report_with, reports_of};
+ghost use Rattle.hidreport_fields.specs.Lookup.{find_report, report_with, reports_of};
 ghost use Rattle.hidreport.specs.Meaning.{parse, parse_by, parse_globals_only};
 ghost use Rattle.hidreport.specs.Options.{default_options, globals_only_options, parse_as, reading_of};
-ghost use Rattle.hidreport.specs.Tiling.{IsTiled};
+ghost use Rattle.hidreport_fields.specs.Tiling.{IsTiled};
 ghost use Rattle.hidreport.specs.Weight.{descriptor_weight};
 ghost use Rattle.hidreport.specs.Working.{AllOwn, AllWork};
 
-use crate::field::data_item::Direction;
 use crate::outline::Outline;
 use crate::parse_options::ParseOptions;
 use crate::parser::push_keeps::PushKeeps;
 use crate::report::RDescReport;
 use crate::report::reports::{Reports, find_with_id, likely_report};
+use hidreport_fields::Direction;
 use hidreport_lists::ParserError;
 use hidreport_types::ReportId;
 use std::alloc::Global;
@@ -31,8 +31,8 @@ pub struct ReportDescriptor {
 }
 
 impl Model for ReportDescriptor {
-    ghost use Rattle.hidreport.specs.Records.{DescriptorRecord};
-    ghost use Rattle.hidreport.specs.Tiling.{IsTiled};
+    ghost use Rattle.hidreport_fields.specs.Records.{DescriptorRecord};
+    ghost use Rattle.hidreport_fields.specs.Tiling.{IsTiled};
 
     ghost Value = { DescriptorRecord };
 

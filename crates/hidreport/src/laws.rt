@@ -4,16 +4,16 @@ ghost use Rattle.hidreport_items.specs.Writing.{item_bytes};
 ghost use Rattle.hidreport_items.specs.declared.item.ItemType.{ItemType};
 ghost use Rattle.hidreport_lists.specs.DescriptorBuilder.{AreSpelled};
 ghost use Rattle.hidreport_lists.specs.Rebuilt.{canonical_entries};
-ghost use Rattle.hidreport.specs.BitValue.{bit};
+ghost use Rattle.hidreport_fields.specs.BitValue.{bit};
 ghost use Rattle.hidreport.specs.Blank.{blank_bytes};
 ghost use Rattle.hidreport.specs.Laws.{parse_any};
 ghost use Rattle.hidreport.specs.Meaning.{at_offset};
 ghost use Rattle.hidreport.specs.Options.{meaning_as};
-ghost use Rattle.hidreport.specs.Places.{id_bits};
-ghost use Rattle.hidreport.specs.Records.{Attributes, CollectionRecord};
-ghost use Rattle.hidreport.specs.Scaling.{normalized, physical_value};
-ghost use Rattle.hidreport.specs.ScalingLaws.{IsScale, bounds_meant};
-ghost use Rattle.hidreport.specs.SharedCollections.{shared};
+ghost use Rattle.hidreport_fields.specs.ReportIds.{id_bits};
+ghost use Rattle.hidreport_fields.specs.Records.{Attributes, CollectionRecord};
+ghost use Rattle.hidreport_fields.specs.Scaling.{normalized, physical_value};
+ghost use Rattle.hidreport_fields.specs.ScalingLaws.{IsScale, bounds_meant};
+ghost use Rattle.hidreport_fields.specs.SharedCollections.{shared};
 ghost use Rattle.hidreport.specs.declared.parse_options.ParseOptions.{ParseOptions};
 
 /// What a descriptor builder writes (`hid::ReportDescriptorBuilder::build`) is read as its items

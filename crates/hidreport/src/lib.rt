@@ -55,7 +55,6 @@
 #![tactic(auto)]
 
 mod descriptor;
-mod field;
 mod laws;
 mod outline;
 mod parse_options;
@@ -99,24 +98,15 @@ pub mod hid {
 /// Numbers in the bits of a report, for callers who keep fields in a form of their own (Section 5.8);
 /// `FieldValue::from_bits` reads them.
 pub mod bits {
-    pub use crate::field::written_bits::{all_fit, fits, put_values};
+    pub use hidreport_fields::{all_fit, fits, put_values};
 }
 
 pub use descriptor::ReportDescriptor;
-pub use field::array_field::ArrayField;
-pub use field::collection::{Collection, CollectionId};
-pub use field::constant_field::ConstantField;
-pub use field::data_item::Direction;
-pub use field::element_numbers::ElementNumbers;
-pub use field::field_attributes::FieldAttributes;
-pub use field::fraction::Fraction;
-pub use field::insert_error::InsertError;
-pub use field::usage::Usage;
-pub use field::usage_range::UsageRange;
-pub use field::value::FieldValue;
-pub use field::variable_field::VariableField;
-pub use field::{Field, FieldId};
 pub use hid::CollectionItem as CollectionType;
+pub use hidreport_fields::{
+    ArrayField, Collection, CollectionId, ConstantField, Direction, ElementNumbers, Field,
+    FieldAttributes, FieldId, FieldValue, Fraction, InsertError, Usage, UsageRange, VariableField,
+};
 pub use hidreport_lists::{ParserError, Reason};
 pub use laws::{
     blank_reports_have_their_id_alone, built_bytes_mean_their_items, scaled_values_lie_on_a_line,

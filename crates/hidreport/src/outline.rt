@@ -2,19 +2,19 @@
 ghost use Rattle.std.specs.Prelude.{◌≡◌, ◌≢◌, ◌≤◌, ℕ, None, Err, Ok, IfOk, IfSome, option_copied};
 ghost use Rattle.hidreport_lists.specs.Answer.{Answers};
 ghost use Rattle.hidreport.specs.Laws.{KeptItemsMean, RebuiltBytesMean, SegmentsAreIdle, parse_any};
-ghost use Rattle.hidreport.specs.Lookup.{find_report, report_with, reports_of};
+ghost use Rattle.hidreport_fields.specs.Lookup.{find_report, report_with, reports_of};
 ghost use Rattle.hidreport.specs.Meaning.{parse_by};
 ghost use Rattle.hidreport.specs.Options.{parse_as, reading_of};
-ghost use Rattle.hidreport.specs.Tiling.{IsTiled};
+ghost use Rattle.hidreport_fields.specs.Tiling.{IsTiled};
 ghost use Rattle.hidreport.specs.Weight.{descriptor_weight};
 ghost use Rattle.hidreport.specs.Working.{AllOwn, AllWork};
 
 use crate::descriptor::ReportDescriptor;
-use crate::field::data_item::Direction;
 use crate::parse_options::ParseOptions;
 use crate::parser;
 use crate::report::outline_report::{OutlineReport, find_with_id};
 use crate::report::outline_reports::OutlineReports;
+use hidreport_fields::Direction;
 use hidreport_lists::ParserError;
 use hidreport_types::ReportId;
 use std::alloc::{AllocError, Global};
@@ -31,8 +31,8 @@ pub struct Outline {
 }
 
 impl Model for Outline {
-    ghost use Rattle.hidreport.specs.Records.{DescriptorRecord};
-    ghost use Rattle.hidreport.specs.Tiling.{IsTiled};
+    ghost use Rattle.hidreport_fields.specs.Records.{DescriptorRecord};
+    ghost use Rattle.hidreport_fields.specs.Tiling.{IsTiled};
 
     ghost Value = { DescriptorRecord };
 

@@ -2,11 +2,11 @@
 ghost use Rattle.std.specs.Prelude.{◌≡◌, ◌==◌, ◌+◌, ◌/◌, ◌↔◌, ℕ, List, Option, map, IfOk, IsTrue, find, option_copied, option_map};
 ghost use Rattle.hidreport_items.specs.Spelling.{AreBytes};
 ghost use Rattle.hidreport.specs.Blank.{blank_bytes, with_first};
-ghost use Rattle.hidreport.specs.Lookup.{field_for, field_with, has_usage};
-ghost use Rattle.hidreport.specs.Records.{FieldRecord, place_of};
-ghost use Rattle.hidreport.specs.Views.{field_record};
+ghost use Rattle.hidreport_fields.specs.Lookup.{field_for, field_with, has_usage};
+ghost use Rattle.hidreport_fields.specs.Records.{FieldRecord, place_of};
+ghost use Rattle.hidreport_fields.specs.Views.{field_record};
 ghost use Rattle.hidreport.specs.Working.{TakesAll};
-ghost use Rattle.hidreport.specs.WritingLaws.{IsWhole};
+ghost use Rattle.hidreport_fields.specs.WritingLaws.{IsWhole};
 
 pub(crate) mod group;
 pub(crate) mod outline_report;
@@ -14,8 +14,7 @@ pub(crate) mod outline_reports;
 pub(crate) mod reader;
 pub(crate) mod reports;
 
-use crate::field::usage::Usage;
-use crate::field::{Field, FieldId};
+use hidreport_fields::{Field, FieldId, Usage, are_alike};
 use hidreport_types::ReportId;
 use std::alloc::{AllocError, Global};
 use std::marker::Model;
@@ -173,11 +172,11 @@ pub struct RDescReport {
 
 impl Model for RDescReport {
     ghost use Rattle.std.specs.Prelude.{map};
-    ghost use Rattle.hidreport.specs.Records.{ReportRecord};
+    ghost use Rattle.hidreport_fields.specs.Records.{ReportRecord};
 
     ghost Value = { ReportRecord };
 
-    ghost use Rattle.hidreport.specs.Views.{field_record};
+    ghost use Rattle.hidreport_fields.specs.Views.{field_record};
 
     ghost view = { λ r. record {
       id = r.id;
@@ -194,7 +193,7 @@ impl RDescReport {
     {
         self.id == other.id
             && self.size == other.size
-            && Field::are_alike(self.fields.as_slice(), other.fields.as_slice())
+            && are_alike(self.fields.as_slice(), other.fields.as_slice())
     }
 
     /// Whether two lists have reports that are alike, in the same order.

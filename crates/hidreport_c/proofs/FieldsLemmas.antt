@@ -12,8 +12,8 @@ use Rattle.std.proofs.Math.Dec.{eqb}
 use Rattle.std.specs.Prelude.{find, flat_map}
 use Rattle.hidreport.specs.Records.{FieldRecord, ReportRecord, fields_in_all, place_of}
 use Rattle.hidreport.specs.Views.{field_id, field_record}
-use Rattle.hidreport.specs.declared.field.Field.{Field}
-use Rattle.hidreport.specs.declared.field.Field.TheVariants as fields
+use Rattle.hidreport_fields.specs.declared.field.Field.{Field}
+use Rattle.hidreport_fields.specs.declared.field.Field.TheVariants as fields
 use Rattle.hidreport_c.specs.Answer.{Lists, array_after, counted}
 use Rattle.hidreport_c.specs.Describe.{fields_as_c}
 use Rattle.hidreport_c.specs.Field.{as_c}

@@ -9,7 +9,7 @@ use Rattle.std.specs.Slice.{IsItemAt}
 use Rattle.hidreport.specs.Groups.{GroupRecord, fields_of_groups, group_fields}
 use Rattle.hidreport.specs.Records.{FieldRecord}
 use Rattle.hidreport.specs.Views.{field_record}
-use Rattle.hidreport.specs.declared.field.Field.{Field}
+use Rattle.hidreport_fields.specs.declared.field.Field.{Field}
 use Rattle.hidreport_c.proofs.UsagesLemmas.{copied-item}
 use Rattle.hidreport_c.proofs.ListsLemmas.{written-none}
 use Rattle.hidreport_c.specs.Answer.{Lists, array_after, counted, no_memory}

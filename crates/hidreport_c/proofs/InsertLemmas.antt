@@ -8,8 +8,8 @@ use Rattle.std.specs.Prelude.{◌==◌}
 use Rattle.hidreport.specs.Answer.{Refusal, OutOfBounds, MismatchingReportId}
 use Rattle.hidreport.specs.Reading.{ValueRecord, before_values, element, each_value, with_id}
 use Rattle.hidreport.specs.WritingValues.{insert_refusal, where_read}
-use Rattle.hidreport.specs.declared.field.insert_error.InsertError.{InsertError}
-use Rattle.hidreport.specs.declared.field.insert_error.InsertError.TheVariants as refused
+use Rattle.hidreport_fields.specs.declared.field.insert_error.InsertError.{InsertError}
+use Rattle.hidreport_fields.specs.declared.field.insert_error.InsertError.TheVariants as refused
 use Rattle.hidreport.proofs.IsWrittenLemmas.{room-of}
 use Rattle.hidreport.proofs.ReadBackLemmas.{each-readable}
 use Rattle.hidreport_c.proofs.ValuesLemmas.{one-more}

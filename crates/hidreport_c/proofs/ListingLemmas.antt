@@ -7,7 +7,7 @@ use Rattle.std.proofs.lemmas.List.Folds.{length-flat_map-take}
 use Rattle.std.specs.Prelude.{flat_map}
 use Rattle.hidreport.specs.Records.{FieldRecord, ReportRecord, fields_in_all}
 use Rattle.hidreport.specs.Views.{field_record}
-use Rattle.hidreport.specs.declared.field.Field.{Field}
+use Rattle.hidreport_fields.specs.declared.field.Field.{Field}
 use Rattle.hidreport_c.specs.Answer.{array_after}
 
 pub by-field : {A : Type 0} (g : FieldRecord → List A) (fields : List Field)

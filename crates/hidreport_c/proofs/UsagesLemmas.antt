@@ -8,7 +8,7 @@ use Rattle.std.specs.Slice.{IsItemAt}
 use Rattle.hidreport.specs.Choosing.{usage_chosen}
 use Rattle.hidreport.specs.Records.{ArrayRecord, Attributes, FieldPlace}
 use Rattle.hidreport.specs.UsageNumber.{usage_number}
-use Rattle.hidreport.specs.declared.field.usage.Usage.{Usage}
+use Rattle.hidreport_fields.specs.declared.field.usage.Usage.{Usage}
 use Rattle.hidreport_c.specs.Field.{as_c}
 use Rattle.hidreport_c.specs.Usages.{usage_meant}
 use Rattle.hidreport_c.specs.declared.structs.HidreportField.{HidreportField}

@@ -18,8 +18,8 @@ use Rattle.hidreport.specs.Spelling.{AreBytes}
 use Rattle.hidreport.specs.Tiling.{Each}
 use Rattle.hidreport.specs.WritingValues.{begins_in_id, fits, put, value_count}
 use Rattle.hidreport.specs.WritingValues.{where_read}
-use Rattle.hidreport.specs.declared.field.insert_error.InsertError.{InsertError}
-use Rattle.hidreport.specs.declared.field.insert_error.InsertError.TheVariants as refused
+use Rattle.hidreport_fields.specs.declared.field.insert_error.InsertError.{InsertError}
+use Rattle.hidreport_fields.specs.declared.field.insert_error.InsertError.TheVariants as refused
 use Rattle.hidreport_c.proofs.InsertLemmas.{IsPlain, values-plain, values-wide, values-within}
 use Rattle.hidreport_c.proofs.ReadDescribedLemmas.{listed-read, same-id}
 use Rattle.hidreport_c.specs.Field.{as_c}

@@ -16,8 +16,8 @@ use Rattle.hidreport.specs.WritingLaws.{IsWritten}
 use Rattle.hidreport.proofs.IsElementLemmas.{is-element-written}
 use Rattle.hidreport.proofs.IsWrittenLemmas.{is-written}
 use Rattle.hidreport.specs.WritingValues.{begins_in_id, fits, placed, put, where_read, written}
-use Rattle.hidreport.specs.declared.field.insert_error.InsertError.{InsertError}
-use Rattle.hidreport.specs.declared.field.insert_error.InsertError.TheVariants as refused
+use Rattle.hidreport_fields.specs.declared.field.insert_error.InsertError.{InsertError}
+use Rattle.hidreport_fields.specs.declared.field.insert_error.InsertError.TheVariants as refused
 use Rattle.hidreport_c.specs.Field.{as_c}
 use Rattle.hidreport_c.specs.Insert.{IsInserted, Places, bytes_after, inserted_at, inserted_value}
 use Rattle.hidreport_c.specs.Insert.{placed_at, status_after, written_at}

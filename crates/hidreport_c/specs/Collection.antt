@@ -3,7 +3,7 @@ use Rattle.std.specs.Prelude.{ℕ, List, [], length, map, slice_get, Option, Non
 use Rattle.hidreport.specs.Records.{CollectionRecord, DescriptorRecord, FieldRecord, collections_of}
 use Rattle.hidreport.specs.Spelling.{kind_number}
 use Rattle.hidreport.specs.UsageNumber.{usage_number}
-use Rattle.hidreport.specs.declared.field.usage.Usage.{Usage}
+use Rattle.hidreport_fields.specs.declared.field.usage.Usage.{Usage}
 use Rattle.hidreport_c.specs.Field.{usage_number_at}
 use Rattle.hidreport_c.specs.Numbered.{field_numbered}
 use Rattle.hidreport_c.specs.declared.structs.HidreportCollection.{HidreportCollection}

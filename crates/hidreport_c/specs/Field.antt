@@ -5,7 +5,7 @@ use Rattle.hidreport.specs.Flags.{Flags, flags_of}
 use Rattle.hidreport.specs.Records.{CollectionRecord, FieldPlace, Attributes, FieldRecord}
 use Rattle.hidreport.specs.Records.{VariableRecord, ArrayRecord, ConstantRecord}
 use Rattle.hidreport.specs.UsageNumber.{usage_number}
-use Rattle.hidreport.specs.declared.field.usage.Usage.{Usage}
+use Rattle.hidreport_fields.specs.declared.field.usage.Usage.{Usage}
 use Rattle.hidreport_c.specs.declared.structs.HidreportCollections.{HidreportCollections}
 use Rattle.hidreport_c.specs.declared.structs.HidreportField.{HidreportField}
 use Rattle.hidreport_c.specs.declared.structs.HidreportFlags.{HidreportFlags}

@@ -6,8 +6,8 @@ use Rattle.hidreport.specs.Records.{FieldRecord, VariableRecord, ArrayRecord, Co
 use Rattle.hidreport.specs.WritingLaws.{IsElementWritten, IsWritten}
 use Rattle.hidreport.specs.WritingValues.{placed_by, where_read, written}
 use Rattle.hidreport.specs.WritingValues.{written_element}
-use Rattle.hidreport.specs.declared.field.insert_error.InsertError.{InsertError}
-use Rattle.hidreport.specs.declared.field.insert_error.InsertError.TheVariants as refused
+use Rattle.hidreport_fields.specs.declared.field.insert_error.InsertError.{InsertError}
+use Rattle.hidreport_fields.specs.declared.field.insert_error.InsertError.TheVariants as refused
 use Rattle.hidreport_c.specs.Value.{id_of, value_at, values_at}
 use Rattle.hidreport_c.specs.declared.structs.HidreportField.{HidreportField}
 

@@ -3,7 +3,7 @@ use Rattle.std.specs.Prelude.{ℤ, pos, negsuc, ◌^◌, ◌-◌, int_lt, ◌&&�
 use Rattle.std.specs.Prelude.{if◌then◌else◌, Option, None, Some}
 use Rattle.std.specs.Ordering.{int_eq}
 use Rattle.hidreport.specs.Scaling.{on_line}
-use Rattle.hidreport.specs.declared.field.fraction.Fraction.{Fraction}
+use Rattle.hidreport_fields.specs.declared.field.fraction.Fraction.{Fraction}
 use Rattle.hidreport_c.specs.declared.structs.HidreportMeasures.{HidreportMeasures}
 use Rattle.hidreport_c.specs.declared.structs.HidreportFraction.{HidreportFraction}
 

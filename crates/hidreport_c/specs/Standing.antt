@@ -2,7 +2,7 @@
 use Rattle.std.specs.Prelude.{◌≡◌, ◌==◌, true, false, ℕ, ℤ, pos, MatchBool, List}
 use Rattle.std.specs.Prelude.{length, Option, None, Some}
 use Rattle.hidreport.specs.Standing.{IsLeastFor, IsNullNumber}
-use Rattle.hidreport.specs.declared.field.usage.Usage.{Usage}
+use Rattle.hidreport_fields.specs.declared.field.usage.Usage.{Usage}
 use Rattle.hidreport_c.specs.Insert.{is_signed_in, width_of}
 use Rattle.hidreport_c.specs.declared.structs.HidreportField.{HidreportField}
 use Rattle.hidreport_c.specs.declared.structs.HidreportChoice.{HidreportChoice}

@@ -3,8 +3,8 @@ use Rattle.std.specs.Prelude.{◌≢◌, ◌<◌, ◌≤◌, ℕ, ℤ, ◌+◌, 
 use Rattle.std.specs.Prelude.{List, [], ◌∷◌, length, take, drop, sum_by, Result, Ok, Err}
 use Rattle.std.specs.List.{list_all, list_any}
 use Rattle.hidreport.specs.WritingValues.{begins_in_id, fits, put, where_read}
-use Rattle.hidreport.specs.declared.field.insert_error.InsertError.{InsertError}
-use Rattle.hidreport.specs.declared.field.insert_error.InsertError.TheVariants as refused
+use Rattle.hidreport_fields.specs.declared.field.insert_error.InsertError.{InsertError}
+use Rattle.hidreport_fields.specs.declared.field.insert_error.InsertError.TheVariants as refused
 use Rattle.hidreport_c.specs.Insert.{is_signed_in, width_of}
 use Rattle.hidreport_c.specs.Reading.{numbers_in}
 use Rattle.hidreport_c.specs.Value.{id_of}

@@ -3,7 +3,7 @@ ghost use Rattle.std.specs.Prelude.{◌≡◌, ◌≢◌, ◌<◌, ◌≤ℤ◌,
 ghost use Rattle.hidreport.specs.Reading.{element_width};
 ghost use Rattle.hidreport.specs.Records.{ArrayRecord, Attributes, FieldPlace};
 ghost use Rattle.hidreport.specs.Standing.{IsNullNumber};
-ghost use Rattle.hidreport.specs.declared.field.usage.Usage.{Usage};
+ghost use Rattle.hidreport_fields.specs.declared.field.usage.Usage.{Usage};
 ghost use Rattle.hidreport_c.specs.Field.{as_c};
 ghost use Rattle.hidreport_c.specs.Insert.{is_signed_in, width_of};
 ghost use Rattle.hidreport_c.specs.Standing.{Chooses, IsLeastMeant, IsNullAt, choice_as_c};

@@ -2,7 +2,7 @@
 use Rattle.std.proofs.Common.{◌≡◌, ◌<ℤ◌, pos, inl, Option, Some, refl, subst, arith}
 use Rattle.std.proofs.lemmas.Int.{ints}
 use Rattle.hidreport.specs.ScalingLaws.{Is, IsBetween, IsNotAbove, IsScale}
-use Rattle.hidreport.specs.declared.field.fraction.Fraction.{Fraction}
+use Rattle.hidreport_fields.specs.declared.field.fraction.Fraction.{Fraction}
 use Rattle.hidreport_definitions.specs.Lookups.{over}
 use Rattle.hidreport_definitions.specs.Scales.{always}
 

@@ -1,7 +1,7 @@
 -- Attributes, fractions and collections for the rows of lookups.
 use Rattle.std.specs.Prelude.{ℕ, ℤ, List, map, Some}
 use Rattle.hidreport.specs.Records.{Attributes, CollectionRecord}
-use Rattle.hidreport.specs.declared.field.fraction.Fraction.{Fraction}
+use Rattle.hidreport_fields.specs.declared.field.fraction.Fraction.{Fraction}
 use Rattle.hidreport_definitions.specs.Summary.{unset}
 use Rattle.hidreport_definitions.specs.Tiled.{physical}
 

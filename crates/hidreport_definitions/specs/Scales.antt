@@ -1,7 +1,7 @@
 -- What values may mean, for the rows of scaling.
 use Rattle.std.specs.Prelude.{ℤ, if◌then◌else◌, Option, None, Some}
 use Rattle.std.specs.Ordering.{int_eq}
-use Rattle.hidreport.specs.declared.field.fraction.Fraction.{Fraction}
+use Rattle.hidreport_fields.specs.declared.field.fraction.Fraction.{Fraction}
 
 -- no value means anything
 abbrev pub nothing_meant : ℤ → Option Fraction

@@ -22,7 +22,7 @@ use Rattle.hidreport.specs.UsageNumber.{usage_number}
 use Rattle.hidreport.specs.UsageRange.{RangeRecord}
 use Rattle.hidreport.specs.Choosing.{usage_chosen}
 use Rattle.hidreport.specs.Usages.{make_usage, range_from}
-use Rattle.hidreport.specs.declared.field.usage.Usage.{Usage}
+use Rattle.hidreport_fields.specs.declared.field.usage.Usage.{Usage}
 use Rattle.hidreport_definitions.specs.Hex.{hex}
 
 -- a field: its first bit, the bit behind its last, and its usages, each as one number

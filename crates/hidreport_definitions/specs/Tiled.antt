@@ -4,7 +4,7 @@ use Rattle.hidreport.specs.CollectionItem.TheVariants as kind
 use Rattle.hidreport.specs.Records.{Attributes, CollectionRecord, FieldRecord, VariableRecord}
 use Rattle.hidreport.specs.Records.{ArrayRecord, ConstantRecord, ReportRecord, DescriptorRecord}
 use Rattle.hidreport.specs.Usages.{make_usage, range_from}
-use Rattle.hidreport.specs.declared.field.usage.Usage.{Usage}
+use Rattle.hidreport_fields.specs.declared.field.usage.Usage.{Usage}
 use Rattle.hidreport_definitions.specs.Summary.{no_flags, of_report, place_at, unset}
 
 -- what fields share that lie in the Application collection of a keyboard

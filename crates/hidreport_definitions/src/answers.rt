@@ -10,7 +10,7 @@ ghost use Rattle.hidreport.specs.ItemType.TheVariants as item;
 ghost use Rattle.hidreport.specs.ParserError.TheVariants as errors;
 ghost use Rattle.hidreport.specs.ShortOrLong.{IsByHeader, RefusesWithoutMemory};
 ghost use Rattle.hidreport.specs.WritingValues.{Inserts};
-ghost use Rattle.hidreport.specs.declared.field.insert_error.InsertError.TheVariants as refused;
+ghost use Rattle.hidreport_fields.specs.declared.field.insert_error.InsertError.TheVariants as refused;
 
 /// An error is the refusal of the definition; want of memory says nothing.
 pub fn an_error_is_the_refusal()

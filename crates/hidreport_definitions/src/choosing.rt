@@ -2,7 +2,7 @@
 ghost use Rattle.std.specs.Prelude.{◌≡◌, ℤ, pos, negsuc, int_lt, IsTrue, List, [], Option, None, Some};
 ghost use Rattle.hidreport.specs.Choosing.{usage_chosen, value_number};
 ghost use Rattle.hidreport.specs.Usages.{make_usage, range_from};
-ghost use Rattle.hidreport.specs.declared.field.usage.Usage.{Usage};
+ghost use Rattle.hidreport_fields.specs.declared.field.usage.Usage.{Usage};
 ghost use Rattle.hidreport_definitions.specs.Summary.{signed_value, unsigned_value, of_eight};
 
 /// Of eight buttons, with bounds 0 and 3, the first four are chosen, and none beside the bounds.

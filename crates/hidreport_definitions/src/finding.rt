@@ -3,7 +3,7 @@ ghost use Rattle.std.specs.Prelude.{◌≡◌, pos, [], ◌∷◌, None, Some, f
 ghost use Rattle.hidreport.specs.Blank.{blank_bytes};
 ghost use Rattle.hidreport.specs.Lookup.{field_for, field_with, find_report, has_usage, report_with, reports_of};
 ghost use Rattle.hidreport.specs.Usages.{make_usage, range_from};
-ghost use Rattle.hidreport.specs.declared.field.data_item.Direction.TheVariants as direction;
+ghost use Rattle.hidreport_fields.specs.declared.field.data_item.Direction.TheVariants as direction;
 ghost use Rattle.hidreport_definitions.specs.Summary.{variable_at};
 ghost use Rattle.hidreport_definitions.specs.Tiled.{array_in, byte_field, byte_report, descriptor_of, report_without_id};
 

@@ -3,7 +3,7 @@ ghost use Rattle.std.specs.Prelude.{◌≡◌, negsuc, pos, List, [], ◌∷◌,
 ghost use Rattle.hidreport.specs.GlobalItem.TheVariants as global;
 ghost use Rattle.hidreport.specs.ItemType.{ItemType};
 ghost use Rattle.hidreport.specs.ItemType.TheVariants as item;
-ghost use Rattle.hidreport.specs.declared.field.data_item.Direction.TheVariants.{Input};
+ghost use Rattle.hidreport_fields.specs.declared.field.data_item.Direction.TheVariants.{Input};
 ghost use Rattle.hidreport.specs.Options.{default_options, globals_only_options, reading_of};
 ghost use Rattle.hidreport.specs.Places.{start};
 ghost use Rattle.hidreport.specs.RepairLaws.{IsOneItem, IsRepairOf, KeepsBits, SamePlaces};

@@ -2,7 +2,7 @@
 ghost use Rattle.std.specs.Prelude.{◌≡◌, ℤ, pos, negsuc, Option, Some};
 ghost use Rattle.hidreport.specs.Scaling.{on_line};
 ghost use Rattle.hidreport.specs.ScalingLaws.{Is, IsBetween, IsFrom, IsNotAbove, IsScale, IsUpTo};
-ghost use Rattle.hidreport.specs.declared.field.fraction.Fraction.{Fraction};
+ghost use Rattle.hidreport_fields.specs.declared.field.fraction.Fraction.{Fraction};
 ghost use Rattle.hidreport_definitions.specs.Lookups.{over};
 ghost use Rattle.hidreport_definitions.specs.Scales.{always, but_at, nothing_meant};
 

@@ -3,7 +3,7 @@
 ghost use Rattle.std.specs.Prelude.{◌≡◌, pos, negsuc, [], ◌∷◌, None, Some, true, false};
 ghost use Rattle.hidreport.specs.Standing.{IsLeastFor, IsLeastUnchosen, IsNullNumber, is_null, is_unchosen};
 ghost use Rattle.hidreport.specs.Usages.{make_usage, range_from};
-ghost use Rattle.hidreport.specs.declared.field.usage.Usage.{Usage};
+ghost use Rattle.hidreport_fields.specs.declared.field.usage.Usage.{Usage};
 
 /// Of eight buttons the third, also counted from -1, and the first of two that are one usage.
 pub fn a_usage_has_its_least_number()

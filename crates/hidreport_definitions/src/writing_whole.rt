@@ -1,6 +1,6 @@
 //! The values of a whole report, written in one pass.
 ghost use Rattle.std.specs.Prelude.{◌≡◌, [], ◌∷◌, codes, pos, negsuc, Ok, Err, Some};
-ghost use Rattle.hidreport.specs.declared.field.insert_error.InsertError.TheVariants as refused;
+ghost use Rattle.hidreport_fields.specs.declared.field.insert_error.InsertError.TheVariants as refused;
 ghost use Rattle.hidreport.specs.ReportWriting.{IsReportWritten, report_written};
 ghost use Rattle.hidreport.specs.Runs.{StandFor};
 ghost use Rattle.hidreport_definitions.specs.Hex.{hex};

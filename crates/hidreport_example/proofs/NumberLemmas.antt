@@ -9,7 +9,7 @@ use Rattle.hidreport.specs.Answer.{Refusal, InvalidData, OutOfBounds, Mismatchin
 use Rattle.hidreport.specs.ParserError.{ParserError}
 use Rattle.hidreport.specs.ParserError.TheVariants as errors
 use Rattle.hidreport.specs.Views.{field_record}
-use Rattle.hidreport.specs.declared.field.Field.{Field}
+use Rattle.hidreport_fields.specs.declared.field.Field.{Field}
 use Rattle.hidreport.specs.Reader.{before_numbers}
 use Rattle.hidreport.specs.Records.{FieldRecord}
 use Rattle.hidreport_example.specs.Numbers.{numbers_at, numbers_of}

@@ -1,4 +1,5 @@
-//! The library as a caller uses it, who names `hidreport` alone.
+//! The library as a caller uses it, who names `hidreport`, and `hidreport_fields` for its
+//! numbers.
 //! Licence: MIT (LICENSE); a port of the Rust crate `hidreport` 0.6.0.
 #![tactic(auto)]
 

@@ -4,7 +4,7 @@ use Rattle.std.specs.Prelude.{if◌then◌else◌, Option, Some, None, unwrap_or
 use Rattle.std.specs.Option.{option_map_or}
 use Rattle.std.specs.Int.{w16, w32, cast_signed, cast_unsigned}
 use Rattle.hidreport.specs.Groups.{GroupRecord}
-use Rattle.hidreport.specs.declared.field.data_item.Direction.{Direction}
+use Rattle.hidreport_fields.specs.declared.field.data_item.Direction.{Direction}
 use Rattle.hidreport_linux.specs.Events.{wanted}
 use Rattle.hidreport_linux.specs.Places.{place_of}
 use Rattle.hidreport_linux.specs.declared.axis.Measures.{Measures}

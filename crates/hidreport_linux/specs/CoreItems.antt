@@ -1,6 +1,6 @@
 -- Items as Linux's hid-core takes them apart (Section 6.2.2.2).
 use Rattle.std.specs.Prelude.{ℕ, Bool, ◌==◌, ◌||◌, not, ◌%◌, nat_le, if◌then◌else◌, List, length}
-use Rattle.hidreport.specs.declared.field.data_item.Direction.TheVariants as direction
+use Rattle.hidreport_fields.specs.declared.field.data_item.Direction.TheVariants as direction
 use Rattle.hidreport_items.specs.Numbers.{signed, word}
 use Rattle.hidreport_items.specs.Spelling.{prefix, type_of}
 use Rattle.hidreport_linux.specs.declared.reading.core_item.CoreItem.{CoreItem}

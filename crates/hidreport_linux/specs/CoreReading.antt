@@ -3,8 +3,8 @@ use Rattle.std.specs.Prelude.{ℕ, zero, suc, ◌+◌, ◌*◌, ◌-◌, ◌%◌
 use Rattle.std.specs.Prelude.{false, ◌&&◌, ◌||◌, not, if◌then◌else◌, List, [], ◌∷◌, ◌++◌, length, take, drop}
 use Rattle.std.specs.Prelude.{Option, Some, None, is_some}
 use Rattle.std.specs.List.{slice_index_or}
-use Rattle.hidreport.specs.declared.field.data_item.Direction.{Direction}
-use Rattle.hidreport.specs.declared.field.data_item.Direction.TheVariants as direction
+use Rattle.hidreport_fields.specs.declared.field.data_item.Direction.{Direction}
+use Rattle.hidreport_fields.specs.declared.field.data_item.Direction.TheVariants as direction
 use Rattle.hidreport_items.specs.Spelling.{data_length}
 use Rattle.hidreport_linux.specs.CoreItems.{core_item}
 use Rattle.hidreport_linux.specs.CoreKept.{ReadingRecord, nothing_kept, are_below, are_widest, maximum_by}

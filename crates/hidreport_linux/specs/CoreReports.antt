@@ -2,8 +2,8 @@
 use Rattle.std.specs.Prelude.{ℕ, ◌+◌, ◌-◌, ◌%◌, ◌^◌, ◌==◌, min, nat_lt, Bool, true, false, ◌&&◌}
 use Rattle.std.specs.Prelude.{if◌then◌else◌, Option, Some, None, replicate}
 use Rattle.std.specs.List.{slice_index_or, slice_set}
-use Rattle.hidreport.specs.declared.field.data_item.Direction.{Direction}
-use Rattle.hidreport.specs.declared.field.data_item.Direction.TheVariants as direction
+use Rattle.hidreport_fields.specs.declared.field.data_item.Direction.{Direction}
+use Rattle.hidreport_fields.specs.declared.field.data_item.Direction.TheVariants as direction
 use Rattle.hidreport_linux.specs.declared.reading.core_reports.CoreReport.{CoreReport}
 use Rattle.hidreport_linux.specs.declared.reading.core_reports.CoreReports.{CoreReports}
 

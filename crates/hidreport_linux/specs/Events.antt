@@ -1,8 +1,8 @@
 -- What a usage asks for, whatever lies before it (Linux 6.12, hid-input).
 use Rattle.std.specs.Prelude.{ℕ, Bool, true, false, ◌+◌, ◌-◌, ◌/◌, ◌%◌, ◌==◌, ◌||◌, ◌&&◌, nat_lt, not}
 use Rattle.std.specs.Prelude.{if◌then◌else◌, Option, Some, None, Result, Ok, Err}
-use Rattle.hidreport.specs.declared.field.data_item.Direction.{Direction}
-use Rattle.hidreport.specs.declared.field.data_item.Direction.TheVariants.{Input, Output, Feature}
+use Rattle.hidreport_fields.specs.declared.field.data_item.Direction.{Direction}
+use Rattle.hidreport_fields.specs.declared.field.data_item.Direction.TheVariants.{Input, Output, Feature}
 use Rattle.hidreport_linux.specs.Buttons.{button_code}
 use Rattle.hidreport_linux.specs.Rows.{wanted_in}
 use Rattle.hidreport_linux.specs.declared.code_table.TheConstants.{CODE_ROWS}

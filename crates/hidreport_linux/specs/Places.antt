@@ -5,7 +5,7 @@ use Rattle.hidreport.specs.Groups.{GroupRecord}
 use Rattle.hidreport.specs.Records.{CollectionRecord}
 use Rattle.hidreport.specs.Spelling.{kind_number}
 use Rattle.hidreport.specs.UsageNumber.{usage_number}
-use Rattle.hidreport.specs.declared.field.data_item.Direction.{Direction}
+use Rattle.hidreport_fields.specs.declared.field.data_item.Direction.{Direction}
 use Rattle.hidreport_linux.specs.declared.place.Place.{Place}
 
 -- the usage of a collection: the first of its usages, 0 where it has none

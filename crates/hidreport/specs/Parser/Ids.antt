@@ -1,7 +1,7 @@
 -- What the parser remembers of the ids in a list of reports.
 use Rattle.std.specs.Prelude.{◌≡◌, ℕ, ◌≤◌, List, length, Some}
 use Rattle.hidreport.specs.Parser.Machine.{index_in}
-use Rattle.hidreport.specs.Records.{ReportRecord}
+use Rattle.hidreport_fields.specs.Records.{ReportRecord}
 
 -- no report has an id from this one on
 abbrev pub AllBelow : ℕ → List ReportRecord → Type 0

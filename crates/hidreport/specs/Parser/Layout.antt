@@ -4,11 +4,13 @@ use Rattle.std.specs.Prelude.{None, Some}
 use Rattle.std.specs.Arc.{arc_slice_items}
 use Rattle.std.specs.Global.{Global}
 use Rattle.std.specs.declared.sync.ArcSlice.{ArcSlice}
-use Rattle.hidreport.specs.Fields.{Beginning, beginning_at, field_count, make_place, make_fields}
-use Rattle.hidreport.specs.Fields.{usage_at, attributes_with}
-use Rattle.hidreport.specs.Records.{Attributes, CollectionRecord, FieldRecord, VariableRecord}
+use Rattle.hidreport.specs.Fields.{Beginning, beginning_at, make_place, make_fields}
+use Rattle.hidreport_fields.specs.ItemParts.{field_count}
+use Rattle.hidreport.specs.Fields.{usage_at}
+use Rattle.hidreport_fields.specs.ItemParts.{attributes_with}
+use Rattle.hidreport_fields.specs.Records.{Attributes, CollectionRecord, FieldRecord, VariableRecord}
 use Rattle.hidreport.specs.Usages.{UsageList}
-use Rattle.hidreport.specs.declared.field.usage.Usage.{Usage}
+use Rattle.hidreport_fields.specs.declared.field.usage.Usage.{Usage}
 use Rattle.hidreport.specs.declared.parser.layout.Layout.{Layout}
 use Rattle.hidreport.specs.declared.parser.extent.Extent.{Extent}
 

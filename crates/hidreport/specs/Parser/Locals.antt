@@ -3,8 +3,8 @@ use Rattle.std.specs.Prelude.{ℕ, ◌-◌, Bool, if◌then◌else◌, List, len
 use Rattle.std.specs.Prelude.{is_none, unwrap_or}
 use Rattle.hidreport_items.specs.declared.local.LocalItem.{LocalItem}
 use Rattle.hidreport_items.specs.declared.local.LocalItem.TheVariants as local
-use Rattle.hidreport.specs.Usages.{make_usage}
-use Rattle.hidreport.specs.declared.field.usage.Usage.{Usage}
+use Rattle.hidreport_fields.specs.UsageRange.{make_usage}
+use Rattle.hidreport_fields.specs.declared.field.usage.Usage.{Usage}
 use Rattle.hidreport.specs.declared.parser.local_usages.LocalUsage.{LocalUsage}
 
 -- the single usage of a local item, if it is one

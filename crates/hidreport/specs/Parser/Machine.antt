@@ -8,12 +8,14 @@ use Rattle.hidreport_items.specs.declared.item.ItemType.{ItemType}
 use Rattle.hidreport.specs.Faults.{Counts, item_fault}
 use Rattle.hidreport.specs.Fields.{fields_of, fields_made, list_or_none}
 use Rattle.hidreport.specs.ItemState.{ItemState, first_of, paged_local}
-use Rattle.hidreport.specs.Lookup.{reports_of}
-use Rattle.hidreport.specs.Making.{extent, same_key}
+use Rattle.hidreport_fields.specs.Lookup.{reports_of}
+use Rattle.hidreport.specs.Making.{extent}
+use Rattle.hidreport_fields.specs.ReportIds.{same_key}
 use Rattle.hidreport.specs.Meaning.{firsts_after}
 use Rattle.hidreport.specs.MeaningFault.{MeaningFault}
-use Rattle.hidreport.specs.Places.{id_bits, bits_of}
-use Rattle.hidreport.specs.Records.{CollectionRecord, FieldRecord, ReportRecord, DescriptorRecord}
+use Rattle.hidreport_fields.specs.ReportIds.{id_bits}
+use Rattle.hidreport.specs.Places.{bits_of}
+use Rattle.hidreport_fields.specs.Records.{CollectionRecord, FieldRecord, ReportRecord, DescriptorRecord}
 use Rattle.hidreport.specs.Usages.{usages_of}
 use Rattle.hidreport.specs.declared.parse_options.ParseOptions.{ParseOptions}
 use Rattle.hidreport.specs.declared.parser.paged_local.PagedLocal.{PagedLocal}

@@ -1,9 +1,9 @@
 -- The open collections as the parser holds them.
 use Rattle.std.specs.Prelude.{ℕ, List}
 use Rattle.hidreport.specs.Parser.Usages.{between}
-use Rattle.hidreport.specs.Records.{CollectionRecord}
-use Rattle.hidreport.specs.CollectionUsages.{collection_usages}
-use Rattle.hidreport.specs.declared.field.usage.Usage.{Usage}
+use Rattle.hidreport_fields.specs.Records.{CollectionRecord}
+use Rattle.hidreport_fields.specs.CollectionUsages.{collection_usages}
+use Rattle.hidreport_fields.specs.declared.field.usage.Usage.{Usage}
 use Rattle.hidreport.specs.declared.parser.open_collection.OpenUsages.{OpenUsages}
 use Rattle.hidreport.specs.declared.parser.open_collection.OpenUsages.TheVariants as lists
 

@@ -7,8 +7,9 @@ use Rattle.hidreport.specs.HostUsages.{host_spans, span_usages}
 use Rattle.hidreport.specs.ItemState.{ItemState}
 use Rattle.hidreport.specs.MeaningFault.{MeaningFault}
 use Rattle.hidreport.specs.Parser.Locals.{usage_under}
-use Rattle.hidreport.specs.Usages.{UsageList, range_from, usages_of}
-use Rattle.hidreport.specs.declared.field.usage.Usage.{Usage}
+use Rattle.hidreport.specs.Usages.{UsageList, usages_of}
+use Rattle.hidreport_fields.specs.UsageRange.{range_from}
+use Rattle.hidreport_fields.specs.declared.field.usage.Usage.{Usage}
 use Rattle.hidreport.specs.declared.parser.local_usages.LocalUsage.{LocalUsage}
 use Rattle.hidreport.specs.declared.parser.usage_bounds.UsageBounds.{UsageBounds}
 use Rattle.hidreport.specs.declared.parser.usage_span.UsageSpan.{UsageSpan}

@@ -4,9 +4,9 @@ ghost use Rattle.std.specs.Prelude.{◌≡◌, ◌*◌, ◌-◌, ◌≤◌, ◌^
 ghost use Rattle.hidreport.specs.Parser.Budget.{weight_of_each};
 ghost use Rattle.hidreport.specs.Parser.Usages.{usage_list};
 
-use crate::field::data_item::DataItem;
 use crate::parser::fault::Fault;
 use crate::parser::usages::Usages;
+use hidreport_fields::DataItem;
 use std::marker::Model;
 
 /// How much a parse may still list, in what `try_from_within` counts; without a limit, anything.

@@ -1,6 +1,6 @@
 //! The values of global items in force (Section 6.2.2.7).
-use crate::field::measures::Measures;
 use crate::parser::extent::Extent;
+use hidreport_fields::Measures;
 use hidreport_items::GlobalItem;
 use hidreport_types::{
     LogicalMaximum, LogicalMinimum, PhysicalMaximum, PhysicalMinimum, ReportCount, ReportId,

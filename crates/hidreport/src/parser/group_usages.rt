@@ -2,14 +2,13 @@
 ghost use Rattle.std.specs.Prelude.{◌≡◌, IfOk, map, take};
 ghost use Rattle.hidreport.specs.Parser.Locals.{usage_under};
 
-use crate::field::Field;
-use crate::field::usage::Usage;
 use crate::parser::host_usages;
 use crate::parser::layout::Layout;
 use crate::parser::local_usages::LocalUsage;
 use crate::parser::usage_bounds::UsageBounds;
 use crate::parser::usage_span::UsageSpan;
 use crate::parser::usages::Usages;
+use hidreport_fields::{Field, Usage};
 use hidreport_types::UsagePage;
 use std::alloc::{AllocError, Global};
 
@@ -36,7 +35,7 @@ impl GroupUsages {
     ghost use Rattle.hidreport.specs.Parser.Groups.{HasFirst, own_usages};
     ghost use Rattle.hidreport.specs.Parser.Layout.{IsPossible, laid_out};
     ghost use Rattle.hidreport.specs.Parser.Usages.{usage_list};
-    ghost use Rattle.hidreport.specs.Views.{field_record};
+    ghost use Rattle.hidreport_fields.specs.Views.{field_record};
 
     /// All of the usages, for an array.
     pub(crate) fn all(alloc: Global, usages: &Usages) -> Result<GroupUsages, AllocError>

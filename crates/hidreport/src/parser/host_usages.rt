@@ -4,9 +4,9 @@ ghost use Rattle.std.specs.List.{list_any};
 ghost use Rattle.hidreport.specs.Fields.{usage_at};
 ghost use Rattle.hidreport.specs.HostUsages.{completed, first_set, host_spans, minimum_behind, opens_set, span_of, spans, span_usages};
 
-use crate::field::usage::Usage;
 use crate::parser::paged_local::PagedLocal;
 use crate::parser::usage_span::UsageSpan;
+use hidreport_fields::Usage;
 use hidreport_items::LocalItem;
 use hidreport_types::{UsageId, UsagePage};
 use std::alloc::{AllocError, Global};

@@ -3,15 +3,11 @@ ghost use Rattle.std.specs.Prelude.{◌≡◌, ◌<◌, length, IfSome};
 ghost use Rattle.hidreport.specs.Fields.{usage_at};
 ghost use Rattle.hidreport.specs.Parser.Usages.{usage_list};
 
-use crate::field::array_field::ArrayField;
-use crate::field::collection::Collection;
-use crate::field::constant_field::ConstantField;
-use crate::field::data_item::DataItem;
-use crate::field::measures::Measures;
-use crate::field::usage::Usage;
-use crate::field::variable_field::VariableField;
-use crate::field::{Field, FieldId};
 use crate::parser::usages::Usages;
+use hidreport_fields::{
+    Choices, Collection, DataItem, Field, Measures, Place, Usage, make_array, make_padding,
+    make_variable, numbered_field,
+};
 use hidreport_types::{ReportCount, ReportId};
 use std::alloc::{AllocError, Global};
 use std::ops::Range;
@@ -34,13 +30,14 @@ pub(crate) struct Layout {
 impl Layout {
     ghost use Rattle.std.specs.Arc.{arc_slice_items};
     ghost use Rattle.std.specs.Prelude.{◌≡◌, ◌+◌, ◌++◌, ◌*◌, ◌<◌, ◌≤◌, ◌^◌, [], false, Some, length, IfOk, OnOk, map, option_map, slice_get};
-    ghost use Rattle.hidreport.specs.Fields.{each_from, field_count, make_place};
+    ghost use Rattle.hidreport.specs.Fields.{each_from, make_place};
+    ghost use Rattle.hidreport_fields.specs.ItemParts.{field_count};
     ghost use Rattle.hidreport.specs.Parser.Groups.{group_of};
     ghost use Rattle.hidreport.specs.Usages.{UsageList};
     ghost use Rattle.hidreport.specs.Parser.Layout.{IsPossible, beginning_of, laid_out, shared_list, shared_of, variable_of, variable_with};
     ghost use Rattle.hidreport.specs.Parser.Usages.{usage_list};
-    ghost use Rattle.hidreport.specs.Records.{ArrayRecord, ConstantRecord};
-    ghost use Rattle.hidreport.specs.Views.{field_record};
+    ghost use Rattle.hidreport_fields.specs.Records.{ArrayRecord, ConstantRecord};
+    ghost use Rattle.hidreport_fields.specs.Views.{field_record, placed_at};
 
     /// The same once more, in the same collections.
     pub(crate) fn copy(&self) -> Result<Layout, AllocError>
@@ -120,11 +117,7 @@ impl Layout {
         ensures { field_record result ≡ ConstantRecord
             (make_place (beginning_of self.now) (self.now.size * self.now.count)) }
     {
-        Field::Constant(ConstantField {
-            id: FieldId::new(self.first_id as u32),
-            report_id: self.report_id,
-            bits: self.all_bits(),
-        })
+        make_padding(self.place_of_all())
     }
 
     /// Adds the fields of a variable item, for which the room is asked at once. Of many spans its
@@ -159,21 +152,12 @@ impl Layout {
         requires collections { arc_slice_items collections ≡ shared_list self.now.collections }
         ensures { field_record result ≡ variable_with self.now usage c }
     {
-        let measures = &self.measures;
-        Field::Variable(VariableField {
-            id: FieldId::new((self.first_id + c as u64) as u32),
+        let place = Place {
+            id: numbered_field((self.first_id + c as u64) as u32),
             report_id: self.report_id,
             bits: self.bits(c),
-            usage,
-            logical_minimum: measures.logical_minimum,
-            logical_maximum: measures.logical_maximum,
-            physical_minimum: measures.physical_minimum,
-            physical_maximum: measures.physical_maximum,
-            unit: measures.unit,
-            unit_exponent: measures.unit_exponent,
-            collections,
-            item: self.item,
-        })
+        };
+        make_variable(place, usage, &self.measures, &self.item, collections)
     }
 
     /// The field of an array item, which has all the usages.
@@ -186,23 +170,28 @@ impl Layout {
             (usage_list usages.now).usages (usage_list usages.now).is_range self.now.count
             (shared_of self.now)) }
     {
-        let measures = &self.measures;
-        Ok(Field::Array(ArrayField {
-            id: FieldId::new(self.first_id as u32),
-            report_id: self.report_id,
-            bits: self.all_bits(),
+        let choices = Choices {
             is_usage_range: usages.is_range(),
             usages: usages.list(alloc)?,
             report_count: self.report_count.unwrap_or(ReportCount::from(0)),
-            logical_minimum: measures.logical_minimum,
-            logical_maximum: measures.logical_maximum,
-            physical_minimum: measures.physical_minimum,
-            physical_maximum: measures.physical_maximum,
-            unit: measures.unit,
-            unit_exponent: measures.unit_exponent,
-            collections: self.shared_collections(alloc)?,
-            item: self.item,
-        }))
+        };
+        let collections = self.shared_collections(alloc)?;
+        let place = self.place_of_all();
+        Ok(make_array(place, choices, &self.measures, &self.item, collections))
+    }
+
+    /// Where one field of all elements lies.
+    fn place_of_all(&self) -> Place
+        requires ids { self.now.first_id < 2 ^ 32 }
+        requires bits { self.now.first_bit + self.now.size * self.now.count < 2 ^ 64 }
+        ensures { placed_at result.id result.report_id result.bits
+            ≡ make_place (beginning_of self.now) (self.now.size * self.now.count) }
+    {
+        Place {
+            id: numbered_field(self.first_id as u32),
+            report_id: self.report_id,
+            bits: self.all_bits(),
+        }
     }
 
     /// The collections that the item's fields lie in.

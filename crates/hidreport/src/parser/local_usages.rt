@@ -1,7 +1,7 @@
 //! The single usages among the local items in force (Section 6.2.2.8).
 ghost use Rattle.std.specs.Prelude.{◌≡◌};
 
-use crate::field::usage::Usage;
+use hidreport_fields::Usage;
 use hidreport_types::{UsageId, UsagePage};
 use std::alloc::{AllocError, Global};
 use std::marker::Model;

@@ -1,7 +1,7 @@
 //! A collection that is open (Section 6.2.2.6).
-use crate::field::collection::{Collection, CollectionId, CollectionUsages};
 use crate::parser::usage_bounds::UsageBounds;
 use crate::parser::usages::Usages;
+use hidreport_fields::{Collection, CollectionUsages, make_collection, numbered_collection};
 use hidreport_items::CollectionItem;
 use std::alloc::{AllocError, Global};
 use std::marker::Model;
@@ -28,7 +28,7 @@ pub(crate) enum OpenUsages {
 
 impl Model for OpenCollection {
     ghost use Rattle.hidreport.specs.Parser.Opened.{open_usages};
-    ghost use Rattle.hidreport.specs.Records.{CollectionRecord};
+    ghost use Rattle.hidreport_fields.specs.Records.{CollectionRecord};
 
     ghost Value = { CollectionRecord };
 
@@ -41,7 +41,7 @@ impl Model for OpenCollection {
 
 impl OpenCollection {
     ghost use Rattle.std.specs.Prelude.{◌≡◌, ◌≤◌, ◌^◌, IfOk};
-    ghost use Rattle.hidreport.specs.CollectionUsages.{collection_usages};
+    ghost use Rattle.hidreport_fields.specs.CollectionUsages.{collection_usages};
     ghost use Rattle.hidreport.specs.Parser.Usages.{usage_list};
     ghost use Rattle.hidreport.specs.Weight.{collection_weight};
 
@@ -94,9 +94,9 @@ impl OpenCollection {
         ensures value { IfOk result (λ collection. collection ≡ self.old) }
         ensures same { self.new ≡ self.old }
     {
-        let id = CollectionId::new(self.number);
+        let id = numbered_collection(self.number);
         let usages = self.listed(alloc)?;
-        Ok(Collection::new(id, self.collection_type, usages))
+        Ok(make_collection(id, self.collection_type, usages))
     }
 
     /// The list of its usages, which is made at need.

@@ -1,10 +1,9 @@
 //! The collections that are open (Section 6.2.2.6).
 ghost use Rattle.std.specs.Prelude.{◌≡◌, IfOk};
 
-use crate::field::collection::Collection;
-use crate::field::data_item::DataItem;
 use crate::parser::open_collection::OpenCollection;
 use crate::parser::usages::Usages;
+use hidreport_fields::{Collection, DataItem};
 use hidreport_items::CollectionItem;
 use std::alloc::{AllocError, Global};
 use std::marker::Model;

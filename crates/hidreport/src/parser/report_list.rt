@@ -24,7 +24,7 @@ impl Model for ReportList {
     ghost use Rattle.std.specs.Prelude.{◌≡◌, ◌*◌, List, IfSome};
     ghost use Rattle.hidreport.specs.Parser.Ids.{AllBelow};
     ghost use Rattle.hidreport.specs.Parser.Machine.{index_in};
-    ghost use Rattle.hidreport.specs.Records.{ReportRecord};
+    ghost use Rattle.hidreport_fields.specs.Records.{ReportRecord};
 
     ghost Value = { List ReportRecord };
 

@@ -1,10 +1,10 @@
 //! The reports of the three directions so far (Section 5.6).
-use crate::field::data_item::Direction;
 use crate::parser::layout::Layout;
 use crate::parser::report_list::ReportList;
 use crate::parser::slot::{Room, Slot};
 use crate::parser::usages::Usages;
 use crate::report::outline_reports::OutlineReports;
+use hidreport_fields::Direction;
 use hidreport_types::ReportId;
 use std::alloc::{AllocError, Global};
 use std::marker::Model;
@@ -18,7 +18,7 @@ pub(crate) struct ReportLists {
 }
 
 impl Model for ReportLists {
-    ghost use Rattle.hidreport.specs.Records.{DescriptorRecord};
+    ghost use Rattle.hidreport_fields.specs.Records.{DescriptorRecord};
 
     ghost Value = { DescriptorRecord };
 
@@ -29,7 +29,7 @@ impl ReportLists {
     ghost use Rattle.std.specs.Prelude.{◌≡◌, ◌+◌, ◌<◌, ◌^◌, [], OnOk};
     ghost use Rattle.hidreport.specs.ItemState.{first_of};
     ghost use Rattle.hidreport.specs.Parser.Layout.{IsPossible, laid_out};
-    ghost use Rattle.hidreport.specs.Lookup.{reports_of};
+    ghost use Rattle.hidreport_fields.specs.Lookup.{reports_of};
     ghost use Rattle.hidreport.specs.Parser.Machine.{added_to, first_id, index_in, size_in, with_reports};
     ghost use Rattle.hidreport.specs.Parser.Usages.{usage_list};
 

@@ -1,12 +1,12 @@
 //! The report that a data item adds its fields to (Sections 5.6 and 6.2.2.7).
 ghost use Rattle.std.specs.Prelude.{◌≡◌, ◌+◌, ◌*◌, ◌<◌, ◌≤◌, ◌^◌, IfSome, IsSomeAnd, OnOk, IsTrue};
 ghost use Rattle.hidreport.specs.ItemState.{first_of};
-ghost use Rattle.hidreport.specs.Making.{same_key};
+ghost use Rattle.hidreport_fields.specs.ReportIds.{same_key};
 ghost use Rattle.hidreport.specs.Parser.Ids.{AllBelow};
 ghost use Rattle.hidreport.specs.Parser.Layout.{IsPossible, laid_out};
 ghost use Rattle.hidreport.specs.Parser.Machine.{added_to, first_id, index_in, size_in};
 ghost use Rattle.hidreport.specs.Parser.Usages.{usage_list};
-ghost use Rattle.hidreport.specs.Places.{id_bits};
+ghost use Rattle.hidreport_fields.specs.ReportIds.{id_bits};
 
 use crate::parser::layout::Layout;
 use crate::parser::usages::Usages;

@@ -3,7 +3,6 @@ ghost use Rattle.std.specs.Prelude.{◌≡◌, ◌≢◌, ◌+◌, ◌*◌, ◌<
 ghost use Rattle.hidreport.specs.Parser.Refusals.{IsFaultOf, fault_named};
 ghost use Rattle.hidreport.specs.Parser.Usages.{HasUsages, spans_in, usages_fault};
 
-use crate::field::data_item::DataItem;
 use crate::parse_options::ParseOptions;
 use crate::parser::budget::{Budget, weight_of_each};
 use crate::parser::fault::Fault;
@@ -14,6 +13,7 @@ use crate::parser::report_lists::ReportLists;
 use crate::parser::usage_span::UsageSpan;
 use crate::parser::usages::{Usages, spans_in, usages_of};
 use crate::report::outline_reports::OutlineReports;
+use hidreport_fields::DataItem;
 use hidreport_items::{CollectionItem, GlobalItem, ItemType, MainItem};
 use std::alloc::{AllocError, Global};
 use std::marker::Model;
@@ -55,7 +55,8 @@ impl State {
     ghost use Rattle.hidreport.specs.Parser.Budget.{is_past, left_behind, stop_in, weight_in};
     ghost use Rattle.hidreport.specs.Parser.Machine.{fault_in, first_state, next_opened, next_state, step};
     ghost use Rattle.hidreport.specs.Parser.Refusals.{IsFaultOf};
-    ghost use Rattle.hidreport.specs.Parser.DataItem.{as_item, collection, end_collection};
+    ghost use Rattle.hidreport_fields.specs.DataItem.{as_item};
+    ghost use Rattle.hidreport.specs.Parser.DataItem.{collection, end_collection};
 
     /// Before the first item.
     pub(crate) fn new(alloc: Global, options: ParseOptions) -> State

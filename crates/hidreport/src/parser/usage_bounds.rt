@@ -1,9 +1,9 @@
 //! Usages from a minimum to a maximum (Section 6.2.2.8).
 ghost use Rattle.std.specs.Prelude.{◌≡◌, ◌%◌, IfOk};
-ghost use Rattle.hidreport.specs.Usages.{make_usage};
+ghost use Rattle.hidreport_fields.specs.UsageRange.{make_usage};
 
-use crate::field::usage::Usage;
 use crate::parser::local_usages::LocalUsage;
+use hidreport_fields::Usage;
 use hidreport_types::{UsageId, UsagePage};
 use std::alloc::{AllocError, Global};
 

@@ -1,7 +1,7 @@
 //! The usages of one local item, as hosts read them (Section 6.2.2.8).
 ghost use Rattle.std.specs.Prelude.{◌≡◌};
 
-use crate::field::usage::Usage;
+use hidreport_fields::Usage;
 use hidreport_types::{UsageId, UsagePage};
 
 /// The usages that one local item names, as hosts read them (Section 6.2.2.8): all numbers from the

@@ -7,7 +7,6 @@ ghost use Rattle.hidreport.specs.ItemState.{local_items};
 ghost use Rattle.hidreport.specs.Parser.Usages.{spans_in, usage_list};
 ghost use Rattle.hidreport.specs.Usages.{as_single, single_usages, standard_usages, usages_of, usages_of_spans};
 
-use crate::field::usage::Usage;
 use crate::parser::fault::Fault;
 use crate::parser::host_usages;
 use crate::parser::item_state_table::ItemStateTable;
@@ -16,6 +15,7 @@ use crate::parser::locals::Locals;
 use crate::parser::usage_bounds::UsageBounds;
 use crate::parser::usage_span::UsageSpan;
 use crate::parser::usages_by::UsagesBy;
+use hidreport_fields::Usage;
 use hidreport_types::UsagePage;
 use std::alloc::{AllocError, Global};
 

@@ -4,13 +4,10 @@ ghost use Rattle.hidreport.specs.Parser.Groups.{own_usages};
 ghost use Rattle.hidreport.specs.Parser.Layout.{IsPossible, laid_out};
 ghost use Rattle.hidreport.specs.Parser.Usages.{usage_list};
 
-use crate::field::Field;
-use crate::field::collection::Collection;
-use crate::field::field_attributes::FieldAttributes;
-use crate::field::usage::Usage;
 use crate::parser::group_usages::GroupUsages;
 use crate::parser::layout::Layout;
 use crate::parser::usages::Usages;
+use hidreport_fields::{Collection, Field, FieldAttributes, Usage};
 use hidreport_items::ItemFlags;
 use hidreport_types::{
     LogicalMaximum, LogicalMinimum, PhysicalMaximum, PhysicalMinimum, ReportId, Unit, UnitExponent,
@@ -42,12 +39,13 @@ impl Model for Group {
 
 impl Group {
     ghost use Rattle.std.specs.Prelude.{◌≡◌, ◌+◌, ◌*◌, ◌++◌, [], IfOk, IfSome, IsNone, OnOk, is_some, length, map, nat_lt, option_map, slice_get};
-    ghost use Rattle.hidreport.specs.Fields.{field_count, usage_at};
+    ghost use Rattle.hidreport_fields.specs.ItemParts.{field_count};
+    ghost use Rattle.hidreport.specs.Fields.{usage_at};
     ghost use Rattle.hidreport.specs.Groups.{group_fields};
     ghost use Rattle.hidreport.specs.Parser.Groups.{group_of};
     ghost use Rattle.hidreport.specs.Parser.Layout.{IsPossible, laid_out};
     ghost use Rattle.hidreport.specs.Parser.Usages.{usage_list};
-    ghost use Rattle.hidreport.specs.Views.{field_record};
+    ghost use Rattle.hidreport_fields.specs.Views.{field_record};
 
     /// The fields that are laid out so, with these usages.
     pub(crate) fn new(alloc: Global, layout: &Layout, usages: &Usages) -> Result<Group, AllocError>

@@ -2,16 +2,16 @@
 ghost use Rattle.std.specs.Prelude.{◌≡◌, IfOk, map, option_copied};
 ghost use Rattle.hidreport.specs.Blank.{blank_bytes};
 ghost use Rattle.hidreport.specs.Groups.{fields_of_groups};
-ghost use Rattle.hidreport.specs.Lookup.{report_with};
-ghost use Rattle.hidreport.specs.Making.{same_key};
-ghost use Rattle.hidreport.specs.Views.{field_record};
+ghost use Rattle.hidreport_fields.specs.Lookup.{report_with};
+ghost use Rattle.hidreport_fields.specs.ReportIds.{same_key};
+ghost use Rattle.hidreport_fields.specs.Views.{field_record};
 ghost use Rattle.hidreport.specs.Working.{TakesAll};
-ghost use Rattle.hidreport.specs.WritingLaws.{IsWhole};
+ghost use Rattle.hidreport_fields.specs.WritingLaws.{IsWhole};
 
-use crate::field::Field;
 use crate::report::group::Group;
 use crate::report::reports::is_same_id;
 use crate::report::{RDescReport, blank_of};
+use hidreport_fields::Field;
 use hidreport_types::ReportId;
 use std::alloc::{AllocError, Global};
 use std::marker::Model;
@@ -26,7 +26,7 @@ pub struct OutlineReport {
 
 impl Model for OutlineReport {
     ghost use Rattle.hidreport.specs.Groups.{fields_of_groups};
-    ghost use Rattle.hidreport.specs.Records.{ReportRecord};
+    ghost use Rattle.hidreport_fields.specs.Records.{ReportRecord};
 
     ghost Value = { ReportRecord };
 

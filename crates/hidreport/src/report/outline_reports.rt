@@ -1,10 +1,10 @@
 //! The reports of the three directions, their fields in groups.
 ghost use Rattle.std.specs.Prelude.{◌≡◌, IfOk};
 
-use crate::field::data_item::Direction;
 use crate::report::RDescReport;
 use crate::report::outline_report::{OutlineReport, find_with_id};
 use crate::report::reports::Reports;
+use hidreport_fields::Direction;
 use hidreport_types::ReportId;
 use std::alloc::{AllocError, Global};
 use std::marker::Model;
@@ -18,7 +18,7 @@ pub(crate) struct OutlineReports {
 }
 
 impl Model for OutlineReports {
-    ghost use Rattle.hidreport.specs.Records.{DescriptorRecord};
+    ghost use Rattle.hidreport_fields.specs.Records.{DescriptorRecord};
 
     ghost Value = { DescriptorRecord };
 
@@ -31,7 +31,7 @@ impl Model for OutlineReports {
 
 impl OutlineReports {
     ghost use Rattle.std.specs.Prelude.{◌≡◌, IfOk, option_copied};
-    ghost use Rattle.hidreport.specs.Lookup.{find_report, reports_of};
+    ghost use Rattle.hidreport_fields.specs.Lookup.{find_report, reports_of};
 
     /// Those of a direction.
     pub(crate) fn of(&self, direction: Direction) -> &[OutlineReport]

@@ -3,16 +3,16 @@ ghost use Rattle.std.specs.Prelude.{◌≡◌, ◌≢◌, Err, IfErr, IfOk, List
 ghost use Rattle.hidreport_items.specs.Spelling.{AreBytes};
 ghost use Rattle.hidreport_lists.specs.Answer.{IsOfReading};
 ghost use Rattle.hidreport.specs.Reader.{ReadsInto, available_numbers, report_numbers};
-ghost use Rattle.hidreport.specs.Records.{FieldRecord};
+ghost use Rattle.hidreport_fields.specs.Records.{FieldRecord};
 ghost use Rattle.hidreport.specs.ReportWriting.{IsReportWritten, report_written};
 ghost use Rattle.hidreport.specs.Runs.{StandFor, count_in, runs_available, runs_read, runs_written};
-ghost use Rattle.hidreport.specs.WritingValues.{Inserts, value_count};
+ghost use Rattle.hidreport_fields.specs.WritingValues.{Inserts, value_count};
 
 mod run;
 mod run_list;
 
-use crate::field::insert_error::InsertError;
 use crate::report::{RDescReport, Report};
+use hidreport_fields::InsertError;
 use hidreport_lists::ParserError;
 use run_list::RunList;
 use std::alloc::{AllocError, Global};

@@ -1,10 +1,10 @@
 //! The reports of the three directions, their fields listed.
 ghost use Rattle.std.specs.Prelude.{◌≡◌, Some, IfSome, option_copied};
-ghost use Rattle.hidreport.specs.Lookup.{IsOneWith, report_with};
-ghost use Rattle.hidreport.specs.Making.{same_key};
+ghost use Rattle.hidreport_fields.specs.Lookup.{IsOneWith, report_with};
+ghost use Rattle.hidreport_fields.specs.ReportIds.{same_key};
 
-use crate::field::data_item::Direction;
 use crate::report::RDescReport;
+use hidreport_fields::Direction;
 use hidreport_types::ReportId;
 use std::alloc::Global;
 use std::marker::Model;
@@ -18,7 +18,7 @@ pub(crate) struct Reports {
 }
 
 impl Model for Reports {
-    ghost use Rattle.hidreport.specs.Records.{DescriptorRecord};
+    ghost use Rattle.hidreport_fields.specs.Records.{DescriptorRecord};
 
     ghost Value = { DescriptorRecord };
 
@@ -31,7 +31,7 @@ impl Model for Reports {
 
 impl Reports {
     ghost use Rattle.std.specs.Prelude.{◌≡◌, ◌↔◌, [], IsTrue};
-    ghost use Rattle.hidreport.specs.Lookup.{reports_of};
+    ghost use Rattle.hidreport_fields.specs.Lookup.{reports_of};
 
     /// There are none. It takes no memory.
     pub(crate) fn new(alloc: Global) -> Reports

@@ -1,5 +1,5 @@
 use Rattle.std.specs.Prelude.{negsuc, pos, unwrap_or}
-use Rattle.hidreport.proofs.ScalingLemmas.{line-is-scale, physical-is-scale}
+use Rattle.hidreport_fields.proofs.ScalingLemmas.{line-is-scale, physical-is-scale}
 use Rattle.hidreport.proofs.laws.scaled_values_lie_on_a_line.Goals as goal
 
 pub returns : goal.returns

@@ -10,7 +10,7 @@ use Rattle.hidreport_lists.specs.declared.front.FrontItem.{FrontItem}
 use Rattle.hidreport_lists.proofs.FrontLemmas.{front-first}
 use Rattle.hidreport_lists.proofs.ItemLemmas.{items_from-fault, refuses-invalid, with_front}
 use Rattle.hidreport.specs.Parser.Budget.{walk_items}
-use Rattle.hidreport.specs.Records.{DescriptorRecord}
+use Rattle.hidreport_fields.specs.Records.{DescriptorRecord}
 use Rattle.hidreport.proofs.ParseLemmas.{shorter, stopped, walk-some, walked-on}
 use Rattle.hidreport.proofs.parser.parse.Goals as goal
 

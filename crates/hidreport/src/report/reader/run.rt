@@ -3,15 +3,15 @@ ghost use Rattle.std.specs.Prelude.{◌≡◌, ◌≢◌, ◌+◌, ◌-◌, ◌*
 ghost use Rattle.std.specs.List.{list_all};
 ghost use Rattle.hidreport_items.specs.Numbers.{word};
 ghost use Rattle.hidreport_lists.specs.Answer.{IsOfReading, Refuses};
-ghost use Rattle.hidreport.specs.BitValue.{sum_of_bits, value};
+ghost use Rattle.hidreport_fields.specs.BitValue.{sum_of_bits, value};
 ghost use Rattle.hidreport.specs.Reader.{begins_otherwise, each_alone, numbers_before};
 ghost use Rattle.hidreport.specs.Runs.{HasNarrowValues, HasAllValues, IsPlain, Joins, is_inside, numbers_from, run_in_id, run_of, run_reads, run_value, set_from};
-ghost use Rattle.hidreport.specs.Views.{field_record};
-ghost use Rattle.hidreport.specs.WritingValues.{fits, put};
+ghost use Rattle.hidreport_fields.specs.Views.{field_record};
+ghost use Rattle.hidreport_fields.specs.WritingValues.{fits, put};
 
-use crate::field::Field;
-use crate::field::value::{check_id, read_bits};
-use crate::field::written_bits::{all_fit, begins_in_id, put_values};
+use hidreport_fields::{
+    Field, all_fit, begins_in_id, check_id, put_values, read_bits, width_of_elements,
+};
 use hidreport_lists::ParserError;
 use hidreport_types::ReportId;
 use std::marker::Model;
@@ -49,18 +49,19 @@ impl Run {
         ensures some { IfSome result (λ run. run_of (field_record field.now) ≡ run ∷ []) }
         ensures none { IsNone result → run_of (field_record field.now) ≡ [] }
     {
+        let report_id = field.report_id();
         match field {
             Field::Variable(field) => Some(Run {
-                report_id: field.report_id,
+                report_id,
                 first: field.bits.start,
                 width: field.bits.end.saturating_sub(field.bits.start),
                 count: 1,
                 is_signed: field.is_signed(),
             }),
             Field::Array(field) => Some(Run {
-                report_id: field.report_id,
+                report_id,
                 first: field.bits.start,
-                width: field.element_width(),
+                width: width_of_elements(field),
                 count: usize::from(field.report_count),
                 is_signed: field.is_signed(),
             }),

@@ -5,17 +5,16 @@ ghost use Rattle.hidreport_items.specs.Numbers.{word};
 ghost use Rattle.hidreport_items.specs.Spelling.{AreBytes};
 ghost use Rattle.hidreport_lists.specs.Answer.{IsOfReading, Refuses};
 ghost use Rattle.hidreport.specs.Reader.{begins_otherwise, filled, numbers_before};
-ghost use Rattle.hidreport.specs.Reading.{with_id};
+ghost use Rattle.hidreport_fields.specs.Reading.{with_id};
 ghost use Rattle.hidreport.specs.Runs.{HasNarrowValues, HasAllValues, IsPlain, RunRecord, StandFor, all_numbers, count_in, run_in_id, runs_alone, runs_fit, runs_of, runs_placed, runs_put, runs_read};
 ghost use Rattle.hidreport.specs.SameRuns.{SameRuns};
-ghost use Rattle.hidreport.specs.Tiling.{Each};
-ghost use Rattle.hidreport.specs.Views.{field_record};
-ghost use Rattle.hidreport.specs.WritingValues.{where_read};
-ghost use Rattle.hidreport.specs.declared.field.insert_error.InsertError.{InsertError};
+ghost use Rattle.hidreport_fields.specs.Tiling.{Each};
+ghost use Rattle.hidreport_fields.specs.Views.{field_record};
+ghost use Rattle.hidreport_fields.specs.WritingValues.{where_read};
+ghost use Rattle.hidreport_fields.specs.declared.field.insert_error.InsertError.{InsertError};
 
-use crate::field::Field;
-use crate::field::insert_error::InsertError;
 use crate::report::reader::run::{Run, short_word};
+use hidreport_fields::{Field, InsertError};
 use hidreport_lists::ParserError;
 use hidreport_types::ReportId;
 use std::alloc::{AllocError, Global};
@@ -35,7 +34,7 @@ pub(crate) struct RunList {
 impl Model for RunList {
     ghost use Rattle.std.specs.Prelude.{IfSome, List};
     ghost use Rattle.hidreport.specs.Runs.{IsPlain, RunRecord};
-    ghost use Rattle.hidreport.specs.Tiling.{Each};
+    ghost use Rattle.hidreport_fields.specs.Tiling.{Each};
 
     ghost Value = { List RunRecord };
 

@@ -1,7 +1,7 @@
 use Rattle.std.proofs.Common.{◌≡◌, length, ap, arith, take, refl}
 use Rattle.std.specs.Prelude.{flat_map}
 use Rattle.hidreport.specs.Views.{field_record}
-use Rattle.hidreport.specs.declared.field.Field.{Field}
+use Rattle.hidreport_fields.specs.declared.field.Field.{Field}
 use Rattle.hidreport_c.proofs.ListsLemmas.{more-joined}
 use Rattle.hidreport_c.proofs.ReadingLemmas.{at-least}
 use Rattle.hidreport_c.proofs.ListingLemmas.{by-field, flat-all, flat-next, flat-within}

@@ -1,7 +1,7 @@
 use Rattle.std.proofs.Common.{◌≡◌, length, take}
 use Rattle.std.specs.Prelude.{flat_map}
 use Rattle.hidreport.specs.Views.{field_record}
-use Rattle.hidreport.specs.declared.field.Field.{Field}
+use Rattle.hidreport_fields.specs.declared.field.Field.{Field}
 use Rattle.hidreport_c.specs.Answer.{array_after}
 use Rattle.hidreport_c.proofs.listing.put_fields.Given as goal
 

@@ -3,7 +3,7 @@ use Rattle.std.proofs.lemmas.Int.{to_z-of_z}
 use Rattle.hidreport.specs.Choosing.{usage_chosen}
 use Rattle.hidreport.specs.Records.{ArrayRecord, Attributes, FieldPlace}
 use Rattle.hidreport.specs.UsageNumber.{usage_number}
-use Rattle.hidreport.specs.declared.field.usage.Usage.{Usage}
+use Rattle.hidreport_fields.specs.declared.field.usage.Usage.{Usage}
 use Rattle.hidreport_c.proofs.UsagesLemmas.{meant-chosen}
 use Rattle.hidreport_c.specs.Field.{as_c}
 use Rattle.hidreport_c.specs.Usages.{usage_as_c, usage_meant}

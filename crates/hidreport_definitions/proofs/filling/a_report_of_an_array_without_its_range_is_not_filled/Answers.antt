@@ -1,6 +1,6 @@
 use Rattle.std.proofs.Common.{◌≢◌, ℕ, zero, suc, inr, refl, ap, arith, List, [], ◌∷◌}
 use Rattle.hidreport.specs.Usages.{make_usage, range_from}
-use Rattle.hidreport.specs.declared.field.usage.Usage.{Usage}
+use Rattle.hidreport_fields.specs.declared.field.usage.Usage.{Usage}
 use Rattle.hidreport_definitions.proofs.filling.a_report_of_an_array_without_its_range_is_not_filled.Goals as goal
 
 abbrev first : (Usage → ℕ) → List Usage → ℕ

@@ -4,8 +4,8 @@ use Rattle.hidreport_lists.proofs.CutLemmas.{itemise-items}
 use Rattle.hidreport.specs.Entry.{Entry}
 use Rattle.hidreport.specs.ItemAnswer.{GrammarFault, Insufficient}
 use Rattle.hidreport.specs.ItemType.{ItemType}
-use Rattle.hidreport.specs.declared.field.data_item.Direction.{Direction}
-use Rattle.hidreport.specs.declared.field.data_item.Direction.TheVariants.{Input, Output}
+use Rattle.hidreport_fields.specs.declared.field.data_item.Direction.{Direction}
+use Rattle.hidreport_fields.specs.declared.field.data_item.Direction.TheVariants.{Input, Output}
 use Rattle.hidreport.specs.Making.{extent}
 use Rattle.hidreport.specs.Mending.{PieceRecord, item_in}
 use Rattle.hidreport.specs.Options.{default_options, reading_of}

@@ -2,8 +2,8 @@ use Rattle.std.proofs.Common.{◌≡◌, List, [], ◌∷◌, Option, None, Some
 use Rattle.std.proofs.Common.{length, sym}
 use Rattle.hidreport.specs.Fields.{fields_made}
 use Rattle.hidreport.specs.Kinds.{data_of}
-use Rattle.hidreport.specs.declared.field.data_item.Direction.{Direction}
-use Rattle.hidreport.specs.declared.field.data_item.Direction.TheVariants.{Input, Output}
+use Rattle.hidreport_fields.specs.declared.field.data_item.Direction.{Direction}
+use Rattle.hidreport_fields.specs.declared.field.data_item.Direction.TheVariants.{Input, Output}
 use Rattle.hidreport.specs.Places.{bits_of}
 use Rattle.hidreport_definitions.specs.Repairs.{input}
 use Rattle.hidreport_definitions.proofs.repairs.other_items_move_fields.Goals as goal

@@ -1,5 +1,5 @@
 use Rattle.std.proofs.Common.{ℕ, Option, None, Some, ap, arith}
-use Rattle.hidreport.specs.declared.field.usage.Usage.{Usage}
+use Rattle.hidreport_fields.specs.declared.field.usage.Usage.{Usage}
 use Rattle.hidreport_definitions.proofs.standing.a_number_of_another_usage_is_none_of_this.Goals as goal
 
 abbrev id_in : Option Usage → ℕ

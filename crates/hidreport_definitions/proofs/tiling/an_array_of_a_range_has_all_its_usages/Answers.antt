@@ -1,6 +1,6 @@
 use Rattle.std.proofs.Common.{◌≢◌, ℕ, zero, suc, refl, ap, arith, List, [], ◌∷◌}
 use Rattle.hidreport.specs.Usages.{make_usage, range_from}
-use Rattle.hidreport.specs.declared.field.usage.Usage.{Usage}
+use Rattle.hidreport_fields.specs.declared.field.usage.Usage.{Usage}
 use Rattle.hidreport_definitions.proofs.tiling.an_array_of_a_range_has_all_its_usages.Goals as goal
 
 abbrev first_page : List Usage → ℕ

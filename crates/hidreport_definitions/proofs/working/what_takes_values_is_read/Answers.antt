@@ -5,7 +5,7 @@ use Rattle.std.specs.List.{list_all}
 use Rattle.std.proofs.lemmas.Bool.Decides.{nat_tests}
 use Rattle.hidreport.specs.Answer.{Refusal}
 use Rattle.hidreport.specs.WritingValues.{fits, has_sign, value_count, value_width, where_read}
-use Rattle.hidreport.specs.declared.field.insert_error.InsertError.{InsertError}
+use Rattle.hidreport_fields.specs.declared.field.insert_error.InsertError.{InsertError}
 use Rattle.hidreport_definitions.proofs.working.what_takes_values_is_read.Goals as goal
 
 is-read : {A B : Type 0} (r : Result A Refusal) (answer : Result B InsertError)

@@ -1,7 +1,7 @@
 use Rattle.std.proofs.Common.{◌≡◌, ℕ, List, [], ◌∷◌, Result, Err}
 use Rattle.std.specs.Prelude.{pos}
-use Rattle.hidreport.specs.declared.field.insert_error.InsertError.{InsertError}
-use Rattle.hidreport.specs.declared.field.insert_error.InsertError.TheVariants as refused
+use Rattle.hidreport_fields.specs.declared.field.insert_error.InsertError.{InsertError}
+use Rattle.hidreport_fields.specs.declared.field.insert_error.InsertError.TheVariants as refused
 use Rattle.hidreport_definitions.proofs.writing.a_second_write_counts.Goals as goal
 
 abbrev by : InsertError → Result (List ℕ) InsertError

@@ -2,7 +2,7 @@ use Rattle.std.proofs.Common.{◌≡◌, ℕ, List, [], ◌∷◌, None, Result,
 use Rattle.std.specs.Prelude.{pos}
 use Rattle.hidreport.specs.Records.{ReportRecord}
 use Rattle.hidreport.specs.Tiling.{IsFilled}
-use Rattle.hidreport.specs.declared.field.insert_error.InsertError.{InsertError}
+use Rattle.hidreport_fields.specs.declared.field.insert_error.InsertError.{InsertError}
 use Rattle.hidreport_definitions.proofs.FilledLemmas.{two-filled}
 use Rattle.hidreport_definitions.specs.Summary.{variable_at}
 use Rattle.hidreport_definitions.specs.Tiled.{report_with}

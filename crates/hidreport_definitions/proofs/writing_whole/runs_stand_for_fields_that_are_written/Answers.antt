@@ -1,6 +1,6 @@
 use Rattle.std.proofs.Common.{◌≡◌, ℕ, List, [], ◌∷◌, Result, Ok, Err, arith}
-use Rattle.hidreport.specs.declared.field.insert_error.InsertError.{InsertError}
-use Rattle.hidreport.specs.declared.field.insert_error.InsertError.TheVariants as refused
+use Rattle.hidreport_fields.specs.declared.field.insert_error.InsertError.{InsertError}
+use Rattle.hidreport_fields.specs.declared.field.insert_error.InsertError.TheVariants as refused
 use Rattle.hidreport_definitions.proofs.ByteLemmas.{one}
 use Rattle.hidreport_definitions.proofs.writing_whole.runs_stand_for_fields_that_are_written.Goals as goal
 

@@ -1,5 +1,5 @@
 use Rattle.std.proofs.Common.{◌≡◌, ℕ, List, [], ◌∷◌, Result, Ok, refl}
-use Rattle.hidreport.specs.declared.field.insert_error.InsertError.{InsertError}
+use Rattle.hidreport_fields.specs.declared.field.insert_error.InsertError.{InsertError}
 use Rattle.hidreport_definitions.proofs.FilledLemmas.{byte-filled}
 use Rattle.hidreport_definitions.specs.Tiled.{byte_report}
 use Rattle.hidreport_definitions.proofs.writing_whole.written_at_once_is_written_one_by_one.Goals as goal

@@ -1,5 +1,5 @@
 use Rattle.std.proofs.Common.{IfSome, Option, subst, sym}
-use Rattle.hidreport.specs.Records.{ReportRecord}
+use Rattle.hidreport_fields.specs.Records.{ReportRecord}
 use Rattle.hidreport.specs.Working.{AllOwn, AllWork}
 use Rattle.hidreport.proofs.OwnReportsLemmas.{own-of}
 use Rattle.hidreport.proofs.WorkLemmas.{works-of}

@@ -1,7 +1,7 @@
 use Rattle.std.proofs.Common.{◌≡◌, ◌∙◌, List, Some, ap, subst, sym}
-use Rattle.hidreport.specs.Lookup.{IsOneWith, reports_of}
-use Rattle.hidreport.specs.Records.{ReportRecord}
-use Rattle.hidreport.specs.Tiling.{IsTiled}
+use Rattle.hidreport_fields.specs.Lookup.{IsOneWith, reports_of}
+use Rattle.hidreport_fields.specs.Records.{ReportRecord}
+use Rattle.hidreport_fields.specs.Tiling.{IsTiled}
 use Rattle.hidreport.proofs.LookupLemmas.{own-found, own-ids}
 use Rattle.hidreport.proofs.descriptor.ReportDescriptor.report_with_id.Goals as goal
 

@@ -2,7 +2,7 @@ use Rattle.std.proofs.Common.{◌∙◌, Result, subst, sym}
 use Rattle.std.proofs.lemmas.Result.{err_from_is_err_and}
 use Rattle.hidreport_lists.specs.Answer.{Refusal, Refuses}
 use Rattle.hidreport.specs.Options.{reading_of}
-use Rattle.hidreport.specs.Records.{DescriptorRecord}
+use Rattle.hidreport_fields.specs.Records.{DescriptorRecord}
 use Rattle.hidreport.proofs.BudgetBoundLemmas.{limited-plain}
 use Rattle.hidreport.proofs.ParseLemmas.{bytes-as}
 use Rattle.hidreport.proofs.TilingWalkLemmas.{parse-tiled}

@@ -1,7 +1,7 @@
 use Rattle.std.proofs.Common.{◌∙◌, Result, subst, sym}
 use Rattle.hidreport_lists.specs.Answer.{Answers, Refusal}
 use Rattle.hidreport.specs.Options.{parse_as, reading_of}
-use Rattle.hidreport.specs.Records.{DescriptorRecord}
+use Rattle.hidreport_fields.specs.Records.{DescriptorRecord}
 use Rattle.hidreport.proofs.BudgetBoundLemmas.{limited-bounded, limited-plain}
 use Rattle.hidreport.proofs.KeptItemsLemmas.{parse-kept, parse-rebuilt}
 use Rattle.hidreport.proofs.LongestLemmas.{as-limited, as-never-mismatch, as-never-over, found-ok}

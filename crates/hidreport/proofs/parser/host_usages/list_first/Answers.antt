@@ -1,6 +1,6 @@
 use Rattle.std.proofs.Common.{rules, ◌≡◌, ◌∙◌, ◌+◌, ◌-◌, ◌++◌, List, ap, sym, drop, flat_map, length, min, take, append_assoc}
 use Rattle.hidreport.specs.HostUsages.{span_usages}
-use Rattle.hidreport.specs.declared.field.usage.Usage.{Usage}
+use Rattle.hidreport_fields.specs.declared.field.usage.Usage.{Usage}
 use Rattle.hidreport.proofs.HostUsageLemmas.{rest-of, take-split}
 use Rattle.hidreport.proofs.parser.host_usages.list_first.Goals as goal
 

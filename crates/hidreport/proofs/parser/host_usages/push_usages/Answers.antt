@@ -1,6 +1,6 @@
 use Rattle.std.proofs.Common.{◌≡◌, ◌≤◌, ◌∙◌, ◌+◌, ◌-◌, ◌++◌, ◌∷◌, [], List, ap, sym, add-one, append_assoc, arith}
 use Rattle.hidreport.specs.HostUsages.{usages_from}
-use Rattle.hidreport.specs.declared.field.usage.Usage.{Usage}
+use Rattle.hidreport_fields.specs.declared.field.usage.Usage.{Usage}
 use Rattle.hidreport.proofs.HostUsageLemmas.{length-usages, take-usages, usages-next}
 use Rattle.hidreport.proofs.parser.host_usages.push_usages.Goals as goal
 

@@ -4,8 +4,8 @@ use Rattle.hidreport.specs.Groups.{GroupRecord, fields_of_groups}
 use Rattle.hidreport.specs.Parser.Layout.{laid_out}
 use Rattle.hidreport.specs.Parser.Machine.{index_in}
 use Rattle.hidreport.specs.Parser.Usages.{usage_list}
-use Rattle.hidreport.specs.Places.{id_bits}
-use Rattle.hidreport.specs.Records.{FieldRecord, ReportRecord}
+use Rattle.hidreport_fields.specs.ReportIds.{id_bits}
+use Rattle.hidreport_fields.specs.Records.{FieldRecord, ReportRecord}
 use Rattle.hidreport.proofs.GroupLemmas.{fields-pushed}
 use Rattle.hidreport.proofs.ReportListLemmas.{added_to-found, added_to-new, extended}
 use Rattle.hidreport.proofs.parser.slot.add_fields.Goals as goal

@@ -1,6 +1,6 @@
 use Rattle.std.proofs.Common.{◌≤◌, ◌∙◌, [], length, ap, sym, arith}
 use Rattle.hidreport.specs.Parser.Machine.{index_in}
-use Rattle.hidreport.specs.Records.{ReportRecord}
+use Rattle.hidreport_fields.specs.Records.{ReportRecord}
 use Rattle.hidreport.proofs.ReportListLemmas.{added_to-found, added_to-new}
 use Rattle.hidreport.proofs.parser.slot.size_at.Goals as goal
 

@@ -1,7 +1,8 @@
 use Rattle.std.proofs.Common.{◌≡◌, ◌∙◌, ◌+◌, ◌-◌, ◌∷◌, [], List, Bool, true, length, ap, arith, sym}
 use Rattle.hidreport.specs.HostUsages.{is_lone}
-use Rattle.hidreport.specs.Usages.{UsageList, range_from, usages_of_spans}
-use Rattle.hidreport.specs.declared.field.usage.Usage.{Usage}
+use Rattle.hidreport.specs.Usages.{UsageList, usages_of_spans}
+use Rattle.hidreport_fields.specs.UsageRange.{range_from}
+use Rattle.hidreport_fields.specs.declared.field.usage.Usage.{Usage}
 use Rattle.hidreport.proofs.HostUsageLemmas.{lone-range, lone-so, only}
 use Rattle.hidreport.proofs.parser.usages.host_usages.Goals as goal
 

@@ -1,6 +1,6 @@
 use Rattle.std.proofs.Common.{◌≡◌, rules}
 use Rattle.hidreport.specs.Blank.{blank_bytes}
-use Rattle.hidreport.specs.Records.{ReportRecord}
+use Rattle.hidreport_fields.specs.Records.{ReportRecord}
 use Rattle.hidreport.proofs.BlankLemmas.{takes-all}
 use Rattle.hidreport.proofs.WholeLemmas.{is-whole}
 use Rattle.hidreport.proofs.report.Report.blank.Goals as goal

@@ -1,7 +1,7 @@
 use Rattle.std.proofs.Common.{◌∙◌, ap}
 use Rattle.std.specs.Prelude.{◌==◌, find, option_map}
-use Rattle.hidreport.specs.Records.{place_of}
-use Rattle.hidreport.specs.Views.{field_record}
+use Rattle.hidreport_fields.specs.Records.{place_of}
+use Rattle.hidreport_fields.specs.Views.{field_record}
 use Rattle.hidreport.proofs.FieldLookupLemmas.{find-map}
 use Rattle.hidreport.proofs.report.Report.field.Goals as goal
 

@@ -1,6 +1,6 @@
 use Rattle.std.proofs.Common.{◌≡◌, map, take, true}
 use Rattle.hidreport.specs.Groups.{fields_of_groups}
-use Rattle.hidreport.specs.Views.{field_record}
+use Rattle.hidreport_fields.specs.Views.{field_record}
 use Rattle.hidreport.proofs.report.outline_report.fields_of.Given as goal
 
 abbrev pub invariant-loop-group : goal.invariant-loop-group

@@ -3,7 +3,7 @@ use Rattle.std.proofs.Common.{arith, int_lt, of_z, refl, sym, to_z}
 use Rattle.std.specs.Int.{w32, w64, w128}
 use Rattle.std.proofs.lemmas.Int.{ints}
 use Rattle.hidreport.specs.Scaling.{on_line}
-use Rattle.hidreport.specs.declared.field.fraction.Fraction.{Fraction}
+use Rattle.hidreport_fields.specs.declared.field.fraction.Fraction.{Fraction}
 use Rattle.hidreport_c.specs.Scaling.{fraction_as_c}
 use Rattle.hidreport_c.proofs.structs.HidreportFraction.on_line.Goals as goal
 

@@ -4,9 +4,9 @@ use Rattle.std.proofs.Common.{[], ◌∷◌, Vec, Global}
 use Rattle.hidreport.specs.Fields.{each_from}
 use Rattle.hidreport.specs.Parser.Layout.{variable_of, variable_with}
 use Rattle.hidreport.specs.Parser.Usages.{usage_list}
-use Rattle.hidreport.specs.Views.{field_record}
-use Rattle.hidreport.specs.declared.field.Field.{Field}
-use Rattle.hidreport.specs.declared.field.usage.Usage.{Usage}
+use Rattle.hidreport_fields.specs.Views.{field_record}
+use Rattle.hidreport_fields.specs.declared.field.Field.{Field}
+use Rattle.hidreport_fields.specs.declared.field.usage.Usage.{Usage}
 use Rattle.hidreport.proofs.FieldLemmas.{each_from-behind}
 use Rattle.hidreport.proofs.HostUsageLemmas.{found-listed}
 use Rattle.hidreport.proofs.parser.layout.Layout.add_elements.Goals as goal

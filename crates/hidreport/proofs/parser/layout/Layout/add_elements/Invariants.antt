@@ -2,7 +2,7 @@ use Rattle.std.proofs.Common.{◌≡◌, ◌≤◌, ◌+◌, ◌++◌, map, vec_
 use Rattle.hidreport.specs.Fields.{each_from}
 use Rattle.hidreport.specs.Parser.Layout.{variable_of}
 use Rattle.hidreport.specs.Parser.Usages.{usage_list}
-use Rattle.hidreport.specs.Views.{field_record}
+use Rattle.hidreport_fields.specs.Views.{field_record}
 use Rattle.hidreport.proofs.parser.layout.Layout.add_elements.Given as goal
 
 -- the fields so far, behind those that were there, and room for all

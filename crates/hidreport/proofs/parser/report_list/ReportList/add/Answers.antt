@@ -3,7 +3,7 @@ use Rattle.hidreport.specs.Parser.Ids.{AllBelow}
 use Rattle.hidreport.specs.Parser.Layout.{laid_out}
 use Rattle.hidreport.specs.Parser.Machine.{index_in}
 use Rattle.hidreport.specs.Parser.Usages.{usage_list}
-use Rattle.hidreport.specs.Records.{FieldRecord, ReportRecord}
+use Rattle.hidreport_fields.specs.Records.{FieldRecord, ReportRecord}
 use Rattle.hidreport.proofs.ReportListLemmas.{below-added, index_in-added}
 use Rattle.hidreport.proofs.parser.report_list.ReportList.add.Goals as goal
 

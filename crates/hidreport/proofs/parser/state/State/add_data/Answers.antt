@@ -1,10 +1,11 @@
 use Rattle.std.proofs.Common.{◌≡◌, ◌≤◌, ◌^◌, ◌+◌, ◌*◌, ◌∙◌, ap, sym, subst, arith}
 use Rattle.std.proofs.lemmas.Result.{err_from_is_err_and}
 use Rattle.hidreport.specs.Parser.Budget.{is_past, left_behind, weight_in}
-use Rattle.hidreport.specs.Parser.DataItem.{as_item, item_with}
+use Rattle.hidreport_fields.specs.DataItem.{as_item, item_with}
 use Rattle.hidreport.specs.Parser.ItemStates.{item_state_of}
-use Rattle.hidreport.specs.Fields.{attributes_with, make_fields}
-use Rattle.hidreport.specs.declared.field.measures.Measures.{Measures}
+use Rattle.hidreport_fields.specs.ItemParts.{attributes_with}
+use Rattle.hidreport.specs.Fields.{make_fields}
+use Rattle.hidreport_fields.specs.declared.field.measures.Measures.{Measures}
 use Rattle.hidreport.specs.Parser.Layout.{shared_list}
 use Rattle.hidreport.specs.Parser.Usages.{usage_list}
 use Rattle.hidreport.specs.Parser.Machine.{StateRecord, next_state}

@@ -1,5 +1,5 @@
 use Rattle.std.proofs.Common.{◌+◌, ◌-◌, ◌%◌, ◌≡◌, ◌∙◌, ℕ, min, ap, sym, arith}
-use Rattle.hidreport.specs.Usages.{make_usage}
+use Rattle.hidreport_fields.specs.UsageRange.{make_usage}
 use Rattle.hidreport.proofs.UsageLemmas.{usage_at-list}
 use Rattle.hidreport.proofs.parser.usage_bounds.UsageBounds.at.Goals as goal
 

@@ -1,5 +1,5 @@
 use Rattle.std.proofs.Common.{◌+◌, ◌-◌, arith}
-use Rattle.hidreport.proofs.RangeLemmas.{length-range_from}
+use Rattle.hidreport_fields.proofs.RangeLemmas.{length-range_from}
 use Rattle.hidreport.proofs.parser.usage_bounds.UsageBounds.count.Goals as goal
 
 pub returns-clause-count : goal.returns-clause-count

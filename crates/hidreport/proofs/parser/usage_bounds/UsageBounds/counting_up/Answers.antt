@@ -1,7 +1,7 @@
 use Rattle.std.proofs.Common.{◌≡◌, ◌∙◌, ◌+◌, ◌%◌, add-one, ap, sym, arith, map, take}
 use Rattle.std.proofs.lemmas.Bool.{eqb-true, not-false}
 use Rattle.hidreport.specs.Parser.Locals.{usage_under}
-use Rattle.hidreport.specs.Usages.{make_usage, range_from}
+use Rattle.hidreport_fields.specs.UsageRange.{make_usage, range_from}
 use Rattle.hidreport.proofs.UsageLemmas.{counted-up}
 use Rattle.hidreport.proofs.parser.usage_bounds.UsageBounds.counting_up.Goals as goal
 

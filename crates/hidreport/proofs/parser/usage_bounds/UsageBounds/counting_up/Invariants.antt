@@ -1,6 +1,6 @@
 use Rattle.std.proofs.Common.{◌≡◌, ◌+◌, map, take}
 use Rattle.hidreport.specs.Parser.Locals.{usage_under}
-use Rattle.hidreport.specs.Usages.{range_from}
+use Rattle.hidreport_fields.specs.UsageRange.{range_from}
 use Rattle.hidreport.proofs.parser.usage_bounds.UsageBounds.counting_up.Given as goal
 
 -- the first ones count up from the minimum

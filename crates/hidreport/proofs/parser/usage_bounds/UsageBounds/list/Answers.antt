@@ -1,6 +1,6 @@
 use Rattle.std.proofs.Common.{◌≡◌, ◌∙◌, List, ap, sym, add-one, ◌++◌, [], ◌∷◌, arith}
-use Rattle.hidreport.specs.Usages.{range_from}
-use Rattle.hidreport.specs.declared.field.usage.Usage.{Usage}
+use Rattle.hidreport_fields.specs.UsageRange.{range_from}
+use Rattle.hidreport_fields.specs.declared.field.usage.Usage.{Usage}
 use Rattle.hidreport.proofs.UsageLemmas.{range_from-next}
 use Rattle.hidreport.proofs.parser.usage_bounds.UsageBounds.list.Goals as goal
 

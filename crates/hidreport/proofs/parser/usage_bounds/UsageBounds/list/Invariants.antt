@@ -1,5 +1,5 @@
 use Rattle.std.proofs.Common.{◌≡◌, ◌≤◌, vec_len, vec_capacity}
-use Rattle.hidreport.specs.Usages.{range_from}
+use Rattle.hidreport_fields.specs.UsageRange.{range_from}
 use Rattle.hidreport.proofs.parser.usage_bounds.UsageBounds.list.Given as goal
 
 -- the usages so far, and room for all

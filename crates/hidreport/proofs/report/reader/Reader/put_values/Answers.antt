@@ -1,6 +1,6 @@
 use Rattle.std.proofs.Common.{◌≡◌, ◌∙◌, List, Err, Ok, ap, length, rules, sym, ℕ}
 use Rattle.hidreport.specs.Runs.{HasAllValues, count_in, runs_placed, runs_put, runs_written}
-use Rattle.hidreport.specs.Tiling.{Each}
+use Rattle.hidreport_fields.specs.Tiling.{Each}
 use Rattle.hidreport.proofs.RunWriteLemmas.{written-open}
 use Rattle.hidreport.proofs.report.reader.Reader.put_values.Goals as goal
 

@@ -1,4 +1,4 @@
-use Rattle.hidreport.proofs.SignLemmas.{excess-most, excess-set}
+use Rattle.hidreport_fields.proofs.SignLemmas.{excess-most, excess-set}
 use Rattle.hidreport.proofs.report.reader.run.excess.Goals as goal
 
 pub returns-clause-set : goal.returns-clause-set

@@ -1,6 +1,6 @@
 use Rattle.std.proofs.Common.{◌≡◌, ◌∙◌, true, false, ap, sym, rules}
-use Rattle.hidreport.specs.BitValue.{value}
-use Rattle.hidreport.proofs.SignLemmas.{plain-number, signed-number}
+use Rattle.hidreport_fields.specs.BitValue.{value}
+use Rattle.hidreport_fields.proofs.SignLemmas.{plain-number, signed-number}
 use Rattle.hidreport.proofs.report.reader.run.number_at.Goals as goal
 
 pub returns-then-not-is_signed : goal.returns-then-not-is_signed

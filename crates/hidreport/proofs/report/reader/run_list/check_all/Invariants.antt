@@ -1,6 +1,6 @@
 use Rattle.std.proofs.Common.{take}
 use Rattle.hidreport.specs.Runs.{HasAllValues}
-use Rattle.hidreport.specs.Tiling.{Each}
+use Rattle.hidreport_fields.specs.Tiling.{Each}
 use Rattle.hidreport.proofs.report.reader.run_list.check_all.Given as goal
 
 -- the runs before this one refuse nothing

@@ -1,6 +1,6 @@
 use Rattle.std.proofs.Common.{take}
 use Rattle.hidreport.specs.Runs.{IsPlain}
-use Rattle.hidreport.specs.Tiling.{Each}
+use Rattle.hidreport_fields.specs.Tiling.{Each}
 use Rattle.hidreport.proofs.report.reader.run_list.enough_for.Given as goal
 
 -- as many bytes have the runs before this one

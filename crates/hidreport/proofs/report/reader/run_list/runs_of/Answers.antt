@@ -1,7 +1,7 @@
 use Rattle.std.proofs.Common.{◌≡◌, [], ◌∷◌, ◌++◌, map, rules, take}
 use Rattle.hidreport.specs.Runs.{run_of, runs_of}
 use Rattle.hidreport.specs.SameRuns.{SameRuns}
-use Rattle.hidreport.specs.Views.{field_record}
+use Rattle.hidreport_fields.specs.Views.{field_record}
 use Rattle.hidreport.proofs.SameRunsLemmas.{same-next, same-padding}
 use Rattle.hidreport.proofs.report.reader.run_list.runs_of.Goals as goal
 use Rattle.hidreport.proofs.report.reader.run_list.runs_of.Goals.{in-Some+in_ok-add_run, in_default}

@@ -1,7 +1,7 @@
 use Rattle.std.proofs.Common.{◌≡◌, ◌∙◌, ◌*◌, Ok, false, length, ap, rules}
-use Rattle.hidreport.specs.Reading.{each_value, with_id}
+use Rattle.hidreport_fields.specs.Reading.{each_value, with_id}
 use Rattle.hidreport.specs.Runs.{is_inside, run_value}
-use Rattle.hidreport.specs.WritingLaws.{numbers_of}
+use Rattle.hidreport_fields.specs.WritingLaws.{numbers_of}
 use Rattle.hidreport.proofs.RunReadLemmas.{own-passes, outside-run}
 use Rattle.hidreport.proofs.report.reader.run.Run.check.Goals as goal
 

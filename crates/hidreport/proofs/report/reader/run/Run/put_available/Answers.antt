@@ -3,7 +3,7 @@ use Rattle.std.specs.Int.{w64}
 use Rattle.std.specs.Prelude.{slice_set}
 use Rattle.std.proofs.lemmas.Int.{to_z-of_z}
 use Rattle.hidreport_lists.specs.Answer.{OutOfBounds}
-use Rattle.hidreport.specs.Choosing.{value_number}
+use Rattle.hidreport_fields.specs.Choosing.{value_number}
 use Rattle.hidreport.specs.Reader.{each_alone, numbers_before}
 use Rattle.hidreport.specs.Runs.{run_value, set_from}
 use Rattle.hidreport.proofs.AvailableLemmas.{stops-there, there-count, there-next}

@@ -1,6 +1,6 @@
 use Rattle.std.proofs.Common.{rules}
 use Rattle.hidreport.specs.Runs.{IsPlain}
-use Rattle.hidreport.specs.Tiling.{Each}
+use Rattle.hidreport_fields.specs.Tiling.{Each}
 use Rattle.hidreport.proofs.RunListLemmas.{plain-open}
 use Rattle.hidreport.proofs.report.reader.run_list.RunList.has_all.Goals as goal
 

@@ -1,5 +1,5 @@
 use Rattle.std.proofs.Common.{map}
-use Rattle.hidreport.specs.Views.{field_record}
+use Rattle.hidreport_fields.specs.Views.{field_record}
 use Rattle.hidreport.proofs.SameRunsLemmas.{same-stand}
 use Rattle.hidreport.proofs.report.reader.run_list.RunList.of.Goals as goal
 
