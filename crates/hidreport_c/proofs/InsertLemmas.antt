@@ -10,8 +10,8 @@ use Rattle.hidreport.specs.Reading.{ValueRecord, before_values, element, each_va
 use Rattle.hidreport.specs.WritingValues.{insert_refusal, where_read}
 use Rattle.hidreport_fields.specs.declared.field.insert_error.InsertError.{InsertError}
 use Rattle.hidreport_fields.specs.declared.field.insert_error.InsertError.TheVariants as refused
-use Rattle.hidreport.proofs.IsWrittenLemmas.{room-of}
-use Rattle.hidreport.proofs.ReadBackLemmas.{each-readable}
+use Rattle.hidreport_fields.proofs.IsWrittenLemmas.{room-of}
+use Rattle.hidreport_fields.proofs.ReadBackLemmas.{each-readable}
 use Rattle.hidreport_c.proofs.ValuesLemmas.{one-more}
 use Rattle.hidreport_c.specs.Insert.{Places, bytes_after, insert_status, is_signed_in, placed_at}
 use Rattle.hidreport_c.specs.Insert.{status_after, width_of, written_at}

@@ -8,7 +8,7 @@ use Rattle.std.proofs.Math.Seq.{drop-nil, take-nil}
 use Rattle.std.proofs.lemmas.Bool.Decides.{nat_tests}
 use Rattle.std.specs.Prelude.{◌==◌, slice_get}
 use Rattle.hidreport.specs.Answer.{Refusal, OutOfBounds, MismatchingReportId}
-use Rattle.hidreport.proofs.ElementLemmas.{elements-outside, elements-readable-by}
+use Rattle.hidreport_fields.proofs.ElementLemmas.{elements-outside, elements-readable-by}
 use Rattle.hidreport.specs.Reading.{ValueRecord, before_values, element, each_value, with_id}
 use Rattle.hidreport.specs.Reading.{element_width}
 use Rattle.hidreport_c.proofs.ListsLemmas.{written-none}

@@ -5,7 +5,7 @@ use Rattle.std.proofs.Common.{Result, Ok, Err, IsOk, OnOk, refl, sym, ap, subst,
 use Rattle.std.specs.Prelude.{sum_by}
 use Rattle.std.specs.List.{list_all, list_any}
 use Rattle.std.proofs.lemmas.List.Sums.{sum_by-cons}
-use Rattle.hidreport.proofs.PutValuesLemmas.{put-none}
+use Rattle.hidreport_fields.proofs.PutValuesLemmas.{put-none}
 use Rattle.hidreport.proofs.ReportWriteLemmas.{report-laws}
 use Rattle.hidreport.proofs.WholeLemmas.{put-are}
 use Rattle.hidreport.specs.Answer.{Refusal}

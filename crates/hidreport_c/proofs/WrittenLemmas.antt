@@ -13,8 +13,8 @@ use Rattle.hidreport.specs.Records.{FieldPlace, FieldRecord, VariableRecord}
 use Rattle.hidreport.specs.Records.{ArrayRecord, ConstantRecord}
 use Rattle.hidreport_items.specs.Spelling.{AreBytes}
 use Rattle.hidreport.specs.WritingLaws.{IsWritten}
-use Rattle.hidreport.proofs.IsElementLemmas.{is-element-written}
-use Rattle.hidreport.proofs.IsWrittenLemmas.{is-written}
+use Rattle.hidreport_fields.proofs.IsElementLemmas.{is-element-written}
+use Rattle.hidreport_fields.proofs.IsWrittenLemmas.{is-written}
 use Rattle.hidreport.specs.WritingValues.{begins_in_id, fits, placed, put, where_read, written}
 use Rattle.hidreport_fields.specs.declared.field.insert_error.InsertError.{InsertError}
 use Rattle.hidreport_fields.specs.declared.field.insert_error.InsertError.TheVariants as refused

@@ -1,4 +1,4 @@
-use Rattle.hidreport.proofs.ScalingLemmas.{line-is-scale}
+use Rattle.hidreport_fields.proofs.ScalingLemmas.{line-is-scale}
 use Rattle.hidreport_definitions.proofs.ScaleLemmas.{level-is-scale}
 use Rattle.hidreport_definitions.proofs.scaling.values_on_a_line_are_scaled.Goals as goal
 

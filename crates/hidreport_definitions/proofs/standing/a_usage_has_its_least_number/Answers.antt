@@ -3,7 +3,7 @@ use Rattle.std.specs.Prelude.{pos, negsuc}
 use Rattle.std.proofs.lemmas.Int.{ints}
 use Rattle.hidreport.specs.Usages.{make_usage, range_from}
 use Rattle.hidreport_fields.specs.declared.field.usage.Usage.{Usage}
-use Rattle.hidreport.proofs.StandingLemmas.{NotBefore, least-for, none-past}
+use Rattle.hidreport_fields.proofs.StandingLemmas.{NotBefore, least-for, none-past}
 use Rattle.hidreport_definitions.proofs.standing.a_usage_has_its_least_number.Goals as goal
 
 abbrev id_in : Option Usage → ℕ

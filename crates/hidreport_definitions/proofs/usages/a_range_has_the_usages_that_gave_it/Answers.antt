@@ -1,7 +1,7 @@
 use Rattle.std.proofs.Common.{true, refl, arith}
 use Rattle.hidreport.specs.Tiling.{IsRangeOf}
 use Rattle.hidreport.specs.Usages.{range_from}
-use Rattle.hidreport.proofs.RangeLemmas.{range_of-exact}
+use Rattle.hidreport_fields.proofs.RangeLemmas.{range_of-exact}
 use Rattle.hidreport_definitions.specs.Summary.{four_keys}
 use Rattle.hidreport_definitions.proofs.usages.a_range_has_the_usages_that_gave_it.Goals as goal
 

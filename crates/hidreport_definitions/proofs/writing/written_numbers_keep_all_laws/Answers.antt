@@ -1,5 +1,5 @@
 use Rattle.std.proofs.Common.{arith, refl}
-use Rattle.hidreport.proofs.IsWrittenLemmas.{is-written}
+use Rattle.hidreport_fields.proofs.IsWrittenLemmas.{is-written}
 use Rattle.hidreport_definitions.proofs.ByteLemmas.{two}
 use Rattle.hidreport_definitions.proofs.writing.written_numbers_keep_all_laws.Goals as goal
 

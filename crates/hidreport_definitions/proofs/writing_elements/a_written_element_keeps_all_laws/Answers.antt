@@ -1,5 +1,5 @@
 use Rattle.std.proofs.Common.{arith, refl}
-use Rattle.hidreport.proofs.IsElementLemmas.{is-element-written}
+use Rattle.hidreport_fields.proofs.IsElementLemmas.{is-element-written}
 use Rattle.hidreport_definitions.proofs.ByteLemmas.{two}
 use Rattle.hidreport_definitions.proofs.writing_elements.a_written_element_keeps_all_laws.Goals as goal
 

@@ -5,7 +5,7 @@ use Rattle.std.proofs.Math.Nat.{min-le_left, min-le_right}
 use Rattle.std.proofs.lemmas.Int.{to_z-of_z}
 use Rattle.std.proofs.lemmas.Option.{slice_get-map}
 use Rattle.std.specs.Prelude.{option_map}
-use Rattle.hidreport.proofs.ElementLemmas.{elements-outside}
+use Rattle.hidreport_fields.proofs.ElementLemmas.{elements-outside}
 use Rattle.hidreport.specs.Reading.{element}
 use Rattle.hidreport.specs.Choosing.{value_number}
 use Rattle.hidreport_c.proofs.ListsLemmas.{past-least}
