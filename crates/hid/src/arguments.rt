@@ -6,6 +6,9 @@ pub enum Kind {
     /// A word that has to be there.
     Word,
 
+    /// A word that has to be there where this option isn't.
+    WordUnless(&'static str),
+
     /// Words, or none.
     Words,
 
@@ -38,6 +41,12 @@ pub enum Kind {
 
     /// A host whose refusals are told.
     Host,
+
+    /// How bad a finding is at least for which the status is 1.
+    Severity,
+
+    /// A rule of `check` that is explained, for which these arguments mean nothing.
+    Rule(&'static [&'static str]),
 
     /// A folder.
     Folder,
@@ -109,12 +118,22 @@ const TARGET: Argument = ("to", Kind::Target, WRITTEN_AS);
 
 static DECODE: [Argument; 1] = [FILE];
 
-static CHECK: [Argument; 2] = [
-    FILE,
+static CHECK: [Argument; 4] = [
+    ("FILE", Kind::WordUnless("explain"), "The descriptor"),
     (
         "for",
         Kind::Host,
         "Show also what this host refuses or may read otherwise, as far as it is known",
+    ),
+    (
+        "fail-on",
+        Kind::Severity,
+        "The status is 1 where a finding is so bad, or worse",
+    ),
+    (
+        "explain",
+        Kind::Rule(&["FILE", "for", "fail-on"]),
+        "Show what a rule means and what to write, by its number or name; all: a line of each",
     ),
 ];
 

@@ -1,5 +1,6 @@
 //! What a host refuses or may read otherwise, as far as it is known.
-use crate::finding::{Finding, Source, tell};
+use crate::finding::{Finding, tell};
+use crate::rule::Rule;
 use crate::windows_reading::{refusal_remark, tell_windows};
 use crate::windows_refusal::WindowsRefusal;
 use hid_input::settings::Settings;
@@ -84,18 +85,19 @@ fn tell_linux(
     if let Some(doubt) = reading.doubt
         && doubt.unmapped != Unmapped::Refused
     {
-        tell_doubt(findings, "Linux may read it otherwise: ", doubt)?;
+        let before = "Linux may read it otherwise: ";
+        tell_doubt(findings, before, doubt, Rule::LinuxDoubt)?;
     }
     if let Some(refusal) = reading.refusal {
-        tell_doubt(findings, "Linux refuses it: ", refusal)?;
+        tell_doubt(findings, "Linux refuses it: ", refusal, Rule::LinuxRefuses)?;
         return Ok(Verdict::Refused);
     }
     if let Some(LeftOut { offset, what }) = reading.left_out {
         let remark = format!(in alloc; "Linux leaves out {what}")?;
-        tell(findings, Some(offset), &remark, Source::Linux)?;
+        tell(findings, Some(offset), &remark, Rule::LinuxLeavesOut)?;
     }
     if let Some(offset) = reading.overflow {
-        tell(findings, Some(offset), OVERFLOW, Source::Linux)?;
+        tell(findings, Some(offset), OVERFLOW, Rule::LinuxOverflow)?;
     }
     match repair(alloc, bytes, settings.repair()) {
         Ok(repaired) => {
@@ -109,10 +111,15 @@ fn tell_linux(
     }
 }
 
-fn tell_doubt(findings: &mut Vec<Finding>, before: &str, doubt: Doubt) -> Result<(), AllocError> {
+fn tell_doubt(
+    findings: &mut Vec<Finding>,
+    before: &str,
+    doubt: Doubt,
+    rule: Rule,
+) -> Result<(), AllocError> {
     let mut remark = String::from_str(*findings.allocator(), before)?;
     remark.push_str(doubt.reason)?;
-    tell(findings, Some(doubt.offset), &remark, Source::Linux)
+    tell(findings, Some(doubt.offset), &remark, rule)
 }
 
 /// Notes what Linux reads in the place of an item.
@@ -126,7 +133,7 @@ fn tell_change(findings: &mut Vec<Finding>, change: &Change) -> Result<(), Alloc
         remark.push_str(": ")?;
     }
     remark.push_str(why(change.reason))?;
-    tell(findings, Some(change.offset), &remark, Source::Linux)
+    tell(findings, Some(change.offset), &remark, Rule::LinuxMends)
 }
 
 /// Why Linux reads something else than what stands there.
@@ -156,5 +163,5 @@ fn tell_report(
     remark.push_str(": ")?;
     let refusal = refusal_remark(alloc, WindowsRefusal::Unaligned)?;
     remark.push_str(refusal.as_str())?;
-    tell(findings, None, &remark, Source::Windows)
+    tell(findings, None, &remark, Rule::WindowsUnaligned)
 }

@@ -1,0 +1,125 @@
+//! `hid check --explain`: what a rule means, and what to write.
+use crate::rule::{RULES, RuleRow};
+use anyhow::{Result, bail};
+use hid_input::settings::Settings;
+use hid_nearest::Nearest;
+use hid_output::ending::Ending;
+use hid_output::{add_json, flush};
+use serde::Serialize;
+use std::alloc::{AllocError, Global};
+use std::fmt::Write;
+
+/// The word for all rules.
+const ALL: &str = "all";
+
+/// Shows what rules mean.
+#[derive(Clone, Copy)]
+pub struct Explain {
+    /// The number of the rule that is meant; none of all rules.
+    number: Option<u16>,
+}
+
+/// A rule, as JSON.
+#[derive(Drop, Serialize)]
+struct RuleObject<'a> {
+    rule: &'a str,
+    name: &'a str,
+    severity: &'a str,
+    wrong: &'a str,
+    why: &'a str,
+    instead: &'a str,
+    source: &'a str,
+    host: Option<&'a str>,
+    example: &'a str,
+    without: &'a str,
+}
+
+impl Explain {
+    /// The rule of a number, as HID001, or of a name; small letters do.
+    pub fn named(alloc: Global, word: &str) -> Result<Explain> {
+        if word.eq_ignore_ascii_case(ALL) {
+            return Ok(Explain { number: None });
+        }
+        for row in &RULES {
+            let id = row.id(alloc)?;
+            if id.as_str().eq_ignore_ascii_case(word) || row.name.eq_ignore_ascii_case(word) {
+                let number = Some(row.number);
+                return Ok(Explain { number });
+            }
+        }
+        let known = nearest_to(alloc, word)?;
+        bail!("--explain {word}: no rule has this number or name{known}")
+    }
+
+    /// Shows a rule, or a line of each.
+    pub fn run<R: AllocGlobal + Print>(&self, rt: &R, settings: &Settings) -> Result<Ending> {
+        let mut text = String::new(rt.alloc());
+        for row in &RULES {
+            if self.number.is_some() && self.number != Some(row.number) {
+                continue;
+            }
+            if settings.is_json {
+                add_object(&mut text, row)?;
+            } else if self.number.is_none() {
+                add_line(&mut text, row)?;
+            } else {
+                add_rule(&mut text, row)?;
+            }
+        }
+        flush(rt, &mut text)?;
+        Ok(Ending::Done)
+    }
+}
+
+/// The names that are nearest to a word: of those that have it as a part, where some have.
+fn nearest_to(alloc: Global, word: &str) -> Result<String, AllocError> {
+    let mut nearest = Nearest::new(alloc, word)?;
+    let have_it = RULES.iter().any(|row| row.name.contains(word));
+    for row in &RULES {
+        if row.name.contains(word) || !have_it {
+            nearest.add(String::from_str(alloc, row.name)?)?;
+        }
+    }
+    let mut known = String::new(alloc);
+    nearest.add_to(&mut known)?;
+    Ok(known)
+}
+
+/// Appends a rule as JSON.
+fn add_object(text: &mut String, row: &RuleRow) -> Result<()> {
+    let id = row.id(*text.allocator())?;
+    add_json(
+        text,
+        &RuleObject {
+            rule: id.as_str(),
+            name: row.name,
+            severity: row.severity.name(),
+            wrong: row.wrong,
+            why: row.why,
+            instead: row.instead,
+            source: row.source.full_name(),
+            host: row.source.host(),
+            example: row.example,
+            without: row.without,
+        },
+    )
+}
+
+/// Appends a rule's line in the list of all.
+fn add_line(text: &mut String, row: &RuleRow) -> Result<()> {
+    row.add_title(text)?;
+    Ok(writeln!(text, ": {}", row.wrong)?)
+}
+
+/// Appends all that is said of a rule.
+fn add_rule(text: &mut String, row: &RuleRow) -> Result<()> {
+    add_line(text, row)?;
+    writeln!(text, "Why: {}", row.why)?;
+    writeln!(text, "Instead: {}", row.instead)?;
+    writeln!(text, "Source: {}", row.source.full_name())?;
+    if let Some(host) = row.source.host() {
+        writeln!(text, "Told by: hid check --for {host}")?;
+    }
+    writeln!(text, "Example: {}", row.example)?;
+    Ok(writeln!(text, "Without it: {}", row.without)?)
+}
