@@ -88,14 +88,17 @@ fn show_findings<R: AllocGlobal + Print>(
     found: &Checked,
 ) -> Result<()> {
     let mut text = String::new(rt.alloc());
-    let times = times_of(rt.alloc(), &found.findings)?;
-    for (finding, times) in found.findings.iter().zip(times.iter()) {
-        if settings.is_json {
+    if settings.is_json {
+        for finding in found.findings.iter() {
             add_object(&mut text, finding)?;
-        } else {
-            add_line(&mut text, finding, *times)?;
+            flush_piece(rt, &mut text)?;
         }
-        flush_piece(rt, &mut text)?;
+    } else {
+        let times = times_of(rt.alloc(), &found.findings)?;
+        for (finding, times) in found.findings.iter().zip(times.iter()) {
+            add_line(&mut text, finding, *times)?;
+            flush_piece(rt, &mut text)?;
+        }
     }
     if let Some(verdict) = found.verdict {
         add_verdict(&mut text, settings, verdict)?;
@@ -131,19 +134,16 @@ fn add_verdict(text: &mut String, settings: &Settings, verdict: Verdict) -> Resu
 
 /// Appends a finding as JSON.
 fn add_object(text: &mut String, finding: &Finding) -> Result<()> {
-    let alloc = *text.allocator();
-    let mut said = String::new(alloc);
+    let mut said = String::new(*text.allocator());
     finding.add(&mut said)?;
     let row = finding.rule.row();
-    let mut rule = String::new(alloc);
-    row.add_id(&mut rule)?;
     add_json(
         text,
         &OddObject {
             offset: finding.offset,
             odd: said.as_str(),
             source: finding.source.name(),
-            rule: rule.as_str(),
+            rule: row.number,
             name: row.name,
             severity: row.severity.name(),
         },

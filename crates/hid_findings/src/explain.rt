@@ -1,5 +1,5 @@
 //! `hid check --explain`: what a rule means, and what to write.
-use crate::rule::{RULES, RuleRow};
+use crate::rule::{RULES, Rule, RuleRow};
 use anyhow::{Result, bail};
 use hid_input::settings::Settings;
 use hid_nearest::Nearest;
@@ -15,8 +15,8 @@ const ALL: &str = "all";
 /// Shows what rules mean.
 #[derive(Clone, Copy)]
 pub struct Explain {
-    /// The number of the rule that is meant; none of all rules.
-    number: Option<u16>,
+    /// The rule that is meant; none of all rules.
+    rule: Option<Rule>,
 }
 
 /// A rule, as JSON.
@@ -38,13 +38,12 @@ impl Explain {
     /// The rule of a number, as HID001, or of a name; small letters do.
     pub fn named(alloc: Global, word: &str) -> Result<Explain> {
         if word.eq_ignore_ascii_case(ALL) {
-            return Ok(Explain { number: None });
+            return Ok(Explain { rule: None });
         }
         for row in &RULES {
-            let id = row.id(alloc)?;
-            if id.as_str().eq_ignore_ascii_case(word) || row.name.eq_ignore_ascii_case(word) {
-                let number = Some(row.number);
-                return Ok(Explain { number });
+            if row.number.eq_ignore_ascii_case(word) || row.name.eq_ignore_ascii_case(word) {
+                let rule = Some(row.rule);
+                return Ok(Explain { rule });
             }
         }
         let known = nearest_to(alloc, word)?;
@@ -55,12 +54,12 @@ impl Explain {
     pub fn run<R: AllocGlobal + Print>(&self, rt: &R, settings: &Settings) -> Result<Ending> {
         let mut text = String::new(rt.alloc());
         for row in &RULES {
-            if self.number.is_some() && self.number != Some(row.number) {
+            if self.rule.is_some() && self.rule != Some(row.rule) {
                 continue;
             }
             if settings.is_json {
                 add_object(&mut text, row)?;
-            } else if self.number.is_none() {
+            } else if self.rule.is_none() {
                 add_line(&mut text, row)?;
             } else {
                 add_rule(&mut text, row)?;
@@ -87,11 +86,10 @@ fn nearest_to(alloc: Global, word: &str) -> Result<String, AllocError> {
 
 /// Appends a rule as JSON.
 fn add_object(text: &mut String, row: &RuleRow) -> Result<()> {
-    let id = row.id(*text.allocator())?;
     add_json(
         text,
         &RuleObject {
-            rule: id.as_str(),
+            rule: row.number,
             name: row.name,
             severity: row.severity.name(),
             wrong: row.wrong,

@@ -96,10 +96,16 @@ fn are_alike(findings: &[Finding], first: usize, place: usize) -> bool {
     }
 }
 
-/// A number for a finding's rule and words (FNV-1a).
+/// A number for a finding's rule and words.
 fn key_of(finding: &Finding) -> u64 {
-    let mut key = u64::from(finding.rule.row().number);
-    for byte in finding.remark.as_bytes() {
+    let key = mixed(0, finding.rule.row().number);
+    mixed(key, &finding.remark)
+}
+
+/// A number with a text mixed in (FNV-1a).
+fn mixed(key: u64, text: &str) -> u64 {
+    let mut key = key;
+    for byte in text.as_bytes() {
         key = (key ^ u64::from(*byte)).wrapping_mul(0x0000_0100_0000_01b3);
     }
     key

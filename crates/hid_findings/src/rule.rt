@@ -2,8 +2,7 @@
 //! so, and a descriptor that has it and one that has not.
 use crate::severity::Severity;
 use crate::source::Source;
-use std::alloc::{AllocError, Global};
-use std::fmt::Write;
+use std::alloc::AllocError;
 
 /// A rule of `hid check`.
 #[derive(Clone, Copy, Debug, PartialEq, Eq)]
@@ -123,8 +122,8 @@ pub enum Rule {
 pub struct RuleRow {
     /// The rule.
     pub rule: Rule,
-    /// Its number, which is told as HID001.
-    pub number: u16,
+    /// Its number.
+    pub number: &'static str,
     /// Its name.
     pub name: &'static str,
     /// How bad it is.
@@ -148,7 +147,7 @@ pub struct RuleRow {
 #[rattlefmt::skip]
 pub static RULES: [RuleRow; 54] = [
     RuleRow {
-        rule: Rule::Refused, number: 1, name: "unreadable",
+        rule: Rule::Refused, number: "HID001", name: "unreadable",
         severity: Severity::Error, source: Source::Refusal,
         wrong: "hid can't read the descriptor.",
         why: "The grammar of items is broken there, so hosts refuse it or guess.",
@@ -157,7 +156,7 @@ pub static RULES: [RuleRow; 54] = [
         without: "05 01 09 02 a1 01 09 30 15 00 25 7f 75 08 95 01 81 02 c0",
     },
     RuleRow {
-        rule: Rule::DataCut, number: 2, name: "data-cut-off",
+        rule: Rule::DataCut, number: "HID002", name: "data-cut-off",
         severity: Severity::Warning, source: Source::Items,
         wrong: "An item has more data than is read of it.",
         why: "A Report ID is one byte and a Usage Page two: of greater data a part is lost.",
@@ -166,7 +165,7 @@ pub static RULES: [RuleRow; 54] = [
         without: "05 01 09 02 a1 01 85 01 09 30 15 00 25 7f 75 08 95 01 81 02 c0",
     },
     RuleRow {
-        rule: Rule::LongItem, number: 3, name: "long-item",
+        rule: Rule::LongItem, number: "HID003", name: "long-item",
         severity: Severity::Warning, source: Source::LongItems,
         wrong: "A long item: none is defined.",
         why: "Tags of long items are kept for later versions; Linux refuses a descriptor with one.",
@@ -175,7 +174,7 @@ pub static RULES: [RuleRow; 54] = [
         without: "05 01 09 02 a1 01 09 30 15 00 25 7f 75 08 95 01 81 02 c0",
     },
     RuleRow {
-        rule: Rule::ReservedType, number: 4, name: "reserved-type",
+        rule: Rule::ReservedType, number: "HID004", name: "reserved-type",
         severity: Severity::Warning, source: Source::ItemTypes,
         wrong: "An item has the reserved type.",
         why: "Items are Main, Global or Local; hosts know no fourth type.",
@@ -185,7 +184,7 @@ pub static RULES: [RuleRow; 54] = [
         without: "05 01 09 02 a1 01 09 30 15 00 25 7f 75 08 95 01 81 02 c0",
     },
     RuleRow {
-        rule: Rule::ReservedTag, number: 5, name: "reserved-tag",
+        rule: Rule::ReservedTag, number: "HID005", name: "reserved-tag",
         severity: Severity::Warning, source: Source::GlobalItems,
         wrong: "A global item has a reserved tag.",
         why: "Global tags past Pop have no meaning, and Linux and Windows refuse them.",
@@ -194,7 +193,7 @@ pub static RULES: [RuleRow; 54] = [
         without: "05 01 09 02 a1 01 09 30 15 00 25 7f 75 08 95 01 81 02 c0",
     },
     RuleRow {
-        rule: Rule::OutermostKind, number: 6, name: "outermost-not-application",
+        rule: Rule::OutermostKind, number: "HID006", name: "outermost-not-application",
         severity: Severity::Warning, source: Source::Reports,
         wrong: "An outermost collection is no Application.",
         why: "An outermost Application says what the device is; hosts need not look into other \
@@ -204,7 +203,7 @@ pub static RULES: [RuleRow; 54] = [
         without: "05 01 09 02 a1 01 09 30 15 00 25 7f 75 08 95 01 81 02 c0",
     },
     RuleRow {
-        rule: Rule::NamelessApplication, number: 7, name: "application-without-usage",
+        rule: Rule::NamelessApplication, number: "HID007", name: "application-without-usage",
         severity: Severity::Error, source: Source::CollectionItems,
         wrong: "An Application has no usage.",
         why: "Its usage says what the device is, and hosts choose a driver by it.",
@@ -214,7 +213,7 @@ pub static RULES: [RuleRow; 54] = [
         without: "05 01 09 02 a1 01 09 30 15 00 25 7f 75 08 95 01 81 02 c0",
     },
     RuleRow {
-        rule: Rule::OutsideCollections, number: 8, name: "data-outside-collections",
+        rule: Rule::OutsideCollections, number: "HID008", name: "data-outside-collections",
         severity: Severity::Error, source: Source::Reports,
         wrong: "An Input, Output or Feature lies in no collection.",
         why: "A report belongs to an Application, which says what reads it; Windows refuses \
@@ -224,7 +223,7 @@ pub static RULES: [RuleRow; 54] = [
         without: "05 01 09 02 a1 01 09 30 15 00 25 7f 75 08 95 01 81 02 c0",
     },
     RuleRow {
-        rule: Rule::NoBits, number: 9, name: "no-bits",
+        rule: Rule::NoBits, number: "HID009", name: "no-bits",
         severity: Severity::Warning, source: Source::GlobalItems,
         wrong: "An Input, Output or Feature has no bits.",
         why: "Report Size or Report Count is 0, so it has no value.",
@@ -233,7 +232,7 @@ pub static RULES: [RuleRow; 54] = [
         without: "05 01 09 02 a1 01 09 30 15 00 25 7f 75 08 95 01 81 02 c0",
     },
     RuleRow {
-        rule: Rule::ReportIdZero, number: 10, name: "report-id-zero",
+        rule: Rule::ReportIdZero, number: "HID010", name: "report-id-zero",
         severity: Severity::Error, source: Source::GlobalItems,
         wrong: "The Report ID 0 is reserved.",
         why: "0 stands for reports without an id; Linux and Windows refuse it.",
@@ -242,7 +241,7 @@ pub static RULES: [RuleRow; 54] = [
         without: "05 01 09 02 a1 01 09 30 15 00 25 7f 75 08 95 01 81 02 c0",
     },
     RuleRow {
-        rule: Rule::UnusedUsages, number: 11, name: "unused-usages",
+        rule: Rule::UnusedUsages, number: "HID011", name: "unused-usages",
         severity: Severity::Warning, source: Source::LocalItems,
         wrong: "No main item uses these usages.",
         why: "Local items end at the next main item, so usages before End Collection name nothing.",
@@ -252,7 +251,7 @@ pub static RULES: [RuleRow; 54] = [
         without: "05 01 09 02 a1 01 09 30 15 00 25 7f 75 08 95 01 81 02 c0",
     },
     RuleRow {
-        rule: Rule::OpenCollection, number: 12, name: "collection-not-closed",
+        rule: Rule::OpenCollection, number: "HID012", name: "collection-not-closed",
         severity: Severity::Error, source: Source::MainItems,
         wrong: "A collection isn't closed.",
         why: "Each Collection has an End Collection; Linux refuses the descriptor without.",
@@ -261,7 +260,7 @@ pub static RULES: [RuleRow; 54] = [
         without: "05 01 09 02 a1 01 09 30 15 00 25 7f 75 08 95 01 81 02 c0",
     },
     RuleRow {
-        rule: Rule::LonePush, number: 13, name: "push-without-pop",
+        rule: Rule::LonePush, number: "HID013", name: "push-without-pop",
         severity: Severity::Note, source: Source::GlobalItems,
         wrong: "What a Push keeps is never brought back.",
         why: "Without its Pop a Push does nothing.",
@@ -270,7 +269,7 @@ pub static RULES: [RuleRow; 54] = [
         without: "a4 b4 05 01 09 02 a1 01 09 30 15 00 25 7f 75 08 95 01 81 02 c0",
     },
     RuleRow {
-        rule: Rule::MaximumBelowMinimum, number: 14, name: "maximum-below-minimum",
+        rule: Rule::MaximumBelowMinimum, number: "HID014", name: "maximum-below-minimum",
         severity: Severity::Error, source: Source::GlobalItems,
         wrong: "The Logical Maximum is below the Logical Minimum.",
         why: "Bounds have a sign, so 25 ff is -1 and not 255; no value lies between them.",
@@ -279,7 +278,7 @@ pub static RULES: [RuleRow; 54] = [
         without: "05 01 09 02 a1 01 09 30 15 00 26 ff 00 75 08 95 01 81 02 c0",
     },
     RuleRow {
-        rule: Rule::MaximumTooWide, number: 15, name: "maximum-past-size",
+        rule: Rule::MaximumTooWide, number: "HID015", name: "maximum-past-size",
         severity: Severity::Warning, source: Source::GlobalItems,
         wrong: "The Logical Maximum takes more bits than Report Size.",
         why: "The greatest values can't be sent; where the minimum is below 0 one bit is the sign.",
@@ -289,7 +288,7 @@ pub static RULES: [RuleRow; 54] = [
         without: "05 01 09 02 a1 01 09 30 15 00 25 7f 75 07 95 01 81 02 75 01 81 03 c0",
     },
     RuleRow {
-        rule: Rule::OneValue, number: 16, name: "bounds-of-one-value",
+        rule: Rule::OneValue, number: "HID016", name: "bounds-of-one-value",
         severity: Severity::Warning, source: Source::GlobalItems,
         wrong: "The Logical Minimum and Maximum are one number.",
         why: "Such a field says nothing; often the bounds are those of an item before.",
@@ -298,7 +297,7 @@ pub static RULES: [RuleRow; 54] = [
         without: "05 01 09 02 a1 01 09 30 15 00 25 05 75 08 95 01 81 02 c0",
     },
     RuleRow {
-        rule: Rule::SpareUsages, number: 17, name: "more-usages-than-switches",
+        rule: Rule::SpareUsages, number: "HID017", name: "more-usages-than-switches",
         severity: Severity::Warning, source: Source::LocalItems,
         wrong: "There are more usages than switches of one bit.",
         why: "Each switch takes a usage in turn, and those that are left have no bit.",
@@ -308,7 +307,7 @@ pub static RULES: [RuleRow; 54] = [
         without: "05 01 09 02 a1 01 05 09 19 01 29 08 15 00 25 01 75 01 95 08 81 02 c0",
     },
     RuleRow {
-        rule: Rule::RepeatedUsage, number: 18, name: "fewer-usages-than-fields",
+        rule: Rule::RepeatedUsage, number: "HID018", name: "fewer-usages-than-fields",
         severity: Severity::Warning, source: Source::LocalItems,
         wrong: "There are fewer usages than fields.",
         why: "The last usage stands for all fields that are left, so they are one control several \
@@ -319,7 +318,7 @@ pub static RULES: [RuleRow; 54] = [
         without: "05 01 09 02 a1 01 05 09 19 01 29 08 15 00 25 01 75 01 95 08 81 02 c0",
     },
     RuleRow {
-        rule: Rule::ArrayMaximumPast, number: 19, name: "array-maximum-past-usages",
+        rule: Rule::ArrayMaximumPast, number: "HID019", name: "array-maximum-past-usages",
         severity: Severity::Note, source: Source::DataItems,
         wrong: "An array's Logical Maximum is past its usages.",
         why: "A value counts usages from the Logical Minimum; those past the last one mean \
@@ -330,7 +329,7 @@ pub static RULES: [RuleRow; 54] = [
         without: "05 01 09 06 a1 01 05 07 19 00 29 65 15 00 25 65 75 08 95 06 81 00 c0",
     },
     RuleRow {
-        rule: Rule::ArrayMaximumBelow, number: 20, name: "array-maximum-below-usages",
+        rule: Rule::ArrayMaximumBelow, number: "HID020", name: "array-maximum-below-usages",
         severity: Severity::Warning, source: Source::DataItems,
         wrong: "An array's Logical Maximum leaves out usages.",
         why: "A value counts usages from the Logical Minimum; those past the maximum can't be \
@@ -341,7 +340,7 @@ pub static RULES: [RuleRow; 54] = [
         without: "05 01 09 06 a1 01 05 07 19 00 29 ff 15 00 26 ff 00 75 08 95 06 81 00 c0",
     },
     RuleRow {
-        rule: Rule::Exchanged, number: 21, name: "size-and-count-exchanged",
+        rule: Rule::Exchanged, number: "HID021", name: "size-and-count-exchanged",
         severity: Severity::Warning, source: Source::GlobalItems,
         wrong: "Report Size and Report Count are likely exchanged.",
         why: "One field from 0 to 1 has as many bits as there are usages: it is one number, no \
@@ -351,7 +350,7 @@ pub static RULES: [RuleRow; 54] = [
         without: "05 01 09 05 a1 01 05 09 19 01 29 08 15 00 25 01 75 01 95 08 81 02 c0",
     },
     RuleRow {
-        rule: Rule::DeviceAsSwitch, number: 22, name: "buttons-without-button-page",
+        rule: Rule::DeviceAsSwitch, number: "HID022", name: "buttons-without-button-page",
         severity: Severity::Warning, source: Source::Desktop,
         wrong: "Switches have usages that name devices.",
         why: "Usages 1 to 15 of Generic Desktop are devices, as Pointer and Mouse, and no buttons.",
@@ -361,7 +360,7 @@ pub static RULES: [RuleRow; 54] = [
             81 03 c0",
     },
     RuleRow {
-        rule: Rule::HatWithoutNull, number: 23, name: "hat-without-null-state",
+        rule: Rule::HatWithoutNull, number: "HID023", name: "hat-without-null-state",
         severity: Severity::Warning, source: Source::Desktop,
         wrong: "A hat switch of 8 directions has no null state.",
         why: "Each of its values is a direction, so it can't say that it is at its centre.",
@@ -371,7 +370,7 @@ pub static RULES: [RuleRow; 54] = [
         without: "05 01 09 05 a1 01 09 39 15 00 25 07 75 04 95 01 81 42 75 04 81 03 c0",
     },
     RuleRow {
-        rule: Rule::OneWay, number: 24, name: "relative-one-way",
+        rule: Rule::OneWay, number: "HID024", name: "relative-one-way",
         severity: Severity::Warning, source: Source::DataItems,
         wrong: "A relative axis goes one way alone.",
         why: "Its values are changes; none is below 0, so it never goes back.",
@@ -380,7 +379,7 @@ pub static RULES: [RuleRow; 54] = [
         without: "05 01 09 02 a1 01 09 30 15 81 25 7f 75 08 95 01 81 06 c0",
     },
     RuleRow {
-        rule: Rule::UnitAtSwitches, number: 25, name: "unit-at-switches",
+        rule: Rule::UnitAtSwitches, number: "HID025", name: "unit-at-switches",
         severity: Severity::Note, source: Source::GlobalItems,
         wrong: "A unit is still in force at switches of one bit.",
         why: "Global items hold until another takes their place, and a switch has no unit.",
@@ -391,7 +390,7 @@ pub static RULES: [RuleRow; 54] = [
             00 05 09 19 01 29 04 15 00 25 01 75 01 95 04 81 02 c0",
     },
     RuleRow {
-        rule: Rule::ReservedUnit, number: 26, name: "reserved-unit-system",
+        rule: Rule::ReservedUnit, number: "HID026", name: "reserved-unit-system",
         severity: Severity::Warning, source: Source::GlobalItems,
         wrong: "The unit's system is reserved.",
         why: "The lowest four bits of a unit are its system: 1 to 4, or 15 for vendors.",
@@ -400,7 +399,7 @@ pub static RULES: [RuleRow; 54] = [
         without: "05 01 09 02 a1 01 09 30 15 00 25 7f 65 11 75 08 95 01 81 02 c0",
     },
     RuleRow {
-        rule: Rule::UnitWithoutSystem, number: 27, name: "unit-without-system",
+        rule: Rule::UnitWithoutSystem, number: "HID027", name: "unit-without-system",
         severity: Severity::Warning, source: Source::GlobalItems,
         wrong: "The unit has exponents and no system.",
         why: "Its lowest four bits, the system, are 0, which means no unit.",
@@ -409,7 +408,7 @@ pub static RULES: [RuleRow; 54] = [
         without: "05 01 09 02 a1 01 09 30 15 00 25 7f 65 11 75 08 95 01 81 02 c0",
     },
     RuleRow {
-        rule: Rule::UnitToAPower, number: 28, name: "unit-to-a-power",
+        rule: Rule::UnitToAPower, number: "HID028", name: "unit-to-a-power",
         severity: Severity::Warning, source: Source::Axes,
         wrong: "An axis is measured in a power of a length or an angle.",
         why: "65 33 is cubic inches; an axis has a length or an angle.",
@@ -419,7 +418,7 @@ pub static RULES: [RuleRow; 54] = [
         without: "05 01 09 02 a1 01 09 30 15 00 25 7f 65 13 75 08 95 01 81 02 c0",
     },
     RuleRow {
-        rule: Rule::ReportWithoutId, number: 29, name: "report-without-id",
+        rule: Rule::ReportWithoutId, number: "HID029", name: "report-without-id",
         severity: Severity::Error, source: Source::ReportIds,
         wrong: "A report has no id, and others have.",
         why: "Where ids are used each report begins with one, so this can't be told from others.",
@@ -428,7 +427,7 @@ pub static RULES: [RuleRow; 54] = [
         without: "05 01 09 02 a1 01 85 02 09 30 15 00 25 7f 75 08 95 01 81 02 85 01 09 31 81 02 c0",
     },
     RuleRow {
-        rule: Rule::PartialByte, number: 30, name: "report-not-whole-bytes",
+        rule: Rule::PartialByte, number: "HID030", name: "report-not-whole-bytes",
         severity: Severity::Warning, source: Source::Reports,
         wrong: "A report's bits are no whole number of bytes.",
         why: "Reports are sent in bytes; Windows refuses bits that no item has.",
@@ -438,7 +437,7 @@ pub static RULES: [RuleRow; 54] = [
         without: "05 01 09 02 a1 01 09 30 15 00 25 7f 75 07 95 01 81 02 75 01 81 01 c0",
     },
     RuleRow {
-        rule: Rule::FieldPastFourBytes, number: 31, name: "field-past-four-bytes",
+        rule: Rule::FieldPastFourBytes, number: "HID031", name: "field-past-four-bytes",
         severity: Severity::Error, source: Source::Reports,
         wrong: "A field lies in more than four bytes.",
         why: "A value may span four bytes of a report, so one of 32 bits begins at a byte.",
@@ -448,7 +447,7 @@ pub static RULES: [RuleRow; 54] = [
         without: "05 01 09 02 a1 01 09 30 15 00 27 ff ff ff 7f 75 20 95 01 81 02 75 08 81 03 c0",
     },
     RuleRow {
-        rule: Rule::ReportApart, number: 32, name: "report-in-several-collections",
+        rule: Rule::ReportApart, number: "HID032", name: "report-in-several-collections",
         severity: Severity::Error, source: Source::Reports,
         wrong: "A report lies in several outermost collections.",
         why: "To hosts each outermost collection is a device of its own, and a report belongs to \
@@ -460,7 +459,7 @@ pub static RULES: [RuleRow; 54] = [
             02 09 31 81 02 c0",
     },
     RuleRow {
-        rule: Rule::PastTransaction, number: 33, name: "report-past-one-transaction",
+        rule: Rule::PastTransaction, number: "HID033", name: "report-past-one-transaction",
         severity: Severity::Note, source: Source::Transactions,
         wrong: "An input report has more than 64 bytes.",
         why: "At full speed an interrupt transaction has 64, so the report is sent in several.",
@@ -469,7 +468,7 @@ pub static RULES: [RuleRow; 54] = [
         without: "06 00 ff 09 01 a1 01 09 02 15 00 26 ff 00 75 08 95 40 81 02 c0",
     },
     RuleRow {
-        rule: Rule::NoContactMaximum, number: 34, name: "touch-pad-without-contact-maximum",
+        rule: Rule::NoContactMaximum, number: "HID034", name: "touch-pad-without-contact-maximum",
         severity: Severity::Warning, source: Source::TouchPads,
         wrong: "A touch pad has no Contact Count Maximum.",
         why: "Windows asks a precision touch pad how many contacts it has.",
@@ -481,7 +480,7 @@ pub static RULES: [RuleRow; 54] = [
             c0 09 55 25 0f 75 08 b1 02 c0",
     },
     RuleRow {
-        rule: Rule::OtherUsages, number: 35, name: "usages-differ-by-standard",
+        rule: Rule::OtherUsages, number: "HID035", name: "usages-differ-by-standard",
         severity: Severity::Note, source: Source::LocalItems,
         wrong: "Hosts find other usages than the standard's letter.",
         why: "A usage without a page takes it at its main item for hosts, where it stands by the \
@@ -493,7 +492,7 @@ pub static RULES: [RuleRow; 54] = [
             75 06 81 03 c0",
     },
     RuleRow {
-        rule: Rule::RefusedByStandard, number: 36, name: "refused-by-standard",
+        rule: Rule::RefusedByStandard, number: "HID036", name: "refused-by-standard",
         severity: Severity::Warning, source: Source::LocalItems,
         wrong: "By the standard's letter the descriptor is refused.",
         why: "Hosts read it; a strict parser finds an item without a page or a usage.",
@@ -502,7 +501,7 @@ pub static RULES: [RuleRow; 54] = [
         without: "05 01 09 02 a1 01 09 30 15 00 25 7f 75 08 95 01 81 02 c0",
     },
     RuleRow {
-        rule: Rule::LinuxRefuses, number: 37, name: "linux-refuses",
+        rule: Rule::LinuxRefuses, number: "HID037", name: "linux-refuses",
         severity: Severity::Error, source: Source::Linux,
         wrong: "Linux refuses the descriptor.",
         why: "hid-core ends at this item, and no driver takes the device.",
@@ -511,7 +510,7 @@ pub static RULES: [RuleRow; 54] = [
         without: "05 01 09 02 a1 01 09 30 15 00 25 7f 75 08 95 01 91 02 c0",
     },
     RuleRow {
-        rule: Rule::LinuxDoubt, number: 38, name: "linux-may-read-otherwise",
+        rule: Rule::LinuxDoubt, number: "HID038", name: "linux-may-read-otherwise",
         severity: Severity::Warning, source: Source::Linux,
         wrong: "Linux may find other usages here.",
         why: "hid-core has its own answer to what the standard leaves open.",
@@ -522,7 +521,7 @@ pub static RULES: [RuleRow; 54] = [
         without: "05 01 09 02 a1 01 05 09 09 01 15 00 25 01 75 01 95 01 81 02 75 07 81 03 c0",
     },
     RuleRow {
-        rule: Rule::LinuxLeavesOut, number: 39, name: "linux-leaves-out",
+        rule: Rule::LinuxLeavesOut, number: "HID039", name: "linux-leaves-out",
         severity: Severity::Warning, source: Source::Linux,
         wrong: "Linux leaves out a part of the descriptor.",
         why: "hid-core keeps 12,288 usages of an item and 256 items of a report.",
@@ -531,7 +530,7 @@ pub static RULES: [RuleRow; 54] = [
         without: "05 01 09 06 a1 01 06 00 ff 19 00 2a ff 2f 26 ff 7f 75 10 95 01 81 00 c0",
     },
     RuleRow {
-        rule: Rule::LinuxOverflow, number: 40, name: "linux-division-overflows",
+        rule: Rule::LinuxOverflow, number: "HID040", name: "linux-division-overflows",
         severity: Severity::Warning, source: Source::Linux,
         wrong: "Linux divides -2147483648 by -1 here.",
         why: "Bounds of a Resolution Multiplier that span all numbers overflow in hid-core.",
@@ -540,7 +539,7 @@ pub static RULES: [RuleRow; 54] = [
         without: "05 01 09 02 a1 01 09 48 17 00 00 00 80 27 fe ff ff 7f 75 20 95 01 b1 02 c0",
     },
     RuleRow {
-        rule: Rule::LinuxMends, number: 41, name: "linux-mends",
+        rule: Rule::LinuxMends, number: "HID041", name: "linux-mends",
         severity: Severity::Note, source: Source::Linux,
         wrong: "Linux reads other bytes than stand there.",
         why: "hid-core completes what is cut short; another host need not do the same.",
@@ -549,7 +548,7 @@ pub static RULES: [RuleRow; 54] = [
         without: "05 01 09 02 a1 01 09 30 09 31 15 00 25 01 75 08 95 01 81 00 c0",
     },
     RuleRow {
-        rule: Rule::WindowsUnknown, number: 42, name: "windows-item-unknown",
+        rule: Rule::WindowsUnknown, number: "HID042", name: "windows-item-unknown",
         severity: Severity::Error, source: Source::Windows,
         wrong: "Windows refuses an item of a reserved type or tag.",
         why: "It is HIDP_GETCOLDESC_ITEM_UNKNOWN.",
@@ -558,7 +557,7 @@ pub static RULES: [RuleRow; 54] = [
         without: "05 01 09 02 a1 01 09 30 15 00 25 7f 75 08 95 01 81 02 c0",
     },
     RuleRow {
-        rule: Rule::WindowsExtraEnd, number: 43, name: "windows-unexpected-end",
+        rule: Rule::WindowsExtraEnd, number: "HID043", name: "windows-unexpected-end",
         severity: Severity::Error, source: Source::Windows,
         wrong: "Windows refuses an End Collection without a collection.",
         why: "It is HIDP_GETCOLDESC_UNEXP_END_COLLECTION.",
@@ -567,7 +566,7 @@ pub static RULES: [RuleRow; 54] = [
         without: "05 01 09 02 a1 01 09 30 15 00 25 7f 75 08 95 01 81 02 c0",
     },
     RuleRow {
-        rule: Rule::WindowsNoUsage, number: 44, name: "windows-data-without-usage",
+        rule: Rule::WindowsNoUsage, number: "HID044", name: "windows-data-without-usage",
         severity: Severity::Error, source: Source::Windows,
         wrong: "Windows refuses a data item without a usage.",
         why: "It is HIDP_GETCOLDESC_MAIN_ITEM_NO_USAGE.",
@@ -577,7 +576,7 @@ pub static RULES: [RuleRow; 54] = [
         without: "05 01 09 02 a1 01 15 00 25 7f 75 08 95 01 81 01 c0",
     },
     RuleRow {
-        rule: Rule::WindowsTopUsage, number: 45, name: "windows-top-collection-usage",
+        rule: Rule::WindowsTopUsage, number: "HID045", name: "windows-top-collection-usage",
         severity: Severity::Error, source: Source::Windows,
         wrong: "Windows wants one usage of an outermost collection.",
         why: "It is HIDP_GETCOLDESC_TOP_COLLECTION_USAGE.",
@@ -586,7 +585,7 @@ pub static RULES: [RuleRow; 54] = [
         without: "05 01 09 02 a1 01 09 30 15 00 25 7f 75 08 95 01 81 02 c0",
     },
     RuleRow {
-        rule: Rule::WindowsIdOutside, number: 46, name: "windows-report-id-outside",
+        rule: Rule::WindowsIdOutside, number: "HID046", name: "windows-report-id-outside",
         severity: Severity::Error, source: Source::Windows,
         wrong: "Windows refuses a Report ID outside of collections.",
         why: "It is HIDP_GETCOLDESC_REPORT_ID.",
@@ -595,7 +594,7 @@ pub static RULES: [RuleRow; 54] = [
         without: "05 01 09 02 a1 01 85 01 09 30 15 00 25 7f 75 08 95 01 81 02 c0",
     },
     RuleRow {
-        rule: Rule::WindowsIdZero, number: 47, name: "windows-report-id-zero",
+        rule: Rule::WindowsIdZero, number: "HID047", name: "windows-report-id-zero",
         severity: Severity::Error, source: Source::Windows,
         wrong: "Windows refuses the Report ID 0.",
         why: "It is HIDP_GETCOLDESC_BAD_REPORT_ID_VALUE.",
@@ -604,7 +603,7 @@ pub static RULES: [RuleRow; 54] = [
         without: "05 01 09 02 a1 01 09 30 15 00 25 7f 75 08 95 01 81 02 c0",
     },
     RuleRow {
-        rule: Rule::WindowsIdShared, number: 48, name: "windows-report-id-shared",
+        rule: Rule::WindowsIdShared, number: "HID048", name: "windows-report-id-shared",
         severity: Severity::Error, source: Source::Windows,
         wrong: "Windows refuses a Report ID in two outermost collections.",
         why: "It is HIDP_GETCOLDESC_NO_REPORT_ID.",
@@ -615,7 +614,7 @@ pub static RULES: [RuleRow; 54] = [
             02 09 30 b1 02 c0",
     },
     RuleRow {
-        rule: Rule::WindowsNoId, number: 49, name: "windows-report-without-id",
+        rule: Rule::WindowsNoId, number: "HID049", name: "windows-report-without-id",
         severity: Severity::Error, source: Source::Windows,
         wrong: "Windows wants an id of each report, or of none.",
         why: "It is HIDP_GETCOLDESC_DEFAULT_ID_ERROR, also for two outermost collections without.",
@@ -626,7 +625,7 @@ pub static RULES: [RuleRow; 54] = [
             02 09 30 b1 02 c0",
     },
     RuleRow {
-        rule: Rule::WindowsNoData, number: 50, name: "windows-no-collection",
+        rule: Rule::WindowsNoData, number: "HID050", name: "windows-no-collection",
         severity: Severity::Error, source: Source::Windows,
         wrong: "Windows wants a collection.",
         why: "It is HIDP_GETCOLDESC_NO_DATA.",
@@ -635,7 +634,7 @@ pub static RULES: [RuleRow; 54] = [
         without: "05 01 09 02 a1 01 09 30 15 00 25 7f 75 08 95 01 81 02 c0",
     },
     RuleRow {
-        rule: Rule::WindowsOutside, number: 51, name: "windows-data-outside",
+        rule: Rule::WindowsOutside, number: "HID051", name: "windows-data-outside",
         severity: Severity::Error, source: Source::Windows,
         wrong: "Windows refuses data outside of collections.",
         why: "It is HIDP_GETCOLDESC_INVALID_MAIN_ITEM.",
@@ -644,7 +643,7 @@ pub static RULES: [RuleRow; 54] = [
         without: "05 01 09 02 a1 01 09 30 15 00 25 7f 75 08 95 01 81 02 c0",
     },
     RuleRow {
-        rule: Rule::WindowsUnaligned, number: 52, name: "windows-report-not-whole-bytes",
+        rule: Rule::WindowsUnaligned, number: "HID052", name: "windows-report-not-whole-bytes",
         severity: Severity::Error, source: Source::Windows,
         wrong: "Windows refuses a report of no whole bytes.",
         why: "It is HIDP_GETCOLDESC_BYTE_ALLIGN.",
@@ -654,7 +653,7 @@ pub static RULES: [RuleRow; 54] = [
         without: "05 01 09 02 a1 01 09 30 15 00 25 7f 75 07 95 01 81 02 75 01 81 01 c0",
     },
     RuleRow {
-        rule: Rule::WindowsNotClosed, number: 53, name: "windows-set-not-closed",
+        rule: Rule::WindowsNotClosed, number: "HID053", name: "windows-set-not-closed",
         severity: Severity::Error, source: Source::Windows,
         wrong: "Windows refuses a set of usages that isn't closed.",
         why: "It is HIDP_GETCOLDESC_NO_CLOSE_DELIMITER.",
@@ -663,7 +662,7 @@ pub static RULES: [RuleRow; 54] = [
         without: "05 01 09 02 a1 01 15 00 25 7f 75 08 95 01 a9 01 09 30 09 31 a9 00 81 02 c0",
     },
     RuleRow {
-        rule: Rule::WindowsArrayOfSets, number: 54, name: "windows-array-of-sets",
+        rule: Rule::WindowsArrayOfSets, number: "HID054", name: "windows-array-of-sets",
         severity: Severity::Error, source: Source::Windows,
         wrong: "Windows refuses an array whose usages are in sets.",
         why: "It is HIDP_GETCOLDESC_UNSUPPORTED.",
@@ -686,24 +685,11 @@ impl Rule {
 }
 
 impl RuleRow {
-    /// Its number as it is told, as HID001.
-    pub fn id(&self, alloc: Global) -> Result<String, AllocError> {
-        let mut id = String::new(alloc);
-        self.add_id(&mut id)?;
-        Ok(id)
-    }
-
-    /// Appends its number as it is told.
-    pub fn add_id(&self, text: &mut String) -> Result<(), AllocError> {
-        let number = self.number;
-        write!(text, "HID{number:03}")
-    }
-
     /// Appends how bad it is, its number and its name.
     pub fn add_title(&self, text: &mut String) -> Result<(), AllocError> {
         text.push_str(self.severity.name())?;
         text.push_str(" ")?;
-        self.add_id(text)?;
+        text.push_str(self.number)?;
         text.push_str(" ")?;
         text.push_str(self.name)?;
         Ok(())
