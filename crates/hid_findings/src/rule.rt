@@ -289,9 +289,10 @@ pub static RULES: [RuleRow; 54] = [
     },
     RuleRow {
         rule: Rule::OneValue, number: "HID016", name: "bounds-of-one-value",
-        severity: Severity::Warning, source: Source::GlobalItems,
+        severity: Severity::Note, source: Source::GlobalItems,
         wrong: "The Logical Minimum and Maximum are one number.",
-        why: "Such a field says nothing; often the bounds are those of an item before.",
+        why: "A field of one value says nothing; a host may want it, but often the bounds are \
+            those of an item before.",
         instead: "Write the field's own, as Logical Minimum (0), Logical Maximum (1).",
         example: "05 01 09 02 a1 01 09 30 15 05 25 05 75 08 95 01 81 02 c0",
         without: "05 01 09 02 a1 01 09 30 15 00 25 05 75 08 95 01 81 02 c0",
