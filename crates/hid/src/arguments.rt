@@ -6,8 +6,8 @@ pub enum Kind {
     /// A word that has to be there.
     Word,
 
-    /// A word that has to be there where this option isn't.
-    WordUnless(&'static str),
+    /// A word that has to be there where no rule is to be explained.
+    WordOrRule,
 
     /// Words, or none.
     Words,
@@ -45,8 +45,8 @@ pub enum Kind {
     /// How bad a finding is at least for which the status is 1.
     Severity,
 
-    /// A rule of `check` that is explained, for which these arguments mean nothing.
-    Rule(&'static [&'static str]),
+    /// A rule of `check` that is explained.
+    Rule,
 
     /// A folder.
     Folder,
@@ -95,6 +95,12 @@ pub static OPTIONS: [Argument; 8] = [
     ),
 ];
 
+/// The option of a rule that is explained.
+pub const EXPLAIN: &str = "explain";
+
+/// What means nothing beside it.
+pub static NOT_EXPLAINED: [&str; 3] = ["FILE", "for", "fail-on"];
+
 /// Options that are no more, and what is said in their place.
 pub static REPLACED: [(&str, &str); 3] = [
     (
@@ -119,7 +125,7 @@ const TARGET: Argument = ("to", Kind::Target, WRITTEN_AS);
 static DECODE: [Argument; 1] = [FILE];
 
 static CHECK: [Argument; 4] = [
-    ("FILE", Kind::WordUnless("explain"), "The descriptor"),
+    ("FILE", Kind::WordOrRule, "The descriptor"),
     (
         "for",
         Kind::Host,
@@ -131,8 +137,8 @@ static CHECK: [Argument; 4] = [
         "The status is 1 where a finding is so bad, or worse",
     ),
     (
-        "explain",
-        Kind::Rule(&["FILE", "for", "fail-on"]),
+        EXPLAIN,
+        Kind::Rule,
         "Show what a rule means and what to write, by its number or name; all: a line of each",
     ),
 ];

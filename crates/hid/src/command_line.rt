@@ -1,5 +1,5 @@
 //! The words that `hid` knows.
-use crate::arguments::{Argument, COMMANDS, Kind, OPTIONS, arguments_of};
+use crate::arguments::{Argument, COMMANDS, EXPLAIN, Kind, NOT_EXPLAINED, OPTIONS, arguments_of};
 use crate::settings::READINGS;
 use clap::{Arg, ArgAction, Command};
 use hid_findings::{FAIL_WORDS, HOSTS};
@@ -52,7 +52,7 @@ fn argument_of<'a>(alloc: Global, argument: Argument) -> Result<Arg<'a>, AllocEr
     let arg = Arg::new(alloc, name).help(help);
     Ok(match kind {
         Kind::Word => arg.value_name(name).required(true),
-        Kind::WordUnless(option) => arg.value_name(name).required_unless_present(option)?,
+        Kind::WordOrRule => arg.value_name(name).required_unless_present(EXPLAIN)?,
         Kind::Words => arg.num_args(0..),
         Kind::Flag => arg.long(name).action(ArgAction::SetTrue),
         Kind::Setting => of_all(arg.long(name).action(ArgAction::SetTrue)),
@@ -67,10 +67,10 @@ fn argument_of<'a>(alloc: Global, argument: Argument) -> Result<Arg<'a>, AllocEr
         Kind::Direction => choice(arg, name, "DIRECTION", &DIRECTIONS).default_value("input"),
         Kind::Host => choice(arg, name, "HOST", &HOSTS),
         Kind::Severity => choice(arg, name, "SEVERITY", &FAIL_WORDS).default_value("note"),
-        Kind::Rule(others) => arg
+        Kind::Rule => arg
             .long(name)
             .value_name("RULE")
-            .conflicts_with_all(others)?,
+            .conflicts_with_all(&NOT_EXPLAINED)?,
         Kind::Folder => of_all(arg.long(name).value_name("DIR").default_value("/sys")),
         Kind::Target => choice(arg, name, "TARGET", &TARGETS).default_value("hex"),
         Kind::ReportTarget => choice(arg, name, "TARGET", report_targets()).default_value("hex"),

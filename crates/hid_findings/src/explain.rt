@@ -40,9 +40,10 @@ impl Explain {
         if word.eq_ignore_ascii_case(ALL) {
             return Ok(Explain { rule: None });
         }
-        for row in &RULES {
+        for rule in &RULES {
+            let row = rule.row();
             if row.number.eq_ignore_ascii_case(word) || row.name.eq_ignore_ascii_case(word) {
-                let rule = Some(row.rule);
+                let rule = Some(*rule);
                 return Ok(Explain { rule });
             }
         }
@@ -53,10 +54,11 @@ impl Explain {
     /// Shows a rule, or a line of each.
     pub fn run<R: AllocGlobal + Print>(&self, rt: &R, settings: &Settings) -> Result<Ending> {
         let mut text = String::new(rt.alloc());
-        for row in &RULES {
-            if self.rule.is_some() && self.rule != Some(row.rule) {
+        for rule in &RULES {
+            if self.rule.is_some() && self.rule != Some(*rule) {
                 continue;
             }
+            let row = rule.row();
             if settings.is_json {
                 add_object(&mut text, row)?;
             } else if self.rule.is_none() {
@@ -73,8 +75,9 @@ impl Explain {
 /// The names that are nearest to a word: of those that have it as a part, where some have.
 fn nearest_to(alloc: Global, word: &str) -> Result<String, AllocError> {
     let mut nearest = Nearest::new(alloc, word)?;
-    let have_it = RULES.iter().any(|row| row.name.contains(word));
-    for row in &RULES {
+    let have_it = RULES.iter().any(|rule| rule.row().name.contains(word));
+    for rule in &RULES {
+        let row = rule.row();
         if row.name.contains(word) || !have_it {
             nearest.add(String::from_str(alloc, row.name)?)?;
         }
