@@ -17,6 +17,7 @@ parts=$top/checks/hid
 shown() {
     python3 "$parts/runs.py" "$hid" "$other"
     python3 "$parts/told.py"
+    python3 "$parts/rules.py" "$hid"
     bash "$parts/options.sh" "$hid" "$hidreport"
     bash "$parts/devices.sh" "$hid"
     bash "$parts/samples.sh" "$hid" "$hidreport"

@@ -4,8 +4,13 @@ import { byId, counted, make, shown } from "./elements.js";
 /** How many are listed above; the others stand at their items alone. */
 const MOST_LISTED = 20;
 
+/** What is said of a finding, its rule first. */
+function wordsOf({ severity, rule, name, odd }) {
+  return shown(`${severity} ${rule} ${name}: ${odd}`);
+}
+
 function findingRow(finding) {
-  const cell = make("td", { className: "finding", colSpan: 2 }, shown(finding.odd));
+  const cell = make("td", { className: "finding", colSpan: 2 }, wordsOf(finding));
   return make("tr", { className: "finding" }, make("th", { scope: "row" }), cell);
 }
 
@@ -23,7 +28,7 @@ function putAtItems(findings) {
 
 /** A line of the list: a button that goes to the item, where there is one. */
 function findingLine(finding) {
-  const words = shown(finding.odd);
+  const words = wordsOf(finding);
   const item = finding.offset === null ? null : byId(`item-${finding.offset}`);
   if (item === null) return make("li", {}, words);
   const go = make("button", { type: "button", className: "jump" }, `${finding.offset}: ${words}`);

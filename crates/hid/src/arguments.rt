@@ -6,6 +6,9 @@ pub enum Kind {
     /// A word that has to be there.
     Word,
 
+    /// A word that has to be there where no rule is to be explained.
+    WordOrRule,
+
     /// Words, or none.
     Words,
 
@@ -38,6 +41,12 @@ pub enum Kind {
 
     /// A host whose refusals are told.
     Host,
+
+    /// How bad a finding is at least for which the status is 1.
+    Severity,
+
+    /// A rule of `check` that is explained.
+    Rule,
 
     /// A folder.
     Folder,
@@ -86,6 +95,12 @@ pub static OPTIONS: [Argument; 8] = [
     ),
 ];
 
+/// The option of a rule that is explained.
+pub const EXPLAIN: &str = "explain";
+
+/// What means nothing beside it.
+pub static NOT_EXPLAINED: [&str; 3] = ["FILE", "for", "fail-on"];
+
 /// Options that are no more, and what is said in their place.
 pub static REPLACED: [(&str, &str); 3] = [
     (
@@ -109,12 +124,22 @@ const TARGET: Argument = ("to", Kind::Target, WRITTEN_AS);
 
 static DECODE: [Argument; 1] = [FILE];
 
-static CHECK: [Argument; 2] = [
-    FILE,
+static CHECK: [Argument; 4] = [
+    ("FILE", Kind::WordOrRule, "The descriptor"),
     (
         "for",
         Kind::Host,
         "Show also what this host refuses or may read otherwise, as far as it is known",
+    ),
+    (
+        "fail-on",
+        Kind::Severity,
+        "The status is 1 where a finding is so bad, or worse",
+    ),
+    (
+        EXPLAIN,
+        Kind::Rule,
+        "Show what a rule means and what to write, by its number or name; all: a line of each",
     ),
 ];
 

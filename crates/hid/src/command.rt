@@ -2,7 +2,7 @@
 use anyhow::{Result, bail};
 use clap::ArgMatches;
 use hid_compare::Diff;
-use hid_findings::{Check, Host};
+use hid_findings::{Check, Explain, Host, Severity};
 use hid_input::inputs::Inputs;
 use hid_input::settings::Settings;
 use hid_input::world::World;
@@ -43,6 +43,8 @@ pub enum Command<'a> {
     Diff(Diff<'a>),
     /// Shows what is odd in a descriptor.
     Check(Check<'a>),
+    /// Shows what rules of `check` mean.
+    Explain(Explain),
     /// Shows the HID devices of the machine.
     List(List),
 }
@@ -62,10 +64,7 @@ impl<'a> Command<'a> {
                     shows_linux,
                 })
             }
-            "check" => {
-                let host = matches.get_str("for").and_then(Host::named);
-                Command::Check(Check { file, host })
-            }
+            "check" => check_of(alloc, file, matches)?,
             "list" => Command::List(List),
             "values" => Command::Values(Values {
                 inputs: inputs_of(alloc, file, matches)?,
@@ -111,6 +110,7 @@ impl<'a> Command<'a> {
             Command::Page(command) => command.inputs.file,
             Command::Diff(command) => command.file,
             Command::Check(command) => command.file,
+            Command::Explain(_) => "check",
             Command::List(_) => "list",
         }
     }
@@ -167,6 +167,7 @@ impl<'a> Command<'a> {
             Command::Page(command) => command.run(rt, settings),
             Command::Diff(command) => command.run(rt, settings),
             Command::Check(command) => command.run(rt, settings),
+            Command::Explain(command) => command.run(rt, settings),
             Command::List(command) => command.run(rt, settings),
         }
     }
@@ -195,6 +196,18 @@ fn words_of<'a>(
         Some(words) => Vec::from_slice(alloc, words),
         None => Ok(Vec::new(alloc)),
     }
+}
+
+/// What `check` is asked for: a descriptor, or rules.
+fn check_of<'a>(alloc: Global, file: &'a str, matches: &ArgMatches<'a>) -> Result<Command<'a>> {
+    if let Some(word) = matches.get_str("explain") {
+        return Ok(Command::Explain(Explain::named(alloc, word)?));
+    }
+    Ok(Command::Check(Check {
+        file,
+        host: matches.get_str("for").and_then(Host::named),
+        fails_on: Severity::failing(matches.get_str("fail-on")),
+    }))
 }
 
 fn record_of<'a>(file: &'a str, matches: &ArgMatches<'a>) -> Record<'a> {

@@ -1,8 +1,8 @@
 //! The words that `hid` knows.
-use crate::arguments::{Argument, COMMANDS, Kind, OPTIONS, arguments_of};
+use crate::arguments::{Argument, COMMANDS, EXPLAIN, Kind, NOT_EXPLAINED, OPTIONS, arguments_of};
 use crate::settings::READINGS;
 use clap::{Arg, ArgAction, Command};
-use hid_findings::HOSTS;
+use hid_findings::{FAIL_WORDS, HOSTS};
 use hid_given::FORM_WORDS;
 use hid_targets::{TARGETS, report_targets};
 use std::alloc::{AllocError, Global};
@@ -41,17 +41,18 @@ fn with_arguments<'a>(
 ) -> Result<Command<'a>, AllocError> {
     let mut command = command;
     for argument in arguments {
-        command = command.arg(argument_of(alloc, *argument))?;
+        command = command.arg(argument_of(alloc, *argument)?)?;
     }
     Ok(command)
 }
 
 /// An argument.
-fn argument_of<'a>(alloc: Global, argument: Argument) -> Arg<'a> {
+fn argument_of<'a>(alloc: Global, argument: Argument) -> Result<Arg<'a>, AllocError> {
     let (name, kind, help) = argument;
     let arg = Arg::new(alloc, name).help(help);
-    match kind {
+    Ok(match kind {
         Kind::Word => arg.value_name(name).required(true),
+        Kind::WordOrRule => arg.value_name(name).required_unless_present(EXPLAIN)?,
         Kind::Words => arg.num_args(0..),
         Kind::Flag => arg.long(name).action(ArgAction::SetTrue),
         Kind::Setting => of_all(arg.long(name).action(ArgAction::SetTrue)),
@@ -65,10 +66,15 @@ fn argument_of<'a>(alloc: Global, argument: Argument) -> Arg<'a> {
         Kind::Colour => of_all(choice(arg, name, "WHEN", &COLOURS).default_value("auto")),
         Kind::Direction => choice(arg, name, "DIRECTION", &DIRECTIONS).default_value("input"),
         Kind::Host => choice(arg, name, "HOST", &HOSTS),
+        Kind::Severity => choice(arg, name, "SEVERITY", &FAIL_WORDS).default_value("note"),
+        Kind::Rule => arg
+            .long(name)
+            .value_name("RULE")
+            .conflicts_with_all(&NOT_EXPLAINED)?,
         Kind::Folder => of_all(arg.long(name).value_name("DIR").default_value("/sys")),
         Kind::Target => choice(arg, name, "TARGET", &TARGETS).default_value("hex"),
         Kind::ReportTarget => choice(arg, name, "TARGET", report_targets()).default_value("hex"),
-    }
+    })
 }
 
 /// An option that each command has; helps list these by themselves.

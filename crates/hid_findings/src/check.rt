@@ -1,7 +1,8 @@
 //! `hid check`: what is odd in a descriptor.
-use crate::finding::Finding;
+use crate::finding::{Finding, times_of};
 use crate::findings::{Checked, findings};
 use crate::host_findings::{Host, Verdict};
+use crate::severity::Severity;
 use anyhow::{Result, bail};
 use hid_input::parsing::descriptor_within;
 use hid_input::settings::Settings;
@@ -20,6 +21,8 @@ pub struct Check<'a> {
     pub file: &'a str,
     /// The host whose refusals are shown, too.
     pub host: Option<Host>,
+    /// How bad a finding is at least for which the status is 1, where one is.
+    pub fails_on: Option<Severity>,
 }
 
 /// Something odd, as JSON.
@@ -28,6 +31,9 @@ struct OddObject<'a> {
     offset: Option<usize>,
     odd: &'a str,
     source: &'a str,
+    rule: &'a str,
+    name: &'a str,
+    severity: &'a str,
 }
 
 /// What a host does with a descriptor, as JSON.
@@ -39,11 +45,26 @@ struct VerdictObject<'a> {
 }
 
 impl<'a> Check<'a> {
-    /// Shows each finding; something odd is refused.
+    /// Shows each finding; one that is as bad as the words say is refused.
     pub fn run<R: World>(&self, rt: &R, settings: &Settings) -> Result<Ending> {
         let given = descriptor_within(rt, settings, self.file)?;
         let found = checked(rt.alloc(), settings, given.descriptor(), self.host)?;
-        show_findings(rt, settings, &found)
+        show_findings(rt, settings, &found)?;
+        Ok(if fails(&found.findings, self.fails_on) {
+            Ending::Refused
+        } else {
+            Ending::Done
+        })
+    }
+}
+
+/// Whether some finding is at least so bad.
+fn fails(findings: &[Finding], least: Option<Severity>) -> bool {
+    match least {
+        Some(least) => findings
+            .iter()
+            .any(|it| it.rule.row().severity.is_at_least(least)),
+        None => false,
     }
 }
 
@@ -65,21 +86,24 @@ fn show_findings<R: AllocGlobal + Print>(
     rt: &R,
     settings: &Settings,
     found: &Checked,
-) -> Result<Ending> {
+) -> Result<()> {
     let mut text = String::new(rt.alloc());
-    for finding in found.findings.iter() {
-        add_finding(&mut text, settings, finding)?;
-        flush_piece(rt, &mut text)?;
+    if settings.is_json {
+        for finding in found.findings.iter() {
+            add_object(&mut text, finding)?;
+            flush_piece(rt, &mut text)?;
+        }
+    } else {
+        let times = times_of(rt.alloc(), &found.findings)?;
+        for (finding, times) in found.findings.iter().zip(times.iter()) {
+            add_line(&mut text, finding, *times)?;
+            flush_piece(rt, &mut text)?;
+        }
     }
     if let Some(verdict) = found.verdict {
         add_verdict(&mut text, settings, verdict)?;
     }
-    flush(rt, &mut text)?;
-    Ok(if found.findings.is_empty() {
-        Ending::Done
-    } else {
-        Ending::Refused
-    })
+    flush(rt, &mut text)
 }
 
 /// Appends the line of what Linux does with a descriptor.
@@ -108,27 +132,43 @@ fn add_verdict(text: &mut String, settings: &Settings, verdict: Verdict) -> Resu
     Ok(())
 }
 
-/// Appends the line of a finding.
-fn add_finding(text: &mut String, settings: &Settings, finding: &Finding) -> Result<()> {
-    let offset = finding.offset;
-    if settings.is_json {
-        let mut said = String::new(*text.allocator());
-        finding.add(&mut said)?;
-        let (odd, source) = (said.as_str(), finding.source.name());
-        return add_json(
-            text,
-            &OddObject {
-                offset,
-                odd,
-                source,
-            },
-        );
+/// Appends a finding as JSON.
+fn add_object(text: &mut String, finding: &Finding) -> Result<()> {
+    let mut said = String::new(*text.allocator());
+    finding.add(&mut said)?;
+    let row = finding.rule.row();
+    add_json(
+        text,
+        &OddObject {
+            offset: finding.offset,
+            odd: said.as_str(),
+            source: finding.source.name(),
+            rule: row.number,
+            name: row.name,
+            severity: row.severity.name(),
+        },
+    )
+}
+
+/// Appends the line of a finding that comes so often in the same words; one that came before has
+/// none.
+fn add_line(text: &mut String, finding: &Finding, times: usize) -> Result<()> {
+    if times == 0 {
+        return Ok(());
     }
-    match offset {
+    match finding.offset {
         Some(offset) => write!(text, "{offset:>5}: ")?,
         None => text.push_str("       ")?,
     }
+    finding.rule.row().add_title(text)?;
+    text.push_str(": ")?;
     finding.add(text)?;
+    if times > 1 {
+        write!(text, "; {times} times")?;
+        if let Some(offset) = finding.offset {
+            write!(text, ", first at {offset}")?;
+        }
+    }
     text.push_str("\n")?;
     Ok(())
 }

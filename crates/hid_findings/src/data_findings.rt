@@ -1,6 +1,7 @@
 //! What is odd in an Input, Output or Feature.
-use crate::finding::{Finding, Source, tell};
+use crate::finding::{Finding, tell};
 use crate::local_usages::LocalUsages;
+use crate::rule::Rule;
 use hid_items::items::Globals;
 use hid_words::{add_usage_on_page, plural};
 use hidreport::Usage;
@@ -47,9 +48,9 @@ impl DataItem {
         &self,
         findings: &mut Vec<Finding>,
         remark: &str,
-        source: Source,
+        rule: Rule,
     ) -> Result<(), AllocError> {
-        tell(findings, Some(self.globals.maximum_offset), remark, source)
+        tell(findings, Some(self.globals.maximum_offset), remark, rule)
     }
 
     /// What may be meant by a maximum below the minimum, where an item may have a byte more.
@@ -69,7 +70,7 @@ impl DataItem {
         }
         let hint = self.hint_of(low, high);
         let remark = format!(in self.alloc; "the maximum {high} is below the minimum {low}{hint}")?;
-        self.tell_maximum(findings, &remark, Source::GlobalItems)
+        self.tell_maximum(findings, &remark, Rule::MaximumBelowMinimum)
     }
 
     /// Notes that so few bits don't hold the logical maximum.
@@ -81,7 +82,7 @@ impl DataItem {
         }
         let s = plural(size);
         let remark = format!(in self.alloc; "the maximum {high} takes more than {size} bit{s}")?;
-        self.tell_maximum(findings, &remark, Source::GlobalItems)
+        self.tell_maximum(findings, &remark, Rule::MaximumTooWide)
     }
 
     /// Notes that the logical bounds are one number.
@@ -91,7 +92,7 @@ impl DataItem {
             return Ok(());
         }
         let remark = format!(in self.alloc; "its logical minimum and maximum are both {low}")?;
-        tell(findings, Some(self.offset), &remark, Source::GlobalItems)
+        tell(findings, Some(self.offset), &remark, Rule::OneValue)
     }
 
     /// Notes that there are more usages than switches of one bit.
@@ -103,7 +104,7 @@ impl DataItem {
         let s = plural(count);
         let remark = format!(in self.alloc; "{usages} usages for {count} field{s}")?;
         let offset = Some(self.usages.first_offset);
-        tell(findings, offset, &remark, Source::LocalItems)
+        tell(findings, offset, &remark, Rule::SpareUsages)
     }
 
     /// Notes that the last usage is that of several fields, where each field has one of its own: a
@@ -124,7 +125,7 @@ impl DataItem {
             "the last ones are all "
         })?;
         add_usage_on_page(&mut remark, last)?;
-        tell(findings, Some(self.offset), &remark, Source::LocalItems)
+        tell(findings, Some(self.offset), &remark, Rule::RepeatedUsage)
     }
 
     /// Notes that the greatest value of an array selects no usage.
@@ -143,7 +144,7 @@ impl DataItem {
         let remark = format!(in self.alloc;
             "the maximum {high} selects no usage: {usages} {count} from {low}"
         )?;
-        self.tell_maximum(findings, &remark, Source::DataItems)
+        self.tell_maximum(findings, &remark, Rule::ArrayMaximumPast)
     }
 
     /// Whether there are usages of no vendor, the last one with a meaning, and no alternatives.
@@ -188,17 +189,17 @@ pub fn tell_unit(
     if (5..=14).contains(&system) {
         *told = Some(unit);
         let remark = format!(in item.alloc; "the unit's system {system} is reserved")?;
-        return tell(findings, offset, &remark, Source::GlobalItems);
+        return tell(findings, offset, &remark, Rule::ReservedUnit);
     }
     if system == 0 {
         *told = Some(unit);
         let remark = "the unit has exponents and no system";
-        return tell(findings, offset, remark, Source::GlobalItems);
+        return tell(findings, offset, remark, Rule::UnitWithoutSystem);
     }
     if (2..=7).contains(&power) && system != 15 && is_axis(&last) {
         *told = Some(unit);
         let remark = power_remark(item.alloc, last, system, power)?;
-        return tell(findings, offset, &remark, Source::Axes);
+        return tell(findings, offset, &remark, Rule::UnitToAPower);
     }
     Ok(())
 }

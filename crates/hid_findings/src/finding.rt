@@ -1,5 +1,7 @@
-//! Something odd in a descriptor, and who says so.
-use std::alloc::AllocError;
+//! Something odd in a descriptor, by which rule, and how often it comes.
+use crate::rule::Rule;
+use crate::source::Source;
+use std::alloc::{AllocError, Global};
 use std::fmt::Write;
 
 /// Something odd.
@@ -9,75 +11,10 @@ pub struct Finding {
     pub offset: Option<usize>,
     /// What is odd.
     pub remark: String,
+    /// The rule by which it is.
+    pub rule: Rule,
     /// Who says so.
     pub source: Source,
-}
-
-/// Who says that something is odd: a section of a standard, or a host.
-#[derive(Clone, Copy, Debug, PartialEq, Eq)]
-pub enum Source {
-    /// `hid`, which refuses the descriptor.
-    Refusal,
-    /// Each report has an id, or none has.
-    ReportIds,
-    /// Types of items.
-    ItemTypes,
-    /// Long items.
-    LongItems,
-    /// Main items.
-    MainItems,
-    /// Inputs, Outputs and Features.
-    DataItems,
-    /// Collections.
-    CollectionItems,
-    /// Global items.
-    GlobalItems,
-    /// Local items.
-    LocalItems,
-    /// What a report is.
-    Reports,
-    /// Interrupt transactions.
-    Transactions,
-    /// Axes of Generic Desktop.
-    Axes,
-    /// Other usages of Generic Desktop.
-    Desktop,
-    /// Touch pads as Windows wants them.
-    TouchPads,
-    /// Linux's parser.
-    Linux,
-    /// What Windows' parser says.
-    Windows,
-}
-
-impl Source {
-    /// Its name; none where it is `hid`.
-    pub fn name(self) -> &'static str {
-        match self {
-            Source::Refusal => "",
-            Source::ReportIds => "USB HID 1.11, Section 5.6",
-            Source::ItemTypes => "USB HID 1.11, Section 6.2.2.2",
-            Source::LongItems => "USB HID 1.11, Section 6.2.2.3",
-            Source::MainItems => "USB HID 1.11, Section 6.2.2.4",
-            Source::DataItems => "USB HID 1.11, Section 6.2.2.5",
-            Source::CollectionItems => "USB HID 1.11, Section 6.2.2.6",
-            Source::GlobalItems => "USB HID 1.11, Section 6.2.2.7",
-            Source::LocalItems => "USB HID 1.11, Section 6.2.2.8",
-            Source::Reports => "USB HID 1.11, Section 8.4",
-            Source::Transactions => "USB 2.0, Section 5.7.3",
-            Source::Axes => "HID Usage Tables, Axis Usages",
-            Source::Desktop => "HID Usage Tables, Generic Desktop Page",
-            Source::TouchPads => "Windows Precision Touchpad",
-            Source::Linux => "hid-core of Linux 6.12",
-            Source::Windows => "Windows' hidpddi.h",
-        }
-    }
-
-    /// Its name behind a remark: USB HID 1.11 is meant where none says another standard.
-    fn short_name(self) -> &'static str {
-        let name = self.name();
-        name.strip_prefix("USB HID 1.11, ").unwrap_or(name)
-    }
 }
 
 impl Finding {
@@ -92,17 +29,84 @@ impl Finding {
     }
 }
 
-/// Notes what is odd.
+/// Notes what is odd by a rule, which says whose it is.
 pub fn tell(
     findings: &mut Vec<Finding>,
     offset: Option<usize>,
     remark: &str,
+    rule: Rule,
+) -> Result<(), AllocError> {
+    tell_by(findings, offset, remark, rule, rule.row().source)
+}
+
+/// Notes what is odd by a rule, and who says so.
+pub fn tell_by(
+    findings: &mut Vec<Finding>,
+    offset: Option<usize>,
+    remark: &str,
+    rule: Rule,
     source: Source,
 ) -> Result<(), AllocError> {
     let remark = String::from_str(*findings.allocator(), remark)?;
     Ok(findings.push(Finding {
         offset,
         remark,
+        rule,
         source,
     })?)
+}
+
+/// How often each finding comes in the same words: where it comes first, and 0 where it comes again.
+pub fn times_of(alloc: Global, findings: &[Finding]) -> Result<Vec<usize>, AllocError> {
+    let mut keyed: Vec<(u64, usize)> = Vec::new(alloc);
+    for (place, finding) in findings.iter().enumerate() {
+        keyed.push((key_of(finding), place))?;
+    }
+    keyed.sort()?;
+    let mut times = Vec::new(alloc);
+    times.resize(findings.len(), 1usize)?;
+    let mut first = None;
+    for entry in keyed.iter() {
+        let (_key, place) = *entry;
+        match first {
+            Some(first) if are_alike(findings, first, place) => count(&mut times, first, place),
+            _ => first = Some(place),
+        }
+    }
+    Ok(times)
+}
+
+/// Counts a finding where the first of its kind is.
+fn count(times: &mut [usize], first: usize, place: usize) {
+    if let Some(number) = times.get_mut(first) {
+        *number = number.saturating_add(1);
+    }
+    if let Some(number) = times.get_mut(place) {
+        *number = 0;
+    }
+}
+
+/// Whether two findings are of one rule, in the same words.
+fn are_alike(findings: &[Finding], first: usize, place: usize) -> bool {
+    match (findings.get(first), findings.get(place)) {
+        (Some(first), Some(other)) => {
+            first.rule == other.rule && first.remark.as_str() == other.remark.as_str()
+        }
+        _ => false,
+    }
+}
+
+/// A number for a finding's rule and words.
+fn key_of(finding: &Finding) -> u64 {
+    let key = mixed(0, finding.rule.row().number);
+    mixed(key, &finding.remark)
+}
+
+/// A number with a text mixed in (FNV-1a).
+fn mixed(key: u64, text: &str) -> u64 {
+    let mut key = key;
+    for byte in text.as_bytes() {
+        key = (key ^ u64::from(*byte)).wrapping_mul(0x0000_0100_0000_01b3);
+    }
+    key
 }

@@ -1,11 +1,13 @@
 //! What is odd in a descriptor, and what the standard says.
 use crate::data_findings::{DataItem, tell_unit};
-use crate::finding::{Finding, Source, tell};
+use crate::finding::{Finding, tell, tell_by};
 use crate::host_findings::{Host, Verdict, tell_host};
 use crate::local_usages::LocalUsages;
 use crate::mistakes::tell_mistakes;
 use crate::other_usages::tell_other_usages;
 use crate::report_findings::tell_reports;
+use crate::rule::Rule;
+use crate::source::Source;
 use hid_input::settings::Settings;
 use hid_items::cut_data::cut_remark;
 use hid_items::item_lines::{offset_of, remark_of};
@@ -74,8 +76,8 @@ impl Watch {
     }
 
     /// Notes what is odd at an offset.
-    fn tell(&mut self, offset: usize, remark: &str, source: Source) -> Result<(), AllocError> {
-        tell(&mut self.findings, Some(offset), remark, source)
+    fn tell(&mut self, offset: usize, remark: &str, rule: Rule) -> Result<(), AllocError> {
+        tell(&mut self.findings, Some(offset), remark, rule)
     }
 
     /// Goes over all items.
@@ -99,14 +101,15 @@ impl Watch {
         let remark = remark_of(fault);
         let remark = format!(in self.alloc; "refused: {remark}")?;
         let offset = offset_of(Some(fault));
-        tell(&mut self.findings, offset, &remark, Source::Refusal)
+        tell(&mut self.findings, offset, &remark, Rule::Refused)
     }
 
     /// Goes over an item.
     fn pass(&mut self, entry: &PlacedItem) -> Result<(), AllocError> {
         let offset = entry.offset;
         if let Some(remark) = cut_remark(self.alloc, entry)? {
-            self.tell(offset, &remark, section_of(&entry.item))?;
+            let (findings, source) = (&mut self.findings, section_of(&entry.item));
+            tell_by(findings, Some(offset), &remark, Rule::DataCut, source)?;
             if matches!(entry.item, ItemType::Global(_)) {
                 return Ok(());
             }
@@ -118,8 +121,8 @@ impl Watch {
                 self.usages.pass(offset, item);
                 Ok(())
             }
-            ItemType::Long => self.tell(offset, "a long item: none is defined", Source::LongItems),
-            ItemType::Reserved => self.tell(offset, "its type is reserved", Source::ItemTypes),
+            ItemType::Long => self.tell(offset, "a long item: none is defined", Rule::LongItem),
+            ItemType::Reserved => self.tell(offset, "its type is reserved", Rule::ReservedType),
         }
     }
 
@@ -144,7 +147,7 @@ impl Watch {
             self.tell(
                 offset,
                 "an outermost collection is an Application",
-                Source::Reports,
+                Rule::OutermostKind,
             )?;
         }
         Ok(())
@@ -156,7 +159,7 @@ impl Watch {
             return self.tell(
                 offset,
                 "an Application has no usage",
-                Source::CollectionItems,
+                Rule::NamelessApplication,
             );
         }
         Ok(())
@@ -186,7 +189,7 @@ impl Watch {
     /// Notes that no collection is open.
     fn tell_place(&mut self, offset: usize) -> Result<(), AllocError> {
         if self.state.open.is_empty() {
-            return self.tell(offset, "it lies in no collection", Source::Reports);
+            return self.tell(offset, "it lies in no collection", Rule::OutsideCollections);
         }
         Ok(())
     }
@@ -194,7 +197,7 @@ impl Watch {
     /// Notes that there is nothing to hold a value.
     fn tell_no_bits(&mut self, offset: usize) -> Result<(), AllocError> {
         if self.state.globals.size == 0 || self.state.globals.count == 0 {
-            return self.tell(offset, "it has no bits", Source::GlobalItems);
+            return self.tell(offset, "it has no bits", Rule::NoBits);
         }
         Ok(())
     }
@@ -202,9 +205,9 @@ impl Watch {
     fn pass_global(&mut self, offset: usize, item: &GlobalItem) -> Result<(), AllocError> {
         match item {
             GlobalItem::ReportId(id) if u8::from(id) == 0 => {
-                self.tell(offset, "the report id 0 is reserved", Source::GlobalItems)
+                self.tell(offset, "the report id 0 is reserved", Rule::ReportIdZero)
             }
-            GlobalItem::Reserved => self.tell(offset, "its tag is reserved", Source::GlobalItems),
+            GlobalItem::Reserved => self.tell(offset, "its tag is reserved", Rule::ReservedTag),
             _ => Ok(()),
         }
     }
@@ -217,14 +220,14 @@ impl Watch {
         self.tell(
             self.usages.first_offset,
             "no item uses the usages from here on",
-            Source::LocalItems,
+            Rule::UnusedUsages,
         )
     }
 
     fn tell_open(&mut self) -> Result<(), AllocError> {
         for index in 0..self.state.open.len() {
             if let Some(offset) = self.state.open.get(index).copied() {
-                self.tell(offset, "the collection isn't closed", Source::MainItems)?;
+                self.tell(offset, "the collection isn't closed", Rule::OpenCollection)?;
             }
         }
         Ok(())
@@ -233,11 +236,7 @@ impl Watch {
     fn tell_pushed(&mut self) -> Result<(), AllocError> {
         for index in 0..self.state.pushed.len() {
             if let Some((offset, _globals)) = self.state.pushed.get(index).copied() {
-                self.tell(
-                    offset,
-                    "what is kept is never brought back",
-                    Source::GlobalItems,
-                )?;
+                self.tell(offset, "what is kept is never brought back", Rule::LonePush)?;
             }
         }
         Ok(())

@@ -1,5 +1,6 @@
 //! What a host refuses or may read otherwise, as far as it is known.
-use crate::finding::{Finding, Source, tell};
+use crate::finding::{Finding, tell};
+use crate::rule::Rule;
 use crate::windows_reading::{refusal_remark, tell_windows};
 use crate::windows_refusal::WindowsRefusal;
 use hid_input::settings::Settings;
@@ -82,19 +83,19 @@ fn tell_linux(
     let reading = LinuxReading::of(alloc, bytes)?;
     if let Some(doubt) = reading.doubt() {
         let remark = format!(in alloc; "Linux may read it otherwise: {}", doubt.reason.text())?;
-        tell(findings, Some(doubt.offset), &remark, Source::Linux)?;
+        tell(findings, Some(doubt.offset), &remark, Rule::LinuxDoubt)?;
     }
     if let Some(refusal) = reading.refusal() {
         let remark = format!(in alloc; "Linux refuses it: {}", refusal.reason.text())?;
-        tell(findings, Some(refusal.offset), &remark, Source::Linux)?;
+        tell(findings, Some(refusal.offset), &remark, Rule::LinuxRefuses)?;
         return Ok(Verdict::Refused);
     }
     if let Some(omission) = reading.left_out() {
         let remark = format!(in alloc; "Linux leaves out {}", omission.what.text())?;
-        tell(findings, Some(omission.offset), &remark, Source::Linux)?;
+        tell(findings, Some(omission.offset), &remark, Rule::LinuxLeavesOut)?;
     }
     if let Some(offset) = reading.overflow() {
-        tell(findings, Some(offset), OVERFLOW, Source::Linux)?;
+        tell(findings, Some(offset), OVERFLOW, Rule::LinuxOverflow)?;
     }
     match repair(alloc, bytes, settings.repair()) {
         Ok(repaired) => {
@@ -119,7 +120,7 @@ fn tell_change(findings: &mut Vec<Finding>, change: &Change) -> Result<(), Alloc
         remark.push_str(": ")?;
     }
     remark.push_str(why(change.reason))?;
-    tell(findings, Some(change.offset), &remark, Source::Linux)
+    tell(findings, Some(change.offset), &remark, Rule::LinuxMends)
 }
 
 /// Why Linux reads something else than what stands there.
@@ -149,5 +150,5 @@ fn tell_report(
     remark.push_str(": ")?;
     let refusal = refusal_remark(alloc, WindowsRefusal::Unaligned)?;
     remark.push_str(refusal.as_str())?;
-    tell(findings, None, &remark, Source::Windows)
+    tell(findings, None, &remark, Rule::WindowsUnaligned)
 }

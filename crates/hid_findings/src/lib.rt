@@ -5,6 +5,7 @@
 
 mod check;
 mod data_findings;
+mod explain;
 mod finding;
 mod findings;
 mod host_findings;
@@ -12,8 +13,13 @@ mod local_usages;
 mod mistakes;
 mod other_usages;
 mod report_findings;
+mod rule;
+mod severity;
+mod source;
 mod windows_reading;
 mod windows_refusal;
 
 pub use check::Check;
+pub use explain::Explain;
 pub use host_findings::{HOSTS, Host};
+pub use severity::{FAIL_WORDS, Severity};

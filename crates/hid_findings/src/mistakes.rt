@@ -1,6 +1,7 @@
 //! Mistakes that firmware often makes at an Input, Output or Feature.
 use crate::data_findings::{DataItem, is_axis};
-use crate::finding::{Finding, Source, tell};
+use crate::finding::{Finding, tell};
+use crate::rule::Rule;
 use hid_words::add_usage;
 use hidreport::Usage;
 use std::alloc::AllocError;
@@ -49,7 +50,7 @@ fn tell_left_out(item: &DataItem, findings: &mut Vec<Finding>) -> Result<(), All
         "the maximum {high} reaches {values} of {usages} usages, counted from {low}"
     )?;
     let offset = Some(item.globals.maximum_offset);
-    tell(findings, offset, &remark, Source::DataItems)
+    tell(findings, offset, &remark, Rule::ArrayMaximumBelow)
 }
 
 /// Notes a field of as many bits as there are usages, from 0 to 1: Report Size and Report Count are
@@ -65,7 +66,7 @@ fn tell_exchanged(item: &DataItem, findings: &mut Vec<Finding>) -> Result<(), Al
         "{usages} usages for 1 field of {size} bits: so many switches have Report Size (1), \
          Report Count ({size})"
     )?;
-    tell(findings, Some(item.offset), &remark, Source::GlobalItems)
+    tell(findings, Some(item.offset), &remark, Rule::Exchanged)
 }
 
 /// Notes switches whose usages are those of devices, since Usage Page (Button) is missing.
@@ -79,7 +80,7 @@ fn tell_no_switch(item: &DataItem, findings: &mut Vec<Finding>) -> Result<(), Al
     add_usage(&mut remark, last)?;
     remark.push_str(" is no switch: buttons lie on Usage Page (Button)")?;
     let offset = Some(item.usages.first_offset);
-    tell(findings, offset, &remark, Source::Desktop)
+    tell(findings, offset, &remark, Rule::DeviceAsSwitch)
 }
 
 /// Notes a hat switch of eight directions that has no value for its centre.
@@ -93,7 +94,7 @@ fn tell_no_null(item: &DataItem, findings: &mut Vec<Finding>) -> Result<(), Allo
         return Ok(());
     }
     let remark = "a hat switch of 8 directions has no null state for its centre";
-    tell(findings, Some(item.offset), remark, Source::Desktop)
+    tell(findings, Some(item.offset), remark, Rule::HatWithoutNull)
 }
 
 /// Notes an axis whose changes go one way alone.
@@ -109,7 +110,7 @@ fn tell_one_way(item: &DataItem, findings: &mut Vec<Finding>) -> Result<(), Allo
         remark,
         " is relative, and its minimum {low} lets it go one way alone"
     )?;
-    tell(findings, Some(item.offset), &remark, Source::DataItems)
+    tell(findings, Some(item.offset), &remark, Rule::OneWay)
 }
 
 /// Notes switches of one bit for which a unit is still in force.
@@ -123,8 +124,6 @@ fn tell_measured_switches(
         return Ok(());
     }
     *told_unit = Some(offset);
-    let remark = format!(in item.alloc;
-        "switches of 1 bit have the unit of offset {offset}: Unit (None) ends it"
-    )?;
-    tell(findings, Some(item.offset), &remark, Source::GlobalItems)
+    let remark = "switches of 1 bit have a unit, which is still in force: Unit (0x0) ends it";
+    tell(findings, Some(item.offset), remark, Rule::UnitAtSwitches)
 }

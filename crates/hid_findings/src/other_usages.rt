@@ -1,5 +1,6 @@
 //! Where the letter of the standard gives fields other usages than hosts read.
-use crate::finding::{Finding, Source};
+use crate::finding::{Finding, tell};
+use crate::rule::Rule;
 use hid_input::settings::Settings;
 use hid_items::item_lines::{offset_of, remark_of};
 use hid_report::add_title;
@@ -38,11 +39,7 @@ fn tell_fault(
     let mut remark = String::from_str(alloc, remark_of(fault))?;
     remark.push_str(", by the letter of the standard; hosts read it")?;
     let offset = offset_of(Some(fault));
-    Ok(findings.push(Finding {
-        offset,
-        remark,
-        source: Source::LocalItems,
-    })?)
+    tell(findings, offset, &remark, Rule::RefusedByStandard)
 }
 
 fn tell_reports(
@@ -87,11 +84,7 @@ fn tell_report(
     let mut remark = String::new(alloc);
     add_title(&mut remark, direction, report)?;
     add_both(&mut remark, field, other, more)?;
-    Ok(findings.push(Finding {
-        offset: None,
-        remark,
-        source: Source::LocalItems,
-    })?)
+    tell(findings, None, &remark, Rule::OtherUsages)
 }
 
 /// Appends what a field is for as hosts read it and by the letter of the standard.

@@ -1,5 +1,6 @@
 //! What is odd in the reports of a descriptor, and what the standard says.
-use crate::finding::{Finding, Source, tell};
+use crate::finding::{Finding, tell};
+use crate::rule::Rule;
 use hid_report::add_title;
 use hidreport::{Collection, Direction, Field, RDescReport, Report, ReportDescriptor};
 use std::alloc::AllocError;
@@ -27,7 +28,7 @@ pub fn tell_reports(
             tell_transactions(direction, report, findings)?;
             if have_ids && !has_id(report) {
                 let said = ": it has no id, and others have";
-                tell_report(direction, report, said, Source::ReportIds, findings)?;
+                tell_report(direction, report, said, Rule::ReportWithoutId, findings)?;
             }
         }
     }
@@ -51,7 +52,7 @@ fn tell_contacts(
         return Ok(());
     }
     let remark = "a Touch Pad with contacts has no Feature for Contact Count Maximum";
-    tell(findings, None, remark, Source::TouchPads)
+    tell(findings, None, remark, Rule::NoContactMaximum)
 }
 
 /// Whether a field is the id of a contact in a Touch Pad.
@@ -100,7 +101,7 @@ fn tell_size(
         return Ok(());
     }
     let said = ": its bits are no whole number of bytes";
-    tell_report(direction, report, said, Source::Reports, findings)
+    tell_report(direction, report, said, Rule::PartialByte, findings)
 }
 
 /// Notes an input report that takes more than one interrupt transaction at full speed.
@@ -117,7 +118,7 @@ fn tell_transactions(
     let said = format!(in alloc;
         ": its {bytes} bytes are more than {TRANSACTION}, the most in a transaction at full speed"
     )?;
-    tell_report(direction, report, &said, Source::Transactions, findings)
+    tell_report(direction, report, &said, Rule::PastTransaction, findings)
 }
 
 /// Notes fields that lie in too many bytes, and those of several outermost collections.
@@ -128,11 +129,11 @@ fn tell_fields(
 ) -> Result<(), AllocError> {
     if report.fields().iter().any(is_in_five_bytes) {
         let said = ": a field lies in more than four bytes";
-        tell_report(direction, report, said, Source::Reports, findings)?;
+        tell_report(direction, report, said, Rule::FieldPastFourBytes, findings)?;
     }
     if are_apart(report.fields()) {
         let said = ": its fields lie in several outermost collections";
-        tell_report(direction, report, said, Source::Reports, findings)?;
+        tell_report(direction, report, said, Rule::ReportApart, findings)?;
     }
     Ok(())
 }
@@ -169,11 +170,11 @@ fn tell_report(
     direction: Direction,
     report: &RDescReport,
     said: &str,
-    source: Source,
+    rule: Rule,
     findings: &mut Vec<Finding>,
 ) -> Result<(), AllocError> {
     let mut remark = String::new(*findings.allocator());
     add_title(&mut remark, direction, report)?;
     remark.push_str(said)?;
-    tell(findings, None, &remark, source)
+    tell(findings, None, &remark, rule)
 }

@@ -1,6 +1,6 @@
 //! How Windows' parser reads a descriptor: what it refuses, by the refusals of its hidpddi.h.
 //! Others of its rules aren't known.
-use crate::finding::{Finding, Source, tell};
+use crate::finding::{Finding, tell};
 use crate::local_usages::LocalUsages;
 use crate::windows_refusal::WindowsRefusal;
 use hid_items::items::{ItemCursor, ItemState, PlacedItem};
@@ -29,7 +29,7 @@ pub fn tell_windows(bytes: &[u8], findings: &mut Vec<Finding>) -> Result<(), All
     let reading = WindowsReading::of(*findings.allocator(), bytes)?;
     for (offset, refusal) in &reading.told {
         let remark = refusal_remark(*findings.allocator(), *refusal)?;
-        tell(findings, Some(*offset), &remark, Source::Windows)?;
+        tell(findings, Some(*offset), &remark, refusal.rule())?;
     }
     Ok(())
 }

@@ -1,4 +1,5 @@
 //! Why Windows' parser refuses a descriptor.
+use crate::rule::Rule;
 
 /// A refusal that hidpddi.h lists.
 #[derive(Clone, Copy, Debug, PartialEq, Eq)]
@@ -48,6 +49,25 @@ impl WindowsRefusal {
             WindowsRefusal::Unaligned => "BYTE_ALLIGN",
             WindowsRefusal::NotClosed => "NO_CLOSE_DELIMITER",
             WindowsRefusal::ArrayOfSets => "UNSUPPORTED",
+        }
+    }
+
+    /// The rule that it breaks.
+    pub fn rule(self) -> Rule {
+        match self {
+            WindowsRefusal::Unknown => Rule::WindowsUnknown,
+            WindowsRefusal::ExtraEnd => Rule::WindowsExtraEnd,
+            WindowsRefusal::NoUsage => Rule::WindowsNoUsage,
+            WindowsRefusal::TopUsage => Rule::WindowsTopUsage,
+            WindowsRefusal::IdOutside => Rule::WindowsIdOutside,
+            WindowsRefusal::IdZero => Rule::WindowsIdZero,
+            WindowsRefusal::IdShared => Rule::WindowsIdShared,
+            WindowsRefusal::NoId => Rule::WindowsNoId,
+            WindowsRefusal::NoData => Rule::WindowsNoData,
+            WindowsRefusal::Outside => Rule::WindowsOutside,
+            WindowsRefusal::Unaligned => Rule::WindowsUnaligned,
+            WindowsRefusal::NotClosed => Rule::WindowsNotClosed,
+            WindowsRefusal::ArrayOfSets => Rule::WindowsArrayOfSets,
         }
     }
 

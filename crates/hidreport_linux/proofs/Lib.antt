@@ -1,4 +1,5 @@
 pub mod AxisLemmas
 pub mod ClaimLemmas
 pub mod GivenLemmas
+pub mod ReadingLemmas
 pub mod ResolutionLemmas

@@ -46,7 +46,7 @@ are_widest g =
 pub record ReadingRecord : Type 0 where
   pub globals : CoreGlobals
   pub pushed : List CoreGlobals
-  pub open : List ℕ
+  pub around : List ℕ
   pub reports : CoreReports
   pub locals : LocalsRecord
   pub has_ids : Bool
@@ -65,7 +65,7 @@ abbrev pub nothing_kept : ReadingRecord
 nothing_kept = record {
   globals = no_globals;
   pushed = [];
-  open = [];
+  around = [];
   reports = no_reports;
   locals = no_locals;
   has_ids = false;

@@ -62,8 +62,8 @@ maximum_refusal number l = maximum_refusal_by l.minimum number l.usages.count
 
 -- a Delimiter within a set, or that ends none
 abbrev pub is_odd : Bool → Bool → Bool
-is_odd true open = open
-is_odd false open = not open
+is_odd true within = within
+is_odd false within = not within
 
 -- why a local item is refused
 abbrev pub local_refusal : CoreItem → LocalsRecord → Option RefusalReason

@@ -6,7 +6,7 @@ use Rattle.std.specs.List.{slice_index_or}
 use Rattle.hidreport_fields.specs.declared.field.data_item.Direction.{Direction}
 use Rattle.hidreport_fields.specs.declared.field.data_item.Direction.TheVariants as direction
 use Rattle.hidreport_items.specs.Spelling.{data_length}
-use Rattle.hidreport_linux.specs.CoreItems.{core_item}
+use Rattle.hidreport_linux.specs.CoreItems.{core_item, is_local}
 use Rattle.hidreport_linux.specs.CoreKept.{ReadingRecord, nothing_kept, are_below, are_widest, maximum_by}
 use Rattle.hidreport_linux.specs.CoreLocals.{behind_local, cuts_usages, local_doubt, local_refusal}
 use Rattle.hidreport_linux.specs.CoreLocals.{no_locals}
@@ -51,7 +51,7 @@ refusal_of item.Long r = Some refusal.LongItem
 refusal_of item.UnknownGlobal r = Some refusal.UnknownGlobal
 refusal_of item.Push r = when (nat_le 4 (length r.pushed)) refusal.PastPushes
 refusal_of item.Pop r = when (length r.pushed == 0) refusal.LonePop
-refusal_of item.EndCollection r = when (length r.open == 0) refusal.LoneEnd
+refusal_of item.EndCollection r = when (length r.around == 0) refusal.LoneEnd
 refusal_of (item.ReportSize bits) r = when (nat_lt 256 bits) refusal.PastBits
 refusal_of (item.ReportCount count) r = when (nat_lt 12288 count) refusal.PastCount
 refusal_of (item.ReportId id) r = when (id == 0 || nat_lt 255 id) refusal.NoId
@@ -86,7 +86,7 @@ behind_pop r = record r {
 
 -- the application that is in force in the collections that are open; 0 where there is none
 abbrev pub application_in_force : ReadingRecord → ℕ
-application_in_force r = slice_index_or r.open (length r.open - 1) 0
+application_in_force r = slice_index_or r.around (length r.around - 1) 0
 
 -- of collections of the page Sensors, but those behind a vivaldi's: the last item that asks for a
 -- driver gets its own
@@ -99,7 +99,7 @@ driver_behind kind r =
 -- a collection is of its first usage; one of kind 1 is an application
 abbrev pub behind_collection_of : ℕ → ℕ → ReadingRecord → ReadingRecord
 behind_collection_of usage kind r = record r {
-  open = r.open ++ (if kind == 1 then usage else application_in_force r) ∷ [];
+  around = r.around ++ (if kind == 1 then usage else application_in_force r) ∷ [];
   applications =
       if kind == 1 && nat_lt r.applications 2 then r.applications + 1 else r.applications;
   has_input = r.has_input || (nat_le kind 1 && is_input_application usage);
@@ -112,7 +112,7 @@ behind_collection kind r =
     behind_collection_of (first_usage r.globals.page r.locals.usages) kind r
 
 abbrev pub behind_end : ReadingRecord → ReadingRecord
-behind_end r = record r { open = take (length r.open - 1) r.open; locals = no_locals }
+behind_end r = record r { around = take (length r.around - 1) r.around; locals = no_locals }
 
 abbrev pub is_input : Direction → Bool
 is_input direction.Input = true
@@ -174,10 +174,15 @@ if_elements offset d r =
     then behind_elements offset d r
     else r
 
+-- behind all that an item with data says
+abbrev pub behind_parts : ℕ → Direction → ℕ → ReadingRecord → ReadingRecord
+behind_parts offset d flags r = behind_id offset (if_elements offset d
+    (if_contact d flags (if_past_items offset d (with_report d r))))
+
 -- behind an item with data
 abbrev pub behind_data : ℕ → Direction → ℕ → ReadingRecord → ReadingRecord
-behind_data offset d flags r = record (behind_id offset (if_elements offset d
-    (if_contact d flags (if_past_items offset d (with_report d r))))) { locals = no_locals }
+behind_data offset d flags r =
+    record (behind_parts offset d flags r) { locals = no_locals }
 
 -- a doubt of a local item
 abbrev pub with_doubt_of : ℕ → Option DoubtReason → ReadingRecord → ReadingRecord
@@ -198,37 +203,42 @@ behind_local_item offset x r =
 abbrev pub with_globals : CoreGlobals → ReadingRecord → ReadingRecord
 with_globals g r = record r { globals = g }
 
--- behind a global or a local item
-abbrev pub behind_item : ℕ → CoreItem → ReadingRecord → ReadingRecord
-behind_item offset (item.LogicalMinimum n) r =
-    with_globals (record (r.globals) { minimum = n }) r
-behind_item offset (item.LogicalMaximum n word) r =
-    with_globals (record (r.globals) { maximum = maximum_by r.globals.minimum n word }) r
-behind_item offset (item.ReportSize bits) r = with_globals (record (r.globals) { size = bits }) r
-behind_item offset (item.ReportCount count) r =
-    with_globals (record (r.globals) { count = count }) r
-behind_item offset (item.ReportId id) r = with_globals (record (r.globals) { id = id }) r
-behind_item offset (item.UsagePage page) r =
+-- behind a Usage Page, whose number has 16 bits
+abbrev pub behind_page : ℕ → ℕ → ReadingRecord → ReadingRecord
+behind_page offset page r =
     if nat_lt 65535 page then with_doubt offset doubt.WidePage r
     else with_globals (record (r.globals) { page = page }) r
-behind_item offset x r = behind_local_item offset x r
+
+-- behind a main or a global item
+abbrev pub behind_other : ℕ → CoreItem → ReadingRecord → ReadingRecord
+behind_other offset item.Push r = record r { pushed = r.pushed ++ r.globals ∷ [] }
+behind_other offset item.Pop r = behind_pop r
+behind_other offset (item.Collection kind) r = behind_collection kind r
+behind_other offset item.EndCollection r = behind_end r
+behind_other offset (item.Data d flags) r = behind_data offset d flags r
+behind_other offset item.UnknownMain r = record r { locals = no_locals }
+behind_other offset (item.LogicalMinimum n) r =
+    with_globals (record (r.globals) { minimum = n }) r
+behind_other offset (item.LogicalMaximum n word) r =
+    with_globals (record (r.globals) { maximum = maximum_by r.globals.minimum n word }) r
+behind_other offset (item.ReportSize bits) r = with_globals (record (r.globals) { size = bits }) r
+behind_other offset (item.ReportCount count) r =
+    with_globals (record (r.globals) { count = count }) r
+behind_other offset (item.ReportId id) r = with_globals (record (r.globals) { id = id }) r
+behind_other offset (item.UsagePage page) r = behind_page offset page r
+behind_other offset _ r = r
 
 -- behind an item that isn't refused
 abbrev pub behind : ℕ → CoreItem → ReadingRecord → ReadingRecord
-behind offset item.Push r = record r { pushed = r.pushed ++ r.globals ∷ [] }
-behind offset item.Pop r = behind_pop r
-behind offset (item.Collection kind) r = behind_collection kind r
-behind offset item.EndCollection r = behind_end r
-behind offset (item.Data d flags) r = behind_data offset d flags r
-behind offset item.UnknownMain r = record r { locals = no_locals }
-behind offset x r = behind_item offset x r
+behind offset x r =
+    if is_local x then behind_local_item offset x r else behind_other offset x r
 
 -- What is read
 
 -- behind the last item: a collection or a set of usages that isn't closed
 abbrev pub ended : ℕ → ReadingRecord → ReadingRecord
 ended offset r =
-    if not (length r.open == 0) then refused offset refusal.OpenCollection r
+    if not (length r.around == 0) then refused offset refusal.OpenCollection r
     else if r.locals.is_in_set then refused offset refusal.OpenSet r
     else r
 

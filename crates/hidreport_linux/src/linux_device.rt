@@ -1,14 +1,17 @@
 //! A device as Linux reads its descriptor.
 ghost use Rattle.std.specs.Prelude.{◌≡◌};
 ghost use Rattle.hidreport_lists.specs.Answer.{Answers};
+ghost use Rattle.hidreport_lists.specs.declared.error.ParserError.TheVariants.{OutOfMemory};
 ghost use Rattle.hidreport_linux.specs.LinuxDevice.{linux_options, linux_parse};
+ghost use Rattle.hidreport_linux.specs.declared.linux_device.LinuxRefusal.TheVariants.{Unread};
 
 use crate::input_devices::InputDevices;
 use crate::reading::LinuxReading;
 use crate::reading::placed::Refusal;
 use crate::reading::reasons::RefusalReason;
 use hidreport::{
-    Change, Outline, ParseOptions, ParserError, PushKeeps, RepairOptions, Repaired, UsagesBy, repair,
+    Change, Outline, ParseOptions, ParserError, PushKeeps, RepairOptions, Repaired, UsagesBy,
+    repair,
 };
 use std::alloc::{AllocError, Global};
 use std::marker::Model;
@@ -33,7 +36,7 @@ pub enum LinuxRefusal {
 }
 
 impl From<AllocError> for LinuxRefusal {
-    ghost from_gives = { λ _ error. error ≡ LinuxRefusal.Unread ParserError.OutOfMemory };
+    ghost from_gives = { λ _ error. error ≡ Unread OutOfMemory };
 
     fn from(_refused: AllocError) -> LinuxRefusal {
         LinuxRefusal::Unread(ParserError::OutOfMemory)
@@ -41,7 +44,7 @@ impl From<AllocError> for LinuxRefusal {
 }
 
 impl From<ParserError> for LinuxRefusal {
-    ghost from_gives = { λ fault error. error ≡ LinuxRefusal.Unread fault };
+    ghost from_gives = { λ fault error. error ≡ Unread fault };
 
     fn from(fault: ParserError) -> LinuxRefusal {
         LinuxRefusal::Unread(fault)
@@ -152,7 +155,8 @@ impl LinuxDevice {
     pub fn into_bytes(self) -> Vec<u8>
         ensures { result.items ≡ self.repaired.bytes }
     {
-        self.repaired.bytes
+        let repaired = self.repaired;
+        repaired.bytes
     }
 
     /// What Linux makes of its items and collections, alone.

@@ -49,7 +49,7 @@ const MOST_PUSHES: usize = 4;
 pub struct LinuxReading {
     globals: CoreGlobals,
     pushed: Vec<CoreGlobals>,
-    open: Vec<u32>,
+    around: Vec<u32>,
     reports: CoreReports,
     locals: CoreLocals,
     has_ids: bool,
@@ -72,7 +72,7 @@ impl Model for LinuxReading {
     ghost view = { λ r. record {
       globals = r.globals;
       pushed = r.pushed.items;
-      open = r.open.items;
+      around = r.around.items;
       reports = r.reports;
       locals = r.locals;
       has_ids = r.has_ids;
@@ -91,7 +91,7 @@ impl Model for LinuxReading {
 impl LinuxReading {
     ghost use Rattle.std.specs.Prelude.{◌≡◌, IfOk, OnOk, length};
     ghost use Rattle.hidreport_linux.specs.CoreKept.{nothing_kept};
-    ghost use Rattle.hidreport_linux.specs.CoreReading.{application_in_force, behind, behind_collection, behind_data, behind_elements, behind_end, behind_id, behind_item, behind_local_item, behind_pop, bits_of, data_refusal, driver_behind, ended, linux_reading, overflows, read_all, refusal_of, refused, unmapped_in, with_cut, with_doubt};
+    ghost use Rattle.hidreport_linux.specs.CoreReading.{application_in_force, behind, behind_collection, behind_data, behind_elements, behind_end, behind_id, behind_local_item, behind_other, behind_page, behind_parts, behind_pop, bits_of, data_refusal, driver_behind, ended, if_contact, if_elements, if_past_items, linux_reading, overflows, read_all, refusal_of, refused, unmapped_in, with_cut, with_doubt, with_report};
     ghost use Rattle.hidreport_linux.specs.CoreReports.{application_of};
     ghost use Rattle.hidreport_linux.specs.Devices.{no_devices};
 
@@ -120,7 +120,7 @@ impl LinuxReading {
         LinuxReading {
             globals: CoreGlobals::none(),
             pushed: Vec::new(alloc),
-            open: Vec::new(alloc),
+            around: Vec::new(alloc),
             reports: CoreReports::none(),
             locals,
             has_ids: false,
@@ -199,7 +199,7 @@ impl LinuxReading {
             CoreItem::UnknownGlobal => Some(RefusalReason::UnknownGlobal),
             CoreItem::Push if self.pushed.len() >= MOST_PUSHES => Some(RefusalReason::PastPushes),
             CoreItem::Pop if self.pushed.is_empty() => Some(RefusalReason::LonePop),
-            CoreItem::EndCollection if self.open.is_empty() => Some(RefusalReason::LoneEnd),
+            CoreItem::EndCollection if self.around.is_empty() => Some(RefusalReason::LoneEnd),
             CoreItem::ReportSize(bits) if bits > MOST_BITS => Some(RefusalReason::PastBits),
             CoreItem::ReportCount(count) if count > MOST_ELEMENTS => Some(RefusalReason::PastCount),
             CoreItem::ReportId(id) if id == 0 || id > 0xff => Some(RefusalReason::NoId),
@@ -233,46 +233,43 @@ impl LinuxReading {
     fn pass(&mut self, offset: usize, item: CoreItem) -> Result<(), AllocError>
         ensures { OnOk result (self.new ≡ behind offset item self.old) }
     {
-        match item {
-            CoreItem::Push => Ok(self.pushed.push(self.globals)?),
-            CoreItem::Pop => {
-                self.pop();
-                Ok(())
-            }
-            CoreItem::Collection(kind) => self.pass_collection(kind),
-            CoreItem::EndCollection => {
-                self.close();
-                Ok(())
-            }
-            CoreItem::Data(direction, flags) => {
-                self.pass_data(offset, direction, flags);
-                Ok(())
-            }
-            CoreItem::UnknownMain => {
-                self.locals.clear();
-                Ok(())
-            }
-            item => self.pass_other(offset, item),
+        if item.is_local() {
+            return self.pass_local(offset, item);
         }
+        self.pass_other(offset, item)
     }
 
-    /// Goes over a global or a local item.
+    /// Goes over a main or a global item.
     fn pass_other(&mut self, offset: usize, item: CoreItem) -> Result<(), AllocError>
-        ensures { OnOk result (self.new ≡ behind_item offset item self.old) }
+        ensures { OnOk result (self.new ≡ behind_other offset item self.old) }
     {
         match item {
+            CoreItem::Push => self.pushed.push(self.globals)?,
+            CoreItem::Pop => self.pop(),
+            CoreItem::Collection(kind) => self.pass_collection(kind)?,
+            CoreItem::EndCollection => self.close(),
+            CoreItem::Data(direction, flags) => self.pass_data(offset, direction, flags),
+            CoreItem::UnknownMain => self.locals.clear(),
             CoreItem::LogicalMinimum(number) => self.globals.minimum = number,
             CoreItem::LogicalMaximum(signed, number) => self.globals.set_maximum(signed, number),
             CoreItem::ReportSize(bits) => self.globals.size = bits,
             CoreItem::ReportCount(count) => self.globals.count = count,
             CoreItem::ReportId(id) => self.globals.id = id,
-            CoreItem::UsagePage(page) if page > 0xffff => {
-                self.doubt_at(offset, DoubtReason::WidePage);
-            }
-            CoreItem::UsagePage(page) => self.globals.page = page,
-            item => return self.pass_local(offset, item),
+            CoreItem::UsagePage(page) => self.pass_page(offset, page),
+            _ => {}
         }
         Ok(())
+    }
+
+    /// Goes over a Usage Page, whose number has 16 bits.
+    fn pass_page(&mut self, offset: usize, page: u32)
+        ensures { self.new ≡ behind_page offset page self.old }
+    {
+        if page > 0xffff {
+            self.doubt_at(offset, DoubtReason::WidePage);
+        } else {
+            self.globals.page = page;
+        }
     }
 
     /// Goes over a local item.
@@ -307,7 +304,7 @@ impl LinuxReading {
         } else {
             self.application_in_force()
         };
-        self.open.push(application)?;
+        self.around.push(application)?;
         if kind == 1 && self.applications < 2 {
             self.applications += 1;
         }
@@ -321,7 +318,7 @@ impl LinuxReading {
     fn application_in_force(&self) -> u32
         ensures { result ≡ application_in_force self.now }
     {
-        self.open.last().copied().unwrap_or(0)
+        self.around.last().copied().unwrap_or(0)
     }
 
     /// The driver that asks for the device behind a collection: one of sensors, or hid-vivaldi, which
@@ -342,7 +339,7 @@ impl LinuxReading {
     fn close(&mut self)
         ensures { self.new ≡ behind_end self.old }
     {
-        let _closed = self.open.pop();
+        let _closed = self.around.pop();
         self.locals.clear();
     }
 
@@ -350,25 +347,61 @@ impl LinuxReading {
     fn pass_data(&mut self, offset: usize, direction: Direction, flags: u32)
         ensures { self.new ≡ behind_data offset direction flags self.old }
     {
-        let (page, id) = (self.globals.page, self.globals.id);
-        let has_usages = self.locals.have_usages();
-        let (application, bits) = (self.application_in_force(), self.bits());
-        self.reports.add(direction, id, application, has_usages, bits);
-        if self.reports.of(direction, id).items > MOST_ITEMS {
-            self.leave_out(offset, LeftOut::Items);
-        }
-        let has_values = is_input(direction) && flags % 2 == 0;
-        if has_values && self.locals.have(page, 0x000d_0051) {
-            self.driver = Some(Driver::Multitouch);
-        }
-        if has_usages && self.globals.count > 0 {
-            self.pass_elements(offset, direction);
-        }
-        self.pass_id(offset);
+        self.pass_parts(offset, direction, flags);
         self.locals.clear();
     }
 
-    /// The elements of an item that names usages. hid-core divides 0 less the minimum of a
+    /// All that it says, the local items before it among that.
+    fn pass_parts(&mut self, offset: usize, direction: Direction, flags: u32)
+        ensures { self.new ≡ behind_parts offset direction flags self.old }
+    {
+        self.add_to_report(direction);
+        self.leave_items_out(offset, direction);
+        self.ask_for_driver(direction, flags);
+        self.note_elements(offset, direction);
+        self.pass_id(offset);
+    }
+
+    /// Its report has one item more.
+    fn add_to_report(&mut self, direction: Direction)
+        ensures { self.new ≡ with_report direction self.old }
+    {
+        let application = self.application_in_force();
+        let (has_usages, bits) = (self.locals.have_usages(), self.bits());
+        let id = self.globals.id;
+        self.reports
+            .add(direction, id, application, has_usages, bits);
+    }
+
+    /// Of a report 256 items that name usages are kept.
+    fn leave_items_out(&mut self, offset: usize, direction: Direction)
+        ensures { self.new ≡ if_past_items offset direction self.old }
+    {
+        if self.reports.of(direction, self.globals.id).items > MOST_ITEMS {
+            self.leave_out(offset, LeftOut::Items);
+        }
+    }
+
+    /// A Contact Identifier in an input item with data asks for hid-multitouch.
+    fn ask_for_driver(&mut self, direction: Direction, flags: u32)
+        ensures { self.new ≡ if_contact direction flags self.old }
+    {
+        let has_values = is_input(direction) && flags % 2 == 0;
+        if has_values && self.locals.have(self.globals.page, 0x000d_0051) {
+            self.driver = Some(Driver::Multitouch);
+        }
+    }
+
+    /// The elements of an item that names usages.
+    fn note_elements(&mut self, offset: usize, direction: Direction)
+        ensures { self.new ≡ if_elements offset direction self.old }
+    {
+        if self.locals.have_usages() && self.globals.count > 0 {
+            self.pass_elements(offset, direction);
+        }
+    }
+
+    /// These elements, of which there are some. hid-core divides 0 less the minimum of a
     /// multiplier by the span of its bounds, in 32 bits each.
     fn pass_elements(&mut self, offset: usize, direction: Direction)
         ensures { self.new ≡ behind_elements offset direction self.old }
@@ -406,7 +439,7 @@ impl LinuxReading {
     fn end(&mut self, offset: usize)
         ensures { self.new ≡ ended offset self.old }
     {
-        if !self.open.is_empty() {
+        if !self.around.is_empty() {
             self.refuse(offset, RefusalReason::OpenCollection);
         } else if self.locals.is_in_set() {
             self.refuse(offset, RefusalReason::OpenSet);

@@ -53,6 +53,8 @@ complete -c hid -n "__fish_seen_subcommand_from map" -l all -d "Draw all rows, p
 complete -c hid -n "__fish_seen_subcommand_from page" -l direction -x -a "input output feature" -d "Which way the reports go"
 complete -c hid -n "__fish_seen_subcommand_from page" -l all -d "Leave nothing out: all items past 4,096, fields past 2,000 and reports past 4,000"
 complete -c hid -n "__fish_seen_subcommand_from check" -l for -x -a "linux windows" -d "Show also what this host refuses or may read otherwise, as far as it is known"
+complete -c hid -n "__fish_seen_subcommand_from check" -l fail-on -x -a "error warning note never" -d "The status is 1 where a finding is so bad, or worse"
+complete -c hid -n "__fish_seen_subcommand_from check" -l explain -x -d "Show what a rule means and what to write, by its number or name; all: a line of each"
 
 # The names that `hid set` takes, where its file and its report's id stand before the word.
 function __hid_names

@@ -68,6 +68,8 @@ pub(crate) enum CoreItem {
 }
 
 impl CoreItem {
+    ghost use Rattle.hidreport_linux.specs.CoreItems.{is_local};
+
     /// The item with this header and these bytes of data.
     pub(crate) fn of(header: u8, bytes: &[u8]) -> CoreItem
         requires { IsTrue (is_short_length (length bytes.now)) }
@@ -77,6 +79,17 @@ impl CoreItem {
             return CoreItem::Long;
         }
         item_by(header - header % 4, bytes)
+    }
+
+    /// Whether it is a local item.
+    pub(crate) fn is_local(self) -> bool
+        ensures { result ≡ is_local self }
+    {
+        match self {
+            CoreItem::Usage(_, _) | CoreItem::UsageMaximum(_, _) => true,
+            CoreItem::UsageMinimum(_) | CoreItem::Delimiter(_) => true,
+            _ => false,
+        }
     }
 }
 
