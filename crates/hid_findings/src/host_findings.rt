@@ -92,7 +92,12 @@ fn tell_linux(
     }
     if let Some(omission) = reading.left_out() {
         let remark = format!(in alloc; "Linux leaves out {}", omission.what.text())?;
-        tell(findings, Some(omission.offset), &remark, Rule::LinuxLeavesOut)?;
+        tell(
+            findings,
+            Some(omission.offset),
+            &remark,
+            Rule::LinuxLeavesOut,
+        )?;
     }
     if let Some(offset) = reading.overflow() {
         tell(findings, Some(offset), OVERFLOW, Rule::LinuxOverflow)?;

@@ -66,11 +66,7 @@ pub fn tell_mended<R: AllocGlobal + Eprint>(
 
 /// Says on standard error what Linux leaves out of a device's descriptor, and where it may read it
 /// otherwise.
-pub fn tell_doubt<R: AllocGlobal + Eprint>(
-    rt: &R,
-    name: &str,
-    device: &LinuxDevice,
-) -> Result<()> {
+pub fn tell_doubt<R: AllocGlobal + Eprint>(rt: &R, name: &str, device: &LinuxDevice) -> Result<()> {
     let name = escaped(rt.alloc(), name)?;
     if let Some(left_out) = device.reading().left_out() {
         let (offset, what) = (left_out.offset, left_out.what.text());
