@@ -668,7 +668,8 @@ static LINUX_MENDS: RuleRow = RuleRow {
     number: "HID041", name: "linux-mends",
     severity: Severity::Note, source: Source::Linux,
     wrong: "Linux reads other bytes than stand there.",
-    why: "hid-core completes what is cut short; another host need not do the same.",
+    why: "hid-core adds data that lacks, leaves out tags that are none, and reads maxima without \
+        a sign; another host need not do the same.",
     instead: "Write the bytes that are named, or leave out what Linux does.",
     example: "05 01 09 02 a1 01 09 30 09 31 15 00 25 01 75 08 95 01 80 c0",
     without: "05 01 09 02 a1 01 09 30 09 31 15 00 25 01 75 08 95 01 81 00 c0",
