@@ -18,6 +18,7 @@ TOP = HERE.parent.parent
 LITERAL = re.compile(r"'(?:[^'\\]|\\.)'|\"((?:[^\"\\]|\\.)*)\"", re.S)
 ESCAPES = {"\\n": "\n", '\\"': '"', "\\\\": "\\", "\\'": "'", "\\t": "\t"}
 LEAST_LETTERS = 4
+LINUX_WORDS = ("driver.rt", "linux_device.rt", "reasons.rt", "unmapped.rt")
 
 
 def plain(text):
@@ -46,10 +47,13 @@ def texts_in(source):
 
 
 def sources():
-    """The sources of hid's crates, but the tables of macros and the page's own texts."""
+    """The sources of hid's crates, but the tables of macros and the page's own texts, and what the library
+    says of Linux in words."""
     for path in sorted(TOP.glob("crates/hid*/src/**/*.rt")):
         crate = path.relative_to(TOP / "crates").parts[0]
-        if not crate.startswith("hidreport") and crate != "hid_macros" and path.name != "shell.rt":
+        if crate == "hidreport_linux" and path.name in LINUX_WORDS:
+            yield path
+        elif not crate.startswith("hidreport") and crate != "hid_macros" and path.name != "shell.rt":
             yield path
 
 
