@@ -1,9 +1,9 @@
 use Rattle.hidreport_c.proofs.ListsLemmas.{lists-unread}
-use Rattle.hidreport_c.specs.Options.{options_of}
+use Rattle.hidreport_c.specs.Options.{reading_of}
 use Rattle.hidreport_c.specs.Describe.{described_fields}
 use Rattle.hidreport_c.proofs.describe.hidreport_describe.Goals as goal
 
 pub returns-in-Err : goal.returns-in-Err
 returns-in-Err c =
-    lists-unread c.in-Err.refused (options_of c.args.options) c.args.descriptor.now
+    lists-unread c.in-Err.refused (reading_of c.args.options) c.args.descriptor.now
     (described_fields c.args.direction) c.args.fields.now c.in-Err.ensures

@@ -6,12 +6,12 @@ use Rattle.hidreport_c.proofs.UsagesLemmas.{copied-item}
 use Rattle.hidreport_c.specs.Answer.{array_after, counted}
 use Rattle.hidreport_c.specs.Collection.{carried, collection_usages, collections_or_none}
 use Rattle.hidreport_c.specs.Collection.{usages_or_none}
-use Rattle.hidreport_c.specs.Options.{options_of}
+use Rattle.hidreport_c.specs.Options.{reading_of}
 use Rattle.hidreport_c.proofs.numbered.hidreport_collection_usages.Goals as goal
 
 pub returns-in-Err : goal.returns-in-Err
 returns-in-Err c =
-    lists-unread c.in-Err.refused (options_of c.args.options) c.args.descriptor.now
+    lists-unread c.in-Err.refused (reading_of c.args.options) c.args.descriptor.now
     (collection_usages c.args.field c.args.index) c.args.usages.now c.in-Err.ensures
 
 pub returns-in-Ok : goal.returns-in-Ok
@@ -27,7 +27,7 @@ returns-in-Ok c =
     ∙ ap usages_or_none (copied-item collections index c.get.result c.get.ensures.lookup
     ∙ ap (λ l. slice_get l index) are) in
     let all = ap (map usage_number) usages in
-    lists-read d (options_of c.args.options) c.args.descriptor.now
+    lists-read d (reading_of c.args.options) c.args.descriptor.now
     (collection_usages c.args.field index) c.args.usages.now c.write.new.array c.write.result
     c.in-Ok.ensures
     (inl (
