@@ -14,7 +14,7 @@ top=$(cd "$(dirname "$0")/../.." && pwd)
 kit=$(dirname "$(rt doc)")
 toolchain="$kit/toolchain"
 below=()
-for crate in hidreport_usages hidreport hidreport_fields hidreport_lists hidreport_items hidreport_types; do
+for crate in hidreport_linux hidreport_usages hidreport hidreport_fields hidreport_lists hidreport_items hidreport_types; do
     built="${HIDREPORT_PROVED:-$top}/crates/$crate/out/rlib"
     below+=(--extern "$crate=$built/$crate.rlib" -L "dependency=$built")
 done
