@@ -7,7 +7,7 @@ import { test } from "node:test";
 import * as hid from "../index.js";
 import { answers, bytesIn } from "./cases.js";
 
-const QUESTIONS = 700;
+const QUESTIONS = 719;
 const MOUSE = bytesIn("05010902a1010901a1000509190129031500250195037501810295017505810105010930"
   + "093115 81257f750895028106c0c0");
 

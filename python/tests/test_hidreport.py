@@ -15,7 +15,7 @@ import cases  # noqa: E402
 import hidreport as hid  # noqa: E402
 
 CASES = HERE.parent.parent / "c" / "cases.txt"
-QUESTIONS = 700
+QUESTIONS = 719
 MOUSE = bytes.fromhex("05010902a1010901a10005091901290315002501950375018102950175058101"
                       "05010930093115 81257f750895028106c0c0".replace(" ", ""))
 
