@@ -1,15 +1,16 @@
 // Each export of js/ as a program uses it, which `tsc --strict` takes.
 import {
   BudgetExceeded, Collection, Direction, DoesNotFit, Field, HOSTS, HidDevice, HidReportError, InvalidData,
-  Item, Kind, Mends, MismatchingReportId, OutOfBounds, OutOfMemory, Push, Reason, Report, ReportDescriptor,
-  UnknownOption, Usage, UsagesBy, WrongCount, descriptorOf, frontItems, items, pageByName, pageName, rebuild,
-  repair,
+  Item, Kind, LINUX, Mends, MismatchingReportId, OutOfBounds, OutOfMemory, Push, Reason, Report,
+  ReportDescriptor, UnknownOption, Usage, UsagesBy, WrongCount, descriptorOf, frontItems, items, pageByName,
+  pageName, rebuild, repair,
 } from "hidreport";
 import type {
   Bytes, Change, Flags, Fraction, HidCollection, HidInput, HidSource, HidValue, ParseOptions,
 } from "hidreport";
 
 const options: ParseOptions = { ...HOSTS, limit: null, push: Push.GLOBALS, usages: UsagesBy.STANDARD };
+const asLinux: ParseOptions = { ...LINUX, usages: UsagesBy.LINUX };
 const given: Bytes = [5, 1, 9, 48, 117, 8, 149, 1, 129, 6];
 const { bytes, changes }: { bytes: Uint8Array; changes: Change[] } = repair(given, HOSTS, Mends.CUT_SHORT);
 const whys: boolean[] = changes.map(({ offset, stood, stands, reason }) =>
@@ -77,5 +78,5 @@ const stop: () => void = new HidDevice(device.device).listen((came, { reportId }
   console.log(reportId, came.map(({ name, value, usage, field }) => [name, value, usage.id, field.id]));
 });
 stop();
-console.log(whys, reports.map(look), same, found, write, refusal, words, short, equal, called, values,
+console.log(whys, asLinux, reports.map(look), same, found, write, refusal, words, short, equal, called, values,
   descriptorOf(collections).length, device.descriptor.inputReports.length);
