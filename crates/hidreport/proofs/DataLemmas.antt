@@ -13,7 +13,9 @@ use Rattle.hidreport_items.specs.Flags.{Flags}
 use Rattle.hidreport.specs.Kinds.{Direction, Input, Output, Feature}
 use Rattle.hidreport.specs.MeaningFault.{MeaningFault, TooManyPops}
 use Rattle.hidreport_fields.specs.DataItem.{item_with}
-use Rattle.hidreport.specs.Fields.{make_fields, attributes, list_or_none}
+use Rattle.hidreport.specs.Fields.{attributes, list_or_none}
+use Rattle.hidreport.specs.Groups.{GroupRecord, GroupedReport, OutlineRecord, carried, group_made}
+use Rattle.hidreport.specs.Groups.{listed, named_usages}
 use Rattle.hidreport_fields.specs.ItemParts.{field_count}
 use Rattle.hidreport.specs.ItemState.{ItemState, first_of}
 use Rattle.hidreport.specs.Parser.Machine.{StateRecord, after_pop, pushed_copy, step, unless_fault}
@@ -22,72 +24,63 @@ use Rattle.hidreport.specs.Parser.Machine.{start_in}
 use Rattle.hidreport_fields.specs.Lookup.{reports_of}
 use Rattle.hidreport.specs.Parser.Machine.{size_in, first_id, added_to, with_reports}
 use Rattle.hidreport.specs.Making.{extent}
-use Rattle.hidreport_fields.specs.Records.{CollectionRecord, DescriptorRecord, FieldRecord, ReportRecord}
+use Rattle.hidreport_fields.specs.Records.{CollectionRecord, DescriptorRecord}
 use Rattle.hidreport.specs.Parser.Usages.{HasUsages, usage_list}
 use Rattle.hidreport.specs.Usages.{UsageList, usages_of}
 use Rattle.hidreport.specs.declared.parser.paged_local.PagedLocal.{PagedLocal}
 use Rattle.hidreport.specs.declared.parser.usages.Usages.{Usages}
 use Rattle.hidreport.specs.declared.parser.extent.Extent.{Extent}
+use Rattle.hidreport.proofs.ListedLemmas.{state-listed}
 
--- the fields that an item of a direction with these flags makes in these collections
-abbrev pub made_fields : StateRecord → Direction → Flags → List CollectionRecord → Extent
-    → UsageList → ℕ
-    → List FieldRecord
-made_fields h d flags cs e us first =
-    make_fields
-    (record { report_id = h.item_state.report_id; number = h.fields; first = first }) e flags us
-    (attributes h.item_state cs d flags)
-
-made-descriptor : (h : StateRecord) (d : Direction) (flags : Flags) (e : Extent)
+made-outline : (h : StateRecord) (d : Direction) (flags : Flags) (e : Extent)
     → extent h.item_state ≡ Some e
-    → (next_state h (item_with d flags)).descriptor
+    → (next_state h (item_with d flags)).outline
     ≡ with_reports d (added_to (key_in d h) (e.size * e.count)
-    (made_fields h d flags h.opened e (list_or_none (usages_of h.item_state)) (start_in d h))
-    (reports_of d h.descriptor)) h.descriptor
-made-descriptor h Input flags e made = rw made refl
-made-descriptor h Output flags e made = rw made refl
-made-descriptor h Feature flags e made = rw made refl
+    (group_made h.item_state h.opened h.fields (start_in d h) d flags e ∷ [])
+    (reports_of d h.outline)) h.outline
+made-outline h Input flags e made = rw made refl
+made-outline h Output flags e made = rw made refl
+made-outline h Feature flags e made = rw made refl
 
--- a constant item's fields have neither usages nor collections
-usages-by : (b : Bool) (h : StateRecord) (d : Direction) (flags : Flags)
-    (cs : List CollectionRecord)
-    (e : Extent) (us : Usages) (first : ℕ) → flags.constant ≡ b
-    → (flags.constant ≡ false → cs ≡ h.opened) → HasUsages flags h.item_state us
-    → made_fields h d flags cs e (usage_list us) first ≡ made_fields h d flags h.opened e
-    (list_or_none (usages_of h.item_state)) first
-usages-by true h d flags cs e us first constant around has = rw constant refl
-usages-by false h d flags cs e us first constant around has =
-    ap (λ (l : List CollectionRecord). made_fields h d flags l e (usage_list us) first)
-    (around constant)
-    ∙ ap (λ (l : UsageList). made_fields h d flags h.opened e l first)
-    (sym (ap list_or_none (has constant).0))
+-- padding has neither usages nor collections
+named-by : (b : Bool) (h : StateRecord) (flags : Flags) (us : Usages) → flags.constant ≡ b
+    → HasUsages flags h.item_state us → usage_list us ≡ named_usages flags h.item_state
+named-by true h flags us constant has = has.0 constant ∙ rw constant refl
+named-by false h flags us constant has =
+    sym (ap list_or_none (has.1 constant).0) ∙ rw constant refl
 
--- the reports behind the item, from what the parser made of it
-pub descriptor-made : (h : StateRecord) (d : Direction) (flags : Flags) (cs : List CollectionRecord)
-    (e : Extent) (us : Usages) (key : Option ℕ) (first bits : ℕ) (fields : List FieldRecord)
-    → (flags.constant ≡ false → cs ≡ h.opened) → extent h.item_state ≡ Some e
-    → HasUsages flags h.item_state us
-    → key ≡ key_in d h → first ≡ size_in key (reports_of d h.descriptor) → bits ≡ e.size * e.count
-    → fields ≡ made_fields h d flags cs e (usage_list us) first
-    → with_reports d (added_to key bits fields (reports_of d h.descriptor)) h.descriptor
-    ≡ (next_state h (item_with d flags)).descriptor
-descriptor-made h d flags cs e us key first bits fields around made has key_is first_is
-    bits_are fields_are =
-    let old = reports_of d h.descriptor in
-    let begins : first ≡ start_in d h = first_is ∙ ap (λ id. size_in id old) key_is in
-    let listed : fields ≡ made_fields h d flags h.opened e
-    (list_or_none (usages_of h.item_state)) (start_in d h) =
-    fields_are ∙ usages-by flags.constant h d flags cs e us first refl around has
-    ∙ ap (made_fields h d flags h.opened e (list_or_none (usages_of h.item_state)))
-    begins in
-    ap (λ (rs : List ReportRecord). with_reports d rs h.descriptor)
-    (ap (λ l. added_to key bits l old) listed
-    ∙ ap (λ n. added_to key n (made_fields h d flags h.opened e
-    (list_or_none (usages_of h.item_state)) (start_in d h)) old) bits_are
-    ∙ ap (λ id. added_to id (e.size * e.count)
-    (made_fields h d flags h.opened e (list_or_none (usages_of h.item_state))
-    (start_in d h)) old) key_is)
-    ∙ sym (made-descriptor h d flags e made)
+carried-by : (b : Bool) (h : StateRecord) (flags : Flags) (cs : List CollectionRecord)
+    → flags.constant ≡ b → (flags.constant ≡ false → cs ≡ h.opened)
+    → (flags.constant ≡ true → cs ≡ []) → cs ≡ carried flags h.opened
+carried-by true h flags cs constant around none = none constant ∙ rw constant refl
+carried-by false h flags cs constant around none = around constant ∙ rw constant refl
+
+-- the group of an item of a direction with these flags, from what is in force
+abbrev pub group_with : ItemState → ℕ → ℕ → Extent → Flags → UsageList → Direction
+    → List CollectionRecord → GroupRecord
+group_with g number first e flags us d cs = record {
+  beginning = record { report_id = g.report_id; number = number; first = first };
+  extent = e;
+  flags = flags;
+  usages = us;
+  shared = attributes g cs d flags;
+}
+
+group-is : (h : StateRecord) (g : ItemState) (d : Direction) (flags : Flags)
+    (cs : List CollectionRecord) (e : Extent) (us : Usages) (first : ℕ)
+    → g ≡ h.item_state → (flags.constant ≡ false → cs ≡ h.opened)
+    → (flags.constant ≡ true → cs ≡ []) → HasUsages flags h.item_state us
+    → first ≡ start_in d h
+    → group_with g h.fields first e flags (usage_list us) d cs
+    ≡ group_made h.item_state h.opened h.fields (start_in d h) d flags e
+group-is h g d flags cs e us first same around none has begins =
+    ap (λ (f : ItemState). group_with f h.fields first e flags (usage_list us) d cs) same
+    ∙ ap (λ n. group_with h.item_state h.fields n e flags (usage_list us) d cs) begins
+    ∙ ap (λ l. group_with h.item_state h.fields (start_in d h) e flags l d cs)
+    (named-by flags.constant h flags us refl has)
+    ∙ ap (λ l. group_with h.item_state h.fields (start_in d h) e flags
+    (named_usages flags h.item_state) d l)
+    (carried-by flags.constant h flags cs refl around none)
 
 -- as many fields are numbered behind it
 pub fields-made : (h : StateRecord) (d : Direction) (flags : Flags) (e : Extent)
@@ -100,36 +93,50 @@ fields-made h Feature flags e made = rw made refl
 -- what is held behind a data item, from what the parser made of it; `g` is what it found in force
 pub data-held : (h : StateRecord) (g : ItemState) (d : Direction) (flags : Flags)
     (cs : List CollectionRecord)
-    (e : Extent) (us : Usages) (key : Option ℕ) (first bits : ℕ)
-    (fields : List FieldRecord) (rs : DescriptorRecord) (n : ℕ)
-    → g ≡ h.item_state → (flags.constant ≡ false → cs ≡ h.opened) → extent g ≡ Some e
+    (e : Extent) (us : Usages) (key : Option ℕ) (first bits : ℕ) (rs : OutlineRecord) (n : ℕ)
+    → h.descriptor ≡ listed h.outline
+    → g ≡ h.item_state → (flags.constant ≡ false → cs ≡ h.opened)
+    → (flags.constant ≡ true → cs ≡ []) → extent g ≡ Some e
     → HasUsages flags h.item_state us
     → key ≡ first_of g.report_id (first_id (reports_of d h.descriptor))
     → first ≡ size_in key (reports_of d h.descriptor) → bits ≡ e.size * e.count
-    → fields ≡ make_fields
-    (record { report_id = g.report_id; number = h.fields; first = first }) e flags (usage_list us)
-    (attributes g cs d flags)
-    → rs ≡ with_reports d (added_to key bits fields (reports_of d h.descriptor)) h.descriptor
+    → rs ≡ with_reports d (added_to key bits
+    (group_with g h.fields first e flags (usage_list us) d cs ∷ [])
+    (reports_of d h.outline)) h.outline
     → n ≡ field_count flags e.count
-    → record h { descriptor = rs; fields = h.fields + n } ≡ record h {
+    → record h { descriptor = listed rs; outline = rs; fields = h.fields + n } ≡ record h {
       descriptor = (next_state h (item_with d flags)).descriptor;
+      outline = (next_state h (item_with d flags)).outline;
       fields = (next_state h (item_with d flags)).fields;
     }
-data-held h g d flags cs e us key first bits fields rs n same around made has key_is
-    first_is bits_are fields_are rs_are n_is =
+data-held h g d flags cs e us key first bits rs n laid same around none made has key_is
+    first_is bits_are rs_are n_is =
+    let x = item_with d flags in
+    let old = reports_of d h.outline in
     let made_now : extent h.item_state ≡ Some e = ap extent (sym same) ∙ made in
     let key_now : key ≡ key_in d h = key_is
-    ∙ ap (λ (f : ItemState). first_of f.report_id (first_id (reports_of d h.descriptor))) same
-    in
-    let fields_now : fields ≡ made_fields h d flags cs e (usage_list us) first =
-    fields_are ∙ ap (λ (f : ItemState). make_fields
-    (record { report_id = f.report_id; number = h.fields; first = first }) e flags
-    (usage_list us) (attributes f cs d flags)) same in
-    ap (λ (r : DescriptorRecord). record h { descriptor = r; fields = h.fields + n })
-    (rs_are ∙ descriptor-made h d flags cs e us key first bits fields around made_now has
-    key_now first_is bits_are fields_now)
+    ∙ ap (λ (f : ItemState). first_of f.report_id (first_id (reports_of d h.descriptor))) same in
+    let begins : first ≡ start_in d h =
+    first_is ∙ ap (λ k. size_in k (reports_of d h.descriptor)) key_now in
+    let group = group-is h g d flags cs e us first same around none has begins in
+    let outline : rs ≡ (next_state h x).outline = rs_are
+    ∙ ap (λ (rs : List GroupedReport). with_reports d rs h.outline)
+    (ap (λ (y : GroupRecord). added_to key bits (y ∷ []) old) group
+    ∙ ap (λ n. added_to key n (group_made h.item_state h.opened h.fields (start_in d h) d flags e
+    ∷ []) old) bits_are
+    ∙ ap (λ k. added_to k (e.size * e.count)
+    (group_made h.item_state h.opened h.fields (start_in d h) d flags e ∷ []) old) key_now)
+    ∙ sym (made-outline h d flags e made_now) in
+    ap (λ (o : OutlineRecord). record h { descriptor = listed o; outline = o; fields = h.fields + n })
+    outline
+    ∙ ap (λ (r : DescriptorRecord). record h {
+      descriptor = r;
+      outline = (next_state h x).outline;
+      fields = h.fields + n;
+    }) (sym (state-listed h x laid))
     ∙ ap (λ (m : ℕ). record h {
-      descriptor = (next_state h (item_with d flags)).descriptor;
+      descriptor = (next_state h x).descriptor;
+      outline = (next_state h x).outline;
       fields = m;
     })
     (ap (λ (m : ℕ). h.fields + m) n_is ∙ sym (fields-made h d flags e made_now))
@@ -145,6 +152,7 @@ held_by h f stack fields opened collections = record {
   item_state = f;
   stack = stack;
   descriptor = h.descriptor;
+  outline = h.outline;
   fields = fields;
   opened = opened;
   collections = collections;

@@ -41,7 +41,8 @@ use Rattle.hidreport.specs.Budget.{parse_items_within}
 use Rattle.hidreport.specs.Laws.{parse_any}
 use Rattle.hidreport.specs.Meaning.{InForce, at_offset, offset_at, parse_items, refusal_at}
 use Rattle.hidreport.specs.MeaningFault.{MeaningFault}
-use Rattle.hidreport_fields.specs.Records.{CollectionRecord, ReportRecord}
+use Rattle.hidreport_fields.specs.Lookup.{reports_of}
+use Rattle.hidreport_fields.specs.Records.{CollectionRecord, DescriptorRecord}
 use Rattle.hidreport.specs.Usages.{UsageList, usages_of, usages_under, usages_with, last_local}
 use Rattle.hidreport.specs.Usages.{single_usages, standard_usages}
 use Rattle.hidreport.specs.Usages.{before_usages, on_page, range_usages, as_single, minimum_of}
@@ -52,7 +53,9 @@ use Rattle.hidreport.specs.Parser.Machine.{start_in, start_for, counts_in, fault
 use Rattle.hidreport.specs.Parser.Machine.{last_item_state}
 use Rattle.hidreport.specs.Parser.Machine.{next_item_state, item_state_behind, next_stack}
 use Rattle.hidreport.specs.Parser.Machine.{next_state}
-use Rattle.hidreport.specs.Parser.Machine.{next_opened, next_reports, new_collection, first_state}
+use Rattle.hidreport.specs.Parser.Machine.{next_groups, next_opened, next_reports}
+use Rattle.hidreport.specs.Parser.Machine.{new_collection, first_state}
+use Rattle.hidreport.specs.Groups.{GroupRecord, OutlineRecord, carried, groups_of}
 use Rattle.hidreport.specs.Parser.Machine.{unless_fault, go_on}
 use Rattle.hidreport.specs.Parser.Budget.{is_past, left_behind, past_fault, stop_in, walk_within}
 use Rattle.hidreport.specs.Parser.Budget.{weight_in, weight_made_in, weight_opened_in}
@@ -209,6 +212,65 @@ reports-thin Feature h x = ap (λ l. cond (adds Feature h x)
     (fields-thin h.item_state h.opened h.fields (start_in Feature h) (data_of x)
     (extent h.item_state))
 
+made-thin : (f : ItemState) (cs : List CollectionRecord) (id first : ℕ)
+    (o : Option (Direction × Flags)) (e : Option Extent)
+    → groups_of (thin_item_state f) cs id first o e ≡ groups_of f cs id first o e
+made-thin f cs id first (Some x) (Some e) =
+    ap (λ u. record {
+      beginning = record { report_id = f.report_id; number = id; first = first };
+      extent = e;
+      flags = x.1;
+      usages = cond x.1.constant (record { usages = []; is_range = false }) (list_or_none u);
+      shared = attributes f (carried x.1 cs) x.0 x.1;
+    } ∷ []) (usages-thin f)
+made-thin f cs id first (Some x) None = refl
+made-thin f cs id first None e = refl
+
+groups-thin : (d : Direction) (h : StateRecord) (x : ItemType)
+    → next_groups d (thin h) x ≡ next_groups d h x
+groups-thin d h x = ap (λ (l : List GroupRecord). cond (adds d h x)
+    (added_to (key_in d h) (bits_in h) l (reports_of d h.outline)) (reports_of d h.outline))
+    (made-thin h.item_state h.opened h.fields (start_in d h) (data_of x) (extent h.item_state))
+
+-- the reports behind an item are the same, field by field and in groups
+descriptor-thin : (h : StateRecord) (x : ItemType)
+    → (next_state (thin h) x).descriptor ≡ (next_state h x).descriptor
+descriptor-thin h x =
+    ap (λ i. record {
+      input = i;
+      output = next_reports Output (thin h) x;
+      feature = next_reports Feature (thin h) x;
+    }) (reports-thin Input h x)
+    ∙ ap (λ o. record {
+      input = next_reports Input h x;
+      output = o;
+      feature = next_reports Feature (thin h) x;
+    }) (reports-thin Output h x)
+    ∙ ap (λ f. record {
+      input = next_reports Input h x;
+      output = next_reports Output h x;
+      feature = f;
+    }) (reports-thin Feature h x)
+
+outline-thin : (h : StateRecord) (x : ItemType)
+    → (next_state (thin h) x).outline ≡ (next_state h x).outline
+outline-thin h x =
+    ap (λ i. record {
+      input = i;
+      output = next_groups Output (thin h) x;
+      feature = next_groups Feature (thin h) x;
+    }) (groups-thin Input h x)
+    ∙ ap (λ o. record {
+      input = next_groups Input h x;
+      output = o;
+      feature = next_groups Feature (thin h) x;
+    }) (groups-thin Output h x)
+    ∙ ap (λ f. record {
+      input = next_groups Input h x;
+      output = next_groups Output h x;
+      feature = f;
+    }) (groups-thin Feature h x)
+
 -- the same step, for an item that is kept
 
 list-thin : (page : Option ℕ) (xs : List PagedLocal) (x : ItemType) → is_kept x ≡ true
@@ -281,38 +343,30 @@ kept-by false false push_keeps f ts = refl
 next-thin : (h : StateRecord) (x : ItemType) → is_kept x ≡ true
     → next_state (thin h) x ≡ thin (next_state h x)
 next-thin h x e =
-    let made : ItemState → List ItemState → List ReportRecord → List ReportRecord
-    → List ReportRecord
+    let made : ItemState → List ItemState → DescriptorRecord → OutlineRecord
     → List CollectionRecord → ℕ → StateRecord =
-    λ f ts i o t cs n. record {
+    λ f ts r o cs n. record {
       push_keeps = h.push_keeps;
       item_state = f;
       stack = ts;
-      descriptor = record { input = i; output = o; feature = t };
+      descriptor = r;
+      outline = o;
       fields = h.fields + fields_made (data_of x) (extent h.item_state);
       opened = cs;
       collections = n;
     } in
     let t = thin h in
-    ap (λ f. made f (next_stack t x) (next_reports Input t x) (next_reports Output t x)
-    (next_reports Feature t x) (next_opened t x)
-    (h.collections + length (new_collection t (collection_kind_of x)))) (held-by (is_pop x) h x e)
-    ∙ ap (λ ts. made (thin_item_state (item_state_behind h x)) ts (next_reports Input t x)
-    (next_reports Output t x) (next_reports Feature t x) (next_opened t x)
-    (h.collections + length (new_collection t (collection_kind_of x))))
+    let next = next_state t x in
+    let state = thin_item_state (item_state_behind h x) in
+    let stack = map thin_item_state (next_stack h x) in
+    ap (λ f. made f (next_stack t x) next.descriptor next.outline next.opened next.collections)
+    (held-by (is_pop x) h x e)
+    ∙ ap (λ ts. made state ts next.descriptor next.outline next.opened next.collections)
     (kept-by (is_pop x) (is_push x) h.push_keeps h.item_state h.stack)
-    ∙ ap (λ i. made (thin_item_state (item_state_behind h x))
-    (map thin_item_state (next_stack h x)) i
-    (next_reports Output t x) (next_reports Feature t x) (next_opened t x)
-    (h.collections + length (new_collection t (collection_kind_of x)))) (reports-thin Input h x)
-    ∙ ap (λ o. made (thin_item_state (item_state_behind h x)) (map thin_item_state (next_stack h x))
-    (next_reports Input h x) o (next_reports Feature t x) (next_opened t x)
-    (h.collections + length (new_collection t (collection_kind_of x)))) (reports-thin Output h x)
-    ∙ ap (λ r. made (thin_item_state (item_state_behind h x)) (map thin_item_state (next_stack h x))
-    (next_reports Input h x) (next_reports Output h x) r (next_opened t x)
-    (h.collections + length (new_collection t (collection_kind_of x)))) (reports-thin Feature h x)
-    ∙ ap (λ c. made (thin_item_state (item_state_behind h x)) (map thin_item_state (next_stack h x))
-    (next_reports Input h x) (next_reports Output h x) (next_reports Feature h x)
+    ∙ ap (λ r. made state stack r next.outline next.opened next.collections) (descriptor-thin h x)
+    ∙ ap (λ o. made state stack (next_state h x).descriptor o next.opened next.collections)
+    (outline-thin h x)
+    ∙ ap (λ c. made state stack (next_state h x).descriptor (next_state h x).outline
     (cond (is_end_collection x) (take (length h.opened - 1) h.opened) (h.opened ++ c))
     (h.collections + length c)) (new-thin h (collection_kind_of x))
 
@@ -335,6 +389,7 @@ idle-thin : (h : StateRecord) (locals : List PagedLocal)
       item_state = record h.item_state { locals = locals };
       stack = h.stack;
       descriptor = h.descriptor;
+      outline = h.outline;
       fields = h.fields + 0;
       opened = h.opened ++ [];
       collections = h.collections + 0;
@@ -346,6 +401,7 @@ idle-thin h locals e =
       item_state = record h.item_state { locals = l };
       stack = map thin_item_state h.stack;
       descriptor = h.descriptor;
+      outline = h.outline;
       fields = n;
       opened = cs;
       collections = m;

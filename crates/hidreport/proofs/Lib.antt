@@ -15,6 +15,7 @@ pub mod IndexedLemmas
 pub mod JournalLemmas
 pub mod KeptItemsLemmas
 pub mod LevelLemmas
+pub mod ListedLemmas
 pub mod LongestLemmas
 pub mod OpenLemmas
 pub mod OwnCollectionsLemmas
@@ -49,6 +50,7 @@ pub mod RefusalLemmas
 pub mod RepairLemmas
 pub mod KindLemmas
 pub mod OutlineLemmas
+pub mod OutlineWalkLemmas
 pub mod RepairLawLemmas
 pub mod RepairRefusalLemmas
 pub mod RepairBitsLemmas

@@ -49,8 +49,8 @@ as-never-over options bytes offset none any =
     unlimited (reading_of options) options.limit options.longest bytes offset none any
 
 -- what holds of each answer that is reports holds of these
-pub found-ok : {P : DescriptorRecord → Type 0} {answer : Result DescriptorRecord Refusal}
-    (result : Result DescriptorRecord ParserError)
-    → ((d : DescriptorRecord) → answer ≡ Ok d → P d) → Answers result answer → IfOk result P
+pub found-ok : {A : Type 0} {P : A → Type 0} {answer : Result A Refusal}
+    (result : Result A ParserError)
+    → ((d : A) → answer ≡ Ok d → P d) → Answers result answer → IfOk result P
 found-ok (Ok d) holds is = holds d is
 found-ok (Err e) holds is = tt

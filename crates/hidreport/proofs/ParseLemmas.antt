@@ -18,7 +18,8 @@ use Rattle.hidreport.specs.Budget.{parse_items_within}
 use Rattle.hidreport.specs.ItemState.{first_of}
 use Rattle.hidreport.specs.MeaningFault.{MeaningFault}
 use Rattle.hidreport.specs.Parser.Budget.{is_past, left_behind, past_fault, stop_in, walk_bytes}
-use Rattle.hidreport.specs.Parser.Budget.{walk_items, walk_within, weight_in}
+use Rattle.hidreport.specs.Parser.Budget.{walk_bytes_to, walk_items, walk_items_to, walk_to}
+use Rattle.hidreport.specs.Parser.Budget.{weight_in}
 use Rattle.hidreport.specs.Parser.Machine.{StateRecord, fault_in, next_state, unless_fault, step}
 use Rattle.hidreport.specs.Parser.Machine.{go_on}
 use Rattle.hidreport.specs.Parser.Machine.{first_state}
@@ -73,49 +74,50 @@ goes-on left h next x (Some f) fault stepped within =
     sym (ap (λ o. unless_fault o (next_state h x)) fault) ∙ stepped in cc
 
 -- behind another entry each index is one higher, and each offset the same
-later : (e : Entry) (entries : List Entry) (left : Option ℕ) (h : StateRecord) (j k : ℕ)
-    (xs : List ItemType) → j ≡ suc k
-    → at_offset (e ∷ entries) (walk_within left h j xs)
-    ≡ at_offset entries (walk_within left h k xs)
-later e entries left h j k [] one = refl
-later e entries left h j k (x ∷ xs) one =
+later : {A : Type 0} (part : StateRecord → A) (e : Entry) (entries : List Entry) (left : Option ℕ)
+    (h : StateRecord) (j k : ℕ) (xs : List ItemType) → j ≡ suc k
+    → at_offset (e ∷ entries) (walk_to part left h j xs)
+    ≡ at_offset entries (walk_to part left h k xs)
+later part e entries left h j k [] one = refl
+later part e entries left h j k (x ∷ xs) one =
     going (unless_fault (stop_in left h x) (next_state h x))
-    (λ next. later e entries (left_behind left (weight_in h x)) next (j + 1) (k + 1) xs
+    (λ next. later part e entries (left_behind left (weight_in h x)) next (j + 1) (k + 1) xs
     (omega (arith, one)))
   where
     going : (r : Result StateRecord MeaningFault)
         → ((next : StateRecord) → at_offset (e ∷ entries)
-        (walk_within (left_behind left (weight_in h x)) next (j + 1) xs)
-        ≡ at_offset entries (walk_within (left_behind left (weight_in h x)) next (k + 1) xs))
+        (walk_to part (left_behind left (weight_in h x)) next (j + 1) xs)
+        ≡ at_offset entries (walk_to part (left_behind left (weight_in h x)) next (k + 1) xs))
         → at_offset (e ∷ entries) (go_on r j
-        (λ n. walk_within (left_behind left (weight_in h x)) n (j + 1) xs))
+        (λ n. walk_to part (left_behind left (weight_in h x)) n (j + 1) xs))
         ≡ at_offset entries (go_on r k
-        (λ n. walk_within (left_behind left (weight_in h x)) n (k + 1) xs))
+        (λ n. walk_to part (left_behind left (weight_in h x)) n (k + 1) xs))
     going (Err f) rest = ap (λ i. Err (refusal_at (offset_at (e ∷ entries) i) f)) one
     going (Ok next) rest = rest next
 
 -- one item further
-pub walked-on : (e : Entry) (left behind : Option ℕ) (h next : StateRecord)
-    (r : Result (List Entry) (ℕ × GrammarFault))
+pub walked-on : {A : Type 0} (part : StateRecord → A) (e : Entry) (left behind : Option ℕ)
+    (h next : StateRecord) (r : Result (List Entry) (ℕ × GrammarFault))
     → step h e.item ≡ Ok next → is_past left (weight_in h e.item) ≡ false
     → behind ≡ left_behind left (weight_in h e.item)
-    → walk_items left h (with_front (e ∷ []) r) ≡ walk_items behind next r
-walked-on e left behind h next (Err fault) stepped within is = refl
-walked-on e left behind h next (Ok entries) stepped within is =
+    → walk_items_to part left h (with_front (e ∷ []) r) ≡ walk_items_to part behind next r
+walked-on part e left behind h next (Err fault) stepped within is = refl
+walked-on part e left behind h next (Ok entries) stepped within is =
     ap (λ r. at_offset (e ∷ entries) (go_on r 0
-    (λ n. walk_within (left_behind left (weight_in h e.item)) n 1 (items_of entries))))
+    (λ n. walk_to part (left_behind left (weight_in h e.item)) n 1 (items_of entries))))
     (goes-on left h next e.item (fault_in h e.item) refl stepped within)
-    ∙ ap (λ l. at_offset (e ∷ entries) (walk_within l next 1 (items_of entries))) (sym is)
-    ∙ later e entries behind next 1 0 (items_of entries) refl
+    ∙ ap (λ l. at_offset (e ∷ entries) (walk_to part l next 1 (items_of entries))) (sym is)
+    ∙ later part e entries behind next 1 0 (items_of entries) refl
 
 -- what stops the walk at an item is the answer, unless one behind it can't be read
-pub meaning-fault : (e : Entry) (left : Option ℕ) (h : StateRecord) (f : MeaningFault)
+pub meaning-fault : {A : Type 0} (part : StateRecord → A) (e : Entry) (left : Option ℕ)
+    (h : StateRecord) (f : MeaningFault)
     (r : Result (List Entry) (ℕ × GrammarFault)) → IsOk r → stop_in left h e.item ≡ Some f
-    → walk_items left h (with_front (e ∷ []) r) ≡ Err (refusal_at e.offset f)
-meaning-fault e left h f (Err fault) read stops = cc
-meaning-fault e left h f (Ok entries) read stops =
+    → walk_items_to part left h (with_front (e ∷ []) r) ≡ Err (refusal_at e.offset f)
+meaning-fault part e left h f (Err fault) read stops = cc
+meaning-fault part e left h f (Ok entries) read stops =
     ap (λ o. at_offset (e ∷ entries) (go_on (unless_fault o (next_state h e.item)) 0
-    (λ n. walk_within (left_behind left (weight_in h e.item)) n 1 (items_of entries)))) stops
+    (λ n. walk_to part (left_behind left (weight_in h e.item)) n 1 (items_of entries)))) stops
 
 -- an error that says a refusal is every answer that is this refusal
 pub refuses-as : {A : Type 0} (e : ParserError) (r : Refusal) (answer : Result A Refusal)
@@ -148,27 +150,28 @@ refuses-fault fault offset e found answer is named memory given =
     refuses-named (fault_named fault) offset e found answer is named memory given
 
 -- the refusal of an item where these stand behind it: their grammar fault, or else its own
-pub stopped : (e : Entry) (left : Option ℕ) (h : StateRecord) (fault : Fault) (error : ParserError)
+pub stopped : {A : Type 0} (part : StateRecord → A) (e : Entry) (left : Option ℕ) (h : StateRecord) (fault : Fault) (error : ParserError)
     (r : Result (List Entry) (ℕ × GrammarFault)) → IsFaultOf fault (stop_in left h e.item)
     → ((g : ℕ × GrammarFault) → r ≡ Err g
     → IsRefusal error (InvalidData g.0 (grammar_message g.1)))
     → (IsOk r → IfSome (fault_named fault) (λ f. IsRefusal error (refusal_at e.offset f)))
     → (IsOk r → fault_named fault ≡ None → error ≡ errors.OutOfMemory)
-    → Refuses error (walk_items left h (with_front (e ∷ []) r))
-stopped e left h fault error (Err g) is grammar meaning memory =
+    → Refuses error (walk_items_to part left h (with_front (e ∷ []) r))
+stopped part e left h fault error (Err g) is grammar meaning memory =
     refuses-as error (InvalidData g.0 (grammar_message g.1))
-    (walk_items left h (with_front (e ∷ []) (Err g))) (grammar g refl) refl
-stopped e left h fault error (Ok entries) is grammar meaning memory =
+    (walk_items_to part left h (with_front (e ∷ []) (Err g))) (grammar g refl) refl
+stopped part e left h fault error (Ok entries) is grammar meaning memory =
     refuses-fault fault e.offset error (stop_in left h e.item)
-    (walk_items left h (with_front (e ∷ []) (Ok entries))) is (meaning refl) (memory refl)
-    (λ f stops. meaning-fault e left h f (Ok entries) refl stops)
+    (walk_items_to part left h (with_front (e ∷ []) (Ok entries))) is (meaning refl) (memory refl)
+    (λ f stops. meaning-fault part e left h f (Ok entries) refl stops)
 
 -- the walk over bytes goes over their items, the first of which stands at 0
-pub walk-some : (options : ParseOptions) (bytes : List ℕ) → bytes ≢ []
-    → walk_items options.limit (first_state options) (items_from item_of 0 0 bytes)
-    ≡ walk_bytes options bytes
-walk-some options [] some = absurd (some refl)
-walk-some options (b ∷ bs) some = refl
+pub walk-some : {A : Type 0} (part : StateRecord → A) (options : ParseOptions) (bytes : List ℕ)
+    → bytes ≢ []
+    → walk_items_to part options.limit (first_state options) (items_from item_of 0 0 bytes)
+    ≡ walk_bytes_to part options bytes
+walk-some part options [] some = absurd (some refl)
+walk-some part options (b ∷ bs) some = refl
 
 -- without a limit this is the parse by the reading
 

@@ -13,7 +13,7 @@ use Rattle.hidreport.specs.Parser.Machine.{report_made, reports_made, size_in, a
 use Rattle.hidreport_fields.specs.ReportIds.{same_key}
 use Rattle.hidreport.specs.Meaning.{firsts_after}
 use Rattle.hidreport_fields.specs.ReportIds.{id_bits}
-use Rattle.hidreport_fields.specs.Records.{FieldRecord, ReportRecord}
+use Rattle.hidreport_fields.specs.Records.{ReportOf}
 use Rattle.hidreport.proofs.ItemStateLemmas.{or_false}
 
 -- keys that compare alike are one
@@ -163,8 +163,8 @@ sum_by-one : (bits : Indexed → ℕ) (m : Indexed) → sum_by bits (m ∷ []) �
 sum_by-one bits m = grind (arith, common_steps)
 
 -- an item of the report's key extends it
-report-extended : (key : Indexed → Option ℕ) (bits : Indexed → ℕ)
-    (fields : Indexed → List FieldRecord) (ms : List Indexed) (m : Indexed) (id : Option ℕ)
+report-extended : {A : Type 0} (key : Indexed → Option ℕ) (bits : Indexed → ℕ)
+    (fields : Indexed → List A) (ms : List Indexed) (m : Indexed) (id : Option ℕ)
     → same_key (key m) id ≡ true
     → report_made key bits fields (ms ++ m ∷ []) id
     ≡ record {
@@ -196,7 +196,7 @@ report-extended key bits fields ms m id same =
     }) parts
 
 -- another item leaves it
-report-other : (key : Indexed → Option ℕ) (bits : Indexed → ℕ) (fields : Indexed → List FieldRecord)
+report-other : {A : Type 0} (key : Indexed → Option ℕ) (bits : Indexed → ℕ) (fields : Indexed → List A)
     (ms : List Indexed) (m : Indexed) (id : Option ℕ)
     → same_key (key m) id ≡ false
     → report_made key bits fields (ms ++ m ∷ []) id ≡ report_made key bits fields ms id
@@ -216,22 +216,22 @@ adding-none key id (m ∷ ms) n =
     ∙ adding-none key id ms both.1
 
 -- a report with more bits and fields
-abbrev extended : ReportRecord → Option ℕ → ℕ → List FieldRecord → ReportRecord
+abbrev extended : {A : Type 0} → ReportOf A → Option ℕ → ℕ → List A → ReportOf A
 extended r k bits fields = record { id = k; size = r.size + bits; fields = r.fields ++ fields }
 
 -- where the id isn't among these keys their reports stay, and the new one stands behind them
-absent : (key : Indexed → Option ℕ) (bits : Indexed → ℕ) (fields : Indexed → List FieldRecord)
+absent : {A : Type 0} (key : Indexed → Option ℕ) (bits : Indexed → ℕ) (fields : Indexed → List A)
     (ms : List Indexed) (m : Indexed) (ks : List (Option ℕ))
     → is_among (key m) ks ≡ false
     → map (report_made key bits fields (ms ++ m ∷ [])) ks ++ record
     { id = key m; size = id_bits (key m) + bits m; fields = fields m } ∷ []
     ≡ added_to (key m) (bits m) (fields m) (map (report_made key bits fields ms) ks)
 absent key bits fields ms m [] n = refl
-absent key bits fields ms m (k ∷ ks) n =
+absent {A} key bits fields ms m (k ∷ ks) n =
     let both = or_cases (same_key (key m) k) (is_among (key m) ks) n in
     let here = report-other key bits fields ms m k both.0 in
     let rest = absent key bits fields ms m ks both.1 in
-    ap (λ (r : ReportRecord). r ∷ (map (report_made key bits fields (ms ++ m ∷ [])) ks ++ record
+    ap (λ (r : ReportOf A). r ∷ (map (report_made key bits fields (ms ++ m ∷ [])) ks ++ record
     { id = key m; size = id_bits (key m) + bits m; fields = fields m } ∷ [])) here
     ∙ ap (λ l. report_made key bits fields ms k ∷ l) rest
     ∙ ap (λ b. cond b (extended (report_made key bits fields ms k) k (bits m) (fields m)
@@ -240,19 +240,19 @@ absent key bits fields ms m (k ∷ ks) n =
     (sym (same_key-sym k (key m) ∙ both.0))
 
 -- reports of other keys stay
-others : (key : Indexed → Option ℕ) (bits : Indexed → ℕ) (fields : Indexed → List FieldRecord)
+others : {A : Type 0} (key : Indexed → Option ℕ) (bits : Indexed → ℕ) (fields : Indexed → List A)
     (ms : List Indexed) (m : Indexed) (ks : List (Option ℕ))
     → is_among (key m) ks ≡ false
     → map (report_made key bits fields (ms ++ m ∷ [])) ks ≡ map (report_made key bits fields ms) ks
 others key bits fields ms m [] n = refl
-others key bits fields ms m (k ∷ ks) n =
+others {A} key bits fields ms m (k ∷ ks) n =
     let both = or_cases (same_key (key m) k) (is_among (key m) ks) n in
-    ap (λ (r : ReportRecord). r ∷ map (report_made key bits fields (ms ++ m ∷ [])) ks)
+    ap (λ (r : ReportOf A). r ∷ map (report_made key bits fields (ms ++ m ∷ [])) ks)
     (report-other key bits fields ms m k both.0)
     ∙ ap (λ l. report_made key bits fields ms k ∷ l) (others key bits fields ms m ks both.1)
 
-present-by : (b : Bool) (key : Indexed → Option ℕ) (bits : Indexed → ℕ)
-    (fields : Indexed → List FieldRecord) (ms : List Indexed) (m : Indexed) (k : Option ℕ)
+present-by : {A : Type 0} (b : Bool) (key : Indexed → Option ℕ) (bits : Indexed → ℕ)
+    (fields : Indexed → List A) (ms : List Indexed) (m : Indexed) (k : Option ℕ)
     (ks : List (Option ℕ))
     → same_key (key m) k ≡ b → Distinct (k ∷ ks) → (b || is_among (key m) ks) ≡ true
     → (is_among (key m) ks ≡ true
@@ -260,10 +260,10 @@ present-by : (b : Bool) (key : Indexed → Option ℕ) (bits : Indexed → ℕ)
     (map (report_made key bits fields ms) ks))
     → map (report_made key bits fields (ms ++ m ∷ [])) (k ∷ ks) ≡ added_to (key m) (bits m) (fields m)
     (map (report_made key bits fields ms) (k ∷ ks))
-present-by true key bits fields ms m k ks s d n rest =
+present-by {A} true key bits fields ms m k ks s d n rest =
     let same : key m ≡ k = same_key-equal (key m) k s in
     let none : is_among (key m) ks ≡ false = subst (λ z. is_among z ks ≡ false) (sym same) d.0 in
-    ap (λ (r : ReportRecord). r ∷ map (report_made key bits fields (ms ++ m ∷ [])) ks)
+    ap (λ (r : ReportOf A). r ∷ map (report_made key bits fields (ms ++ m ∷ [])) ks)
     (report-extended key bits fields ms m k s)
     ∙ ap (λ l. extended (report_made key bits fields ms k) k (bits m) (fields m) ∷ l)
     (others key bits fields ms m ks none)
@@ -271,8 +271,8 @@ present-by true key bits fields ms m k ks s d n rest =
     ∷ map (report_made key bits fields ms) ks) (report_made key bits fields ms k ∷ added_to (key m) (bits m) (fields m)
     (map (report_made key bits fields ms) ks)))
     (sym (same_key-sym k (key m) ∙ s))
-present-by false key bits fields ms m k ks s d n rest =
-    ap (λ (r : ReportRecord). r ∷ map (report_made key bits fields (ms ++ m ∷ [])) ks)
+present-by {A} false key bits fields ms m k ks s d n rest =
+    ap (λ (r : ReportOf A). r ∷ map (report_made key bits fields (ms ++ m ∷ [])) ks)
     (report-other key bits fields ms m k s)
     ∙ ap (λ l. report_made key bits fields ms k ∷ l) (rest n)
     ∙ ap (λ b. cond b (extended (report_made key bits fields ms k) k (bits m) (fields m)
@@ -281,7 +281,7 @@ present-by false key bits fields ms m k ks s d n rest =
     (sym (same_key-sym k (key m) ∙ s))
 
 -- where it is among them, just its report is extended
-present : (key : Indexed → Option ℕ) (bits : Indexed → ℕ) (fields : Indexed → List FieldRecord)
+present : {A : Type 0} (key : Indexed → Option ℕ) (bits : Indexed → ℕ) (fields : Indexed → List A)
     (ms : List Indexed) (m : Indexed) (ks : List (Option ℕ))
     → Distinct ks → is_among (key m) ks ≡ true
     → map (report_made key bits fields (ms ++ m ∷ [])) ks ≡ added_to (key m) (bits m) (fields m)
@@ -291,8 +291,8 @@ present key bits fields ms m (k ∷ ks) d n =
     present-by (same_key (key m) k) key bits fields ms m k ks refl d n
     (present key bits fields ms m ks d.1)
 
-reports-next-by : (b : Bool) (key : Indexed → Option ℕ) (bits : Indexed → ℕ)
-    (fields : Indexed → List FieldRecord) (ms : List Indexed) (m : Indexed)
+reports-next-by : {A : Type 0} (b : Bool) (key : Indexed → Option ℕ) (bits : Indexed → ℕ)
+    (fields : Indexed → List A) (ms : List Indexed) (m : Indexed)
     → is_among (key m) (map key ms) ≡ b
     → map (report_made key bits fields (ms ++ m ∷ []))
     (firsts_after [] (map key ms) ++ cond b [] (key m ∷ [])) ≡ added_to (key m) (bits m)
@@ -302,7 +302,7 @@ reports-next-by true key bits fields ms m e =
     ap (map (report_made key bits fields (ms ++ m ∷ []))) (append-nil ks)
     ∙ present key bits fields ms m ks (firsts-distinct [] (map key ms))
     (listed (key m) [] (map key ms) refl ∙ e)
-reports-next-by false key bits fields ms m e =
+reports-next-by {A} false key bits fields ms m e =
     let ks = firsts_after [] (map key ms) in
     let none : adding key (key m) ms ≡ [] = adding-none key (key m) ms e in
     let new : report_made key bits fields (ms ++ m ∷ []) (key m) ≡ record
@@ -316,12 +316,12 @@ reports-next-by false key bits fields ms m e =
     ∙ ap (λ n. record { id = key m; size = n + bits m; fields = fields m })
     (add-zero (id_bits (key m))) in
     map-append (report_made key bits fields (ms ++ m ∷ [])) ks (key m ∷ [])
-    ∙ ap (λ (r : ReportRecord). map (report_made key bits fields (ms ++ m ∷ [])) ks ++ r ∷ []) new
+    ∙ ap (λ (r : ReportOf A). map (report_made key bits fields (ms ++ m ∷ [])) ks ++ r ∷ []) new
     ∙ absent key bits fields ms m ks (listed (key m) [] (map key ms) refl ∙ e)
 
 -- the reports behind one more item that makes fields
-pub reports-next : (key : Indexed → Option ℕ) (bits : Indexed → ℕ)
-    (fields : Indexed → List FieldRecord) (ms : List Indexed) (m : Indexed)
+pub reports-next : {A : Type 0} (key : Indexed → Option ℕ) (bits : Indexed → ℕ)
+    (fields : Indexed → List A) (ms : List Indexed) (m : Indexed)
     → reports_made key bits fields (ms ++ m ∷ []) ≡ added_to (key m) (bits m) (fields m)
     (reports_made key bits fields ms)
 reports-next key bits fields ms m =
@@ -329,8 +329,8 @@ reports-next key bits fields ms m =
     (ap (firsts_after []) (map-append key ms (m ∷ [])) ∙ firsts-next (key m) [] (map key ms))
     ∙ reports-next-by (is_among (key m) (map key ms)) key bits fields ms m refl
 
-size-at : (b : Bool) (key : Indexed → Option ℕ) (bits : Indexed → ℕ)
-    (fields : Indexed → List FieldRecord) (ms : List Indexed) (id k : Option ℕ)
+size-at : {A : Type 0} (b : Bool) (key : Indexed → Option ℕ) (bits : Indexed → ℕ)
+    (fields : Indexed → List A) (ms : List Indexed) (id k : Option ℕ)
     (ks : List (Option ℕ))
     → same_key id k ≡ b → ((b || is_among id ks) ≡ false → adding key id ms ≡ [])
     → ((is_among id ks ≡ false → adding key id ms ≡ [])
@@ -346,7 +346,7 @@ size-at false key bits fields ms id k ks s none rest =
     ap (λ b. cond b (report_made key bits fields ms k).size
     (size_in id (map (report_made key bits fields ms) ks))) (same_key-sym k id ∙ s) ∙ rest none
 
-size-by : (key : Indexed → Option ℕ) (bits : Indexed → ℕ) (fields : Indexed → List FieldRecord)
+size-by : {A : Type 0} (key : Indexed → Option ℕ) (bits : Indexed → ℕ) (fields : Indexed → List A)
     (ms : List Indexed) (id : Option ℕ) (ks : List (Option ℕ))
     → (is_among id ks ≡ false → adding key id ms ≡ [])
     → size_in id (map (report_made key bits fields ms) ks)
@@ -357,8 +357,8 @@ size-by key bits fields ms id (k ∷ ks) none =
     size-at (same_key id k) key bits fields ms id k ks refl none (size-by key bits fields ms id ks)
 
 -- where the report with this id ends so far
-pub size-in_reports : (key : Indexed → Option ℕ) (bits : Indexed → ℕ)
-    (fields : Indexed → List FieldRecord) (ms : List Indexed) (id : Option ℕ)
+pub size-in_reports : {A : Type 0} (key : Indexed → Option ℕ) (bits : Indexed → ℕ)
+    (fields : Indexed → List A) (ms : List Indexed) (id : Option ℕ)
     → size_in id (reports_made key bits fields ms) ≡ (report_made key bits fields ms id).size
 size-in_reports key bits fields ms id =
     size-by key bits fields ms id (firsts_after [] (map key ms))

@@ -21,6 +21,7 @@ use Rattle.hidreport_items.specs.declared.item.ItemType.{ItemType}
 use Rattle.hidreport.specs.Faults.{item_fault, fault, counts, start_of}
 use Rattle.hidreport.specs.Fields.{fields_at, fields_of, fields_made, fields_before, collections_at}
 use Rattle.hidreport.specs.Fields.{collection_record, list_or_none}
+use Rattle.hidreport.specs.Groups.{GroupedReport, grouped, grouped_reports, groups_at, groups_of}
 use Rattle.hidreport.specs.ItemState.{ItemState, first_of}
 use Rattle.hidreport.specs.Kinds.{Indexed, Direction, Input, Output, Feature, data_of, goes}
 use Rattle.hidreport.specs.Kinds.{is_push, is_pop, is_collection, is_end_collection, collection_kind_of}
@@ -28,7 +29,8 @@ use Rattle.hidreport.specs.Parser.Machine.{StateRecord, after_pop, pushed_copy, 
 use Rattle.hidreport_fields.specs.Lookup.{reports_of}
 use Rattle.hidreport.specs.Parser.Machine.{reports_made, size_in, first_id, added_to}
 use Rattle.hidreport.specs.Parser.Machine.{key_in, start_in, start_for, counts_in, fault_in, adds}
-use Rattle.hidreport.specs.Parser.Machine.{next_item_state, last_item_state, next_reports}
+use Rattle.hidreport.specs.Parser.Machine.{next_groups, next_item_state, last_item_state}
+use Rattle.hidreport.specs.Parser.Machine.{next_reports}
 use Rattle.hidreport.specs.Parser.Machine.{next_opened}
 use Rattle.hidreport.specs.Parser.Machine.{new_collection, next_state, unless_fault, start_by}
 use Rattle.hidreport.specs.Parser.Machine.{go_on, walk}
@@ -38,7 +40,8 @@ use Rattle.hidreport.specs.Meaning.{reports, descriptor}
 use Rattle.hidreport.specs.MeaningFault.{MeaningFault, TooManyEnds, TooManyPops}
 use Rattle.hidreport.specs.OpenCollections.{depth, collections_before, open_at}
 use Rattle.hidreport.specs.Places.{start, bits_of}
-use Rattle.hidreport_fields.specs.Records.{CollectionRecord, FieldRecord, ReportRecord, DescriptorRecord}
+use Rattle.hidreport_fields.specs.Records.{CollectionRecord, DescriptorOf, DescriptorRecord}
+use Rattle.hidreport_fields.specs.Records.{FieldRecord, ReportOf, ReportRecord}
 use Rattle.hidreport.specs.Usages.{usages_of}
 use Rattle.hidreport.specs.Visibility.{before, level}
 use Rattle.hidreport.specs.declared.parser.push_keeps.PushKeeps.{PushKeeps}
@@ -50,11 +53,21 @@ use Rattle.hidreport.proofs.OpenLemmas.{opened-next, closed-next}
 use Rattle.hidreport.proofs.ReportLemmas.{reports-next, size-in_reports}
 use Rattle.hidreport.specs.declared.parser.extent.Extent.{Extent}
 
--- the reports of a direction that the items before k make
+-- the reports of a direction that the items before k make, each adding such parts
+abbrev pub made_before : {A : Type 0} → (ℕ → ItemState) → Direction → (Indexed → List A)
+    → List ItemType → ℕ → List (ReportOf A)
+made_before item_state d parts items k =
+    reports_made (λ p. key item_state d items p.0) (λ p. bits_of (extent (item_state p.0)))
+    parts (makers item_state d items k)
+
+-- field by field, and in groups
 abbrev pub reports_before : (ℕ → ItemState) → Direction → List ItemType → ℕ → List ReportRecord
 reports_before item_state d items k =
-    reports_made (λ p. key item_state d items p.0) (λ p. bits_of (extent (item_state p.0)))
-    (fields_at item_state d items) (makers item_state d items k)
+    made_before item_state d (fields_at item_state d items) items k
+
+abbrev pub groups_before : (ℕ → ItemState) → Direction → List ItemType → ℕ → List GroupedReport
+groups_before item_state d items k =
+    made_before item_state d (groups_at item_state d items) items k
 
 -- what is in force behind an item, and what the open Pushes keep there
 pub record Steps (push_keeps : PushKeeps) (item_state : ℕ → ItemState) (stack : ℕ → List ItemState)
@@ -86,6 +99,7 @@ pub record Holds (item_state : ℕ → ItemState) (stack : ℕ → List ItemStat
   pub rests : Rests items k
   pub keeps : h.stack ≡ stack k
   pub listed : (d : Direction) → reports_of d h.descriptor ≡ reports_before item_state d items k
+  pub grouped : (d : Direction) → reports_of d h.outline ≡ groups_before item_state d items k
   pub first : (d : Direction)
       → first_report_id item_state (makers item_state d items k)
       ≡ first_id (reports_of d h.descriptor)
@@ -166,6 +180,23 @@ fields-held item_state stack items k h d x held =
     ∙ ap (λ s. fields_of h.item_state h.opened h.fields s (data_of x) (extent h.item_state))
     (start-held item_state stack items k h d held)
 
+groups-held : (item_state : ℕ → ItemState) (stack : ℕ → List ItemState) (items : List ItemType)
+    (k : ℕ)
+    (h : StateRecord) (d : Direction) (x : ItemType) → Holds item_state stack items k h
+    → groups_at item_state d items (k, x) ≡ groups_of h.item_state h.opened h.fields (start_in d h)
+    (data_of x) (extent h.item_state)
+groups-held item_state stack items k h d x held =
+    ap (λ cs. groups_of (item_state k) cs (fields_before item_state items k)
+    (start item_state d items k)
+    (data_of x) (extent (item_state k))) (sym held.inside)
+    ∙ ap (λ f. groups_of f h.opened (fields_before item_state items k) (start item_state d items k)
+    (data_of x) (extent f)) (sym held.item_states)
+    ∙ ap (λ n. groups_of h.item_state h.opened n (start item_state d items k) (data_of x)
+    (extent h.item_state))
+    (sym held.numbered)
+    ∙ ap (λ s. groups_of h.item_state h.opened h.fields s (data_of x) (extent h.item_state))
+    (start-held item_state stack items k h d held)
+
 -- the items that make fields, with one more item
 makers-next : (item_state : ℕ → ItemState) (items front rest : List ItemType) (x : ItemType)
     (d : Direction)
@@ -178,39 +209,45 @@ makers-next item_state items front rest x d e =
     ap (filter test) (before-next items front rest x e)
     ∙ filter-append test (before items (length front)) ((length front, x) ∷ [])
 
-listed-by : (b : Bool) (item_state : ℕ → ItemState) (stack : ℕ → List ItemState)
+made-by : {A : Type 0} (b : Bool) (item_state : ℕ → ItemState) (stack : ℕ → List ItemState)
     (items front rest : List ItemType) (h : StateRecord) (x : ItemType) (d : Direction)
+    (parts : Indexed → List A) (part : List A) (old : List (ReportOf A))
     → items ≡ front ++ x ∷ rest → Holds item_state stack items (length front) h
     → (goes d (data_of x) && is_some (extent (item_state (length front)))) ≡ b
-    → reports_before item_state d items (suc (length front))
-    ≡ cond b (added_to (key_in d h) (bits_of (extent h.item_state))
-    (fields_of h.item_state h.opened h.fields (start_in d h) (data_of x) (extent h.item_state))
-    (reports_of d h.descriptor)) (reports_of d h.descriptor)
-listed-by true item_state stack items front rest h x d e held t =
+    → parts (length front, x) ≡ part
+    → old ≡ made_before item_state d parts items (length front)
+    → made_before item_state d parts items (suc (length front))
+    ≡ cond b (added_to (key_in d h) (bits_of (extent h.item_state)) part old) old
+made-by true item_state stack items front rest h x d parts part old e held t is was =
     let k = length front in
     let key_of = λ (p : Indexed). key item_state d items p.0 in
     let bits = λ (p : Indexed). bits_of (extent (item_state p.0)) in
-    let parts = fields_at item_state d items in
     let ms = makers item_state d items k in
     ap (reports_made key_of bits parts)
     (makers-next item_state items front rest x d e ∙ ap (λ b. ms ++ cond b ((k, x) ∷ []) []) t)
     ∙ reports-next key_of bits parts ms (k, x)
-    ∙ ap (λ id. added_to id (bits_of (extent (item_state k))) (fields_at item_state d items (k, x))
+    ∙ ap (λ id. added_to id (bits_of (extent (item_state k))) (parts (k, x))
     (reports_made key_of bits parts ms)) (key-held item_state stack items k h d held)
-    ∙ ap (λ f. added_to (key_in d h) (bits_of (extent f)) (fields_at item_state d items (k, x))
+    ∙ ap (λ f. added_to (key_in d h) (bits_of (extent f)) (parts (k, x))
     (reports_made key_of bits parts ms)) (sym held.item_states)
     ∙ ap (λ fs. added_to (key_in d h) (bits_of (extent h.item_state)) fs
-    (reports_made key_of bits parts ms)) (fields-held item_state stack items k h d x held)
-    ∙ ap (added_to (key_in d h) (bits_of (extent h.item_state))
-    (fields_of h.item_state h.opened h.fields (start_in d h) (data_of x) (extent h.item_state)))
-    (sym (held.listed d))
-listed-by false item_state stack items front rest h x d e held t =
+    (reports_made key_of bits parts ms)) is
+    ∙ ap (added_to (key_in d h) (bits_of (extent h.item_state)) part) (sym was)
+made-by false item_state stack items front rest h x d parts part old e held t is was =
     let k = length front in
     let ms = makers item_state d items k in
     ap (reports_made (λ p. key item_state d items p.0) (λ p. bits_of (extent (item_state p.0)))
-    (fields_at item_state d items)) (makers-next item_state items front rest x d e
+    parts) (makers-next item_state items front rest x d e
     ∙ ap (λ b. ms ++ cond b ((k, x) ∷ []) []) t ∙ append-nil ms)
-    ∙ sym (held.listed d)
+    ∙ sym was
+
+-- the item makes fields by what is held
+adds-held : (item_state : ℕ → ItemState) (stack : ℕ → List ItemState)
+    (items : List ItemType) (k : ℕ) (h : StateRecord) (x : ItemType) (d : Direction)
+    → Holds item_state stack items k h
+    → (goes d (data_of x) && is_some (extent (item_state k))) ≡ adds d h x
+adds-held item_state stack items k h x d held =
+    ap (λ f. goes d (data_of x) && is_some (extent f)) (sym held.item_states)
 
 listed-next : (item_state : ℕ → ItemState) (stack : ℕ → List ItemState)
     (items front rest : List ItemType)
@@ -218,8 +255,23 @@ listed-next : (item_state : ℕ → ItemState) (stack : ℕ → List ItemState)
     → Holds item_state stack items (length front) h
     → reports_before item_state d items (suc (length front)) ≡ next_reports d h x
 listed-next item_state stack items front rest h x d e held =
-    listed-by (adds d h x) item_state stack items front rest h x d e held
-    (ap (λ f. goes d (data_of x) && is_some (extent f)) (sym held.item_states))
+    made-by (adds d h x) item_state stack items front rest h x d (fields_at item_state d items)
+    (fields_of h.item_state h.opened h.fields (start_in d h) (data_of x) (extent h.item_state))
+    (reports_of d h.descriptor) e held
+    (adds-held item_state stack items (length front) h x d held)
+    (fields-held item_state stack items (length front) h d x held) (held.listed d)
+
+grouped-next : (item_state : ℕ → ItemState) (stack : ℕ → List ItemState)
+    (items front rest : List ItemType)
+    (h : StateRecord) (x : ItemType) (d : Direction) → items ≡ front ++ x ∷ rest
+    → Holds item_state stack items (length front) h
+    → groups_before item_state d items (suc (length front)) ≡ next_groups d h x
+grouped-next item_state stack items front rest h x d e held =
+    made-by (adds d h x) item_state stack items front rest h x d (groups_at item_state d items)
+    (groups_of h.item_state h.opened h.fields (start_in d h) (data_of x) (extent h.item_state))
+    (reports_of d h.outline) e held
+    (adds-held item_state stack items (length front) h x d held)
+    (groups-held item_state stack items (length front) h d x held) (held.grouped d)
 
 -- the first report's id, with one more item
 first-more : (item_state : ℕ → ItemState) (items : List ItemType) (ms : List Indexed)
@@ -320,6 +372,12 @@ in_direction : (d : Direction) (h : StateRecord) (x : ItemType)
 in_direction Input h x = refl
 in_direction Output h x = refl
 in_direction Feature h x = refl
+
+groups_in_direction : (d : Direction) (h : StateRecord) (x : ItemType)
+    → reports_of d (next_state h x).outline ≡ next_groups d h x
+groups_in_direction Input h x = refl
+groups_in_direction Output h x = refl
+groups_in_direction Feature h x = refl
 
 -- the open collections, with one more item
 record OpenedNext (item_state : ℕ → ItemState) (items : List ItemType) (k : ℕ) (h : StateRecord)
@@ -481,6 +539,8 @@ holds-next push_keeps by item_state stack items front rest h x follows reads e h
           ∙ sym stepped.stack_next;
       listed = λ d. in_direction d h x ∙ sym
           (listed-next item_state stack items front rest h x d e held);
+      grouped = λ d. groups_in_direction d h x ∙ sym
+          (grouped-next item_state stack items front rest h x d e held);
       first = λ d. first-by (goes d (data_of x) && is_some (extent (item_state (length front))))
           item_state
           stack items front rest h x d e held refl
@@ -513,7 +573,8 @@ walked-by (Some f) item_state items k h x xs all same e rest =
     ∙ sym (ap (λ f. unless_first (fault_here f k
     (first_fault item_state items (enumerate_from (k + 1) xs))) all) (same ∙ e))
 
-descriptor-of : (r : DescriptorRecord) (i o f : List ReportRecord) → r.input ≡ i → r.output ≡ o
+descriptor-of : {A : Type 0} (r : DescriptorOf A) (i o f : List (ReportOf A)) → r.input ≡ i
+    → r.output ≡ o
     → r.feature ≡ f → r ≡ record { input = i; output = o; feature = f }
 descriptor-of r i o f p q s =
     let first : r ≡ record { input = i; output = r.output; feature = r.feature } =
@@ -528,6 +589,14 @@ at-end item_state stack items h held =
     descriptor-of h.descriptor (reports item_state Input items) (reports item_state Output items)
     (reports item_state Feature items) (held.listed Input) (held.listed Output)
     (held.listed Feature)
+
+pub groups-at-end : (item_state : ℕ → ItemState) (stack : ℕ → List ItemState)
+    (items : List ItemType) (h : StateRecord)
+    → Holds item_state stack items (length items) h → h.outline ≡ grouped item_state items
+groups-at-end item_state stack items h held =
+    descriptor-of h.outline (grouped_reports item_state Input items)
+    (grouped_reports item_state Output items) (grouped_reports item_state Feature items)
+    (held.grouped Input) (held.grouped Output) (held.grouped Feature)
 
 walk-from : (push_keeps : PushKeeps) (by : UsagesBy) (item_state : ℕ → ItemState) (stack : ℕ → List ItemState)
     (items front rest : List ItemType) (h : StateRecord) → Follows push_keeps by item_state stack items
@@ -564,6 +633,8 @@ holds-nothing push_keeps by item_state stack items follows = record {
   rests = rests-nothing items;
   keeps = follows.empty;
   listed = λ d. elim d as (λ d. reports_of d (start_by push_keeps by).descriptor ≡ reports_before
+      item_state d items 0) [ Input ↦ refl | Output ↦ refl | Feature ↦ refl ];
+  grouped = λ d. elim d as (λ d. reports_of d (start_by push_keeps by).outline ≡ groups_before
       item_state d items 0) [ Input ↦ refl | Output ↦ refl | Feature ↦ refl ];
   first = λ d. elim d as (λ d. first_report_id item_state (makers item_state d items 0) ≡ first_id
       (reports_of d (start_by push_keeps by).descriptor))

@@ -12,6 +12,7 @@ pub mod Meaning
 pub mod MeaningFault
 pub mod OpenCollections
 pub mod Options
+pub mod Outline
 pub mod Parser
 pub mod Places
 pub mod Reader

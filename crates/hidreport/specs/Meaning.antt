@@ -103,8 +103,8 @@ refusal_at offset meaning_fault.BudgetExceeded = BudgetExceeded offset
 refusal_at offset fault = refusal_by offset (text fault)
 
 -- a fault with its item's offset in place of its index
-abbrev pub at_offset : List Entry → Result DescriptorRecord (ℕ × MeaningFault)
-    → Result DescriptorRecord Refusal
+abbrev pub at_offset : {A : Type 0} → List Entry → Result A (ℕ × MeaningFault)
+    → Result A Refusal
 at_offset entries (Ok announced) = Ok announced
 at_offset entries (Err first) = Err (refusal_at (offset_at entries first.0) first.1)
 

@@ -1,10 +1,12 @@
 //! Report descriptors, their fields in groups.
 ghost use Rattle.std.specs.Prelude.{◌≡◌, ◌≢◌, ◌≤◌, ℕ, None, Err, Ok, IfOk, IfSome, option_copied};
-ghost use Rattle.hidreport_lists.specs.Answer.{Answers};
+ghost use Rattle.hidreport_lists.specs.Answer.{Answers, AnswersBy};
 ghost use Rattle.hidreport.specs.Laws.{KeptItemsMean, RebuiltBytesMean, SegmentsAreIdle, parse_any};
 ghost use Rattle.hidreport_fields.specs.Lookup.{find_report, report_with, reports_of};
+ghost use Rattle.hidreport.specs.Groups.{listed, listed_report};
 ghost use Rattle.hidreport.specs.Meaning.{parse_by};
 ghost use Rattle.hidreport.specs.Options.{parse_as, reading_of};
+ghost use Rattle.hidreport.specs.Outline.{answer_with, groups_in, outline_as};
 ghost use Rattle.hidreport_fields.specs.Tiling.{IsTiled};
 ghost use Rattle.hidreport.specs.Weight.{descriptor_weight};
 ghost use Rattle.hidreport.specs.Working.{AllOwn, AllWork};
@@ -31,22 +33,24 @@ pub struct Outline {
 }
 
 impl Model for Outline {
-    ghost use Rattle.hidreport_fields.specs.Records.{DescriptorRecord};
+    ghost use Rattle.hidreport.specs.Groups.{OutlineRecord, listed};
     ghost use Rattle.hidreport_fields.specs.Tiling.{IsTiled};
 
-    ghost Value = { DescriptorRecord };
+    ghost Value = { OutlineRecord };
 
     ghost view = { λ o. o.reports };
 
-    ghost invariant = { λ o. IsTiled o.reports };
+    ghost invariant = { λ o. IsTiled (listed o.reports) };
 }
 
 impl Outline {
     /// Parses the bytes of a report descriptor by options, without a list of its fields
     /// (Section 6.2.2).
     ///
-    /// It reads what `ReportDescriptor::try_from_with` does, which lays out what this reads: the
-    /// limit counts what would be listed, and all laws of that call hold.
+    /// There is one group for each item that makes fields, in the order of the items, with all that
+    /// the item says of them (`exact`). It reads what `ReportDescriptor::try_from_with` does, which
+    /// lays out what this reads (`listed`): the limit counts what would be listed, and all laws of
+    /// that call hold.
     ///
     /// # Errors
     ///
@@ -70,12 +74,13 @@ impl Outline {
         bytes: &[u8],
         options: ParseOptions,
     ) -> Result<Outline, ParserError>
-        ensures exact { Answers result (parse_as options bytes.now) }
+        ensures exact { Answers result (outline_as options bytes.now) }
+        ensures listed { AnswersBy listed result (parse_as options bytes.now) }
         ensures bounded { IfOk result (λ outline.
-            IfSome options.limit (λ limit. descriptor_weight outline ≤ limit)) }
+            IfSome options.limit (λ limit. descriptor_weight (listed outline) ≤ limit)) }
         ensures plain { IfOk result (λ outline.
-            parse_by (reading_of options) bytes.now ≡ Ok outline) }
-        ensures tiled { IfOk result (λ outline. IsTiled outline) }
+            parse_by (reading_of options) bytes.now ≡ Ok (listed outline)) }
+        ensures tiled { IfOk result (λ outline. IsTiled (listed outline)) }
         ensures struck { SegmentsAreIdle options bytes.now }
         ensures kept { KeptItemsMean options bytes.now }
         ensures rebuilt { RebuiltBytesMean options bytes.now }
@@ -91,7 +96,8 @@ impl Outline {
 
     /// The same of bytes that aren't too many.
     fn read(alloc: Global, bytes: &[u8], options: ParseOptions) -> Result<Outline, ParserError>
-        ensures { Answers result (parse_any options bytes.now) }
+        ensures { Answers result (answer_with (groups_in options bytes.now)
+            (parse_any options bytes.now)) }
     {
         let reports = parser::parse(alloc, bytes, options)?;
         Ok(Outline { reports })
@@ -103,7 +109,7 @@ impl Outline {
     ///
     /// - `AllocError`: memory for the fields is refused.
     pub fn lay_out(&self, alloc: Global) -> Result<ReportDescriptor, AllocError>
-        ensures { IfOk result (λ descriptor. descriptor ≡ self.now) }
+        ensures { IfOk result (λ descriptor. descriptor ≡ listed self.now) }
     {
         let reports = self.reports.lay_out(alloc)?;
         Ok(ReportDescriptor { reports })
@@ -155,8 +161,10 @@ impl Outline {
     pub fn find_report(&self, direction: Direction, bytes: &[u8]) -> Option<&OutlineReport>
         ensures found { option_copied result
             ≡ find_report (reports_of direction self.now) bytes.now }
-        ensures own { IfSome (option_copied result) (AllOwn bytes.now) }
-        ensures works { IfSome (option_copied result) (AllWork bytes.now) }
+        ensures own { IfSome (option_copied result) (λ report.
+            AllOwn bytes.now (listed_report report)) }
+        ensures works { IfSome (option_copied result) (λ report.
+            AllWork bytes.now (listed_report report)) }
     {
         self.reports.find(direction, bytes)
     }

@@ -6,7 +6,7 @@ ghost use Rattle.hidreport_lists.specs.Answer.{Answers, InvalidData};
 ghost use Rattle.hidreport_lists.specs.Itemising.{items_from};
 ghost use Rattle.hidreport_lists.specs.Messages.{grammar_message};
 ghost use Rattle.hidreport.specs.Meaning.{empty_descriptor, refusal_at};
-ghost use Rattle.hidreport.specs.Parser.Budget.{walk_bytes};
+ghost use Rattle.hidreport.specs.Parser.Budget.{in_groups, walk_bytes_to};
 ghost use Rattle.hidreport.specs.Parser.Refusals.{IsRefusal, fault_named};
 
 pub(crate) mod budget;
@@ -48,7 +48,7 @@ pub(crate) fn parse(
     bytes: &[u8],
     options: ParseOptions,
 ) -> Result<OutlineReports, ParserError>
-    ensures { Answers result (walk_bytes options bytes.now) }
+    ensures { Answers result (walk_bytes_to in_groups options bytes.now) }
 {
     if bytes.is_empty() {
         return Err(empty_descriptor(alloc));

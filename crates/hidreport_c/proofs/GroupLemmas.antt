@@ -6,14 +6,13 @@ use Rattle.std.proofs.lemmas.Option.{slice_get-map}
 use Rattle.std.specs.Option.{option_copied}
 use Rattle.std.specs.Prelude.{MatchResult, option_map, slice_get}
 use Rattle.std.specs.Slice.{IsItemAt}
-use Rattle.hidreport.specs.Groups.{GroupRecord, fields_of_groups, group_fields}
-use Rattle.hidreport.specs.Records.{FieldRecord}
+use Rattle.hidreport.specs.Groups.{GroupRecord, group_fields}
 use Rattle.hidreport.specs.Views.{field_record}
 use Rattle.hidreport_fields.specs.declared.field.Field.{Field}
 use Rattle.hidreport_c.proofs.UsagesLemmas.{copied-item}
 use Rattle.hidreport_c.proofs.ListsLemmas.{written-none}
 use Rattle.hidreport_c.specs.Answer.{Lists, array_after, counted, no_memory}
-use Rattle.hidreport_c.specs.Group.{InGroups, group_as_c, groups_as_c, lent, one_or_none}
+use Rattle.hidreport_c.specs.Group.{group_as_c, groups_as_c, lent, one_or_none}
 use Rattle.hidreport_c.specs.Group.{field_in, field_placed, usage_listed}
 use Rattle.hidreport_c.specs.Lookup.{field_or_none}
 use Rattle.hidreport_c.specs.declared.structs.HidreportAnswer.{HidreportAnswer}
@@ -26,21 +25,18 @@ lent-in-c [] = refl
 lent-in-c (g ∷ found) = ap (λ rest. group_as_c g.now ∷ rest) (lent-in-c found)
 
 -- groups that were found, written
-pub groups-told : (found : List (Bor GroupRecord)) (fields : List FieldRecord)
+pub groups-told : (found : List (Bor GroupRecord)) (gs : List GroupRecord)
     (old new : List HidreportGroup) (told : HidreportAnswer)
-    → fields_of_groups (lent found) ≡ fields → told ≡ counted (length found)
+    → lent found ≡ gs → told ≡ counted (length found)
     → new ≡ array_after (map (λ (g : Bor GroupRecord). group_as_c g.now) found) old
-    → InGroups groups_as_c fields old new told
-groups-told found fields old new told tiled count written =
-    let all = lent-in-c found in
+    → Lists (Ok (groups_as_c gs)) old new told
+groups-told found gs old new told are count written =
+    let all : map (λ (g : Bor GroupRecord). group_as_c g.now) found ≡ groups_as_c gs =
+    lent-in-c found ∙ ap groups_as_c are in
     inl (
-      lent found,
-      tiled,
-      inl (
-        count ∙ ap counted (sym (length-map found (λ (g : Bor GroupRecord). group_as_c g.now))
-            ∙ ap length all),
-        written ∙ ap (λ l. array_after l old) all,
-      ),
+      count ∙ ap counted (sym (length-map found (λ (g : Bor GroupRecord). group_as_c g.now))
+          ∙ ap length all),
+      written ∙ ap (λ l. array_after l old) all,
     )
 
 -- the usage of one that was looked for
@@ -55,49 +51,45 @@ usage-found found group index got item =
     (sym (slice_get-map (λ (r : Bor GroupRecord). r.now) found group))
 
 -- it is written
-pub usage-told : (found : List (Bor GroupRecord)) (fields : List FieldRecord) (group index : ℕ)
-    (numbers old new : List ℕ) (told : HidreportAnswer) → fields_of_groups (lent found) ≡ fields
+pub usage-told : (found : List (Bor GroupRecord)) (gs : List GroupRecord) (group index : ℕ)
+    (numbers old new : List ℕ) (told : HidreportAnswer) → lent found ≡ gs
     → numbers ≡ usage_listed group index (lent found) → told ≡ counted (length numbers)
     → new ≡ array_after numbers old
-    → InGroups (usage_listed group index) fields old new told
-usage-told found fields group index numbers old new told tiled is count written =
+    → Lists (Ok (usage_listed group index gs)) old new told
+usage-told found gs group index numbers old new told are is count written =
+    let all : numbers ≡ usage_listed group index gs = is ∙ ap (usage_listed group index) are in
     inl (
-      lent found,
-      tiled,
-      inl (
-        count ∙ ap (λ (l : List ℕ). counted (length l)) is,
-        written ∙ ap (λ (l : List ℕ). array_after l old) is,
-      ),
+      count ∙ ap (λ (l : List ℕ). counted (length l)) all,
+      written ∙ ap (λ (l : List ℕ). array_after l old) all,
     )
 
 -- a field that was made of one that was looked for
-pub field-told : {E : Type 0} (found : List (Bor GroupRecord)) (fields : List FieldRecord)
+pub field-told : {E : Type 0} (found : List (Bor GroupRecord)) (gs : List GroupRecord)
     (group index : ℕ) (g : GroupRecord) (made : Result (Option Field) E) (old new : List HidreportField)
-    (told : HidreportAnswer) → fields_of_groups (lent found) ≡ fields
+    (told : HidreportAnswer) → lent found ≡ gs
     → slice_get (lent found) group ≡ Some g
     → IfOk made (λ field. option_map field_record field ≡ slice_get (group_fields g) index)
     → MatchResult made
     (λ field. Lists (Ok (field_or_none (option_map field_record field))) old new told)
     (λ _. (told ≡ no_memory) × (new ≡ old))
-    → InGroups (field_placed group index) fields old new told
-field-told found fields group index g (Ok field) old new told tiled there is lists =
+    → Lists (Ok (field_placed group index gs)) old new told
+field-told found gs group index g (Ok field) old new told are there is lists =
     let all : field_or_none (option_map field_record field)
-    ≡ field_placed group index (lent found) =
-    ap field_or_none is ∙ ap (λ r. field_in r index) (sym there) in
-    inl (lent found, tiled, rw (sym all) lists)
-field-told found fields group index g (Err e) old new told tiled there is lists = inr lists
+    ≡ field_placed group index gs =
+    ap field_or_none is ∙ ap (λ r. field_in r index) (sym there)
+    ∙ ap (field_placed group index) are in
+    rw (sym all) lists
+field-told found gs group index g (Err e) old new told are there is lists = inr lists
 
 -- there is no such group
-pub no-field-told : (found : List (Bor GroupRecord)) (fields : List FieldRecord) (group index : ℕ)
-    (old : List HidreportField) (told : HidreportAnswer) → fields_of_groups (lent found) ≡ fields
+pub no-field-told : (found : List (Bor GroupRecord)) (gs : List GroupRecord) (group index : ℕ)
+    (old : List HidreportField) (told : HidreportAnswer) → lent found ≡ gs
     → slice_get (lent found) group ≡ None → told ≡ counted 0
-    → InGroups (field_placed group index) fields old old told
-no-field-told found fields group index old told tiled none count =
-    inl (
-      lent found,
-      tiled,
-      rw none (inl (count, sym (written-none old))),
-    )
+    → Lists (Ok (field_placed group index gs)) old old told
+no-field-told found gs group index old told are none count =
+    let nothing : field_placed group index gs ≡ [] =
+    sym (ap (field_placed group index) are) ∙ ap (λ r. field_in r index) none in
+    rw nothing (inl (count, sym (written-none old)))
 
 -- the group that was looked for
 pub group-at : (found : List (Bor GroupRecord)) (group : ℕ)

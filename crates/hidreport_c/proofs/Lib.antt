@@ -2,7 +2,6 @@ pub mod AvailableLemmas
 pub mod BlankLemmas
 pub mod FieldsLemmas
 pub mod FrontItemsLemmas
-pub mod GroupAnswerLemmas
 pub mod GroupLemmas
 pub mod InsertLemmas
 pub mod ListingLemmas

@@ -19,7 +19,7 @@ use Rattle.hidreport_c.specs.declared.options.Reading.{Reading}
 use Rattle.hidreport.specs.Records.{DescriptorRecord}
 use Rattle.hidreport.specs.ParserError.{ParserError}
 use Rattle.hidreport.specs.ParserError.TheVariants as errors
-use Rattle.hidreport_c.specs.Answer.{Lists, ListsBy, IsRead, Tells, array_after}
+use Rattle.hidreport_c.specs.Answer.{Lists, ListsBy, IsRead, IsReadAs, Tells, array_after}
 use Rattle.hidreport_c.specs.Answer.{counted, error_as_c, listed, refusal_as_c}
 use Rattle.hidreport_c.specs.Message.{Says, message_in, message_of, words_of}
 use Rattle.hidreport_c.specs.declared.structs.HidreportAnswer.{HidreportAnswer}
@@ -191,8 +191,8 @@ lists-refused errors.OutOfMemory answer parts old h = inr (refl, refl)
 lists-refused (errors.BudgetExceeded offset) answer parts old h =
     refused-as answer _ parts old h
 
-told-refused : {A : Type 0} (told : HidreportAnswer) (answer : Result DescriptorRecord Refusal)
-    (parts : DescriptorRecord → List A) (old : List A) → Tells told answer
+told-refused : {A B : Type 0} (told : HidreportAnswer) (answer : Result B Refusal)
+    (parts : B → List A) (old : List A) → Tells told answer
     → Lists (listed parts answer) old old told
 told-refused told (Ok d) parts old h = inr (h, refl)
 told-refused told (Err r) parts old (inl h) = inr (h, refl)
@@ -239,21 +239,38 @@ says-nothing chosen options answer x old told is read h =
     lists-chosen chosen options (λ o. message_in (answer o)) old old told is
     (rw read (inl (h, sym (written-none old))))
 
--- what is told in place of a descriptor is told of each list in it
+-- what is told in place of what is read is told of each list in it
+pub lists-unread-as : {A B : Type 0} (read : Reading → List ℕ → Result B Refusal)
+    (told : HidreportAnswer) (options : Option Reading)
+    (bytes : List ℕ) (parts : B → List A) (old : List A)
+    → IsReadAs read (Err told) options bytes
+    → ListsBy (λ chosen. listed parts (read chosen bytes)) options old old told
+lists-unread-as read told None bytes parts old h = (h, refl)
+lists-unread-as read told (Some options) bytes parts old h =
+    told-refused told (read options bytes) parts old h
+
+-- a list in what was read is told as it is there
+pub lists-read-as : {A B : Type 0} (read : Reading → List ℕ → Result B Refusal) (d : B)
+    (options : Option Reading) (bytes : List ℕ) (parts : B → List A) (old new : List A)
+    (told : HidreportAnswer) → IsReadAs read (Ok d) options bytes
+    → Lists (Ok (parts d)) old new told
+    → ListsBy (λ chosen. listed parts (read chosen bytes)) options old new told
+lists-read-as read d None bytes parts old new told h lists = absurd h
+lists-read-as read d (Some options) bytes parts old new told h lists =
+    rw h lists
+
+-- both of a descriptor
 pub lists-unread : {A : Type 0} (told : HidreportAnswer) (options : Option Reading)
     (bytes : List ℕ) (parts : DescriptorRecord → List A) (old : List A)
     → IsRead (Err told) options bytes
     → ListsBy (λ chosen. listed parts (read_by chosen bytes)) options old old told
-lists-unread told None bytes parts old h = (h, refl)
-lists-unread told (Some options) bytes parts old h =
-    told-refused told (read_by options bytes) parts old h
+lists-unread told options bytes parts old h =
+    lists-unread-as read_by told options bytes parts old h
 
--- a list in a descriptor that was read is told as it is there
 pub lists-read : {A : Type 0} (d : DescriptorRecord) (options : Option Reading)
     (bytes : List ℕ) (parts : DescriptorRecord → List A) (old new : List A)
     (told : HidreportAnswer) → IsRead (Ok d) options bytes
     → Lists (Ok (parts d)) old new told
     → ListsBy (λ chosen. listed parts (read_by chosen bytes)) options old new told
-lists-read d None bytes parts old new told h lists = absurd h
-lists-read d (Some options) bytes parts old new told h lists =
-    rw h lists
+lists-read d options bytes parts old new told h lists =
+    lists-read-as read_by d options bytes parts old new told h lists

@@ -5,7 +5,8 @@ use Rattle.hidreport.specs.Answer.{Refusal, InvalidData, OutOfBounds, Mismatchin
 use Rattle.hidreport.specs.Records.{DescriptorRecord}
 use Rattle.hidreport.specs.ParserError.{ParserError}
 use Rattle.hidreport.specs.ParserError.TheVariants as errors
-use Rattle.hidreport_c.specs.Options.{read_by, reading_of}
+use Rattle.hidreport.specs.Groups.{OutlineRecord}
+use Rattle.hidreport_c.specs.Options.{outline_by, read_by, reading_of}
 use Rattle.hidreport_c.specs.declared.options.Reading.{Reading}
 use Rattle.hidreport_c.specs.Status.{status_of}
 use Rattle.hidreport_c.specs.declared.structs.HidreportAnswer.{HidreportAnswer}
@@ -80,6 +81,12 @@ abbrev pub ListsOf : {A : Type 0} → (DescriptorRecord → List A) → Hidrepor
 ListsOf parts options bytes =
     ListsBy (λ chosen. listed parts (read_by chosen bytes)) (reading_of options)
 
+-- the same of its groups
+abbrev pub GroupsOf : {A : Type 0} → (OutlineRecord → List A) → HidreportOptions → List ℕ
+    → List A → List A → HidreportAnswer → Type 0
+GroupsOf parts options bytes =
+    ListsBy (λ chosen. listed parts (outline_by chosen bytes)) (reading_of options)
+
 -- an error as C has it
 abbrev pub error_as_c : ParserError → HidreportAnswer
 error_as_c (errors.InvalidData offset message) = record { count = 0; offset = offset; status = 1 }
@@ -89,13 +96,18 @@ error_as_c errors.OutOfMemory = no_memory
 error_as_c (errors.BudgetExceeded offset) = record { count = 0; offset = offset; status = 5 }
 
 -- an answer that C is told is of this parse, want of memory apart
-abbrev pub Tells : HidreportAnswer → Result DescriptorRecord Refusal → Type 0
+abbrev pub Tells : {A : Type 0} → HidreportAnswer → Result A Refusal → Type 0
 Tells told (Ok descriptor) = told ≡ no_memory
 Tells told (Err refusal) = (told ≡ no_memory) ⊎ (told ≡ refusal_as_c refusal)
 
+-- what bytes are, read so, or what C is told
+abbrev pub IsReadAs : {A : Type 0} → (Reading → List ℕ → Result A Refusal)
+    → Result A HidreportAnswer → Option Reading → List ℕ → Type 0
+IsReadAs read (Ok descriptor) None bytes = ⊥
+IsReadAs read (Err told) None bytes = told ≡ unknown_option
+IsReadAs read (Ok descriptor) (Some options) bytes = read options bytes ≡ Ok descriptor
+IsReadAs read (Err told) (Some options) bytes = Tells told (read options bytes)
+
 -- the descriptor that bytes are, or what C is told
 abbrev pub IsRead : Result DescriptorRecord HidreportAnswer → Option Reading → List ℕ → Type 0
-IsRead (Ok descriptor) None bytes = ⊥
-IsRead (Err told) None bytes = told ≡ unknown_option
-IsRead (Ok descriptor) (Some options) bytes = read_by options bytes ≡ Ok descriptor
-IsRead (Err told) (Some options) bytes = Tells told (read_by options bytes)
+IsRead = IsReadAs read_by

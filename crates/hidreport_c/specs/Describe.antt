@@ -1,12 +1,12 @@
 -- The fields of a descriptor's reports as C has them.
 use Rattle.std.specs.Prelude.{ℕ, ◌==◌, if◌then◌else◌, List, [], map, flat_map, Option, None, Some}
 use Rattle.hidreport.specs.Lookup.{find_report}
-use Rattle.hidreport.specs.Records.{DescriptorRecord, ReportRecord}
+use Rattle.hidreport.specs.Records.{DescriptorOf, DescriptorRecord, ReportOf, ReportRecord}
 use Rattle.hidreport_c.specs.Field.{as_c}
 use Rattle.hidreport_c.specs.declared.structs.HidreportField.{HidreportField}
 
 -- the reports of a direction: 0 from the device, 1 from the host, 2 features
-abbrev pub reports_in_direction : ℕ → DescriptorRecord → List ReportRecord
+abbrev pub reports_in_direction : {A : Type 0} → ℕ → DescriptorOf A → List (ReportOf A)
 reports_in_direction direction d =
     if direction == 0 then d.input
     else (if direction == 1 then d.output

@@ -1,25 +1,18 @@
 -- The fields of one main item as C has them, said once for all (Section 6.2.2.4).
-use Rattle.std.specs.Prelude.{◌≡◌, ◌⊎◌, ℕ, ◌||◌, ◌&&◌, nat_le, if◌then◌else◌, List, [], ◌∷◌, map, is_some, unwrap_or}
+use Rattle.std.specs.Prelude.{ℕ, ◌||◌, ◌&&◌, nat_le, if◌then◌else◌, List, [], ◌∷◌, flat_map, map}
+use Rattle.std.specs.Prelude.{is_some, slice_get, unwrap_or, Option, None, Some}
 use Rattle.std.specs.Borrow.{Bor}
-use Rattle.std.specs.Prelude.{slice_get, Option, None, Some, Result, Ok, Err}
-use Rattle.hidreport.specs.Answer.{Refusal}
 use Rattle.hidreport.specs.Fields.{field_count, usage_at}
-use Rattle.hidreport.specs.Groups.{GroupRecord, fields_of_groups, group_fields}
-use Rattle.hidreport.specs.Records.{DescriptorRecord, FieldRecord, fields_in_all}
+use Rattle.hidreport.specs.Groups.{GroupRecord, GroupedReport, OutlineRecord, group_fields}
 use Rattle.hidreport.specs.UsageNumber.{usage_number}
-use Rattle.hidreport_c.specs.Answer.{Lists, no_memory, refusal_as_c, unknown_option}
 use Rattle.hidreport_c.specs.Describe.{reports_in_direction}
 use Rattle.hidreport_c.specs.Field.{collections_as_c, flags_as_c, measures_as_c, nothing_measured}
 use Rattle.hidreport_c.specs.Field.{nothing_set}
 use Rattle.hidreport_c.specs.Lookup.{field_or_none}
-use Rattle.hidreport_c.specs.Options.{read_by, reading_of}
-use Rattle.hidreport_c.specs.declared.options.Reading.{Reading}
-use Rattle.hidreport_c.specs.declared.structs.HidreportAnswer.{HidreportAnswer}
 use Rattle.hidreport_c.specs.declared.structs.HidreportField.{HidreportField}
 use Rattle.hidreport_c.specs.declared.structs.HidreportFlags.{HidreportFlags}
 use Rattle.hidreport_c.specs.declared.structs.HidreportMeasures.{HidreportMeasures}
 use Rattle.hidreport_c.specs.declared.structs.HidreportGroup.{HidreportGroup}
-use Rattle.hidreport_c.specs.declared.structs.HidreportOptions.{HidreportOptions}
 
 -- 0 is variable, 1 an array, 2 padding
 abbrev pub kind_in : GroupRecord → ℕ
@@ -82,31 +75,22 @@ field_placed group index groups = field_in (slice_get groups group) index
 abbrev pub lent : {A : Type 0} → List (Bor A) → List A
 lent refs = map (λ r. r.now) refs
 
--- the caller is told of a list that some groups have which are these fields, laid out; or memory
--- was refused, and the array is as it was
-abbrev pub InGroups : {A : Type 0} → (List GroupRecord → List A) → List FieldRecord → List A
-    → List A → HidreportAnswer → Type 0
-InGroups parts fields old new told =
-    ((groups : List GroupRecord) × (fields_of_groups groups ≡ fields)
-    × Lists (Ok (parts groups)) old new told)
-    ⊎ ((told ≡ no_memory) × (new ≡ old))
+-- the groups of these reports, in order
+abbrev pub groups_of : List GroupedReport → List GroupRecord
+groups_of reports = flat_map (λ (r : GroupedReport). r.fields) reports
 
--- the same of the groups of a direction, where the descriptor isn't refused
-abbrev pub InGroupsBy : {A : Type 0} → (List GroupRecord → List A) → ℕ
-    → Result DescriptorRecord Refusal → List A → List A → HidreportAnswer → Type 0
-InGroupsBy parts direction (Ok d) old new told =
-    InGroups parts (fields_in_all (reports_in_direction direction d)) old new told
-InGroupsBy parts direction (Err refusal) old new told =
-    ((told ≡ refusal_as_c refusal) ⊎ (told ≡ no_memory)) × (new ≡ old)
+-- those of a direction
+abbrev pub groups_in : ℕ → OutlineRecord → List GroupRecord
+groups_in direction outline = groups_of (reports_in_direction direction outline)
 
--- where an option says nothing the caller is told so, and the array is as it was
-abbrev pub InGroupsWith : {A : Type 0} → (List GroupRecord → List A) → ℕ → Option Reading
-    → List ℕ → List A → List A → HidreportAnswer → Type 0
-InGroupsWith parts direction None bytes old new told = (told ≡ unknown_option) × (new ≡ old)
-InGroupsWith parts direction (Some options) bytes old new told =
-    InGroupsBy parts direction (read_by options bytes) old new told
+-- all groups of a direction as C has them
+abbrev pub all_groups : ℕ → OutlineRecord → List HidreportGroup
+all_groups direction outline = groups_as_c (groups_in direction outline)
 
--- what is listed of the groups of a direction, by these options
-abbrev pub InGroupsOf : {A : Type 0} → (List GroupRecord → List A) → ℕ → HidreportOptions
-    → List ℕ → List A → List A → HidreportAnswer → Type 0
-InGroupsOf parts direction options = InGroupsWith parts direction (reading_of options)
+-- the usage of a field of a direction by the places of its group and of itself
+abbrev pub one_usage : ℕ → ℕ → ℕ → OutlineRecord → List ℕ
+one_usage direction group index outline = usage_listed group index (groups_in direction outline)
+
+-- a field of a direction by the places of its group and of itself
+abbrev pub one_field : ℕ → ℕ → ℕ → OutlineRecord → List HidreportField
+one_field direction group index outline = field_placed group index (groups_in direction outline)

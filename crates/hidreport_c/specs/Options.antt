@@ -2,14 +2,16 @@
 use Rattle.std.specs.Prelude.{ℕ, ◌==◌, ◌^◌, ◌-◌, if◌then◌else◌, List, length, Option, None, Some}
 use Rattle.std.specs.Prelude.{option_map, Result}
 use Rattle.hidreport_lists.specs.Answer.{Refusal}
+use Rattle.hidreport.specs.Groups.{OutlineRecord}
 use Rattle.hidreport.specs.Options.{parse_as, past_longest, unless_too_long}
+use Rattle.hidreport.specs.Outline.{outline_as}
 use Rattle.hidreport.specs.Records.{DescriptorRecord}
 use Rattle.hidreport.specs.declared.parse_options.ParseOptions.{ParseOptions}
 use Rattle.hidreport.specs.declared.parser.push_keeps.PushKeeps.{PushKeeps}
 use Rattle.hidreport.specs.declared.parser.push_keeps.PushKeeps.TheVariants as a_push_keeps
 use Rattle.hidreport.specs.declared.parser.usages_by.UsagesBy.{UsagesBy}
 use Rattle.hidreport.specs.declared.parser.usages_by.UsagesBy.TheVariants as usages_by
-use Rattle.hidreport_linux.specs.LinuxDevice.{linux_parse}
+use Rattle.hidreport_linux.specs.LinuxDevice.{linux_outline, linux_parse}
 use Rattle.hidreport_c.specs.declared.options.Reading.{Reading}
 use Rattle.hidreport_c.specs.declared.options.Reading.TheVariants as reading
 use Rattle.hidreport_c.specs.declared.structs.HidreportOptions.{HidreportOptions}
@@ -67,7 +69,17 @@ abbrev pub as_linux : Option ℕ → Option ℕ → List ℕ → Result Descript
 as_linux limit longest bytes =
     unless_too_long (past_longest longest (length bytes)) (linux_parse limit bytes)
 
+-- the same in groups
+abbrev pub outline_by_linux : Option ℕ → Option ℕ → List ℕ → Result OutlineRecord Refusal
+outline_by_linux limit longest bytes =
+    unless_too_long (past_longest longest (length bytes)) (linux_outline limit bytes)
+
 -- the reports that bytes announce, or why they are refused
 abbrev pub read_by : Reading → List ℕ → Result DescriptorRecord Refusal
 read_by (reading.By options) bytes = parse_as options bytes
 read_by (reading.AsLinux limit longest) bytes = as_linux limit longest bytes
+
+-- the same in groups
+abbrev pub outline_by : Reading → List ℕ → Result OutlineRecord Refusal
+outline_by (reading.By options) bytes = outline_as options bytes
+outline_by (reading.AsLinux limit longest) bytes = outline_by_linux limit longest bytes

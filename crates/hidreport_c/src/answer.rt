@@ -1,7 +1,7 @@
 //! What C is told of a list, and how a descriptor is read for it.
 ghost use Rattle.std.specs.Prelude.{◌≡◌, length};
-ghost use Rattle.hidreport_c.specs.Answer.{IsRead, array_after, counted, error_as_c, refused};
-ghost use Rattle.hidreport_c.specs.Options.{reading_of};
+ghost use Rattle.hidreport_c.specs.Answer.{IsRead, IsReadAs, array_after, counted, error_as_c, refused};
+ghost use Rattle.hidreport_c.specs.Options.{outline_by, reading_of};
 
 use crate::status::{
     ACCEPTED, BUDGET_EXCEEDED, INVALID_DATA, MISMATCHING_REPORT_ID, OUT_OF_BOUNDS, OUT_OF_MEMORY,
@@ -58,7 +58,7 @@ pub(crate) fn outline(
     bytes: &[u8],
     options: HidreportOptions,
 ) -> Result<Outline, HidreportAnswer>
-    ensures { IsRead result (reading_of options) bytes.now }
+    ensures { IsReadAs outline_by result (reading_of options) bytes.now }
 {
     let Some(reading) = options.reading() else {
         return Err(HidreportAnswer::refused(UNKNOWN_OPTION));

@@ -1,11 +1,10 @@
 //! The fields of one main item, said once for all of them.
 ghost use Rattle.std.specs.Prelude.{◌≡◌, ◌&&◌, nat_le, [], ◌∷◌, Ok, MatchResult, option_map, ◌++◌, IfOk, OnOk};
-ghost use Rattle.hidreport.specs.Records.{fields_in_all};
 ghost use Rattle.hidreport.specs.Views.{field_record};
-ghost use Rattle.hidreport_c.specs.Answer.{Lists, array_after, counted, no_memory};
-ghost use Rattle.hidreport_c.specs.Group.{InGroups, InGroupsOf, flags_in, group_as_c, groups_as_c, field_placed, kind_in, measures_in, usage_in, usage_listed, lent};
+ghost use Rattle.hidreport_c.specs.Answer.{GroupsOf, Lists, array_after, counted, no_memory};
+ghost use Rattle.hidreport_c.specs.Group.{all_groups, field_placed, flags_in, group_as_c, groups_as_c, groups_of};
+ghost use Rattle.hidreport_c.specs.Group.{kind_in, lent, measures_in, one_field, one_usage, usage_in, usage_listed};
 ghost use Rattle.hidreport_c.specs.Lookup.{field_or_none};
-ghost use Rattle.hidreport.specs.Groups.{fields_of_groups};
 ghost use Rattle.hidreport_c.specs.Describe.{reports_in_direction};
 
 use crate::answer::outline;
@@ -47,7 +46,7 @@ pub extern "C" fn hidreport_groups(
     direction: u32,
     groups: &mut [HidreportGroup],
 ) -> HidreportAnswer
-    ensures { InGroupsOf groups_as_c direction options descriptor.now groups.old groups.new result }
+    ensures { GroupsOf (all_groups direction) options descriptor.now groups.old groups.new result }
 {
     match outline(alloc, descriptor, options) {
         Ok(outline) => write_groups(alloc, reports_of(&outline, direction), groups),
@@ -71,7 +70,7 @@ pub extern "C" fn hidreport_group_usage(
     index: usize,
     usages: &mut [u32],
 ) -> HidreportAnswer
-    ensures { InGroupsOf (usage_listed group index) direction options descriptor.now usages.old
+    ensures { GroupsOf (one_usage direction group index) options descriptor.now usages.old
         usages.new result }
 {
     match outline(alloc, descriptor, options) {
@@ -98,7 +97,7 @@ pub extern "C" fn hidreport_group_field(
     index: usize,
     fields: &mut [HidreportField],
 ) -> HidreportAnswer
-    ensures { InGroupsOf (field_placed group index) direction options descriptor.now fields.old
+    ensures { GroupsOf (one_field direction group index) options descriptor.now fields.old
         fields.new result }
 {
     match outline(alloc, descriptor, options) {
@@ -124,8 +123,7 @@ fn reports_of(outline: &Outline, direction: u32) -> &[OutlineReport]
 
 /// The groups of these reports, in order.
 fn groups_of<'a>(alloc: Global, reports: &'a [OutlineReport]) -> Result<Vec<&'a Group>, AllocError>
-    ensures { IfOk result (λ groups. fields_of_groups (lent groups.items)
-        ≡ fields_in_all reports.now) }
+    ensures { IfOk result (λ groups. lent groups.items ≡ groups_of reports.now) }
 {
     let mut groups = Vec::new(alloc);
     for report in reports {
@@ -150,7 +148,7 @@ fn write_groups(
     reports: &[OutlineReport],
     groups: &mut [HidreportGroup],
 ) -> HidreportAnswer
-    ensures { InGroups groups_as_c (fields_in_all reports.now) groups.old groups.new result }
+    ensures { Lists (Ok (groups_as_c (groups_of reports.now))) groups.old groups.new result }
 {
     match groups_of(alloc, reports) {
         Ok(found) => write(&found, groups),
@@ -166,7 +164,7 @@ fn write_usage(
     place: (usize, usize),
     usages: &mut [u32],
 ) -> HidreportAnswer
-    ensures { InGroups (usage_listed place.0 place.1) (fields_in_all reports.now) usages.old
+    ensures { Lists (Ok (usage_listed place.0 place.1 (groups_of reports.now))) usages.old
         usages.new result }
 {
     match groups_of(alloc, reports) {
@@ -185,7 +183,7 @@ fn write_field(
     place: (usize, usize),
     fields: &mut [HidreportField],
 ) -> HidreportAnswer
-    ensures { InGroups (field_placed place.0 place.1) (fields_in_all reports.now) fields.old
+    ensures { Lists (Ok (field_placed place.0 place.1 (groups_of reports.now))) fields.old
         fields.new result }
 {
     match groups_of(alloc, reports) {

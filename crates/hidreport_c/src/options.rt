@@ -1,7 +1,8 @@
 //! How C asks for a descriptor to be read.
 ghost use Rattle.std.specs.Prelude.{◌≡◌};
-ghost use Rattle.hidreport_lists.specs.Answer.{Answers};
-ghost use Rattle.hidreport_c.specs.Options.{as_linux, limit_of, longest_of, options_of, push_keeps_of, reading_of, usages_of};
+ghost use Rattle.hidreport.specs.Groups.{listed};
+ghost use Rattle.hidreport_lists.specs.Answer.{Answers, AnswersBy};
+ghost use Rattle.hidreport_c.specs.Options.{as_linux, outline_by_linux, limit_of, longest_of, options_of, push_keeps_of, reading_of, usages_of};
 ghost use Rattle.hidreport_c.specs.Repair.{repair_options_of};
 
 use crate::structs::HidreportOptions;
@@ -23,11 +24,11 @@ pub(crate) enum Reading {
 
 impl Reading {
     ghost use Rattle.hidreport_lists.specs.Answer.{Answers};
-    ghost use Rattle.hidreport_c.specs.Options.{read_by};
+    ghost use Rattle.hidreport_c.specs.Options.{outline_by, read_by};
 
     /// The descriptor that bytes are, its fields in groups.
     pub(crate) fn outline(self, alloc: Global, bytes: &[u8]) -> Result<Outline, ParserError>
-        ensures { Answers result (read_by self bytes.now) }
+        ensures exact { Answers result (outline_by self bytes.now) }
     {
         match self {
             Reading::By(options) => Outline::try_from_with(alloc, bytes, options),
@@ -61,7 +62,8 @@ fn as_linux(
     limit: Option<usize>,
     longest: Option<usize>,
 ) -> Result<Outline, ParserError>
-    ensures { Answers result (as_linux limit longest bytes.now) }
+    ensures exact { Answers result (outline_by_linux limit longest bytes.now) }
+    ensures listed { AnswersBy listed result (as_linux limit longest bytes.now) }
 {
     if let Some(offset) = longest
         && offset < bytes.len()

@@ -4,39 +4,40 @@ use Rattle.std.specs.Prelude.{◌≡◌, ◌==◌, ◌&&◌, Bool, true, ℕ, Li
 use Rattle.std.specs.Prelude.{find, slice_get}
 use Rattle.std.specs.List.{list_any}
 use Rattle.hidreport_fields.specs.ReportIds.{same_key}
-use Rattle.hidreport_fields.specs.Records.{DescriptorRecord, FieldRecord, ReportRecord, place_of}
+use Rattle.hidreport_fields.specs.Records.{DescriptorOf, FieldRecord, ReportOf, place_of}
 use Rattle.hidreport_fields.specs.Records.{usages_in}
 use Rattle.hidreport_fields.specs.declared.field.data_item.Direction.{Direction}
 use Rattle.hidreport_fields.specs.declared.field.data_item.Direction.TheVariants as direction
 use Rattle.hidreport_fields.specs.declared.field.usage.Usage.{Usage}
 
 -- where the first report has no id it is the answer, else that with the first byte as its id
-abbrev pub find_by : Option ℕ → List ReportRecord → ReportRecord → ℕ → Option ReportRecord
+abbrev pub find_by : {A : Type 0} → Option ℕ → List (ReportOf A) → ReportOf A → ℕ
+    → Option (ReportOf A)
 find_by None reports first b = Some first
 find_by (Some id) reports first b = find (λ r. same_key r.id (Some b)) reports
 
 -- no bytes and no reports give none
-abbrev pub find_report : List ReportRecord → List ℕ → Option ReportRecord
+abbrev pub find_report : {A : Type 0} → List (ReportOf A) → List ℕ → Option (ReportOf A)
 find_report reports [] = None
 find_report [] (b ∷ bytes) = None
 find_report (first ∷ more) (b ∷ bytes) = find_by first.id (first ∷ more) first b
 
 -- the reports of a direction
-abbrev pub reports_of : Direction → DescriptorRecord → List ReportRecord
+abbrev pub reports_of : {A : Type 0} → Direction → DescriptorOf A → List (ReportOf A)
 reports_of direction.Input descriptor = descriptor.input
 reports_of direction.Output descriptor = descriptor.output
 reports_of direction.Feature descriptor = descriptor.feature
 
 -- the first with this id, or the first without, if there is one
-abbrev pub report_with : Option ℕ → List ReportRecord → Option ReportRecord
+abbrev pub report_with : {A : Type 0} → Option ℕ → List (ReportOf A) → Option (ReportOf A)
 report_with id reports = find (λ r. same_key r.id id) reports
 
 -- one of these reports, which has this id
-pub record IsOneWith (id : Option ℕ) (reports : List ReportRecord) (report : ReportRecord) : Type 0
-  where
-    pub index : ℕ
-    pub there : slice_get reports index ≡ Some report
-    pub wanted : same_key report.id id ≡ true
+pub record IsOneWith {A : Type 0} (id : Option ℕ) (reports : List (ReportOf A))
+    (report : ReportOf A) : Type 0 where
+  pub index : ℕ
+  pub there : slice_get reports index ≡ Some report
+  pub wanted : same_key report.id id ≡ true
 
 -- the field with this number, if it is one of these
 abbrev pub field_with : ℕ → List FieldRecord → Option FieldRecord

@@ -77,17 +77,25 @@ element_count (VariableRecord place usage shared) = 0
 element_count (ArrayRecord place usages is_range count shared) = count
 element_count (ConstantRecord place) = 0
 
--- a report: its id, where it has one, its size in bits and its fields in order
-pub record ReportRecord : Type 0 where
+-- a report: its id, where it has one, its size in bits and its fields in order, each said as an A
+-- says it
+pub record ReportOf (A : Type 0) : Type 0 where
   pub id : Option ℕ
   pub size : ℕ
-  pub fields : List FieldRecord
+  pub fields : List A
 
 -- a descriptor: the reports of each direction
-pub record DescriptorRecord : Type 0 where
-  pub input : List ReportRecord
-  pub output : List ReportRecord
-  pub feature : List ReportRecord
+pub record DescriptorOf (A : Type 0) : Type 0 where
+  pub input : List (ReportOf A)
+  pub output : List (ReportOf A)
+  pub feature : List (ReportOf A)
+
+-- the same with each field said by itself
+abbrev pub ReportRecord : Type 0
+ReportRecord = ReportOf FieldRecord
+
+abbrev pub DescriptorRecord : Type 0
+DescriptorRecord = DescriptorOf FieldRecord
 
 -- all fields of these reports
 abbrev pub fields_in_all : List ReportRecord → List FieldRecord

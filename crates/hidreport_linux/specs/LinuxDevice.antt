@@ -3,7 +3,9 @@ use Rattle.std.specs.Prelude.{◌≡◌, ◌≢◌, ◌⊎◌, ℕ, true, false,
 use Rattle.hidreport_lists.specs.Answer.{Refusal, InvalidData, Refuses}
 use Rattle.hidreport_lists.specs.declared.error.ParserError.{ParserError}
 use Rattle.hidreport_lists.specs.declared.error.ParserError.TheVariants as errors
+use Rattle.hidreport.specs.Groups.{OutlineRecord, listed}
 use Rattle.hidreport.specs.Options.{parse_as}
+use Rattle.hidreport.specs.Outline.{outline_as}
 use Rattle.hidreport.specs.Records.{DescriptorRecord}
 use Rattle.hidreport.specs.Repair.{RepairedRecord, repaired}
 use Rattle.hidreport.specs.declared.parse_options.ParseOptions.{ParseOptions}
@@ -41,9 +43,15 @@ abbrev pub then_parsed : ParseOptions → Result RepairedRecord Refusal
 then_parsed options (Ok mended) = parse_as options mended.bytes
 then_parsed options (Err refusal) = Err refusal
 
+-- the same in groups
+abbrev pub then_outlined : ParseOptions → Result RepairedRecord Refusal
+    → Result OutlineRecord Refusal
+then_outlined options (Ok mended) = outline_as options mended.bytes
+then_outlined options (Err refusal) = Err refusal
+
 -- unless Linux refuses the descriptor
-abbrev pub unless_linux_refuses : Option placed.Refusal → Result DescriptorRecord Refusal
-    → Result DescriptorRecord Refusal
+abbrev pub unless_linux_refuses : {A : Type 0} → Option placed.Refusal → Result A Refusal
+    → Result A Refusal
 unless_linux_refuses None answer = answer
 unless_linux_refuses (Some r) answer = Err (InvalidData r.offset (refusal_text r.reason))
 
@@ -52,18 +60,25 @@ abbrev pub linux_parse : Option ℕ → List ℕ → Result DescriptorRecord Ref
 linux_parse limit bytes = unless_linux_refuses (linux_reading bytes).refusal
     (then_parsed (linux_options limit).parse (repaired (linux_options limit) bytes))
 
+-- the same in groups
+abbrev pub linux_outline : Option ℕ → List ℕ → Result OutlineRecord Refusal
+linux_outline limit bytes = unless_linux_refuses (linux_reading bytes).refusal
+    (then_outlined (linux_options limit).parse (repaired (linux_options limit) bytes))
+
 -- what is read of the items, the mended descriptor, and its reports
 pub record DeviceRecord : Type 0 where
   pub reading : ReadingRecord
   pub repaired : RepairedRecord
-  pub outline : DescriptorRecord
+  pub outline : OutlineRecord
 
 -- Linux takes the descriptor, and reads it so: mended, its reports are these
 pub record IsDevice (limit : Option ℕ) (bytes : List ℕ) (device : DeviceRecord) : Type 0 where
   pub taken : IsTakenByLinux bytes
   pub reading : device.reading ≡ linux_reading bytes
   pub mended : repaired (linux_options limit) bytes ≡ Ok device.repaired
-  pub reports : parse_as (linux_options limit).parse device.repaired.bytes ≡ Ok device.outline
+  pub groups : outline_as (linux_options limit).parse device.repaired.bytes ≡ Ok device.outline
+  pub reports : parse_as (linux_options limit).parse device.repaired.bytes
+      ≡ Ok (listed device.outline)
 
 -- memory is refused; or Linux takes the descriptor, and what is mended is refused
 abbrev pub IsUnread : Option ℕ → List ℕ → ParserError → Type 0

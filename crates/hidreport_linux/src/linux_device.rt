@@ -1,8 +1,9 @@
 //! A device as Linux reads its descriptor.
 ghost use Rattle.std.specs.Prelude.{◌≡◌};
-ghost use Rattle.hidreport_lists.specs.Answer.{Answers};
+ghost use Rattle.hidreport.specs.Groups.{listed};
+ghost use Rattle.hidreport_lists.specs.Answer.{Answers, AnswersBy};
 ghost use Rattle.hidreport_lists.specs.declared.error.ParserError.TheVariants.{OutOfMemory};
-ghost use Rattle.hidreport_linux.specs.LinuxDevice.{linux_options, linux_parse};
+ghost use Rattle.hidreport_linux.specs.LinuxDevice.{linux_options, linux_outline, linux_parse};
 ghost use Rattle.hidreport_linux.specs.declared.linux_device.LinuxRefusal.TheVariants.{Unread};
 
 use crate::input_devices::InputDevices;
@@ -187,7 +188,8 @@ pub fn outline_as_linux(
     bytes: &[u8],
     limit: Option<usize>,
 ) -> Result<Outline, ParserError>
-    ensures { Answers result (linux_parse limit bytes.now) }
+    ensures exact { Answers result (linux_outline limit bytes.now) }
+    ensures listed { AnswersBy listed result (linux_parse limit bytes.now) }
 {
     let reading = LinuxReading::of(alloc, bytes)?;
     if let Some(refusal) = reading.refusal() {

@@ -11,6 +11,7 @@ use Rattle.hidreport_lists.specs.Entry.{Entry}
 use Rattle.hidreport_lists.specs.Itemising.{itemise}
 use Rattle.hidreport_lists.specs.Messages.{grammar_message}
 use Rattle.hidreport.specs.Fields.{fields_of, list_or_none}
+use Rattle.hidreport.specs.Groups.{OutlineRecord}
 use Rattle.hidreport.specs.ItemState.{first_of}
 use Rattle.hidreport.specs.Kinds.{Direction, collection_kind_of, data_of}
 use Rattle.hidreport.specs.Making.{extent}
@@ -58,25 +59,46 @@ past_fault false = None
 abbrev pub stop_in : Option ℕ → StateRecord → ItemType → Option MeaningFault
 stop_in left h x = first_of (fault_in h x) (past_fault (is_past left (weight_in h x)))
 
--- the walk over the items from index k on, where so much is left
-abbrev pub walk_within : Option ℕ → StateRecord → ℕ → List ItemType
-    → Result DescriptorRecord (ℕ × MeaningFault)
-walk_within left h k [] = Ok h.descriptor
-walk_within left h k (x ∷ xs) = go_on (unless_fault (stop_in left h x) (next_state h x)) k
-    (λ next. walk_within (left_behind left (weight_in h x)) next (k + 1) xs)
+-- the walk over the items from index k on, where so much is left; of what is held behind the last
+-- this is answered
+abbrev pub walk_to : {A : Type 0} → (StateRecord → A) → Option ℕ → StateRecord → ℕ → List ItemType
+    → Result A (ℕ × MeaningFault)
+walk_to part left h k [] = Ok (part h)
+walk_to part left h k (x ∷ xs) = go_on (unless_fault (stop_in left h x) (next_state h x)) k
+    (λ next. walk_to part (left_behind left (weight_in h x)) next (k + 1) xs)
 
 -- a grammar fault, or else what the walk over the items gives, from what is held and left
-abbrev pub walk_items : Option ℕ → StateRecord → Result (List Entry) (ℕ × GrammarFault)
-    → Result DescriptorRecord Refusal
-walk_items left h (Err fault) = Err (InvalidData fault.0 (grammar_message fault.1))
-walk_items left h (Ok entries) =
-    at_offset entries (walk_within left h 0 (map (λ e. e.item) entries))
+abbrev pub walk_items_to : {A : Type 0} → (StateRecord → A) → Option ℕ → StateRecord
+    → Result (List Entry) (ℕ × GrammarFault) → Result A Refusal
+walk_items_to part left h (Err fault) = Err (InvalidData fault.0 (grammar_message fault.1))
+walk_items_to part left h (Ok entries) =
+    at_offset entries (walk_to part left h 0 (map (λ (e : Entry). e.item) entries))
 
 -- the same of a descriptor's bytes
+abbrev pub walk_bytes_to : {A : Type 0} → (StateRecord → A) → ParseOptions → List ℕ
+    → Result A Refusal
+walk_bytes_to part options [] = Err (InvalidData 0 empty_descriptor)
+walk_bytes_to part options (b ∷ bs) =
+    walk_items_to part options.limit (first_state options) (itemise item_of (b ∷ bs))
+
+-- the reports, field by field, and in groups
+abbrev pub in_fields : StateRecord → DescriptorRecord
+in_fields h = h.descriptor
+
+abbrev pub in_groups : StateRecord → OutlineRecord
+in_groups h = h.outline
+
+-- the walks that answer the reports field by field
+abbrev pub walk_within : Option ℕ → StateRecord → ℕ → List ItemType
+    → Result DescriptorRecord (ℕ × MeaningFault)
+walk_within = walk_to in_fields
+
+abbrev pub walk_items : Option ℕ → StateRecord → Result (List Entry) (ℕ × GrammarFault)
+    → Result DescriptorRecord Refusal
+walk_items = walk_items_to in_fields
+
 abbrev pub walk_bytes : ParseOptions → List ℕ → Result DescriptorRecord Refusal
-walk_bytes options [] = Err (InvalidData 0 empty_descriptor)
-walk_bytes options (b ∷ bs) =
-    walk_items options.limit (first_state options) (itemise item_of (b ∷ bs))
+walk_bytes = walk_bytes_to in_fields
 
 -- how much each of an item's fields weighs, with so many usages and the collections around it
 abbrev pub weight_of_each : Flags → ℕ → ℕ → ℕ

@@ -1,8 +1,7 @@
 -- The fields of one item, not yet listed.
-use Rattle.std.specs.Prelude.{◌≡◌, ◌⊎◌, ℕ, take}
 use Rattle.hidreport.specs.Groups.{GroupRecord}
 use Rattle.hidreport.specs.Parser.Layout.{beginning_of, extent_of, shared_of}
-use Rattle.hidreport.specs.Parser.Usages.{ranged, singles, spanned}
+use Rattle.hidreport.specs.Parser.Usages.{counting, ranged, singles, spanned}
 use Rattle.hidreport.specs.Usages.{UsageList}
 use Rattle.hidreport.specs.declared.parser.group_usages.GroupUsages.{GroupUsages}
 use Rattle.hidreport.specs.declared.parser.group_usages.GroupUsages.TheVariants as usages
@@ -11,6 +10,7 @@ use Rattle.hidreport.specs.declared.parser.layout.Layout.{Layout}
 -- the usages as the definition has them
 abbrev pub own_usages : GroupUsages → UsageList
 own_usages (usages.Range bounds) = ranged bounds
+own_usages (usages.Counting bounds) = counting bounds
 own_usages (usages.Single page us) = singles page us.items
 own_usages (usages.Spans ss) = spanned ss.items
 
@@ -23,7 +23,3 @@ group_of l us = record {
   usages = us;
   shared = shared_of l;
 }
-
--- they are these, or the first of these, so many
-abbrev pub HasFirst : ℕ → UsageList → UsageList → Type 0
-HasFirst most own us = (own ≡ us) ⊎ (own.usages ≡ take most us.usages)

@@ -6,6 +6,7 @@ use Rattle.hidreport_items.specs.Flags.{Flags}
 use Rattle.hidreport_items.specs.declared.main_item.CollectionItem.{CollectionItem}
 use Rattle.hidreport_items.specs.declared.item.ItemType.{ItemType}
 use Rattle.hidreport.specs.Faults.{Counts, item_fault}
+use Rattle.hidreport.specs.Groups.{GroupRecord, OutlineRecord, groups_of}
 use Rattle.hidreport.specs.Fields.{fields_of, fields_made, list_or_none}
 use Rattle.hidreport.specs.ItemState.{ItemState, first_of, paged_local}
 use Rattle.hidreport_fields.specs.Lookup.{reports_of}
@@ -15,7 +16,8 @@ use Rattle.hidreport.specs.Meaning.{firsts_after}
 use Rattle.hidreport.specs.MeaningFault.{MeaningFault}
 use Rattle.hidreport_fields.specs.ReportIds.{id_bits}
 use Rattle.hidreport.specs.Places.{bits_of}
-use Rattle.hidreport_fields.specs.Records.{CollectionRecord, FieldRecord, ReportRecord, DescriptorRecord}
+use Rattle.hidreport_fields.specs.Records.{CollectionRecord, DescriptorOf, DescriptorRecord}
+use Rattle.hidreport_fields.specs.Records.{ReportOf, ReportRecord}
 use Rattle.hidreport.specs.Usages.{usages_of}
 use Rattle.hidreport.specs.declared.parse_options.ParseOptions.{ParseOptions}
 use Rattle.hidreport.specs.declared.parser.paged_local.PagedLocal.{PagedLocal}
@@ -51,8 +53,8 @@ next_item_state state x = record {
 
 -- the report with this id that these items make, each adding bits and fields to the report of its
 -- key
-abbrev pub report_made : (Indexed → Option ℕ) → (Indexed → ℕ) → (Indexed → List FieldRecord)
-    → List Indexed → Option ℕ → ReportRecord
+abbrev pub report_made : {A : Type 0} → (Indexed → Option ℕ) → (Indexed → ℕ)
+    → (Indexed → List A) → List Indexed → Option ℕ → ReportOf A
 report_made key bits fields ms id = record {
   id = id;
   size = id_bits id + sum_by bits (filter (λ p. same_key (key p) id) ms);
@@ -60,27 +62,28 @@ report_made key bits fields ms id = record {
 }
 
 -- the reports that these items make
-abbrev pub reports_made : (Indexed → Option ℕ) → (Indexed → ℕ) → (Indexed → List FieldRecord)
-    → List Indexed → List ReportRecord
+abbrev pub reports_made : {A : Type 0} → (Indexed → Option ℕ) → (Indexed → ℕ)
+    → (Indexed → List A) → List Indexed → List (ReportOf A)
 reports_made key bits fields ms = map (report_made key bits fields ms) (firsts_after [] (map key ms))
 
 -- where the report with this id ends so far
-abbrev pub size_in : Option ℕ → List ReportRecord → ℕ
+abbrev pub size_in : {A : Type 0} → Option ℕ → List (ReportOf A) → ℕ
 size_in id [] = id_bits id
 size_in id (r ∷ rs) = if same_key r.id id then r.size else size_in id rs
 
 -- the id of the first report
-abbrev pub first_id : List ReportRecord → Option ℕ
+abbrev pub first_id : {A : Type 0} → List (ReportOf A) → Option ℕ
 first_id [] = None
 first_id (r ∷ rs) = r.id
 
 -- the index of the report with this id, or the length where there is none
-abbrev pub index_in : Option ℕ → List ReportRecord → ℕ
+abbrev pub index_in : {A : Type 0} → Option ℕ → List (ReportOf A) → ℕ
 index_in id [] = 0
 index_in id (r ∷ rs) = if same_key r.id id then 0 else suc (index_in id rs)
 
 -- the reports with these bits and fields added to the one with this id, which is made at need
-abbrev pub added_to : Option ℕ → ℕ → List FieldRecord → List ReportRecord → List ReportRecord
+abbrev pub added_to : {A : Type 0} → Option ℕ → ℕ → List A → List (ReportOf A)
+    → List (ReportOf A)
 added_to id bits fields [] = record { id = id; size = id_bits id + bits; fields = fields } ∷ []
 added_to id bits fields (r ∷ rs) =
     if same_key r.id id then record { id = r.id; size = r.size + bits; fields = r.fields ++ fields }
@@ -88,19 +91,21 @@ added_to id bits fields (r ∷ rs) =
     else r ∷ added_to id bits fields rs
 
 -- what is held between two items: what a Push keeps, what is in force, what the open Pushes keep,
--- outermost first, the reports so far and how many fields they have, the open collections,
--- outermost first, and how many were opened
+-- outermost first, the reports so far, field by field and in groups, and how many fields they have,
+-- the open collections, outermost first, and how many were opened
 pub record StateRecord : Type 0 where
   pub push_keeps : PushKeeps
   pub item_state : ItemState
   pub stack : List ItemState
   pub descriptor : DescriptorRecord
+  pub outline : OutlineRecord
   pub fields : ℕ
   pub opened : List CollectionRecord
   pub collections : ℕ
 
 -- the descriptor with other reports of a direction
-abbrev pub with_reports : Direction → List ReportRecord → DescriptorRecord → DescriptorRecord
+abbrev pub with_reports : {A : Type 0} → Direction → List (ReportOf A) → DescriptorOf A
+    → DescriptorOf A
 with_reports Input rs r = record { input = rs; output = r.output; feature = r.feature }
 with_reports Output rs r = record { input = r.input; output = rs; feature = r.feature }
 with_reports Feature rs r = record { input = r.input; output = r.output; feature = rs }
@@ -139,6 +144,14 @@ next_reports d h x =
     (fields_of h.item_state h.opened h.fields (start_in d h) (data_of x) (extent h.item_state))
     (reports_of d h.descriptor)
     else reports_of d h.descriptor
+
+-- the same, their fields in groups
+abbrev pub next_groups : Direction → StateRecord → ItemType → List (ReportOf GroupRecord)
+next_groups d h x =
+    if adds d h x then added_to (key_in d h) (bits_of (extent h.item_state))
+    (groups_of h.item_state h.opened h.fields (start_in d h) (data_of x) (extent h.item_state))
+    (reports_of d h.outline)
+    else reports_of d h.outline
 
 -- the collection that an item opens
 abbrev pub new_collection : StateRecord → Option CollectionItem → List CollectionRecord
@@ -193,6 +206,11 @@ next_state h x = record {
     output = next_reports Output h x;
     feature = next_reports Feature h x;
   };
+  outline = record {
+    input = next_groups Input h x;
+    output = next_groups Output h x;
+    feature = next_groups Feature h x;
+  };
   fields = h.fields + fields_made (data_of x) (extent h.item_state);
   opened = next_opened h x;
   collections = h.collections + length (new_collection h (collection_kind_of x));
@@ -240,6 +258,7 @@ start_by push_keeps by = record {
   item_state = no_item_state by;
   stack = [];
   descriptor = record { input = []; output = []; feature = [] };
+  outline = record { input = []; output = []; feature = [] };
   fields = 0;
   opened = [];
   collections = 0;
@@ -250,9 +269,8 @@ abbrev pub first_state : ParseOptions → StateRecord
 first_state options = start_by options.push_keeps options.usages
 
 -- the rest of the walk, unless item k has a fault
-abbrev pub go_on : Result StateRecord MeaningFault → ℕ
-    → (StateRecord → Result DescriptorRecord (ℕ × MeaningFault))
-    → Result DescriptorRecord (ℕ × MeaningFault)
+abbrev pub go_on : {A : Type 0} → Result StateRecord MeaningFault → ℕ
+    → (StateRecord → Result A (ℕ × MeaningFault)) → Result A (ℕ × MeaningFault)
 go_on (Ok h) k rest = rest h
 go_on (Err f) k rest = Err (k, f)
 

@@ -38,7 +38,7 @@ impl Model for OpenCollections {
 
 impl OpenCollections {
     ghost use Rattle.std.specs.Arc.{arc_slice_items};
-    ghost use Rattle.std.specs.Prelude.{◌≡◌, ◌<◌, ◌+◌, ◌-◌, ◌^◌, ◌≤◌, false, [], ◌∷◌, ◌++◌, length, sum_by, take, IfOk, IfSome, IsTrue, OnOk};
+    ghost use Rattle.std.specs.Prelude.{◌≡◌, ◌<◌, ◌+◌, ◌-◌, ◌^◌, ◌≤◌, false, [], ◌∷◌, ◌++◌, length, sum_by, take, IfOk, IfSome, IsTrue, OnOk, true};
     ghost use Rattle.hidreport.specs.Parser.Layout.{shared_list};
     ghost use Rattle.hidreport.specs.Parser.Usages.{usage_list};
     ghost use Rattle.hidreport.specs.Weight.{collection_weight};
@@ -122,6 +122,8 @@ impl OpenCollections {
     ) -> Result<Option<ArcSlice<Collection>>, AllocError>
         ensures all { IfOk result (λ shared.
             item.now.flags.constant ≡ false → shared_list shared ≡ self.old.list) }
+        ensures none { IfOk result (λ shared.
+            item.now.flags.constant ≡ true → shared_list shared ≡ []) }
         ensures list { IfOk result (λ shared.
             IfSome shared (λ list. arc_slice_items list ≡ self.old.list)) }
         ensures same { self.new ≡ self.old }

@@ -24,9 +24,9 @@ impl Model for ReportList {
     ghost use Rattle.std.specs.Prelude.{◌≡◌, ◌*◌, List, IfSome};
     ghost use Rattle.hidreport.specs.Parser.Ids.{AllBelow};
     ghost use Rattle.hidreport.specs.Parser.Machine.{index_in};
-    ghost use Rattle.hidreport_fields.specs.Records.{ReportRecord};
+    ghost use Rattle.hidreport.specs.Groups.{GroupedReport};
 
-    ghost Value = { List ReportRecord };
+    ghost Value = { List GroupedReport };
 
     ghost view = { λ l. l.reports.items };
 
@@ -36,9 +36,10 @@ impl Model for ReportList {
 }
 
 impl ReportList {
-    ghost use Rattle.std.specs.Prelude.{◌≡◌, ◌+◌, ◌<◌, ◌^◌, [], OnOk};
+    ghost use Rattle.std.specs.Prelude.{◌≡◌, ◌+◌, ◌<◌, ◌^◌, ◌∷◌, [], OnOk};
     ghost use Rattle.hidreport.specs.ItemState.{first_of};
-    ghost use Rattle.hidreport.specs.Parser.Layout.{IsPossible, laid_out};
+    ghost use Rattle.hidreport.specs.Parser.Groups.{group_of};
+    ghost use Rattle.hidreport.specs.Parser.Layout.{IsPossible};
     ghost use Rattle.hidreport.specs.Parser.Machine.{added_to, first_id, index_in, size_in};
     ghost use Rattle.hidreport.specs.Parser.Usages.{usage_list};
 
@@ -78,7 +79,8 @@ impl ReportList {
         requires bits { size_in slot.key self.old + bits < 2 ^ 64 }
         requires possible { IsPossible layout.now (usage_list usages.now) }
         ensures { OnOk result (self.new
-            ≡ added_to slot.key bits (laid_out layout.now (usage_list usages.now)) self.old) }
+            ≡ added_to slot.key bits (group_of layout.now (usage_list usages.now) ∷ [])
+            self.old) }
     {
         let Slot { key, index } = slot;
         let ids_below = widened(self.ids_below, &key);

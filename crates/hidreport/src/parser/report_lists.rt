@@ -18,17 +18,19 @@ pub(crate) struct ReportLists {
 }
 
 impl Model for ReportLists {
-    ghost use Rattle.hidreport_fields.specs.Records.{DescriptorRecord};
+    ghost use Rattle.hidreport.specs.Groups.{OutlineRecord};
 
-    ghost Value = { DescriptorRecord };
+    ghost Value = { OutlineRecord };
 
     ghost view = { λ r. record { input = r.input; output = r.output; feature = r.feature } };
 }
 
 impl ReportLists {
-    ghost use Rattle.std.specs.Prelude.{◌≡◌, ◌+◌, ◌<◌, ◌^◌, [], OnOk};
+    ghost use Rattle.std.specs.Prelude.{◌≡◌, ◌+◌, ◌<◌, ◌^◌, ◌∷◌, [], OnOk};
+    ghost use Rattle.hidreport.specs.Groups.{listed};
     ghost use Rattle.hidreport.specs.ItemState.{first_of};
-    ghost use Rattle.hidreport.specs.Parser.Layout.{IsPossible, laid_out};
+    ghost use Rattle.hidreport.specs.Parser.Groups.{group_of};
+    ghost use Rattle.hidreport.specs.Parser.Layout.{IsPossible};
     ghost use Rattle.hidreport_fields.specs.Lookup.{reports_of};
     ghost use Rattle.hidreport.specs.Parser.Machine.{added_to, first_id, index_in, size_in, with_reports};
     ghost use Rattle.hidreport.specs.Parser.Usages.{usage_list};
@@ -46,6 +48,19 @@ impl ReportLists {
 
     /// Where fields of a direction begin with this id in force: without one in the first report.
     pub(crate) fn begin(&self, direction: Direction, id: Option<ReportId>) -> Room
+        ensures key { result.slot.key
+            ≡ first_of id (first_id (reports_of direction (listed self.now))) }
+        ensures index { result.slot.index
+            ≡ index_in result.slot.key (reports_of direction self.now) }
+        ensures first { result.first_bit
+            ≡ size_in result.slot.key (reports_of direction (listed self.now)) }
+        ensures free { result.first_bit ≡ size_in result.slot.key (reports_of direction self.now) }
+    {
+        self.room(direction, id)
+    }
+
+    /// The same, said by the groups that are there.
+    fn room(&self, direction: Direction, id: Option<ReportId>) -> Room
         ensures key { result.slot.key ≡ first_of id (first_id (reports_of direction self.now)) }
         ensures index { result.slot.index
             ≡ index_in result.slot.key (reports_of direction self.now) }
@@ -75,7 +90,8 @@ impl ReportLists {
         requires possible { IsPossible layout.now (usage_list usages.now) }
         ensures { let old = reports_of layout.now.item.direction self.old in
             OnOk result (self.new ≡ with_reports layout.now.item.direction
-            (added_to slot.key bits (laid_out layout.now (usage_list usages.now)) old) self.old) }
+            (added_to slot.key bits (group_of layout.now (usage_list usages.now) ∷ []) old)
+            self.old) }
     {
         match layout.item.direction {
             Direction::Input => self.input.add(alloc, slot, bits, layout, usages),

@@ -1,9 +1,10 @@
 //! The report that a data item adds its fields to (Sections 5.6 and 6.2.2.7).
-ghost use Rattle.std.specs.Prelude.{◌≡◌, ◌+◌, ◌*◌, ◌<◌, ◌≤◌, ◌^◌, IfSome, IsSomeAnd, OnOk, IsTrue};
+ghost use Rattle.std.specs.Prelude.{◌≡◌, ◌+◌, ◌*◌, ◌<◌, ◌≤◌, ◌^◌, ◌∷◌, [], IfSome, IsSomeAnd, OnOk, IsTrue};
 ghost use Rattle.hidreport.specs.ItemState.{first_of};
 ghost use Rattle.hidreport_fields.specs.ReportIds.{same_key};
 ghost use Rattle.hidreport.specs.Parser.Ids.{AllBelow};
-ghost use Rattle.hidreport.specs.Parser.Layout.{IsPossible, laid_out};
+ghost use Rattle.hidreport.specs.Parser.Groups.{group_of};
+ghost use Rattle.hidreport.specs.Parser.Layout.{IsPossible};
 ghost use Rattle.hidreport.specs.Parser.Machine.{added_to, first_id, index_in, size_in};
 ghost use Rattle.hidreport.specs.Parser.Usages.{usage_list};
 ghost use Rattle.hidreport_fields.specs.ReportIds.{id_bits};
@@ -156,7 +157,8 @@ pub(crate) fn add_fields(
     requires bits { size_in slot.key reports.old.items + bits < 2 ^ 64 }
     requires possible { IsPossible layout.now (usage_list usages.now) }
     ensures { OnOk result (reports.new.items
-        ≡ added_to slot.key bits (laid_out layout.now (usage_list usages.now)) reports.old.items) }
+        ≡ added_to slot.key bits (group_of layout.now (usage_list usages.now) ∷ [])
+        reports.old.items) }
 {
     let group = Group::new(alloc, layout, usages)?;
     if slot.index < reports.len() {

@@ -34,6 +34,7 @@ pub(crate) struct State {
 }
 
 impl Model for State {
+    ghost use Rattle.hidreport.specs.Groups.{listed};
     ghost use Rattle.hidreport.specs.Parser.Machine.{StateRecord};
 
     ghost Value = { StateRecord };
@@ -42,7 +43,8 @@ impl Model for State {
       push_keeps = s.item_states.push_keeps;
       item_state = s.item_states.now;
       stack = s.item_states.stack;
-      descriptor = s.reports;
+      descriptor = listed s.reports;
+      outline = s.reports;
       fields = s.field_count;
       opened = s.collections.list;
       collections = s.collections.count;
@@ -192,6 +194,7 @@ impl State {
             ≡ left_behind budget.old (weight_in self.old (as_item item.now))) }
         ensures held { OnOk result (self.new ≡ record self.old {
           descriptor = (next_state self.old (as_item item.now)).descriptor;
+          outline = (next_state self.old (as_item item.now)).outline;
           fields = (next_state self.old (as_item item.now)).fields;
         }) }
         ensures err { IfErr result (λ e.
@@ -280,7 +283,7 @@ impl State {
 
     /// The reports that the items made.
     pub(crate) fn into_reports(self) -> OutlineReports
-        ensures { result ≡ self.descriptor }
+        ensures { result ≡ self.outline }
     {
         self.reports.into_reports()
     }

@@ -1,9 +1,4 @@
 //! The fields of one main item (Section 6.2.2.4).
-ghost use Rattle.std.specs.Prelude.{◌≡◌, IfOk};
-ghost use Rattle.hidreport.specs.Parser.Groups.{own_usages};
-ghost use Rattle.hidreport.specs.Parser.Layout.{IsPossible, laid_out};
-ghost use Rattle.hidreport.specs.Parser.Usages.{usage_list};
-
 use crate::parser::group_usages::GroupUsages;
 use crate::parser::layout::Layout;
 use crate::parser::usages::Usages;
@@ -43,17 +38,16 @@ impl Group {
     ghost use Rattle.hidreport.specs.Fields.{usage_at};
     ghost use Rattle.hidreport.specs.Groups.{group_fields};
     ghost use Rattle.hidreport.specs.Parser.Groups.{group_of};
-    ghost use Rattle.hidreport.specs.Parser.Layout.{IsPossible, laid_out};
+    ghost use Rattle.hidreport.specs.Parser.Layout.{IsPossible};
     ghost use Rattle.hidreport.specs.Parser.Usages.{usage_list};
     ghost use Rattle.hidreport_fields.specs.Views.{field_record};
 
-    /// The fields that are laid out so, with these usages.
+    /// The fields that are laid out so, with all of these usages.
     pub(crate) fn new(alloc: Global, layout: &Layout, usages: &Usages) -> Result<Group, AllocError>
         requires possible { IsPossible layout.now (usage_list usages.now) }
-        ensures { IfOk result (λ group.
-            group_fields group ≡ laid_out layout.now (usage_list usages.now)) }
+        ensures { IfOk result (λ group. group ≡ group_of layout.now (usage_list usages.now)) }
     {
-        let usages = usages_for(alloc, layout, usages)?;
+        let usages = GroupUsages::new(alloc, usages)?;
         Ok(Group {
             layout: layout.copy()?,
             usages,
@@ -170,6 +164,33 @@ impl Group {
         self.usages.at(index)
     }
 
+    /// How many usages the item names (Section 6.2.2.8), listed or not; padding names none.
+    ///
+    /// A variable item may name more than it has fields.
+    pub fn usage_count(&self) -> u128
+        ensures { result ≡ length self.now.usages.usages }
+    {
+        self.usages.count()
+    }
+
+    /// Usage number `index` that the item names, counted from 0 (Section 6.2.2.8); `None` where it
+    /// names no more.
+    pub fn named_usage(&self, index: usize) -> Option<Usage>
+        ensures { result ≡ slice_get self.now.usages.usages index }
+    {
+        if index as u128 >= self.usages.count() {
+            return None;
+        }
+        self.usages.at(index)
+    }
+
+    /// Whether a minimum and a maximum name the usages (Section 6.2.2.8).
+    pub fn is_usage_range(&self) -> bool
+        ensures { result ≡ self.now.usages.is_range }
+    {
+        self.usages.is_range()
+    }
+
     /// The least value (Section 6.2.2.7); values are signed where it is below 0.
     pub fn logical_minimum(&self) -> LogicalMinimum
         ensures { result ≡ self.now.shared.logical_minimum }
@@ -223,23 +244,6 @@ impl Group {
             None => &[],
         }
     }
-}
-
-/// The usages that the fields of an item take, of those in force: a variable item's take one each.
-fn usages_for(alloc: Global, layout: &Layout, usages: &Usages) -> Result<GroupUsages, AllocError>
-    requires possible { IsPossible layout.now (usage_list usages.now) }
-    ensures laid { IfOk result (λ own.
-        laid_out layout.now (own_usages own) ≡ laid_out layout.now (usage_list usages.now)) }
-    ensures possible { IfOk result (λ own. IsPossible layout.now (own_usages own)) }
-{
-    if layout.item.flags.is_constant {
-        return GroupUsages::all(alloc, usages);
-    }
-    if layout.item.flags.is_variable {
-        let first = GroupUsages::first(alloc, usages, layout.count.max(1))?;
-        return Ok(first);
-    }
-    GroupUsages::all(alloc, usages)
 }
 
 impl FieldAttributes for Group {

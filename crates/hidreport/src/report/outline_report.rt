@@ -25,21 +25,16 @@ pub struct OutlineReport {
 }
 
 impl Model for OutlineReport {
-    ghost use Rattle.hidreport.specs.Groups.{fields_of_groups};
-    ghost use Rattle.hidreport_fields.specs.Records.{ReportRecord};
+    ghost use Rattle.hidreport.specs.Groups.{GroupedReport};
 
-    ghost Value = { ReportRecord };
+    ghost Value = { GroupedReport };
 
-    ghost view = { λ r. record {
-      id = r.id;
-      size = r.size;
-      fields = fields_of_groups r.groups.items;
-    } };
+    ghost view = { λ r. record { id = r.id; size = r.size; fields = r.groups.items } };
 }
 
 impl OutlineReport {
     ghost use Rattle.std.specs.Prelude.{◌≡◌, ◌+◌, ◌/◌, IfOk};
-    ghost use Rattle.hidreport.specs.Groups.{fields_of_groups};
+    ghost use Rattle.hidreport.specs.Groups.{listed_report};
 
     /// The report's id; `None` where it has none.
     pub fn report_id(&self) -> &Option<ReportId>
@@ -48,9 +43,10 @@ impl OutlineReport {
         &self.id
     }
 
-    /// The groups of the report's fields, in the order of their bits.
+    /// The groups of the report's fields, in the order of their bits: one for each item that makes
+    /// some, padding too.
     pub fn groups(&self) -> &[Group]
-        ensures { fields_of_groups result.now ≡ self.now.fields }
+        ensures { result.now ≡ self.now.fields }
     {
         &self.groups
     }
@@ -78,8 +74,8 @@ impl OutlineReport {
     /// - `AllocError`: memory for the bytes is refused.
     pub fn blank(&self, alloc: Global) -> Result<Vec<u8>, AllocError>
         ensures blank { IfOk result (λ bytes. bytes.items ≡ blank_bytes self.now.id self.now.size) }
-        ensures whole { IfOk result (λ bytes. IsWhole self.now bytes.items) }
-        ensures takes { IfOk result (λ bytes. TakesAll self.now bytes.items) }
+        ensures whole { IfOk result (λ bytes. IsWhole (listed_report self.now) bytes.items) }
+        ensures takes { IfOk result (λ bytes. TakesAll (listed_report self.now) bytes.items) }
     {
         let bytes = blank_of(alloc, &self.id, self.size)?;
         Ok(bytes)
@@ -91,7 +87,7 @@ impl OutlineReport {
     ///
     /// - `AllocError`: memory for the fields is refused.
     pub fn lay_out(&self, alloc: Global) -> Result<RDescReport, AllocError>
-        ensures { IfOk result (λ report. report ≡ self.now) }
+        ensures { IfOk result (λ report. report ≡ listed_report self.now) }
     {
         Ok(RDescReport {
             id: self.id,

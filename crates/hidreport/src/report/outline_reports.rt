@@ -1,5 +1,6 @@
 //! The reports of the three directions, their fields in groups.
-ghost use Rattle.std.specs.Prelude.{◌≡◌, IfOk};
+ghost use Rattle.std.specs.Prelude.{◌≡◌, IfOk, map};
+ghost use Rattle.hidreport.specs.Groups.{listed_report};
 
 use crate::report::RDescReport;
 use crate::report::outline_report::{OutlineReport, find_with_id};
@@ -18,9 +19,9 @@ pub(crate) struct OutlineReports {
 }
 
 impl Model for OutlineReports {
-    ghost use Rattle.hidreport_fields.specs.Records.{DescriptorRecord};
+    ghost use Rattle.hidreport.specs.Groups.{OutlineRecord};
 
-    ghost Value = { DescriptorRecord };
+    ghost Value = { OutlineRecord };
 
     ghost view = { λ r. record {
       input = r.input.items;
@@ -31,6 +32,7 @@ impl Model for OutlineReports {
 
 impl OutlineReports {
     ghost use Rattle.std.specs.Prelude.{◌≡◌, IfOk, option_copied};
+    ghost use Rattle.hidreport.specs.Groups.{listed};
     ghost use Rattle.hidreport_fields.specs.Lookup.{find_report, reports_of};
 
     /// Those of a direction.
@@ -59,7 +61,7 @@ impl OutlineReports {
 
     /// The same reports, their fields listed.
     pub(crate) fn lay_out(&self, alloc: Global) -> Result<Reports, AllocError>
-        ensures { IfOk result (λ reports. reports ≡ self.now) }
+        ensures { IfOk result (λ reports. reports ≡ listed self.now) }
     {
         Ok(Reports {
             input: laid_out(alloc, &self.input)?,
@@ -71,7 +73,7 @@ impl OutlineReports {
 
 /// The same reports, their fields listed.
 fn laid_out(alloc: Global, reports: &[OutlineReport]) -> Result<Vec<RDescReport>, AllocError>
-    ensures { IfOk result (λ list. list.items ≡ reports.now) }
+    ensures { IfOk result (λ list. list.items ≡ map listed_report reports.now) }
 {
     let mut list = Vec::with_capacity(alloc, reports.len())?;
     for report in reports {

@@ -9,8 +9,8 @@ use Rattle.hidreport_lists.specs.Messages.{grammar_message}
 use Rattle.hidreport_lists.specs.declared.front.FrontItem.{FrontItem}
 use Rattle.hidreport_lists.proofs.FrontLemmas.{front-first}
 use Rattle.hidreport_lists.proofs.ItemLemmas.{items_from-fault, refuses-invalid, with_front}
-use Rattle.hidreport.specs.Parser.Budget.{walk_items}
-use Rattle.hidreport_fields.specs.Records.{DescriptorRecord}
+use Rattle.hidreport.specs.Parser.Budget.{in_groups, walk_items_to}
+use Rattle.hidreport.specs.Groups.{OutlineRecord}
 use Rattle.hidreport.proofs.ParseLemmas.{shorter, stopped, walk-some, walked-on}
 use Rattle.hidreport.proofs.parser.parse.Goals as goal
 
@@ -32,8 +32,8 @@ returns-in-Err c =
     (arith, c.is_empty-in-loop-rest.ensures, c.loop-rest-test.true) in
     let fault = told_fault c.in-Err.fault in
     refuses-invalid c.refusal.result c.loop-rest.offset (grammar_message fault) _ c.refusal.ensures
-    (sym (c.loop-rest.invariant.walk ∙ walk-some c.args.options c.args.bytes.now some)
-    ∙ ap (walk_items c.loop-rest.budget c.loop-rest.state)
+    (sym (c.loop-rest.invariant.walk ∙ walk-some in_groups c.args.options c.args.bytes.now some)
+    ∙ ap (walk_items_to in_groups c.loop-rest.budget c.loop-rest.state)
     (items_from-fault c.loop-rest.offset c.loop-rest.rest.now fault more c.in-Err.ensures.fault))
 
 pub returns-in-Err-take : goal.returns-in-Err-take
@@ -46,13 +46,13 @@ returns-in-Err-take c =
     let entry = entry_at c.loop-rest.offset front rest in
     let behind = items_from item_of (c.loop-rest.offset + front.size) 0 c.split_at.result.1.now in
     let first = (front-first c.loop-rest.offset rest front c.in-Ok.ensures.item).1 in
-    subst (λ (r : Result DescriptorRecord Refusal). Refuses c.refusal-in-Err-take.result r)
-    (ap (λ l. walk_items c.loop-rest.budget c.loop-rest.state (with_front (entry ∷ [])
+    subst (λ (r : Result OutlineRecord Refusal). Refuses c.refusal-in-Err-take.result r)
+    (ap (λ l. walk_items_to in_groups c.loop-rest.budget c.loop-rest.state (with_front (entry ∷ [])
     (items_from item_of (c.loop-rest.offset + front.size) 0 l))) c.split_at.ensures.back
-    ∙ ap (walk_items c.loop-rest.budget c.loop-rest.state) (sym first)
+    ∙ ap (walk_items_to in_groups c.loop-rest.budget c.loop-rest.state) (sym first)
     ∙ c.loop-rest.invariant.walk
-    ∙ walk-some c.args.options c.args.bytes.now some)
-    (stopped entry c.loop-rest.budget c.loop-rest.state c.in-Err-take.fault
+    ∙ walk-some in_groups c.args.options c.args.bytes.now some)
+    (stopped in_groups entry c.loop-rest.budget c.loop-rest.state c.in-Err-take.fault
     c.refusal-in-Err-take.result behind c.in-Err-take.ensures.err
     c.refusal-in-Err-take.ensures.grammar c.refusal-in-Err-take.ensures.meaning
     c.refusal-in-Err-take.ensures.memory)
@@ -70,12 +70,12 @@ loop-rest-preserved c =
     record {
       place = rw c.split_at.ensures.back (simp length-drop
           (omega (arith, c.in-Ok.ensures.item.0, c.loop-rest.invariant.place)));
-      walk = ap (λ l. walk_items c.take.new.budget c.take.new.self
+      walk = ap (λ l. walk_items_to in_groups c.take.new.budget c.take.new.self
           (items_from item_of (c.loop-rest.offset + front.size) 0 l)) c.split_at.ensures.back
-          ∙ sym (walked-on entry c.loop-rest.budget c.take.new.budget c.loop-rest.state
+          ∙ sym (walked-on in_groups entry c.loop-rest.budget c.take.new.budget c.loop-rest.state
           c.take.new.self (items_from item_of (c.loop-rest.offset + front.size) 0
           (drop front.size rest)) c.in_default.ensures.ok c.in_default.ensures.within
           c.in_default.ensures.left)
-          ∙ ap (walk_items c.loop-rest.budget c.loop-rest.state) (sym first)
+          ∙ ap (walk_items_to in_groups c.loop-rest.budget c.loop-rest.state) (sym first)
           ∙ c.loop-rest.invariant.walk;
     }

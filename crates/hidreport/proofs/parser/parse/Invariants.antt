@@ -1,7 +1,7 @@
 use Rattle.std.proofs.Common.{◌≡◌, ◌+◌, length}
 use Rattle.hidreport_items.specs.Spelling.{item_of}
 use Rattle.hidreport_lists.specs.Itemising.{items_from}
-use Rattle.hidreport.specs.Parser.Budget.{walk_items}
+use Rattle.hidreport.specs.Parser.Budget.{in_groups, walk_items_to}
 use Rattle.hidreport.specs.Parser.Machine.{first_state}
 use Rattle.hidreport.proofs.parser.parse.Given as goal
 
@@ -9,8 +9,8 @@ use Rattle.hidreport.proofs.parser.parse.Given as goal
 abbrev pub invariant-loop-rest : goal.invariant-loop-rest
 invariant-loop-rest l = record {
   place : l.offset + length l.rest ≡ length l.bytes;
-  walk : walk_items l.budget l.state (items_from item_of l.offset 0 l.rest)
-      ≡ walk_items l.fn.options.limit (first_state l.fn.options) (items_from item_of 0 0 l.bytes);
+  walk : walk_items_to in_groups l.budget l.state (items_from item_of l.offset 0 l.rest)
+      ≡ walk_items_to in_groups l.fn.options.limit (first_state l.fn.options) (items_from item_of 0 0 l.bytes);
 }
 
 abbrev pub decreases-loop-rest : goal.decreases-loop-rest

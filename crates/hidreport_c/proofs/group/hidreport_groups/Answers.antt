@@ -1,9 +1,9 @@
-use Rattle.hidreport_c.proofs.GroupAnswerLemmas.{groups-unread}
-use Rattle.hidreport_c.specs.Group.{groups_as_c}
-use Rattle.hidreport_c.specs.Options.{reading_of}
+use Rattle.hidreport_c.proofs.ListsLemmas.{lists-read-as, lists-unread-as}
+use Rattle.hidreport_c.specs.Group.{all_groups}
+use Rattle.hidreport_c.specs.Options.{outline_by, reading_of}
 use Rattle.hidreport_c.proofs.group.hidreport_groups.Goals as goal
 
 pub returns-in-Err : goal.returns-in-Err
 returns-in-Err c =
-    groups-unread c.in-Err.refused (reading_of c.args.options) c.args.descriptor.now
-    groups_as_c c.args.direction c.args.groups.now c.in-Err.ensures
+    lists-unread-as outline_by c.in-Err.refused (reading_of c.args.options) c.args.descriptor.now
+    (all_groups c.args.direction) c.args.groups.now c.in-Err.ensures

@@ -1,20 +1,19 @@
 use Rattle.std.proofs.Common.{Bor, ap, ◌∙◌}
 use Rattle.std.specs.Option.{option_copied}
 use Rattle.std.specs.Prelude.{option_map}
-use Rattle.hidreport.specs.Groups.{GroupRecord, fields_of_groups}
-use Rattle.hidreport.specs.Records.{fields_in_all}
+use Rattle.hidreport.specs.Groups.{GroupRecord}
 use Rattle.hidreport_c.proofs.GroupLemmas.{field-told, group-at, no-field-told}
-use Rattle.hidreport_c.specs.Group.{lent}
+use Rattle.hidreport_c.specs.Group.{groups_of, lent}
 use Rattle.hidreport_c.proofs.group.write_field.Goals as goal
 
 pub returns-in-Some : goal.returns-in-Some
 returns-in-Some c =
     let found = c.deref.result.now in
     let group = c.args.place.0 in
-    field-told found (fields_in_all c.args.reports.now) group c.args.place.1
+    field-told found (groups_of c.args.reports.now) group c.args.place.1
     c.in-Some.group.now.now c.field.result c.args.fields.now c.write_made.new.fields
     c.write_made.result
-    (ap (λ l. fields_of_groups (lent l)) c.deref.ensures.value ∙ c.in-Ok.ensures)
+    (ap lent c.deref.ensures.value ∙ c.in-Ok.ensures)
     (group-at found group c.get.result c.get.ensures.lookup
     ∙ ap (λ r. option_map (λ (g : Bor GroupRecord). g.now) (option_copied r)) c.in-Some.is)
     c.field.ensures c.write_made.ensures
@@ -23,9 +22,9 @@ pub returns-in-Ok : goal.returns-in-Ok
 returns-in-Ok c =
     let found = c.deref.result.now in
     let group = c.args.place.0 in
-    no-field-told found (fields_in_all c.args.reports.now) group c.args.place.1
+    no-field-told found (groups_of c.args.reports.now) group c.args.place.1
     c.args.fields.now c.counted.result
-    (ap (λ l. fields_of_groups (lent l)) c.deref.ensures.value ∙ c.in-Ok.ensures)
+    (ap lent c.deref.ensures.value ∙ c.in-Ok.ensures)
     (group-at found group c.get.result c.get.ensures.lookup
     ∙ ap (λ r. option_map (λ (g : Bor GroupRecord). g.now) (option_copied r)) c.in-None.is)
     c.counted.ensures

@@ -1,13 +1,11 @@
 use Rattle.std.proofs.Common.{ap, ◌∙◌}
-use Rattle.hidreport.specs.Groups.{fields_of_groups}
-use Rattle.hidreport.specs.Records.{fields_in_all}
 use Rattle.hidreport_c.proofs.GroupLemmas.{groups-told}
-use Rattle.hidreport_c.specs.Group.{lent}
+use Rattle.hidreport_c.specs.Group.{groups_of, lent}
 use Rattle.hidreport_c.proofs.group.write_groups.Goals as goal
 
 pub returns-in-Ok : goal.returns-in-Ok
 returns-in-Ok c =
-    groups-told c.deref.result.now (fields_in_all c.args.reports.now) c.args.groups.now
+    groups-told c.deref.result.now (groups_of c.args.reports.now) c.args.groups.now
     c.write.new.array c.write.result
-    (ap (λ l. fields_of_groups (lent l)) c.deref.ensures.value ∙ c.in-Ok.ensures)
+    (ap lent c.deref.ensures.value ∙ c.in-Ok.ensures)
     c.write.ensures.count c.write.ensures.written

@@ -1,6 +1,6 @@
 use Rattle.std.proofs.Common.{◌≤◌, ◌∙◌, [], length, ap, sym, arith}
+use Rattle.hidreport.specs.Groups.{GroupedReport}
 use Rattle.hidreport.specs.Parser.Machine.{index_in}
-use Rattle.hidreport_fields.specs.Records.{ReportRecord}
 use Rattle.hidreport.proofs.ReportListLemmas.{added_to-found, added_to-new}
 use Rattle.hidreport.proofs.parser.slot.size_at.Goals as goal
 
@@ -8,7 +8,7 @@ pub returns-then-slot-reports : goal.returns-then-slot-reports
 returns-then-slot-reports c =
     let found = added_to-found c.args.slot.now.key 0 [] c.args.reports.now c.args.slot.now.index
     c.index-reports-slot.result c.requires c.if-slot-reports.true c.index-reports-slot.is in
-    ap (λ (r : ReportRecord). r.size) c.report.view_is ∙ sym found.1
+    ap (λ (r : GroupedReport). r.size) c.report.view_is ∙ sym found.1
 
 pub returns-else-slot-reports : goal.returns-else-slot-reports
 returns-else-slot-reports c =

@@ -1,15 +1,16 @@
-use Rattle.std.proofs.Common.{◌≡◌, ◌≤◌, ◌^◌, ◌+◌, ◌*◌, ◌∙◌, ap, sym, subst, arith}
+use Rattle.std.proofs.Common.{◌≡◌, ◌≤◌, ◌^◌, ◌+◌, ◌*◌, ◌∙◌, ◌∷◌, [], ap, refl, sym, subst, arith}
 use Rattle.std.proofs.lemmas.Result.{err_from_is_err_and}
 use Rattle.hidreport.specs.Parser.Budget.{is_past, left_behind, weight_in}
 use Rattle.hidreport_fields.specs.DataItem.{as_item, item_with}
 use Rattle.hidreport.specs.Parser.ItemStates.{item_state_of}
 use Rattle.hidreport_fields.specs.ItemParts.{attributes_with}
-use Rattle.hidreport.specs.Fields.{make_fields}
+use Rattle.hidreport.specs.Groups.{listed}
 use Rattle.hidreport_fields.specs.declared.field.measures.Measures.{Measures}
 use Rattle.hidreport.specs.Parser.Layout.{shared_list}
 use Rattle.hidreport.specs.Parser.Usages.{usage_list}
-use Rattle.hidreport.specs.Parser.Machine.{StateRecord, next_state}
+use Rattle.hidreport.specs.Parser.Machine.{StateRecord, added_to, next_state, with_reports}
 use Rattle.hidreport.specs.Parser.Opened.{Opened}
+use Rattle.hidreport_fields.specs.Lookup.{reports_of}
 use Rattle.hidreport.proofs.DataLemmas.{data-held}
 use Rattle.hidreport.proofs.WeightLemmas.{data-faultless, data-weighs, stop-past}
 use Rattle.hidreport.proofs.parser.state.State.add_data.Goals as goal
@@ -23,7 +24,8 @@ returns-clause-held c =
       push_keeps = s.item_states.push_keeps;
       item_state = s.item_states.now;
       stack = s.item_states.stack;
-      descriptor = s.reports;
+      descriptor = listed s.reports;
+      outline = s.reports;
       fields = s.field_count;
       opened = s.collections.list;
       collections = s.collections.count;
@@ -33,7 +35,8 @@ returns-clause-held c =
       push_keeps = s.item_states.push_keeps;
       item_state = s.item_states.now;
       stack = s.item_states.stack;
-      descriptor = c.add.new.self;
+      descriptor = listed c.add.new.self;
+      outline = c.add.new.self;
       fields = s.field_count + count;
       opened = c.keep.new.self.list;
       collections = c.keep.new.self.count;
@@ -41,31 +44,39 @@ returns-clause-held c =
     let g = item_state_of s.item_states.now.usages_by c.globals-globals.result.now
     s.item_states.now.locals in
     let cs = shared_list c.in_ok-shared_by.field-0 in
-    let with = λ (m : Measures). make_fields (record {
-      report_id = g.report_id;
-      number = s.field_count;
-      first = c.begin-room.result.first_bit;
-    }) c.in-Some.extent x.flags
-    (usage_list c.in-Ok.usages)
-    (attributes_with x.direction x.flags m cs) in
-    let fields = with c.measures.result in
+    let with = λ (m : Measures). with_reports x.direction
+    (added_to c.begin-room.result.slot.key c.in_ok-bits.bits (record {
+      beginning = record {
+        report_id = g.report_id;
+        number = s.field_count;
+        first = c.begin-room.result.first_bit;
+      };
+      extent = c.in-Some.extent;
+      flags = x.flags;
+      usages = usage_list c.in-Ok.usages;
+      shared = attributes_with x.direction x.flags m cs;
+    } ∷ []) (reports_of x.direction s.reports)) s.reports in
     subst (λ (z : StateRecord). new ≡ record z {
       descriptor = (next_state z (as_item x)).descriptor;
+      outline = (next_state z (as_item x)).outline;
       fields = (next_state z (as_item x)).fields;
     }) c.self.view_is
     (ap (λ (o : Opened). record h {
-      descriptor = c.add.new.self;
+      descriptor = listed c.add.new.self;
+      outline = c.add.new.self;
       fields = s.field_count + count;
       opened = o.list;
       collections = o.count;
     }) (c.keep.ensures ∙ c.in_ok-shared_by.ensures.same)
     ∙ data-held h g x.direction x.flags cs
     c.in-Some.extent c.in-Ok.usages
-    c.begin-room.result.slot.key c.begin-room.result.first_bit c.in_ok-bits.bits fields c.add.new.self
-    count
-    c.globals-globals.ensures c.in_ok-shared_by.ensures.all (sym c.in-Some.ensures)
+    c.begin-room.result.slot.key c.begin-room.result.first_bit c.in_ok-bits.bits c.add.new.self
+    count refl
+    c.globals-globals.ensures c.in_ok-shared_by.ensures.all c.in_ok-shared_by.ensures.none
+    (sym c.in-Some.ensures)
     c.in-Ok.ensures.usages c.begin-room.ensures.key c.begin-room.ensures.first c.in_ok-bits.ensures.fits.0
-    (ap with (c.measures.ensures s.item_states.now.usages_by)) c.in_ok-add.ensures c.field_count-field_count.ensures)
+    (c.in_ok-add.ensures ∙ ap with (c.measures.ensures s.item_states.now.usages_by))
+    c.field_count-field_count.ensures)
 
 -- the data item weighs what was counted
 weighs : (c : After-spend)
@@ -102,7 +113,8 @@ returns-in_err-spend-clause-err c =
     let faultless = data-faultless _ c.args.self.now g x.direction x.flags
     c.in-Some.extent c.begin-room.result.slot.key c.begin-room.result.first_bit
     c.field_count-field_count.result c.self.view_is
-    c.globals-globals.ensures (sym c.in-Some.ensures) c.in-Ok.ensures.faultless c.begin-room.ensures.key c.begin-room.ensures.first
+    c.globals-globals.ensures (sym c.in-Some.ensures) c.in-Ok.ensures.faultless
+    c.begin-room.ensures.key c.begin-room.ensures.first
     c.in_ok-bits.ensures.fits.1 c.field_count-field_count.ensures ids in
     let weighs = weighs (goal.at.returns-in_err-spend-clause-err c).After-spend in
     let p = err_from_is_err_and c.from_residual-in_err-spend.result

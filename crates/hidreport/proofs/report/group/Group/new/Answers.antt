@@ -1,8 +1,8 @@
 use Rattle.std.proofs.Common.{◌∙◌, ap}
-use Rattle.hidreport.specs.Groups.{group_fields}
-use Rattle.hidreport.specs.Parser.Groups.{own_usages}
+use Rattle.hidreport.specs.Parser.Groups.{group_of, own_usages}
+use Rattle.hidreport.specs.Usages.{UsageList}
 use Rattle.hidreport.proofs.report.group.Group.new.Goals as goal
 
 pub returns : goal.returns
-returns c = ap group_fields (c.in_ok-copy.ensures.laid (own_usages c.in_ok-usages.usages))
-    ∙ c.in_ok-usages.ensures.laid
+returns c = c.in_ok-copy.ensures.laid (own_usages c.in_ok-usages.usages)
+    ∙ ap (λ (us : UsageList). group_of c.args.layout.now us) c.in_ok-usages.ensures
