@@ -218,6 +218,30 @@ static void ask_for_groups(void)
         "the usage of no group");
 }
 
+/* Without a limit an array's usages aren't listed, either: as hosts read them, each of nine maxima
+ * names all from 0 on. */
+static void ask_for_many_ranges(void)
+{
+    static const uint8_t bytes[] = "\x05\x01\x2b\0\0\0\1\x2b\0\0\0\1\x2b\0\0\0\1\x2b\0\0\0\1"
+                                   "\x2b\0\0\0\1\x2b\0\0\0\1\x2b\0\0\0\1\x2b\0\0\0\1"
+                                   "\x2b\0\0\0\1\x75\x08\x95\x01\x81";
+    struct hidreport_options options = HIDREPORT_REPAIR_DEFAULTS;
+    struct hidreport_group group;
+    uint32_t usages[2] = {7, 7};
+
+    options.limit = HIDREPORT_NO_LIMIT;
+    struct hidreport_answer answer =
+        hidreport_groups(bytes, sizeof bytes, options, HIDREPORT_INPUT, &group, 1);
+    say(answer.status == HIDREPORT_ACCEPTED && answer.count == 1 && group.kind == HIDREPORT_ARRAY
+        && group.field_count == 1 && group.usage == 0, "an array of nine ranges");
+    answer = hidreport_group_usage(bytes, sizeof bytes, options, HIDREPORT_INPUT, 0, 0x1000000,
+                                   &usages[0], 1);
+    say(answer.count == 1 && usages[0] == 0x1000000, "the last usage of the first range");
+    answer = hidreport_group_usage(bytes, sizeof bytes, options, HIDREPORT_INPUT, 0, 0x1000001,
+                                   &usages[1], 1);
+    say(answer.count == 1 && usages[1] == 0, "the first usage of the second range");
+}
+
 /* A report that says that it has more bytes than there are gets those that there are. */
 static void ask_for_a_blank(void)
 {
@@ -258,6 +282,7 @@ int main(void)
     ask_to_write(say);
     ask_for_a_blank();
     ask_for_groups();
+    ask_for_many_ranges();
     ask_to_read(say);
     ask_to_read_with_little_room(say);
     ask_to_write_more_than_counted(say);

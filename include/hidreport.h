@@ -303,9 +303,10 @@ struct hidreport_answer hidreport_find(const uint8_t *descriptor, size_t length,
                                        struct hidreport_field *fields, size_t room);
 
 /* The groups of the fields that a descriptor announces in a direction, in the order of its reports
- * and of their bits: laid out, they are the fields that hidreport_describe lists. None of these is
- * listed, so that with HIDREPORT_NO_LIMIT, too, no more memory is taken than for the descriptor's
- * items. */
+ * and of their bits, one for each item that makes fields: laid out, they are the fields that
+ * hidreport_describe lists. Neither these nor their usages are listed, so that with
+ * HIDREPORT_NO_LIMIT, too, no more memory is taken than for the descriptor's items and the usages of
+ * the collections around them. */
 struct hidreport_answer hidreport_groups(const uint8_t *descriptor, size_t length,
                                          struct hidreport_options options, uint32_t direction,
                                          struct hidreport_group *groups, size_t room);

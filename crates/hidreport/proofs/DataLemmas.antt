@@ -15,7 +15,7 @@ use Rattle.hidreport.specs.MeaningFault.{MeaningFault, TooManyPops}
 use Rattle.hidreport_fields.specs.DataItem.{item_with}
 use Rattle.hidreport.specs.Fields.{attributes, list_or_none}
 use Rattle.hidreport.specs.Groups.{GroupRecord, GroupedReport, OutlineRecord, carried, group_made}
-use Rattle.hidreport.specs.Groups.{listed, named_usages}
+use Rattle.hidreport.specs.Groups.{listed, named_of, taken_of}
 use Rattle.hidreport_fields.specs.ItemParts.{field_count}
 use Rattle.hidreport.specs.ItemState.{ItemState, first_of}
 use Rattle.hidreport.specs.Parser.Machine.{StateRecord, after_pop, pushed_copy, step, unless_fault}
@@ -44,10 +44,19 @@ made-outline h Feature flags e made = rw made refl
 
 -- padding has neither usages nor collections
 named-by : (b : Bool) (h : StateRecord) (flags : Flags) (us : Usages) → flags.constant ≡ b
-    → HasUsages flags h.item_state us → usage_list us ≡ named_usages flags h.item_state
-named-by true h flags us constant has = has.0 constant ∙ rw constant refl
+    → HasUsages flags h.item_state us
+    → named_of flags (usage_list us) ≡ named_of flags (list_or_none (usages_of h.item_state))
+named-by true h flags us constant has = rw constant refl
 named-by false h flags us constant has =
-    sym (ap list_or_none (has.1 constant).0) ∙ rw constant refl
+    sym (ap (λ (l : UsageList). named_of flags l) (ap list_or_none (has constant).0))
+
+taken-by : (b : Bool) (h : StateRecord) (flags : Flags) (count : ℕ) (us : Usages)
+    → flags.constant ≡ b → HasUsages flags h.item_state us
+    → taken_of flags count (usage_list us)
+    ≡ taken_of flags count (list_or_none (usages_of h.item_state))
+taken-by true h flags count us constant has = rw constant refl
+taken-by false h flags count us constant has =
+    sym (ap (λ (l : UsageList). taken_of flags count l) (ap list_or_none (has constant).0))
 
 carried-by : (b : Bool) (h : StateRecord) (flags : Flags) (cs : List CollectionRecord)
     → flags.constant ≡ b → (flags.constant ≡ false → cs ≡ h.opened)
@@ -56,12 +65,13 @@ carried-by true h flags cs constant around none = none constant ∙ rw constant 
 carried-by false h flags cs constant around none = around constant ∙ rw constant refl
 
 -- the group of an item of a direction with these flags, from what is in force
-abbrev pub group_with : ItemState → ℕ → ℕ → Extent → Flags → UsageList → Direction
+abbrev pub group_with : ItemState → ℕ → ℕ → Extent → Flags → ℕ → UsageList → Direction
     → List CollectionRecord → GroupRecord
-group_with g number first e flags us d cs = record {
+group_with g number first e flags named us d cs = record {
   beginning = record { report_id = g.report_id; number = number; first = first };
   extent = e;
   flags = flags;
+  named = named;
   usages = us;
   shared = attributes g cs d flags;
 }
@@ -71,15 +81,21 @@ group-is : (h : StateRecord) (g : ItemState) (d : Direction) (flags : Flags)
     → g ≡ h.item_state → (flags.constant ≡ false → cs ≡ h.opened)
     → (flags.constant ≡ true → cs ≡ []) → HasUsages flags h.item_state us
     → first ≡ start_in d h
-    → group_with g h.fields first e flags (usage_list us) d cs
+    → group_with g h.fields first e flags (named_of flags (usage_list us))
+    (taken_of flags e.count (usage_list us)) d cs
     ≡ group_made h.item_state h.opened h.fields (start_in d h) d flags e
 group-is h g d flags cs e us first same around none has begins =
-    ap (λ (f : ItemState). group_with f h.fields first e flags (usage_list us) d cs) same
-    ∙ ap (λ n. group_with h.item_state h.fields n e flags (usage_list us) d cs) begins
-    ∙ ap (λ l. group_with h.item_state h.fields (start_in d h) e flags l d cs)
+    let named = named_of flags (usage_list us) in
+    let taken = taken_of flags e.count (usage_list us) in
+    let all = list_or_none (usages_of h.item_state) in
+    ap (λ (f : ItemState). group_with f h.fields first e flags named taken d cs) same
+    ∙ ap (λ n. group_with h.item_state h.fields n e flags named taken d cs) begins
+    ∙ ap (λ n. group_with h.item_state h.fields (start_in d h) e flags n taken d cs)
     (named-by flags.constant h flags us refl has)
-    ∙ ap (λ l. group_with h.item_state h.fields (start_in d h) e flags
-    (named_usages flags h.item_state) d l)
+    ∙ ap (λ l. group_with h.item_state h.fields (start_in d h) e flags (named_of flags all) l d cs)
+    (taken-by flags.constant h flags e.count us refl has)
+    ∙ ap (λ l. group_with h.item_state h.fields (start_in d h) e flags (named_of flags all)
+    (taken_of flags e.count all) d l)
     (carried-by flags.constant h flags cs refl around none)
 
 -- as many fields are numbered behind it
@@ -101,7 +117,8 @@ pub data-held : (h : StateRecord) (g : ItemState) (d : Direction) (flags : Flags
     → key ≡ first_of g.report_id (first_id (reports_of d h.descriptor))
     → first ≡ size_in key (reports_of d h.descriptor) → bits ≡ e.size * e.count
     → rs ≡ with_reports d (added_to key bits
-    (group_with g h.fields first e flags (usage_list us) d cs ∷ [])
+    (group_with g h.fields first e flags (named_of flags (usage_list us))
+    (taken_of flags e.count (usage_list us)) d cs ∷ [])
     (reports_of d h.outline)) h.outline
     → n ≡ field_count flags e.count
     → record h { descriptor = listed rs; outline = rs; fields = h.fields + n } ≡ record h {

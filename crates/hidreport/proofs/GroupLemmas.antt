@@ -1,15 +1,23 @@
--- The field at a place in a group.
+-- Groups of fields: the usages that they take, and the field at a place in one.
 use Rattle.std.proofs.Common.{◌≡◌, ◌∙◌, ◌+◌, ◌<◌, ◌≤◌, ℕ, zero, suc, Bool, true, false, List, [], ◌∷◌}
-use Rattle.std.proofs.Common.{None, Some, ap, arith, refl, slice_get}
+use Rattle.std.proofs.Common.{None, Some, ap, arith, inl, inr, length, min, refl, slice_get}
+use Rattle.std.proofs.Common.{subst, sym, take}
 use Rattle.std.specs.Prelude.{if◌then◌else◌}
+use Rattle.std.proofs.Math.Seq.{take-nil}
 use Rattle.hidreport_items.specs.Flags.{Flags}
-use Rattle.hidreport.specs.Fields.{Beginning, each_from, make_fields}
+use Rattle.hidreport.specs.Fields.{Beginning, each_from, make_fields, usage_at}
 use Rattle.hidreport_fields.specs.ItemParts.{field_count}
-use Rattle.hidreport.specs.Parser.Layout.{laid_out, variable_of}
+use Rattle.hidreport.specs.Groups.{taken_of}
+use Rattle.hidreport.specs.Parser.Groups.{HasFirst}
+use Rattle.hidreport.specs.Parser.Layout.{IsPossible, beginning_of, extent_of, laid_out, shared_of}
+use Rattle.hidreport.specs.Parser.Layout.{variable_of}
 use Rattle.hidreport_fields.specs.Records.{Attributes, FieldRecord}
 use Rattle.hidreport.specs.Usages.{UsageList}
+use Rattle.hidreport_fields.specs.declared.field.usage.Usage.{Usage}
 use Rattle.hidreport.specs.declared.parser.extent.Extent.{Extent}
 use Rattle.hidreport.specs.declared.parser.layout.Layout.{Layout}
+use Rattle.hidreport.proofs.HostUsageLemmas.{listed, some-first}
+use Rattle.hidreport.proofs.ListedLemmas.{fields-taken}
 
 each-get : {A : Type 0} (f : ℕ → A) (c n k : ℕ) → k < n
     → slice_get (each_from f c n) k ≡ Some (f (c + k))
@@ -57,3 +65,52 @@ variable-at l us k filled multiple lt =
     get-by l.item.flags.constant l.item.flags.variable _ _ (each_from (variable_of l us) 0 l.count) k
     (variable_of l us k) filled multiple (each-get (variable_of l us) 0 l.count k lt
     ∙ ap (λ j. Some (variable_of l us j)) (let e : 0 + k ≡ k = omega arith in e))
+
+-- the fields take the same usages of the first that are taken
+pub taken-laid : (l : Layout) (us : UsageList)
+    → laid_out l (taken_of l.item.flags l.count us) ≡ laid_out l us
+taken-laid l us = fields-taken l.item.flags.constant l.item.flags.variable (beginning_of l)
+    (extent_of l) l.item.flags us (shared_of l) refl refl
+
+take-front : {A : Type 0} (count n : ℕ) (xs : List A) → count ≤ n → take count (take n xs) ≡ take count xs
+take-front zero n xs le = refl
+take-front (suc count) zero xs le = absurd (omega (arith, le))
+take-front (suc count) (suc n) [] le = refl
+take-front (suc count) (suc n) (x ∷ xs) le =
+    ap (λ l. x ∷ l) (take-front count n xs (omega (arith, le)))
+
+-- a variable item takes the same of the first usages, where there are as many as its elements
+pub first-taken : (flags : Flags) (count n : ℕ) (own us : UsageList) → flags.constant ≡ false
+    → flags.variable ≡ true → count ≤ n → HasFirst n own us
+    → taken_of flags count own ≡ taken_of flags count us
+first-taken flags count n own us filled multiple le (inl same) = ap (taken_of flags count) same
+first-taken flags count n own us filled multiple le (inr first) =
+    rw (filled, multiple) (ap (λ (l : List Usage). listed l)
+    (ap (take count) first ∙ take-front count n us.usages le))
+
+-- the usage of a variable item's field, of those that are taken
+
+pub at-taken : (us : List Usage) (n c : ℕ) → usage_at us (min c n) ≡ usage_at (take (suc n) us) c
+at-taken [] n c = refl
+at-taken (u ∷ []) n c = sym (ap (λ l. usage_at (u ∷ l) c) (take-nil n))
+at-taken (u ∷ v ∷ us) zero c =
+    ap (usage_at (u ∷ v ∷ us)) (let e : min c 0 ≡ 0 = omega arith in e) ∙ behind c
+  where
+    behind : (c : ℕ) → u ≡ usage_at (u ∷ []) c
+    behind c = refl
+at-taken (u ∷ v ∷ us) (suc n) zero =
+    ap (usage_at (u ∷ v ∷ us)) (let e : min 0 (suc n) ≡ 0 = omega arith in e)
+at-taken (u ∷ v ∷ us) (suc n) (suc c) =
+    ap (usage_at (u ∷ v ∷ us)) (let e : min (suc c) (suc n) ≡ suc (min c n) = omega arith in e)
+    ∙ at-taken (v ∷ us) n c
+
+pub first-possible : (l : Layout) (own us : UsageList) (n : ℕ) → 0 < n → HasFirst n own us
+    → IsPossible l us → IsPossible l own
+first-possible l own us n pos (inl same) possible = subst (IsPossible l) (sym same) possible
+first-possible l own us n pos (inr first) possible = record {
+  ids = possible.ids;
+  bits = possible.bits;
+  count = possible.count;
+  usages = λ filled. subst (λ (vs : List Usage). 0 < length vs) (sym first)
+      (some-first n us.usages pos (possible.usages filled));
+}

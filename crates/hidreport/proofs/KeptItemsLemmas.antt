@@ -55,7 +55,8 @@ use Rattle.hidreport.specs.Parser.Machine.{next_item_state, item_state_behind, n
 use Rattle.hidreport.specs.Parser.Machine.{next_state}
 use Rattle.hidreport.specs.Parser.Machine.{next_groups, next_opened, next_reports}
 use Rattle.hidreport.specs.Parser.Machine.{new_collection, first_state}
-use Rattle.hidreport.specs.Groups.{GroupRecord, OutlineRecord, carried, groups_of}
+use Rattle.hidreport.specs.Groups.{GroupRecord, OutlineRecord, carried, groups_of, named_of}
+use Rattle.hidreport.specs.Groups.{taken_of}
 use Rattle.hidreport.specs.Parser.Machine.{unless_fault, go_on}
 use Rattle.hidreport.specs.Parser.Budget.{is_past, left_behind, past_fault, stop_in, walk_within}
 use Rattle.hidreport.specs.Parser.Budget.{weight_in, weight_made_in, weight_opened_in}
@@ -220,7 +221,8 @@ made-thin f cs id first (Some x) (Some e) =
       beginning = record { report_id = f.report_id; number = id; first = first };
       extent = e;
       flags = x.1;
-      usages = cond x.1.constant (record { usages = []; is_range = false }) (list_or_none u);
+      named = named_of x.1 (list_or_none u);
+      usages = taken_of x.1 e.count (list_or_none u);
       shared = attributes f (carried x.1 cs) x.0 x.1;
     } ∷ []) (usages-thin f)
 made-thin f cs id first (Some x) None = refl

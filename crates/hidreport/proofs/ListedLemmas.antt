@@ -1,16 +1,17 @@
 -- Groups listed field by field: in a report, a direction, a state and a descriptor.
-use Rattle.std.proofs.Common.{◌≡◌, ◌∙◌, ◌+◌, ℕ, Bool, true, false, cond, List, [], ◌∷◌, ◌++◌, map}
-use Rattle.std.proofs.Common.{Option, None, Some, ap, append-nil, length, refl, sym}
+use Rattle.std.proofs.Common.{◌≡◌, ◌∙◌, ◌+◌, ◌≤◌, ℕ, zero, suc, Bool, true, false, cond, List, [], ◌∷◌, ◌++◌, map}
+use Rattle.std.proofs.Common.{Option, None, Some, ap, append-nil, arith, length, refl, sym, take}
 use Rattle.std.specs.Prelude.{flat_map, option_map}
 use Rattle.std.proofs.lemmas.Grind.{flat_map-append}
 use Rattle.hidreport_items.specs.Flags.{Flags}
 use Rattle.hidreport_items.specs.declared.item.ItemType.{ItemType}
 use Rattle.hidreport.specs.Fields.{Beginning, attributes, collections_at, fields_at}
-use Rattle.hidreport.specs.Fields.{fields_before, fields_of, list_or_none, make_fields}
+use Rattle.hidreport.specs.Fields.{beginning_at, each_from, fields_before, fields_of, list_or_none}
+use Rattle.hidreport.specs.Fields.{make_fields, make_place, usage_at}
 use Rattle.hidreport.specs.Groups.{GroupRecord, GroupedReport, OutlineRecord, carried}
 use Rattle.hidreport.specs.Groups.{fields_of_groups, group_fields, group_made, grouped}
 use Rattle.hidreport.specs.Groups.{grouped_report, grouped_reports, groups_at, groups_of, listed}
-use Rattle.hidreport.specs.Groups.{listed_report, named_usages}
+use Rattle.hidreport.specs.Groups.{listed_report, taken_of}
 use Rattle.hidreport.specs.ItemState.{ItemState, first_of}
 use Rattle.hidreport.specs.Kinds.{Direction, Indexed, Input, Output, Feature, data_of}
 use Rattle.hidreport.specs.Making.{extent, makers_of}
@@ -18,10 +19,13 @@ use Rattle.hidreport.specs.Meaning.{descriptor, keys, report, reports}
 use Rattle.hidreport.specs.Parser.Machine.{StateRecord, added_to, adds, first_id, key_in}
 use Rattle.hidreport.specs.Parser.Machine.{next_groups, next_reports, next_state, size_in, start_in}
 use Rattle.hidreport.specs.Places.{bits_of, start}
-use Rattle.hidreport.specs.Usages.{usages_of}
+use Rattle.hidreport.specs.Usages.{UsageList, usages_of}
 use Rattle.hidreport.specs.declared.parser.extent.Extent.{Extent}
+use Rattle.hidreport.proofs.HostUsageLemmas.{at-first}
 use Rattle.hidreport_fields.specs.Lookup.{find_by, find_report, report_with, reports_of}
-use Rattle.hidreport_fields.specs.Records.{CollectionRecord, FieldRecord, ReportRecord}
+use Rattle.hidreport_fields.specs.Records.{Attributes, CollectionRecord, FieldRecord, ReportRecord}
+use Rattle.hidreport_fields.specs.Records.{VariableRecord}
+use Rattle.hidreport_fields.specs.declared.field.usage.Usage.{Usage}
 use Rattle.hidreport_fields.specs.ReportIds.{same_key}
 
 -- the heads of reports stay
@@ -82,9 +86,28 @@ added-listed key bits gs (r ∷ rs) =
 
 -- the group of an item has the item's fields: padding has neither usages nor collections
 
+each-taken : {A : Type 0} (f : Usage → ℕ → A) (us : List Usage) (n c more : ℕ) → c + more ≤ n
+    → each_from (λ k. f (usage_at (take n us) k) k) c more
+    ≡ each_from (λ k. f (usage_at us k) k) c more
+each-taken f us n c zero le = refl
+each-taken f us n c (suc more) le =
+    ap (λ (u : Usage). f u c ∷ each_from (λ k. f (usage_at (take n us) k) k) (c + 1) more)
+    (at-first n c us (omega (arith, le)))
+    ∙ ap (λ l. f (usage_at us c) c ∷ l) (each-taken f us n (c + 1) more (omega (arith, le)))
+
+pub fields-taken : (constant variable : Bool) (at : Beginning) (e : Extent) (flags : Flags)
+    (us : UsageList) (shared : Attributes) → flags.constant ≡ constant
+    → flags.variable ≡ variable
+    → make_fields at e flags (taken_of flags e.count us) shared ≡ make_fields at e flags us shared
+fields-taken true variable at e flags us shared filled multiple = rw filled refl
+fields-taken false false at e flags us shared filled multiple = rw (filled, multiple) refl
+fields-taken false true at e flags us shared filled multiple =
+    rw (filled, multiple) (each-taken (λ (u : Usage) c. VariableRecord
+    (make_place (beginning_at at e c) e.size) u shared) us.usages e.count 0 e.count (omega arith))
+
 made-by : (b : Bool) (state : ItemState) (cs : List CollectionRecord) (d : Direction)
     (flags : Flags) (at : Beginning) (e : Extent) → flags.constant ≡ b
-    → make_fields at e flags (named_usages flags state)
+    → make_fields at e flags (list_or_none (usages_of state))
     (attributes state (carried flags cs) d flags)
     ≡ make_fields at e flags (list_or_none (usages_of state)) (attributes state cs d flags)
 made-by true state cs d flags at e constant = rw constant refl
@@ -99,6 +122,8 @@ groups-listed state cs number first (Some x) None = refl
 groups-listed state cs number first (Some x) (Some e) =
     let at : Beginning = record { report_id = state.report_id; number = number; first = first } in
     append-nil (group_fields (group_made state cs number first x.0 x.1 e))
+    ∙ fields-taken x.1.constant x.1.variable at e x.1 (list_or_none (usages_of state))
+    (attributes state (carried x.1 cs) x.0 x.1) refl refl
     ∙ made-by x.1.constant state cs x.0 x.1 at e refl
 
 -- what is held

@@ -1,8 +1,7 @@
 -- The usages of a list of locals, one after the other.
 use Rattle.std.proofs.Common.{◌≡◌, ℕ, zero, suc, ◌+◌, ◌-◌, ◌%◌, ◌<◌, min, [], ◌∷◌, ◌++◌}
 use Rattle.std.proofs.Common.{List, get_or, length, map, take, ap, sym, ◌∙◌}
-use Rattle.std.proofs.Common.{arith, IfSome, None, Option, Some, is_some, nat_lt, refl, slice_get}
-use Rattle.std.proofs.lemmas.Bool.Decides.{nat_tests}
+use Rattle.std.proofs.Common.{arith}
 use Rattle.std.proofs.Math.Seq.{take-suc}
 use Rattle.std.proofs.lemmas.List.{map-append}
 use Rattle.hidreport.specs.Fields.{usage_at}
@@ -59,17 +58,3 @@ counted-up us page own low k u is lt before next =
     ∙ ap (λ (vs : List Usage). vs ++ usage_under page u ∷ []) before
     ∙ ap (λ (v : Usage). range_from own low k ++ v ∷ []) next
     ∙ sym (range_from-next own low k)
-
--- the usage at a place where there is one
-usage-there : (us : List Usage) (k : ℕ) → k < length us → Some (usage_at us k) ≡ slice_get us k
-usage-there [] k lt = absurd (omega (arith, lt))
-usage-there (u ∷ []) zero lt = refl
-usage-there (u ∷ []) (suc k) lt = absurd (omega (arith, lt))
-usage-there (u ∷ v ∷ us) zero lt = refl
-usage-there (u ∷ v ∷ us) (suc k) lt = usage-there (v ∷ us) k (omega (arith, lt))
-
-pub usage-named : (us : List Usage) (k : ℕ) (found : Option Usage) → k < length us
-    → IfSome found (λ u. u ≡ usage_at us k) → is_some found ≡ nat_lt 0 (length us)
-    → found ≡ slice_get us k
-usage-named us k (Some u) lt is there = ap Some is ∙ usage-there us k lt
-usage-named us k None lt is there = absurd (grind (arith, nat_tests, lt, there))

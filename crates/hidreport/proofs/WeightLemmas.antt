@@ -62,7 +62,7 @@ usages-by : (constant : Bool) (flags : Flags) (f : ItemState) (us : Usages) (cou
 usages-by true flags f us count around c has = rw c refl
 usages-by false flags f us count around c has =
     ap (λ (l : UsageList). field_count flags count * weight_of_each flags (length l.usages) around)
-    (ap list_or_none (has.1 c).0)
+    (ap list_or_none (has c).0)
 
 weight-with : (h : StateRecord) (d : Direction) (flags : Flags)
     → weight_in h (item_with d flags) ≡ sum_by field_weight

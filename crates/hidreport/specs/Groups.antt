@@ -1,5 +1,5 @@
 -- Groups (Section 6.2.2.4): the fields that one main item makes, said once for all of them.
-use Rattle.std.specs.Prelude.{ℕ, false, if◌then◌else◌, List, [], ◌∷◌, flat_map, length, map}
+use Rattle.std.specs.Prelude.{ℕ, false, if◌then◌else◌, List, [], ◌∷◌, flat_map, length, map, take}
 use Rattle.std.specs.Prelude.{Option, None, Some}
 use Rattle.hidreport_items.specs.Flags.{Flags}
 use Rattle.hidreport_items.specs.declared.item.ItemType.{ItemType}
@@ -15,12 +15,13 @@ use Rattle.hidreport_fields.specs.Records.{DescriptorRecord, FieldRecord, Report
 use Rattle.hidreport.specs.Usages.{UsageList, usages_of}
 use Rattle.hidreport.specs.declared.parser.extent.Extent.{Extent}
 
--- where they begin, how large and how many they are, the flags of the item, the usages that it
--- names, and what they share
+-- where they begin, how large and how many they are, the flags of the item, how many usages it
+-- names, those that the fields take, and what they share
 pub record GroupRecord : Type 0 where
   pub beginning : Beginning
   pub extent : Extent
   pub flags : Flags
+  pub named : ℕ
   pub usages : UsageList
   pub shared : Attributes
 
@@ -31,11 +32,16 @@ GroupedReport = ReportOf GroupRecord
 abbrev pub OutlineRecord : Type 0
 OutlineRecord = DescriptorOf GroupRecord
 
--- the usages that an item names, all of them in order; of padding none count
-abbrev pub named_usages : Flags → ItemState → UsageList
-named_usages flags state =
+-- how many of these usages an item with these flags names: padding none
+abbrev pub named_of : Flags → UsageList → ℕ
+named_of flags us = if flags.constant then 0 else length us.usages
+
+-- those that its fields take: an array chooses among all, so many elements of a variable item take
+-- one each as far as there are some, and padding takes none
+abbrev pub taken_of : Flags → ℕ → UsageList → UsageList
+taken_of flags count us =
     if flags.constant then record { usages = []; is_range = false }
-    else list_or_none (usages_of state)
+    else (if flags.variable then record { usages = take count us.usages; is_range = false } else us)
 
 -- the collections that fields carry; padding carries none
 abbrev pub carried : Flags → List CollectionRecord → List CollectionRecord
@@ -48,7 +54,8 @@ group_made state collections number first d flags e = record {
   beginning = record { report_id = state.report_id; number = number; first = first };
   extent = e;
   flags = flags;
-  usages = named_usages flags state;
+  named = named_of flags (list_or_none (usages_of state));
+  usages = taken_of flags e.count (list_or_none (usages_of state));
   shared = attributes state (carried flags collections) d flags;
 }
 

@@ -32,12 +32,13 @@ impl Part for &Group {
     }
 }
 
-/// The groups of the fields that a descriptor announces in a direction (Section 6.2.2.4), in the
-/// order of its reports and of their bits; the directions are those of `hidreport_describe`. Laid
-/// out, they are the fields that it lists.
+/// The groups of the fields that a descriptor announces in a direction (Section 6.2.2.4), one for
+/// each item that makes some, in the order of its reports and of their bits; the directions are those
+/// of `hidreport_describe`. Laid out, they are the fields that it lists.
 ///
-/// No field is listed, so that the memory which is taken is that of the descriptor's items. They are
-/// written, counted and refused as `hidreport_describe` says.
+/// Neither a field nor a field's usage is listed, so that the memory which is taken is that of the
+/// descriptor's items and of the usages of collections. They are written, counted and refused as
+/// `hidreport_describe` says.
 #[unsafe(no_mangle)]
 pub extern "C" fn hidreport_groups(
     alloc: Global,

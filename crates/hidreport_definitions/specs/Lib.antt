@@ -1,4 +1,5 @@
 pub mod Cut
+pub mod Grouped
 pub mod Hex
 pub mod Lookups
 pub mod Mouse

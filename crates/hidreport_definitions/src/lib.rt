@@ -15,6 +15,7 @@ pub mod faults;
 pub mod filling;
 pub mod finding;
 pub mod grammar_faults;
+pub mod groups;
 pub mod host_spans;
 pub mod host_usages;
 pub mod item_answers;

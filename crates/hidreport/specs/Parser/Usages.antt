@@ -29,16 +29,11 @@ ranged bounds = record { usages = between bounds; is_range = true }
 abbrev pub singles : ℕ → List LocalUsage → UsageList
 singles page us = record { usages = map (usage_under page) us; is_range = false }
 
--- single ones that count up
-abbrev pub counting : UsageBounds → UsageList
-counting bounds = record { usages = between bounds; is_range = false }
-
 abbrev pub spanned : List UsageSpan → UsageList
 spanned ss = record { usages = flat_map span_usages ss; is_range = false }
 
 abbrev pub usage_list : Usages → UsageList
 usage_list (usages.Range bounds) = ranged bounds
-usage_list (usages.Counting bounds) = counting bounds
 usage_list (usages.Single page us) = singles page us.now
 usage_list (usages.Spans ss) = spanned ss.now
 
@@ -57,7 +52,5 @@ usages_fault flags state = if flags.constant then None else needed_usages_fault 
 
 -- the usages of a data item that needs some; padding needs none
 abbrev pub HasUsages : Flags → ItemState → Usages → Type 0
-HasUsages flags state us =
-    (flags.constant ≡ true → usage_list us ≡ record { usages = []; is_range = false })
-    × (flags.constant ≡ false
-    → (usages_of state ≡ Ok (usage_list us)) × (0 < length (usage_list us).usages))
+HasUsages flags state us = flags.constant ≡ false
+    → (usages_of state ≡ Ok (usage_list us)) × (0 < length (usage_list us).usages)

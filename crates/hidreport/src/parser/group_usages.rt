@@ -1,5 +1,6 @@
 //! The usages of an item, which outlast its locals (Section 6.2.2.8).
-ghost use Rattle.std.specs.Prelude.{◌≡◌, IfOk};
+ghost use Rattle.std.specs.Prelude.{◌≡◌, IfOk, map, take};
+ghost use Rattle.hidreport.specs.Parser.Locals.{usage_under};
 
 use crate::parser::host_usages;
 use crate::parser::layout::Layout;
@@ -11,54 +12,89 @@ use hidreport_fields::{Field, Usage};
 use hidreport_types::UsagePage;
 use std::alloc::{AllocError, Global};
 
-/// The usages that an item names: those of ranges aren't listed, however many they are.
+/// How many spans are kept as they are, however few usages are taken.
+const FEW_SPANS: usize = 8;
+
+/// The usages that the fields of an item take: no more than these, however many are in force.
 #[derive(Drop)]
 pub(crate) enum GroupUsages {
-    /// From a minimum to a maximum.
+    /// From a minimum to a maximum, not listed.
     Range(UsageBounds),
-
-    /// Single ones that count up on one page.
-    Counting(UsageBounds),
 
     /// Single ones; one without its own page lies on this one.
     Single(UsagePage, Vec<LocalUsage>),
 
-    /// As hosts read them: those of spans, one after the other.
+    /// As hosts read them: those of spans, not listed.
     Spans(Vec<UsageSpan>),
 }
 
 impl GroupUsages {
-    ghost use Rattle.std.specs.Prelude.{◌≡◌, ◌++◌, [], IfOk, IfSome, IsNone, OnOk, is_some, length, map, nat_lt, option_map, slice_get};
+    ghost use Rattle.std.specs.Prelude.{◌≡◌, ◌++◌, [], IfOk, IfSome, IsNone, OnOk, is_some, length, map, nat_lt, option_map, false, flat_map, slice_get};
     ghost use Rattle.hidreport.specs.Fields.{usage_at};
-    ghost use Rattle.hidreport.specs.Parser.Groups.{own_usages};
+    ghost use Rattle.hidreport.specs.HostUsages.{span_usages};
+    ghost use Rattle.hidreport.specs.Parser.Groups.{HasFirst, own_usages};
     ghost use Rattle.hidreport.specs.Parser.Layout.{IsPossible, laid_out};
-    ghost use Rattle.hidreport.specs.Parser.Usages.{singles, usage_list};
+    ghost use Rattle.hidreport.specs.Parser.Usages.{usage_list};
     ghost use Rattle.hidreport_fields.specs.Views.{field_record};
 
-    /// All of the usages.
-    pub(crate) fn new(alloc: Global, usages: &Usages) -> Result<GroupUsages, AllocError>
+    /// All of the usages, for an array.
+    pub(crate) fn all(alloc: Global, usages: &Usages) -> Result<GroupUsages, AllocError>
         ensures { IfOk result (λ own. own_usages own ≡ usage_list usages.now) }
     {
         match usages {
             Usages::Range(bounds) => Ok(GroupUsages::Range(*bounds)),
-            Usages::Counting(bounds) => Ok(GroupUsages::Counting(*bounds)),
-            Usages::Single(page, usages) => GroupUsages::single(alloc, *page, usages),
+            Usages::Single(page, usages) => {
+                Ok(GroupUsages::Single(*page, copied(alloc, usages)?))
+            }
             Usages::Spans(spans) => Ok(GroupUsages::Spans(copied(alloc, spans)?)),
         }
     }
 
+    /// The usages that so many fields take, a usage each.
+    pub(crate) fn first(
+        alloc: Global,
+        usages: &Usages,
+        most: usize,
+    ) -> Result<GroupUsages, AllocError>
+        ensures { IfOk result (λ own. HasFirst most (own_usages own) (usage_list usages.now)) }
+    {
+        match usages {
+            Usages::Range(bounds) => Ok(GroupUsages::Range(*bounds)),
+            Usages::Single(page, usages) => {
+                GroupUsages::first_of_single(alloc, *page, front(usages, most))
+            }
+            Usages::Spans(spans) => GroupUsages::first_of_spans(alloc, spans, most),
+        }
+    }
+
     /// Single ones, which take no memory where they count up.
-    fn single(
+    fn first_of_single(
         alloc: Global,
         page: UsagePage,
         usages: &[LocalUsage],
     ) -> Result<GroupUsages, AllocError>
-        ensures { IfOk result (λ own. own_usages own ≡ singles page usages.now) }
+        ensures { IfOk result (λ own. (own_usages own).usages ≡ map (usage_under page) usages.now) }
     {
         match UsageBounds::counting_up(page, usages) {
-            Some(bounds) => Ok(GroupUsages::Counting(bounds)),
+            Some(bounds) => Ok(GroupUsages::Range(bounds)),
             None => Ok(GroupUsages::Single(page, copied(alloc, usages)?)),
         }
+    }
+
+    /// The same of spans, which are listed where there are more of them than usages that are taken.
+    fn first_of_spans(
+        alloc: Global,
+        spans: &[UsageSpan],
+        most: usize,
+    ) -> Result<GroupUsages, AllocError>
+        ensures { IfOk result (λ own. HasFirst most (own_usages own)
+            (record { usages = flat_map span_usages spans.now; is_range = false })) }
+    {
+        if spans.len() <= most.max(FEW_SPANS) {
+            return Ok(GroupUsages::Spans(copied(alloc, spans)?));
+        }
+        let list = host_usages::list_first(alloc, spans, most)?;
+        Ok(GroupUsages::Single(UsagePage::from(0), with_pages(alloc, &list)?))
     }
 
     /// Adds the fields that an item with these usages lays out to those that are there.
@@ -75,9 +111,6 @@ impl GroupUsages {
         match self {
             GroupUsages::Range(bounds) => {
                 layout.add_fields(alloc, &Usages::Range(*bounds), fields)
-            }
-            GroupUsages::Counting(bounds) => {
-                layout.add_fields(alloc, &Usages::Counting(*bounds), fields)
             }
             GroupUsages::Single(page, usages) => {
                 layout.add_fields(alloc, &Usages::Single(*page, usages.as_slice()), fields)
@@ -101,7 +134,6 @@ impl GroupUsages {
     {
         match self {
             GroupUsages::Range(bounds) => layout.field(alloc, &Usages::Range(*bounds), c),
-            GroupUsages::Counting(bounds) => layout.field(alloc, &Usages::Counting(*bounds), c),
             GroupUsages::Single(page, usages) => {
                 layout.field(alloc, &Usages::Single(*page, usages.as_slice()), c)
             }
@@ -117,31 +149,36 @@ impl GroupUsages {
     {
         match self {
             GroupUsages::Range(bounds) => Usages::Range(*bounds).at_if_some(c),
-            GroupUsages::Counting(bounds) => Usages::Counting(*bounds).at_if_some(c),
             GroupUsages::Single(page, usages) => {
                 Usages::Single(*page, usages.as_slice()).at_if_some(c)
             }
             GroupUsages::Spans(spans) => Usages::Spans(spans.as_slice()).at_if_some(c),
         }
     }
+}
 
-    /// How many there are.
-    pub(crate) fn count(&self) -> u128
-        ensures count { result ≡ length (own_usages self.now).usages }
-    {
-        match self {
-            GroupUsages::Range(bounds) => u128::from(bounds.count()),
-            GroupUsages::Counting(bounds) => u128::from(bounds.count()),
-            GroupUsages::Single(_, usages) => usages.len() as u128,
-            GroupUsages::Spans(spans) => host_usages::count(spans),
-        }
+/// Usages as local items with pages of their own.
+fn with_pages(alloc: Global, usages: &[Usage]) -> Result<Vec<LocalUsage>, AllocError>
+    ensures { IfOk result (λ list. map (usage_under 0) list.items ≡ usages.now) }
+{
+    let mut list = Vec::with_capacity(alloc, usages.len())?;
+    for usage in usages {
+        list.push_reserved(LocalUsage {
+            page: Some(usage.usage_page),
+            id: usage.usage_id,
+        });
     }
+    Ok(list)
+}
 
-    /// Whether they are those of a minimum and a maximum.
-    pub(crate) fn is_range(&self) -> bool
-        ensures { result ≡ (own_usages self.now).is_range }
-    {
-        matches!(self, GroupUsages::Range(_))
+/// The first of these, so many, or all where there are fewer.
+fn front(usages: &[LocalUsage], most: usize) -> &[LocalUsage]
+    ensures { result.now ≡ take most usages.now }
+{
+    if most < usages.len() {
+        usages.split_at(most).0
+    } else {
+        usages
     }
 }
 

@@ -29,10 +29,10 @@ pub(crate) struct Layout {
 
 impl Layout {
     ghost use Rattle.std.specs.Arc.{arc_slice_items};
-    ghost use Rattle.std.specs.Prelude.{◌≡◌, ◌+◌, ◌++◌, ◌*◌, ◌<◌, ◌≤◌, ◌^◌, [], false, Some, length, IfOk, OnOk, map, option_map, slice_get};
+    ghost use Rattle.std.specs.Prelude.{◌≡◌, ◌+◌, ◌++◌, ◌*◌, ◌<◌, ◌≤◌, ◌^◌, ℕ, [], false, Some, length, IfOk, OnOk, map, option_map, slice_get};
     ghost use Rattle.hidreport.specs.Fields.{each_from, make_place};
     ghost use Rattle.hidreport_fields.specs.ItemParts.{field_count};
-    ghost use Rattle.hidreport.specs.Parser.Groups.{group_of};
+    ghost use Rattle.hidreport.specs.Parser.Groups.{group_by};
     ghost use Rattle.hidreport.specs.Usages.{UsageList};
     ghost use Rattle.hidreport.specs.Parser.Layout.{IsPossible, beginning_of, laid_out, shared_list, shared_of, variable_of, variable_with};
     ghost use Rattle.hidreport.specs.Parser.Usages.{usage_list};
@@ -41,8 +41,8 @@ impl Layout {
 
     /// The same once more, in the same collections.
     pub(crate) fn copy(&self) -> Result<Layout, AllocError>
-        ensures laid { IfOk result (λ layout. (us : UsageList)
-            → group_of layout us ≡ group_of self.now us) }
+        ensures laid { IfOk result (λ layout. (named : ℕ) → (us : UsageList)
+            → group_by layout named us ≡ group_by self.now named us) }
         ensures possible { IfOk result (λ layout. (us : UsageList)
             → IsPossible self.now us → IsPossible layout us) }
     {

@@ -60,7 +60,6 @@ impl OpenCollection {
     {
         let usages = match usages {
             Usages::Range(bounds) => OpenUsages::Waiting(*bounds),
-            Usages::Counting(bounds) => OpenUsages::Waiting(*bounds),
             Usages::Single(page, [usage]) => {
                 OpenUsages::Listed(CollectionUsages::One(usage.under(*page)))
             }

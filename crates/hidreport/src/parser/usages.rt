@@ -29,9 +29,6 @@ pub(crate) enum Usages<'a> {
     /// From a minimum to a maximum.
     Range(UsageBounds),
 
-    /// Single ones that count up on one page.
-    Counting(UsageBounds),
-
     /// Single ones; one without its own page lies on this one.
     Single(UsagePage, &'a [LocalUsage]),
 
@@ -45,10 +42,8 @@ impl<'a> Usages<'a> {
     ghost use Rattle.hidreport.specs.Parser.Usages.{usage_list};
 
     /// None at all.
-    pub(crate) fn none() -> Usages<'a>
-        ensures { usage_list result ≡ record { usages = []; is_range = false } }
-    {
-        Usages::Counting(UsageBounds {
+    pub(crate) fn none() -> Usages<'a> {
+        Usages::Range(UsageBounds {
             page: UsagePage::from(0),
             minimum: 1,
             maximum: 0,
@@ -62,7 +57,6 @@ impl<'a> Usages<'a> {
     {
         match self {
             Usages::Range(bounds) => u128::from(bounds.count()),
-            Usages::Counting(bounds) => u128::from(bounds.count()),
             Usages::Single(_, usages) => usages.len() as u128,
             Usages::Spans(spans) => host_usages::count(spans),
         }
@@ -82,7 +76,6 @@ impl<'a> Usages<'a> {
     {
         match self {
             Usages::Range(bounds) => bounds.at(c),
-            Usages::Counting(bounds) => bounds.at(c),
             Usages::Single(page, usages) => single_at(*page, usages, c),
             Usages::Spans(spans) => host_usages::usage_at(spans, c),
         }
@@ -124,7 +117,6 @@ impl<'a> Usages<'a> {
     {
         match self {
             Usages::Range(bounds) => bounds.list(alloc),
-            Usages::Counting(bounds) => bounds.list(alloc),
             Usages::Single(page, usages) => single_list(alloc, *page, usages),
             Usages::Spans(spans) => host_usages::list(alloc, spans),
         }

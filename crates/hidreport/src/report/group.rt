@@ -1,4 +1,10 @@
 //! The fields of one main item (Section 6.2.2.4).
+ghost use Rattle.std.specs.Prelude.{◌≡◌, IfOk};
+ghost use Rattle.hidreport.specs.Groups.{named_of, taken_of};
+ghost use Rattle.hidreport.specs.Parser.Groups.{own_usages};
+ghost use Rattle.hidreport.specs.Parser.Layout.{IsPossible};
+ghost use Rattle.hidreport.specs.Parser.Usages.{usage_list};
+
 use crate::parser::group_usages::GroupUsages;
 use crate::parser::layout::Layout;
 use crate::parser::usages::Usages;
@@ -18,16 +24,17 @@ use std::ops::Range;
 pub struct Group {
     layout: Layout,
     usages: GroupUsages,
+    named: u128,
 }
 
 impl Model for Group {
     ghost use Rattle.hidreport.specs.Groups.{GroupRecord};
-    ghost use Rattle.hidreport.specs.Parser.Groups.{group_of, own_usages};
+    ghost use Rattle.hidreport.specs.Parser.Groups.{group_by, own_usages};
     ghost use Rattle.hidreport.specs.Parser.Layout.{IsPossible};
 
     ghost Value = { GroupRecord };
 
-    ghost view = { λ g. group_of g.layout (own_usages g.usages) };
+    ghost view = { λ g. group_by g.layout g.named (own_usages g.usages) };
 
     ghost invariant = { λ g. IsPossible g.layout (own_usages g.usages) };
 }
@@ -42,15 +49,17 @@ impl Group {
     ghost use Rattle.hidreport.specs.Parser.Usages.{usage_list};
     ghost use Rattle.hidreport_fields.specs.Views.{field_record};
 
-    /// The fields that are laid out so, with all of these usages.
+    /// The fields that are laid out so, of an item with these usages.
     pub(crate) fn new(alloc: Global, layout: &Layout, usages: &Usages) -> Result<Group, AllocError>
         requires possible { IsPossible layout.now (usage_list usages.now) }
         ensures { IfOk result (λ group. group ≡ group_of layout.now (usage_list usages.now)) }
     {
-        let usages = GroupUsages::new(alloc, usages)?;
+        let named = named_by(layout, usages);
+        let usages = usages_for(alloc, layout, usages)?;
         Ok(Group {
             layout: layout.copy()?,
             usages,
+            named,
         })
     }
 
@@ -161,34 +170,23 @@ impl Group {
         ensures none { IsNone result → self.now.usages.usages ≡ [] }
         ensures there { is_some result ≡ nat_lt 0 (length self.now.usages.usages) }
     {
-        self.usages.at(index)
-    }
-
-    /// How many usages the item names (Section 6.2.2.8), listed or not; padding names none.
-    ///
-    /// A variable item may name more than it has fields.
-    pub fn usage_count(&self) -> u128
-        ensures { result ≡ length self.now.usages.usages }
-    {
-        self.usages.count()
-    }
-
-    /// Usage number `index` that the item names, counted from 0 (Section 6.2.2.8); `None` where it
-    /// names no more.
-    pub fn named_usage(&self, index: usize) -> Option<Usage>
-        ensures { result ≡ slice_get self.now.usages.usages index }
-    {
-        if index as u128 >= self.usages.count() {
+        let Group { layout, usages, .. } = self;
+        if layout.item.flags.is_constant {
             return None;
         }
-        self.usages.at(index)
+        if layout.item.flags.is_variable {
+            let last = layout.count.checked_sub(1)?;
+            return usages.at(index.min(last));
+        }
+        usages.at(index)
     }
 
-    /// Whether a minimum and a maximum name the usages (Section 6.2.2.8).
-    pub fn is_usage_range(&self) -> bool
-        ensures { result ≡ self.now.usages.is_range }
+    /// How many usages the item names (Section 6.2.2.8): of a variable item also those behind the
+    /// fields' own; padding names none.
+    pub fn usage_count(&self) -> u128
+        ensures { result ≡ self.now.named }
     {
-        self.usages.is_range()
+        self.named
     }
 
     /// The least value (Section 6.2.2.7); values are signed where it is below 0.
@@ -244,6 +242,35 @@ impl Group {
             None => &[],
         }
     }
+}
+
+/// How many of these usages an item names: padding none.
+fn named_by(layout: &Layout, usages: &Usages) -> u128
+    ensures { result ≡ named_of layout.now.item.flags (usage_list usages.now) }
+{
+    if layout.item.flags.is_constant {
+        0
+    } else {
+        usages.count()
+    }
+}
+
+/// The usages that the fields of an item take, of those in force: a variable item's take one each.
+fn usages_for(alloc: Global, layout: &Layout, usages: &Usages) -> Result<GroupUsages, AllocError>
+    requires possible { IsPossible layout.now (usage_list usages.now) }
+    ensures taken { IfOk result (λ own.
+        taken_of layout.now.item.flags layout.now.count (own_usages own)
+        ≡ taken_of layout.now.item.flags layout.now.count (usage_list usages.now)) }
+    ensures possible { IfOk result (λ own. IsPossible layout.now (own_usages own)) }
+{
+    if layout.item.flags.is_constant {
+        return GroupUsages::all(alloc, usages);
+    }
+    if layout.item.flags.is_variable {
+        let first = GroupUsages::first(alloc, usages, layout.count.max(1))?;
+        return Ok(first);
+    }
+    GroupUsages::all(alloc, usages)
 }
 
 impl FieldAttributes for Group {

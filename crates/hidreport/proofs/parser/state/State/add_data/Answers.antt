@@ -4,7 +4,7 @@ use Rattle.hidreport.specs.Parser.Budget.{is_past, left_behind, weight_in}
 use Rattle.hidreport_fields.specs.DataItem.{as_item, item_with}
 use Rattle.hidreport.specs.Parser.ItemStates.{item_state_of}
 use Rattle.hidreport_fields.specs.ItemParts.{attributes_with}
-use Rattle.hidreport.specs.Groups.{listed}
+use Rattle.hidreport.specs.Groups.{listed, named_of, taken_of}
 use Rattle.hidreport_fields.specs.declared.field.measures.Measures.{Measures}
 use Rattle.hidreport.specs.Parser.Layout.{shared_list}
 use Rattle.hidreport.specs.Parser.Usages.{usage_list}
@@ -53,7 +53,8 @@ returns-clause-held c =
       };
       extent = c.in-Some.extent;
       flags = x.flags;
-      usages = usage_list c.in-Ok.usages;
+      named = named_of x.flags (usage_list c.in-Ok.usages);
+      usages = taken_of x.flags c.in-Some.extent.count (usage_list c.in-Ok.usages);
       shared = attributes_with x.direction x.flags m cs;
     } ∷ []) (reports_of x.direction s.reports)) s.reports in
     subst (λ (z : StateRecord). new ≡ record z {
