@@ -1,3 +1,4 @@
+pub mod DeviceLemmas
 pub mod AxisLemmas
 pub mod ClaimLemmas
 pub mod GivenLemmas
