@@ -46,7 +46,8 @@ impl LinuxCopy {
             copy = repair(alloc, &sized, options)?.bytes;
         }
         let arrays = with_arrays(alloc, &copy)?;
-        let settings = Settings { parse, ..*settings };
+        let mut settings = *settings;
+        settings.parse = parse;
         Ok(LinuxCopy {
             outline: Outline::try_from_with(alloc, &copy, parse)?,
             named: parsed(alloc, &settings, &arrays)?,

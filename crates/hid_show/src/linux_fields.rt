@@ -49,10 +49,9 @@ pub fn show_linux<R: World>(rt: &R, settings: &Settings, file: &str) -> Result<E
 
 /// The same options, by which a descriptor isn't mended when it is read.
 fn unmended<'a>(settings: &Settings<'a>) -> Settings<'a> {
-    Settings {
-        read_as: None,
-        ..*settings
-    }
+    let mut own = *settings;
+    own.read_as = None;
+    own
 }
 
 /// Says why no codes are known, and which driver takes the device.
