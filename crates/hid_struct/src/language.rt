@@ -1,0 +1,107 @@
+//! The languages that structs are written in.
+use crate::part::{MemberPart, ReportPart, Shape};
+use crate::{c, javascript, python, rust};
+use std::alloc::AllocError;
+use std::fmt::Write;
+
+/// A language that structs are written in.
+#[derive(Clone, Copy, PartialEq)]
+pub enum Language {
+    /// C.
+    C,
+
+    /// Rust.
+    Rust,
+
+    /// Python.
+    Python,
+
+    /// JavaScript.
+    JavaScript,
+}
+
+/// The words of the languages.
+pub static LANGUAGES: [&str; 4] = ["c", "rust", "python", "javascript"];
+
+impl Language {
+    /// The language of a word; C where none is told.
+    pub fn named(word: Option<&str>) -> Language {
+        match word {
+            Some("rust") => Language::Rust,
+            Some("python") => Language::Python,
+            Some("javascript") => Language::JavaScript,
+            _ => Language::C,
+        }
+    }
+
+    /// What stands before all reports.
+    pub fn head(self) -> &'static str {
+        match self {
+            Language::C => c::HEAD,
+            Language::Rust => rust::HEAD,
+            Language::Python => python::HEAD,
+            Language::JavaScript => javascript::HEAD,
+        }
+    }
+
+    /// The text of a report's part.
+    pub fn report_text(self, part: ReportPart) -> &'static str {
+        match self {
+            Language::C => c::report_text(part),
+            Language::Rust => rust::report_text(part),
+            Language::Python => python::report_text(part),
+            Language::JavaScript => javascript::report_text(part),
+        }
+    }
+
+    /// The text of a member's part.
+    pub fn member_text(self, part: MemberPart, shape: Shape) -> &'static str {
+        match self {
+            Language::C => c::member_text(part, shape),
+            Language::Rust => rust::member_text(part, shape),
+            Language::Python => python::member_text(part, shape),
+            Language::JavaScript => javascript::member_text(part, shape),
+        }
+    }
+
+    /// Whether an identifier is a word that means something else where a member's name stands.
+    pub fn has_word(self, name: &str) -> bool {
+        let words = match self {
+            Language::C => c::WORDS,
+            Language::Rust => rust::WORDS,
+            Language::Python => python::WORDS,
+            Language::JavaScript => javascript::WORDS,
+        };
+        words.split_whitespace().any(|word| word == name)
+    }
+
+    /// What a remark's first line begins with, what those behind it do, and its end.
+    pub fn remark_marks(self) -> (&'static str, &'static str, &'static str) {
+        match self {
+            Language::C => ("/* ", "   ", " */"),
+            Language::Rust => ("/// ", "/// ", ""),
+            Language::Python => ("# ", "# ", ""),
+            Language::JavaScript => ("// ", "// ", ""),
+        }
+    }
+
+    /// Whether a number has a type of so many bits, which can't hold another one.
+    pub fn has_widths(self) -> bool {
+        matches!(self, Language::C | Language::Rust)
+    }
+
+    /// Appends the type of a number of 8, 16, 32 or 64 bits.
+    pub fn add_type(
+        self,
+        text: &mut String,
+        bits: usize,
+        is_signed: bool,
+    ) -> Result<(), AllocError> {
+        match (self, is_signed) {
+            (Language::C, false) => write!(text, "uint{bits}_t"),
+            (Language::C, true) => write!(text, "int{bits}_t"),
+            (_, false) => write!(text, "u{bits}"),
+            (_, true) => write!(text, "i{bits}"),
+        }
+    }
+}

@@ -1,0 +1,204 @@
+//! The struct of a report: its members, its constants, and the functions that read and write it.
+use crate::identifier::add_capitals;
+use crate::language::Language;
+use crate::member::{Member, members_of};
+use crate::part::{MemberPart, ReportPart};
+use crate::remark::add_remark;
+use anyhow::Result;
+use hid_output::flush_piece;
+use hid_report::add_head;
+use hid_words::word_of;
+use hidreport::{Direction, RDescReport, Report, ReportId};
+use std::alloc::{AllocError, Global};
+use std::fmt::Write;
+
+/// How far a member is indented.
+const INDENT: usize = 4;
+
+/// A report with the members of its struct.
+#[derive(Drop)]
+pub struct ReportStruct<'a> {
+    language: Language,
+    direction: Direction,
+    report: &'a RDescReport,
+    members: Vec<Member<'a>>,
+}
+
+impl<'a> ReportStruct<'a> {
+    /// That of a report.
+    pub fn of(
+        alloc: Global,
+        language: Language,
+        direction: Direction,
+        report: &'a RDescReport,
+    ) -> Result<ReportStruct<'a>, AllocError> {
+        Ok(ReportStruct {
+            language,
+            direction,
+            report,
+            members: members_of(alloc, language, report)?,
+        })
+    }
+
+    /// Writes it.
+    pub fn write<R: AllocGlobal + Print>(&self, rt: &R, text: &mut String) -> Result<()> {
+        text.push_str("\n")?;
+        self.add_title(text)?;
+        if self.members.is_empty() {
+            return Ok(());
+        }
+        self.add(text, ReportPart::Open)?;
+        self.write_members(rt, text, MemberPart::Declared)?;
+        self.add(text, ReportPart::Size)?;
+        self.add_of_id(text, ReportPart::Id)?;
+        self.write_members(rt, text, MemberPart::Places)?;
+        self.add(text, ReportPart::Decode)?;
+        self.add_of_id(text, ReportPart::IdTest)?;
+        self.add(text, ReportPart::Values)?;
+        self.write_members(rt, text, MemberPart::Read)?;
+        self.add(text, ReportPart::Encode)?;
+        self.write_members(rt, text, MemberPart::Checked)?;
+        self.add(text, ReportPart::Blank)?;
+        self.add_of_id(text, ReportPart::IdPut)?;
+        self.write_members(rt, text, MemberPart::Written)?;
+        self.add(text, ReportPart::End)?;
+        flush_piece(rt, text)
+    }
+
+    /// The report's id, if it has one.
+    fn id(&self) -> Option<ReportId> {
+        *self.report.report_id()
+    }
+
+    /// Appends a remark that names the report.
+    fn add_title(&self, text: &mut String) -> Result<(), AllocError> {
+        let mut words = String::new(*text.allocator());
+        add_head(&mut words, self.direction, self.report)?;
+        if self.members.is_empty() {
+            words.push_str("has no values, so it has no struct")?;
+        }
+        add_remark(text, self.language, 0, words.as_str())
+    }
+
+    /// Appends a part.
+    fn add(&self, text: &mut String, part: ReportPart) -> Result<(), AllocError> {
+        self.add_filled(text, self.language.report_text(part), None)
+    }
+
+    /// Appends a part where the report has an id.
+    fn add_of_id(&self, text: &mut String, part: ReportPart) -> Result<(), AllocError> {
+        match self.id() {
+            Some(_id) => self.add(text, part),
+            None => Ok(()),
+        }
+    }
+
+    /// Writes a part of each member that has it.
+    fn write_members<R: AllocGlobal + Print>(
+        &self,
+        rt: &R,
+        text: &mut String,
+        part: MemberPart,
+    ) -> Result<()> {
+        for member in self.members.iter() {
+            match part {
+                MemberPart::Checked if member.is_full(self.language) => continue,
+                MemberPart::Declared => {
+                    let words = member.words(rt.alloc())?;
+                    add_remark(text, self.language, INDENT, words.as_str())?;
+                }
+                _ => {}
+            }
+            let wanted = self.language.member_text(part, member.shape);
+            self.add_filled(text, wanted, Some(member))?;
+            flush_piece(rt, text)?;
+        }
+        Ok(())
+    }
+
+    /// Appends a text, with what its words behind `$` stand for.
+    fn add_filled(
+        &self,
+        text: &mut String,
+        wanted: &str,
+        member: Option<&Member>,
+    ) -> Result<(), AllocError> {
+        for (index, piece) in wanted.split("$").enumerate() {
+            if index == 0 {
+                text.push_str(piece)?;
+                continue;
+            }
+            let (word, rest) = word_and_rest(piece);
+            let is_members = match member {
+                Some(member) => member.add_word(text, self.language, word)?,
+                None => false,
+            };
+            if !is_members {
+                self.add_word(text, word)?;
+            }
+            text.push_str(rest)?;
+        }
+        Ok(())
+    }
+
+    /// Appends what a word of a text stands for.
+    fn add_word(&self, text: &mut String, word: &str) -> Result<(), AllocError> {
+        match word {
+            "report" => self.add_name(text),
+            "REPORT" => {
+                let mut name = String::new(*text.allocator());
+                self.add_name(&mut name)?;
+                add_capitals(text, name.as_str())
+            }
+            "Report" => self.add_class(text),
+            "size" => {
+                let size = self.report.size_in_bytes();
+                write!(text, "{size}")
+            }
+            "id" => self.add_id(text),
+            _ => {
+                text.push('$')?;
+                text.push_str(word)
+            }
+        }
+    }
+
+    /// Appends the name of the struct, as `input_report_3`.
+    fn add_name(&self, text: &mut String) -> Result<(), AllocError> {
+        text.push_str(word_of(self.direction))?;
+        text.push_str("_report")?;
+        if self.id().is_some() {
+            text.push('_')?;
+        }
+        self.add_id(text)
+    }
+
+    /// Appends the name of the class, as `InputReport3`.
+    fn add_class(&self, text: &mut String) -> Result<(), AllocError> {
+        text.push_str(match self.direction {
+            Direction::Input => "InputReport",
+            Direction::Output => "OutputReport",
+            Direction::Feature => "FeatureReport",
+        })?;
+        self.add_id(text)
+    }
+
+    /// Appends the report's id, if it has one.
+    fn add_id(&self, text: &mut String) -> Result<(), AllocError> {
+        match self.id() {
+            Some(id) => write!(text, "{id}"),
+            None => Ok(()),
+        }
+    }
+}
+
+/// The letters that a text begins with, and what stands behind them.
+fn word_and_rest(text: &str) -> (&str, &str) {
+    for (place, letter) in text.char_indices() {
+        if !letter.is_ascii_alphabetic() {
+            let word = text.get(..place).unwrap_or("");
+            return (word, text.get(place..).unwrap_or(""));
+        }
+    }
+    (text, "")
+}
