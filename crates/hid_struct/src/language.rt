@@ -75,13 +75,21 @@ impl Language {
         words.split_whitespace().any(|word| word == name)
     }
 
-    /// What a remark's first line begins with, what those behind it do, and its end.
+    /// What the first line of a remark on what follows begins with, what the lines behind it do, and
+    /// its end.
     pub fn remark_marks(self) -> (&'static str, &'static str, &'static str) {
         match self {
-            Language::C => ("/* ", "   ", " */"),
             Language::Rust => ("/// ", "/// ", ""),
+            _ => self.note_marks(),
+        }
+    }
+
+    /// The same of a remark that stands alone.
+    pub fn note_marks(self) -> (&'static str, &'static str, &'static str) {
+        match self {
+            Language::C => ("/* ", "   ", " */"),
             Language::Python => ("# ", "# ", ""),
-            Language::JavaScript => ("// ", "// ", ""),
+            Language::Rust | Language::JavaScript => ("// ", "// ", ""),
         }
     }
 

@@ -6,15 +6,30 @@ use std::alloc::AllocError;
 /// The columns of a line.
 const COLUMNS: usize = 100;
 
-/// Appends words as a remark behind so many spaces, in lines of a hundred columns. The words are of
-/// tables and numbers, which end no remark.
+/// Appends words as a remark on what follows, behind so many spaces. The words are of tables and
+/// numbers, which end no remark.
 pub fn add_remark(
     text: &mut String,
     language: Language,
     indent: usize,
     words: &str,
 ) -> Result<(), AllocError> {
-    let (first, next, end) = language.remark_marks();
+    add_lines(text, language.remark_marks(), indent, words)
+}
+
+/// Appends words as a remark that stands alone.
+pub fn add_note(text: &mut String, language: Language, words: &str) -> Result<(), AllocError> {
+    add_lines(text, language.note_marks(), 0, words)
+}
+
+/// Appends words between marks, in lines of a hundred columns.
+fn add_lines(
+    text: &mut String,
+    marks: (&str, &str, &str),
+    indent: usize,
+    words: &str,
+) -> Result<(), AllocError> {
+    let (first, next, end) = marks;
     add_spaces(text, indent)?;
     text.push_str(first)?;
     let mut start = text.len();

@@ -3,7 +3,7 @@ use crate::identifier::add_capitals;
 use crate::language::Language;
 use crate::member::{Member, members_of};
 use crate::part::{MemberPart, ReportPart};
-use crate::remark::add_remark;
+use crate::remark::{add_note, add_remark};
 use anyhow::Result;
 use hid_output::flush_piece;
 use hid_report::add_head;
@@ -75,7 +75,8 @@ impl<'a> ReportStruct<'a> {
         let mut words = String::new(*text.allocator());
         add_head(&mut words, self.direction, self.report)?;
         if self.members.is_empty() {
-            words.push_str("has no values, so it has no struct")?;
+            words.push_str("of padding, so it has no struct")?;
+            return add_note(text, self.language, words.as_str());
         }
         add_remark(text, self.language, 0, words.as_str())
     }

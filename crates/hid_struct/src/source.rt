@@ -1,6 +1,6 @@
 //! `hid struct`: a struct for each report, with functions that read and write it.
 use crate::language::Language;
-use crate::remark::add_remark;
+use crate::remark::add_note;
 use crate::report_struct::ReportStruct;
 use anyhow::{Result, bail};
 use hid_input::parsing::descriptor_by;
@@ -36,12 +36,7 @@ impl<'a> Struct<'a> {
         }
         if !is_any {
             text.push_str("\n")?;
-            add_remark(
-                &mut text,
-                self.language,
-                0,
-                "The descriptor has no reports.",
-            )?;
+            add_note(&mut text, self.language, "The descriptor has no reports.")?;
         }
         flush(rt, &mut text)?;
         Ok(Ending::Done)

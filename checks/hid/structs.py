@@ -1,0 +1,267 @@
+#!/usr/bin/env python3
+"""What `hid struct` writes reads and writes reports as `hid values` reads them.
+
+structs.py PROGRAM: the descriptors are on standard input, the digits of one in each line. Each is read
+by the standard's letter. Of each report 20 are asked (2 of a great one): bytes at random, all 0 and all 1.
+Each of the four languages reads them, and the values are those of `hid values --json`, and those of the
+bits that `hid fields --json` tells; written again, they are the bytes with padding of 0. Too few bytes,
+another id, too little room and values past a field's room are refused, and nothing is written then. Then
+what is written is spoilt here, and has to be noticed. All sources of a language are one program
+(struct_programs.py); one without its compiler is left out.
+"""
+import json
+import multiprocessing
+import os
+import random
+import re
+import subprocess
+import sys
+import tempfile
+
+from struct_programs import LANGUAGES, PYTHON
+
+ASKED = 20
+GREAT = 1024
+WIDEST = 64
+WIDEST_TOLD = 32
+
+
+def made():
+    """Descriptors with fields of all widths, at odd bits, of both signs, alone, side by side, as arrays."""
+    for low in '1500', '1581':
+        fields = ''.join(f'75{width:02x}0930950181020931950281021901290a95028100'
+                         for width in (1, 5, 8, 11, 33, 61, 64, 70))
+        yield f'85070501{low}257f750395010900810275050930950381020931{fields}'
+    widths = [*range(1, 75), 127, 128, 129]
+    for low in '1500', '1581':
+        for count in 1, 2, 3:
+            fields = ''.join(f'75{width:02x}09{width:02x}95{count:02x}8102' for width in widths)
+            yield f'0501{low}257f750309a09501810275050930950381020931{fields}'
+            arrays = ''.join(f'75{width:02x}1901290a95{count:02x}9100' for width in widths)
+            yield f'8507050909{count:02x}{low}257f750395019102{arrays}'
+
+
+MADE = list(made())
+SPOILT = 2
+
+program = None
+
+
+class Value:
+    """A value of a report: its first bit, its width, whether it may be below 0, and its place."""
+
+    def __init__(self, start, width, is_signed):
+        self.start, self.width, self.is_signed = start, width, is_signed
+
+    def of(self, number):
+        """What a report says, as a number or, of more than 64 bits, as digits."""
+        value = number >> self.start & (1 << self.width) - 1
+        if self.width > WIDEST:
+            return value.to_bytes((self.width + 7) // 8, 'little').hex()
+        return value - (1 << self.width) if self.is_signed and value >> self.width - 1 else value
+
+
+class Report:
+    """A report that has values, and the bytes that are asked."""
+
+    def __init__(self, direction, number):
+        self.direction, self.id, self.values = direction, number, []
+
+    def add(self, field):
+        """Takes the values of a field as JSON tells it."""
+        count = field.get('count', 1)
+        width = (field['end'] - field['start']) // count
+        if width > WIDEST:
+            count, width = 1, field['end'] - field['start']
+        self.values += [Value(field['start'] + at * width, width, field['logical_minimum'] < 0)
+                        for at in range(count)]
+
+    def ask(self, size, chance):
+        """Chooses the bytes."""
+        self.size = size
+        count = ASKED if size <= GREAT else 2
+        self.asked = [bytes(size), b'\xff' * size] + [chance.randbytes(size) for _ in range(count - 2)]
+        if self.id is not None:
+            self.asked = [bytes([self.id]) + it[1:] for it in self.asked]
+
+    def answer(self, data):
+        """What a program has to say of bytes: the values, and the bytes that it writes again."""
+        number = int.from_bytes(data, 'little')
+        bits = 0 if self.id is None else 0xff
+        for value in self.values:
+            bits |= (1 << value.width) - 1 << value.start
+        values = ' '.join(str(it.of(number)) for it in self.values)
+        return f"{values} = {(number & bits).to_bytes(self.size, 'little').hex()}"
+
+
+class Unit:
+    """A descriptor: what is written of it in each language, and its reports."""
+
+    def __init__(self, digits, texts, reports):
+        self.digits, self.texts, self.reports = digits, texts, reports
+
+
+def hid(words, given):
+    """What the program writes; none where it refuses."""
+    words = [program, '--as', 'standard', '--limit', '4096', *words]
+    ran = subprocess.run(words, input=given.encode(), capture_output=True, check=False)
+    if ran.returncode > 1:
+        sys.exit(f'hid_structs: {words} ends with {ran.returncode}')
+    return ran.stdout.decode() if ran.returncode == 0 else None
+
+
+def reports_of(digits, text):
+    """The reports with values, whose sizes the text for Python has."""
+    reports = {}
+    for line in hid(['--json', 'fields', '--form', 'hex', '-'], digits).splitlines():
+        field = json.loads(line)
+        if field['kind'] != 'padding':
+            key = field['direction'], field['report']
+            reports.setdefault(key, Report(*key)).add(field)
+    chance = random.Random(digits)
+    sizes = re.findall(r'^class (Input|Output|Feature)Report(\d*):.*?^    SIZE = (\d+)$', text, re.M | re.S)
+    for direction, number, size in sizes:
+        reports[direction.lower(), int(number) if number else None].ask(int(size), chance)
+    return list(reports.values())
+
+
+def told(digits, reports):
+    """What is wrong where `hid values` says of the bytes something else than their bits, and how many
+    values it says. What it reads as another report, since that has no id, is left out."""
+    count = 0
+    for direction in sorted({it.direction for it in reports}):
+        asked = [(it, data) for it in reports if it.direction == direction for data in it.asked]
+        given = recording([bytes.fromhex(digits)], 'R: ') + recording([data for _, data in asked], 'E: {}.0 ')
+        words = ['--json', 'values', '--times', '--direction', direction, '--form', 'recorder', '-']
+        said = {}
+        for line in (hid(words, given) or '').splitlines():
+            it = json.loads(line)
+            said.setdefault(int(it['time'].split('.')[0]), []).append(it)
+        for number, (report, data) in enumerate(asked):
+            objects = said.get(number, [])
+            if any(it['report'] != report.id for it in objects):
+                continue
+            values = int.from_bytes(data, 'little')
+            wanted = {it.start: it.of(values) for it in report.values if it.width <= WIDEST_TOLD}
+            got = dict(flat(objects))
+            if got != wanted:
+                return f'{digits}: {direction} {data.hex()}: {got} is told, not {wanted}', count
+            count += len(got)
+    return '', count
+
+
+def recording(lists, mark):
+    """Lists of bytes as lines of hid-recorder."""
+    return ''.join(f"{mark.format(at)}{len(it)} {it.hex(' ')}\n" for at, it in enumerate(lists))
+
+
+def flat(objects):
+    """The first bits of the values of objects that are numbers, and these."""
+    for it in objects:
+        for part in it.get('elements', [it]):
+            if part['value'] is not None:
+                yield part['start'], part['value']
+
+
+def written(digits, language):
+    """The source of a descriptor in a language; none where it is refused."""
+    return hid(['struct', '--to', language.word, '--form', 'hex', '-'], digits)
+
+
+def unit_of(digits):
+    """The unit of a descriptor that is read; what is wrong; how many values are told."""
+    texts = [written(digits, it) for it in LANGUAGES]
+    reports = reports_of(digits, texts[LANGUAGES.index(PYTHON)])
+    fault, count = told(digits, reports)
+    return Unit(digits, texts, reports), fault, count
+
+
+def questions(units):
+    """What is asked of each language, with the answers: of a report's number the bytes."""
+    asked, number = [], 0
+    for unit in units:
+        for report in unit.reports:
+            for data in report.asked:
+                asked.append((f'{number} {data.hex()}', report.answer(data)))
+            data = report.asked[-1]
+            asked.append((f'{number} {data.hex()}0102', report.answer(data)))
+            asked.append((f'{number} {data[:-1].hex()}', 'refused'))
+            if report.id is not None:
+                asked.append((f'{number} {bytes([data[0] ^ 1]).hex()}{data[1:].hex()}', 'refused'))
+            number += 1
+    return asked
+
+
+def structs_of(language, place, units):
+    """The structs of all sources in a language."""
+    found = []
+    for number, unit in enumerate(units):
+        own = language.structs(number, unit.texts[place], unit.reports)
+        if own is None:
+            sys.exit(f'hid_structs: {language.word}: {unit.digits[:300]}: other structs than reports')
+        found += own
+    return found
+
+
+def differing(language, place, units, folder, spoil=None):
+    """What is wrong in a language, how many reports are asked and how many values are refused."""
+    structs, asked = structs_of(language, place, units), questions(units)
+    texts = [it.texts[place].replace(*spoil) if spoil else it.texts[place] for it in units]
+    said = language.ask(texts, structs, [line for line, _ in asked], folder)
+    if said is None:
+        sys.exit(f'hid_structs: {language.word}: no program is built')
+    refused = sum(language.refusals(member) for it in structs for member in it.members)
+    wanted = [*(answer for _, answer in asked), str(refused)]
+    lines = [*(line for line, _ in asked), 'values past their room']
+    wrong = [f'{language.word}: {line[:200]}: {got[:200]}, not {answer[:200]}'
+             for line, answer, got in zip(lines, wanted, said) if answer != got]
+    wrong += [f'{language.word}: {it[:300]}' for it in said[len(wanted):]]
+    wrong += [f'{language.word}: {len(said)} lines of {len(wanted)}'] * (len(said) < len(wanted))
+    return wrong, len(asked), refused
+
+
+def notices(language, place, units, folder):
+    """How many spoilt sources are noticed, which all have to be."""
+    few = units[:SPOILT]
+    for spoil in language.spoils:
+        if not any(spoil[0] in it.texts[place] for it in few):
+            sys.exit(f'hid_structs: {language.word}: nothing to spoil: {spoil[0]}')
+        if not differing(language, place, few, folder, spoil)[0]:
+            sys.exit(f'hid_structs: {language.word}: not noticed: {spoil[1]} for {spoil[0]}')
+    return len(language.spoils)
+
+
+def main():
+    global program
+    program = os.path.abspath(sys.argv[1])
+    digits = MADE + sys.stdin.read().split()
+    with multiprocessing.Pool() as pool:
+        texts = pool.starmap(written, [(it, PYTHON) for it in digits], 16)
+        different = {}
+        for own, text in zip(digits, texts):
+            if text is not None:
+                different.setdefault(text, own)
+        answers = pool.map(unit_of, different.values(), 16)
+    faults = [fault for _, fault, _ in answers if fault]
+    units = [it for it, _, _ in answers]
+    values = sum(count for _, _, count in answers)
+    asked = refused = noticed = 0
+    with tempfile.TemporaryDirectory() as folder:
+        for place, language in enumerate(LANGUAGES):
+            if not language.is_tried:
+                print(f'hid_structs: no `{language.tool}` on the path, so no {language.word} is tried')
+                continue
+            wrong, reports, past = differing(language, place, units, folder)
+            faults, asked, refused = faults + wrong, asked + reports, refused + past
+            noticed += notices(language, place, units, folder)
+    for fault in faults[:20]:
+        print(f'hid_structs: {fault}')
+    if faults:
+        sys.exit(f'hid_structs: {len(faults)} answers are other ones')
+    print(f'hid_structs: {len(texts) - texts.count(None)} descriptors, {len(units)} sources in each '
+          f'of {len(LANGUAGES)} languages: {asked} reports and {values} values as hid reads them, {refused} '
+          f'values are refused; {noticed} spoilt sources are noticed')
+
+
+if __name__ == '__main__':
+    main()
