@@ -7,7 +7,7 @@ Each of the four languages reads them, and the values are those of `hid values -
 bits that `hid fields --json` tells; written again, they are the bytes with padding of 0. Too few bytes,
 another id, too little room and values past a field's room are refused, and nothing is written then. Then
 what is written is spoilt here, and has to be noticed. All sources of a language are one program
-(struct_programs.py); one without its compiler is left out.
+(struct_language.py); one without its compiler is left out.
 """
 import json
 import multiprocessing
@@ -18,8 +18,13 @@ import subprocess
 import sys
 import tempfile
 
-from struct_programs import LANGUAGES, PYTHON
+from struct_c import C
+from struct_rust import Rust
+from struct_untyped import JavaScript, Python
 
+TOP = os.path.dirname(os.path.dirname(os.path.dirname(os.path.abspath(__file__))))
+PYTHON = Python()
+LANGUAGES = [C(), Rust(), PYTHON, JavaScript()]
 ASKED = 20
 GREAT = 1024
 WIDEST = 64
@@ -48,10 +53,10 @@ program = None
 
 
 class Value:
-    """A value of a report: its first bit, its width, whether it may be below 0, and its place."""
+    """A value of a report: its first bit, its width, whether it may be below 0, the name of its member."""
 
-    def __init__(self, start, width, is_signed):
-        self.start, self.width, self.is_signed = start, width, is_signed
+    def __init__(self, start, width, is_signed, name):
+        self.start, self.width, self.is_signed, self.name = start, width, is_signed, name
 
     def of(self, number):
         """What a report says, as a number or, of more than 64 bits, as digits."""
@@ -73,7 +78,9 @@ class Report:
         width = (field['end'] - field['start']) // count
         if width > WIDEST:
             count, width = 1, field['end'] - field['start']
-        self.values += [Value(field['start'] + at * width, width, field['logical_minimum'] < 0)
+        page, _, name = field['name'].partition(' / ')
+        name = identifier(page if field['kind'] == 'array' else name)
+        self.values += [Value(field['start'] + at * width, width, field['logical_minimum'] < 0, name)
                         for at in range(count)]
 
     def ask(self, size, chance):
@@ -99,6 +106,24 @@ class Unit:
 
     def __init__(self, digits, texts, reports):
         self.digits, self.texts, self.reports = digits, texts, reports
+
+
+def identifier(name):
+    """A name of the tables as small letters, digits and `_`."""
+    words = re.sub(r'(?<=[a-z])(?=[A-Z])|[^A-Za-z0-9]+', '_', name).strip('_').lower()
+    return words if re.match('[a-z]', words) else f'usage_{words}'
+
+
+def check_names():
+    """How many names the tables have, none of which is a word of a language."""
+    with open(f'{TOP}/crates/hidreport_usages/data/usages.txt', encoding='utf-8') as lines:
+        names = [re.sub(r'^ *[0-9A-F]+ | \[[^]]*\]$', '', it.rstrip('\n')) for it in lines if it[0] != '#']
+    for language in LANGUAGES:
+        taken = {identifier(it) for it in names} & set(language.words.split())
+        if taken:
+            sys.exit(f'hid_structs: {language.word}: words of it are names: {taken}')
+    if any('*/' in it or '/*' in it for it in names) or len(names) < 2500:
+        sys.exit('hid_structs: a name ends a remark, or the tables have few')
 
 
 def hid(words, given):
@@ -234,6 +259,7 @@ def notices(language, place, units, folder):
 def main():
     global program
     program = os.path.abspath(sys.argv[1])
+    check_names()
     digits = MADE + sys.stdin.read().split()
     with multiprocessing.Pool() as pool:
         texts = pool.starmap(written, [(it, PYTHON) for it in digits], 16)

@@ -239,10 +239,7 @@ static COMPILE: [Argument; 2] = [
     TARGET,
 ];
 
-static STRUCT: [Argument; 2] = [
-    FILE,
-    ("to", Kind::Language, "The language of the source"),
-];
+static STRUCT: [Argument; 2] = [FILE, ("to", Kind::Language, "The language of the source")];
 
 static MAP: [Argument; 3] = [
     FILE,

@@ -1,21 +1,10 @@
 //! Structs of C.
 use crate::part::{MemberPart, ReportPart, Shape};
 
-/// Keywords of C and C++, and macros of their headers and compilers.
-pub const WORDS: &str = "\
-alignas alignof and and_eq asm assert auto bitand bitor bool break case catch char class co_await \
-co_return co_yield compl concept const const_cast consteval constexpr constinit continue decltype \
-default delete do double dynamic_cast else enum errno explicit export extern false float for friend \
-goto i386 if inline int linux long mutable namespace new noexcept not not_eq nullptr operator or \
-or_eq private protected public register reinterpret_cast requires restrict return short signed \
-sizeof static static_assert static_cast stderr stdin stdout struct switch template this thread_local \
-throw true try typedef typeid typename typeof typeof_unqual union unix unsigned using virtual void \
-volatile wchar_t while xor xor_eq";
-
 /// What stands before all reports.
 pub const HEAD: &str = "\
-/* Reports of a HID device, written by hid struct. A number is the bits of a report from bit SHIFT on,
-   under MASK; of several, the next stands STEP bits behind. What has more than 64 bits is bytes. */
+/* Reports of a HID device, written by hid struct. A number is the bits of a report from bit SHIFT
+   on, under MASK; of several, the next stands STEP bits behind. More than 64 bits are bytes. */
 #include <stdbool.h>
 #include <stddef.h>
 #include <stdint.h>
@@ -119,7 +108,8 @@ static inline bool $report_decode(const uint8_t *bytes, size_t length, $report *
 const ENCODE: &str = "    return true;
 }
 
-/* Writes a report; false, and nothing is written, where the bytes are too few or a value doesn't fit. */
+/* Writes a report; false, and nothing is written, where there is too little room or a value doesn't
+   fit. */
 static inline bool $report_encode(const $report *report, uint8_t *bytes, size_t length)
 {
     if (length < $REPORT_SIZE)

@@ -1,18 +1,11 @@
 //! Classes of JavaScript.
 use crate::part::{MemberPart, ReportPart, Shape};
 
-/// Keywords of JavaScript, and what a class has besides its members.
-pub const WORDS: &str = "\
-arguments async await break case catch class const constructor continue debugger decode default \
-delete do else encode enum eval export extends false finally for function get if implements import \
-in instanceof interface let new null package private protected public return set static super switch \
-this throw true try typeof undefined var void while with yield";
-
 /// What stands before all reports.
 pub const HEAD: &str = "\
-// Reports of a HID device, written by hid struct. A number is the bits of a report from bit SHIFT on,
-// under MASK; of several, the next stands STEP bits behind. What has more than 32 bits is a BigInt,
-// what has more than 64 is bytes.
+// Reports of a HID device, written by hid struct. A number is the bits of a report from bit SHIFT
+// on, under MASK; of several, the next stands STEP bits behind. More than 32 bits are a BigInt,
+// more than 64 bytes.
 
 function get(bytes, shift, mask) {
     const bit = shift % 8;
@@ -59,7 +52,8 @@ function check(name, value, mask) {
 }
 
 function checkSigned(name, value, mask) {
-    if (!Number.isInteger(value) || value < -(mask + 1) / 2 || value > mask / 2) refuse(name, value);
+    const most = (mask - 1) / 2;
+    if (!Number.isInteger(value) || value < -most - 1 || value > most) refuse(name, value);
 }
 
 function checkBig(name, value, mask) {
@@ -67,11 +61,13 @@ function checkBig(name, value, mask) {
 }
 
 function checkBigSigned(name, value, mask) {
-    if (typeof value !== 'bigint' || value < -(mask >> 1n) - 1n || value > mask >> 1n) refuse(name, value);
+    const most = mask >> 1n;
+    if (typeof value !== 'bigint' || value < -most - 1n || value > most) refuse(name, value);
 }
 
 function checkCount(name, value, count) {
-    if (value.length !== count) throw new RangeError(`${name} has ${value.length} values of ${count}`);
+    if (value.length === count) return;
+    throw new RangeError(`${name} has ${value.length} values of ${count}`);
 }
 
 function checkBytes(name, value, bits) {
@@ -119,7 +115,8 @@ pub fn report_text(part: ReportPart) -> &'static str {
 const DECODE: &str = "
     /** The values of a report; one of too few bytes or of another id is refused. */
     static decode(bytes) {
-        if (bytes.length < $Report.SIZE) throw new RangeError(`${bytes.length} bytes of ${$Report.SIZE}`);
+        const { length } = bytes;
+        if (length < $Report.SIZE) throw new RangeError(`${length} bytes of ${$Report.SIZE}`);
 ";
 
 const ID_TEST: &str = "        \

@@ -64,19 +64,7 @@ impl Language {
         }
     }
 
-    /// Whether an identifier is a word that means something else where a member's name stands.
-    pub fn has_word(self, name: &str) -> bool {
-        let words = match self {
-            Language::C => c::WORDS,
-            Language::Rust => rust::WORDS,
-            Language::Python => python::WORDS,
-            Language::JavaScript => javascript::WORDS,
-        };
-        words.split_whitespace().any(|word| word == name)
-    }
-
-    /// What the first line of a remark on what follows begins with, what the lines behind it do, and
-    /// its end.
+    /// What a remark on what follows begins with, what its other lines begin with, and its end.
     pub fn remark_marks(self) -> (&'static str, &'static str, &'static str) {
         match self {
             Language::Rust => ("/// ", "/// ", ""),

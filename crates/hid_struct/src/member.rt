@@ -31,18 +31,25 @@ pub struct Member<'a> {
 }
 
 /// The members of a report.
-pub fn members_of<'a>(
-    alloc: Global,
-    language: Language,
-    report: &'a RDescReport,
-) -> Result<Vec<Member<'a>>, AllocError> {
+pub fn members_of(alloc: Global, report: &RDescReport) -> Result<Vec<Member<'_>>, AllocError> {
+    let mut members = unnamed_members(alloc, report)?;
+    name_members(alloc, &mut members)?;
+    Ok(members)
+}
+
+/// How many members a report has.
+pub fn count_members(alloc: Global, report: &RDescReport) -> Result<usize, AllocError> {
+    Ok(unnamed_members(alloc, report)?.len())
+}
+
+/// The members of a report without their names.
+fn unnamed_members(alloc: Global, report: &RDescReport) -> Result<Vec<Member<'_>>, AllocError> {
     let mut members = Vec::new(alloc);
     for line in field_lines(alloc, report, false)?.iter() {
         if let FieldLine::Fields(_depth, fields) = line {
             add_members(&mut members, fields.first, fields.bits(), fields.count())?;
         }
     }
-    name_members(alloc, language, &mut members)?;
     Ok(members)
 }
 
@@ -111,16 +118,12 @@ fn is_signed(field: &Field) -> bool {
 }
 
 /// Gives each member its name.
-fn name_members(
-    alloc: Global,
-    language: Language,
-    members: &mut [Member],
-) -> Result<(), AllocError> {
+fn name_members(alloc: Global, members: &mut [Member]) -> Result<(), AllocError> {
     let mut wanted = Vec::new(alloc);
     for member in members.iter() {
         wanted.push(wanted_name(alloc, member.field)?)?;
     }
-    let mut names = MemberNames::of(alloc, language, &wanted)?;
+    let mut names = MemberNames::of(alloc, &wanted)?;
     for (member, wanted) in members.iter_mut().zip(wanted.iter()) {
         member.name = names.next(wanted.as_str())?;
     }
@@ -150,6 +153,10 @@ impl<'a> Member<'a> {
                 words.push_str(", ")?;
                 add_how(&mut words, field)?;
             }
+        }
+        if let Field::Array(array) = self.field {
+            let low = array.logical_minimum;
+            write!(words, "; {low} selects the first usage")?;
         }
         Ok(words)
     }

@@ -1,5 +1,4 @@
 //! The names of a report's members, each of which stands once.
-use crate::language::Language;
 use std::alloc::{AllocError, Global};
 use std::collections::BTreeMap;
 use std::fmt::Write;
@@ -8,41 +7,28 @@ use std::fmt::Write;
 #[derive(Drop)]
 pub struct MemberNames {
     alloc: Global,
-    language: Language,
     /// Of each name the number of the last member that wanted it; 0 before the first.
     numbers: BTreeMap<String, usize>,
 }
 
 impl MemberNames {
     /// Those of members that want these names.
-    pub fn of(
-        alloc: Global,
-        language: Language,
-        wanted: &[String],
-    ) -> Result<MemberNames, AllocError> {
+    pub fn of(alloc: Global, wanted: &[String]) -> Result<MemberNames, AllocError> {
         let mut numbers = BTreeMap::new(alloc);
         for name in wanted {
             numbers.entry(name.clone()?)?.or_insert(0);
         }
-        Ok(MemberNames {
-            alloc,
-            language,
-            numbers,
-        })
+        Ok(MemberNames { alloc, numbers })
     }
 
     /// The name of the next member that wants this one: the first has it, those behind it with a
-    /// number that makes it no other's; a word of the language has `_` behind it.
+    /// number that makes it no other's. (No name of the tables is a keyword: checks/hid/structs.py.)
     pub fn next(&mut self, wanted: &str) -> Result<String, AllocError> {
         let number = self.next_number(wanted)?;
-        let mut name = self.numbered(wanted, number)?;
-        if self.language.has_word(name.as_str()) {
-            name.push('_')?;
-        }
         if let Some(last) = self.numbers.get_mut(wanted) {
             *last = number;
         }
-        Ok(name)
+        self.numbered(wanted, number)
     }
 
     /// The number of the next member that wants a name: with it that is none that another wants.

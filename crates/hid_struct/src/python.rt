@@ -1,16 +1,10 @@
 //! Classes of Python.
 use crate::part::{MemberPart, ReportPart, Shape};
 
-/// Keywords of Python, what its classes use, and what a class has besides its members.
-pub const WORDS: &str = "\
-and as assert async await break bytes class cls continue dataclasses decode def del elif else encode \
-except finally for from global if import in int is lambda list nonlocal not or pass raise range \
-return self try while with yield";
-
 /// What stands before all reports.
 pub const HEAD: &str = "\
-# Reports of a HID device, written by hid struct. A number is the bits of a report from bit SHIFT on,
-# under MASK; of several, the next stands STEP bits behind. What has more than 64 bits is bytes.
+# Reports of a HID device, written by hid struct. A number is the bits of a report from bit SHIFT
+# on, under MASK; of several, the next stands STEP bits behind. More than 64 bits are bytes.
 import dataclasses
 
 

@@ -36,7 +36,7 @@ impl<'a> ReportStruct<'a> {
             language,
             direction,
             report,
-            members: members_of(alloc, language, report)?,
+            members: members_of(alloc, report)?,
         })
     }
 
@@ -75,7 +75,7 @@ impl<'a> ReportStruct<'a> {
         let mut words = String::new(*text.allocator());
         add_head(&mut words, self.direction, self.report)?;
         if self.members.is_empty() {
-            words.push_str("of padding, so it has no struct")?;
+            words.push_str("and no values, so no struct")?;
             return add_note(text, self.language, words.as_str());
         }
         add_remark(text, self.language, 0, words.as_str())

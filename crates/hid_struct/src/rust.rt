@@ -1,16 +1,10 @@
 //! Structs of Rust.
 use crate::part::{MemberPart, ReportPart, Shape};
 
-/// Keywords of Rust.
-pub const WORDS: &str = "\
-abstract as async await become box break const continue crate do dyn else enum extern false final fn \
-for gen if impl in let loop macro match mod move mut override priv pub ref return self static struct \
-super trait true try type typeof unsafe unsized use virtual where while yield";
-
 /// What stands before all reports.
 pub const HEAD: &str = "\
-// Reports of a HID device, written by hid struct. A number is the bits of a report from bit SHIFT on,
-// under MASK; of several, the next stands STEP bits behind. What has more than 64 bits is bytes.
+// Reports of a HID device, written by hid struct. A number is the bits of a report from bit SHIFT
+// on, under MASK; of several, the next stands STEP bits behind. More than 64 bits are bytes.
 #![allow(dead_code)]
 
 #[inline(always)]
@@ -166,7 +160,8 @@ const PLACES: &str = "    pub const $NAME_SHIFT: usize = $shift;
 ";
 
 const READ_NUMBERS: &str = "            $name: core::array::from_fn(|i| {
-                get$signed(bytes, Self::$NAME_SHIFT + i * Self::$NAME_STEP, Self::$NAME_MASK) as $type
+                let shift = Self::$NAME_SHIFT + i * Self::$NAME_STEP;
+                get$signed(bytes, shift, Self::$NAME_MASK) as $type
             }),
 ";
 
@@ -177,7 +172,8 @@ if !self.$name.iter().all(|&value| fits$signed(value.into(), Self::$NAME_MASK)) 
 ";
 
 const WRITE_NUMBERS: &str = "        for (i, &value) in self.$name.iter().enumerate() {
-            put(&mut bytes, Self::$NAME_SHIFT + i * Self::$NAME_STEP, Self::$NAME_MASK, value as u64);
+            let shift = Self::$NAME_SHIFT + i * Self::$NAME_STEP;
+            put(&mut bytes, shift, Self::$NAME_MASK, value as u64);
         }
 ";
 
