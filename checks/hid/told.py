@@ -52,6 +52,11 @@ def texts_in(source, is_program):
             yield from parts_of(found[1], hole)
 
 
+def is_of_programs(path):
+    """Whether a source has the texts of programs that `hid struct` writes."""
+    return "hid_struct" in path.parts and path.name in PROGRAMS
+
+
 def sources():
     """The sources of hid's crates, but the tables of macros and the page's own texts, and what the library
     says of Linux in words."""
@@ -112,7 +117,7 @@ def main():
     texts = [
         (str(path.relative_to(TOP)), text)
         for path in sources()
-        for text in texts_in(path.read_text(), path.name in PROGRAMS)
+        for text in texts_in(path.read_text(), is_of_programs(path))
     ]
     rows = rows_of((HERE / "told.txt").read_text())
     found = faults(texts, stored(), rows)

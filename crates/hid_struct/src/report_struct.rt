@@ -102,19 +102,32 @@ impl<'a> ReportStruct<'a> {
         part: MemberPart,
     ) -> Result<()> {
         for member in self.members.iter() {
-            match part {
-                MemberPart::Checked if member.is_full(self.language) => continue,
-                MemberPart::Declared => {
-                    let words = member.words(rt.alloc())?;
-                    add_remark(text, self.language, INDENT, words.as_str())?;
-                }
-                _ => {}
+            if self.has_part(member, part) {
+                self.add_member(text, part, member)?;
+                flush_piece(rt, text)?;
             }
-            let wanted = self.language.member_text(part, member.shape);
-            self.add_filled(text, wanted, Some(member))?;
-            flush_piece(rt, text)?;
         }
         Ok(())
+    }
+
+    /// Whether a member has a part: where each value fits none is refused.
+    fn has_part(&self, member: &Member, part: MemberPart) -> bool {
+        !matches!(part, MemberPart::Checked) || !member.is_full(self.language)
+    }
+
+    /// Appends a part of a member, whose own line has a remark before it.
+    fn add_member(
+        &self,
+        text: &mut String,
+        part: MemberPart,
+        member: &Member,
+    ) -> Result<(), AllocError> {
+        if matches!(part, MemberPart::Declared) {
+            let words = member.words(*text.allocator())?;
+            add_remark(text, self.language, INDENT, words.as_str())?;
+        }
+        let wanted = self.language.member_text(part, member.shape);
+        self.add_filled(text, wanted, Some(member))
     }
 
     /// Appends a text, with what its words behind `$` stand for.
@@ -130,19 +143,28 @@ impl<'a> ReportStruct<'a> {
                 continue;
             }
             let (word, rest) = word_and_rest(piece);
-            let is_members = match member {
-                Some(member) => member.add_word(text, self.language, word)?,
-                None => false,
-            };
-            if !is_members {
-                self.add_word(text, word)?;
-            }
+            self.add_hole(text, word, member)?;
             text.push_str(rest)?;
         }
         Ok(())
     }
 
-    /// Appends what a word of a text stands for.
+    /// Appends what a word of a text stands for, of a member or of the report.
+    fn add_hole(
+        &self,
+        text: &mut String,
+        word: &str,
+        member: Option<&Member>,
+    ) -> Result<(), AllocError> {
+        if let Some(member) = member {
+            if member.add_word(text, self.language, word)? {
+                return Ok(());
+            }
+        }
+        self.add_word(text, word)
+    }
+
+    /// Appends what a word stands for that is the report's.
     fn add_word(&self, text: &mut String, word: &str) -> Result<(), AllocError> {
         match word {
             "report" => self.add_name(text),
