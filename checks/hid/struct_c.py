@@ -4,6 +4,9 @@ import re
 from struct_language import Language, compiled
 
 
+IN_A_FILE = 8
+
+
 class C(Language):
     """Programs of C, which C++ may read, too."""
     word, tool = 'c', 'cc'
@@ -37,21 +40,24 @@ static void tell(int is_refused, const char *name, unsigned long *count)
 {
     if (is_refused) ++*count; else printf("%s is written\\n", name);
 }
-#define U(value) printf("%" PRIu64 " ", (uint64_t)(value));
-#define S(value) printf("%" PRId64 " ", (int64_t)(value));
-#define B(value) hex(value, sizeof(value)); putchar(' ');
+static void u(uint64_t value) { printf("%" PRIu64 " ", value); }
+static void s(int64_t value) { printf("%" PRId64 " ", value); }
+static void b(const uint8_t *bytes, size_t count) { hex(bytes, count); putchar(' '); }
 #define P(report, encode, member, value, name) { report it = from; it.member = (value); \\
     tell(!encode(&it, out, size) && is_same(out, size), name, count); }
 '''
 
     def build(self, texts, structs, folder):
-        head = self.parts(texts[0])[0]
-        source = head + self.HEAD
-        for unit, text in enumerate(texts):
-            source += self.own(unit, self.parts(text)[1])
-        source += ''.join(self.asking(number, it) for number, it in enumerate(structs)) + self.main(structs)
+        # In files of some sources each, since the compiler reads a file again for each warning that it looks for.
+        pieces = [self.own(unit, self.parts(text)[1]) for unit, text in enumerate(texts)]
+        pieces += [self.asking(number, it) for number, it in enumerate(structs)]
+        source = self.parts(texts[0])[0] + self.HEAD
+        for at in range(0, len(pieces), IN_A_FILE):
+            source += f'#include "structs_{at}.h"\n'
+            with open(f'{folder}/structs_{at}.h', 'w', encoding='utf-8') as file:
+                file.writelines(pieces[at:at + IN_A_FILE])
         with open(f'{folder}/structs.c', 'w', encoding='utf-8') as file:
-            file.write(source)
+            file.write(source + self.main(structs))
         words = ['cc', '-std=c11', '-Wall', '-Wextra', '-Werror', '-o', f'{folder}/structs_c']
         return words[-1:] if compiled([*words, f'{folder}/structs.c']) else None
 
@@ -65,8 +71,8 @@ static void tell(int is_refused, const char *name, unsigned long *count)
     def asking(self, number, struct):
         """The functions that ask a struct."""
         name, size = f'u{struct.unit}_{struct.name}', struct.report.size
-        shown = ''.join(self.shown(it) for it in struct.members)
-        past = ''.join(self.past(name, it) for it in struct.members)
+        shown = '\n    '.join(self.shown(it) for it in struct.members)
+        past = '\n    '.join(self.past(name, it) for it in struct.members)
         return f'''static void ask_{number}(const uint8_t *bytes, size_t length)
 {{
     {name} it; uint8_t out[{size + 1}];
@@ -91,11 +97,11 @@ static void past_{number}(unsigned long *count)
     @staticmethod
     def shown(member):
         if member.is_bytes:
-            return f'B(it.{member.name}) '
-        show = 'S' if member.kind.startswith('int') else 'U'
+            return f'b(it.{member.name}, sizeof it.{member.name});'
+        show = 's' if member.kind.startswith('int') else 'u'
         if member.count is None:
-            return f'{show}(it.{member.name}) '
-        return f'for (size_t i = 0; i < {member.count}; i++) {{ {show}(it.{member.name}[i]) }} '
+            return f'{show}(it.{member.name});'
+        return f'for (size_t i = 0; i < {member.count}; i++) {show}(it.{member.name}[i]);'
 
     def past(self, name, member):
         place, values = self.past_values(member)

@@ -20,6 +20,10 @@ class Member:
         self.is_bytes = value.width > WIDEST
         self.count = None if self.is_bytes or not count else int(count)
 
+    def is_alone(self):
+        """Whether it is a number, and no list or bytes."""
+        return self.count is None and not self.is_bytes
+
     def past(self):
         """The numbers below and above what its bits hold."""
         reach = 1 << self.width - self.is_signed
@@ -42,7 +46,8 @@ class Struct:
 
 
 class Language:
-    """What a language's programs are made of."""
+    """What a language's programs are made of; of one that is compiled each layout is built."""
+    is_compiled = True
 
     def __init__(self):
         self.is_tried = shutil.which(self.tool) is not None
@@ -67,6 +72,8 @@ class Language:
                 if not members[-1].is_named:
                     return None
                 place += members[-1].count or 1
+            if len({it.name for it in members}) < len(members):
+                return None
             found.append(Struct(unit, form['name'], members, report))
         return found
 

@@ -1,4 +1,7 @@
 """Programs of Rust that ask what `hid struct` writes (struct_language.py)."""
+import itertools
+import re
+
 from struct_language import Language, compiled
 
 
@@ -24,7 +27,7 @@ class Rust(Language):
     HEAD = '''
 use std::io::BufRead;
 fn hex(bytes: &[u8]) -> String { bytes.iter().map(|byte| format!("{byte:02x}")).collect() }
-fn show(said: &mut String, value: i128) { *said += &value.to_string(); said.push(' '); }
+fn numbers(values: &[i128]) -> String { values.iter().map(|value| format!("{value} ")).collect() }
 fn ended(mut said: String, written: Option<&[u8]>) -> String {
     match written { Some(bytes) => { said += "= "; said += &hex(bytes) } None => said += "not written" }
     said
@@ -35,21 +38,25 @@ fn tell(is_refused: bool, name: &str, count: &mut u64) {
 '''
 
     def build(self, texts, structs, folder):
-        source = '#![deny(warnings)]\n' + self.parts(texts[0])[0] + self.HEAD
+        head = self.parts(texts[0])[0]
+        shared = ', '.join(re.findall(r'^fn (\w+)', head, re.M))
+        source = '#![deny(warnings)]\n' + head + self.HEAD
         for unit, text in enumerate(texts):
             own = self.parts(text)[1] if unit else text
-            front = '#[allow(unused_imports)]\nuse super::*;\n' if unit else ''
+            front = f'#[allow(unused_imports)]\nuse super::{{{shared}}};\n' if unit else ''
             source += f'mod u{unit} {{\n{front}{own}}}\n'
         source += ''.join(self.asking(number, it) for number, it in enumerate(structs)) + self.main(structs)
         with open(f'{folder}/structs.rs', 'w', encoding='utf-8') as file:
             file.write(source)
-        words = ['rustc', '--edition=2021', '-Cdebuginfo=0', '-o', f'{folder}/structs_rust']
+        words = ['rustc', '--edition=2021', '-Cdebuginfo=0', '-Cpanic=abort', '-o', f'{folder}/structs_rust']
         return words[-1:] if compiled([*words, f'{folder}/structs.rs']) else None
 
     def asking(self, number, struct):
         name = f'u{struct.unit}::{struct.name}'
-        shown = ''.join(self.shown(it) for it in struct.members)
-        past = ''.join(self.past(name, it) for it in struct.members)
+        shown = ''
+        for is_alone, members in itertools.groupby(struct.members, lambda it: it.is_alone()):
+            shown += self.shown_numbers(members) if is_alone else ''.join(map(self.shown, members))
+        past = '\n    '.join(self.past(name, it) for it in struct.members)
         return f'''fn ask_{number}(bytes: &[u8]) -> String {{
     let Some(it) = {name}::decode(bytes) else {{ return "refused".into() }};
     let mut said = String::new();
@@ -66,12 +73,15 @@ fn past_{number}(count: &mut u64) {{
 '''
 
     @staticmethod
+    def shown_numbers(members):
+        values = ', '.join(f'it.{member.name} as i128' for member in members)
+        return f'said += &numbers(&[{values}]);\n    '
+
+    @staticmethod
     def shown(member):
         if member.is_bytes:
-            return f"said += &hex(&it.{member.name}); said.push(' '); "
-        if member.count is None:
-            return f'show(&mut said, it.{member.name}.into()); '
-        return f'for value in it.{member.name} {{ show(&mut said, value.into()) }} '
+            return f"said += &hex(&it.{member.name});\n    said.push(' ');\n    "
+        return f'said += &numbers(&it.{member.name}.map(i128::from));\n    '
 
     def past(self, name, member):
         place, values = self.past_values(member)

@@ -8,6 +8,7 @@ from struct_language import Language
 
 class Untyped(Language):
     """A language whose members take any value."""
+    is_compiled = False
 
     def refusals(self, member):
         if member.is_bytes:

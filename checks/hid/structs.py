@@ -7,7 +7,7 @@ Each of the four languages reads them, and the values are those of `hid values -
 bits that `hid fields --json` tells; written again, they are the bytes with padding of 0. Too few bytes,
 another id, too little room and values past a field's room are refused, and nothing is written then. Then
 what is written is spoilt here, and has to be noticed. All sources of a language are one program
-(struct_language.py); one without its compiler is left out.
+(struct_language.py), in C and Rust those with all layouts; a language without its compiler is left out.
 """
 import json
 import multiprocessing
@@ -39,7 +39,7 @@ def made():
         yield f'85070501{low}257f750395010900810275050930950381020931{fields}'
     widths = [*range(1, 75), 127, 128, 129]
     for low in '1500', '1581':
-        for count in 1, 2, 3:
+        for count in 1, 2:
             fields = ''.join(f'75{width:02x}09{width:02x}95{count:02x}8102' for width in widths)
             yield f'0501{low}257f750309a09501810275050930950381020931{fields}'
             arrays = ''.join(f'75{width:02x}1901290a95{count:02x}9100' for width in widths)
@@ -91,6 +91,10 @@ class Report:
         if self.id is not None:
             self.asked = [bytes([self.id]) + it[1:] for it in self.asked]
 
+    def bits(self):
+        """Where the values lie."""
+        return tuple((it.start, it.width, it.is_signed) for it in self.values)
+
     def answer(self, data):
         """What a program has to say of bytes: the values, and the bytes that it writes again."""
         number = int.from_bytes(data, 'little')
@@ -136,25 +140,28 @@ def hid(words, given):
 
 
 def reports_of(digits, text):
-    """The reports with values, whose sizes the text for Python has."""
-    reports = {}
+    """The reports with values, whose sizes the text for Python has, and the directions in which one report
+    has no id and others have."""
+    reports, ids = {}, {}
     for line in hid(['--json', 'fields', '--form', 'hex', '-'], digits).splitlines():
         field = json.loads(line)
+        key = field['direction'], field['report']
+        ids.setdefault(key[0], set()).add(key[1])
         if field['kind'] != 'padding':
-            key = field['direction'], field['report']
             reports.setdefault(key, Report(*key)).add(field)
     chance = random.Random(digits)
     sizes = re.findall(r'^class (Input|Output|Feature)Report(\d*):.*?^    SIZE = (\d+)$', text, re.M | re.S)
     for direction, number, size in sizes:
         reports[direction.lower(), int(number) if number else None].ask(int(size), chance)
-    return list(reports.values())
+    return list(reports.values()), {it for it, own in ids.items() if None in own and len(own) > 1}
 
 
-def told(digits, reports):
+def told(digits, reports, mixed):
     """What is wrong where `hid values` says of the bytes something else than their bits, and how many
-    values it says. What it reads as another report, since that has no id, is left out."""
+    values it says. Left out are directions that have a report without an id besides others, as which it
+    reads their bytes."""
     count = 0
-    for direction in sorted({it.direction for it in reports}):
+    for direction in sorted({it.direction for it in reports} - mixed):
         asked = [(it, data) for it in reports if it.direction == direction for data in it.asked]
         given = recording([bytes.fromhex(digits)], 'R: ') + recording([data for _, data in asked], 'E: {}.0 ')
         words = ['--json', 'values', '--times', '--direction', direction, '--form', 'recorder', '-']
@@ -163,12 +170,9 @@ def told(digits, reports):
             it = json.loads(line)
             said.setdefault(int(it['time'].split('.')[0]), []).append(it)
         for number, (report, data) in enumerate(asked):
-            objects = said.get(number, [])
-            if any(it['report'] != report.id for it in objects):
-                continue
             values = int.from_bytes(data, 'little')
             wanted = {it.start: it.of(values) for it in report.values if it.width <= WIDEST_TOLD}
-            got = dict(flat(objects))
+            got = dict(flat(said.get(number, [])))
             if got != wanted:
                 return f'{digits}: {direction} {data.hex()}: {got} is told, not {wanted}', count
             count += len(got)
@@ -193,11 +197,11 @@ def written(digits, language):
     return hid(['struct', '--to', language.word, '--form', 'hex', '-'], digits)
 
 
-def unit_of(digits):
-    """The unit of a descriptor that is read; what is wrong; how many values are told."""
-    texts = [written(digits, it) for it in LANGUAGES]
-    reports = reports_of(digits, texts[LANGUAGES.index(PYTHON)])
-    fault, count = told(digits, reports)
+def unit_of(digits, text):
+    """The unit of a descriptor whose text for Python this is; what is wrong; how many values are told."""
+    texts = [text if it == PYTHON else written(digits, it) for it in LANGUAGES]
+    reports, mixed = reports_of(digits, text)
+    fault, count = told(digits, reports, mixed)
     return Unit(digits, texts, reports), fault, count
 
 
@@ -226,6 +230,20 @@ def structs_of(language, place, units):
             sys.exit(f'hid_structs: {language.word}: {unit.digits[:300]}: other structs than reports')
         found += own
     return found
+
+
+def layouts_of(units):
+    """The units that have between them each layout of a report, and how many there are: structs that differ
+    in names, ids and remarks alone have the same."""
+    seen, chosen = set(), []
+    for place, unit in enumerate(units):
+        structs = PYTHON.structs(place, unit.texts[LANGUAGES.index(PYTHON)], unit.reports)
+        own = {(it.report.id is None, it.report.size, it.report.bits(), tuple(m.count for m in it.members))
+               for it in structs}
+        if not own <= seen:
+            chosen.append(unit)
+        seen |= own
+    return chosen, len(seen)
 
 
 def differing(language, place, units, folder, spoil=None):
@@ -267,26 +285,29 @@ def main():
         for own, text in zip(digits, texts):
             if text is not None:
                 different.setdefault(text, own)
-        answers = pool.map(unit_of, different.values(), 16)
+        answers = pool.starmap(unit_of, [(it, text) for text, it in different.items()], 16)
     faults = [fault for _, fault, _ in answers if fault]
     units = [it for it, _, _ in answers]
     values = sum(count for _, _, count in answers)
     asked = refused = noticed = 0
+    some, layouts = layouts_of(units)
     with tempfile.TemporaryDirectory() as folder:
         for place, language in enumerate(LANGUAGES):
             if not language.is_tried:
                 print(f'hid_structs: no `{language.tool}` on the path, so no {language.word} is tried')
                 continue
-            wrong, reports, past = differing(language, place, units, folder)
+            structs_of(language, place, units)
+            built = some if language.is_compiled else units
+            wrong, reports, past = differing(language, place, built, folder)
             faults, asked, refused = faults + wrong, asked + reports, refused + past
             noticed += notices(language, place, units, folder)
     for fault in faults[:20]:
         print(f'hid_structs: {fault}')
     if faults:
         sys.exit(f'hid_structs: {len(faults)} answers are other ones')
-    print(f'hid_structs: {len(texts) - texts.count(None)} descriptors, {len(units)} sources in each '
-          f'of {len(LANGUAGES)} languages: {asked} reports and {values} values as hid reads them, {refused} '
-          f'values are refused; {noticed} spoilt sources are noticed')
+    print(f'hid_structs: {len(texts) - texts.count(None)} descriptors, {len(units)} sources with {layouts} '
+          f'layouts in {len(LANGUAGES)} languages: {asked} reports and {values} values as hid reads them, '
+          f'{refused} values are refused; {noticed} spoilt sources are noticed')
 
 
 if __name__ == '__main__':
