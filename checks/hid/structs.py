@@ -9,6 +9,7 @@ another id, too little room and values past a field's room are refused, and noth
 what is written is spoilt here, and has to be noticed. All sources of a language are one program
 (struct_language.py), in C and Rust those with all layouts; a language without its compiler is left out.
 """
+import functools
 import json
 import multiprocessing
 import os
@@ -103,6 +104,16 @@ class Report:
             bits |= (1 << value.width) - 1 << value.start
         values = ' '.join(str(it.of(number)) for it in self.values)
         return f"{values} = {(number & bits).to_bytes(self.size, 'little').hex()}"
+
+    @functools.cached_property
+    def questions(self):
+        """The digits of bytes, and what a program has to say of them."""
+        data = self.asked[-1]
+        asked = [(it.hex(), self.answer(it)) for it in self.asked]
+        asked += [(f'{data.hex()}0102', self.answer(data)), (data[:-1].hex(), 'refused')]
+        if self.id is not None:
+            asked.append((bytes([data[0] ^ 1]).hex() + data[1:].hex(), 'refused'))
+        return asked
 
 
 class Unit:
@@ -207,18 +218,9 @@ def unit_of(digits, text):
 
 def questions(units):
     """What is asked of each language, with the answers: of a report's number the bytes."""
-    asked, number = [], 0
-    for unit in units:
-        for report in unit.reports:
-            for data in report.asked:
-                asked.append((f'{number} {data.hex()}', report.answer(data)))
-            data = report.asked[-1]
-            asked.append((f'{number} {data.hex()}0102', report.answer(data)))
-            asked.append((f'{number} {data[:-1].hex()}', 'refused'))
-            if report.id is not None:
-                asked.append((f'{number} {bytes([data[0] ^ 1]).hex()}{data[1:].hex()}', 'refused'))
-            number += 1
-    return asked
+    reports = [report for unit in units for report in unit.reports]
+    return [(f'{number} {digits}', answer) for number, report in enumerate(reports)
+            for digits, answer in report.questions]
 
 
 def structs_of(language, place, units):

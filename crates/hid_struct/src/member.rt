@@ -208,8 +208,12 @@ impl<'a> Member<'a> {
 
     /// Appends as many ones as a number has bits.
     fn add_mask(&self, text: &mut String) -> Result<(), AllocError> {
-        let unused = WIDEST.saturating_sub(self.width).min(63);
-        let mask = u64::MAX >> unused;
+        let unused = WIDEST.saturating_sub(self.width);
+        let mask = if unused < WIDEST {
+            u64::MAX >> unused
+        } else {
+            0
+        };
         write!(text, "0x{mask:x}")
     }
 
