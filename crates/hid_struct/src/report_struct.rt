@@ -137,14 +137,16 @@ impl<'a> ReportStruct<'a> {
         wanted: &str,
         member: Option<&Member>,
     ) -> Result<(), AllocError> {
-        for (index, piece) in wanted.split("$").enumerate() {
-            if index == 0 {
+        let mut is_first = true;
+        for piece in wanted.split("$") {
+            if is_first {
                 text.push_str(piece)?;
-                continue;
+            } else {
+                let (word, rest) = word_and_rest(piece);
+                self.add_hole(text, word, member)?;
+                text.push_str(rest)?;
             }
-            let (word, rest) = word_and_rest(piece);
-            self.add_hole(text, word, member)?;
-            text.push_str(rest)?;
+            is_first = false;
         }
         Ok(())
     }
