@@ -2,8 +2,8 @@
 # hid.sh HID OTHER_HID HIDREPORT CASES
 # The program `hid` from outside: its stored runs, by both compilers' programs; its options and those of
 # HIDREPORT in all texts that have them; devices; the samples of the documents (of HIDREPORT, too); the
-# names that shells complete; that what it writes is read back; the pages of `hid page`; bounds of memory
-# and time; the same answers as the library's (CASES is the program that `checks/library/tests.sh --keep
+# names that shells complete; that what it writes is read back, also by programs of four languages; the
+# pages of `hid page`; bounds of memory and time; the same answers as the library's (CASES is the program that `checks/library/tests.sh --keep
 # CASES` builds), the same event codes as a model of Linux's and the same collections as one of WebHID's;
 # and what it says beside TShark and lsusb. The parts lie in hid/; they go side by side in lanes, and what
 # each lane says is shown once it has ended.
@@ -42,6 +42,14 @@ answered() {
     fi
 }
 
+structs() {
+    if command -v python3 > /dev/null; then
+        bash "$parts/descriptors.sh" | cut -d ' ' -f 1 | python3 "$parts/structs.py" "$hid"
+    else
+        echo 'hid: no `python3` on the path, so what `hid struct` writes is not built'
+    fi
+}
+
 beside() {
     bash "$parts/beside.sh" tshark "$hid"
     bash "$parts/beside.sh" lsusb "$hid"
@@ -50,5 +58,6 @@ beside() {
 lane shown shown
 lane written written
 lane answered answered
+lane structs structs
 lane beside beside
 end_lanes

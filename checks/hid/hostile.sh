@@ -198,6 +198,10 @@ for shape in $shapes; do
     for to in hex c rust bytes recording kernel zephyr tinyusb lufa hid-bpf libinput webhid; do
         run convert --to "$to" "$shape"
     done
+    for to in c rust python javascript; do
+        run struct --to "$to" "$shape"
+    done
+    run --as standard struct "$shape"
     for words in '' --json --down --times; do
         run values $words "$shape" report
         run values $words mouse "$shape"
@@ -226,6 +230,16 @@ printf '\005\001\011\060\165\010\225\001\201\002\165\040\227\000\011\075\000\201
 head -c 16000001 /dev/zero > great_report
 kilobytes=256000 run --as standard record great great_report
 [ "$(wc -l < output)" -eq 1 ] || fault "a report of 16 MB is shown in $(wc -l < output) lines"
+
+# Nor are structs of great reports, or of many members.
+says 'more than 65536' --as standard struct padding
+printf '\005\011\031\001\052\001\100\025\000\045\001\165\001\226\001\100\201\002' > many_members
+says 'more than 16384' --as standard struct --form bytes many_members
+printf '\005\011\031\001\052\000\100\025\000\045\001\165\001\226\000\100\201\002' > most_members
+for to in c rust python javascript; do
+    run --as standard struct --to "$to" --form bytes most_members
+    [ "$(stat -c %s output)" -gt 6000000 ] || fault "struct --to $to of 16384 members writes less"
+done
 
 # What WebHID lists again in each collection.
 again listed_items 60000 '\011\060\201\002'

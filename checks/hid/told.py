@@ -18,6 +18,7 @@ TOP = HERE.parent.parent
 LITERAL = re.compile(r"'(?:[^'\\]|\\.)'|\"((?:[^\"\\]|\\.)*)\"", re.S)
 ESCAPES = {"\\n": "\n", '\\"': '"', "\\\\": "\\", "\\'": "'", "\\t": "\t"}
 LEAST_LETTERS = 4
+PROGRAMS = ("c.rt", "javascript.rt", "python.rt", "rust.rt")
 LINUX_WORDS = ("driver.rt", "linux_device.rt", "reasons.rt", "unmapped.rt")
 
 
@@ -26,24 +27,34 @@ def plain(text):
     return re.sub(r"\s+", " ", text)
 
 
-def parts_of(literal):
-    """The parts of a literal that are printed as they stand."""
+def parts_of(literal, hole):
+    """The parts of a literal that are printed as they stand, between its holes."""
     text = re.sub(r"\\\n\s*", "", literal)
     text = re.sub(r"\\u\{[0-9a-f]+\}", lambda found: chr(int(found[0][3:-1], 16)), text)
     text = re.sub(r"\\.", lambda found: ESCAPES.get(found[0], found[0]), text)
     text = text.replace("{{", "\x01").replace("}}", "\x02")
-    for part in re.split(r"\{[^}]*\}", text):
+    for part in re.split(hole, text):
         part = plain(part.replace("\x01", "{").replace("\x02", "}")).strip()
         if len(re.findall("[A-Za-z]", part)) >= LEAST_LETTERS:
             yield part
 
 
-def texts_in(source):
-    """The parts of all texts of a source, but those of remarks and attributes."""
-    source = re.sub(r"^\s*(//|#\[).*$", "", source, flags=re.M)
+def texts_in(source, is_program):
+    """The parts of all texts of a source, but those of remarks and attributes; those of programs that
+    `hid struct` writes have such lines, and words behind `$` for holes."""
+    hole = r"\{[^}]*\}"
+    if is_program:
+        hole = r"\$[A-Za-z]+"
+    else:
+        source = re.sub(r"^\s*(//|#\[).*$", "", source, flags=re.M)
     for found in LITERAL.finditer(source):
         if found[1] is not None:
-            yield from parts_of(found[1])
+            yield from parts_of(found[1], hole)
+
+
+def is_of_programs(path):
+    """Whether a source has the texts of programs that `hid struct` writes."""
+    return "hid_struct" in path.parts and path.name in PROGRAMS
 
 
 def sources():
@@ -103,7 +114,11 @@ def check_noticed():
 
 def main():
     check_noticed()
-    texts = [(str(path.relative_to(TOP)), text) for path in sources() for text in texts_in(path.read_text())]
+    texts = [
+        (str(path.relative_to(TOP)), text)
+        for path in sources()
+        for text in texts_in(path.read_text(), is_of_programs(path))
+    ]
     rows = rows_of((HERE / "told.txt").read_text())
     found = faults(texts, stored(), rows)
     for fault in found:

@@ -39,6 +39,9 @@ pub enum Kind {
     /// What a report is written as.
     ReportTarget,
 
+    /// What structs are written in.
+    Language,
+
     /// A host whose refusals are told.
     Host,
 
@@ -236,6 +239,8 @@ static COMPILE: [Argument; 2] = [
     TARGET,
 ];
 
+static STRUCT: [Argument; 2] = [FILE, ("to", Kind::Language, "The language of the source")];
+
 static MAP: [Argument; 3] = [
     FILE,
     ("svg", Kind::Flag, "Write the picture as SVG"),
@@ -261,7 +266,7 @@ static DIFF: [Argument; 2] = [
 static LIST: [Argument; 0] = [];
 
 /// The commands, and what each is for.
-pub static COMMANDS: [(&str, &str); 13] = [
+pub static COMMANDS: [(&str, &str); 14] = [
     ("decode", "Shows the items of a descriptor in words"),
     (
         "fields",
@@ -281,6 +286,10 @@ pub static COMMANDS: [(&str, &str); 13] = [
     (
         "compile",
         "Writes the descriptor that a text of hid decode says",
+    ),
+    (
+        "struct",
+        "Writes source with a struct, a decoder and an encoder for each report",
     ),
     ("map", "Draws the bits of each report"),
     (
@@ -305,6 +314,7 @@ pub fn arguments_of(name: &str) -> &'static [Argument] {
         "set" => &SET,
         "convert" => &CONVERT,
         "compile" => &COMPILE,
+        "struct" => &STRUCT,
         "map" => &MAP,
         "page" => &PAGE,
         "diff" => &DIFF,

@@ -9,6 +9,7 @@ use hid_input::world::World;
 use hid_output::ending::Ending;
 use hid_page::Page;
 use hid_show::{Decode, Fields, List, Map};
+use hid_struct::{Language, Struct};
 use hid_targets::{ReportTarget, Target};
 use hid_values::{Record, Values};
 use hid_words::direction_named;
@@ -35,6 +36,8 @@ pub enum Command<'a> {
     Convert(Convert<'a>),
     /// Writes the descriptor that a text says.
     Compile(Compile<'a>),
+    /// Writes source that reads and writes reports.
+    Struct(Struct<'a>),
     /// Draws the bits of each report.
     Map(Map<'a>),
     /// Writes a page of HTML.
@@ -82,6 +85,10 @@ impl<'a> Command<'a> {
                 let (text, target) = (matches.get_str("TEXT").unwrap_or("-"), target_of(matches));
                 Command::Compile(Compile { text, target })
             }
+            "struct" => {
+                let language = Language::named(matches.get_str("to"));
+                Command::Struct(Struct { file, language })
+            }
             "map" => Command::Map(map_of(file, matches)),
             "page" => Command::Page(Page {
                 inputs: inputs_of(alloc, file, matches)?,
@@ -106,6 +113,7 @@ impl<'a> Command<'a> {
             Command::Set(command) => command.file,
             Command::Convert(command) => command.file,
             Command::Compile(command) => command.text,
+            Command::Struct(command) => command.file,
             Command::Map(command) => command.file,
             Command::Page(command) => command.inputs.file,
             Command::Diff(command) => command.file,
@@ -145,6 +153,7 @@ impl<'a> Command<'a> {
             | Command::Set(_)
             | Command::Convert(_)
             | Command::Compile(_)
+            | Command::Struct(_)
             | Command::Map(_)
             | Command::Page(_)
                 if settings.is_json => { Some("this command has no JSON") }
@@ -163,6 +172,7 @@ impl<'a> Command<'a> {
             Command::Set(command) => command.run(rt, settings),
             Command::Convert(command) => command.run(rt, settings),
             Command::Compile(command) => command.run(rt, settings),
+            Command::Struct(command) => command.run(rt, settings),
             Command::Map(command) => command.run(rt, settings),
             Command::Page(command) => command.run(rt, settings),
             Command::Diff(command) => command.run(rt, settings),

@@ -4,6 +4,7 @@ use crate::settings::READINGS;
 use clap::{Arg, ArgAction, Command};
 use hid_findings::{FAIL_WORDS, HOSTS};
 use hid_given::FORM_WORDS;
+use hid_struct::LANGUAGES;
 use hid_targets::{TARGETS, report_targets};
 use std::alloc::{AllocError, Global};
 
@@ -73,6 +74,7 @@ fn argument_of<'a>(alloc: Global, argument: Argument) -> Result<Arg<'a>, AllocEr
             .conflicts_with_all(&NOT_EXPLAINED)?,
         Kind::Folder => of_all(arg.long(name).value_name("DIR").default_value("/sys")),
         Kind::Target => choice(arg, name, "TARGET", &TARGETS).default_value("hex"),
+        Kind::Language => choice(arg, name, "LANGUAGE", &LANGUAGES).default_value("c"),
         Kind::ReportTarget => choice(arg, name, "TARGET", report_targets()).default_value("hex"),
     })
 }

@@ -1,5 +1,5 @@
 # Completions of `hid` for fish: an option in a line, with its values and what it is for.
-set -l commands decode fields values record uhid set convert compile map page diff check list
+set -l commands decode fields values record uhid set convert compile struct map page diff check list
 
 # A command, where none stands yet, and behind help.
 set -l none "not __fish_seen_subcommand_from $commands help"
@@ -13,6 +13,7 @@ complete -c hid -n "$none" -a uhid -d "Writes a recording as events for Linux's 
 complete -c hid -n "$none" -a set -d "Writes the bytes of a report"
 complete -c hid -n "$none" -a convert -d "Writes a descriptor in another form"
 complete -c hid -n "$none" -a compile -d "Writes the descriptor that a text of hid decode says"
+complete -c hid -n "$none" -a struct -d "Writes source with a struct, a decoder and an encoder for each report"
 complete -c hid -n "$none" -a map -d "Draws the bits of each report"
 complete -c hid -n "$none" -a page -d "Writes a page of HTML that shows a descriptor and reports"
 complete -c hid -n "$none" -a diff -d "Shows what differs between two descriptors"
@@ -48,6 +49,7 @@ complete -c hid -n "__fish_seen_subcommand_from set" -l zero -d "Set all bits to
 complete -c hid -n "__fish_seen_subcommand_from set" -l names -d "Show the names that it takes, one in each line, and write no report"
 complete -c hid -n "__fish_seen_subcommand_from convert" -l to -x -a "hex c rust bytes recording python kernel zephyr tinyusb lufa hid-bpf libinput webhid" -d "What the bytes are written as"
 complete -c hid -n "__fish_seen_subcommand_from compile" -l to -x -a "hex c rust bytes recording python kernel zephyr tinyusb lufa hid-bpf libinput webhid" -d "What the bytes are written as"
+complete -c hid -n "__fish_seen_subcommand_from struct" -l to -x -a "c rust python javascript" -d "The language of the source"
 complete -c hid -n "__fish_seen_subcommand_from map" -l svg -d "Write the picture as SVG"
 complete -c hid -n "__fish_seen_subcommand_from map" -l all -d "Draw all rows, past the first 4,096"
 complete -c hid -n "__fish_seen_subcommand_from page" -l direction -x -a "input output feature" -d "Which way the reports go"
