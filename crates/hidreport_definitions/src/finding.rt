@@ -2,6 +2,7 @@
 ghost use Rattle.std.specs.Prelude.{◌≡◌, pos, [], ◌∷◌, None, Some, false, true};
 ghost use Rattle.hidreport.specs.Blank.{blank_bytes};
 ghost use Rattle.hidreport.specs.Lookup.{field_for, field_with, find_report, has_usage, report_with, reports_of};
+ghost use Rattle.hidreport.specs.Records.{FieldRecord};
 ghost use Rattle.hidreport.specs.Usages.{make_usage, range_from};
 ghost use Rattle.hidreport_fields.specs.declared.field.data_item.Direction.TheVariants as direction;
 ghost use Rattle.hidreport_definitions.specs.Summary.{variable_at};
@@ -19,7 +20,7 @@ pub fn bytes_are_of_one_report()
     ensures not_the_second { find_report (byte_report 1 0 ∷ report_without_id 1 ∷ []) (2 ∷ [])
         ≡ None }
     ensures no_bytes { find_report (report_without_id 0 ∷ []) [] ≡ None }
-    ensures no_reports { find_report [] (1 ∷ []) ≡ None }
+    ensures no_reports { find_report {A = FieldRecord} [] (1 ∷ []) ≡ None }
 {}
 
 /// The first report with an id, or the first without one; in its own direction.
