@@ -88,7 +88,7 @@ END_OF_PAGE
         ! grep -q ' port ' "$scratch/served" || break
         sleep 0.1
     done
-    chromium --headless --no-sandbox --disable-gpu --user-data-dir="$scratch/profile" --remote-debugging-port=0 \
+    chromium --headless --no-sandbox --disable-gpu --user-data-dir="$(mktemp -d "$scratch/profile.XXXXXX")" --remote-debugging-port=0 \
         "http://127.0.0.1:$(sed -n 's/.* port \([0-9]*\) .*/\1/p' "$scratch/served")/index.html" \
         > "$scratch/said" 2>&1 &
     browser=$!
