@@ -1,7 +1,7 @@
 # A crate `probe` above some crates of the repository, for scripts that look at what compiles: to be read by `.`, not run.
 
 # Its words: the script, the repository, and the crates, lowest first. Sets $scratch, which is removed at the end,
-# $probe, the source of the crate, and $wanted, the errors that are wanted of it.
+# $probe, the source of the crate, $wanted, the errors that are wanted of it, and $rt, which tries it.
 make_probe() {
     script=$1
     repository=$2
@@ -23,6 +23,8 @@ make_probe() {
     probe="$scratch/crates/probe/src/lib.rt"
     wanted="$scratch/wanted"
     : > "$wanted"
+    bash "$(dirname "$0")/../common/unproved.sh" --kit "$scratch/kit"
+    rt=$scratch/kit/bin/rt
 }
 
 # Ends the script with a line, and with the standard input behind it.
@@ -39,7 +41,7 @@ want_refusal() {
 }
 
 answer() {
-    (cd "$scratch/crates/probe" && rt try --test 2>&1) || true
+    (cd "$scratch/crates/probe" && "$rt" try --test 2>&1) || true
 }
 
 # The errors of an answer, each with its line and without its column.

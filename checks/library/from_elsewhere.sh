@@ -26,7 +26,8 @@ mkdir -p "$scratch/crates/reader/src"
 cp "$top/checks/library/from_elsewhere/main.source" "$scratch/crates/reader/src/main.rt"
 
 printf '00010030 5\n00010031 -5\n' > "$scratch/wanted"
-(cd "$scratch/crates/reader" && rt try) > "$scratch/shown" 2> "$scratch/said" || {
+bash "$top/checks/common/unproved.sh" --kit "$scratch/kit"
+(cd "$scratch/crates/reader" && "$scratch/kit/bin/rt" try) > "$scratch/shown" 2> "$scratch/said" || {
     echo 'from_elsewhere: the crate does not run:' >&2
     tail -n 20 "$scratch/said" >&2
     exit 1

@@ -98,7 +98,7 @@ SOURCE
     done
 } > "$scratch/crates/probe/src/refusals.rt"
 
-said=$(cd "$scratch/crates/probe" && rt try --test --fail-alloc "$all" 2>&1) || true
+said=$(cd "$scratch/crates/probe" && "$rt" try --test --fail-alloc "$all" 2>&1) || true
 echo "$said" | grep -q '^test refusals::list_1 \.\.\. FAILED' && echo "$said" | grep -q 'error: OutOfMemory' ||
     echo "$said" | fail 'the first allocation is not refused'
 echo "$said" | grep -q "^test refusals::refused_$all \.\.\. ok" ||

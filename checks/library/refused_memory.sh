@@ -100,7 +100,7 @@ mod runs;
 SOURCE
 write_refusals memory "$all" > "$scratch/crates/probe/src/refused_calls.rt"
 write_refusals runs "$of_runs" > "$scratch/crates/probe/src/refused_runs.rt"
-said=$(cd "$scratch/crates/probe" && rt try --test --fail-alloc "$all" 2>&1) || true
+said=$(cd "$scratch/crates/probe" && "$rt" try --test --fail-alloc "$all" 2>&1) || true
 # Every test that fails wants memory, and nothing else.
 failed=$(echo "$said" | grep -c '^test .*\.\.\. FAILED') || true
 wanting=$(echo "$said" | grep -c 'error: "want of memory"') || true
