@@ -51,7 +51,7 @@ function readingOfHex(folder, hex, { path: before, files }) {
 }
 
 function pageOf(reading, reports = []) {
-  return program.text(["page", ...reading.options, reading.path, ...reports], reading.files);
+  return program.text(["page", "--verbose", ...reading.options, reading.path, ...reports], reading.files);
 }
 
 /** The page of a reading with reports; where these are refused, that is said, and it is shown without. */

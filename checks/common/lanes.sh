@@ -1,7 +1,9 @@
 # Lanes side by side: to be read by `.`, not run. `lane NAME COMMAND ..` starts one, what it says goes to a
 # file; `end_lanes` waits for all, shows what each said and how long it took, by the clock and of processor
-# time, and fails where one did. Where `lanes_said` names a file, it gets all of it too. `spent FILE` is how
-# many seconds of processor time the processes of a shell took that have ended, by what its `times` wrote.
+# time, and fails where one did. With `lanes_at_once` a lane begins once fewer than so many run: where two
+# processors share a core, more of them only take more processor time. Where `lanes_said` names a file, it
+# gets all of it too. `spent FILE` is how many seconds of processor time the processes of a shell took that
+# have ended, by what its `times` wrote.
 lane_folder=
 lane_names=()
 declare -A lane_of
@@ -16,9 +18,23 @@ spent() {
     }' "$1"
 }
 
+# Waits until a lane may begin.
+until_there_is_room() {
+    local pid running
+    while :; do
+        running=0
+        for pid in "${lane_of[@]}"; do
+            ! kill -0 "$pid" 2> /dev/null || running=$((running + 1))
+        done
+        [ "$running" -ge "${lanes_at_once:-$((running + 1))}" ] || return 0
+        sleep 0.2
+    done
+}
+
 lane() {
     local name=$1
     shift
+    until_there_is_room
     [ -n "$lane_folder" ] || lane_folder=$(mktemp -d)
     lane_names+=("$name")
     (

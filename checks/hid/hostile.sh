@@ -127,6 +127,20 @@ again libinput_nodes $length '- node: /dev/input/event0\n  hid: [\n    5, 1\n  ]
 again libinput_numbers $length '  hid: [ 5,\n'
 again lsusb_items $length '            Item(Main  ): Input, data= [ 0x00 ] 0\n'
 again debugfs_lines $length '05 01\nINPUT[INPUT]\n'
+again source_branches $length 'a={0};\n#if A||!B\n#endif\n'
+again source_reports 65250 'TUD_HID_REPORT_DESC_MOUSE(),\n'
+again strings 65529 '"\\x05\\1"\n'
+{
+    echo 'char a[] ='
+    cat strings
+    echo ';'
+} > source_strings
+{
+    for ((n = 0; n < 2500; n++)); do echo "#define A$n 1"; done
+    echo 'a[] = {'
+    for ((n = 0; n < 2500; n++)); do echo "A$n,"; done
+    echo '};'
+} > source_names
 {
     for ((n = 0; n < 4000; n++)); do printf 'D: %d\nR: 0\n' "$n"; done
 } > recorder_many
@@ -164,7 +178,7 @@ again long_text 1048576 'a4 '
 shapes='elements fields many_fields padding feature collections ranges usages_of_array deep reports
 zeros pushes opened usages pages designators global_in_push ended_in_push long_items inputs
 hex_lines hex_words recorder_reports recorder_devices recorder_names dump_heads dump_devices
-source_arrays source_numbers source_remarks blanks recorder_many long long_text marks offset_lines
+source_arrays source_numbers source_remarks source_branches source_reports source_strings source_names blanks recorder_many long long_text marks offset_lines
 offset_heads dumped dumped_pushes log_names log_colons logged python_lists python_numbers python_strings libinput_nodes
 libinput_numbers lsusb_items debugfs_lines nearly_blocks nearly_reports capture_requests
 capture_section'
@@ -191,6 +205,8 @@ for shape in $shapes; do
     run page "$shape" "$shape"
     run diff "$shape" "$shape"
     run diff mouse "$shape"
+    run diff --items "$shape" "$shape"
+    run diff --items mouse "$shape"
     run set "$shape" - X=1
     run set --names "$shape" -
     run --as standard fields "$shape"
@@ -214,6 +230,13 @@ for shape in $shapes; do
     run compile "$shape"
     run uhid "$shape"
 done
+
+# As many items as are paired, and more.
+again first_items 4000 '\011\060\011\061\011\062'
+again second_items 4000 '\011\061\011\060\011\063'
+run diff --items --form bytes first_items second_items
+[ "$(grep -c '^+' output)" -lt 2000 ] || fault 'diff --items pairs none of 2000 items'
+says 'hid: the items between those that are the same are too many to pair' diff --items --form bytes usages pages
 
 # What lies behind a report's bytes is said once.
 printf '\005' > report

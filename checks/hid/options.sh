@@ -71,6 +71,7 @@ options() {
 # What a text of the help tells of options: `-h`, `--form bytes|hex|..`, `--device VALUE`.
 helped() {
     sed -n '/^Options\( of all commands\)\?:$/,/^$/p' "$help/$1" | sed -nE '
+        s/^  (-[a-zA-Z]), (--[a-z-]+) <[A-Z]+> .*/\1 VALUE\n\2 VALUE/
         s/^  (-[a-zA-Z]), /\1\n      /
         s/^      (--[a-z-]+) <[A-Z]+> .*\[possible values: ([^]]*)\]$/\1 \2/
         s/^(.*\n)?      (--[a-z-]+) <[A-Z]+> .*/\1\2 VALUE/
@@ -95,7 +96,7 @@ described() {
             what = $0
             sub(/ \[(default|possible values): .*/, "", what)
             sub(/.*  /, "", what)
-            if ($1 ~ /,$/) print substr($1, 1, 2) ": " what
+            if ($1 ~ /,$/) print substr($1, 1, 2) values ": " what
             match($0, /--[a-z-]+/)
             print substr($0, RSTART, RLENGTH) values ": " what
         }'
@@ -118,6 +119,7 @@ of_fish() {
         s/\n .*//
         s/(^|\n)([a-z-]+) -x -a "([^"]*)" -d "([^"]*)"/\1--\2 \3: \4/
         s/(^|\n)([a-z-]+) -x -d "([^"]*)"/\1--\2 VALUE: \3/
+        s/\n([a-zA-Z]) -x -d "([^"]*)"/\n-\1 VALUE: \2/
         s/^([a-z-]+) -d "([^"]*)"/--\1: \2/
         s/\n([a-zA-Z]) -d "([^"]*)"/\n-\1: \2/
         /^-/p' | barred
@@ -169,7 +171,8 @@ same 'hid -V' "$("$scratch/hid" --version)" "$("$scratch/hid" -V)"
 
 # The options of all commands, with their values, in the page of man and by completion.
 same 'OPTIONS of hid.1' "$of_all" \
-    "$(entries OPTIONS | sed -E 's/^(-[a-zA-Z]), /\1\n/; s/ (N|DIR)$/ VALUE/')"
+    "$(entries OPTIONS | sed -E 's/^(-[a-zA-Z]), (.*) NAME$/\1 VALUE\n\2 VALUE/
+        s/^(-[a-zA-Z]), /\1\n/; s/ (N|DIR)$/ VALUE/')"
 same 'what is completed behind hid' "$(names <<< "$of_all")" "$(completed hid -)"
 same 'what is completed behind hid alone' "$(names <<< "$of_all"; echo "$commands"; echo help)" \
     "$(completed hid '')"

@@ -320,7 +320,7 @@ def look_at_bounds(folder):
         words = (file, stream) if reports else (file,)
         page = Page(run("page", *words))
         same("notes on standard error", [f"hid: {note['note']}" for note in page.blocks["notes"]],
-             [line for line in said.splitlines() if "read as" not in line])
+             said.splitlines())
         same("--all has no note", [], Page(run("page", "--all", *words)).blocks["notes"])
         return [len(page.blocks[it]) for it in ("items", "fields", "samples")], page.blocks["notes"]
 

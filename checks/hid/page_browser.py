@@ -44,7 +44,7 @@ press('ArrowDown');
 told.push('keys ' + document.activeElement.id + ', ' + marks('is-near'));
 press('End');
 press('Enter');
-told.push('end ' + location.hash);
+told.push('end ' + location.hash + ', ' + marks('is-far'));
 row('item-46').focus();
 press('ArrowRight');
 told.push('over ' + document.activeElement.id);
@@ -52,36 +52,52 @@ press('ArrowLeft');
 told.push('back ' + document.activeElement.id);
 const texts = (name) => all(name, (it) => it.textContent);
 const values = () => texts('td.value');
-told.push('first ' + values());
+told.push('first ' + values() + ', ' + all('.player button', (it) => it.disabled));
+told.push('map ' + texts('table.map thead th') + ', ' + texts('td.padding .name'));
+told.push('bits ' + texts('td.bits'));
 const slider = document.querySelector('input[type=range]');
 slider.value = '3';
 slider.dispatchEvent(new Event('input'));
-told.push('third ' + values() + ', ' + document.querySelector('.said').textContent);
+const said = () => document.querySelector('.said').textContent;
+told.push('third ' + values() + ', ' + said());
+told.push('changed ' + texts('td.is-changed'));
 document.querySelector('button').click();
 told.push('second ' + values() + ', ' + texts('.digits'));
+told.push('mark ' + all('line.now', (it) => it.getAttribute('x1')));
+document.querySelectorAll('.player button')[1].click();
+told.push('next ' + said());
 window.dispatchEvent(new Event('beforeprint'));
-told.push('printed ' + document.querySelectorAll('table.samples tbody tr').length);
+told.push('printed ' + texts('table.samples .jump'));
 told.push('plots ' + texts('.range'));
+told.push('curve ' + document.querySelectorAll('polyline')[3].getAttribute('points'));
 document.body.append(document.createElement('hr'));
 document.querySelector('hr').id = 'told';
 document.querySelector('hr').dataset.told = told.join('|');
 """
 # Of mouse.recording: the item at 24 makes three buttons of a bit each, that at 46 X and Y, which hold
-# 5 and -5 in the first two reports, and 0 in the third.
+# 5 and -5 in the first two reports, and 0 in the third; the one at 49 ends what the one at 4 begins. A plot
+# is 120 wide and 26 high with an edge of 3: the second report came behind a half of the time, at 60.0, and
+# X falls at the end from the top, 3, to the bottom, 23.
 TOLD = [
     "hover field-4 field-5, field-4 field-5",
     "click item-24, #field-0, field-0",
     "kept field-0",
     "let go ",
     "keys item-4, field-0 field-1 field-2 field-3 field-4 field-5",
-    "end #item-49",
+    "end #item-49, item-4",
     "over field-4",
     "back item-46",
-    "first 1 0 0  5 -5",
+    "first 1 0 0  5 -5, true false",
+    "map Byte 7 6 5 4 3 2 1 0, padding",
+    "bits 0..1 1..2 2..3 3..8 8..16 16..24",
     "third 0 0 0  0 0, 3 of 3000000.016011 sInput report00 00 00",
+    "changed 0 0",
     "second 0 0 0  5 -5, 00000 0 0 0 00000101 11111011",
-    "printed 3",
+    "mark 60.0 60.0 60.0 60.0 60.0",
+    "next 3 of 3000000.016011 sInput report00 00 00",
+    "printed 1 2 3",
     "plots 0 to 1 always 0 always 0 0 to 5 -5 to 0",
+    "curve 3.0,3.0 60.0,3.0 60.0,3.0 117.0,3.0 117.0,23.0 117.0,23.0",
 ]
 
 program = None
@@ -171,12 +187,17 @@ def look_at_names(folder):
     file = os.path.join(folder, "named.recording")
     with open(file, "w", encoding="utf-8") as out:
         out.write(f"D: 0\nR: 10 05 01 09 30 75 08 95 01 81 06\nN: {NAME}\nI: 3 \u202e<i>\n"
-                  "E: 1.5 1 07\n")
+                  "E: 1.5 1 07\nE: 1.5 1 09\n")
     text = show("name", page_of(folder, "named", file), "--dump-dom")
+    same("two reports at one time", True, 'points="60.0,23.0 60.0,23.0 60.0,3.0 117.0,3.0"' in text)
     same("letters that turn a line", True, "<dd>3 \\u{202e}&lt;i&gt;</dd>" in text)
     shown = Shown(text)
     same("name", NAME, shown.heading)
     same("name: images", [], [tag for tag, _ in shown.tags if tag in ("img", "b", "iframe")])
+    with open(file, "w", encoding="utf-8") as out:
+        out.write("R: 10 05 01 09 30 75 10 95 01 81 06\nE: 1.5 2 07 01\n")
+    text = show("wide", page_of(folder, "wide", file), "--dump-dom")
+    same("the bytes of a wide field", True, '<span class="digits">07 01</span>' in text)
     shown = show("refused", page_of(folder, "refused", os.path.join(DATA, "odd.hex")),
                  "--dump-dom")
     same("refused", True, "Refused at offset" in shown and 'class="fault"' in shown)
@@ -195,8 +216,10 @@ def look_at_acts(folder):
     shown = Shown(show("acts", acts, "--dump-dom"))
     told = [words["data-told"] for tag, words in shown.tags if words.get("id") == "told"]
     same("acts: done", 1, len(told))
-    for wanted, got in zip(TOLD, told[0].split("|") if told else []):
-        same("acts", wanted, got)
+    got = told[0].split("|") if told else []
+    same("acts: how many", len(TOLD), len(got))
+    for wanted, done in zip(TOLD, got):
+        same("acts", wanted, done)
 
 
 def take_pictures(folder):

@@ -17,16 +17,6 @@ program=${1:-$top/build/run/hid}
 scratch=$(mktemp -d)
 trap 'rm -rf "$scratch"' EXIT
 
-bash "$top/checks/hid/descriptors.sh" > "$scratch/descriptors"
-
-if command -v python3 > /dev/null; then
-    python3 "$top/checks/hid/compiled.py" "$program" < "$scratch/descriptors"
-    cut -d ' ' -f 1 "$scratch/descriptors" | python3 "$top/checks/hid/written.py" "$program"
-    cut -d ' ' -f 1 "$scratch/descriptors" | python3 "$top/checks/hid/fields.py" "$program"
-    python3 "$top/compare/usbmon.py" --check
-else
-    echo 'hid_texts: no `python3` on the path, so what is decoded, converted and folded is not tried'
-fi
 bash "$top/checks/hid/uhid.sh" "$program"
 
 # hid-recorder's lines of a stream, whose time is its own.
@@ -41,14 +31,42 @@ E: TIME 1 05' ] || {
     exit 1
 }
 
+# A stream's times are seconds with six digits behind the point, since it was begun.
+{ echo 05; sleep 1.2; echo 06; } | "$program" record --times "$top/crates/hid/data/axis.bytes" - 2> /dev/null |
+    awk '
+        $2 !~ /^[0-9][0-9][0-9][0-9][0-9][0-9]\.[0-9][0-9][0-9][0-9][0-9][0-9]$/ { is_odd = 1 }
+        { is_odd = is_odd || $1 != NR || $3 != "X=" (NR + 4) || $2 < (NR == 1 ? 0 : 1.15) || $2 > 60 }
+        END { exit is_odd || NR != 2 }' || {
+    echo 'hid_texts: the times of a stream are other than those at which its lines came' >&2
+    exit 1
+}
+
 # A map of 4,101 rows: the first 4,096, and all where that is asked for. Of 4,097 one is left out.
 rows='05 01 09 30 75 08 96 04 10 81 02 75 08 95 01 81 01'
 row='05 01 09 30 75 08 96 00 10 81 02 75 08 95 01 81 01'
 [ "$(echo "$rows" | "$program" map - 2> /dev/null | tail -n 1)" = '5 more rows: --all shows them' ] &&
     [ "$(echo "$rows" | "$program" map --all - 2> /dev/null | wc -l)" -eq 4103 ] &&
     [ "$(echo "$row" | "$program" map - 2> /dev/null | tail -n 1)" = '1 more row: --all shows it' ] &&
-    echo "$row" | "$program" map --svg - 2> /dev/null | grep -q '>1 more row: --all shows it<' || {
+    echo "$row" | "$program" map --svg - 2> /dev/null | grep -q '>1 more row: --all shows it<' &&
+    [ "$(echo "$row" | "$program" map --svg --all - 2> /dev/null | grep -c '<rect x=')" -eq 4097 ] || {
     echo 'hid_texts: a map of 4,101 or 4,097 rows has others' >&2
+    exit 1
+}
+
+# The rows of all reports are counted together.
+rows='05 01 09 30 75 08 96 34 08 81 02 09 30 91 02'
+[ "$(echo "$rows" | "$program" map - 2> /dev/null | tail -n 1)" = '104 more rows: --all shows them' ] || {
+    echo 'hid_texts: a map of two reports of 2,100 rows has others' >&2
+    exit 1
+}
+
+# Macros stand 60 deep in one another; where there are more collections, bytes stand.
+nested() {
+    { printf 'a1 00 %.0s' $(seq "$1"); printf 'c0 %.0s' $(seq "$1"); } |
+        "$program" convert --to hid-bpf - 2> /dev/null | grep -c 'CollectionPhysical(' || true
+}
+[ "$(nested 60)-$(nested 61)" = 60-0 ] || {
+    echo 'hid_texts: macros stand in one another to another depth' >&2
     exit 1
 }
 
@@ -82,9 +100,14 @@ refused "$(head -c 67108864 /dev/zero | "$program" decode --form bytes - 2>&1)" 
 refused "$(
     ulimit -v 65536
     yes ab | tr -d '\n' | tr ab '\005\001' | head -c 8388608 | "$program" decode --form bytes - 2>&1
-)" 'hid: -: budget exceeded at offset 65536'
-refused "$(head -c 65537 /dev/zero | "$program" convert --form bytes - 2>&1 > /dev/null)" \
-    'hid: -: longer than 65536 bytes: say --limit 65537'
+)" 'hid: -: longer than 65536 bytes: say --limit 8388608'
+for limit in 1 131072; do
+    refused "$(head -c 65537 /dev/zero | "$program" convert --limit "$limit" --form bytes - 2>&1 > /dev/null)" \
+        'hid: -: longer than 65536 bytes: say --limit 131073'
+done
+refused "$(head -c 65537 /dev/zero | "$program" convert --limit 131073 --form bytes - 2>&1 > /dev/null)" ''
+refused "$(head -c 131074 /dev/zero | "$program" convert --limit 131073 --form bytes - 2>&1 > /dev/null)" \
+    'hid: -: longer than 131073 bytes: say --limit 131074'
 refused "$(head -c 65536 /dev/zero | "$program" convert --form bytes - 2>&1 > /dev/null)" ''
 case $(ulimit -v 32768 && head -c 60000000 /dev/zero | tr '\0' '\n' | "$program" compile - 2>&1) in
     'hid: -: '*memory*) ;;
@@ -93,9 +116,35 @@ esac
 refused "$(echo 0501 | "$program" convert --form hex - 2>&1 > /dev/full)" \
     'hid: -: standard output: No space left on device (os error 28)'
 
+refused "$(yes c0 | head -n 65537 | "$program" compile - 2>&1 > /dev/null)" \
+    'hid: -: longer than 65536 bytes: say --limit 131073'
+
+# Of five bytes one is no letter: they are bytes; of six they may be text.
+refused "$(printf '\5AAA\n' | "$program" convert --verbose - 2>&1 | tr '\n' ' ')" 'hid: -: read as bytes 05 41 41 41 0a '
+refused "$(printf '\5AAAA\n' | "$program" convert - 2>&1)" "hid: -: is text but for 1 of 6 bytes, the first at \
+offset 0; or as --form or --report-form bytes"
+
+refused "$(printf '\376\377\0000\0005' | "$program" convert - 2>&1)" \
+    'hid: -: is text in UTF-16, and is read in UTF-8; or as --form or --report-form bytes'
+
+# The most devices of an input, and one more; the longest descriptor that is read.
+devices() {
+    { echo 'R: 2 05 01'; seq -f 'D: %.0f' 1 "$1"; } | "$program" convert --device 0 - 2>&1 | tail -n 1
+}
+refused "$(devices 255)-$(devices 256)" '05 01-hid: -: line 257: more than 256 devices'
+refused "$(yes ab | tr -d '\n' | tr ab '\005\001' | head -c 65536 | "$program" fields --form bytes - 2>&1)" \
+    'hid: -: no item makes a field, so there is no report'
+
+# The most members of structs, and one more.
+members() {
+    echo "05 09 19 01 2a $1 15 00 25 01 75 01 96 $1 81 02" | "$program" struct --as standard - 2>&1 > /dev/null | tail -n 1
+}
+refused "$(members '00 40')-$(members '01 40')" \
+    '-hid: -: the structs have 16385 members, more than 16384'
+
 # Bytes are a capture where its mark and its version are there; a word less, and they are bytes.
 capture_of() {
-    printf "$1" | "$program" convert - 2>&1 | head -n 1
+    printf "$1" | "$program" convert --verbose - 2>&1 | head -n 1
 }
 refused "$(capture_of '\324\303\262\241\2\0\4\0')" 'hid: -: the capture is cut short'
 refused "$(capture_of '\324\303\262\241\2\0\5\0')" 'hid: -: read as bytes'
@@ -111,7 +160,7 @@ streamed() {
         for piece; do
             printf '%b' "$piece"
             sleep 0.1
-        done | "$program" record "$top/crates/hid/data/axis.bytes" - 2>&1 | tail -n +2
+        done | "$program" record --verbose "$top/crates/hid/data/axis.bytes" - 2>&1 | tail -n +2
     )" "$(printf '%b' "$wanted")"
 }
 streamed 'hid: -: read as hex text\nX=5\nX=6' '0' '5\n06\n'
@@ -119,15 +168,24 @@ streamed 'hid: -: read as hex text\nX=5\nX=6' '\n' '# \0342\0202' '\0254\n05' '\
 streamed 'hid: -: read as bytes\nX=35\nX=10\nX=1' '#' '\n' '\0001'
 streamed 'hid: -: read as bytes\nX=-30\nX=-126\nX=10' '\0342' '\0202' '\n'
 
+# A report of bytes in two pieces, and a line without its end.
+refused "$({ printf '\1\5'; sleep 0.1; printf '\373\0\0\0'; } |
+    "$program" record --report-form bytes "$top/crates/hid/data/mouse.hex" - 2> /dev/null | grep -o ' X=.*')" \
+    "$(printf ' X=5 Y=-5\n X=0 Y=0')"
+refused "$(printf '05\n06' | "$program" record "$top/crates/hid/data/axis.bytes" - 2> /dev/null)" "$(printf 'X=5\nX=6')"
+
 # Colour where the environment forces it, and none where it wants none; a name that isn't UTF-8.
 coloured() {
     env "$@" "$program" decode "$top/crates/hid/data/axis.bytes" 2> /dev/null | grep -c "$(printf '\033')" || true
 }
 refused "$(coloured CLICOLOR_FORCE=1)-$(coloured CLICOLOR_FORCE=0)-$(coloured CLICOLOR_FORCE=1 NO_COLOR=1)" '7-0-0'
+refused "$(coloured CLICOLOR_FORCE=1 NO_COLOR=)-$(coloured CLICOLOR_FORCE=)" '7-0'
+refused "$(CLICOLOR_FORCE=1 "$program" decode --color never "$top/crates/hid/data/axis.bytes" 2> /dev/null |
+    grep -c "$(printf '\033')" || true)" 0
 refused "$("$program" decode "$(printf 'a\351.hex')" 2>&1)" \
     "hid: a word isn't UTF-8; a file with such a name is read as - (hid .. - < FILE)"
 echo 75 08 > "$scratch/$(printf 'a\351.hex')"
-refused "$("$program" convert /dev/fd/7 7< "$scratch/$(printf 'a\351.hex')" 2>&1)" \
+refused "$("$program" convert --verbose /dev/fd/7 7< "$scratch/$(printf 'a\351.hex')" 2>&1)" \
     "$(printf 'hid: /dev/fd/7: read as hex text\n75 08')"
 
 # Pictures of reports that are 1,500 pixels high stand below each other; a row more, and beside: of
@@ -139,3 +197,15 @@ columns_of() {
     } | "$program" map --svg - 2> /dev/null | grep -c '<g' || true
 }
 refused "$(columns_of 29)-$(columns_of 30)" '1-2'
+
+# What takes longest comes last.
+bash "$top/checks/hid/descriptors.sh" > "$scratch/descriptors"
+
+if command -v python3 > /dev/null; then
+    python3 "$top/checks/hid/compiled.py" "$program" < "$scratch/descriptors"
+    cut -d ' ' -f 1 "$scratch/descriptors" | python3 "$top/checks/hid/written.py" "$program"
+    cut -d ' ' -f 1 "$scratch/descriptors" | python3 "$top/checks/hid/fields.py" "$program"
+    python3 "$top/compare/usbmon.py" --check
+else
+    echo 'hid_texts: no `python3` on the path, so what is decoded, converted and folded is not tried'
+fi

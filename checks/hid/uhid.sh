@@ -110,13 +110,13 @@ wrong() {
     exit 1
 }
 
-# A recording's device with a number, and what is said on standard error behind the form.
+# A recording's device with a number, and what is said on standard error.
 same() {
     local recording=$1 number=$2 said=$3
     shift 3
     "$scratch/events" "$number" "$recording" "$program" uhid "$@" "$recording" 2> "$scratch/said" ||
         wrong "$recording: $(cat "$scratch/said")"
-    [ "$(sed '/read as hid-recorder/d' "$scratch/said")" = "$said" ] ||
+    [ "$(< "$scratch/said")" = "$said" ] ||
         wrong "$recording: says $(cat "$scratch/said")"
     answers=$((answers + 1))
 }

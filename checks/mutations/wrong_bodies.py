@@ -213,7 +213,7 @@ def try_crate(crate, edits, scratch, faults):
     one_round(0)
     if any(it.startswith(f"{crate}: no answer") for it in faults):
         return
-    with ThreadPoolExecutor(max(1, (os.cpu_count() or 2) - 1)) as pool:
+    with ThreadPoolExecutor(2) as pool:
         list(pool.map(one_round, range(1, len(rounds))))
 
 

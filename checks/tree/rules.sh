@@ -49,6 +49,20 @@ for plants in checks/mutations/planted/*.txt; do
         esac
     done < "$plants"
 done
+# Those beside the proofs (checks/mutations/plants.py): a `file:` line has a path from here.
+for plants in checks/mutations/plants/*.txt; do
+    text=
+    while IFS= read -r line; do
+        case $line in
+            'file: '*) text=$(cat "${line#file: }" 2> /dev/null) ;;
+            'old: '*)
+                rest=${text/"${line#old: }"/}
+                [ "$rest" != "$text" ] && [ "${rest/"${line#old: }"/}" = "$rest" ] ||
+                    fault "$plants: a text doesn't stand once: ${line#old: }"
+                ;;
+        esac
+    done < "$plants"
+done
 found=$(ls crates/*/must-fail/* 2> /dev/null)
 [ -z "$found" ] || fault "edits lie in more-edits: for these rt ci would prove a crate once more:" $found
 

@@ -6,6 +6,9 @@ pub enum Kind {
     /// A word that has to be there.
     Word,
 
+    /// A word that may be left out.
+    WordOrNone,
+
     /// A word that has to be there where no rule is to be explained.
     WordOrRule,
 
@@ -18,8 +21,14 @@ pub enum Kind {
     /// An option without a value, for all commands.
     Setting,
 
+    /// The same, but not beside `QUIET`.
+    Louder,
+
     /// The most that a descriptor may list, or a device's number.
     Number,
+
+    /// A name that a source is to have, with its number or without.
+    Name,
 
     /// What inputs hold.
     Form,
@@ -42,6 +51,9 @@ pub enum Kind {
     /// What structs are written in.
     Language,
 
+    /// Keys of a keyboard.
+    Keys,
+
     /// A host whose refusals are told.
     Host,
 
@@ -59,7 +71,7 @@ pub enum Kind {
 pub type Argument = (&'static str, Kind, &'static str);
 
 /// The options of all commands.
-pub static OPTIONS: [Argument; 8] = [
+pub static OPTIONS: [Argument; 11] = [
     (
         "form",
         Kind::Form,
@@ -69,6 +81,11 @@ pub static OPTIONS: [Argument; 8] = [
         "report-form",
         Kind::Form,
         "What the reports' input holds, where it isn't to be guessed",
+    ),
+    (
+        "define",
+        Kind::Name,
+        "A name that source asks for by #if, or NAME=NUMBER; each by an option",
     ),
     (
         "device",
@@ -96,7 +113,23 @@ pub static OPTIONS: [Argument; 8] = [
         Kind::Folder,
         "The folder in which Linux tells of devices",
     ),
+    (
+        QUIET,
+        Kind::Setting,
+        "Say nothing on standard error but why something is refused",
+    ),
+    (
+        VERBOSE,
+        Kind::Louder,
+        "Say also in which form an input is read",
+    ),
 ];
+
+/// The option by which nothing is said beside refusals.
+pub const QUIET: &str = "quiet";
+
+/// The option by which more is said.
+pub const VERBOSE: &str = "verbose";
 
 /// The option of a rule that is explained.
 pub const EXPLAIN: &str = "explain";
@@ -125,9 +158,9 @@ const WRITTEN_AS: &str = "What the bytes are written as";
 
 const TARGET: Argument = ("to", Kind::Target, WRITTEN_AS);
 
-static DECODE: [Argument; 1] = [FILE];
+const DECODE: &[Argument] = &[FILE];
 
-static CHECK: [Argument; 4] = [
+const CHECK: &[Argument] = &[
     ("FILE", Kind::WordOrRule, "The descriptor"),
     (
         "for",
@@ -146,7 +179,7 @@ static CHECK: [Argument; 4] = [
     ),
 ];
 
-static FIELDS: [Argument; 3] = [
+const FIELDS: &[Argument] = &[
     FILE,
     (
         "all",
@@ -172,7 +205,7 @@ const TIMES: Argument = (
     "Show each report's number and its time in seconds",
 );
 
-static VALUES: [Argument; 5] = [
+const VALUES: &[Argument] = &[
     FILE,
     REPORTS,
     DIRECTION,
@@ -184,12 +217,16 @@ static VALUES: [Argument; 5] = [
     TIMES,
 ];
 
-static RECORD: [Argument; 5] = [
-    FILE,
+const RECORD: &[Argument] = &[
+    (
+        "FILE",
+        Kind::WordOrNone,
+        "The descriptor; without it a device of the machine is asked for",
+    ),
     (
         "STREAM",
-        Kind::Word,
-        "A node, a pipe, a recording, or - for the standard input",
+        Kind::WordOrNone,
+        "A node, a pipe, a recording, or - for the standard input; FILE where that is a node",
     ),
     (
         "changes",
@@ -200,13 +237,13 @@ static RECORD: [Argument; 5] = [
     TIMES,
 ];
 
-static UHID: [Argument; 1] = [(
+const UHID: &[Argument] = &[(
     "FILE",
     Kind::Word,
     "A recording of a device, or its descriptor",
 )];
 
-static SET: [Argument; 7] = [
+const SET: &[Argument] = &[
     FILE,
     (
         "ID",
@@ -221,6 +258,11 @@ static SET: [Argument; 7] = [
     DIRECTION,
     ("to", Kind::ReportTarget, WRITTEN_AS),
     (
+        "press",
+        Kind::Keys,
+        "Press keys of a keyboard, too, with + between them, as Ctrl+A",
+    ),
+    (
         "zero",
         Kind::Flag,
         "Set all bits to 0 that no name sets, and not to what stands for no value",
@@ -232,22 +274,22 @@ static SET: [Argument; 7] = [
     ),
 ];
 
-static CONVERT: [Argument; 2] = [FILE, TARGET];
+const CONVERT: &[Argument] = &[FILE, TARGET];
 
-static COMPILE: [Argument; 2] = [
+const COMPILE: &[Argument] = &[
     ("TEXT", Kind::Word, "The text, or - for the standard input"),
     TARGET,
 ];
 
-static STRUCT: [Argument; 2] = [FILE, ("to", Kind::Language, "The language of the source")];
+const STRUCT: &[Argument] = &[FILE, ("to", Kind::Language, "The language of the source")];
 
-static MAP: [Argument; 3] = [
+const MAP: &[Argument] = &[
     FILE,
     ("svg", Kind::Flag, "Write the picture as SVG"),
     ("all", Kind::Flag, "Draw all rows, past the first 4,096"),
 ];
 
-static PAGE: [Argument; 4] = [
+const PAGE: &[Argument] = &[
     FILE,
     REPORTS,
     DIRECTION,
@@ -258,68 +300,33 @@ static PAGE: [Argument; 4] = [
     ),
 ];
 
-static DIFF: [Argument; 2] = [
+const DIFF: &[Argument] = &[
     ("FILE", Kind::Word, "A descriptor"),
     ("OTHER", Kind::Word, "Another"),
+    (
+        "items",
+        Kind::Flag,
+        "Show the items that differ, in the bytes as they stand",
+    ),
 ];
 
-static LIST: [Argument; 0] = [];
+const LIST: &[Argument] = &[];
 
-/// The commands, and what each is for.
-pub static COMMANDS: [(&str, &str); 14] = [
-    ("decode", "Shows the items of a descriptor in words"),
-    (
-        "fields",
-        "Shows the reports of a descriptor and their fields",
-    ),
-    ("values", "Shows the values of reports"),
-    (
-        "record",
-        "Shows each report of a stream in a line, as it comes",
-    ),
-    (
-        "uhid",
-        "Writes a recording as events for Linux's /dev/uhid, without its times",
-    ),
-    ("set", "Writes the bytes of a report"),
-    ("convert", "Writes a descriptor in another form"),
-    (
-        "compile",
-        "Writes the descriptor that a text of hid decode says",
-    ),
-    (
-        "struct",
-        "Writes source with a struct, a decoder and an encoder for each report",
-    ),
-    ("map", "Draws the bits of each report"),
-    (
-        "page",
-        "Writes a page of HTML that shows a descriptor and reports",
-    ),
-    ("diff", "Shows what differs between two descriptors"),
-    (
-        "check",
-        "Shows what is odd in a descriptor, and what the standard says",
-    ),
-    ("list", "Shows the HID devices of the machine"),
+/// The commands: the name of each, what it is for, and its arguments.
+#[rattlefmt::skip]
+pub static COMMANDS: [(&str, &str, &[Argument]); 14] = [
+    ("decode", "Shows the items of a descriptor in words", DECODE),
+    ("fields", "Shows the reports of a descriptor and their fields", FIELDS),
+    ("values", "Shows the values of reports", VALUES),
+    ("record", "Shows each report of a stream in a line, as it comes", RECORD),
+    ("uhid", "Writes a recording as events for Linux's /dev/uhid, without its times", UHID),
+    ("set", "Writes the bytes of a report", SET),
+    ("convert", "Writes a descriptor in another form", CONVERT),
+    ("compile", "Writes the descriptor that a text of hid decode says", COMPILE),
+    ("struct", "Writes source with a struct, a decoder and an encoder for each report", STRUCT),
+    ("map", "Draws the bits of each report", MAP),
+    ("page", "Writes a page of HTML that shows a descriptor and reports", PAGE),
+    ("diff", "Shows what differs between two descriptors", DIFF),
+    ("check", "Shows what is odd in a descriptor, and what the standard says", CHECK),
+    ("list", "Shows the HID devices of the machine", LIST),
 ];
-
-/// The arguments of a command.
-pub fn arguments_of(name: &str) -> &'static [Argument] {
-    match name {
-        "fields" => &FIELDS,
-        "values" => &VALUES,
-        "record" => &RECORD,
-        "uhid" => &UHID,
-        "set" => &SET,
-        "convert" => &CONVERT,
-        "compile" => &COMPILE,
-        "struct" => &STRUCT,
-        "map" => &MAP,
-        "page" => &PAGE,
-        "diff" => &DIFF,
-        "check" => &CHECK,
-        "list" => &LIST,
-        _ => &DECODE,
-    }
-}

@@ -74,7 +74,7 @@ impl<'a> Command<'a> {
                 is_down: matches.get_flag("down"),
                 has_times: matches.get_flag("times"),
             }),
-            "record" => Command::Record(record_of(file, matches)),
+            "record" => Command::Record(record_of(matches)),
             "uhid" => Command::Uhid(Uhid { file }),
             "set" => Command::Set(set_of(alloc, file, matches)?),
             "convert" => {
@@ -96,7 +96,12 @@ impl<'a> Command<'a> {
             }),
             "diff" => {
                 let other = matches.get_str("OTHER").unwrap_or("-");
-                Command::Diff(Diff { file, other })
+                let by_items = matches.get_flag("items");
+                Command::Diff(Diff {
+                    file,
+                    other,
+                    by_items,
+                })
             }
             _ => bail!("{name} is no command"),
         })
@@ -108,7 +113,7 @@ impl<'a> Command<'a> {
             Command::Decode(command) => command.file,
             Command::Fields(command) => command.file,
             Command::Values(command) => command.inputs.file,
-            Command::Record(command) => command.file,
+            Command::Record(command) => command.file.unwrap_or("record"),
             Command::Uhid(command) => command.file,
             Command::Set(command) => command.file,
             Command::Convert(command) => command.file,
@@ -138,6 +143,9 @@ impl<'a> Command<'a> {
             Command::Set(command) if command.shows_names && !command.words.is_empty() => {
                 Some("--names takes no NAME=NUMBER")
             }
+            Command::Set(command) if command.shows_names && command.keys.is_some() => {
+                Some("--names and --press can't both be met")
+            }
             Command::Record(command) if command.is_raw && settings.is_json => {
                 Some("--raw and --json can't both be met")
             }
@@ -148,6 +156,9 @@ impl<'a> Command<'a> {
                 { Some("--times is of lines of values: --raw and --json have times") }
             Command::Record(command) if command.only_changes && settings.is_json => {
                 Some("--changes and --json can't both be met")
+            }
+            Command::Diff(command) if command.by_items && settings.is_json => {
+                Some("--items and --json can't both be met")
             }
             Command::Uhid(_)
             | Command::Set(_)
@@ -191,13 +202,13 @@ fn inputs_of<'a>(
 ) -> Result<Inputs<'a>, AllocError> {
     Ok(Inputs {
         file,
-        reports: words_of(alloc, "REPORT", matches)?,
+        reports: words_in(alloc, "REPORT", matches)?,
         direction: direction_of(matches),
     })
 }
 
 /// The words of an argument that may have several.
-fn words_of<'a>(
+pub fn words_in<'a>(
     alloc: Global,
     name: &str,
     matches: &ArgMatches<'a>,
@@ -220,10 +231,10 @@ fn check_of<'a>(alloc: Global, file: &'a str, matches: &ArgMatches<'a>) -> Resul
     }))
 }
 
-fn record_of<'a>(file: &'a str, matches: &ArgMatches<'a>) -> Record<'a> {
+fn record_of<'a>(matches: &ArgMatches<'a>) -> Record<'a> {
     Record {
-        file,
-        stream: matches.get_str("STREAM").unwrap_or("-"),
+        file: matches.get_str("FILE"),
+        stream: matches.get_str("STREAM"),
         only_changes: matches.get_flag("changes"),
         is_raw: matches.get_flag("raw"),
         has_times: matches.get_flag("times"),
@@ -234,7 +245,8 @@ fn set_of<'a>(alloc: Global, file: &'a str, matches: &ArgMatches<'a>) -> Result<
     Ok(Set {
         file,
         id: id_named(matches.get_str("ID").unwrap_or("-"))?,
-        words: words_of(alloc, "NAME=NUMBER", matches)?,
+        words: words_in(alloc, "NAME=NUMBER", matches)?,
+        keys: matches.get_str("press"),
         direction: direction_of(matches),
         target: ReportTarget::named(matches.get_str("to")),
         is_zero: matches.get_flag("zero"),

@@ -1,5 +1,5 @@
 //! The words that `hid` knows.
-use crate::arguments::{Argument, COMMANDS, EXPLAIN, Kind, NOT_EXPLAINED, OPTIONS, arguments_of};
+use crate::arguments::{Argument, COMMANDS, EXPLAIN, Kind, NOT_EXPLAINED, OPTIONS, QUIET};
 use crate::settings::READINGS;
 use clap::{Arg, ArgAction, Command};
 use hid_findings::{FAIL_WORDS, HOSTS};
@@ -15,7 +15,7 @@ static DIRECTIONS: [&str; 3] = ["input", "output", "feature"];
 /// What stands below the help.
 const AFTER: &str = "FILE is a report descriptor: a file, - for the standard input, or a node such \
 as /dev/hidraw0.\nIt holds bytes, hex text, a dump with offsets, C, Rust or Python source, or what \
-hid-recorder,\nusbhid-dump, libinput record, debugfs or lsusb -v write, or a capture of usbmon.\n\
+hid-recorder,\nusbhid-dump, libinput record, debugfs or lsusb -v write, or a capture of USB traffic.\n\
 The status is 0, 1 where something is refused or can't be read, and 2 where the words are wrong.";
 
 /// `hid` with its commands.
@@ -27,9 +27,9 @@ pub fn command_line<'a>(alloc: Global) -> Result<Command<'a>, AllocError> {
         .subcommand_required(true)
         .arg_required_else_help(true);
     let mut hid = with_arguments(alloc, hid, &OPTIONS)?;
-    for (name, about) in &COMMANDS {
+    for (name, about, arguments) in &COMMANDS {
         let command = Command::new(alloc, name).about(about);
-        hid = hid.subcommand(with_arguments(alloc, command, arguments_of(name))?)?;
+        hid = hid.subcommand(with_arguments(alloc, command, arguments)?)?;
     }
     Ok(hid)
 }
@@ -53,19 +53,30 @@ fn argument_of<'a>(alloc: Global, argument: Argument) -> Result<Arg<'a>, AllocEr
     let arg = Arg::new(alloc, name).help(help);
     Ok(match kind {
         Kind::Word => arg.value_name(name).required(true),
+        Kind::WordOrNone => arg.value_name(name),
         Kind::WordOrRule => arg.value_name(name).required_unless_present(EXPLAIN)?,
         Kind::Words => arg.num_args(0..),
         Kind::Flag => arg.long(name).action(ArgAction::SetTrue),
         Kind::Setting => of_all(arg.long(name).action(ArgAction::SetTrue)),
+        Kind::Louder => of_all(arg.long(name).action(ArgAction::SetTrue)).conflicts_with_all(&[
+            QUIET,
+        ])?,
         Kind::Number => of_all(
             arg.long(name)
                 .value_name("N")
                 .value_parser(clap::value_parser!(usize)),
         ),
+        Kind::Name => of_all(
+            arg.short('D')
+                .long(name)
+                .value_name("NAME")
+                .action(ArgAction::Append),
+        ),
         Kind::Form => of_all(choice(arg, name, "FORM", &FORM_WORDS)),
         Kind::Reading => of_all(choice(arg, name, "READING", &READINGS)),
         Kind::Colour => of_all(choice(arg, name, "WHEN", &COLOURS).default_value("auto")),
         Kind::Direction => choice(arg, name, "DIRECTION", &DIRECTIONS).default_value("input"),
+        Kind::Keys => arg.long(name).value_name("KEYS"),
         Kind::Host => choice(arg, name, "HOST", &HOSTS),
         Kind::Severity => choice(arg, name, "SEVERITY", &FAIL_WORDS).default_value("note"),
         Kind::Rule => arg

@@ -9,7 +9,7 @@ mod command_line;
 mod settings;
 
 use crate::arguments::REPLACED;
-use crate::command::Command;
+use crate::command::{Command, words_in};
 use crate::command_line::command_line;
 use crate::settings::settings_of;
 use anyhow::{Context, Result, bail};
@@ -106,7 +106,8 @@ fn carry_out<R: World>(
     name: &str,
     matches: &ArgMatches,
 ) -> Result<Ending> {
-    let settings = settings_of(matches, is_coloured(rt, is_terminal));
+    let names = words_in(rt.alloc(), "define", matches)?;
+    let settings = settings_of(matches, is_coloured(rt, is_terminal), &names);
     let command = match Command::of(rt.alloc(), name, matches) {
         Ok(command) => command,
         Err(error) => {

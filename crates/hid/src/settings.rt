@@ -1,14 +1,21 @@
 //! The options of all commands, by the words of the command line.
+use crate::arguments::{QUIET, VERBOSE};
 use clap::ArgMatches;
 use hid_given::Form;
-use hid_input::settings::{LIMIT, ReadAs, Settings};
+use hid_input::settings::{LIMIT, Notes, ReadAs, Settings};
 use hidreport::ParseOptions;
 
-/// What the words of a command line say; whether `auto` means colour is told.
-pub fn settings_of<'a>(matches: &ArgMatches<'a>, is_terminal: bool) -> Settings<'a> {
+/// What the words of a command line say; whether `auto` means colour is told, and the names of
+/// `--define`.
+pub fn settings_of<'a: 'b, 'b>(
+    matches: &ArgMatches<'a>,
+    is_terminal: bool,
+    names: &'b [&'b str],
+) -> Settings<'b> {
     let limit = matches.get_one::<usize>("limit").unwrap_or(LIMIT);
     let read_as = matches.get_str("as").and_then(read_as_named);
     let reading = read_as.unwrap_or(ReadAs::Linux);
+    let sysfs: &'a str = matches.get_str("sysfs").unwrap_or("/sys");
     Settings {
         form: matches.get_str("form").and_then(Form::named),
         report_form: matches.get_str("report-form").and_then(Form::named),
@@ -21,7 +28,18 @@ pub fn settings_of<'a>(matches: &ArgMatches<'a>, is_terminal: bool) -> Settings<
             Some("never") => false,
             _ => is_terminal,
         },
-        sysfs: matches.get_str("sysfs").unwrap_or("/sys"),
+        sysfs,
+        notes: notes_of(matches),
+        names,
+    }
+}
+
+/// What is said beside refusals; not both options are given.
+fn notes_of(matches: &ArgMatches) -> Notes {
+    match (matches.get_flag(QUIET), matches.get_flag(VERBOSE)) {
+        (true, _) => Notes::Quiet,
+        (false, true) => Notes::Verbose,
+        (false, false) => Notes::Usual,
     }
 }
 

@@ -1,17 +1,14 @@
-//! Captures of Linux's usbmon, in a file of pcap or pcapng: the report descriptors that devices were
-//! asked for, and the reports of their interrupt endpoints.
+//! Captures of USB traffic: the report descriptors that devices were asked for, and the reports of their
+//! interrupt endpoints.
 use crate::byte_order::ByteOrder;
 use crate::interfaces::{Endpoint, add_endpoints, total_length};
-use crate::urb::{Event, Urb, header_of};
+use crate::stamp::Stamp;
+use crate::strays::{Strays, report_of};
+use crate::urb::{CONTROL, Event, INTERRUPT, Urb, link_of};
 use anyhow::{Result, bail, ensure};
-use hid_given::{Found, GivenReport};
+use hid_given::{Found, Wanted as GivenWanted};
 use std::alloc::{AllocError, Global};
 use std::fmt::Write;
-
-/// The kinds of transfers.
-const INTERRUPT: u8 = 1;
-
-const CONTROL: u8 = 2;
 
 /// The most endpoints and open requests that are kept.
 const MOST: usize = 4_096;
@@ -40,8 +37,8 @@ struct Request {
 pub struct Capture {
     requests: Vec<Request>,
     endpoints: Vec<Endpoint>,
-    /// How many reports are of an endpoint whose interface isn't known.
-    strays: u64,
+    /// The reports of endpoints whose interface isn't known.
+    strays: Strays,
 }
 
 impl Capture {
@@ -50,7 +47,7 @@ impl Capture {
         Capture {
             requests: Vec::new(alloc),
             endpoints: Vec::new(alloc),
-            strays: 0,
+            strays: Strays::new(alloc),
         }
     }
 
@@ -58,19 +55,20 @@ impl Capture {
     ///
     /// # Errors
     ///
-    /// - its link type isn't one of usbmon's;
+    /// - its link type isn't one that is read;
     /// - it is cut short.
     pub fn take(
         &mut self,
         found: &mut Found,
         order: ByteOrder,
         link: u32,
+        time: Stamp,
         packet: &[u8],
     ) -> Result<()> {
-        let Some(header) = header_of(link) else {
-            bail!("is of the link type {link}, and usbmon's are 189 and 220");
+        let Some(link) = link_of(link) else {
+            bail!("is of the link type {link}; 189 and 220 of usbmon and 249 of USBPcap are read");
         };
-        let Some(urb) = Urb::of(order, header, packet) else {
+        let Some(urb) = Urb::of(link, order, time, packet) else {
             bail!("is cut short");
         };
         match (urb.kind, urb.event) {
@@ -139,8 +137,7 @@ impl Capture {
             return Ok(());
         }
         let Some(endpoint) = self.endpoint_of(urb) else {
-            self.strays = self.strays.saturating_add(1);
-            return Ok(());
+            return Ok(self.strays.take(urb)?);
         };
         if !endpoint.is_hid {
             return Ok(());
@@ -148,14 +145,10 @@ impl Capture {
         urb.whole()?;
         let alloc = *found.devices.allocator();
         let address = address_of(alloc, urb, endpoint.interface)?;
-        let (seconds, micros) = (urb.seconds, urb.micros);
-        let device = found.device_called(address.as_str())?;
-        Ok(found.add_report(GivenReport {
-            device,
-            address: Some(address),
-            time: Some(format!(in alloc; "{seconds}.{micros:06}")?),
-            bytes: Vec::from_slice(alloc, urb.data)?,
-        })?)
+        let mut report = report_of(alloc, urb)?;
+        report.device = found.device_called(address.as_str())?;
+        report.address = Some(address);
+        Ok(found.add_report(report)?)
     }
 
     /// The endpoint of a transfer, where all configurations have it in one interface.
@@ -169,18 +162,14 @@ impl Capture {
             .copied()
     }
 
-    /// Takes behind the last packet what is left out.
-    pub fn end(&self, found: &mut Found) -> Result<()> {
-        let strays = self.strays;
-        if strays == 0 {
-            return Ok(());
-        }
-        let alloc = *found.devices.allocator();
-        let plural = if strays == 1 { "" } else { "s" };
-        let note = format!(in alloc;
-            "{strays} transfer{plural} left out: no configuration in it says of which interface"
-        )?;
-        Ok(found.notes.push(note)?)
+    /// Takes behind the last packet what is left: where reports are wanted, and one endpoint alone sent
+    /// some, these are the reports; else it is said that they are left out.
+    pub fn end(&mut self, found: &mut Found, wanted: GivenWanted) -> Result<()> {
+        let is_alone = found.devices.is_empty() && found.reports.is_empty();
+        Ok(
+            self.strays
+                .end(found, is_alone && wanted == GivenWanted::Reports)?,
+        )
     }
 }
 

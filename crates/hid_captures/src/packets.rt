@@ -1,8 +1,9 @@
 //! The packets of a file of pcap or pcapng, one after the other.
 use crate::byte_order::ByteOrder;
 use crate::capture::Capture;
+use crate::stamp::Stamp;
 use anyhow::{Context, Result, bail, ensure};
-use hid_given::Found;
+use hid_given::{Found, Wanted};
 use std::alloc::Global;
 
 /// The types of the blocks of pcapng that are read.
@@ -24,6 +25,18 @@ const FILE_HEADER: usize = 24;
 
 const RECORD_HEADER: usize = 16;
 
+/// The option of an interface that says how long a tick is, and what it is where nothing is said.
+const RESOLUTION: u16 = 9;
+
+const MILLIONTHS: u8 = 6;
+
+/// An interface of a section: its link type, and how long a tick is.
+#[derive(Clone, Copy)]
+struct Interface {
+    link: u32,
+    resolution: u8,
+}
+
 /// The most interfaces of a section.
 const MOST_LINKS: usize = 4_096;
 
@@ -37,15 +50,15 @@ pub fn is_capture(bytes: &[u8]) -> bool {
 /// # Errors
 ///
 /// - the bytes are no capture, or it is cut short;
-/// - a packet is cut short, or isn't of usbmon.
-pub fn read_capture(alloc: Global, found: &mut Found, bytes: &[u8]) -> Result<()> {
+/// - a packet is cut short, or is neither of usbmon nor of USBPcap.
+pub fn read_capture(alloc: Global, found: &mut Found, wanted: Wanted, bytes: &[u8]) -> Result<()> {
     let mut capture = Capture::new(alloc);
     if let Some(order) = file_order(bytes) {
         read_records(&mut capture, found, order, bytes)?;
     } else {
         read_blocks(&mut capture, found, bytes)?;
     }
-    capture.end(found)
+    capture.end(found, wanted)
 }
 
 /// The order of a file of pcap, by its first four bytes and its version.
@@ -77,6 +90,11 @@ fn read_records(
     ) else {
         bail!("the capture is cut short");
     };
+    let resolution = if order.u32_at(bytes, 0) == Some(0xa1b2_3c4d) {
+        9
+    } else {
+        6
+    };
     let mut number = 0u64;
     for _ in 0..bytes.len() {
         if rest.is_empty() {
@@ -86,9 +104,10 @@ fn read_records(
         let Some((packet, behind)) = record_of(order, rest) else {
             bail!("packet {number}: the capture is cut short");
         };
+        let time = record_time(order, resolution, rest);
         rest = behind;
         capture
-            .take(found, order, link, packet)
+            .take(found, order, link, time, packet)
             .context(format_args!("packet {number}"))?;
     }
     Ok(())
@@ -101,13 +120,25 @@ fn record_of(order: ByteOrder, rest: &[u8]) -> Option<(&[u8], &[u8])> {
     behind.split_at_checked(length)
 }
 
+/// When the first packet of pcap's records came.
+fn record_time(order: ByteOrder, resolution: u8, rest: &[u8]) -> Stamp {
+    let (Some(seconds), Some(part)) = (order.u32_at(rest, 0), order.u32_at(rest, 4)) else {
+        return Stamp::none();
+    };
+    let part = Stamp::of_ticks(u64::from(part), resolution);
+    Stamp {
+        seconds: u64::from(seconds).saturating_add(part.seconds),
+        micros: part.micros,
+    }
+}
+
 /// Takes the packets of pcapng.
 fn read_blocks(capture: &mut Capture, found: &mut Found, bytes: &[u8]) -> Result<()> {
     let Some(first) = section_order(bytes) else {
         bail!("is no capture of pcap or pcapng");
     };
     let mut order = first;
-    let mut links: Vec<u32> = Vec::new(*found.devices.allocator());
+    let mut links: Vec<Interface> = Vec::new(*found.devices.allocator());
     let (mut rest, mut number) = (bytes, 0u64);
     for _ in 0..bytes.len() {
         if rest.is_empty() {
@@ -131,7 +162,8 @@ fn read_blocks(capture: &mut Capture, found: &mut Found, bytes: &[u8]) -> Result
                 let Some(link) = order.u16_at(body, 0) else {
                     bail!("the block at byte {place} is cut short");
                 };
-                links.push(u32::from(link))?;
+                let (link, resolution) = (u32::from(link), resolution_in(order, body));
+                links.push(Interface { link, resolution })?;
             }
             PACKET | SIMPLE_PACKET => {
                 number = number.saturating_add(1);
@@ -163,7 +195,7 @@ fn take_block(
     capture: &mut Capture,
     found: &mut Found,
     order: ByteOrder,
-    links: &[u32],
+    links: &[Interface],
     kind: u32,
     body: &[u8],
 ) -> Result<()> {
@@ -171,9 +203,40 @@ fn take_block(
         bail!("is cut short");
     };
     match links.get(number) {
-        Some(link) => capture.take(found, order, *link, packet),
+        Some(interface) => {
+            let time = time_in(order, *interface, kind, body);
+            capture.take(found, order, interface.link, time, packet)
+        }
         None => bail!("is of the interface {number}, which no block describes"),
     }
+}
+
+/// When the packet of a block came; a simple one doesn't say it.
+fn time_in(order: ByteOrder, interface: Interface, kind: u32, body: &[u8]) -> Stamp {
+    match (kind, order.u32_at(body, 4), order.u32_at(body, 8)) {
+        (PACKET, Some(high), Some(low)) => {
+            let ticks = u64::from(high) << 32 | u64::from(low);
+            Stamp::of_ticks(ticks, interface.resolution)
+        }
+        _ => Stamp::none(),
+    }
+}
+
+/// What the block of an interface says of a tick: millionths where it says nothing.
+fn resolution_in(order: ByteOrder, body: &[u8]) -> u8 {
+    let mut rest = body.get(8..).unwrap_or(&[]);
+    for _ in 0..body.len() {
+        let (Some(code), Some(length)) = (order.u16_at(rest, 0), order.u16_at(rest, 2)) else {
+            break;
+        };
+        let length = usize::from(length);
+        if code == RESOLUTION && length == 1 {
+            return rest.get(4).copied().unwrap_or(MILLIONTHS);
+        }
+        let behind = length.div_ceil(4).saturating_mul(4).saturating_add(4);
+        rest = rest.get(behind..).unwrap_or(&[]);
+    }
+    MILLIONTHS
 }
 
 /// The number of the interface that a block is of, and its packet.

@@ -1,11 +1,31 @@
-//! What Linux's usbmon says of a transfer, in front of its data.
+//! What a packet says of a transfer, in front of its data: as Linux's usbmon or Windows' USBPcap has it.
 use crate::byte_order::ByteOrder;
+use crate::stamp::Stamp;
 use anyhow::{Result, anyhow};
 
-/// How many bytes stand before the data, by the link types 189 and 220.
-const SHORT_HEADER: usize = 48;
+/// The kind of control transfers.
+pub const CONTROL: u8 = 2;
 
-const LONG_HEADER: usize = 64;
+/// The kind of interrupts.
+pub const INTERRUPT: u8 = 1;
+
+/// Who wrote packets.
+#[derive(Clone, Copy)]
+pub enum Link {
+    /// Linux's usbmon, with so many bytes before the data.
+    Usbmon(usize),
+
+    /// USBPcap, whose packets say how many bytes stand before the data.
+    Usbpcap,
+}
+
+/// The stages of a control transfer that USBPcap tells apart: what is asked for, and that it is
+/// confirmed; behind the first the data come, or all at once.
+const SETUP: u8 = 0;
+
+const STATUS: u8 = 2;
+
+const COMPLETE: u8 = 3;
 
 /// What a packet tells of a transfer.
 #[derive(Clone, Copy, PartialEq)]
@@ -27,16 +47,15 @@ pub struct Urb<'a> {
     pub id: u64,
     /// What happened.
     pub event: Event,
-    /// Its kind: 1 is an interrupt, 2 a control transfer.
+    /// Its kind: `CONTROL`, `INTERRUPT`, or another.
     pub kind: u8,
     /// The endpoint, with bit 7 where data come from the device.
     pub endpoint: u8,
     /// The bus and the device on it.
     pub bus: u16,
     pub device: u8,
-    /// When it happened: seconds and millionths.
-    pub seconds: u64,
-    pub micros: u32,
+    /// When it happened.
+    pub time: Stamp,
     /// The setup packet, where one is there.
     pub setup: Option<&'a [u8]>,
     /// The data, where the packet has some; how many there were.
@@ -44,18 +63,59 @@ pub struct Urb<'a> {
     pub length: usize,
 }
 
-/// How many bytes usbmon has before the data of a link type, where it is one of its own.
-pub fn header_of(link: u32) -> Option<usize> {
-    match link {
-        189 => Some(SHORT_HEADER),
-        220 => Some(LONG_HEADER),
+/// Who writes packets of a link type, where they are read.
+pub fn link_of(number: u32) -> Option<Link> {
+    match number {
+        189 => Some(Link::Usbmon(48)),
+        220 => Some(Link::Usbmon(64)),
+        249 => Some(Link::Usbpcap),
         _ => None,
     }
 }
 
 impl<'a> Urb<'a> {
-    /// What a packet says; none where it ends in the part before the data.
-    pub fn of(order: ByteOrder, header: usize, packet: &'a [u8]) -> Option<Urb<'a>> {
+    /// What a packet says, which the capture has of this time; none where it ends in the part before
+    /// the data.
+    pub fn of(link: Link, order: ByteOrder, time: Stamp, packet: &'a [u8]) -> Option<Urb<'a>> {
+        match link {
+            Link::Usbmon(header) => Urb::of_usbmon(order, header, packet),
+            Link::Usbpcap => Urb::of_usbpcap(time, packet),
+        }
+    }
+
+    /// What a packet of USBPcap says: its numbers have the lowest byte first in every capture.
+    fn of_usbpcap(time: Stamp, packet: &'a [u8]) -> Option<Urb<'a>> {
+        let order = ByteOrder::Little;
+        let header = usize::from(order.u16_at(packet, 0)?);
+        let (head, data) = packet.split_at_checked(header)?;
+        let is_answer = *head.get(16)? & 1 == 1;
+        let kind = *head.get(22)?;
+        let stage = head.get(27).copied().unwrap_or(COMPLETE);
+        let is_good = order.u32_at(head, 10)? == 0 && (kind != CONTROL || stage != STATUS);
+        Some(Urb {
+            id: order.u64_at(head, 2)?,
+            event: match (is_answer, is_good) {
+                (false, _) => Event::Submitted,
+                (true, true) => Event::Done,
+                (true, false) => Event::Failed,
+            },
+            kind,
+            endpoint: *head.get(21)?,
+            bus: order.u16_at(head, 17)?,
+            device: u8::try_from(order.u16_at(head, 19)?).ok()?,
+            time,
+            setup: if kind == CONTROL && !is_answer && stage == SETUP {
+                data.get(..8)
+            } else {
+                None
+            },
+            data,
+            length: usize::try_from(order.u32_at(head, 23)?).ok()?,
+        })
+    }
+
+    /// What a packet of usbmon says.
+    fn of_usbmon(order: ByteOrder, header: usize, packet: &'a [u8]) -> Option<Urb<'a>> {
         let (head, data) = packet.split_at_checked(header)?;
         let captured = usize::try_from(order.u32_at(head, 36)?).ok()?;
         let is_there = *head.get(15)? == 0;
@@ -68,8 +128,10 @@ impl<'a> Urb<'a> {
             endpoint: *head.get(10)?,
             bus: order.u16_at(head, 12)?,
             device: *head.get(11)?,
-            seconds: order.u64_at(head, 16)?,
-            micros: order.u32_at(head, 24)?,
+            time: Stamp {
+                seconds: order.u64_at(head, 16)?,
+                micros: order.u32_at(head, 24)?,
+            },
             setup: if *head.get(14)? == 0 {
                 head.get(40..48)
             } else {

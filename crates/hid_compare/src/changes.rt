@@ -178,7 +178,7 @@ fn add_unit(text: &mut String, unit: Option<u32>) -> Result<(), AllocError> {
     }
 }
 
-/// Appends an exponent, and the number that is written for it where that is another.
+/// Appends an exponent, and the item's number that stands for it where that is another.
 fn add_exponent(text: &mut String, exponent: Option<UnitExponent>) -> Result<(), AllocError> {
     let Some(exponent) = exponent else {
         return text.push_str("unset");
@@ -187,7 +187,7 @@ fn add_exponent(text: &mut String, exponent: Option<UnitExponent>) -> Result<(),
     if i32::from(power) == number {
         return write!(text, "{power}");
     }
-    write!(text, "{power} by {number}")
+    write!(text, "{power} (written as {number})")
 }
 
 /// Appends the flags that differ, by the words of what they are now.

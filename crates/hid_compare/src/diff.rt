@@ -1,7 +1,11 @@
 //! `hid diff`: what differs between two descriptors.
+use crate::item_diff::show_items;
 use crate::report_diff::{Changed, ReportDiff, id_alone_changed};
 use crate::runs::add_runs;
 use anyhow::{Context, Result, ensure};
+use hid_given::{Form, Given};
+use hid_input::advice::check_length;
+use hid_input::input::given_beside;
 use hid_input::parsing::descriptor_beside;
 use hid_input::settings::Settings;
 use hid_input::world::World;
@@ -21,6 +25,8 @@ pub struct Diff<'a> {
     pub file: &'a str,
     /// The second's.
     pub other: &'a str,
+    /// Whether items are compared, in the bytes as they stand.
+    pub by_items: bool,
 }
 
 /// A field that differs, as JSON.
@@ -61,22 +67,52 @@ struct Showing<'a> {
 impl<'a> Diff<'a> {
     /// Shows the difference; there is none exactly where the two read the same.
     pub fn run<R: World>(&self, rt: &R, settings: &Settings) -> Result<Ending> {
+        if self.by_items {
+            return self.run_by_items(rt, settings);
+        }
         let (first, form) = descriptor_beside(rt, settings, self.file)?;
         let (second, other_form) = descriptor_beside(rt, settings, self.other).context(format_args!(
             "{}",
             self.other
         ))?;
-        let number = settings.device.unwrap_or(0);
-        ensure!(
-            number == 0 || !form.has_one_device() || !other_form.has_one_device(),
-            "has no device {number}, but 0"
-        );
+        check_device(settings, form, other_form)?;
         if first.is_alike(&second) {
             return Ok(Ending::Done);
         }
         show_difference(rt, settings, &first, &second)?;
         Ok(Ending::Refused)
     }
+
+    /// Shows the items that one descriptor alone has.
+    fn run_by_items<R: World>(&self, rt: &R, settings: &Settings) -> Result<Ending> {
+        let first = given_beside(rt, settings, self.file)?;
+        check_length(settings, first.descriptor())?;
+        let second = self
+            .other_given(rt, settings)
+            .context(format_args!("{}", self.other))?;
+        check_device(settings, first.form, second.form)?;
+        if show_items(rt, settings, first.descriptor(), second.descriptor())? {
+            return Ok(Ending::Refused);
+        }
+        Ok(Ending::Done)
+    }
+
+    /// What the second's input holds.
+    fn other_given<R: World>(&self, rt: &R, settings: &Settings) -> Result<Given> {
+        let given = given_beside(rt, settings, self.other)?;
+        check_length(settings, given.descriptor())?;
+        Ok(given)
+    }
+}
+
+/// Refuses a number of a device that neither input has.
+fn check_device(settings: &Settings, form: Form, other: Form) -> Result<()> {
+    let number = settings.device.unwrap_or(0);
+    ensure!(
+        number == 0 || !form.has_one_device() || !other.has_one_device(),
+        "has no device {number}, but 0"
+    );
+    Ok(())
 }
 
 fn show_difference<R: AllocGlobal + Print>(
@@ -238,7 +274,7 @@ impl<'a> Showing<'a> {
         }
         add_title(&mut self.text, direction, report)?;
         self.text.push_str("\n")?;
-        Ok(add_runs(&mut self.text, &diff.fields)?)
+        Ok(add_runs(&mut self.text, &diff.fields, self.settings.is_coloured)?)
     }
 
     /// Adds what is left where no field differs: the numbers of fields or collections.

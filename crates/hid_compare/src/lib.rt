@@ -4,6 +4,7 @@
 
 mod changes;
 mod diff;
+mod item_diff;
 mod pairing;
 mod report_diff;
 mod runs;

@@ -1,6 +1,6 @@
 //! The lines of fields that differ, one for those behind each other that differ alike.
 use crate::report_diff::Changed;
-use hid_words::{add_field, add_name, add_page};
+use hid_words::{Colour, add_field, add_name, add_page};
 use hidreport::{Field, Report};
 use std::alloc::AllocError;
 use std::fmt::Write;
@@ -13,8 +13,13 @@ struct Run<'a> {
     count: usize,
 }
 
-/// Appends a line for each field, one for those behind each other that differ alike.
-pub fn add_runs(text: &mut String, fields: &[Changed]) -> Result<(), AllocError> {
+/// Appends a line for each field, one for those behind each other that differ alike; in colour those
+/// that one descriptor alone has.
+pub fn add_runs(
+    text: &mut String,
+    fields: &[Changed],
+    is_coloured: bool,
+) -> Result<(), AllocError> {
     let mut run: Option<Run> = None;
     for changed in fields {
         run = match run {
@@ -24,14 +29,14 @@ pub fn add_runs(text: &mut String, fields: &[Changed]) -> Result<(), AllocError>
                 count: before.count.saturating_add(1),
             }),
             Some(before) => {
-                add_run(text, before)?;
+                add_run(text, before, is_coloured)?;
                 Some(begun(changed))
             }
             None => Some(begun(changed)),
         };
     }
     match run {
-        Some(run) => add_run(text, run),
+        Some(run) => add_run(text, run, is_coloured),
         None => Ok(()),
     }
 }
@@ -63,7 +68,7 @@ fn moved_by(changed: &Changed) -> Option<(i128, i128)> {
 }
 
 /// Appends a line for fields that differ alike.
-fn add_run(text: &mut String, run: Run) -> Result<(), AllocError> {
+fn add_run(text: &mut String, run: Run, is_coloured: bool) -> Result<(), AllocError> {
     let (changed, last) = (run.changed, run.last);
     match (changed.first, changed.second, last.first, last.second) {
         (Some(first), Some(second), Some(end), Some(end_now)) => {
@@ -84,10 +89,24 @@ fn add_run(text: &mut String, run: Run) -> Result<(), AllocError> {
             text.push_str(&changed.parts)?;
             text.push_str("\n")
         }
-        (Some(first), _, _, _) => add_lone(text, "- ", first),
-        (None, Some(second), _, _) => add_lone(text, "+ ", second),
+        (Some(first), _, _, _) => {
+            Colour::Red.begin(text, is_coloured)?;
+            add_lone(text, "- ", first)?;
+            end_line(text, is_coloured)
+        }
+        (None, Some(second), _, _) => {
+            Colour::Green.begin(text, is_coloured)?;
+            add_lone(text, "+ ", second)?;
+            end_line(text, is_coloured)
+        }
         _ => Ok(()),
     }
+}
+
+/// Ends a line, and its colour.
+fn end_line(text: &mut String, is_coloured: bool) -> Result<(), AllocError> {
+    Colour::end(text, is_coloured)?;
+    text.push_str("\n")
 }
 
 /// Appends what a field is called: an array by its page.
@@ -103,9 +122,8 @@ fn add_short_name(text: &mut String, field: &Field) -> Result<(), AllocError> {
     }
 }
 
-/// Appends a field that one descriptor alone has.
+/// Appends a field that one descriptor alone has, without the line's end.
 fn add_lone(text: &mut String, mark: &str, field: &Field) -> Result<(), AllocError> {
     text.push_str(mark)?;
-    add_field(text, field, 2)?;
-    text.push_str("\n")
+    add_field(text, field, 2)
 }

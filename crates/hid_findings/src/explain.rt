@@ -1,5 +1,6 @@
 //! `hid check --explain`: what a rule means, and what to write.
-use crate::rule::{RULES, Rule, RuleRow};
+use crate::rule::{RULES, Rule};
+use crate::rule_row::RuleRow;
 use anyhow::{Result, bail};
 use hid_input::settings::Settings;
 use hid_nearest::Nearest;

@@ -10,8 +10,8 @@ use crate::rule::Rule;
 use crate::source::Source;
 use hid_input::settings::Settings;
 use hid_items::cut_data::cut_remark;
-use hid_items::item_lines::{offset_of, remark_of};
 use hid_items::items::{ItemCursor, ItemState, PlacedItem};
+use hid_words::{fault_offset, fault_words};
 use hidreport::hid::{CollectionItem, GlobalItem, ItemFlags, ItemType, MainItem};
 use hidreport::{ParserError, ReportDescriptor};
 use std::alloc::{AllocError, Global};
@@ -98,9 +98,9 @@ impl Watch {
 
     /// Notes why a descriptor is refused.
     fn tell_refusal(&mut self, fault: &ParserError) -> Result<(), AllocError> {
-        let remark = remark_of(fault);
+        let remark = fault_words(fault);
         let remark = format!(in self.alloc; "refused: {remark}")?;
-        let offset = offset_of(Some(fault));
+        let offset = fault_offset(fault);
         tell(&mut self.findings, offset, &remark, Rule::Refused)
     }
 

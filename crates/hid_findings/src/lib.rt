@@ -14,6 +14,7 @@ mod mistakes;
 mod other_usages;
 mod report_findings;
 mod rule;
+mod rule_row;
 mod severity;
 mod source;
 mod windows_reading;

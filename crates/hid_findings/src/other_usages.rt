@@ -2,9 +2,8 @@
 use crate::finding::{Finding, tell};
 use crate::rule::Rule;
 use hid_input::settings::Settings;
-use hid_items::item_lines::{offset_of, remark_of};
 use hid_report::add_title;
-use hid_words::add_name;
+use hid_words::{add_name, fault_offset, fault_words};
 use hidreport::{
     Direction, Field, ParseOptions, ParserError, RDescReport, Report, ReportDescriptor, UsagesBy,
 };
@@ -36,9 +35,9 @@ fn tell_fault(
     fault: &ParserError,
     findings: &mut Vec<Finding>,
 ) -> Result<(), AllocError> {
-    let mut remark = String::from_str(alloc, remark_of(fault))?;
+    let mut remark = String::from_str(alloc, fault_words(fault))?;
     remark.push_str(", by the letter of the standard; hosts read it")?;
-    let offset = offset_of(Some(fault));
+    let offset = fault_offset(fault);
     tell(findings, offset, &remark, Rule::RefusedByStandard)
 }
 

@@ -57,6 +57,10 @@ impl HexLines {
     /// Takes the bytes of a line without a remark that goes on over lines.
     fn take_code(&mut self, found: &mut Found, line: &str) -> Result<()> {
         self.check_front(line)?;
+        ensure!(
+            !is_condition(line),
+            "a line of #if is no remark, but of source: --form source"
+        );
         for word in without_remark(line).split(between_bytes) {
             self.check_word(word)?;
         }
@@ -117,6 +121,18 @@ impl HexLines {
         let alloc = *self.bytes.allocator();
         mem::replace(&mut self.bytes, Vec::new(alloc))
     }
+}
+
+/// Whether a line is one of C that says which others are read: as a remark it would be passed over.
+/// Behind a space some are words of a remark, too.
+fn is_condition(line: &str) -> bool {
+    let Some(rest) = line.trim().strip_prefix("#") else {
+        return false;
+    };
+    let word = rest.split_whitespace().next().unwrap_or("");
+    let is_word = !rest.starts_with(word);
+    matches!(word, "ifdef" | "ifndef" | "elif" | "endif")
+        || !is_word && matches!(word, "if" | "else")
 }
 
 /// Whether a line says nothing: no more than a remark and what may stand between bytes.

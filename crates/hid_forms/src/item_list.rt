@@ -1,8 +1,10 @@
 //! The elements of an array of C: numbers of a byte each, and items in macros.
-use crate::macro_call::{add_call, is_name, value_of};
+use crate::macro_call::add_call;
+use crate::names::{Names, is_name};
 use crate::number_list::NumberList;
+use crate::values::value_of;
 use anyhow::{Result, bail, ensure};
-use hid_macros::{ANY_COLLECTION, Macro, bpf_around, is_of_usage};
+use hid_macros::{ANY_COLLECTION, Arguments, Macro, ReportMacro, bpf_around, is_of_usage};
 use std::alloc::Global;
 
 /// The macro behind whose parentheses no comma has to stand, since TinyUSB's has one in itself.
@@ -48,6 +50,10 @@ pub struct ItemList {
     /// Whether a space stands in it.
     has_space: bool,
     inside: Inside,
+    /// How many parentheses are open in a macro's arguments.
+    depth: usize,
+    /// How many bytes of data have to stand behind the macro of an item's first byte.
+    owed: usize,
     /// The last byte of each macro around others that has no end yet.
     ends: Vec<u8>,
 }
@@ -60,18 +66,20 @@ impl ItemList {
             word: String::new(alloc),
             has_space: false,
             inside: Inside::Nothing,
+            depth: 0,
+            owed: 0,
             ends: Vec::new(alloc),
         }
     }
 
-    /// Takes the elements of a line of the list.
-    pub fn add(&mut self, part: &str) -> Result<()> {
+    /// Takes the elements of a line of the list, in which names may stand for numbers.
+    pub fn add(&mut self, names: &Names, part: &str) -> Result<()> {
         for letter in part.chars() {
             match letter {
-                ',' => self.take_comma()?,
+                ',' => self.take_comma(names)?,
                 '(' => self.take_opening()?,
-                ')' => self.take_closing()?,
-                _ if letter.is_whitespace() => self.take_space()?,
+                ')' => self.take_closing(names)?,
+                _ if letter.is_whitespace() => self.take_space(names)?,
                 _ => self.word.push(letter)?,
             }
         }
@@ -79,37 +87,41 @@ impl ItemList {
             self.word.push(' ')?;
             return Ok(());
         }
-        self.take_word()
+        self.take_word(names)
     }
 
     /// Takes a comma: between elements, between arguments, or behind the kind of a collection.
-    fn take_comma(&mut self) -> Result<()> {
+    fn take_comma(&mut self, names: &Names) -> Result<()> {
         match self.inside {
             Inside::Nothing => {
-                self.take_word()?;
+                self.take_word(names)?;
                 self.numbers.take_comma()
             }
             Inside::Arguments | Inside::Cast => Ok(self.word.push(',')?),
-            Inside::Kind => self.begin_kind(),
+            Inside::Kind => self.begin_kind(names),
         }
     }
 
     /// Takes a space: behind a macro without arguments that ends in a comma it ends the word.
-    fn take_space(&mut self) -> Result<()> {
+    fn take_space(&mut self, names: &Names) -> Result<()> {
         if self.inside == Inside::Nothing && !self.has_space {
             if self.word.is_empty() {
                 return Ok(());
             }
             if is_of_usage(self.word.as_str()) {
-                return self.take_word();
+                return self.take_word(names);
             }
         }
         self.has_space = true;
         Ok(self.word.push(' ')?)
     }
 
-    /// Takes the parenthesis behind a macro's name.
+    /// Takes the parenthesis behind a macro's name, or one in its arguments.
     fn take_opening(&mut self) -> Result<()> {
+        if self.inside == Inside::Arguments {
+            self.depth = self.depth.saturating_add(1);
+            return Ok(self.word.push('(')?);
+        }
         ensure!(self.inside == Inside::Nothing, "a ( stands in parentheses");
         let name = self.word.as_str().trim();
         if name.is_empty() {
@@ -129,21 +141,26 @@ impl ItemList {
     }
 
     /// Takes the end of parentheses.
-    fn take_closing(&mut self) -> Result<()> {
+    fn take_closing(&mut self, names: &Names) -> Result<()> {
         match self.inside {
             Inside::Arguments => {
-                self.inside = Inside::Nothing;
                 self.word.push(')')?;
-                return self.take_own_comma();
+                if self.depth > 0 {
+                    self.depth = self.depth.saturating_sub(1);
+                    return Ok(());
+                }
+                self.inside = Inside::Nothing;
+                return self.take_own_comma(names);
             }
             Inside::Cast => return self.end_cast(),
-            Inside::Kind => self.begin_kind()?,
+            Inside::Kind => self.begin_kind(names)?,
             Inside::Nothing => {}
         }
         let Some(end) = self.ends.pop() else {
             bail!("no ( stands before a )");
         };
-        self.take_word()?;
+        self.take_word(names)?;
+        self.check_owed(")")?;
         self.numbers.take_item(")", &[end])?;
         self.numbers.take_comma()
     }
@@ -158,10 +175,10 @@ impl ItemList {
     }
 
     /// Takes the kind of a collection.
-    fn begin_kind(&mut self) -> Result<()> {
+    fn begin_kind(&mut self, names: &Names) -> Result<()> {
         self.inside = Inside::Nothing;
         let kind = self.word.as_str().trim();
-        match u8::try_from(value_of(kind)?) {
+        match u8::try_from(value_of(names, kind)?) {
             Ok(kind) => self.begin(0xa1, Some(kind)),
             Err(_great) => bail!("{kind} is no kind of a collection"),
         }
@@ -170,6 +187,7 @@ impl ItemList {
     /// Takes the bytes before what stands in a macro around it.
     fn begin(&mut self, header: u8, kind: Option<u8>) -> Result<()> {
         self.clear();
+        self.check_owed("a collection")?;
         let end = match kind {
             Some(kind) => {
                 self.numbers.take_item("a collection", &[header, kind])?;
@@ -185,31 +203,42 @@ impl ItemList {
     }
 
     /// Takes the macro of a Report ID, behind which no comma has to stand, or one that has its own.
-    fn take_own_comma(&mut self) -> Result<()> {
+    fn take_own_comma(&mut self, names: &Names) -> Result<()> {
         let name = name_of(self.word.as_str());
         if name == WITH_COMMA {
-            self.take_word()?;
+            self.take_word(names)?;
             self.numbers.needs_no_comma();
         } else if ends_in_comma(name) {
-            self.take_word()?;
+            self.take_word(names)?;
         }
         Ok(())
     }
 
     /// Takes what stands before a comma.
-    fn take_word(&mut self) -> Result<()> {
+    fn take_word(&mut self, names: &Names) -> Result<()> {
         let word = self.word.as_str().trim();
-        if is_name(word) {
+        if let Some(value) = names.number(word) {
+            self.owed = self.owed.saturating_sub(1);
+            self.numbers.take_value(word, value)?;
+        } else if is_name(word) {
             let mut bytes = Vec::new(*self.word.allocator());
-            add_call(&mut bytes, word)?;
+            add_call(&mut bytes, names, word)?;
+            self.owed = owed_behind(self.owed, word, &bytes)?;
             self.numbers.take_item(word, &bytes)?;
             if ends_in_comma(name_of(word)) {
                 self.numbers.take_comma()?;
             }
         } else if !word.is_empty() {
+            self.owed = self.owed.saturating_sub(1);
             self.numbers.take_number(word)?;
         }
         self.clear();
+        Ok(())
+    }
+
+    /// Refuses an item where data of the one before it have to stand.
+    fn check_owed(&self, word: &str) -> Result<()> {
+        ensure!(self.owed == 0, "the item before {word} lacks data");
         Ok(())
     }
 
@@ -225,6 +254,7 @@ impl ItemList {
             self.inside == Inside::Nothing && self.ends.is_empty(),
             "parentheses have no end"
         );
+        ensure!(self.owed == 0, "the last item lacks data");
         Ok(self.numbers.taken())
     }
 }
@@ -242,7 +272,28 @@ pub fn begins_as_item(text: &str) -> bool {
     name == ANY_COLLECTION
         || is_of_usage(name)
         || Macro::named(name).is_some()
+        || ReportMacro::named(name).is_some()
         || bpf_around(name).is_some()
+}
+
+/// How many bytes of data have to stand behind a macro, before which some had to.
+fn owed_behind(owed: usize, word: &str, bytes: &[u8]) -> Result<usize> {
+    let arguments = match Macro::named(name_of(word)) {
+        Some(known) => known.arguments,
+        None => Arguments::Number,
+    };
+    if arguments == Arguments::Half {
+        return Ok(owed.saturating_sub(1));
+    }
+    ensure!(owed == 0, "the item before {word} lacks data");
+    if arguments != Arguments::Size {
+        return Ok(0);
+    }
+    Ok(match bytes {
+        [first] if first & 3 == 3 => 4,
+        [first] => usize::from(first & 3),
+        _ => 0,
+    })
 }
 
 /// A macro's name, without its arguments.

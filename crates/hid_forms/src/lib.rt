@@ -4,22 +4,33 @@
 #![tactic(auto)]
 
 mod byte_words;
+mod c_strings;
+mod conditions;
 mod debugfs;
+mod declaration;
+mod directives;
 mod dump;
 mod dump_line;
+mod enumeration;
 mod hex_text;
 mod item_list;
 mod libinput;
 mod log_line;
 mod lsusb;
 mod macro_call;
+mod markdown;
+mod names;
 mod number_list;
 mod offsets;
 mod python;
+mod python_calls;
 mod python_string;
 mod recorder;
 mod remarks;
+mod report_call;
 mod source;
+mod unknown;
+mod values;
 
 use crate::debugfs::{DebugfsLines, is_debugfs_head};
 use crate::dump::{DumpLines, is_head};
@@ -35,8 +46,10 @@ use crate::source::{SourceLines, is_source_line};
 use anyhow::{Result, ensure};
 pub use hex_text::{bytes_of_hex, is_blank};
 use hid_given::{Form, Found, Wanted};
+pub use markdown::without_markdown;
 pub use remarks::Remarks;
 use std::alloc::Global;
+pub use unknown::likest;
 
 /// The form of a text by the first line that says something, and the next that does, or an
 /// empty one where none is known.
@@ -101,6 +114,14 @@ impl FormLines {
             Form::Libinput => Some(FormLines::Libinput(LibinputLines::new(alloc))),
             Form::Debugfs => Some(FormLines::Debugfs(DebugfsLines::new())),
             Form::Lsusb => Some(FormLines::Lsusb(LsusbLines::new(alloc))),
+        }
+    }
+
+    /// Takes names that a source is to have, some with their numbers: `NAME` or `NAME=NUMBER`.
+    pub fn define(&mut self, words: &[&str]) -> Result<()> {
+        match self {
+            FormLines::Source(lines) => lines.define(words),
+            _ => Ok(()),
         }
     }
 

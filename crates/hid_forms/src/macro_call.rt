@@ -1,14 +1,11 @@
 //! An item of a descriptor in a macro of C, as `hid convert` writes it for Zephyr, TinyUSB, LUFA
-//! and udev-hid-bpf.
-use crate::number_list::number_of;
-use anyhow::{Result, bail, ensure};
-use hid_macros::{Arguments, Macro, number_named};
+//! and udev-hid-bpf, and a whole descriptor in one.
+use crate::names::Names;
+use crate::report_call::add_report;
+use crate::values::value_of;
+use anyhow::{Error, Result, anyhow, bail, ensure};
+use hid_macros::{Arguments, Macro, ReportMacro, family_of};
 use std::alloc::Global;
-
-/// Whether a word begins as a name of C does.
-pub fn is_name(word: &str) -> bool {
-    word.starts_with(|letter: char| letter.is_ascii_alphabetic() || letter == '_')
-}
 
 /// Appends the bytes of a macro with its arguments.
 ///
@@ -16,16 +13,28 @@ pub fn is_name(word: &str) -> bool {
 ///
 /// - the macro isn't known, or it has other arguments;
 /// - an argument is no known name and no number, or has no room in the item.
-pub fn add_call(bytes: &mut Vec<u8>, call: &str) -> Result<()> {
-    let (name, list) = match call.split_once("(") {
-        Some((name, list)) => (name.trim(), Some(list)),
+pub fn add_call(bytes: &mut Vec<u8>, names: &Names, call: &str) -> Result<()> {
+    let (name, rest) = match call.split_once("(") {
+        Some((name, rest)) => (name.trim(), Some(rest)),
         None => (call, None),
     };
-    let Some(known) = Macro::named(name) else {
-        bail!("{name} is no macro that is known");
+    ensure!(
+        names.meaning(name).is_none(),
+        "{name} stands for no number that is known"
+    );
+    let (list, behind) = match rest {
+        Some(rest) => closed(rest),
+        None => ("", ""),
     };
-    let alloc = *bytes.allocator();
-    let values = values_of(alloc, name, list)?;
+    ensure!(behind.is_empty(), "something stands behind {name}( )");
+    if let Some(known) = ReportMacro::named(name) {
+        ensure!(rest.is_some(), "{name} stands without its ( )");
+        return add_report(bytes, names, name, known, list);
+    }
+    let Some(known) = Macro::named(name) else {
+        return Err(unknown(name));
+    };
+    let values = values_of(*bytes.allocator(), names, list, rest.is_some())?;
     let (wanted, got) = (wanted_count(known, &values), values.len());
     let plural = if wanted == 1 { "" } else { "s" };
     ensure!(
@@ -33,6 +42,31 @@ pub fn add_call(bytes: &mut Vec<u8>, call: &str) -> Result<()> {
         "{name} takes {wanted} argument{plural}, and has {got}"
     );
     add_item(bytes, known, &values)
+}
+
+/// What is said of a name that is no macro, by whose it is like.
+fn unknown(name: &str) -> Error {
+    match family_of(name) {
+        Some(family) => anyhow!("looks like a macro of {family}, and {name} isn't known"),
+        None => anyhow!("{name} is no macro that is known"),
+    }
+}
+
+/// What stands up to the parenthesis that closes a list, and behind it.
+fn closed(list: &str) -> (&str, &str) {
+    let mut depth = 0usize;
+    for (place, letter) in list.char_indices() {
+        match letter {
+            '(' => depth = depth.saturating_add(1),
+            ')' if depth == 0 => {
+                let behind = list.get(place..).and_then(|it| it.strip_prefix(")"));
+                return (list.get(..place).unwrap_or(""), behind.unwrap_or(""));
+            }
+            ')' => depth = depth.saturating_sub(1),
+            _ => {}
+        }
+    }
+    (list, "")
 }
 
 /// How many arguments a macro takes: behind 0 bits none is needed.
@@ -43,36 +77,16 @@ fn wanted_count(known: Macro, values: &[i64]) -> usize {
     }
 }
 
-/// The numbers of the arguments between parentheses.
-fn values_of(alloc: Global, name: &str, list: Option<&str>) -> Result<Vec<i64>> {
+/// The numbers of arguments, which are none without parentheses.
+fn values_of(alloc: Global, names: &Names, list: &str, has_list: bool) -> Result<Vec<i64>> {
     let mut values = Vec::new(alloc);
-    let Some(list) = list else {
+    if !has_list {
         return Ok(values);
-    };
-    let (list, behind) = list.split_once(")").unwrap_or((list, ""));
-    ensure!(behind.is_empty(), "something stands behind {name}( )");
+    }
     for argument in list.split(",") {
-        values.push(value_of(argument)?)?;
+        values.push(value_of(names, argument)?)?;
     }
     Ok(values)
-}
-
-/// The number of an argument: numbers and names with `|` between them.
-pub fn value_of(argument: &str) -> Result<i64> {
-    let mut value = 0i64;
-    for part in argument.split("|") {
-        let part = part.trim();
-        ensure!(!part.is_empty(), "an argument says nothing");
-        let number = match number_named(part) {
-            Some(number) => Some(i64::from(number)),
-            None => number_of(part)?,
-        };
-        match number {
-            Some(number) => value |= number,
-            None => bail!("{part} is no number, and no name that is known"),
-        }
-    }
-    Ok(value)
 }
 
 /// Appends an item with the numbers of its macro's arguments.
@@ -104,6 +118,8 @@ fn add_item(bytes: &mut Vec<u8>, known: Macro, values: &[i64]) -> Result<()> {
             add_data(bytes, known.header, *page)
         }
         (Arguments::VendorReport, [count]) => add_vendor_report(bytes, *count),
+        (Arguments::Size, [size]) => Ok(bytes.push(known.header | part_of(*size, 3)?)?),
+        (Arguments::Half, [value]) => add_half(bytes, known.header, *value),
         _ => {
             bytes.push(known.header)?;
             for value in values {
@@ -145,6 +161,21 @@ fn add_vendor_report(bytes: &mut Vec<u8>, count: i64) -> Result<()> {
     bytes.extend_from_slice(&[0x75, 0x08, 0x95])?;
     add_number(bytes, count.saturating_sub(1), 1)?;
     Ok(bytes.extend_from_slice(&[0x81, 0x01, 0xc0])?)
+}
+
+/// Appends a byte of a number of two, by how far this is shifted.
+fn add_half(bytes: &mut Vec<u8>, shift: u8, value: i64) -> Result<()> {
+    let mut both = Vec::new(*bytes.allocator());
+    add_number(&mut both, value, 2)?;
+    let half = if shift == 0 {
+        both.first()
+    } else {
+        both.last()
+    };
+    if let Some(byte) = half {
+        bytes.push(*byte)?;
+    }
+    Ok(())
 }
 
 /// Appends an item whose data have so many bits.

@@ -90,17 +90,32 @@ impl NumberList {
         let Some(byte) = byte_of(word) else {
             bail!("{word} is no byte");
         };
-        if word.starts_with("-") {
-            ensure!(self.may_be_signed, "{word} is no byte");
-            self.has_signed = true;
-        } else if byte > 127 {
-            self.has_great = true;
-        }
+        let is_below = word.starts_with("-");
+        ensure!(!is_below || self.may_be_signed, "{word} is no byte");
+        self.take_sign(word, is_below, byte > 127)?;
+        Ok(self.bytes.push(byte)?)
+    }
+
+    /// Takes the number that a name stands for.
+    pub fn take_value(&mut self, name: &str, value: i64) -> Result<()> {
+        self.begin(name)?;
+        ensure!(
+            (-128..=255).contains(&value),
+            "{name} is {value}, which is no byte"
+        );
+        self.take_sign(name, value < 0, value > 127)?;
+        Ok(self.bytes.push(value.to_le_bytes()[0])?)
+    }
+
+    /// Takes whether a number is below 0, and whether it is past 127: no list of bytes has both.
+    fn take_sign(&mut self, word: &str, is_below: bool, is_great: bool) -> Result<()> {
+        self.has_signed = self.has_signed || is_below;
+        self.has_great = self.has_great || !is_below && is_great;
         ensure!(
             !self.has_signed || !self.has_great,
             "{word} stands in a list that has both numbers below 0 and past 127"
         );
-        Ok(self.bytes.push(byte)?)
+        Ok(())
     }
 
     /// The bytes so far; the list has none from here on.

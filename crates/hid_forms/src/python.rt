@@ -1,7 +1,8 @@
 //! Bytes of Python: `[5, 1, 9]`, `bytes([0x05, 0x01])`, `bytes.fromhex("05 01")`, `b"\x05\x01"`,
 //! with a name and `=` before them or without, and remarks behind `#`. What `repr` writes of bytes
-//! is such a string.
+//! is such a string. Imports and CircuitPython's calls may stand beside them.
 use crate::number_list::NumberList;
+use crate::python_calls::{PythonCalls, begins_call, is_import};
 use crate::python_string::{add_digit_pairs, add_literal};
 use anyhow::{Result, bail, ensure};
 use hid_given::{Found, Wanted};
@@ -49,6 +50,7 @@ pub struct PythonLines {
     is_behind_list: bool,
     name: String,
     call: Call,
+    calls: PythonCalls,
     /// Whether the last numbers are in parentheses.
     is_tuple: bool,
     numbers: NumberList,
@@ -58,7 +60,7 @@ pub struct PythonLines {
 /// Whether a line is the first of a list, or of one with a name.
 pub fn is_python_line(line: &str) -> bool {
     let (name, list) = named(line);
-    is_name(name) && is_beginning(list)
+    is_name(name) && is_beginning(list) || is_import(line) || begins_call(line)
 }
 
 /// Whether a list begins so.
@@ -122,6 +124,7 @@ impl PythonLines {
             is_behind_list: false,
             name: String::new(alloc),
             call: Call::Nothing,
+            calls: PythonCalls::new(),
             is_tuple: false,
             numbers: NumberList::new(alloc, false),
             strings: Vec::new(alloc),
@@ -130,6 +133,13 @@ impl PythonLines {
 
     /// Takes what a line says.
     pub fn take(&mut self, found: &mut Found, line: &str) -> Result<()> {
+        let is_outside = self.closers.is_empty();
+        if self.calls.is_open() || is_outside && begins_call(line) {
+            return self.calls.take(found, line);
+        }
+        if is_outside && is_import(line) {
+            return Ok(());
+        }
         self.is_in_remark = false;
         self.is_behind_list = false;
         for letter in line.chars() {
@@ -311,6 +321,6 @@ impl PythonLines {
     /// Looks whether the last list is whole.
     pub fn end(&mut self) -> Result<()> {
         ensure!(self.closers.is_empty(), "the list of bytes has no end");
-        Ok(())
+        self.calls.end()
     }
 }

@@ -1,74 +1,79 @@
-//! Arrays of C, Rust, Go, Java and C#, as `hid convert` writes them: a declaration with a list of
-//! numbers or macros in braces or brackets, and remarks of C. Where no declaration stands first, the
-//! elements of one alone.
-use crate::hex_text::without_prefix;
+//! Arrays of C, Rust, Go, Java, C# and JavaScript, as `hid convert` writes them: a declaration with
+//! a list of numbers or macros in braces or brackets, or strings of C, and remarks of C. Where no
+//! declaration stands first, the elements of one alone.
+use crate::c_strings::CStrings;
+use crate::declaration::{
+    begun_list, behind_call, check_type, is_braced, is_declaration, is_string, last_word, name_in,
+    said_in,
+};
+use crate::directives::Directives;
+use crate::enumeration::{Enumeration, begins_enumeration};
 use crate::item_list::{ItemList, begins_as_element, begins_as_item};
 use crate::remarks::Remarks;
-use anyhow::{Result, bail, ensure};
+use crate::unknown::shortened;
+use anyhow::{Context, Result, bail, ensure};
 use hid_given::{Found, Wanted};
 use std::alloc::Global;
 
-/// What may stand before a list: in Rust a `&` or `vec!`, in Go its type, in Java and C# `new`.
-static BEFORE_LIST: [&str; 7] = [
-    "&",
-    "vec!",
-    "[]byte",
-    "[]uint8",
-    "[...]byte",
-    "[...]uint8",
-    "new byte[]",
-];
+/// What the next line goes on with.
+#[derive(Clone, Copy, PartialEq)]
+enum Inside {
+    /// Nothing: it begins something.
+    Nothing,
 
-/// Types of C, Rust and Go that are wider than a byte.
-static WIDER: [&str; 20] = [
-    "short", "int", "long", "float", "double", "uint16_t", "uint32_t", "uint64_t", "int16_t",
-    "int32_t", "__u16", "__u32", "u16", "u32", "u64", "i16", "i32", "uint16", "uint32", "usize",
-];
+    /// A declaration whose list is still to begin.
+    Declaration,
+
+    /// A list.
+    List,
+
+    /// Elements alone, which end with the input.
+    Elements,
+
+    /// Strings.
+    Strings,
+
+    /// An `enum`.
+    Enumeration,
+}
 
 /// What reads arrays.
 #[derive(Drop)]
 pub struct SourceLines {
     wanted: Wanted,
     remarks: Remarks,
-    is_in_list: bool,
-    /// Whether the list is elements alone, which end with the input.
-    is_bare: bool,
-    /// Whether the list of the declaration in the line before is still to begin.
-    is_declared: bool,
+    directives: Directives,
+    enumeration: Enumeration,
+    inside: Inside,
+    /// Whether the list stands in a call.
+    is_in_call: bool,
     /// The name of the array, and how many bytes it says that it has.
     name: String,
     said: Option<usize>,
     items: ItemList,
+    strings: CStrings,
     /// How many bytes the last array has.
     count: Option<usize>,
 }
 
-/// Whether a line is the first of an array, or of a remark.
+/// Whether a line is the first of an array, of what may stand before it, or of a remark.
 pub fn is_source_line(line: &str) -> bool {
     let text = line.trim();
-    if text.starts_with("/*") || begins_as_item(text) {
+    if text.starts_with("/*")
+        || begins_as_item(text)
+        || begins_enumeration(text)
+        || behind_call(text).is_some()
+    {
         return true;
     }
     match line.split_once("=") {
-        Some((declared, list)) => begun_list(list).is_some() || is_declaration(declared, list),
+        Some((declared, list)) => {
+            begun_list(list).is_some()
+                || is_declaration(declared, list)
+                || is_string(declared, list)
+                || is_braced(list)
+        }
         None => false,
-    }
-}
-
-/// Whether an array is declared whose list begins in the next line.
-fn is_declaration(declared: &str, list: &str) -> bool {
-    declared.trim().ends_with("]") && list.trim().is_empty()
-}
-
-/// What stands behind the brace or the bracket that begins a list.
-fn begun_list(text: &str) -> Option<&str> {
-    let mut text = text.trim();
-    for word in BEFORE_LIST {
-        text = text.strip_prefix(word).unwrap_or(text).trim();
-    }
-    match text.strip_prefix("{") {
-        Some(list) => Some(list),
-        None => text.strip_prefix("["),
     }
 }
 
@@ -78,67 +83,114 @@ impl SourceLines {
         SourceLines {
             wanted,
             remarks: Remarks::of_source(),
-            is_in_list: false,
-            is_bare: false,
-            is_declared: false,
+            directives: Directives::new(alloc),
+            enumeration: Enumeration::new(alloc),
+            inside: Inside::Nothing,
+            is_in_call: false,
             name: String::new(alloc),
             said: None,
             items: ItemList::new(alloc),
+            strings: CStrings::new(alloc),
             count: None,
         }
     }
 
+    /// Takes names that are told from outside, some with their numbers.
+    pub fn define(&mut self, words: &[&str]) -> Result<()> {
+        for word in words {
+            self.directives
+                .define(*word)
+                .context(format_args!("--define {word}"))?;
+        }
+        Ok(())
+    }
+
     /// Takes what a line says.
     pub fn take(&mut self, found: &mut Found, line: &str) -> Result<()> {
-        let alloc = *found.devices.allocator();
-        let mut code = String::new(alloc);
+        let mut code = String::new(*found.devices.allocator());
         self.remarks.add_code(&mut code, line)?;
         let code = code.as_str().trim();
-        if code.is_empty() {
+        if self.directives.take(code)? || code.is_empty() {
             return Ok(());
         }
-        if self.is_in_list {
-            return self.take_list(found, code);
+        match self.inside {
+            Inside::Nothing => self.take_outside(found, code),
+            Inside::Declaration => self.take_first(found, code),
+            Inside::List | Inside::Elements => self.take_list(found, code),
+            Inside::Strings => self.take_strings(found, code),
+            Inside::Enumeration => self.take_enumeration(code),
         }
-        if self.is_declared {
-            return self.take_first(found, code);
-        }
+    }
+
+    /// Takes a line that begins something.
+    fn take_outside(&mut self, found: &mut Found, code: &str) -> Result<()> {
+        let alloc = *found.devices.allocator();
         if let Some(directive) = code.strip_prefix("#") {
             return pass_directive(directive.trim());
+        }
+        if begins_enumeration(code) {
+            self.enumeration = Enumeration::new(alloc);
+            return self.take_enumeration(code);
         }
         let Some((declared, list)) = code.split_once("=") else {
             return self.take_bare(found, code);
         };
         if is_declaration(declared, list) {
-            self.is_declared = true;
+            self.inside = Inside::Declaration;
             return self.begin(alloc, declared);
         }
-        if begun_list(list).is_none() {
+        if begun_list(list).is_none() && !is_string(declared, list) && !is_braced(list) {
             return self.take_length(declared, list);
         }
         self.begin(alloc, declared)?;
         self.take_first(found, list)
     }
 
+    /// Takes names of an `enum`.
+    fn take_enumeration(&mut self, code: &str) -> Result<()> {
+        let is_ended = self.enumeration.take(&mut self.directives.names, code)?;
+        self.inside = if is_ended {
+            Inside::Nothing
+        } else {
+            Inside::Enumeration
+        };
+        Ok(())
+    }
+
     /// Takes the first elements of a list that no declaration stands before.
     fn take_bare(&mut self, found: &mut Found, code: &str) -> Result<()> {
+        if behind_call(code).is_some() {
+            self.name.clear();
+            self.said = None;
+            return self.take_first(found, code);
+        }
         let list = code.strip_prefix("{").unwrap_or(code).trim();
         ensure!(
             self.count.is_none() && (list.is_empty() || begins_as_element(list)),
-            "is no declaration of bytes"
+            "is no declaration of bytes: {}",
+            shortened(code)
         );
-        self.is_bare = true;
-        self.is_in_list = true;
+        self.inside = Inside::Elements;
         self.take_list(found, list)
     }
 
-    /// Takes the beginning of a list.
+    /// Takes the beginning of a list, or of strings.
     fn take_first(&mut self, found: &mut Found, code: &str) -> Result<()> {
+        let code = code.trim();
+        if code.starts_with("\"") {
+            self.inside = Inside::Strings;
+            return self.take_strings(found, code);
+        }
+        if is_braced(code) {
+            let call = code.strip_suffix(";").unwrap_or(code);
+            self.items.add(&self.directives.names, call)?;
+            return self.take_array(found);
+        }
         let Some(list) = begun_list(code) else {
             bail!("no list of bytes is behind =");
         };
-        self.is_declared = false;
-        self.is_in_list = true;
+        self.is_in_call = behind_call(code).is_some();
+        self.inside = Inside::List;
         self.take_list(found, list)
     }
 
@@ -154,14 +206,27 @@ impl SourceLines {
     fn take_list(&mut self, found: &mut Found, code: &str) -> Result<()> {
         let Some((list, behind)) = code.split_once(|letter: char| matches!(letter, '}' | ']'))
         else {
-            return self.items.add(code);
+            return self.items.add(&self.directives.names, code);
         };
-        self.items.add(list)?;
-        ensure!(
-            matches!(behind.trim(), "" | ";"),
-            "something stands behind the list"
-        );
+        self.items.add(&self.directives.names, list)?;
+        let behind = behind.trim();
+        let end = if self.is_in_call {
+            behind.strip_prefix(")").unwrap_or("(").trim()
+        } else {
+            behind
+        };
+        ensure!(matches!(end, "" | ";"), "something stands behind the list");
+        self.is_in_call = false;
         self.take_array(found)
+    }
+
+    /// Takes strings, and their end.
+    fn take_strings(&mut self, found: &mut Found, code: &str) -> Result<()> {
+        if self.strings.take(code)? {
+            let bytes = self.strings.taken();
+            return self.take_bytes(found, bytes);
+        }
+        Ok(())
     }
 
     /// Takes the number of the bytes of the last array, which `xxd -i` writes behind it.
@@ -182,10 +247,15 @@ impl SourceLines {
         Ok(())
     }
 
-    /// Takes an array as a descriptor or a report.
+    /// Takes the list as an array.
     fn take_array(&mut self, found: &mut Found) -> Result<()> {
-        self.is_in_list = false;
         let bytes = self.items.taken()?;
+        self.take_bytes(found, bytes)
+    }
+
+    /// Takes an array as a descriptor or a report.
+    fn take_bytes(&mut self, found: &mut Found, bytes: Vec<u8>) -> Result<()> {
+        self.inside = Inside::Nothing;
         let got = bytes.len();
         self.count = Some(got);
         if let Some(said) = self.said {
@@ -197,12 +267,15 @@ impl SourceLines {
     /// Looks whether the last array is whole; elements alone are.
     pub fn end(&mut self, found: &mut Found) -> Result<()> {
         ensure!(!self.remarks.is_inside(), "a remark has no end");
-        if self.is_bare && self.is_in_list {
-            return self.take_array(found);
+        self.directives.end(found)?;
+        match self.inside {
+            Inside::Nothing => Ok(()),
+            Inside::Elements => self.take_array(found),
+            Inside::Declaration => bail!("no list of bytes is behind ="),
+            Inside::List => bail!("the list of bytes has no end"),
+            Inside::Strings => bail!("no ; stands behind the strings"),
+            Inside::Enumeration => bail!("an enum has no end"),
         }
-        ensure!(!self.is_in_list, "the list of bytes has no end");
-        ensure!(!self.is_declared, "no list of bytes is behind =");
-        Ok(())
     }
 }
 
@@ -215,52 +288,4 @@ fn pass_directive(directive: &str) -> Result<()> {
         "#{word} may change what follows: leave it out, with what it is for"
     );
     Ok(())
-}
-
-/// Refuses an array whose elements are no bytes, by the words of its declaration.
-fn check_type(declared: &str) -> Result<()> {
-    let is_other = |letter: char| !letter.is_ascii_alphanumeric() && letter != '_';
-    if let Some(word) = declared.split(is_other).find(|word| WIDER.contains(word)) {
-        bail!("an array of {word} has no bytes");
-    }
-    Ok(())
-}
-
-/// The name that a declaration gives: before `:`, or else before brackets, in Java and C# behind
-/// them.
-fn name_in(declared: &str) -> &str {
-    if let Some((name, type_name)) = declared.split_once(":") {
-        if !type_name.starts_with(":") {
-            return last_word(name);
-        }
-    }
-    let (before, behind) = declared.split_once("[").unwrap_or((declared, ""));
-    let name = last_word(before);
-    if !matches!(name, "byte" | "sbyte") {
-        return name;
-    }
-    match behind.split_once("]") {
-        Some((_count, behind)) => last_word(behind),
-        None => name,
-    }
-}
-
-/// The last word of a text, or an empty one.
-fn last_word(text: &str) -> &str {
-    text.split_whitespace().last().unwrap_or("")
-}
-
-/// The number of bytes that a declaration says in brackets: the last word in them.
-fn said_in(declared: &str) -> Option<usize> {
-    let (_before, inner) = declared.split_once("[")?;
-    let (inner, _behind) = inner.split_once("]")?;
-    let word = inner.split_whitespace().last()?;
-    let count = match without_prefix(word) {
-        Some(digits) => usize::from_str_radix(digits, 16),
-        None => word.parse::<usize>(),
-    };
-    match count {
-        Ok(count) => Some(count),
-        Err(_wrong) => None,
-    }
 }

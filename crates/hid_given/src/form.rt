@@ -34,7 +34,7 @@ pub enum Form {
     /// As lsusb's items.
     Lsusb,
 
-    /// As a capture of usbmon.
+    /// As a capture of USB traffic, by usbmon or USBPcap.
     Usbmon,
 }
 
@@ -76,7 +76,7 @@ impl Form {
             Form::Libinput => "libinput record's text",
             Form::Debugfs => "debugfs's rdesc",
             Form::Lsusb => "lsusb's text",
-            Form::Usbmon => "a capture of usbmon",
+            Form::Usbmon => "a capture of USB traffic",
         }
     }
 

@@ -2,7 +2,7 @@
 //! Licence: MIT (LICENSE).
 #![tactic(auto)]
 
-mod advice;
+pub mod advice;
 pub mod input;
 pub mod inputs;
 pub mod linux_read;

@@ -120,8 +120,10 @@ pub fn mended<R: AllocGlobal + Eprint>(
     bytes: &[u8],
 ) -> Result<LinuxDevice> {
     let device = read_by_linux(rt.alloc(), settings, bytes)?;
-    tell_mended(rt, name, &device)?;
-    tell_doubt(rt, name, &device)?;
+    if settings.has_notes() {
+        tell_mended(rt, name, &device)?;
+        tell_doubt(rt, name, &device)?;
+    }
     Ok(device)
 }
 

@@ -1,12 +1,13 @@
 //! Descriptors of inputs, parsed as the options say; a refusal says what helps.
-use crate::advice::past_limit;
+use crate::advice::{check_length, past_limit};
 use crate::input::{descriptor_named, given_beside};
 use crate::linux_read::{linux_device, mended, read_by_linux};
 use crate::reads::Reads;
 use crate::settings::{ReadAs, Settings};
-use anyhow::{Result, anyhow, bail};
+use anyhow::{Result, anyhow};
 use hid_given::{Form, Given};
-use hidreport::{Direction, ParseOptions, ParserError, Report, ReportDescriptor};
+use hid_words::fault_words;
+use hidreport::{Direction, ParserError, Report, ReportDescriptor};
 use std::alloc::Global;
 
 /// The descriptor of an input, read.
@@ -35,15 +36,6 @@ pub fn descriptor_within<R: Reads>(rt: &R, settings: &Settings, name: &str) -> R
     let given = descriptor_named(rt, settings, name)?;
     check_length(settings, given.descriptor())?;
     Ok(given)
-}
-
-/// Refuses a descriptor of more bytes than are read.
-pub fn check_length(settings: &Settings, bytes: &[u8]) -> Result<()> {
-    let (longest, length) = (settings.longest(), bytes.len());
-    if longest < length {
-        bail!("longer than {longest} bytes: say --limit {length}");
-    }
-    Ok(())
 }
 
 /// A descriptor, read as the options say; says on standard error what Linux mends in it.
@@ -99,20 +91,11 @@ pub fn all_read<R: AllocGlobal + Eprint>(
 
 /// The options with another limit on what may be listed.
 fn limited<'a>(settings: &Settings<'a>, limit: Option<usize>) -> Settings<'a> {
-    let parse = ParseOptions {
-        limit,
-        ..settings.parse
-    };
-    Settings {
-        form: settings.form,
-        report_form: settings.report_form,
-        device: settings.device,
-        parse,
-        read_as: settings.read_as,
-        is_json: settings.is_json,
-        is_coloured: settings.is_coloured,
-        sysfs: settings.sysfs,
-    }
+    let mut parse = settings.parse;
+    parse.limit = limit;
+    let mut own = *settings;
+    own.parse = parse;
+    own
 }
 
 /// How many fields and usages of arrays a descriptor lists.
@@ -135,11 +118,12 @@ pub fn with_advice(
     bytes: &[u8],
     fault: ParserError,
 ) -> anyhow::Error {
-    if let ParserError::InvalidData { .. } = &fault
-        && settings.read_as != Some(ReadAs::Linux)
-        && linux_device(alloc, settings, bytes).is_ok()
-    {
-        return anyhow!("{fault}: --as linux reads it");
+    let ParserError::InvalidData { offset, .. } = &fault else {
+        return past_limit(alloc, settings, bytes, fault);
+    };
+    let (offset, words) = (*offset, fault_words(&fault));
+    if settings.read_as != Some(ReadAs::Linux) && linux_device(alloc, settings, bytes).is_ok() {
+        return anyhow!("refused at offset {offset}: {words}: --as linux reads it");
     }
-    past_limit(alloc, settings, bytes, fault)
+    anyhow!("refused at offset {offset}: {words}")
 }

@@ -2,6 +2,6 @@
 use std::rt::Files;
 
 /// What reads inputs: memory, files, the standard input, and standard error for what is said of them.
-pub trait Reads: AllocGlobal + Files + Input + Eprint {}
+pub trait Reads: AllocGlobal + Files + Clone + Drop + Input + Eprint {}
 
-impl<R: AllocGlobal + Files + Input + Eprint> Reads for R {}
+impl<R: AllocGlobal + Files + Clone + Drop + Input + Eprint> Reads for R {}

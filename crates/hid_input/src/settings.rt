@@ -3,13 +3,19 @@ use hid_given::Form;
 use hidreport::{ParseOptions, PushKeeps, RepairOptions, UsagesBy};
 
 /// The most bytes of a file that is read whole.
-pub const LONGEST_INPUT: u64 = 64 * 1024 * 1024;
+pub(crate) const LONGEST_INPUT: u64 = 64 * 1024 * 1024;
 
 /// The most bytes of a line of a stream.
-pub const LONGEST_LINE: usize = 1024 * 1024;
+pub(crate) const LONGEST_LINE: usize = 1024 * 1024;
 
 /// The most that a descriptor may list, where nothing else is said.
 pub const LIMIT: usize = 131_072;
+
+/// The limit by which so many bytes are allowed, where they are too many: a smaller one doesn't
+/// raise the most bytes.
+pub fn limit_for(bytes: usize) -> usize {
+    bytes.max(LIMIT.saturating_add(1))
+}
 
 /// Whose reading of descriptors is meant.
 #[derive(Clone, Copy, Debug, PartialEq, Eq)]
@@ -37,6 +43,19 @@ impl ReadAs {
     }
 }
 
+/// What is said on standard error beside refusals.
+#[derive(Clone, Copy, Debug, PartialEq, Eq)]
+pub enum Notes {
+    /// Nothing.
+    Quiet,
+
+    /// What is mended, left out, or otherwise than it might be thought.
+    Usual,
+
+    /// Also which form an input is read in.
+    Verbose,
+}
+
 /// The options of all commands.
 #[derive(Clone, Copy)]
 pub struct Settings<'a> {
@@ -56,6 +75,10 @@ pub struct Settings<'a> {
     pub is_coloured: bool,
     /// The folder in which Linux tells of devices.
     pub sysfs: &'a str,
+    /// What is said on standard error beside refusals.
+    pub notes: Notes,
+    /// The names that a source is to have, some with their numbers.
+    pub names: &'a [&'a str],
 }
 
 impl Settings<'_> {
@@ -77,6 +100,16 @@ impl Settings<'_> {
     /// asked for.
     pub fn reads_as_linux(&self) -> bool {
         self.read_as != Some(ReadAs::Standard)
+    }
+
+    /// Whether something is said on standard error beside refusals.
+    pub fn has_notes(&self) -> bool {
+        self.notes != Notes::Quiet
+    }
+
+    /// Whether it is said in which form an input is read.
+    pub fn tells_forms(&self) -> bool {
+        self.notes == Notes::Verbose
     }
 
     /// The most bytes of a descriptor, and of a report that is written.

@@ -4,7 +4,7 @@ use crate::items::{ItemCursor, ItemState, PlacedItem};
 use crate::moved_usages::StoodUsages;
 use anyhow::Result;
 use hid_output::{add_bytes, add_json, digits_of};
-use hid_words::{add_depth, add_item, number_of};
+use hid_words::{Colour, add_depth, add_item, fault_offset, fault_words, number_of};
 use hidreport::hid::ItemType;
 use hidreport::{ParseOptions, ParserError};
 use hidreport_usages::item_name;
@@ -106,7 +106,7 @@ impl<'a> ItemLines<'a> {
         }
         self.stood.pass(&entry.item, page)?;
         self.state.pass(&entry)?;
-        if !self.is_told && offset_of(self.fault) == Some(entry.offset) {
+        if !self.is_told && self.fault.and_then(|fault| fault_offset(fault)) == Some(entry.offset) {
             add_fault(text, self.style, self.fault)?;
             self.is_told = true;
         }
@@ -169,6 +169,17 @@ fn add_object(
     add_json(text, &object)
 }
 
+/// Appends the line of an item without its end: its offset, its bytes and its words.
+pub fn add_item_line(
+    text: &mut String,
+    entry: &PlacedItem,
+    state: &ItemState,
+) -> Result<(), AllocError> {
+    add_place(text, entry.offset, entry.bytes)?;
+    add_depth(text, state.depth_of(&entry.item))?;
+    add_item(text, &entry.item, state.page())
+}
+
 /// Appends the line of an item.
 fn add_line(
     text: &mut String,
@@ -179,26 +190,25 @@ fn add_line(
 ) -> Result<(), AllocError> {
     add_place(text, entry.offset, entry.bytes)?;
     add_depth(text, depth)?;
-    if is_coloured {
-        text.push_str(colour_of(&entry.item))?;
-    }
+    colour_of(&entry.item).begin(text, is_coloured)?;
     add_item(text, &entry.item, state.page())?;
-    text.push_str(if is_coloured { "\x1b[0m\n" } else { "\n" })
+    Colour::end(text, is_coloured)?;
+    text.push_str("\n")
 }
 
 /// Appends an offset and the bytes that stand there.
-fn add_place(text: &mut String, offset: usize, bytes: &[u8]) -> Result<(), AllocError> {
+pub fn add_place(text: &mut String, offset: usize, bytes: &[u8]) -> Result<(), AllocError> {
     let digits = digits_of(*text.allocator(), bytes)?;
     write!(text, "{offset:>5}: {digits:<15} ")
 }
 
-/// What turns a terminal's letters to the colour of a type of items.
-fn colour_of(item: &ItemType) -> &'static str {
+/// The colour of a type of items.
+fn colour_of(item: &ItemType) -> Colour {
     match item {
-        ItemType::Main(_) => "\x1b[36m",
-        ItemType::Global(_) => "\x1b[33m",
-        ItemType::Local(_) => "\x1b[32m",
-        ItemType::Long | ItemType::Reserved => "\x1b[31m",
+        ItemType::Main(_) => Colour::Cyan,
+        ItemType::Global(_) => Colour::Yellow,
+        ItemType::Local(_) => Colour::Green,
+        ItemType::Long | ItemType::Reserved => Colour::Red,
     }
 }
 
@@ -220,15 +230,6 @@ fn add_rest(text: &mut String, style: ItemStyle, offset: usize, rest: &[u8]) -> 
     Ok(())
 }
 
-/// The offset of the item that a fault is at.
-pub fn offset_of(fault: Option<&ParserError>) -> Option<usize> {
-    match fault {
-        Some(ParserError::InvalidData { offset, .. }) => Some(*offset),
-        Some(ParserError::BudgetExceeded { offset }) => Some(*offset),
-        _ => None,
-    }
-}
-
 /// Appends what is said of an item, in a line that `hid compile` passes over as that of a fault.
 fn add_remark(text: &mut String, style: ItemStyle, offset: usize, remark: &str) -> Result<()> {
     if style == ItemStyle::Json {
@@ -242,8 +243,8 @@ fn add_fault(text: &mut String, style: ItemStyle, fault: Option<&ParserError>) -
     let Some(fault) = fault else {
         return Ok(());
     };
-    let offset = offset_of(Some(fault));
-    let fault = remark_of(fault);
+    let offset = fault_offset(fault);
+    let fault = fault_words(fault);
     if style == ItemStyle::Json {
         return add_json(text, &FaultObject { offset, fault });
     }
@@ -252,14 +253,4 @@ fn add_fault(text: &mut String, style: ItemStyle, fault: Option<&ParserError>) -
         None => writeln!(text, "     ! {fault}")?,
     }
     Ok(())
-}
-
-/// What a fault is.
-pub fn remark_of(fault: &ParserError) -> &str {
-    match fault {
-        ParserError::InvalidData { message, .. } => message.as_str(),
-        ParserError::BudgetExceeded { .. } => "more is listed than the limit",
-        ParserError::OutOfMemory => "out of memory",
-        _ => "a report or a count is too great",
-    }
 }

@@ -4,9 +4,12 @@
 
 mod bpf;
 mod bpf_names;
+mod esp32;
 mod flags;
+mod halves;
 mod lookup;
 mod lufa;
+mod reports;
 mod tinyusb;
 mod zephyr;
 
@@ -15,10 +18,13 @@ pub use bpf::{
     usage_named,
 };
 use bpf::{bpf_macro, bpf_number};
+use esp32::esp32_macro;
 pub use flags::Header;
+use halves::half_macro;
 pub use lookup::name_in;
 pub use lufa::lufa_name;
 use lufa::{lufa_macro, lufa_number};
+pub use reports::ReportMacro;
 pub use tinyusb::{KINDS, OF_A_BYTE, OF_EACH_SIZE, PAGES, REPORT_ID, USAGE_PAGE, WITHOUT};
 use tinyusb::{tinyusb_macro, tinyusb_number};
 pub use zephyr::zephyr_name;
@@ -57,6 +63,13 @@ pub enum Arguments {
 
     /// How many bytes a report of padding has, with the one of its id: the items of such a report.
     VendorReport,
+
+    /// The size of an item's data, as in its first byte; the data stand behind.
+    Size,
+
+    /// A number of two bytes, of which one is written; the macro's first byte says how far it is
+    /// shifted.
+    Half,
 }
 
 impl Arguments {
@@ -68,7 +81,9 @@ impl Arguments {
             Arguments::Number
             | Arguments::Nibble
             | Arguments::VendorPage
-            | Arguments::VendorReport => 1,
+            | Arguments::VendorReport
+            | Arguments::Size
+            | Arguments::Half => 1,
             Arguments::Sized | Arguments::Bits | Arguments::Range => 2,
             Arguments::Item => 3,
         }
@@ -103,12 +118,26 @@ impl Macro {
         Macro { header, arguments }
     }
 
-    /// The macro with this name, of TinyUSB, Zephyr, LUFA or udev-hid-bpf: what several have writes
-    /// the same.
+    /// The macro with this name, of TinyUSB, Zephyr, LUFA, udev-hid-bpf or the ESP32's libraries:
+    /// what several have writes the same.
     pub fn named(name: &str) -> Option<Macro> {
         let known = lufa_macro(name).or(tinyusb_macro(name));
-        known.or(zephyr_macro(name)).or(bpf_macro(name))
+        let known = known.or(zephyr_macro(name)).or(bpf_macro(name));
+        known.or(esp32_macro(name)).or(half_macro(name))
     }
+}
+
+/// Whose macros have names that begin so.
+static FAMILIES: [(&str, &str); 3] = [
+    ("TUD_", "TinyUSB"),
+    ("HID_RI_", "LUFA"),
+    ("HID_", "TinyUSB or Zephyr"),
+];
+
+/// Whose macro a name is like, where it is like one.
+pub fn family_of(name: &str) -> Option<&'static str> {
+    let row = FAMILIES.iter().find(|row| name.starts_with(row.0))?;
+    Some(row.1)
 }
 
 /// The number that a name in an argument stands for, by the header of TinyUSB, Zephyr, LUFA or

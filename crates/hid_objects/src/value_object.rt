@@ -17,11 +17,21 @@ struct PhysicalObject {
     unit: Option<u32>,
 }
 
+/// A report's place in its input, and when it came.
+#[derive(Clone, Copy)]
+pub struct Sent<'a> {
+    /// Its number, from 1.
+    pub number: u64,
+    /// The time that the input has.
+    pub time: Option<&'a str>,
+}
+
 /// Where a field with values lies: its report, when that came, and its bits.
 #[derive(Clone, Copy, Drop, Serialize)]
 struct PlaceObject<'a> {
     direction: &'static str,
     report: Option<u8>,
+    number: u64,
     #[serde(skip_serializing_if = "Option::is_none")]
     time: Option<&'a str>,
     start: usize,
@@ -66,7 +76,7 @@ pub fn add_value_objects(
     direction: Direction,
     report: &RDescReport,
     bytes: &[u8],
-    time: Option<&str>,
+    sent: Sent,
 ) -> Result<()> {
     for field in report.fields() {
         let bits = field.bits();
@@ -76,7 +86,8 @@ pub fn add_value_objects(
         let place = PlaceObject {
             direction: word_of(direction),
             report: report.report_id().map(u8::from),
-            time,
+            number: sent.number,
+            time: sent.time,
             start: bits.start,
             end: bits.end,
         };

@@ -2,9 +2,9 @@
 use anyhow::Result;
 use hid_given::Given;
 use hid_input::settings::Settings;
-use hid_items::item_lines::{offset_of, remark_of};
 use hid_output::html::add_html;
 use hid_output::{add_json, escaped};
+use hid_words::{fault_offset, fault_words};
 use hidreport::ParserError;
 use serde::Serialize;
 use std::alloc::AllocError;
@@ -48,8 +48,8 @@ pub fn add_device_object(
 /// Appends why the descriptor is refused.
 pub fn add_fault_object(lines: &mut String, fault: &ParserError) -> Result<()> {
     let object = FaultObject {
-        offset: offset_of(Some(fault)),
-        fault: remark_of(fault),
+        offset: fault_offset(fault),
+        fault: fault_words(fault),
     };
     add_json(lines, &object)
 }

@@ -2,6 +2,7 @@
 use crate::sheet::Sheet;
 use anyhow::Result;
 use hid_given::Given;
+use hid_input::settings::Settings;
 use hid_output::add_json;
 use serde::Serialize;
 
@@ -127,9 +128,11 @@ impl LeftOut {
     }
 }
 
-/// Writes the block of what is said in the page, and says it on standard error, too.
+/// Writes the block of what is said in the page, and says it on standard error, too, unless nothing
+/// is to be said there.
 pub fn show_notes<R: AllocGlobal + Print + Eprint>(
     rt: &R,
+    settings: &Settings,
     given: &Given,
     sheet: &mut Sheet,
 ) -> Result<()> {
@@ -145,7 +148,9 @@ pub fn show_notes<R: AllocGlobal + Print + Eprint>(
             let note = format!(in rt.alloc(); "{count} {words}")?;
             let note = note.as_str();
             add_json(&mut sheet.lines, &NoteObject { note })?;
-            eprintln!(rt; "hid: {note}")?;
+            if settings.has_notes() {
+                eprintln!(rt; "hid: {note}")?;
+            }
         }
     }
     sheet.take(rt)?;

@@ -34,7 +34,7 @@ impl<'a> Page<'a> {
         let mut given = descriptor_within(rt, settings, self.inputs.file)?;
         if settings.reads_as_linux() {
             match linux_device(rt.alloc(), settings, given.descriptor()) {
-                Ok(device) => self.mend(rt, &mut given, device)?,
+                Ok(device) => self.mend(rt, settings, &mut given, device)?,
                 Err(Unread::Refused(refusal)) => {
                     let fault = fault_of(rt.alloc(), refusal)?;
                     self.show_refused(rt, settings, &given, &fault)?;
@@ -53,11 +53,14 @@ impl<'a> Page<'a> {
     fn mend<R: AllocGlobal + Eprint>(
         &self,
         rt: &R,
+        settings: &Settings,
         given: &mut Given,
         read: LinuxDevice,
     ) -> Result<()> {
-        tell_mended(rt, self.inputs.file, &read)?;
-        tell_doubt(rt, self.inputs.file, &read)?;
+        if settings.has_notes() {
+            tell_mended(rt, self.inputs.file, &read)?;
+            tell_doubt(rt, self.inputs.file, &read)?;
+        }
         let count = read.changes().len();
         if count > 0 {
             let items = if count == 1 { "item is" } else { "items are" };
@@ -109,7 +112,7 @@ impl<'a> Page<'a> {
         show_made_bits(rt, given.descriptor(), &mut sheet)?;
         show_fields(rt, descriptor, &mut sheet)?;
         self.show_streams(rt, given, &streams, descriptor, &mut sheet)?;
-        show_notes(rt, given, &mut sheet)?;
+        show_notes(rt, settings, given, &mut sheet)?;
         end(rt, &mut sheet)?;
         Ok(if sheet.left_out.unknown == 0 {
             Ending::Done
@@ -132,7 +135,7 @@ impl<'a> Page<'a> {
             sheet.begin(id)?;
             sheet.end()?;
         }
-        show_notes(rt, given, &mut sheet)?;
+        show_notes(rt, settings, given, &mut sheet)?;
         end(rt, &mut sheet)
     }
 

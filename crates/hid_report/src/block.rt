@@ -48,9 +48,14 @@ impl Block {
     }
 
     /// Appends the block that these lines begin with, and a line for those that it stands for.
-    pub fn add(self, text: &mut String, lines: &[FieldLine]) -> Result<(), AllocError> {
+    pub fn add(
+        self,
+        text: &mut String,
+        lines: &[FieldLine],
+        is_coloured: bool,
+    ) -> Result<(), AllocError> {
         for line in lines.iter().take(self.length) {
-            line.add(text)?;
+            line.add(text, is_coloured)?;
         }
         if self.again == 0 {
             return Ok(());

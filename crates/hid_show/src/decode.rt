@@ -1,6 +1,6 @@
 //! `hid decode`: the items of a descriptor in words.
 use anyhow::{Result, bail};
-use hid_input::input::descriptor_named;
+use hid_input::parsing::{descriptor_within, with_advice};
 use hid_input::settings::Settings;
 use hid_input::world::World;
 use hid_items::item_lines::{ItemLines, ItemStyle};
@@ -18,17 +18,14 @@ pub struct Decode<'a> {
 impl<'a> Decode<'a> {
     /// Shows each item; then a descriptor that can't be read is refused.
     pub fn run<R: World>(&self, rt: &R, settings: &Settings) -> Result<Ending> {
-        let given = descriptor_named(rt, settings, self.file)?;
+        let given = descriptor_within(rt, settings, self.file)?;
         let bytes = given.descriptor();
         let fault = ReportDescriptor::try_from_with(rt.alloc(), bytes, settings.parse).err();
         match fault {
             Some(ParserError::OutOfMemory) => bail!("out of memory"),
-            Some(ParserError::BudgetExceeded { offset }) if bytes.len() > settings.longest() => {
-                Err(ParserError::BudgetExceeded { offset }.into())
-            }
             Some(fault) => {
                 show_items(rt, settings, bytes, Some(&fault))?;
-                Err(fault.into())
+                Err(with_advice(rt.alloc(), settings, bytes, fault))
             }
             None => {
                 show_items(rt, settings, bytes, None)?;

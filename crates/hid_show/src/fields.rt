@@ -41,11 +41,11 @@ impl<'a> Fields<'a> {
             if settings.is_json {
                 show_objects(rt, &mut text, direction, reports)?;
             } else {
-                self.show_reports(rt, &mut text, direction, reports)?;
+                self.show_reports(rt, settings, &mut text, (direction, reports))?;
             }
         }
         flush(rt, &mut text)?;
-        if has_no_report(&descriptor) {
+        if settings.has_notes() && has_no_report(&descriptor) {
             let file = escaped(rt.alloc(), self.file)?;
             eprintln!(rt; "hid: {file}: no item makes a field, so there is no report")?;
         }
@@ -56,15 +56,16 @@ impl<'a> Fields<'a> {
     fn show_reports<R: AllocGlobal + Print>(
         &self,
         rt: &R,
+        settings: &Settings,
         text: &mut String,
-        direction: Direction,
-        reports: &[RDescReport],
+        reports: (Direction, &[RDescReport]),
     ) -> Result<()> {
+        let (direction, reports) = reports;
         let same = SameReports::of(rt.alloc(), reports, self.shows_each)?;
         for (place, report) in reports.iter().enumerate() {
             if same.is_first(place) {
                 same.add_head(text, direction, reports, place)?;
-                self.show_fields(rt, text, report)?;
+                self.show_fields(rt, settings, text, report)?;
             }
         }
         Ok(())
@@ -75,6 +76,7 @@ impl<'a> Fields<'a> {
     fn show_fields<R: AllocGlobal + Print>(
         &self,
         rt: &R,
+        settings: &Settings,
         text: &mut String,
         report: &RDescReport,
     ) -> Result<()> {
@@ -90,7 +92,7 @@ impl<'a> Fields<'a> {
             } else {
                 Block::at(rest)
             };
-            block.add(text, rest)?;
+            block.add(text, rest, settings.is_coloured)?;
             flush_piece(rt, text)?;
             next = place.saturating_add(block.len());
         }

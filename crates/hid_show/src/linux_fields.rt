@@ -22,7 +22,9 @@ const DEEPER: usize = 12;
 pub fn show_linux<R: World>(rt: &R, settings: &Settings, file: &str) -> Result<Ending> {
     let given = descriptor_named(rt, &unmended(settings), file)?;
     let read = read_by_linux(rt.alloc(), settings, given.descriptor())?;
-    tell_mended(rt, file, &read)?;
+    if settings.has_notes() {
+        tell_mended(rt, file, &read)?;
+    }
     let descriptor = read.outline().lay_out(rt.alloc())?;
     let copy = LinuxCopy::of(rt.alloc(), settings, read.bytes(), read.reading())?;
     let reading = read.into_reading();
@@ -32,6 +34,7 @@ pub fn show_linux<R: World>(rt: &R, settings: &Settings, file: &str) -> Result<E
         all: copy.devices(rt.alloc(), &reading)?,
         reading,
         is_json: settings.is_json,
+        is_coloured: settings.is_coloured,
     };
     for direction in Direction::ALL {
         let (outlines, arrays) = copy.reports(direction);
@@ -43,7 +46,9 @@ pub fn show_linux<R: World>(rt: &R, settings: &Settings, file: &str) -> Result<E
         }
     }
     flush(rt, &mut shown.text)?;
-    tell(rt, shown.reading.doubt(), shown.reading.driver())?;
+    if settings.has_notes() {
+        tell(rt, shown.reading.doubt(), shown.reading.driver())?;
+    }
     Ok(Ending::Done)
 }
 
@@ -77,6 +82,7 @@ struct Shown {
     all: InputDevices,
     reading: LinuxReading,
     is_json: bool,
+    is_coloured: bool,
 }
 
 impl Shown {
@@ -153,8 +159,10 @@ impl Shown {
                 object.add_linux(objects_of(alloc, &answers)?);
                 add_json(&mut self.text, &object)?;
             } else {
-                add_placed(&mut self.text, open, field, &answers)?;
-                open = around(open, field);
+                let around = around(open, field);
+                add_opened(&mut self.text, open, around, self.is_coloured)?;
+                add_answered(&mut self.text, field, &answers, around.len())?;
+                open = around;
             }
             flush_piece(rt, &mut self.text)?;
         }
@@ -186,16 +194,14 @@ impl Shown {
     }
 }
 
-/// Appends a field below the collections that it lies in, where the one before it doesn't.
-fn add_placed(
+/// Appends a field inside so many collections, and what Linux gives it.
+fn add_answered(
     text: &mut String,
-    open: &[Collection],
     field: &Field,
     answers: &[Answered],
+    depth: usize,
 ) -> Result<(), AllocError> {
-    let around = around(open, field);
-    add_opened(text, open, around)?;
-    let indent = indent_of(around.len().saturating_add(1));
+    let indent = indent_of(depth.saturating_add(1));
     add_spaces(text, indent)?;
     add_field(text, field, indent)?;
     add_answers(text, field, answers, indent.saturating_add(DEEPER))?;
@@ -207,10 +213,11 @@ fn add_opened(
     text: &mut String,
     before: &[Collection],
     around: &[Collection],
+    is_coloured: bool,
 ) -> Result<(), AllocError> {
     let shared = Collection::shared(before, around);
     for (depth, collection) in around.iter().enumerate().skip(shared) {
-        FieldLine::Opens(depth, collection).add(text)?;
+        FieldLine::Opens(depth, collection).add(text, is_coloured)?;
     }
     Ok(())
 }

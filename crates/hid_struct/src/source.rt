@@ -4,7 +4,7 @@ use crate::member::count_members;
 use crate::report_struct::ReportStruct;
 use anyhow::{Result, bail, ensure};
 use hid_input::parsing::descriptor_by;
-use hid_input::settings::{LIMIT, Settings};
+use hid_input::settings::{Settings, limit_for};
 use hid_input::world::World;
 use hid_output::ending::Ending;
 use hid_output::flush;
@@ -64,7 +64,7 @@ fn check(alloc: Global, settings: &Settings, descriptor: &ReportDescriptor) -> R
 fn check_size(settings: &Settings, size: usize) -> Result<()> {
     let longest = settings.longest();
     if longest < size {
-        let limit = size.max(LIMIT.saturating_add(1));
+        let limit = limit_for(size);
         bail!("a report has {size} bytes, more than {longest}: say --limit {limit}");
     }
     Ok(())

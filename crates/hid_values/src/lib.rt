@@ -2,6 +2,7 @@
 //! Licence: MIT (LICENSE).
 #![tactic(auto)]
 
+mod choosing;
 mod record;
 mod report_time;
 mod values;

@@ -1,12 +1,13 @@
 //! `hid record`: the reports of a stream, each in a line as it comes.
+use crate::choosing::chosen_node;
 use crate::report_time::{add_stamp, add_time};
-use anyhow::{Context, Result, bail};
+use anyhow::{Context, Result, bail, ensure};
 use hid_given::{Form, Given, GivenReport};
 use hid_input::input::{Stream, descriptors_named, is_node, node_named};
 use hid_input::parsing::all_read;
 use hid_input::settings::Settings;
 use hid_input::world::World;
-use hid_objects::value_object::add_value_objects;
+use hid_objects::value_object::{Sent, add_value_objects};
 use hid_output::ending::Ending;
 use hid_output::{add_bytes, escaped, flush};
 use hid_report::{Lines, tell_mixed, tell_size, tell_unknown};
@@ -38,10 +39,10 @@ pub enum Shown {
 /// Shows the reports of a stream.
 #[derive(Clone, Copy)]
 pub struct Record<'a> {
-    /// The descriptor's input.
-    pub file: &'a str,
-    /// The stream: a node, a pipe, a file, or `-`.
-    pub stream: &'a str,
+    /// The descriptor's input; a device that is asked for where none is said.
+    pub file: Option<&'a str>,
+    /// The stream: a node, a pipe, a file, or `-`; the descriptor's own node where none is said.
+    pub stream: Option<&'a str>,
     /// Whether what is as it was is left out.
     pub only_changes: bool,
     /// Whether hid-recorder's lines are written.
@@ -57,6 +58,7 @@ struct Recording<'a> {
     lines: Vec<Lines<'a>>,
     shown: Shown,
     has_times: bool,
+    has_notes: bool,
     known: u64,
     unknown: u64,
     /// The device of the last report.
@@ -67,29 +69,33 @@ struct Recording<'a> {
 impl<'a> Record<'a> {
     /// Shows each report as it comes, up to the end of the stream.
     pub fn run<R: World>(&self, rt: &R, settings: &Settings) -> Result<Ending> {
-        let given = descriptors_named(rt, settings, self.file)?;
-        let known = all_read(rt, settings, self.file, &given)?;
-        let mut recording = self.recording(rt, settings, &given, &known)?;
-        let node = node_named(rt, settings, self.stream)?;
-        let stream = Stream::new(rt.alloc(), settings.report_form, is_node(node.as_str()));
-        self.follow_named(rt, node.as_str(), &known, stream, &mut recording)
-            .context(format_args!("{}", self.stream))
+        match self.file {
+            Some(file) => self.run_of(rt, settings, file),
+            None => {
+                let node = chosen_node(rt, settings)?;
+                self.run_of(rt, settings, node.as_str())
+            }
+        }
     }
 
-    /// Shows what the stream's file or the standard input gives.
-    fn follow_named<R: World>(
-        &self,
-        rt: &R,
-        node: &str,
-        known: &[ReportDescriptor],
-        stream: Stream,
-        recording: &mut Recording,
-    ) -> Result<Ending> {
-        if self.stream == "-" {
-            return follow(rt, rt.reader(), self.stream, known, stream, recording);
+    /// The same by the descriptor of an input.
+    fn run_of<R: World>(&self, rt: &R, settings: &Settings, file: &str) -> Result<Ending> {
+        let given = descriptors_named(rt, settings, file)?;
+        let known = all_read(rt, settings, file, &given)?;
+        let mut recording = self.recording(rt, settings, &given, &known)?;
+        let name = self.stream.unwrap_or(file);
+        let node = node_named(rt, settings, name)?;
+        let is_node = is_node(node.as_str());
+        ensure!(
+            is_node || self.stream.is_some(),
+            "is no node: say the STREAM of its reports"
+        );
+        let stream = Stream::new(rt.alloc(), settings, is_node);
+        let ending = follow_named(rt, name, node.as_str(), &known, stream, &mut recording);
+        match (self.file, self.stream) {
+            (Some(_own), None) => ending,
+            _ => ending.context(format_args!("{name}")),
         }
-        let file = fs::open(rt, node)?;
-        follow(rt, file, self.stream, known, stream, recording)
     }
 
     /// How reports are shown.
@@ -123,12 +129,29 @@ impl<'a> Record<'a> {
             lines,
             shown,
             has_times: self.has_times,
+            has_notes: settings.has_notes(),
             known: 0,
             unknown: 0,
             device: 0,
             text,
         })
     }
+}
+
+/// Shows what the stream's file or the standard input gives.
+fn follow_named<R: World>(
+    rt: &R,
+    name: &str,
+    node: &str,
+    known: &[ReportDescriptor],
+    stream: Stream,
+    recording: &mut Recording,
+) -> Result<Ending> {
+    if name == "-" {
+        return follow(rt, rt.reader(), name, known, stream, recording);
+    }
+    let file = fs::open(rt, node)?;
+    follow(rt, file, name, known, stream, recording)
 }
 
 /// Appends hid-recorder's lines that stand before the reports, for each device.
@@ -170,8 +193,10 @@ fn follow<R: AllocGlobal + Clock + Print + Eprint, I: Read + Drop>(
     let Some(descriptor) = known.first() else {
         bail!("has no descriptor");
     };
-    for descriptor in known {
-        tell_mixed(rt, descriptor, Direction::Input)?;
+    if recording.has_notes {
+        for descriptor in known {
+            tell_mixed(rt, descriptor, Direction::Input)?;
+        }
     }
     let begun = Instant::now(rt)?;
     let mut piece = vec![in rt.alloc(); 0u8; PIECE]?;
@@ -232,7 +257,9 @@ impl<'a> Recording<'a> {
         let Some(own) = lines.report_of(&report.bytes) else {
             return Ok(false);
         };
-        tell_size(rt, own, &report.bytes)?;
+        if self.has_notes {
+            tell_size(rt, own, &report.bytes)?;
+        }
         self.known = self.known.saturating_add(1);
         if self.shown == Shown::Line {
             let mut line = String::new(*self.text.allocator());
@@ -240,8 +267,11 @@ impl<'a> Recording<'a> {
             self.add_line(report, time, &line)?;
             return Ok(true);
         }
-        let time = report.time.as_deref();
-        add_value_objects(&mut self.text, Direction::Input, own, &report.bytes, time)?;
+        let sent = Sent {
+            number: self.known,
+            time: report.time.as_deref(),
+        };
+        add_value_objects(&mut self.text, Direction::Input, own, &report.bytes, sent)?;
         Ok(true)
     }
 
@@ -277,11 +307,13 @@ impl<'a> Recording<'a> {
     /// Says what wasn't shown.
     fn end<R: Eprint>(&self, rt: &R, left: usize) -> Result<Ending> {
         let unknown = self.unknown;
-        if left != 0 {
+        if left != 0 && self.has_notes {
             let (s, verb) = (plural(left), if left == 1 { "is" } else { "are" });
             eprintln!(rt; "hid: the last {left} byte{s} {verb} no whole report")?;
         }
-        tell_unknown(rt, unknown)?;
+        if self.has_notes {
+            tell_unknown(rt, unknown)?;
+        }
         Ok(if left == 0 && unknown == 0 {
             Ending::Done
         } else {

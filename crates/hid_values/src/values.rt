@@ -7,7 +7,7 @@ use hid_input::inputs::Inputs;
 use hid_input::parsing::all_read;
 use hid_input::settings::Settings;
 use hid_input::world::World;
-use hid_objects::value_object::add_value_objects;
+use hid_objects::value_object::{Sent, add_value_objects};
 use hid_output::ending::Ending;
 use hid_output::{flush, flush_piece, show};
 use hid_report::{
@@ -39,8 +39,10 @@ impl<'a> Values<'a> {
         let alone = self.inputs.reports.is_empty();
         ensure!(!alone || !given.reports.is_empty(), "no report");
         let known = all_read(rt, settings, self.inputs.file, &given)?;
-        for descriptor in known.iter() {
-            tell_mixed(rt, descriptor, self.inputs.direction)?;
+        if settings.has_notes() {
+            for descriptor in known.iter() {
+                tell_mixed(rt, descriptor, self.inputs.direction)?;
+            }
         }
         if alone {
             self.show_all(rt, settings, (&given, &known), &given)?;
@@ -103,7 +105,9 @@ impl<'a> Values<'a> {
                 word_of(direction)
             );
         };
-        tell_size(rt, report, bytes)?;
+        if settings.has_notes() {
+            tell_size(rt, report, bytes)?;
+        }
         if self.is_down {
             if number != 1 {
                 text.push_str("\n")?;
@@ -111,7 +115,7 @@ impl<'a> Values<'a> {
             return Ok(add_down(text, report, bytes)?);
         }
         if settings.is_json {
-            return self.add_objects(text, report, given);
+            return self.add_objects(text, report, given, number);
         }
         if self.has_times {
             add_stamp(text, number, given, None)?;
@@ -121,15 +125,19 @@ impl<'a> Values<'a> {
         Ok(add_values(text, report, bytes)?)
     }
 
-    /// Appends a report's values as JSON, with its time where that is wanted.
+    /// Appends a report's values as JSON, with its number, and its time where that is wanted.
     fn add_objects(
         &self,
         text: &mut String,
         report: &RDescReport,
         given: &GivenReport,
+        number: u64,
     ) -> Result<()> {
-        let time = given.time.as_deref().filter(|_time| self.has_times);
-        add_value_objects(text, self.inputs.direction, report, &given.bytes, time)
+        let sent = Sent {
+            number,
+            time: given.time.as_deref().filter(|_time| self.has_times),
+        };
+        add_value_objects(text, self.inputs.direction, report, &given.bytes, sent)
     }
 }
 

@@ -2,9 +2,11 @@
 //! Licence: MIT (LICENSE).
 #![tactic(auto)]
 
+mod colour;
 mod counted;
 mod depth;
 mod direction;
+mod faults;
 mod field_flags;
 mod field_numbers;
 mod field_words;
@@ -15,9 +17,11 @@ mod naming;
 mod physical;
 mod usage_list;
 
+pub use colour::Colour;
 pub use counted::plural;
 pub use depth::{add_depth, add_spaces, indent_of};
 pub use direction::{direction_named, title_of, word_of};
+pub use faults::{fault_offset, fault_words};
 pub use field_flags::{FLAG_WORDS, FLAGS, flags_of};
 pub use field_numbers::FieldNumbers;
 pub use field_words::{

@@ -1,10 +1,11 @@
 //! `hid compile`: a descriptor's bytes from the text that `hid decode` writes, or one as the standard
 //! writes its examples.
+use crate::nearest_words::add_nearest_words;
 use crate::written_flags::flags_said;
 use anyhow::{Context, Result, bail};
 use hid_forms::bytes_of_hex;
+use hid_input::advice::check_length;
 use hid_input::input::text_named;
-use hid_input::parsing::check_length;
 use hid_input::settings::Settings;
 use hid_input::world::World;
 use hid_items::items::{ItemCursor, ItemState, PlacedItem};
@@ -122,8 +123,10 @@ impl Compiled {
     /// Takes the item that words say; a refusal has them as they are written.
     fn add_words(&mut self, words: &str, said: &str) -> Result<()> {
         let Some(item) = item_of_words(words, self.state.page(), &self.flags) else {
+            let mut nearest = String::new(self.alloc);
+            add_nearest_words(&mut nearest, said, self.state.page())?;
             let words = escaped(self.alloc, said)?;
-            bail!("'{words}' says no item");
+            bail!("'{words}' is no item{nearest}");
         };
         let written = write_item(&item);
         let entry = PlacedItem {

@@ -2,13 +2,18 @@
 //! Licence: MIT (LICENSE).
 #![tactic(auto)]
 
+mod assignment;
 mod compile;
 mod convert;
 mod field_names;
 mod nearest;
+mod nearest_words;
+mod press;
+mod putting;
 mod set;
 mod uhid;
 mod wanted_usage;
+mod written;
 mod written_flags;
 
 pub use compile::Compile;

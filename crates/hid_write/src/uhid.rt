@@ -59,7 +59,7 @@ impl<'a> Uhid<'a> {
             bail!("has no descriptor");
         };
         check_reports(&given)?;
-        create(rt, device)?;
+        create(rt, settings, device)?;
         let mut unknown = 0u64;
         for report in given.reports.iter() {
             if given.device_of(given.form, report).is_some() {
@@ -69,7 +69,9 @@ impl<'a> Uhid<'a> {
             }
         }
         write_event(rt, begun(rt.alloc(), Event::Destroy)?)?;
-        tell_unknown(rt, unknown)?;
+        if settings.has_notes() {
+            tell_unknown(rt, unknown)?;
+        }
         Ok(if unknown == 0 {
             Ending::Done
         } else {
@@ -91,15 +93,31 @@ fn check_reports(given: &Given) -> Result<()> {
 }
 
 /// Writes the event that makes a device.
-fn create<R: AllocGlobal + Print + Eprint>(rt: &R, device: &Device) -> Result<()> {
+fn create<R: AllocGlobal + Print + Eprint>(
+    rt: &R,
+    settings: &Settings,
+    device: &Device,
+) -> Result<()> {
     let count = device.descriptor.len();
     let Some(size) = size_of(count).filter(|_size| count != 0) else {
         bail!("the descriptor has {count} bytes, and uhid takes 1 to {MOST}");
     };
     let ids = ids_of(device)?;
     let mut event = begun(rt.alloc(), Event::Create)?;
-    add_text(rt, &mut event, device.name.as_deref(), "name", NAME)?;
-    add_text(rt, &mut event, device.place.as_deref(), "place", PLACE)?;
+    add_text(
+        rt,
+        settings,
+        &mut event,
+        device.name.as_deref(),
+        ("name", NAME),
+    )?;
+    add_text(
+        rt,
+        settings,
+        &mut event,
+        device.place.as_deref(),
+        ("place", PLACE),
+    )?;
     add_zeros(&mut event, NAME + PLACE + SERIAL + 4)?;
     event.extend_from_slice(&size.to_le_bytes())?;
     event.extend_from_slice(&ids.bus.to_le_bytes())?;
@@ -154,17 +172,19 @@ fn add_zeros(event: &mut Vec<u8>, size: usize) -> Result<(), AllocError> {
     Ok(())
 }
 
-/// Appends a text in so many bytes, of which the last is 0; says where it is cut.
+/// Appends a text into the room of what it is, so many bytes, of which the last is 0; says where it
+/// is cut.
 fn add_text<R: Eprint>(
     rt: &R,
+    settings: &Settings,
     event: &mut Vec<u8>,
     text: Option<&str>,
-    what: &str,
-    size: usize,
+    room: (&str, usize),
 ) -> Result<()> {
+    let (what, size) = room;
     let text = text.unwrap_or("");
     let shown = fitting(text, size);
-    if shown.len() != text.len() {
+    if shown.len() != text.len() && settings.has_notes() {
         let (count, most) = (text.len(), shown.len());
         eprintln!(rt; "hid: of a {what} of {count} bytes uhid gets {most}")?;
     }

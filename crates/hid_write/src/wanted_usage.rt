@@ -42,6 +42,14 @@ impl<'a> WantedUsage<'a> {
         }
     }
 
+    /// This usage.
+    pub fn of(usage: Usage) -> WantedUsage<'a> {
+        WantedUsage {
+            usage: Some(u32::from(usage)),
+            ..WantedUsage::new("")
+        }
+    }
+
     /// The first of these usages that the word names.
     pub fn find(&mut self, alloc: Global, usages: &[Usage]) -> Result<Option<Usage>, AllocError> {
         for usage in usages {

@@ -25,12 +25,15 @@ complete -c hid -n "__fish_seen_subcommand_from help" -a "$commands"
 # The options of all commands.
 complete -c hid -l form -x -a "bytes hex recorder dump source python offsets libinput debugfs lsusb usbmon" -d "What the descriptor's input holds, where it isn't to be guessed"
 complete -c hid -l report-form -x -a "bytes hex recorder dump source python offsets libinput debugfs lsusb usbmon" -d "What the reports' input holds, where it isn't to be guessed"
+complete -c hid -s D -l define -x -d "A name that source asks for by #if, or NAME=NUMBER; each by an option"
 complete -c hid -l device -x -d "The device that is meant, of an input that has several"
 complete -c hid -l limit -x -d "The most that a descriptor may list, 131072 where it isn't said"
 complete -c hid -l as -x -a "linux standard" -d "Read as Linux does, which is so where nothing is said, or by the standard's letter"
 complete -c hid -l json -d "Write an object of JSON in each line"
 complete -c hid -l color -x -a "auto always never" -d "Show names in colour"
 complete -c hid -l sysfs -x -a "(__fish_complete_directories)" -d "The folder in which Linux tells of devices"
+complete -c hid -l quiet -d "Say nothing on standard error but why something is refused"
+complete -c hid -l verbose -d "Say also in which form an input is read"
 complete -c hid -s h -l help -d "Print help"
 complete -c hid -n "$none" -s V -l version -d "Print version"
 
@@ -45,6 +48,7 @@ complete -c hid -n "__fish_seen_subcommand_from record" -l raw -d "Write hid-rec
 complete -c hid -n "__fish_seen_subcommand_from record" -l times -d "Show each report's number and its time in seconds"
 complete -c hid -n "__fish_seen_subcommand_from set" -l direction -x -a "input output feature" -d "Which way the reports go"
 complete -c hid -n "__fish_seen_subcommand_from set" -l to -x -a "hex c rust bytes recording python kernel" -d "What the bytes are written as"
+complete -c hid -n "__fish_seen_subcommand_from set" -l press -x -d "Press keys of a keyboard, too, with + between them, as Ctrl+A"
 complete -c hid -n "__fish_seen_subcommand_from set" -l zero -d "Set all bits to 0 that no name sets, and not to what stands for no value"
 complete -c hid -n "__fish_seen_subcommand_from set" -l names -d "Show the names that it takes, one in each line, and write no report"
 complete -c hid -n "__fish_seen_subcommand_from convert" -l to -x -a "hex c rust bytes recording python kernel zephyr tinyusb lufa hid-bpf libinput webhid" -d "What the bytes are written as"
@@ -54,6 +58,7 @@ complete -c hid -n "__fish_seen_subcommand_from map" -l svg -d "Write the pictur
 complete -c hid -n "__fish_seen_subcommand_from map" -l all -d "Draw all rows, past the first 4,096"
 complete -c hid -n "__fish_seen_subcommand_from page" -l direction -x -a "input output feature" -d "Which way the reports go"
 complete -c hid -n "__fish_seen_subcommand_from page" -l all -d "Leave nothing out: all items past 4,096, fields past 2,000 and reports past 4,000"
+complete -c hid -n "__fish_seen_subcommand_from diff" -l items -d "Show the items that differ, in the bytes as they stand"
 complete -c hid -n "__fish_seen_subcommand_from check" -l for -x -a "linux windows" -d "Show also what this host refuses or may read otherwise, as far as it is known"
 complete -c hid -n "__fish_seen_subcommand_from check" -l fail-on -x -a "error warning note never" -d "The status is 1 where a finding is so bad, or worse"
 complete -c hid -n "__fish_seen_subcommand_from check" -l explain -x -d "Show what a rule means and what to write, by its number or name; all: a line of each"
@@ -66,10 +71,10 @@ function __hid_names
     set -l place 2
     while test $place -le (count $tokens)
         switch $tokens[$place]
-            case --form --report-form --device --limit --as --direction --sysfs
+            case --form --report-form -D --define --device --limit --as --direction --sysfs
                 set -a options $tokens[$place] $tokens[(math $place + 1)]
                 set place (math $place + 1)
-            case --color --to
+            case --color --to --press
                 set place (math $place + 1)
             case -
                 set -a words -

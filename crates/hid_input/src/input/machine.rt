@@ -1,4 +1,5 @@
 //! The HID devices of the machine, as Linux tells of their nodes in sysfs.
+use crate::input::nodes::input_nodes;
 use anyhow::{Context, Result, bail, ensure};
 use std::alloc::{AllocError, Global};
 use std::fmt::Write;
@@ -7,7 +8,7 @@ use std::rt::Files;
 use std::{fs, io};
 
 /// The most nodes that Linux makes.
-const MOST_NODES: usize = 64;
+pub const MOST_NODES: usize = 64;
 
 /// The most bytes of a file that tells of a device.
 const LONGEST: u64 = 65_536;
@@ -36,7 +37,7 @@ pub struct MachineDevice {
 /// # Errors
 ///
 /// - what tells of a device can't be read, or isn't read.
-pub fn machine_devices<R: AllocGlobal + Files>(rt: &R, sysfs: &str) -> Result<Vec<MachineDevice>> {
+fn machine_devices<R: AllocGlobal + Files>(rt: &R, sysfs: &str) -> Result<Vec<MachineDevice>> {
     let mut devices = Vec::new(rt.alloc());
     for number in 0..MOST_NODES {
         if let Some(device) = machine_device(rt, sysfs, number)? {
@@ -131,7 +132,7 @@ impl MachineDevice {
         format!(in alloc; "{bus:x} {vendor:04x} {product:04x}")
     }
 
-    /// Whether a word means it by its node or its ids.
+    /// Whether a word means it by its node, its ids, or its product's alone.
     fn has_node_or_ids(&self, word: &str) -> bool {
         if let Some(number) = word.strip_prefix("hidraw") {
             return number.parse::<usize>().ok() == Some(self.number);
@@ -140,7 +141,7 @@ impl MachineDevice {
             Some((vendor, product)) => {
                 is_hex(vendor, self.vendor) && is_hex(product, self.product)
             }
-            None => false,
+            None => word.len() == 4 && is_hex(word, self.product),
         }
     }
 }
@@ -158,19 +159,22 @@ fn is_hex(digits: &str, number: u32) -> bool {
     u32::from_str_radix(digits, 16).ok() == Some(number)
 }
 
-/// The number of the node that a word means: `hidraw0`, `046d:c077`, or a part of a device's name;
-/// none where no device is meant.
+/// The number of the node that a word means: `hidraw0`, `event5` of an input device, `046d:c077` or
+/// the product's `c077`, or a part of a device's name; none where no device is meant.
 ///
 /// # Errors
 ///
 /// - those of `machine_devices`;
 /// - several devices are meant.
-pub fn node_meant<R: AllocGlobal + Files>(
+pub(crate) fn node_meant<R: AllocGlobal + Files + Clone + Drop>(
     rt: &R,
     sysfs: &str,
     word: &str,
 ) -> Result<Option<usize>> {
     let mut devices = machine_devices(rt, sysfs)?;
+    if is_event_node(word) {
+        return number_of_event(rt, sysfs, &devices, word);
+    }
     let is_exact = devices.iter().any(|it| it.has_node_or_ids(word));
     devices.retain(|it| {
         if is_exact {
@@ -184,6 +188,31 @@ pub fn node_meant<R: AllocGlobal + Files>(
         bail!("means {list}");
     }
     Ok(number_of_first(&devices))
+}
+
+/// Whether a word is the name of a node of an input device.
+fn is_event_node(word: &str) -> bool {
+    match word.strip_prefix("event") {
+        Some(digits) => digits.parse::<usize>().is_ok(),
+        None => false,
+    }
+}
+
+/// The number of the device that has a node of an input device.
+fn number_of_event<R: AllocGlobal + Files + Clone + Drop>(
+    rt: &R,
+    sysfs: &str,
+    devices: &[MachineDevice],
+    word: &str,
+) -> Result<Option<usize>> {
+    for device in devices {
+        let folder = folder_of(rt.alloc(), sysfs, device.number)?;
+        let nodes = input_nodes(rt, folder.as_str())?;
+        if nodes.iter().any(|node| node.as_str() == word) {
+            return Ok(Some(device.number));
+        }
+    }
+    Ok(None)
 }
 
 /// The number of the first device.

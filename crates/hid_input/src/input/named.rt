@@ -24,7 +24,7 @@ pub fn is_node(name: &str) -> bool {
 /// # Errors
 ///
 /// - it is of no file, and means several devices.
-pub fn node_named<R: AllocGlobal + Files>(
+pub fn node_named<R: AllocGlobal + Files + Clone + Drop>(
     rt: &R,
     settings: &Settings,
     name: &str,
@@ -82,7 +82,7 @@ pub fn text_named<R: AllocGlobal + Files + Input>(rt: &R, name: &str) -> Result<
 }
 
 /// The descriptors of an input, those of all its devices or of the one that is meant, and the
-/// reports beside them. Says on standard error which form was guessed, and what was mended.
+/// reports beside them. Says on standard error what was left out, and what was mended.
 ///
 /// # Errors
 ///
@@ -97,7 +97,7 @@ pub fn descriptors_named<R: Reads>(rt: &R, settings: &Settings, name: &str) -> R
 /// All that an input has, whose descriptors are asked for.
 fn described<R: Reads>(rt: &R, settings: &Settings, name: &str) -> Result<Given> {
     let node = node_named(rt, settings, name)?;
-    if node.as_str() != name {
+    if node.as_str() != name && settings.has_notes() {
         tell_node(rt, name, node.as_str())?;
     }
     let path = descriptor_path(rt.alloc(), settings, node.as_str())?;
@@ -108,14 +108,11 @@ fn described<R: Reads>(rt: &R, settings: &Settings, name: &str) -> Result<Given>
     } else {
         settings.form
     };
-    let mut given = given_of(rt.alloc(), bytes, form, Wanted::Descriptors)?;
+    let mut given = given_of(rt.alloc(), bytes, form, Wanted::Descriptors, settings.names)?;
     if let Some(number) = number {
         name_device(rt, settings, number, &mut given)?;
     }
-    if settings.form.is_none() {
-        tell_form(rt, name, given.form)?;
-    }
-    tell_notes(rt, name, &given)?;
+    tell_given(rt, settings, name, settings.form, &given)?;
     Ok(given)
 }
 
@@ -194,7 +191,7 @@ fn one_alone(alloc: Global, given: Given) -> Result<Given> {
     Ok(given)
 }
 
-/// The reports of an input. Says on standard error which form was guessed.
+/// The reports of an input. Says on standard error what was left out.
 ///
 /// # Errors
 ///
@@ -203,19 +200,40 @@ fn one_alone(alloc: Global, given: Given) -> Result<Given> {
 /// - there is no report.
 pub fn reports_named<R: Reads>(rt: &R, settings: &Settings, name: &str) -> Result<Given> {
     let bytes = bytes_named(rt, name)?;
-    let given = given_of(rt.alloc(), bytes, settings.report_form, Wanted::Reports)?;
-    if settings.report_form.is_none() {
-        tell_form(rt, name, given.form)?;
-    }
-    tell_notes(rt, name, &given)?;
+    let given = given_of(
+        rt.alloc(),
+        bytes,
+        settings.report_form,
+        Wanted::Reports,
+        settings.names,
+    )?;
+    tell_given(rt, settings, name, settings.report_form, &given)?;
     ensure!(!given.reports.is_empty(), "no report");
     Ok(given)
+}
+
+/// Says of an input which form it has, where that is wanted, and what is left out.
+fn tell_given<R: AllocGlobal + Eprint>(
+    rt: &R,
+    settings: &Settings,
+    name: &str,
+    form: Option<Form>,
+    given: &Given,
+) -> Result<()> {
+    if form.is_none() && settings.tells_forms() {
+        tell_form(rt, name, given.form)?;
+    }
+    if settings.has_notes() {
+        tell_notes(rt, name, given)?;
+    }
+    Ok(())
 }
 
 /// Says what of an input is left out.
 fn tell_notes<R: AllocGlobal + Eprint>(rt: &R, name: &str, given: &Given) -> Result<()> {
     let name = escaped(rt.alloc(), name)?;
     for note in given.notes.iter() {
+        let note = escaped(rt.alloc(), note)?;
         eprintln!(rt; "hid: {name}: {note}")?;
     }
     Ok(())

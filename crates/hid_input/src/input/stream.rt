@@ -1,7 +1,7 @@
 //! The reports of a stream, of which pieces come one after the other.
 use crate::input::named::tell_form;
 use crate::input::whole::{form_of_lines, text_of};
-use crate::settings::LONGEST_LINE;
+use crate::settings::{LONGEST_LINE, Settings};
 use anyhow::{Context, Error, Result, bail, ensure};
 use hid_captures::is_capture;
 use hid_forms::{FormLines, is_blank};
@@ -34,7 +34,7 @@ enum Reading {
 pub struct Stream {
     reading: Reading,
     form: Option<Form>,
-    /// Whether its form was named, or has been said.
+    /// Whether its form was named, has been said, or isn't to be said.
     is_told: bool,
     found: Found,
     /// The bytes of a report or of a line that isn't whole; of a stream whose form isn't known,
@@ -49,9 +49,10 @@ pub struct Stream {
 }
 
 impl Stream {
-    /// Before the first piece. Where no form is named the first bytes decide; a node gives a report
-    /// at each read.
-    pub fn new(alloc: Global, form: Option<Form>, is_node: bool) -> Stream {
+    /// Before the first piece. Where the options name no form of reports the first bytes decide; a
+    /// node gives a report at each read.
+    pub fn new(alloc: Global, settings: &Settings, is_node: bool) -> Stream {
+        let form = settings.report_form;
         Stream {
             reading: if is_node {
                 Reading::Node
@@ -59,7 +60,7 @@ impl Stream {
                 reading_of(alloc, form)
             },
             form: if is_node { Some(Form::Bytes) } else { form },
-            is_told: form.is_some(),
+            is_told: form.is_some() || !settings.tells_forms(),
             found: Found::new(alloc),
             pending: Vec::new(alloc),
             line_at: 0,
@@ -78,7 +79,7 @@ impl Stream {
         self.pending.len()
     }
 
-    /// Says on standard error which form was guessed, once.
+    /// Says on standard error which form was guessed, once, where that is wanted.
     pub fn tell_form<R: AllocGlobal + Eprint>(&mut self, rt: &R, name: &str) -> Result<()> {
         match self.form {
             Some(form) if !self.is_told => {

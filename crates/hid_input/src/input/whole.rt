@@ -1,40 +1,56 @@
 //! A whole input, in the form that is named or the one that it has.
-use anyhow::{Context, Result, bail, ensure};
+use anyhow::{Context, Error, Result, anyhow, ensure};
 use hid_captures::{is_capture, read_capture};
-use hid_forms::{FormLines, Remarks, form_of, is_blank};
+use hid_forms::{FormLines, Remarks, form_of, is_blank, likest, without_markdown};
 use hid_given::{Form, Found, Given, GivenReport, Wanted};
 use std::alloc::Global;
 
-/// What the bytes of an input say. Bytes that are all text are read as text unless `form` says
-/// bytes.
-pub fn given_of(
+/// What the bytes of an input say, in a source with these names. Bytes that are all text are read
+/// as text unless `form` says bytes.
+pub(crate) fn given_of(
     alloc: Global,
     bytes: Vec<u8>,
     form: Option<Form>,
     wanted: Wanted,
+    names: &[&str],
 ) -> Result<Given> {
     if form == Some(Form::Bytes) {
         return plain(alloc, bytes, wanted);
     }
     if form == Some(Form::Usbmon) || form.is_none() && is_capture(&bytes) {
-        return captured(alloc, &bytes);
+        return captured(alloc, &bytes, wanted);
     }
     let Some(text) = text_of(&bytes) else {
         ensure!(form.is_none(), "isn't text");
         check_bytes(&bytes)?;
         return plain(alloc, bytes, wanted);
     };
+    match without_markdown(alloc, text)? {
+        Some(plain) => read(alloc, plain.as_str(), form, wanted, names),
+        None => read(alloc, text, form, wanted, names),
+    }
+}
+
+/// What a text says, in the form that is named or the one that it has.
+fn read(
+    alloc: Global,
+    text: &str,
+    form: Option<Form>,
+    wanted: Wanted,
+    names: &[&str],
+) -> Result<Given> {
     let form = match form {
         Some(form) => form,
         None => guessed(alloc, text)?,
     };
-    said(alloc, text, form, wanted)
+    said(alloc, text, form, wanted, names)
 }
 
 /// What the lines of a text say in a form.
-fn said(alloc: Global, text: &str, form: Form, wanted: Wanted) -> Result<Given> {
+fn said(alloc: Global, text: &str, form: Form, wanted: Wanted, names: &[&str]) -> Result<Given> {
     let mut found = Found::new(alloc);
     if let Some(mut lines) = FormLines::new(alloc, form, wanted) {
+        lines.define(names)?;
         for (number, line) in (1u64..).zip(text.lines()) {
             lines
                 .take(&mut found, line)
@@ -46,9 +62,9 @@ fn said(alloc: Global, text: &str, form: Form, wanted: Wanted) -> Result<Given> 
 }
 
 /// What the packets of a capture say.
-fn captured(alloc: Global, bytes: &[u8]) -> Result<Given> {
+fn captured(alloc: Global, bytes: &[u8], wanted: Wanted) -> Result<Given> {
     let mut found = Found::new(alloc);
-    read_capture(alloc, &mut found, bytes)?;
+    read_capture(alloc, &mut found, wanted, bytes)?;
     Ok(found.given(Form::Usbmon))
 }
 
@@ -119,12 +135,16 @@ fn is_text(text: &str) -> bool {
     text.chars().all(|letter| matches!(letter, '\t' | '\n' | '\r') || !letter.is_control())
 }
 
-/// The form of a text, by its first two lines that say something; where none does it is hex text.
+/// The form of a text, by its first two lines that say something, and are no rest of a line of `#`;
+/// where none does it is hex text.
 fn guessed(alloc: Global, text: &str) -> Result<Form> {
     let mut first = None;
     let mut remarks = Remarks::of_hex_text();
+    let mut goes_on = false;
     for (number, line) in (1u64..).zip(text.lines()) {
-        if is_blank(line) || first.is_none() && is_remark(alloc, &mut remarks, line)? {
+        let is_rest = goes_on;
+        goes_on = (is_rest || line.trim_start().starts_with("#")) && line.ends_with("\\");
+        if is_rest || is_blank(line) || first.is_none() && is_remark(alloc, &mut remarks, line)? {
             continue;
         }
         match first {
@@ -149,11 +169,21 @@ fn is_remark(alloc: Global, remarks: &mut Remarks, line: &str) -> Result<bool> {
 }
 
 /// The form of a text whose first lines that say something are these; the second may be empty.
-pub fn form_of_lines(number: u64, line: &str, next: &str) -> Result<Form> {
+pub(crate) fn form_of_lines(number: u64, line: &str, next: &str) -> Result<Form> {
     match form_of(line, next).context(format_args!("line {number}"))? {
         Some(form) => Ok(form),
-        None => bail!(
-            "line {number}: in none of the forms of --form; as bytes: --form or --report-form bytes"
+        None => Err(unread(number, line.trim())),
+    }
+}
+
+/// What is said of a line that no form has.
+fn unread(number: u64, line: &str) -> Error {
+    match likest(line) {
+        Some(form) => anyhow!(
+            "line {number}: looks like {form} (as bytes: --form or --report-form bytes): {line}"
+        ),
+        None => anyhow!(
+            "line {number}: like no form (as bytes: --form or --report-form bytes): {line}"
         ),
     }
 }
