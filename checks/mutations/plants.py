@@ -94,7 +94,7 @@ OF_TREE = {
 LOOK = [
     ("crates/hid_page/page/", "browser"),
     ("crates/hid_macros/src/bpf_names", "tree"),
-    ("crates/hid/", "runs options texts devices samples"),
+    ("crates/hid_commands/", "runs options texts devices samples"),
     ("crates/hid_output/", "runs page devices texts"),
     ("crates/hid_captures/", "runs texts"),
     ("crates/hid_given/", "runs texts"),

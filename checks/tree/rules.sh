@@ -99,7 +99,7 @@ while read -r file text; do
 done << END_OF_FILES
 README.md Version $version (
 CHANGELOG.md ## $version (
-crates/hid/src/command_line.rt .version("$version")
+crates/hid_commands/src/command_line.rt .version("$version")
 crates/hid/data/words.txt | hid $version
 share/man/man1/hid.1 "hidreport $version"
 share/man/man1/hidreport.1 "hidreport $version"
