@@ -1,7 +1,9 @@
 #!/bin/bash
 # The crates of tests/, which nobody proves: they are built without a proof, and stop where a check as
 # they run fails (an index, a sum, an access to memory).
-#   tests.sh [--keep FILE]     all of both; the program that asks the cases is kept as FILE
+#   tests.sh [--keep FILE]     all of both, which have to reach each branch of the library's code
+#                              (checks/mutations/reached.py); the program that asks the cases is kept
+#                              as FILE
 #   tests.sh cases [FILE..]    asks all cases of tests/hidreport_cases/data and compares what the program
 #                              prints with tests/hidreport_cases/stdout; or prints what it says of
 #                              these files of cases alone
@@ -97,10 +99,23 @@ run_all_tests() {
     fi
 }
 
+# Cases and tests, and which branches they reach; the file is where the program lies, and stays.
+run_all() {
+    local reached=$top/checks/mutations/reached.py
+    export RT_ALLOW_C=1
+    # Programs run as nobody, and note there what they reach.
+    chmod 755 "$scratch"
+    python3 "$reached" mark "$scratch/tree" "$scratch/marks"
+    ask_all "$1"
+    run_all_tests
+    [ "$failed" -eq 0 ] || return 0
+    python3 "$reached" judge "$scratch/marks" && python3 "$reached" --spoil "$scratch/marks" || failed=1
+}
+
 make_tree_with_tests "$scratch/tree"
 case ${1-}:$# in
-    :0) ask_all "$scratch/cases" && run_all_tests ;;
-    --keep:2) ask_all "$2" && run_all_tests ;;
+    :0) run_all "$scratch/cases" ;;
+    --keep:2) run_all "$2" ;;
     cases:1) ask_all "$scratch/cases" ;;
     cases:*) shift && ask_files "$@" ;;
     tests:1) run_all_tests ;;
@@ -111,7 +126,7 @@ case ${1-}:$# in
         cat "$scratch/said"
         ;;
     *)
-        sed -n '4,10s/^# //p' "$0" >&2
+        sed -n '4,12s/^# //p' "$0" >&2
         exit 2
         ;;
 esac
