@@ -291,16 +291,16 @@ def mark(tree, kept):
     os.chmod(kept, 0o666)
 
 
-def listed():
-    """The branches that are listed, and lines without a reason above them."""
+def listed(path):
+    """The lines of a list, how often each stands there, and those without a reason above them."""
     found, faults, reason = [], [], None
-    for line in text_of(LISTED).split("\n"):
+    for line in text_of(path).split("\n"):
         if line.startswith("# "):
             reason = line
         elif not line:
             reason = None
         elif reason is None:
-            faults.append(f"unreached.txt doesn't say why of: {line}")
+            faults.append(f"{os.path.basename(path)} doesn't say why of: {line}")
         else:
             found.append(line)
     return collections.Counter(found), faults
@@ -321,7 +321,7 @@ def judge(marks, branches, own, counted):
 
 def tell(kept, counted):
     """Says what was reached; the status."""
-    own, faults = listed()
+    own, faults = listed(LISTED)
     marks = bytes_of(kept)
     others, count, missed = judge(marks, read(f"{TOP}/crates")[1], own, counted)
     for fault in faults + others:
@@ -334,7 +334,7 @@ def tell(kept, counted):
 
 def spoil(kept, counted):
     """Marks, lists and sources that are spoilt have to be noticed."""
-    own, _ = listed()
+    own, _ = listed(LISTED)
     branches = read(f"{TOP}/crates")[1]
     marks = bytes_of(kept)
     reached = next(n for n, it in enumerate(marks) if it)
