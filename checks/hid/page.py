@@ -291,6 +291,19 @@ def look_at_reports(folder):
     same("reports of none", [{"note": "2 reports aren't of this descriptor"}], page.blocks["notes"])
 
 
+def look_at_mended(folder):
+    """Items that Linux mends are counted: one without its data; a reserved one, two usages before it,
+    a maximum below 0, and two of data without a usage."""
+    file = os.path.join(folder, "mended.hex")
+    for digits, note in (
+            ("05 01 09 30 75 08 95 01 80", "1 item is mended, as Linux reads it"),
+            ("05 01 09 30 09 31 00 09 30 15 00 25 ff 75 08 95 01 81 02 80 81 02",
+             "6 items are mended, as Linux reads it")):
+        with open(file, "w", encoding="utf-8") as out:
+            out.write(digits)
+        same("what is mended", [{"note": note}], Page(run("page", file)).blocks["notes"])
+
+
 def look_at_names(folder):
     """A device whose name tries to be markup; one without a name is called by its file."""
     file = os.path.join(folder, "</title><b>x.recording".replace("/", "\u2044"))
@@ -301,6 +314,7 @@ def look_at_names(folder):
     look_at_shell("hostile name", page)
     same("hostile name", HOSTILE, page.blocks["device"][0]["name"])
     same("hostile ids", "3 <i> &", page.blocks["device"][0]["ids"])
+    same("the file without its folders", os.path.basename(file), page.blocks["device"][0]["file"])
     shown = HOSTILE.replace("\u202e", "\\u{202e}").replace("\u2028", "\\u{2028}")
     same("hostile heading", shown, page.inner("h1")[0])
     same("hostile title", shown + " - HID report descriptor", page.inner("title")[0])
@@ -351,6 +365,7 @@ def main():
     with tempfile.TemporaryDirectory() as folder:
         look_at_devices(folder)
         look_at_reports(folder)
+        look_at_mended(folder)
         look_at_names(folder)
         look_at_bounds(folder)
     for fault in faults[:20]:

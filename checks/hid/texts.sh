@@ -142,6 +142,21 @@ members() {
 refused "$(members '00 40')-$(members '01 40')" \
     '-hid: -: the structs have 16385 members, more than 16384'
 
+# Items of 1,024 bytes of JSON, each in 64 collections: 64 of them are 4 MiB, and no more is written.
+listed_items() {
+    {
+        echo 05 01 75 08 95 01 26 ff 7f
+        printf 'a1 00 %.0s' $(seq 64)
+        for it in $(seq "$1"); do
+            printf '09 30 %.0s' $(seq 82)
+            echo 81 02
+        done
+    } | "$program" convert --to webhid - 2>&1 > "$scratch/listed" | tail -n 1
+}
+refused "$(listed_items 64)$(grep -o '^{"isAbsolute.*[^,]' "$scratch/listed" | awk 'length == 1023' | wc -l)" 4096
+refused "$(listed_items 65)" \
+    'hid: -: items that each collection around them lists have more than 4194304 bytes of JSON'
+
 # Bytes are a capture where its mark and its version are there; a word less, and they are bytes.
 capture_of() {
     printf "$1" | "$program" convert --verbose - 2>&1 | head -n 1

@@ -108,7 +108,7 @@ LOOK = [
     ("crates/hid_macros/", "runs texts"),
     ("crates/hid_targets/", "runs webhid texts"),
     ("crates/hid_write/", "runs names texts"),
-    ("crates/hid_struct/", "runs structs"),
+    ("crates/hid_struct/", "runs texts structs"),
     ("crates/hid_findings/", "runs rules as_linux"),
     ("crates/hid_page/", "runs page"),
     ("crates/hid", "runs"),
