@@ -291,6 +291,26 @@ def look_at_reports(folder):
     same("reports of none", [{"note": "2 reports aren't of this descriptor"}], page.blocks["notes"])
 
 
+def look_at_words(folder):
+    """What stands beside numbers: one outside of its bounds, keys of which none is held; a report to a
+    keyboard is the second of its descriptor, and one of 12 bits has as many."""
+    stream = os.path.join(folder, "words.reports")
+    for name, direction, digits, place, words in (
+            ("mouse", "input", "00 80 00", 0, [""] * 4 + ["-128, outside of -127 to 127", ""]),
+            ("keyboard", "input", "00 " * 8, 0, [""] * 9 + ["none"]),
+            ("keyboard", "output", "01", 1, [""] * 6)):
+        with open(stream, "w", encoding="utf-8") as out:
+            out.write(digits)
+        file = os.path.join(DATA, f"{name}.hex")
+        page = Page(run("page", "--direction", direction, file, stream))
+        same(f"words of {name}", [(place, words)],
+             [(sample["report"], sample["words"]) for sample in page.blocks["samples"]])
+    with open(stream, "w", encoding="utf-8") as out:
+        out.write("05 01 09 30 75 0c 95 01 81 02")
+    line = Page(run("page", stream)).blocks["lines"][0]
+    same("the size of a report", (12, 2), (line["bits"], line["bytes"]))
+
+
 def look_at_mended(folder):
     """Items that Linux mends are counted: one without its data; a reserved one, two usages before it,
     a maximum below 0, and two of data without a usage."""
@@ -365,6 +385,7 @@ def main():
     with tempfile.TemporaryDirectory() as folder:
         look_at_devices(folder)
         look_at_reports(folder)
+        look_at_words(folder)
         look_at_mended(folder)
         look_at_names(folder)
         look_at_bounds(folder)
