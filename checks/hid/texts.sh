@@ -197,6 +197,12 @@ refused "$({ printf '\1\5'; sleep 0.1; printf '\373\0\0\0'; } |
     "$(printf ' X=5 Y=-5\n X=0 Y=0')"
 refused "$(printf '05\n06' | "$program" record "$top/crates/hid/data/axis.bytes" - 2> /dev/null)" "$(printf 'X=5\nX=6')"
 
+# What a line takes is given back behind it: of 500,000 no more stands in 64 MB than of one.
+refused "$(
+    ulimit -v 64000
+    yes 05 | head -n 500000 | "$program" record "$top/crates/hid/data/axis.bytes" - 2>&1 | tail -n 1
+)" 'X=5'
+
 # Colour where the environment forces it, and none where it wants none; a name that isn't UTF-8.
 coloured() {
     env "$@" "$program" decode "$top/crates/hid/data/axis.bytes" 2> /dev/null | grep -c "$(printf '\033')" || true
