@@ -28,7 +28,7 @@ wrong() {
 ask() {
     node --test tests/ > "$scratch/said" 2>&1 || return 1
     tests=$(sed -n 's/^# pass //p' "$scratch/said")
-    [ "$tests" -eq 9 ]
+    [ "$tests" -eq 10 ]
 }
 
 mkdir "$scratch/generated" "$scratch/c"

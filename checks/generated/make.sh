@@ -88,6 +88,10 @@ for round in 1 2 3 4 5; do
     asked=$((asked + 4))
     rm -rf "$tree"
 done
+# What LDFLAGS names the shared library and both programs are linked with.
+make -n -C "$scratch/serial" BUILD="$scratch/none" LDFLAGS=-Wl,-z,now all > "$scratch/said" 2>&1 ||
+    wrong 'make -n fails'
+[ "$(grep -c -e ' -Wl,-z,now ' "$scratch/said")" -eq 3 ] || wrong 'LDFLAGS are not what is linked with'
 # What is noticed: a name less, a byte more, and a source that is newer than what is made of it.
 ! diff <(functions) <(shown -g "$scratch/serial/build/libhidreport.a" | sed 1d) > "$scratch/said" ||
     wrong 'a missing function is not noticed'
@@ -97,4 +101,4 @@ echo >> "$scratch/serial/build/hid"
 touch "$scratch/serial/generated/heap.c"
 ! make -q --no-print-directory -C "$scratch/serial" ||
     wrong '`make -q` sees nothing to do behind a newer source'
-echo "make: $((asked + 3)) answers, the same with eight jobs as with one"
+echo "make: $((asked + 4)) answers, the same with eight jobs as with one"

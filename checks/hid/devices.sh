@@ -96,6 +96,8 @@ done
 wants 0 "hid: /dev/hidraw0: read as bytes
 $mouse" convert --verbose --sysfs sys /dev/hidraw0
 wants 0 "$mouse" convert --quiet --sysfs sys Optical
+wants 0 "hid: 0001:0002: is /dev/hidraw63
+$mouse" convert --sysfs last 0001:0002
 # A recording has what Linux tells of the device: its name, where it is plugged in, and its ids.
 wants 0 "hid: Optical: is /dev/hidraw0
 D: 0

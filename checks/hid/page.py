@@ -291,6 +291,39 @@ def look_at_reports(folder):
     same("reports of none", [{"note": "2 reports aren't of this descriptor"}], page.blocks["notes"])
 
 
+def look_at_words(folder):
+    """What stands beside numbers: one outside of its bounds, keys of which none is held; a report to a
+    keyboard is the second of its descriptor, and one of 12 bits has as many."""
+    stream = os.path.join(folder, "words.reports")
+    for name, direction, digits, place, words in (
+            ("mouse", "input", "00 80 00", 0, [""] * 4 + ["-128, outside of -127 to 127", ""]),
+            ("keyboard", "input", "00 " * 8, 0, [""] * 9 + ["none"]),
+            ("keyboard", "output", "01", 1, [""] * 6)):
+        with open(stream, "w", encoding="utf-8") as out:
+            out.write(digits)
+        file = os.path.join(DATA, f"{name}.hex")
+        page = Page(run("page", "--direction", direction, file, stream))
+        same(f"words of {name}", [(place, words)],
+             [(sample["report"], sample["words"]) for sample in page.blocks["samples"]])
+    with open(stream, "w", encoding="utf-8") as out:
+        out.write("05 01 09 30 75 0c 95 01 81 02")
+    line = Page(run("page", stream)).blocks["lines"][0]
+    same("the size of a report", (12, 2), (line["bits"], line["bytes"]))
+
+
+def look_at_mended(folder):
+    """Items that Linux mends are counted: one without its data; a reserved one, two usages before it,
+    a maximum below 0, and two of data without a usage."""
+    file = os.path.join(folder, "mended.hex")
+    for digits, note in (
+            ("05 01 09 30 75 08 95 01 80", "1 item is mended, as Linux reads it"),
+            ("05 01 09 30 09 31 00 09 30 15 00 25 ff 75 08 95 01 81 02 80 81 02",
+             "6 items are mended, as Linux reads it")):
+        with open(file, "w", encoding="utf-8") as out:
+            out.write(digits)
+        same("what is mended", [{"note": note}], Page(run("page", file)).blocks["notes"])
+
+
 def look_at_names(folder):
     """A device whose name tries to be markup; one without a name is called by its file."""
     file = os.path.join(folder, "</title><b>x.recording".replace("/", "\u2044"))
@@ -301,6 +334,7 @@ def look_at_names(folder):
     look_at_shell("hostile name", page)
     same("hostile name", HOSTILE, page.blocks["device"][0]["name"])
     same("hostile ids", "3 <i> &", page.blocks["device"][0]["ids"])
+    same("the file without its folders", os.path.basename(file), page.blocks["device"][0]["file"])
     shown = HOSTILE.replace("\u202e", "\\u{202e}").replace("\u2028", "\\u{2028}")
     same("hostile heading", shown, page.inner("h1")[0])
     same("hostile title", shown + " - HID report descriptor", page.inner("title")[0])
@@ -351,6 +385,8 @@ def main():
     with tempfile.TemporaryDirectory() as folder:
         look_at_devices(folder)
         look_at_reports(folder)
+        look_at_words(folder)
+        look_at_mended(folder)
         look_at_names(folder)
         look_at_bounds(folder)
     for fault in faults[:20]:

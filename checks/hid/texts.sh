@@ -142,6 +142,29 @@ members() {
 refused "$(members '00 40')-$(members '01 40')" \
     '-hid: -: the structs have 16385 members, more than 16384'
 
+# A number has the smallest type that holds its bits, in JavaScript 32 are no BigInt; a name's words are
+# parted where it has a capital, too.
+wide='05 07 09 e0 15 00 26 ff 7f 75 10 95 01 81 02 09 e1 27 ff ff ff 7f 75 20 81 02'
+refused "$(echo "$wide" | "$program" struct - 2> /dev/null | grep -oE '[a-z0-9_]+ keyboard_[a-z_]+;' | tr '\n' ' ')" \
+    'uint16_t keyboard_left_control; uint32_t keyboard_left_shift; '
+refused "$(echo "$wide" | "$program" struct --to javascript - 2> /dev/null | grep -E '^    [a-z_]+ = ' | tr '\n' ' ')" \
+    '    keyboard_left_control = 0;     keyboard_left_shift = 0; '
+
+# Items of 1,024 bytes of JSON, each in 64 collections: 64 of them are 4 MiB, and no more is written.
+listed_items() {
+    {
+        echo 05 01 75 08 95 01 26 ff 7f
+        printf 'a1 00 %.0s' $(seq 64)
+        for it in $(seq "$1"); do
+            printf '09 30 %.0s' $(seq 82)
+            echo 81 02
+        done
+    } | "$program" convert --to webhid - 2>&1 > "$scratch/listed" | tail -n 1
+}
+refused "$(listed_items 64)$(grep -o '^{"is.*"physicalMaximum":0}' "$scratch/listed" | grep -cE '^.{1023}$')" 4096
+refused "$(listed_items 65)" \
+    'hid: -: items that each collection around them lists have more than 4194304 bytes of JSON'
+
 # Bytes are a capture where its mark and its version are there; a word less, and they are bytes.
 capture_of() {
     printf "$1" | "$program" convert --verbose - 2>&1 | head -n 1
@@ -173,6 +196,12 @@ refused "$({ printf '\1\5'; sleep 0.1; printf '\373\0\0\0'; } |
     "$program" record --report-form bytes "$top/crates/hid/data/mouse.hex" - 2> /dev/null | grep -o ' X=.*')" \
     "$(printf ' X=5 Y=-5\n X=0 Y=0')"
 refused "$(printf '05\n06' | "$program" record "$top/crates/hid/data/axis.bytes" - 2> /dev/null)" "$(printf 'X=5\nX=6')"
+
+# What a line takes is given back behind it: of 500,000 no more stands in 64 MB than of one.
+refused "$(
+    ulimit -v 64000
+    yes 05 | head -n 500000 | "$program" record "$top/crates/hid/data/axis.bytes" - 2>&1 | tail -n 1
+)" 'X=5'
 
 # Colour where the environment forces it, and none where it wants none; a name that isn't UTF-8.
 coloured() {

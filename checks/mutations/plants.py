@@ -44,7 +44,7 @@ HERE = os.path.dirname(os.path.abspath(__file__))
 TOP = os.path.dirname(os.path.dirname(HERE))
 # So many plants are there, and so many of them are noticed.
 ALL = 440
-NOTICED = 334
+NOTICED = 439
 SECONDS = 900
 KEYS = ("name", "file", "old", "new", "put", "table", "by", "why")
 
@@ -78,7 +78,7 @@ OF_TREE = {
     "c": "rm -rf prefix && make -s install-library PREFIX=\"$PWD/prefix\" && "
          "PATH=/usr/bin:/bin bash checks/c/cases.sh \"$PWD/prefix\"",
     "programs": "make -s build/hid build/hidreport && python3 checks/hid/runs.py build/hid && "
-                "sh checks/hidreport/statuses.sh build/hidreport && bash checks/hid/devices.sh build/hid",
+                "sh checks/hidreport/statuses.sh \"$PWD/build/hidreport\" && bash checks/hid/devices.sh build/hid",
     "texts": "make -s build/hid && bash checks/hid/texts.sh build/hid",
     "hostile": "make -s build/hid && bash checks/hid/hostile.sh build/hid",
     "pipes": "make -s build/hid && { { sleep 0.2 && build/hid fields crates/hid/data/mouse.hex; echo $? >&3; } | :; } "
@@ -108,14 +108,14 @@ LOOK = [
     ("crates/hid_macros/", "runs texts"),
     ("crates/hid_targets/", "runs webhid texts"),
     ("crates/hid_write/", "runs names texts"),
-    ("crates/hid_struct/", "runs structs"),
+    ("crates/hid_struct/", "runs texts structs"),
     ("crates/hid_findings/", "runs rules as_linux"),
     ("crates/hid_page/", "runs page"),
     ("crates/hid", "runs"),
     ("rust/", "rust"),
     ("js/", "js webhid_js wasm"),
     ("python/", "python"),
-    ("generated/heap.c", "c programs hostile"),
+    ("generated/heap.c", "c programs texts hostile"),
     ("generated/", "programs pipes texts"),
     ("Makefile", "install make tree"),
     ("install", "install"),

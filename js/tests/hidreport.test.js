@@ -5,6 +5,7 @@ import { readFileSync } from "node:fs";
 import { test } from "node:test";
 
 import * as hid from "../index.js";
+import { imports } from "../src/host.js";
 import { answers, bytesIn } from "./cases.js";
 
 const QUESTIONS = 719;
@@ -39,6 +40,11 @@ test("fields", () => {
     [["Application", "Mouse"], ["Physical", "Pointer"]]);
   assert.equal(report.fields[3].kind, hid.Kind.CONSTANT);
   assert.deepEqual([report.fields[3].usages, report.fields[3].collections], [[], []]);
+  const [twice] = hid.ReportDescriptor.from(bytesIn("0501 0930 0930 7508 9502 8102")).inputReports;
+  assert.equal(twice.fieldFor(new hid.Usage(1, 0x30)).id, 0);
+  assert.equal(new hid.Usage(9, 0x30).equals(new hid.Usage(1, 0x30)), false);
+  const [field] = hid.ReportDescriptor.from(bytesIn("0501 0930 7508 9501 67000000f0 9182")).outputReports[0].fields;
+  assert.deepEqual([field.flags.isVolatile, field.flags.isBufferedBytes, field.unit], [true, false, 0xf0000000]);
 });
 
 test("values", () => {
@@ -72,6 +78,7 @@ test("ids and arrays", () => {
   assert.deepEqual(device.findInputReport([6, 42]).read([6, 42]), [42]);
   assert.equal(device.findInputReport([7, 42]), undefined);
   assert.equal(device.findInputReport([]), undefined);
+  assert.equal(hid.ReportDescriptor.from(MOUSE).findInputReport([]), undefined);
   assert.throws(() => device.inputReports[1].fields[0].extract([5, 42]), hid.MismatchingReportId);
   const [field] = hid.ReportDescriptor.from(bytesIn("0507 1904 2907 1501 2504 7508 9503 8100"))
     .inputReports[0].fields;
@@ -104,6 +111,8 @@ test("items, repairs and names", () => {
   assert.deepEqual(bytes, bytesIn("750895018301000001"));
   assert.deepEqual(changes, [{ offset: 4, stood: 5, stands: 5, reason: hid.Reason.NO_USAGE }]);
   assert.throws(() => hid.repair([0xc0]), hid.InvalidData);
+  assert.deepEqual(hid.repair([5, 1, 0x26], hid.HOSTS, hid.Mends.CUT_SHORT), { bytes: bytesIn("0501"),
+    changes: [{ offset: 2, stood: 1, stands: 0, reason: hid.Reason.CUT_SHORT }] });
   const mouse = hid.ReportDescriptor.from(MOUSE);
   assert.equal(mouse.isAlike(hid.ReportDescriptor.from(hid.rebuild(MOUSE))), true);
   assert.equal(mouse.isAlike(hid.ReportDescriptor.from([5, 1])), false);
@@ -162,4 +171,18 @@ test("a device of WebHID", () => {
   assert.deepEqual(heard, [[["Keyboard B", 1]]]);
   assert.equal(listeners.size, 0);
   assert.throws(() => hid.descriptorOf([{ ...mouse, inputReports: [] }]), TypeError);
+  // Of an exponent four bits are read, of which 8 is -8; system 15 of units is the vendors' own.
+  const measured = webHidItem({ usages: [0x10030], unitSystem: "vendor-defined", unitExponent: -8 });
+  const bytes = hid.descriptorOf([{ ...pointer, inputReports: [reportOf(0, measured)] }]);
+  const [{ unit, unitExponent }] = hid.ReportDescriptor.from(bytes).inputReports[0].fields;
+  assert.deepEqual([unit, unitExponent], [15, 8]);
+});
+
+test("what the program is told of", () => {
+  const memory = new WebAssembly.Memory({ initial: 1 });
+  const told = imports(() => memory, ["hid", "list"], { environment: {} });
+  // A word's length where there is room for all of it, -2 where there is less, -1 behind the last.
+  assert.deepEqual([4n, 3n].map((room) => told.rattle_arg(1n, 8n, room)), [4n, -2n]);
+  assert.equal(told.rattle_arg(2n, 8n, 4n), -1n);
+  assert.deepEqual(Buffer.from(memory.buffer, 8, 5).toString(), "list\0");
 });

@@ -60,6 +60,10 @@ class Classes(unittest.TestCase):
         self.assertEqual(report.fields[3].kind, hid.Kind.CONSTANT)
         self.assertEqual((report.fields[3].usages, report.fields[3].collections), ((), ()))
         self.assertIsNone(report.field_for(hid.Usage(1, 0x38)))
+        twice, = hid.ReportDescriptor(bytes.fromhex("0501 0930 0930 7508 9502 8102")).input_reports
+        self.assertEqual(twice.field_for(hid.Usage(1, 0x30)).id, 0)
+        many, = hid.ReportDescriptor(bytes.fromhex("0509 1901 2946 7501 9546 8102")).input_reports
+        self.assertEqual([field.usage.id for field in many.fields], list(range(1, 71)))
 
     def test_values(self):
         report, = hid.ReportDescriptor(MOUSE).input_reports
@@ -92,6 +96,8 @@ class Classes(unittest.TestCase):
         self.assertEqual(device.input_reports[1].blank().hex(), "0600")
         field = device.input_reports[1].fields[0]
         self.assertEqual(field.report_id, 6)
+        zero, = hid.ReportDescriptor(bytes.fromhex("8500 0501 0930 7508 9501 8102")).input_reports
+        self.assertEqual((zero.report_id, zero.fields[0].report_id), (0, 0))
         self.assertIsInstance(refused(field.extract, b"\x05\x2a"), hid.MismatchingReportId)
 
     def test_arrays(self):
