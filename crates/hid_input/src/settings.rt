@@ -1,4 +1,4 @@
-//! What the options of all commands say.
+//! What the options say that commands share.
 use hid_given::Form;
 use hidreport::{ParseOptions, PushKeeps, RepairOptions, UsagesBy};
 
@@ -56,7 +56,7 @@ pub enum Notes {
     Verbose,
 }
 
-/// The options of all commands.
+/// The options that commands share.
 #[derive(Clone, Copy)]
 pub struct Settings<'a> {
     /// What the descriptor's input holds, where it was said.
