@@ -4,7 +4,7 @@ hid-input (Linux 6.12: drivers/hid/hid-core.c, drivers/hid/hid-input.c, for hid-
 which knows nothing of this library's code; the codes of keys alone it has from
 crates/hidreport_linux/data/events.txt, which checks/tree/event_facts.sh compares with the kernel's own.
 
-    linux_events.py HID [WORDS ..]   compares it with `HID --json fields --linux` over all descriptors
+    linux_events.py HID [WORDS ..]   compares it with `HID fields --json --linux` over all descriptors
                                      that checks/hid/descriptors.sh and compare/devices.txt have
     linux_events.py --model HEX      says the model's answers
 """
@@ -579,7 +579,7 @@ def said_of(program, raw, words):
     with tempfile.NamedTemporaryFile() as file:
         file.write(raw)
         file.flush()
-        run = subprocess.run([program, *words, "--form", "bytes", "--json", "fields", "--linux",
+        run = subprocess.run([program, *words, "fields", "--form", "bytes", "--json", "--linux",
                               file.name], capture_output=True, timeout=60)
     said = run.stderr.decode()
     if run.returncode:

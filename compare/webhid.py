@@ -137,7 +137,7 @@ def run(words, data):
 def asked(words, data):
     """Whether a descriptor is answered as the model does, and the answer; none of one that is refused."""
     refused = any(json.loads(line).get("odd", "").startswith("refused: ")
-                  for line in run([*words, "--json", "check"], data)[1].splitlines())
+                  for line in run([*words, "check", "--json"], data)[1].splitlines())
     status, said = run([*words, "convert", "--to", "webhid"], data)
     if refused or status:
         return refused and status == 1 and not said, None

@@ -82,7 +82,8 @@ export class Program {
 
   /** The same, with what it wrote as the objects of its lines of JSON. */
   async objects(words, files) {
-    const answer = await this.text(["--json", ...words], files);
+    const [command, ...rest] = words;
+    const answer = await this.text([command, "--json", ...rest], files);
     const lines = answer.text.split("\n").filter((line) => line !== "");
     return { ...answer, objects: lines.map((line) => JSON.parse(line)) };
   }

@@ -190,13 +190,13 @@ for shape in $shapes; do
     done
     for host in linux windows; do
         run check --for "$host" "$shape"
-        run --json check --for "$host" "$shape"
+        run check --json --for "$host" "$shape"
     done
     run fields --linux "$shape"
-    run --json fields --linux "$shape"
+    run fields --json --linux "$shape"
     run fields --all "$shape"
     for command in decode fields check diff; do
-        run --json "$command" "$shape" $([ "$command" != diff ] || echo mouse)
+        run "$command" --json "$shape" $([ "$command" != diff ] || echo mouse)
     done
     run map --svg "$shape"
     run page "$shape"

@@ -65,7 +65,7 @@ lamps=$(hid set --names --direction output keyboard.hex - 2> /dev/null)
 same 'all lamps' "$lamps" "$(completed hid set --direction output keyboard.hex - '')"
 same 'direction behind' "$lamps" "$(completed hid set keyboard.hex - --direction output '')"
 same 'options with a value' "$lamps" \
-    "$(completed hid --color never set --to hex --press 9 --direction output keyboard.hex - '')"
+    "$(completed hid --as linux set --to hex --press 9 --direction output keyboard.hex - '')"
 same 'begun' 'Num Lock' "$(completed hid set --direction output keyboard.hex - Num)"
 same 'backslash' 'Num Lock' "$(completed hid set --direction output keyboard.hex - 'Num\ L')"
 same 'quote' 'Num Lock' "$(completed hid set --direction output keyboard.hex - "'Num L")"

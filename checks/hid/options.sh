@@ -63,6 +63,25 @@ entries() {
     section "$1" | sed -n '/^\.TP$/{n;p}'
 }
 
+# The options of the section OPTIONS that a command takes: an entry's line `Of ..` names those that take
+# it, or behind `all but` those that don't; one without such a line is of all, and of `hid` itself.
+taken() {
+    section OPTIONS | awk -v command="$1" '
+        function end() {
+            if (head != "") print head
+        }
+        $0 == ".TP" { end(); begins = 1; next }
+        begins { begins = 0; head = $0; next }
+        /^Of .*\.$/ {
+            is_but = sub(/^Of all but /, "")
+            gsub(/^Of|,|\.| and /, " ")
+            is_named = index(" " $0 " ", " " command " ") != 0
+            if (command == "hid" || is_but == is_named) head = ""
+        }
+        END { end() }' | sed -E 's/^(-[a-zA-Z]), (.*) NAME$/\1 VALUE\n\2 VALUE/
+        s/^(-[a-zA-Z]), /\1\n/; s/ (N|DIR)$/ VALUE/'
+}
+
 # Each option of a text, short ones too.
 options() {
     grep -oE -e '(^|[^a-zA-Z0-9-])--?[a-zA-Z][a-z-]*' | grep -oE -e '--?[a-zA-Z][a-z-]*$'
@@ -132,6 +151,14 @@ barred() {
         print name (values == "" ? "" : " " values) substr($0, place) }'
 }
 
+# What zsh's file completes of the lists that several commands take.
+shared_of_zsh() {
+    local list
+    for list in $(sed -nE "s/^ *([a-z]+ \| )*$1( \| [a-z]+)*\) shared=\((.*)\) ;;\$/\3/p" "$zsh"); do
+        sed -n "/^${list#\$}=(\$/,/^)\$/p" "$zsh"
+    done | of_zsh
+}
+
 # The words that bash completes behind others, of which the last is begun.
 # shellcheck source=/dev/null
 . "$top/share/bash-completion/completions/hid"
@@ -164,15 +191,13 @@ for words in -h help; do
 done
 same 'hid without words' "$(< "$help/help")"$'\n2' "$("$scratch/hid" 2>&1 || echo "$?")"
 same 'hid -V' "$("$scratch/hid" --version)" "$("$scratch/hid" -V)"
-[ "$(wc -l <<< "$commands")" -ge 10 ] && [ "$(wc -l <<< "$of_all")" -ge 12 ] || {
+[ "$(wc -l <<< "$commands")" -ge 10 ] && [ "$(wc -l <<< "$of_all")" -ge 8 ] || {
     echo 'hid_options: the help tells of fewer commands or options' >&2
     exit 1
 }
 
 # The options of all commands, with their values, in the page of man and by completion.
-same 'OPTIONS of hid.1' "$of_all" \
-    "$(entries OPTIONS | sed -E 's/^(-[a-zA-Z]), (.*) NAME$/\1 VALUE\n\2 VALUE/
-        s/^(-[a-zA-Z]), /\1\n/; s/ (N|DIR)$/ VALUE/')"
+same 'OPTIONS of hid.1' "$of_all" "$(taken hid)"
 same 'what is completed behind hid' "$(names <<< "$of_all")" "$(completed hid -)"
 same 'what is completed behind hid alone' "$(names <<< "$of_all"; echo "$commands"; echo help)" \
     "$(completed hid '')"
@@ -192,7 +217,8 @@ same 'commands of fish' "$(described_commands)" \
     "$(sed -nE 's/^complete -c hid -n "\$none" -a ([a-z]+) -d "(.*)"$/\1: \2/p' "$fish")"
 same 'the list of commands of fish' "$commands" \
     "$(sed -n 's/^set -l commands //p' "$fish" | tr ' ' '\n')"
-same 'options of all commands of zsh' "$(described help)" "$(sed '/^case /,$d' "$zsh" | of_zsh)"
+same 'options of all commands of zsh' "$(described help)" \
+    "$(sed '/^# Of several/,/^_arguments/d; /^case /,$d' "$zsh" | of_zsh)"
 same 'options of all commands of fish' "$(described help)" \
     "$(grep -v '"__fish_seen_subcommand_from ' "$fish" | of_fish)"
 
@@ -202,11 +228,15 @@ for command in $commands; do
     same "options of all commands in the help of $command" \
         "$(grep -vxF -e -V -e --version <<< "$of_all")" "$(grep -xF -e "$of_all" <<< "$of_it")"
     own=$(described "of_$command" | grep -vxF -e "$(described help)" || true)
-    same "options of $command of zsh" "$own" "$(sed -n "/^ *$command)\$/,/;;\$/p" "$zsh" | of_zsh)"
+    same "options of $command of zsh" "$own" \
+        "$(sed -n "/^ *$command)\$/,/;;\$/p" "$zsh" | of_zsh; shared_of_zsh "$command")"
     same "options of $command of fish" "$own" \
-        "$(grep "\"__fish_seen_subcommand_from $command\"" "$fish" | of_fish)"
-    own=$(grep -vxF -e "$of_all" <<< "$of_it" || true)
-    same "hid.1 of $command" "$(names <<< "$own")" "$(entry COMMANDS "$command" | options || true)"
+        "$(grep -E "\"__fish_seen_subcommand_from ([a-z]+ )*$command( [a-z]+)*\"" "$fish" | of_fish)"
+    own=$(entry COMMANDS "$command" | options || true)
+    same "hid.1 of $command" "$of_it" \
+        "$(grep -vxF -e -V -e --version <<< "$(taken "$command")"
+            grep -E "^(${own//$'\n'/|})( |\$)" <<< "$of_it" || true)"
+    same "own options in hid.1 of $command" "$own" "$(names <<< "$of_it" | grep -xF -e "$own" || true)"
     same "what is completed behind hid $command" "$(names <<< "$of_it")" \
         "$(completed hid "$command" -)"
     same "what is completed behind hid $command alone" "$(names <<< "$of_it"; echo a_file)" \

@@ -154,7 +154,7 @@ def reports_of(digits, text):
     """The reports with values, whose sizes the text for Python has, and the directions in which one report
     has no id and others have."""
     reports, ids = {}, {}
-    for line in hid(['--json', 'fields', '--form', 'hex', '-'], digits).splitlines():
+    for line in hid(['fields', '--json', '--form', 'hex', '-'], digits).splitlines():
         field = json.loads(line)
         key = field['direction'], field['report']
         ids.setdefault(key[0], set()).add(key[1])
@@ -175,7 +175,7 @@ def told(digits, reports, mixed):
     for direction in sorted({it.direction for it in reports} - mixed):
         asked = [(it, data) for it in reports if it.direction == direction for data in it.asked]
         given = recording([bytes.fromhex(digits)], 'R: ') + recording([data for _, data in asked], 'E: {}.0 ')
-        words = ['--json', 'values', '--times', '--direction', direction, '--form', 'recorder', '-']
+        words = ['values', '--json', '--times', '--direction', direction, '--form', 'recorder', '-']
         said = {}
         for line in (hid(words, given) or '').splitlines():
             it = json.loads(line)

@@ -1,141 +1,14 @@
 //! The commands of `hid` and their arguments, as tables.
-
-/// What may stand for an argument.
-#[derive(Clone, Copy)]
-pub enum Kind {
-    /// A word that has to be there.
-    Word,
-
-    /// A word that may be left out.
-    WordOrNone,
-
-    /// A word that has to be there where no rule is to be explained.
-    WordOrRule,
-
-    /// Words, or none.
-    Words,
-
-    /// An option without a value.
-    Flag,
-
-    /// An option without a value, for all commands.
-    Setting,
-
-    /// The same, but not beside `QUIET`.
-    Louder,
-
-    /// The most that a descriptor may list, or a device's number.
-    Number,
-
-    /// A name that a source is to have, with its number or without.
-    Name,
-
-    /// What inputs hold.
-    Form,
-
-    /// Whose reading of descriptors is meant.
-    Reading,
-
-    /// When names are in colour.
-    Colour,
-
-    /// Which way reports go.
-    Direction,
-
-    /// What a descriptor is written as.
-    Target,
-
-    /// What a report is written as.
-    ReportTarget,
-
-    /// What structs are written in.
-    Language,
-
-    /// Keys of a keyboard.
-    Keys,
-
-    /// A host whose refusals are told.
-    Host,
-
-    /// How bad a finding is at least for which the status is 1.
-    Severity,
-
-    /// A rule of `check` that is explained.
-    Rule,
-
-    /// A folder.
-    Folder,
-}
-
-/// An argument's name, what may stand for it, and what it is for.
-pub type Argument = (&'static str, Kind, &'static str);
-
-/// The options of all commands.
-pub static OPTIONS: [Argument; 11] = [
-    (
-        "form",
-        Kind::Form,
-        "What the descriptor's input holds, where it isn't to be guessed",
-    ),
-    (
-        "report-form",
-        Kind::Form,
-        "What the reports' input holds, where it isn't to be guessed",
-    ),
-    (
-        "define",
-        Kind::Name,
-        "A name that source asks for by #if, or NAME=NUMBER; each by an option",
-    ),
-    (
-        "device",
-        Kind::Number,
-        "The device that is meant, of an input that has several",
-    ),
-    (
-        "limit",
-        Kind::Number,
-        "The most that a descriptor may list, 131072 where it isn't said",
-    ),
-    (
-        "as",
-        Kind::Reading,
-        "Read as Linux does, which is so where nothing is said, or by the standard's letter",
-    ),
-    (
-        "json",
-        Kind::Setting,
-        "Write an object of JSON in each line",
-    ),
-    ("color", Kind::Colour, "Show names in colour"),
-    (
-        "sysfs",
-        Kind::Folder,
-        "The folder in which Linux tells of devices",
-    ),
-    (
-        QUIET,
-        Kind::Setting,
-        "Say nothing on standard error but why something is refused",
-    ),
-    (
-        VERBOSE,
-        Kind::Louder,
-        "Say also in which form an input is read",
-    ),
-];
-
-/// The option by which nothing is said beside refusals.
-pub const QUIET: &str = "quiet";
-
-/// The option by which more is said.
-pub const VERBOSE: &str = "verbose";
+use crate::kind::{Argument, Kind};
+use crate::shared_options::{COLOR, INPUT, JSON, REPORT_FORM, SYSFS};
 
 /// The option of a rule that is explained.
 pub const EXPLAIN: &str = "explain";
 
 /// What means nothing beside it.
-pub static NOT_EXPLAINED: [&str; 3] = ["FILE", "for", "fail-on"];
+pub static NOT_EXPLAINED: [&str; 7] = [
+    "FILE", "for", "fail-on", "form", "define", "device", "sysfs",
+];
 
 /// Options that are no more, and what is said in their place.
 pub static REPLACED: [(&str, &str); 3] = [
@@ -312,21 +185,36 @@ const DIFF: &[Argument] = &[
 
 const LIST: &[Argument] = &[];
 
-/// The commands: the name of each, what it is for, and its arguments.
+/// A command's name, what it is for, its own arguments, and the lists of shared options that mean
+/// something for it.
+pub type Row = (
+    &'static str,
+    &'static str,
+    &'static [Argument],
+    &'static [&'static [Argument]],
+);
+
+/// The commands.
 #[rattlefmt::skip]
-pub static COMMANDS: [(&str, &str, &[Argument]); 14] = [
-    ("decode", "Shows the items of a descriptor in words", DECODE),
-    ("fields", "Shows the reports of a descriptor and their fields", FIELDS),
-    ("values", "Shows the values of reports", VALUES),
-    ("record", "Shows each report of a stream in a line, as it comes", RECORD),
-    ("uhid", "Writes a recording as events for Linux's /dev/uhid, without its times", UHID),
-    ("set", "Writes the bytes of a report", SET),
-    ("convert", "Writes a descriptor in another form", CONVERT),
-    ("compile", "Writes the descriptor that a text of hid decode says", COMPILE),
-    ("struct", "Writes source with a struct, a decoder and an encoder for each report", STRUCT),
-    ("map", "Draws the bits of each report", MAP),
-    ("page", "Writes a page of HTML that shows a descriptor and reports", PAGE),
-    ("diff", "Shows what differs between two descriptors", DIFF),
-    ("check", "Shows what is odd in a descriptor, and what the standard says", CHECK),
-    ("list", "Shows the HID devices of the machine", LIST),
+pub static COMMANDS: [Row; 14] = [
+    ("decode", "Shows the items of a descriptor in words", DECODE, &[INPUT, JSON, COLOR]),
+    ("fields", "Shows the reports of a descriptor and their fields", FIELDS,
+        &[INPUT, JSON, COLOR]),
+    ("values", "Shows the values of reports", VALUES, &[INPUT, REPORT_FORM, JSON]),
+    ("record", "Shows each report of a stream in a line, as it comes", RECORD,
+        &[INPUT, REPORT_FORM, JSON]),
+    ("uhid", "Writes a recording as events for Linux's /dev/uhid, without its times", UHID,
+        &[INPUT]),
+    ("set", "Writes the bytes of a report", SET, &[INPUT]),
+    ("convert", "Writes a descriptor in another form", CONVERT, &[INPUT]),
+    ("compile", "Writes the descriptor that a text of hid decode says", COMPILE, &[]),
+    ("struct", "Writes source with a struct, a decoder and an encoder for each report", STRUCT,
+        &[INPUT]),
+    ("map", "Draws the bits of each report", MAP, &[INPUT]),
+    ("page", "Writes a page of HTML that shows a descriptor and reports", PAGE,
+        &[INPUT, REPORT_FORM]),
+    ("diff", "Shows what differs between two descriptors", DIFF, &[INPUT, JSON, COLOR]),
+    ("check", "Shows what is odd in a descriptor, and what the standard says", CHECK,
+        &[INPUT, JSON]),
+    ("list", "Shows the HID devices of the machine", LIST, &[SYSFS, JSON]),
 ];

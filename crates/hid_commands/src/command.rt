@@ -160,14 +160,6 @@ impl<'a> Command<'a> {
             Command::Diff(command) if command.by_items && settings.is_json => {
                 Some("--items and --json can't both be met")
             }
-            Command::Uhid(_)
-            | Command::Set(_)
-            | Command::Convert(_)
-            | Command::Compile(_)
-            | Command::Struct(_)
-            | Command::Map(_)
-            | Command::Page(_)
-                if settings.is_json => { Some("this command has no JSON") }
             _ => None,
         }
     }

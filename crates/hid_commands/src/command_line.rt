@@ -1,6 +1,8 @@
 //! The words that `hid` knows.
-use crate::arguments::{Argument, COMMANDS, EXPLAIN, Kind, NOT_EXPLAINED, OPTIONS, QUIET};
+use crate::arguments::{COMMANDS, EXPLAIN, NOT_EXPLAINED};
+use crate::kind::{Argument, Kind};
 use crate::settings::READINGS;
+use crate::shared_options::{OPTIONS, QUIET};
 use clap::{Arg, ArgAction, Command};
 use hid_findings::{FAIL_WORDS, HOSTS};
 use hid_given::FORM_WORDS;
@@ -20,16 +22,22 @@ The status is 0, 1 where something is refused or can't be read, and 2 where the 
 
 /// `hid` with its commands.
 pub fn command_line<'a>(alloc: Global) -> Result<Command<'a>, AllocError> {
-    let hid = Command::new(alloc, "hid")
+    let mut hid = Command::new(alloc, "hid")
         .version("0.6.0-9")
         .about("Shows, reads, writes and checks HID report descriptors and reports")
         .after_help(AFTER)
         .subcommand_required(true)
         .arg_required_else_help(true);
-    let mut hid = with_arguments(alloc, hid, &OPTIONS)?;
-    for (name, about, arguments) in &COMMANDS {
+    for option in &OPTIONS {
+        hid = hid.arg(of_all(argument_of(alloc, *option)?))?;
+    }
+    for (name, about, arguments, shared) in &COMMANDS {
         let command = Command::new(alloc, name).about(about);
-        hid = hid.subcommand(with_arguments(alloc, command, arguments)?)?;
+        let mut command = with_arguments(alloc, command, arguments)?;
+        for options in *shared {
+            command = with_arguments(alloc, command, options)?;
+        }
+        hid = hid.subcommand(command)?;
     }
     Ok(hid)
 }
@@ -57,24 +65,22 @@ fn argument_of<'a>(alloc: Global, argument: Argument) -> Result<Arg<'a>, AllocEr
         Kind::WordOrRule => arg.value_name(name).required_unless_present(EXPLAIN)?,
         Kind::Words => arg.num_args(0..),
         Kind::Flag => arg.long(name).action(ArgAction::SetTrue),
-        Kind::Setting => of_all(arg.long(name).action(ArgAction::SetTrue)),
-        Kind::Louder => of_all(arg.long(name).action(ArgAction::SetTrue)).conflicts_with_all(&[
-            QUIET,
-        ])?,
-        Kind::Number => of_all(
-            arg.long(name)
-                .value_name("N")
-                .value_parser(clap::value_parser!(usize)),
-        ),
-        Kind::Name => of_all(
-            arg.short('D')
-                .long(name)
-                .value_name("NAME")
-                .action(ArgAction::Append),
-        ),
-        Kind::Form => of_all(choice(arg, name, "FORM", &FORM_WORDS)),
-        Kind::Reading => of_all(choice(arg, name, "READING", &READINGS)),
-        Kind::Colour => of_all(choice(arg, name, "WHEN", &COLOURS).default_value("auto")),
+        Kind::Louder => arg
+            .long(name)
+            .action(ArgAction::SetTrue)
+            .conflicts_with_all(&[QUIET])?,
+        Kind::Number => arg
+            .long(name)
+            .value_name("N")
+            .value_parser(clap::value_parser!(usize)),
+        Kind::Name => arg
+            .short('D')
+            .long(name)
+            .value_name("NAME")
+            .action(ArgAction::Append),
+        Kind::Form => choice(arg, name, "FORM", &FORM_WORDS),
+        Kind::Reading => choice(arg, name, "READING", &READINGS),
+        Kind::Colour => choice(arg, name, "WHEN", &COLOURS).default_value("auto"),
         Kind::Direction => choice(arg, name, "DIRECTION", &DIRECTIONS).default_value("input"),
         Kind::Keys => arg.long(name).value_name("KEYS"),
         Kind::Host => choice(arg, name, "HOST", &HOSTS),
@@ -83,7 +89,7 @@ fn argument_of<'a>(alloc: Global, argument: Argument) -> Result<Arg<'a>, AllocEr
             .long(name)
             .value_name("RULE")
             .conflicts_with_all(&NOT_EXPLAINED)?,
-        Kind::Folder => of_all(arg.long(name).value_name("DIR").default_value("/sys")),
+        Kind::Folder => arg.long(name).value_name("DIR").default_value("/sys"),
         Kind::Target => choice(arg, name, "TARGET", &TARGETS).default_value("hex"),
         Kind::Language => choice(arg, name, "LANGUAGE", &LANGUAGES).default_value("c"),
         Kind::ReportTarget => choice(arg, name, "TARGET", report_targets()).default_value("hex"),

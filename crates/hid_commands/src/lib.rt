@@ -6,7 +6,9 @@
 mod arguments;
 mod command;
 mod command_line;
+mod kind;
 mod settings;
+mod shared_options;
 
 use crate::arguments::REPLACED;
 use crate::command::{Command, words_in};

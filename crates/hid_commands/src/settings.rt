@@ -1,5 +1,5 @@
-//! The options of all commands, by the words of the command line.
-use crate::arguments::{QUIET, VERBOSE};
+//! The options that several commands take, by the words of the command line.
+use crate::shared_options::{QUIET, VERBOSE};
 use clap::ArgMatches;
 use hid_given::Form;
 use hid_input::settings::{LIMIT, Notes, ReadAs, Settings};

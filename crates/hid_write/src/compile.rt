@@ -6,7 +6,8 @@ use anyhow::{Context, Result, bail};
 use hid_forms::bytes_of_hex;
 use hid_input::advice::check_length;
 use hid_input::input::text_named;
-use hid_input::settings::Settings;
+use hid_input::linux_read::mended;
+use hid_input::settings::{ReadAs, Settings};
 use hid_input::world::World;
 use hid_items::items::{ItemCursor, ItemState, PlacedItem};
 use hid_output::ending::Ending;
@@ -47,7 +48,12 @@ impl<'a> Compile<'a> {
         let text = text_named(rt, self.text)?;
         let compiled = Compiled::of(rt.alloc(), &text)?;
         check_length(settings, &compiled.bytes)?;
-        self.target.write(rt, settings, &compiled.bytes)?;
+        if settings.read_as == Some(ReadAs::Linux) {
+            let device = mended(rt, settings, self.text, &compiled.bytes)?;
+            self.target.write(rt, settings, device.bytes())?;
+        } else {
+            self.target.write(rt, settings, &compiled.bytes)?;
+        }
         Ok(Ending::Done)
     }
 }

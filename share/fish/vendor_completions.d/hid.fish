@@ -23,19 +23,21 @@ complete -c hid -n "$none" -a help -d "Print this message or the help of the giv
 complete -c hid -n "__fish_seen_subcommand_from help" -a "$commands"
 
 # The options of all commands.
-complete -c hid -l form -x -a "bytes hex recorder dump source python offsets libinput debugfs lsusb usbmon" -d "What the descriptor's input holds, where it isn't to be guessed"
-complete -c hid -l report-form -x -a "bytes hex recorder dump source python offsets libinput debugfs lsusb usbmon" -d "What the reports' input holds, where it isn't to be guessed"
-complete -c hid -s D -l define -x -d "A name that source asks for by #if, or NAME=NUMBER; each by an option"
-complete -c hid -l device -x -d "The device that is meant, of an input that has several"
 complete -c hid -l limit -x -d "The most that a descriptor may list, 131072 where it isn't said"
 complete -c hid -l as -x -a "linux standard" -d "Read as Linux does, which is so where nothing is said, or by the standard's letter"
-complete -c hid -l json -d "Write an object of JSON in each line"
-complete -c hid -l color -x -a "auto always never" -d "Show names in colour"
-complete -c hid -l sysfs -x -a "(__fish_complete_directories)" -d "The folder in which Linux tells of devices"
 complete -c hid -l quiet -d "Say nothing on standard error but why something is refused"
 complete -c hid -l verbose -d "Say also in which form an input is read"
 complete -c hid -s h -l help -d "Print help"
 complete -c hid -n "$none" -s V -l version -d "Print version"
+
+# Those of several.
+complete -c hid -n "__fish_seen_subcommand_from decode fields values record uhid set convert struct map page diff check" -l form -x -a "bytes hex recorder dump source python offsets libinput debugfs lsusb usbmon" -d "What the descriptor's input holds, where it isn't to be guessed"
+complete -c hid -n "__fish_seen_subcommand_from decode fields values record uhid set convert struct map page diff check" -s D -l define -x -d "A name that source asks for by #if, or NAME=NUMBER; each by an option"
+complete -c hid -n "__fish_seen_subcommand_from decode fields values record uhid set convert struct map page diff check" -l device -x -d "The device that is meant, of an input that has several"
+complete -c hid -n "__fish_seen_subcommand_from decode fields values record uhid set convert struct map page diff check list" -l sysfs -x -a "(__fish_complete_directories)" -d "The folder in which Linux tells of devices"
+complete -c hid -n "__fish_seen_subcommand_from values record page" -l report-form -x -a "bytes hex recorder dump source python offsets libinput debugfs lsusb usbmon" -d "What the reports' input holds, where it isn't to be guessed"
+complete -c hid -n "__fish_seen_subcommand_from decode fields values record diff check list" -l json -d "Write an object of JSON in each line"
+complete -c hid -n "__fish_seen_subcommand_from decode fields diff" -l color -x -a "auto always never" -d "Show names in colour"
 
 # Those of one.
 complete -c hid -n "__fish_seen_subcommand_from fields" -l all -d "Show each field and each report by itself, also those that are alike"
@@ -71,10 +73,10 @@ function __hid_names
     set -l place 2
     while test $place -le (count $tokens)
         switch $tokens[$place]
-            case --form --report-form -D --define --device --limit --as --direction --sysfs
+            case --form -D --define --device --limit --as --direction --sysfs
                 set -a options $tokens[$place] $tokens[(math $place + 1)]
                 set place (math $place + 1)
-            case --color --to --press
+            case --to --press
                 set place (math $place + 1)
             case -
                 set -a words -
