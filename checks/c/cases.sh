@@ -64,6 +64,11 @@ if cargo --version > /dev/null 2>&1; then
         cargo build --offline --quiet --example cases) ||
         { echo 'c_cases: the cargo package is not built'; exit 1; }
     ask 'a Rust program' "$scratch/rust/target/debug/examples/cases"
+    # Of another library it is built anew.
+    touch "$prefix/lib/libhidreport.a"
+    (cd "$scratch/rust" && HIDREPORT_LIB_DIR="$prefix/lib" cargo build --offline --verbose) 2>&1 |
+        grep -q 'Running .*/build-script-build' ||
+        { echo 'c_cases: the cargo package is not built anew of another library'; exit 1; }
     cp -r "$top/rust/tests" "$scratch/rust/"
     (cd "$scratch/rust" && HIDREPORT_LIB_DIR="$prefix/lib" \
         HIDREPORT_CASES="$top/tests/hidreport_cases/data" cargo test --offline --quiet) \
