@@ -91,7 +91,8 @@ done
 # What LDFLAGS names the shared library and both programs are linked with.
 make -n -C "$scratch/serial" BUILD="$scratch/none" LDFLAGS=-Wl,-z,now all > "$scratch/said" 2>&1 ||
     wrong 'make -n fails'
-[ "$(grep -c -e ' -Wl,-z,now ' "$scratch/said")" -eq 3 ] || wrong 'LDFLAGS are not what is linked with'
+[ "$(grep -c -e ' -Wl,-z,now ' "$scratch/said")" -eq 3 ] ||
+    wrong 'LDFLAGS are not what is linked with'
 # What is noticed: a name less, a byte more, and a source that is newer than what is made of it.
 ! diff <(functions) <(shown -g "$scratch/serial/build/libhidreport.a" | sed 1d) > "$scratch/said" ||
     wrong 'a missing function is not noticed'

@@ -292,8 +292,8 @@ def look_at_reports(folder):
 
 
 def look_at_words(folder):
-    """What stands beside numbers: one outside of its bounds, keys of which none is held; a report to a
-    keyboard is the second of its descriptor, and one of 12 bits has as many."""
+    """What stands beside numbers: one outside of its bounds, keys of which none is held; a report to
+    a keyboard is the second of its descriptor, and one of 12 bits has as many."""
     stream = os.path.join(folder, "words.reports")
     for name, direction, digits, place, words in (
             ("mouse", "input", "00 80 00", 0, [""] * 4 + ["-128, outside of -127 to 127", ""]),
@@ -312,8 +312,8 @@ def look_at_words(folder):
 
 
 def look_at_mended(folder):
-    """Items that Linux mends are counted: one without its data; a reserved one, two usages before it,
-    a maximum below 0, and two of data without a usage."""
+    """Items that Linux mends are counted: one without its data; a reserved one, two usages before
+    it, a maximum below 0, and two of data without a usage."""
     file = os.path.join(folder, "mended.hex")
     for digits, note in (
             ("05 01 09 30 75 08 95 01 80", "1 item is mended, as Linux reads it"),

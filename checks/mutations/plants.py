@@ -78,7 +78,8 @@ OF_TREE = {
     "c": "rm -rf prefix && make -s install-library PREFIX=\"$PWD/prefix\" && "
          "PATH=/usr/bin:/bin bash checks/c/cases.sh \"$PWD/prefix\"",
     "programs": "make -s build/hid build/hidreport && python3 checks/hid/runs.py build/hid && "
-                "sh checks/hidreport/statuses.sh \"$PWD/build/hidreport\" && bash checks/hid/devices.sh build/hid",
+                "sh checks/hidreport/statuses.sh \"$PWD/build/hidreport\" && "
+                "bash checks/hid/devices.sh build/hid",
     "texts": "make -s build/hid && bash checks/hid/texts.sh build/hid",
     "hostile": "make -s build/hid && bash checks/hid/hostile.sh build/hid",
     "pipes": "make -s build/hid && { { sleep 0.2 && build/hid fields crates/hid/data/mouse.hex; echo $? >&3; } | :; } "

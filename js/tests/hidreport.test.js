@@ -43,8 +43,9 @@ test("fields", () => {
   const [twice] = hid.ReportDescriptor.from(bytesIn("0501 0930 0930 7508 9502 8102")).inputReports;
   assert.equal(twice.fieldFor(new hid.Usage(1, 0x30)).id, 0);
   assert.equal(new hid.Usage(9, 0x30).equals(new hid.Usage(1, 0x30)), false);
-  const [field] = hid.ReportDescriptor.from(bytesIn("0501 0930 7508 9501 67000000f0 9182")).outputReports[0].fields;
-  assert.deepEqual([field.flags.isVolatile, field.flags.isBufferedBytes, field.unit], [true, false, 0xf0000000]);
+  const volatile = bytesIn("0501 0930 7508 9501 67000000f0 9182");
+  const [{ flags, unit }] = hid.ReportDescriptor.from(volatile).outputReports[0].fields;
+  assert.deepEqual([flags.isVolatile, flags.isBufferedBytes, unit], [true, false, 0xf0000000]);
 });
 
 test("values", () => {
@@ -111,8 +112,9 @@ test("items, repairs and names", () => {
   assert.deepEqual(bytes, bytesIn("750895018301000001"));
   assert.deepEqual(changes, [{ offset: 4, stood: 5, stands: 5, reason: hid.Reason.NO_USAGE }]);
   assert.throws(() => hid.repair([0xc0]), hid.InvalidData);
-  assert.deepEqual(hid.repair([5, 1, 0x26], hid.HOSTS, hid.Mends.CUT_SHORT), { bytes: bytesIn("0501"),
-    changes: [{ offset: 2, stood: 1, stands: 0, reason: hid.Reason.CUT_SHORT }] });
+  const cut = { offset: 2, stood: 1, stands: 0, reason: hid.Reason.CUT_SHORT };
+  assert.deepEqual(hid.repair([5, 1, 0x26], hid.HOSTS, hid.Mends.CUT_SHORT),
+    { bytes: bytesIn("0501"), changes: [cut] });
   const mouse = hid.ReportDescriptor.from(MOUSE);
   assert.equal(mouse.isAlike(hid.ReportDescriptor.from(hid.rebuild(MOUSE))), true);
   assert.equal(mouse.isAlike(hid.ReportDescriptor.from([5, 1])), false);
@@ -172,7 +174,8 @@ test("a device of WebHID", () => {
   assert.equal(listeners.size, 0);
   assert.throws(() => hid.descriptorOf([{ ...mouse, inputReports: [] }]), TypeError);
   // Of an exponent four bits are read, of which 8 is -8; system 15 of units is the vendors' own.
-  const measured = webHidItem({ usages: [0x10030], unitSystem: "vendor-defined", unitExponent: -8 });
+  const vendors = { unitSystem: "vendor-defined", unitExponent: -8 };
+  const measured = webHidItem({ usages: [0x10030], ...vendors });
   const bytes = hid.descriptorOf([{ ...pointer, inputReports: [reportOf(0, measured)] }]);
   const [{ unit, unitExponent }] = hid.ReportDescriptor.from(bytes).inputReports[0].fields;
   assert.deepEqual([unit, unitExponent], [15, 8]);

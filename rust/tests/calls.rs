@@ -112,7 +112,7 @@ fn a_repair_tells_what_it_changed() {
     assert_eq!(repaired.bytes, [0x75, 8, 0x95, 1, 0x83, 1, 0, 0, 1]);
     let change = Change { offset: 4, stood: 5, stands: 5, reason: Reason::NoUsage.into() };
     assert_eq!(repaired.changes, [change]);
-    // By hosts a lone maximum closes a range from 0, so these bits have usages, as Linux finds them.
+    // By hosts a lone maximum closes a range from 0, so these bits have usages, by Linux, too.
     let lone = [0x05, 1, 0x29, 5, 0x75, 1, 0x95, 5, 0x81, 2];
     for parse in [ParseOptions::as_hosts(), ParseOptions::as_linux()] {
         let repaired = repair(&lone, RepairOptions { parse, ..RepairOptions::default() }).unwrap();

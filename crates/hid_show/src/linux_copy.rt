@@ -4,8 +4,7 @@ use hid_input::parsing::parsed;
 use hid_input::settings::Settings;
 use hid_items::items::ItemCursor;
 use hidreport::{
-    Direction, Field, Group, Outline, OutlineReport, ParseOptions, RDescReport, RepairOptions,
-    Report, ReportDescriptor, repair,
+    Direction, Field, Group, Outline, OutlineReport, RDescReport, Report, ReportDescriptor, repair,
 };
 use hidreport_linux::{InputDevices, Item, LinuxReading};
 use std::alloc::{AllocError, Global};
@@ -32,17 +31,13 @@ impl LinuxCopy {
         bytes: &[u8],
         reading: &LinuxReading,
     ) -> Result<LinuxCopy> {
-        let parse = ParseOptions {
-            longest: None,
-            ..settings.parse
-        };
+        let mut parse = settings.parse;
+        parse.longest = None;
         let mut copy = Vec::from_slice(alloc, bytes)?;
         if reading.unmapped().is_none() && reading.has_items_without_bits() {
             let sized = with_bits(alloc, &copy)?;
-            let options = RepairOptions {
-                parse,
-                ..settings.repair()
-            };
+            let mut options = settings.repair();
+            options.parse = parse;
             copy = repair(alloc, &sized, options)?.bytes;
         }
         let arrays = with_arrays(alloc, &copy)?;
