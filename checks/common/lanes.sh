@@ -20,11 +20,12 @@ spent() {
 
 # Waits until a lane may begin.
 until_there_is_room() {
-    local pid running
+    local name running
     while :; do
         running=0
-        for pid in "${lane_of[@]}"; do
-            ! kill -0 "$pid" 2> /dev/null || running=$((running + 1))
+        for name in "${lane_names[@]}"; do
+            [ -e "$lane_folder/$name.status" ] || ! kill -0 "${lane_of[$name]}" 2> /dev/null ||
+                running=$((running + 1))
         done
         [ "$running" -ge "${lanes_at_once:-$((running + 1))}" ] || return 0
         sleep 0.2
@@ -47,7 +48,7 @@ lane() {
         status=$?
         times > "$lane_folder/$name.times"
         echo "$name: $((SECONDS - begun)) s, $(spent "$lane_folder/$name.times") of processor time"
-        exit "$status"
+        echo "$status" > "$lane_folder/$name.status"
     ) > "$lane_folder/$name" 2>&1 &
     lane_of[$name]=$!
 }
@@ -55,7 +56,9 @@ lane() {
 end_lanes() {
     local name failed=0
     for name in "${lane_names[@]}"; do
-        wait "${lane_of[$name]}" || {
+        # Of a lane that ended long ago the shell may know no more, once its number is another process's.
+        wait "${lane_of[$name]}" 2> /dev/null || true
+        [ "$(cat "$lane_folder/$name.status" 2> /dev/null)" = 0 ] || {
             failed=1
             echo "FAILED: $name" >> "$lane_folder/$name"
         }

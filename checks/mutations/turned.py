@@ -329,7 +329,7 @@ def build(folder):
 
 
 # How long a program may take that is turned, in seconds, and how much memory, in bytes.
-SECONDS, MEMORY = 40, 3 << 30
+SECONDS, MEMORY = 15, 3 << 30
 
 
 def bounded():
