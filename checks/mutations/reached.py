@@ -28,7 +28,7 @@ import tempfile
 HERE = os.path.dirname(os.path.abspath(__file__))
 TOP = os.path.dirname(os.path.dirname(HERE))
 LISTED = f"{HERE}/unreached.txt"
-# The crates whose branches are counted; the last is one that cases and tests don't use.
+# The crates whose branches are counted; those of the last are reached through `hid`.
 CRATES = [
     "hidreport_types", "hidreport_items", "hidreport_lists", "hidreport_fields", "hidreport", "hidreport_usages",
     "hidreport_linux",

@@ -13,7 +13,7 @@ where it isn't there, and where it is noticed after all.
 
 --only turns the files that have WORD in their names; --keep takes the programs of FOLDER where they are made of
 these sources, or builds them there; --write prints what isn't noticed as lines of unturned.txt. It takes
-a quarter of an hour, and is run before a version gets its number.
+half an hour. unturned.txt is empty as yet: what isn't noticed was not looked through.
 """
 
 import argparse
