@@ -251,7 +251,7 @@ back-is front back run j =
     ∙ ap (λ (s : Bool). run_by front.id (place_in front front.count) front.width back.count s)
     j.is_signed
 
-joined-same : (front back run : RunRecord) → Joins front back run
+pub joined-same : (front back run : RunRecord) → Joins front back run
     → SameRuns (run ∷ []) (front ∷ back ∷ [])
 joined-same front back run j =
     subst (λ (x : RunRecord). SameRuns (x ∷ []) (front ∷ back ∷ [])) (sym j.is)

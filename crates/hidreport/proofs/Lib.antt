@@ -45,6 +45,10 @@ pub mod RunReadLemmas
 pub mod RunWriteLemmas
 pub mod SameRunsLemmas
 pub mod JoinLemmas
+pub mod GroupRunLemmas
+pub mod GroupLookupLemmas
+pub mod LowLemmas
+pub mod LowReadLemmas
 pub mod FilledLemmas
 pub mod RefusalLemmas
 pub mod RepairLemmas

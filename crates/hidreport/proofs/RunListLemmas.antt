@@ -101,7 +101,7 @@ plain-more id n m runs le each =
     each-map (IsPlain id n) (IsPlain id m) (λ run plain. plain-one id n m run le plain) runs each
 
 -- bytes that are enough and begin with the id have all
-own-by : (own id : Option ℕ) (bytes : List ℕ) → (own ≡ None) ⊎ (own ≡ id)
+pub own-by : (own id : Option ℕ) (bytes : List ℕ) → (own ≡ None) ⊎ (own ≡ id)
     → with_id id bytes (Ok (tt {0})) ≡ Ok (tt {0}) → with_id own bytes (Ok (tt {0})) ≡ Ok (tt {0})
 own-by own id bytes (inl none) passes =
     ap (λ (i : Option ℕ). with_id i bytes (Ok (tt {0}))) none

@@ -99,7 +99,7 @@ same-before xs ys zs s = record {
   each : List ℕ → RunRecord → List (Result ValueRecord Refusal)
   each bytes run = each_alone (run_value run bytes) 0 run.count
 
-same-cons : (z : RunRecord) (xs ys : List RunRecord) → SameRuns xs ys → SameRuns (z ∷ xs) (z ∷ ys)
+pub same-cons : (z : RunRecord) (xs ys : List RunRecord) → SameRuns xs ys → SameRuns (z ∷ xs) (z ∷ ys)
 same-cons z xs ys s = record {
   reads = λ bytes. ap (before_numbers (run_reads z bytes)) (s.reads bytes);
   alone = λ bytes. ap (λ l. each_alone (run_value z bytes) 0 z.count ++ l) (s.alone bytes);

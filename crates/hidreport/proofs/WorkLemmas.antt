@@ -87,7 +87,7 @@ wide-of : (w count : ℕ) → 0 < w * count → 0 < w
 wide-of zero count h = grind (arith, h)
 wide-of (suc w) count h = omega arith
 
-values-ok : (f : FieldRecord) (bytes : List ℕ) → HasNoRest f
+pub values-ok : (f : FieldRecord) (bytes : List ℕ) → HasNoRest f
     → (place_of f).first < (place_of f).«end» → (place_of f).«end» ≤ 8 * length bytes → IsNarrow f
     → IsOk (values_of f bytes)
 values-ok (VariableRecord place usage shared) bytes whole some within narrow =

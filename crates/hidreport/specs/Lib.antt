@@ -7,6 +7,7 @@ pub mod HostUsages
 pub mod ItemState
 pub mod Kinds
 pub mod Laws
+pub mod LowBits
 pub mod Making
 pub mod Meaning
 pub mod MeaningFault

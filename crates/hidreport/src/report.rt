@@ -9,6 +9,7 @@ ghost use Rattle.hidreport.specs.Working.{TakesAll};
 ghost use Rattle.hidreport_fields.specs.WritingLaws.{IsWhole};
 
 pub(crate) mod group;
+mod group_lookup;
 pub(crate) mod outline_report;
 pub(crate) mod outline_reports;
 pub(crate) mod reader;

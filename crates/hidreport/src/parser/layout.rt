@@ -216,7 +216,7 @@ impl Layout {
     }
 
     /// The bits of all elements.
-    fn all_bits(&self) -> Range<usize>
+    pub(crate) fn all_bits(&self) -> Range<usize>
         requires { self.now.first_bit + self.now.size * self.now.count < 2 ^ 64 }
         ensures first { result.start ≡ self.now.first_bit }
         ensures end { result.end ≡ self.now.first_bit + self.now.size * self.now.count }

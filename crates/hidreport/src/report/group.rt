@@ -96,6 +96,13 @@ impl Group {
         self.usages.field(alloc, &self.layout, index)
     }
 
+    /// The number of the first field.
+    pub(crate) fn first_number(&self) -> u64
+        ensures { result ≡ self.now.beginning.number }
+    {
+        self.layout.first_id
+    }
+
     /// The id of the report that the fields are in, where it has one.
     pub fn report_id(&self) -> Option<ReportId>
         ensures { result ≡ self.now.beginning.report_id }
@@ -136,6 +143,15 @@ impl Group {
             return None;
         }
         Some(self.layout.bits(index))
+    }
+
+    /// The bits of all elements: from the first up to the one after the last.
+    pub(crate) fn all_bits(&self) -> Range<usize>
+        ensures start { result.start ≡ self.now.beginning.first }
+        ensures end { result.end
+            ≡ self.now.beginning.first + self.now.extent.size * self.now.extent.count }
+    {
+        self.layout.all_bits()
     }
 
     /// The flags of the item that makes the fields, all nine (Section 6.2.2.5); Volatile is off in an

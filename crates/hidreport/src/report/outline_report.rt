@@ -9,9 +9,10 @@ ghost use Rattle.hidreport.specs.Working.{TakesAll};
 ghost use Rattle.hidreport_fields.specs.WritingLaws.{IsWhole};
 
 use crate::report::group::Group;
+use crate::report::group_lookup::{find_with_number, find_with_usage};
 use crate::report::reports::is_same_id;
 use crate::report::{RDescReport, blank_of};
-use hidreport_fields::Field;
+use hidreport_fields::{Field, FieldId, Usage};
 use hidreport_types::ReportId;
 use std::alloc::{AllocError, Global};
 use std::marker::Model;
@@ -33,8 +34,9 @@ impl Model for OutlineReport {
 }
 
 impl OutlineReport {
-    ghost use Rattle.std.specs.Prelude.{◌≡◌, ◌+◌, ◌/◌, IfOk};
+    ghost use Rattle.std.specs.Prelude.{◌≡◌, ◌+◌, ◌/◌, ◌↔◌, IfOk, IsTrue, option_map};
     ghost use Rattle.hidreport.specs.Groups.{listed_report};
+    ghost use Rattle.hidreport_fields.specs.Lookup.{field_for, field_with};
 
     /// The report's id; `None` where it has none.
     pub fn report_id(&self) -> &Option<ReportId>
@@ -79,6 +81,46 @@ impl OutlineReport {
     {
         let bytes = blank_of(alloc, &self.id, self.size)?;
         Ok(bytes)
+    }
+
+    /// The field with this number, as `Report::field` finds it among the listed fields; `None` where
+    /// the report has none with it.
+    ///
+    /// # Errors
+    ///
+    /// - `AllocError`: memory for the field's usages or collections is refused.
+    pub fn field(&self, alloc: Global, number: FieldId) -> Result<Option<Field>, AllocError>
+        ensures { IfOk result (λ field. option_map field_record field
+            ≡ field_with number (listed_report self.now).fields) }
+    {
+        find_with_number(alloc, &self.groups, number)
+    }
+
+    /// The first field that has this usage, as `Report::field_for` finds it among the listed fields;
+    /// `None` where no field of the report has it (Section 6.2.2.8).
+    ///
+    /// # Errors
+    ///
+    /// - `AllocError`: memory for a field's usages or collections is refused.
+    pub fn field_for(&self, alloc: Global, usage: Usage) -> Result<Option<Field>, AllocError>
+        ensures { IfOk result (λ field. option_map field_record field
+            ≡ field_for usage (listed_report self.now).fields) }
+    {
+        find_with_usage(alloc, &self.groups, usage)
+    }
+
+    /// Whether another report is the same once the fields of both are listed, as
+    /// `RDescReport::is_alike` says.
+    ///
+    /// # Errors
+    ///
+    /// - `AllocError`: memory for the fields is refused.
+    pub fn is_alike(&self, alloc: Global, other: &OutlineReport) -> Result<bool, AllocError>
+        ensures { IfOk result (λ alike.
+            IsTrue alike ↔ (listed_report self.now ≡ listed_report other.now)) }
+    {
+        let own = self.lay_out(alloc)?;
+        Ok(own.is_alike(&other.lay_out(alloc)?))
     }
 
     /// The same report with its fields listed.

@@ -1,19 +1,26 @@
 //! All values of a report in one pass (Sections 5.6 and 5.8).
-ghost use Rattle.std.specs.Prelude.{◌≡◌, ◌≢◌, Err, IfErr, IfOk, List, Ok, OnOk, sum_by, ℤ};
+ghost use Rattle.std.specs.Prelude.{◌≡◌, ◌≢◌, Err, IfErr, IfOk, List, Ok, OnOk, flat_map, sum_by, ℤ};
 ghost use Rattle.hidreport_items.specs.Spelling.{AreBytes};
 ghost use Rattle.hidreport_lists.specs.Answer.{IsOfReading};
+ghost use Rattle.hidreport.specs.Groups.{fields_of_groups};
+ghost use Rattle.hidreport.specs.LowBits.{IsReadWhole, low_fields};
 ghost use Rattle.hidreport.specs.Reader.{ReadsInto, available_numbers, report_numbers};
 ghost use Rattle.hidreport_fields.specs.Records.{FieldRecord};
 ghost use Rattle.hidreport.specs.ReportWriting.{IsReportWritten, report_written};
 ghost use Rattle.hidreport.specs.Runs.{StandFor, count_in, runs_available, runs_read, runs_written};
 ghost use Rattle.hidreport_fields.specs.WritingValues.{Inserts, value_count};
 
+mod made_runs;
 mod run;
 mod run_list;
 
+use crate::report::outline_report::OutlineReport;
 use crate::report::{RDescReport, Report};
 use hidreport_fields::InsertError;
 use hidreport_lists::ParserError;
+use hidreport_types::ReportId;
+use made_runs::{low_runs_of, runs_of, runs_of_groups};
+use run::Run;
 use run_list::RunList;
 use std::alloc::{AllocError, Global};
 use std::marker::Model;
@@ -50,7 +57,80 @@ impl Reader {
     pub fn new(alloc: Global, report: &RDescReport) -> Result<Reader, AllocError>
         ensures { IfOk result (λ reader. StandFor report.now.fields reader) }
     {
-        let runs = RunList::of(alloc, *report.report_id(), report.fields())?;
+        let runs = runs_of(alloc, report.fields())?;
+        Reader::by(runs, *report.report_id())
+    }
+
+    /// A reader of the fields of a report that are in groups, in their order: what `new` is of the same
+    /// fields listed, which it doesn't list.
+    ///
+    /// # Errors
+    ///
+    /// - `AllocError`: memory for it is refused, or the fields have more than `usize::MAX` values.
+    ///
+    /// # Examples
+    ///
+    /// ```rust
+    /// use hidreport::{Outline, ParseOptions, Reader};
+    ///
+    /// let bytes = b"\x05\x01\x15\x81\x25\x7f\x75\x08\x95\x02\x09\x30\x09\x31\x81\x02";
+    /// let outline = Outline::try_from_with(alloc, bytes, ParseOptions::bounded())?;
+    /// let report = outline.input_reports().first().ok_or("no report")?;
+    /// let mut values = [0; 2];
+    /// assert_eq!(rt; Reader::of(alloc, report)?.read(b"\x05\xfb", &mut values)?, 2);
+    /// assert_eq!(rt; values, [5, -5]);
+    /// ```
+    pub fn of(alloc: Global, report: &OutlineReport) -> Result<Reader, AllocError>
+        ensures { IfOk result (λ reader. StandFor (fields_of_groups report.now.fields) reader) }
+    {
+        let runs = runs_of_groups(alloc, report.groups())?;
+        Reader::by(runs, *report.report_id())
+    }
+
+    /// A reader of a report's fields, in their order, that gives the low 32 bits of each value that
+    /// has more, as hosts do.
+    ///
+    /// Such a value is that of a field which begins where it does and has 32 bits, with the same sign;
+    /// its upper bits are neither read nor written. So each report that was read has all its values
+    /// where it has all its bytes (`whole`), and as many as it has for `new` (`counted`).
+    ///
+    /// Memory is taken here alone: as for `new`, and for each value past 32 bits.
+    ///
+    /// # Errors
+    ///
+    /// - `AllocError`: memory for it is refused, or the fields have more than `usize::MAX` values.
+    ///
+    /// # Examples
+    ///
+    /// ```rust
+    /// use hidreport::{ParserError, Reader, ReportDescriptor};
+    ///
+    /// let bytes = b"\x06\x00\xff\x75\x40\x95\x01\x09\x01\x81\x02\x75\x08\x09\x02\x81\x02";
+    /// let descriptor = ReportDescriptor::try_from(alloc, bytes)?;
+    /// let report = descriptor.input_reports().first().ok_or("no report")?;
+    /// let report_bytes = b"\x01\x02\x03\x04\x05\x06\x07\x08\x09";
+    /// let mut values = [0; 2];
+    /// let exact = Reader::new(alloc, report)?.read(report_bytes, &mut values);
+    /// assert_eq!(rt; exact.err(), Some(ParserError::OutOfBounds));
+    /// assert_eq!(rt; Reader::of_low_bits(alloc, report)?.read(report_bytes, &mut values)?, 2);
+    /// assert_eq!(rt; values, [0x0403_0201, 9]);
+    /// ```
+    pub fn of_low_bits(alloc: Global, report: &RDescReport) -> Result<Reader, AllocError>
+        ensures low { IfOk result (λ reader.
+            StandFor (flat_map low_fields report.now.fields) reader) }
+        ensures counted { IfOk result (λ reader.
+            count_in reader ≡ sum_by value_count report.now.fields) }
+        ensures whole { IfOk result (λ reader. IsReadWhole report.now reader) }
+    {
+        let runs = low_runs_of(alloc, report.fields())?;
+        Reader::by(runs, *report.report_id())
+    }
+
+    /// A reader by runs, of a report with this id.
+    fn by(runs: Vec<Run>, report_id: Option<ReportId>) -> Result<Reader, AllocError>
+        ensures { IfOk result (λ reader. reader ≡ runs.items) }
+    {
+        let runs = RunList::of(runs, report_id);
         let value_count = runs.value_count().ok_or(AllocError)?;
         Ok(Reader { runs, value_count })
     }

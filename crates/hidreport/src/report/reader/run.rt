@@ -19,11 +19,11 @@ use std::marker::Model;
 /// So many values of one width from a bit on, and the id that they are read by.
 #[derive(Debug, Drop)]
 pub(crate) struct Run {
-    report_id: Option<ReportId>,
-    first: usize,
-    width: usize,
-    count: usize,
-    is_signed: bool,
+    pub(crate) report_id: Option<ReportId>,
+    pub(crate) first: usize,
+    pub(crate) width: usize,
+    pub(crate) count: usize,
+    pub(crate) is_signed: bool,
 }
 
 impl Model for Run {

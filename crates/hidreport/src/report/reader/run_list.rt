@@ -44,21 +44,16 @@ impl Model for RunList {
 }
 
 impl RunList {
-    /// The runs of fields of a report with this id.
-    pub(crate) fn of(
-        alloc: Global,
-        report_id: Option<ReportId>,
-        fields: &[Field],
-    ) -> Result<RunList, AllocError>
-        ensures { IfOk result (λ runs. StandFor (map field_record fields.now) runs) }
+    /// These runs, of a report with this id.
+    pub(crate) fn of(runs: Vec<Run>, report_id: Option<ReportId>) -> RunList
+        ensures { result ≡ runs.items }
     {
-        let runs = runs_of(alloc, fields)?;
         let enough = enough_for(&runs, &report_id);
-        Ok(RunList {
+        RunList {
             runs,
             report_id,
             enough,
-        })
+        }
     }
 
     /// How many values the runs have; `None` past `usize::MAX`.
@@ -181,34 +176,6 @@ fn begin_with(bytes: &[u8], report_id: &Option<ReportId>) -> bool
         (Some(id), [first, ..]) => u8::from(*id) == *first,
         (Some(_), []) => false,
     }
-}
-
-/// What the fields' values are read by, in order; padding has none.
-fn runs_of(alloc: Global, fields: &[Field]) -> Result<Vec<Run>, AllocError>
-    ensures { IfOk result (λ runs. SameRuns runs.items (runs_of (map field_record fields.now))) }
-{
-    let mut runs = Vec::new(alloc);
-    for field in fields {
-        if let Some(run) = Run::of(field) {
-            add_run(&mut runs, run)?;
-        }
-    }
-    Ok(runs)
-}
-
-/// Adds a run behind others; one that goes on where the last of them ends makes that longer.
-fn add_run(runs: &mut Vec<Run>, run: Run) -> Result<(), AllocError>
-    ensures { OnOk result (SameRuns runs.new.items (runs.old.items ++ run ∷ [])) }
-{
-    if let Some(last) = runs.pop() {
-        if let Some(joined) = last.joined(&run) {
-            runs.push(joined)?;
-            return Ok(());
-        }
-        runs.push(last)?;
-    }
-    runs.push(run)?;
-    Ok(())
 }
 
 /// How many values runs have; `None` past `usize::MAX`.

@@ -3,8 +3,8 @@ use Rattle.hidreport.specs.Runs.{run_of, runs_of}
 use Rattle.hidreport.specs.SameRuns.{SameRuns}
 use Rattle.hidreport_fields.specs.Views.{field_record}
 use Rattle.hidreport.proofs.SameRunsLemmas.{same-next, same-padding}
-use Rattle.hidreport.proofs.report.reader.run_list.runs_of.Goals as goal
-use Rattle.hidreport.proofs.report.reader.run_list.runs_of.Goals.{in-Some+in_ok-add_run, in_default}
+use Rattle.hidreport.proofs.report.reader.made_runs.runs_of.Goals as goal
+use Rattle.hidreport.proofs.report.reader.made_runs.runs_of.Goals.{in-Some+in_ok-add_run, in_default}
 
 pub loop-field-preserved : goal.loop-field-preserved
 loop-field-preserved c =

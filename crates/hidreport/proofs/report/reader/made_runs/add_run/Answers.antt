@@ -1,7 +1,7 @@
 use Rattle.std.proofs.Common.{◌≡◌, ◌++◌, [], ◌∷◌, rules}
 use Rattle.hidreport.specs.Runs.{Joins}
 use Rattle.hidreport.proofs.JoinLemmas.{joined-behind}
-use Rattle.hidreport.proofs.report.reader.run_list.add_run.Goals as goal
+use Rattle.hidreport.proofs.report.reader.made_runs.add_run.Goals as goal
 
 pub returns-in-Some-joined : goal.returns-in-Some-joined
 returns-in-Some-joined c =

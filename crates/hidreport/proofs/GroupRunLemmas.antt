@@ -1,0 +1,166 @@
+-- The run of a group reads and writes what its fields do.
+use Rattle.std.proofs.Common.{◌≡◌, ◌∙◌, ◌+◌, ◌-◌, ◌*◌, ◌/◌, ◌<◌, ℕ, zero, suc, Bool, true, false, List, [], ◌∷◌, ◌++◌}
+use Rattle.std.proofs.Common.{Option, ap, append-nil, arith, get_or, length, refl, subst, sym, take}
+use Rattle.std.specs.Prelude.{if◌then◌else◌, flat_map}
+use Rattle.std.proofs.lemmas.Grind.{common_steps, flat_map-append}
+use Rattle.hidreport_fields.specs.Reading.{is_signed}
+use Rattle.hidreport_fields.specs.Records.{Attributes, ArrayRecord, FieldRecord, VariableRecord}
+use Rattle.hidreport.specs.Fields.{Beginning, beginning_at, each_from, make_fields, make_place, usage_at}
+use Rattle.hidreport.specs.Groups.{GroupRecord, fields_of_groups, group_fields}
+use Rattle.hidreport.specs.Runs.{Joins, RunRecord, run_of, runs_of}
+use Rattle.hidreport.specs.SameRuns.{SameRuns}
+use Rattle.hidreport.specs.Usages.{UsageList}
+use Rattle.hidreport.specs.declared.parser.extent.Extent.{Extent}
+use Rattle.hidreport.proofs.JoinLemmas.{joined-same}
+use Rattle.hidreport.proofs.SameRunsLemmas.{same-before, same-behind, same-cons, same-refl, same-then}
+
+-- the run of so many elements of an item, from this one on
+abbrev elements : Beginning → Extent → Attributes → ℕ → ℕ → RunRecord
+elements b e shared c n = record {
+  id = b.report_id;
+  first = b.first + c * e.size;
+  width = e.size;
+  count = n;
+  is_signed = is_signed shared;
+}
+
+-- the field of one of them
+abbrev element_field : Beginning → Extent → UsageList → Attributes → ℕ → FieldRecord
+element_field b e us shared c =
+    VariableRecord (make_place (beginning_at b e c) e.size) (usage_at us.usages c) shared
+
+abbrev run_by : Option ℕ → ℕ → ℕ → ℕ → Bool → RunRecord
+run_by id first width count signed = record {
+  id = id;
+  first = first;
+  width = width;
+  count = count;
+  is_signed = signed;
+}
+
+one-element : (b : Beginning) (e : Extent) (us : UsageList) (shared : Attributes) (c : ℕ)
+    → run_of (element_field b e us shared c) ≡ elements b e shared c 1 ∷ []
+one-element b e us shared c =
+    let at = b.first + c * e.size in
+    let width : at + e.size - at ≡ e.size = omega arith in
+    ap (λ (w : ℕ). run_by b.report_id at w 1 (is_signed shared) ∷ []) width
+
+elements-same : (b : Beginning) (e : Extent) (us : UsageList) (shared : Attributes) (c n : ℕ)
+    → SameRuns (elements b e shared c (suc n) ∷ [])
+    (runs_of (each_from (element_field b e us shared) c (suc n)))
+elements-same b e us shared c zero =
+    subst (SameRuns (elements b e shared c 1 ∷ [])) (sym (one-element b e us shared c))
+    (same-refl (elements b e shared c 1 ∷ []))
+elements-same b e us shared c (suc n) =
+    let head = elements b e shared c 1 in
+    let later = elements b e shared (c + 1) (suc n) in
+    let all = elements b e shared c (suc (suc n)) in
+    let rest = runs_of (each_from (element_field b e us shared) (c + 1) (suc n)) in
+    let at : later.first ≡ head.first + head.width * 1 = omega arith in
+    let joins : Joins head later all = record {
+      id = refl;
+      width = refl;
+      is_signed = refl;
+      first = at;
+      is = refl;
+    } in
+    subst (λ (l : List RunRecord). SameRuns (all ∷ []) (l ++ rest)) (sym (one-element b e us shared c))
+    (same-then (all ∷ []) (head ∷ later ∷ []) (head ∷ rest) (joined-same head later all joins)
+    (same-cons head (later ∷ []) rest (elements-same b e us shared (c + 1) n)))
+
+-- the list of fields, by the flags
+several-by : (constant variable : Bool) (x y : FieldRecord) (several : List FieldRecord)
+    → constant ≡ false → variable ≡ true
+    → (if constant then x ∷ [] else (if variable then several else y ∷ [])) ≡ several
+several-by constant variable x y several filled many =
+    ap (λ (b : Bool). if b then x ∷ [] else (if variable then several else y ∷ [])) filled
+    ∙ ap (λ (b : Bool). if b then several else y ∷ []) many
+
+single-by : (constant variable : Bool) (x y : FieldRecord) (several : List FieldRecord)
+    → constant ≡ false → variable ≡ false
+    → (if constant then x ∷ [] else (if variable then several else y ∷ [])) ≡ y ∷ []
+single-by constant variable x y several filled many =
+    ap (λ (b : Bool). if b then x ∷ [] else (if variable then several else y ∷ [])) filled
+    ∙ ap (λ (b : Bool). if b then several else y ∷ []) many
+
+padding-by : (constant variable : Bool) (x y : FieldRecord) (several : List FieldRecord)
+    → constant ≡ true
+    → (if constant then x ∷ [] else (if variable then several else y ∷ [])) ≡ x ∷ []
+padding-by constant variable x y several padding =
+    ap (λ (b : Bool). if b then x ∷ [] else (if variable then several else y ∷ [])) padding
+
+-- the fields of an item with several elements
+some-same : (b : Beginning) (e : Extent) (us : UsageList) (shared : Attributes) (n : ℕ) → 0 < n
+    → SameRuns (elements b e shared 0 n ∷ []) (runs_of (each_from (element_field b e us shared) 0 n))
+some-same b e us shared zero some = absurd (omega (arith, some))
+some-same b e us shared (suc n) some = elements-same b e us shared 0 n
+
+pub variable-run : (g : GroupRecord) (run : RunRecord) → g.flags.constant ≡ false
+    → g.flags.variable ≡ true → 0 < g.extent.count
+    → run ≡ run_by g.beginning.report_id g.beginning.first g.extent.size g.extent.count
+    (is_signed g.shared)
+    → SameRuns (run ∷ []) (runs_of (group_fields g))
+variable-run g run filled many some is =
+    let at : g.beginning.first ≡ g.beginning.first + 0 * g.extent.size = omega arith in
+    let all : run ≡ elements g.beginning g.extent g.shared 0 g.extent.count =
+    is ∙ ap (λ (n : ℕ). run_by g.beginning.report_id n g.extent.size g.extent.count
+    (is_signed g.shared)) at in
+    subst (λ (l : List FieldRecord). SameRuns (run ∷ []) (runs_of l))
+    (sym (several-by g.flags.constant g.flags.variable _ _ _ filled many))
+    (subst (λ (r : RunRecord). SameRuns (r ∷ []) (runs_of
+    (each_from (element_field g.beginning g.extent g.usages g.shared) 0 g.extent.count))) (sym all)
+    (some-same g.beginning g.extent g.usages g.shared g.extent.count some))
+
+pub array-run : (g : GroupRecord) (run : RunRecord) → g.flags.constant ≡ false
+    → g.flags.variable ≡ false
+    → run ≡ run_by g.beginning.report_id g.beginning.first
+    ((g.beginning.first + g.extent.size * g.extent.count - g.beginning.first) / g.extent.count)
+    g.extent.count (is_signed g.shared)
+    → SameRuns (run ∷ []) (runs_of (group_fields g))
+array-run g run filled single is =
+    subst (λ (l : List FieldRecord). SameRuns (run ∷ []) (runs_of l))
+    (sym (single-by g.flags.constant g.flags.variable _ _ _ filled single))
+    (subst (λ (r : RunRecord). SameRuns (run ∷ []) (r ∷ [])) is (same-refl (run ∷ [])))
+
+pub no-run : (g : GroupRecord) → g.flags.constant ≡ true → runs_of (group_fields g) ≡ []
+no-run g padding =
+    ap runs_of (padding-by g.flags.constant g.flags.variable _ _ _ padding)
+
+pub no-elements : (g : GroupRecord) → g.flags.constant ≡ false → g.flags.variable ≡ true
+    → g.extent.count ≡ 0 → runs_of (group_fields g) ≡ []
+no-elements g filled many none =
+    ap runs_of (several-by g.flags.constant g.flags.variable _ _ _ filled many
+    ∙ ap (each_from (element_field g.beginning g.extent g.usages g.shared) 0) none)
+
+-- one group more
+groups-next : (gs : List GroupRecord) (i : ℕ) (g : GroupRecord) → i < length gs
+    → g ≡ get_or gs i g → runs_of (fields_of_groups (take (i + 1) gs))
+    ≡ runs_of (fields_of_groups (take i gs)) ++ runs_of (group_fields g)
+groups-next gs i g lt e =
+    let next : take (i + 1) gs ≡ take i gs ++ g ∷ [] = grind (arith, common_steps) in
+    ap (λ l. runs_of (fields_of_groups l)) next
+    ∙ ap runs_of (flat_map-append group_fields (take i gs) (g ∷ [])
+    ∙ ap (λ l. fields_of_groups (take i gs) ++ l) (append-nil (group_fields g)))
+    ∙ flat_map-append run_of (fields_of_groups (take i gs)) (group_fields g)
+
+pub group-next : (gs : List GroupRecord) (i : ℕ) (g : GroupRecord) (old new : List RunRecord)
+    (run : RunRecord) → i < length gs → g ≡ get_or gs i g
+    → SameRuns old (runs_of (fields_of_groups (take i gs))) → SameRuns new (old ++ run ∷ [])
+    → SameRuns (run ∷ []) (runs_of (group_fields g))
+    → SameRuns new (runs_of (fields_of_groups (take (i + 1) gs)))
+group-next gs i g old new run lt e so_far more is =
+    let own = runs_of (fields_of_groups (take i gs)) in
+    subst (SameRuns new) (sym (groups-next gs i g lt e))
+    (same-then new (old ++ run ∷ []) (own ++ runs_of (group_fields g)) more
+    (same-then (old ++ run ∷ []) (own ++ run ∷ []) (own ++ runs_of (group_fields g))
+    (same-before old own (run ∷ []) so_far)
+    (same-behind own (run ∷ []) (runs_of (group_fields g)) is)))
+
+pub group-padding : (gs : List GroupRecord) (i : ℕ) (g : GroupRecord) (runs : List RunRecord)
+    → i < length gs → g ≡ get_or gs i g
+    → SameRuns runs (runs_of (fields_of_groups (take i gs))) → runs_of (group_fields g) ≡ []
+    → SameRuns runs (runs_of (fields_of_groups (take (i + 1) gs)))
+group-padding gs i g runs lt e so_far none =
+    let own = runs_of (fields_of_groups (take i gs)) in
+    subst (SameRuns runs) (sym (groups-next gs i g lt e ∙ ap (λ l. own ++ l) none ∙ append-nil own))
+    so_far
