@@ -445,8 +445,10 @@ struct hidreport_answer hidreport_repair_message(const uint8_t *descriptor, size
                                                  struct hidreport_options options, uint32_t mends,
                                                  uint8_t *text, size_t room);
 
-/* Value `index` of a field, counted from 0, in a report with these bytes. It takes no memory, and
- * reads nothing but the report's bytes, whatever numbers the field has. */
+/* Value `index` of a field, counted from 0, in a report with these bytes. One without bits or with
+ * more than 32 is HIDREPORT_OUT_OF_BOUNDS: a copy of the field whose `end_bit` is its `first_bit`
+ * plus 32 has the low 32 bits, which hosts read. It takes no memory, and reads nothing but the
+ * report's bytes, whatever numbers the field has. */
 struct hidreport_value hidreport_value(const struct hidreport_field *field, const uint8_t *report,
                                        size_t report_length, size_t index);
 
@@ -461,8 +463,8 @@ struct hidreport_answer hidreport_read(const struct hidreport_field *fields, siz
                                        const uint8_t *report, size_t report_length,
                                        int64_t *values, size_t room);
 
-/* The values of these fields that the bytes have, in order, up to the first that they don't have:
- * what hosts do with a report that is cut short. Bytes that begin with another id than one of the
+/* The values of these fields that the bytes have, in order, up to the first that they don't have, or
+ * that has more than 32 bits: what hosts do with a report that is cut short. Bytes that begin with another id than one of the
  * fields has are HIDREPORT_MISMATCHING_REPORT_ID. It takes no memory. */
 struct hidreport_answer hidreport_read_available(const struct hidreport_field *fields,
                                                  size_t field_count, const uint8_t *report,

@@ -11,6 +11,7 @@ pub mod WindowLemmas
 pub mod ItemStateLemmas
 pub mod ReportLemmas
 pub mod HostUsageLemmas
+pub mod HostAgreeLemmas
 pub mod IndexedLemmas
 pub mod JournalLemmas
 pub mod KeptItemsLemmas

@@ -3,6 +3,7 @@ pub mod Budget
 pub mod Faults
 pub mod Fields
 pub mod Groups
+pub mod HostLaws
 pub mod HostUsages
 pub mod ItemState
 pub mod Kinds

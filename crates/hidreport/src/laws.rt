@@ -5,6 +5,9 @@ ghost use Rattle.hidreport_items.specs.declared.item.ItemType.{ItemType};
 ghost use Rattle.hidreport_lists.specs.DescriptorBuilder.{AreSpelled};
 ghost use Rattle.hidreport_lists.specs.Rebuilt.{canonical_entries};
 ghost use Rattle.hidreport_fields.specs.BitValue.{bit};
+ghost use Rattle.hidreport_fields.specs.Tiling.{Each};
+ghost use Rattle.hidreport.specs.HostLaws.{NamesOneOn, ReadAlike, a_range};
+ghost use Rattle.hidreport.specs.declared.parser.paged_local.PagedLocal.{PagedLocal};
 ghost use Rattle.hidreport.specs.Blank.{blank_bytes};
 ghost use Rattle.hidreport.specs.Laws.{parse_any};
 ghost use Rattle.hidreport.specs.Meaning.{at_offset};
@@ -54,4 +57,13 @@ pub fn blank_reports_have_their_id_alone()
     ensures size { (id : Option ℕ) (size : ℕ) → length (blank_bytes id size) ≡ (size + 7) / 8 }
     ensures id { (id size : ℕ) → 0 < size → slice_get (blank_bytes (Some id) size) 0 ≡ Some id }
     ensures bits { (id : Option ℕ) (size n : ℕ) → id_bits id ≤ n → bit (blank_bytes id size) n ≡ 0 }
+{}
+
+/// Where both rules of usages agree (Section 6.2.2.8): of single usages, each an id of 16 bits on the
+/// page in force or with a page of its own, and of one range of ids of 16 bits, hosts read what the
+/// letter of the standard says, where no other page comes in force before their main item.
+pub fn hosts_agree_with_the_standard()
+    ensures singles { (page : ℕ) (ls : List PagedLocal) → Each (NamesOneOn page) ls
+        → ReadAlike page ls }
+    ensures range { (page low high : ℕ) → high < 65536 → ReadAlike page (a_range page low high) }
 {}
