@@ -3,6 +3,8 @@ use Rattle.std.proofs.Common.{◌≡◌, ◌∙◌, ◌+◌, ◌-◌, ◌*◌, �
 use Rattle.std.proofs.Common.{Option, ap, append-nil, arith, get_or, length, refl, subst, sym, take}
 use Rattle.std.specs.Prelude.{if◌then◌else◌, flat_map}
 use Rattle.std.proofs.lemmas.Grind.{common_steps, flat_map-append}
+use Rattle.hidreport_items.specs.Flags.{Flags}
+use Rattle.hidreport_fields.specs.ItemParts.{field_count}
 use Rattle.hidreport_fields.specs.Reading.{is_signed}
 use Rattle.hidreport_fields.specs.Records.{Attributes, ArrayRecord, FieldRecord, VariableRecord}
 use Rattle.hidreport.specs.Fields.{Beginning, beginning_at, each_from, make_fields, make_place, usage_at}
@@ -57,12 +59,13 @@ elements-same b e us shared c (suc n) =
     let all = elements b e shared c (suc (suc n)) in
     let rest = runs_of (each_from (element_field b e us shared) (c + 1) (suc n)) in
     let at : later.first ≡ head.first + head.width * 1 = omega arith in
+    let more : suc (suc n) ≡ 1 + suc n = omega arith in
     let joins : Joins head later all = record {
       id = refl;
       width = refl;
       is_signed = refl;
       first = at;
-      is = refl;
+      is = ap (λ k. run_by b.report_id (b.first + c * e.size) e.size k (is_signed shared)) more;
     } in
     subst (λ (l : List RunRecord). SameRuns (all ∷ []) (l ++ rest)) (sym (one-element b e us shared c))
     (same-then (all ∷ []) (head ∷ later ∷ []) (head ∷ rest) (joined-same head later all joins)
@@ -95,29 +98,62 @@ some-same : (b : Beginning) (e : Extent) (us : UsageList) (shared : Attributes) 
 some-same b e us shared zero some = absurd (omega (arith, some))
 some-same b e us shared (suc n) some = elements-same b e us shared 0 n
 
-pub variable-run : (g : GroupRecord) (run : RunRecord) → g.flags.constant ≡ false
-    → g.flags.variable ≡ true → 0 < g.extent.count
-    → run ≡ run_by g.beginning.report_id g.beginning.first g.extent.size g.extent.count
-    (is_signed g.shared)
-    → SameRuns (run ∷ []) (runs_of (group_fields g))
-variable-run g run filled many some is =
-    let at : g.beginning.first ≡ g.beginning.first + 0 * g.extent.size = omega arith in
-    let all : run ≡ elements g.beginning g.extent g.shared 0 g.extent.count =
-    is ∙ ap (λ (n : ℕ). run_by g.beginning.report_id n g.extent.size g.extent.count
-    (is_signed g.shared)) at in
-    subst (λ (l : List FieldRecord). SameRuns (run ∷ []) (runs_of l))
+several-counted : (flags : Flags) (n : ℕ) → flags.constant ≡ false → flags.variable ≡ true
+    → field_count flags n ≡ n
+several-counted flags n filled many =
+    ap (λ (b : Bool). if b then 1 else (if flags.variable then n else 1)) filled
+    ∙ ap (λ (b : Bool). if b then n else 1) many
+
+pub variable-run : (g : GroupRecord) (id : Option ℕ) (first width count fields : ℕ) (signed : Bool)
+    → g.flags.constant ≡ false → g.flags.variable ≡ true
+    → fields ≡ field_count g.flags g.extent.count → 0 < fields
+    → id ≡ g.beginning.report_id → first ≡ g.beginning.first → width ≡ g.extent.size
+    → count ≡ g.extent.count → signed ≡ is_signed g.shared
+    → SameRuns (run_by id first width count signed ∷ []) (runs_of (group_fields g))
+variable-run g id first width count fields signed filled many all some own at wide counted sign =
+    let enough : 0 < g.extent.count =
+    omega (arith, some, all, several-counted g.flags g.extent.count filled many) in
+    let from : first ≡ g.beginning.first + 0 * g.extent.size = omega (arith, at) in
+    let is : run_by id first width count signed
+    ≡ elements g.beginning g.extent g.shared 0 g.extent.count =
+    ap (λ (i : Option ℕ). run_by i first width count signed) own
+    ∙ ap (λ (n : ℕ). run_by g.beginning.report_id n width count signed) from
+    ∙ ap (λ (w : ℕ). run_by g.beginning.report_id (g.beginning.first + 0 * g.extent.size) w count
+    signed) wide
+    ∙ ap (λ (n : ℕ). run_by g.beginning.report_id (g.beginning.first + 0 * g.extent.size)
+    g.extent.size n signed) counted
+    ∙ ap (run_by g.beginning.report_id (g.beginning.first + 0 * g.extent.size) g.extent.size
+    g.extent.count) sign in
+    subst (λ (l : List FieldRecord). SameRuns (run_by id first width count signed ∷ []) (runs_of l))
     (sym (several-by g.flags.constant g.flags.variable _ _ _ filled many))
     (subst (λ (r : RunRecord). SameRuns (r ∷ []) (runs_of
-    (each_from (element_field g.beginning g.extent g.usages g.shared) 0 g.extent.count))) (sym all)
-    (some-same g.beginning g.extent g.usages g.shared g.extent.count some))
+    (each_from (element_field g.beginning g.extent g.usages g.shared) 0 g.extent.count))) (sym is)
+    (some-same g.beginning g.extent g.usages g.shared g.extent.count enough))
 
-pub array-run : (g : GroupRecord) (run : RunRecord) → g.flags.constant ≡ false
-    → g.flags.variable ≡ false
-    → run ≡ run_by g.beginning.report_id g.beginning.first
-    ((g.beginning.first + g.extent.size * g.extent.count - g.beginning.first) / g.extent.count)
-    g.extent.count (is_signed g.shared)
-    → SameRuns (run ∷ []) (runs_of (group_fields g))
-array-run g run filled single is =
+abbrev array_width : GroupRecord → ℕ
+array_width g =
+    (g.beginning.first + g.extent.size * g.extent.count - g.beginning.first) / g.extent.count
+
+pub array-run : (g : GroupRecord) (id : Option ℕ) (first end width count : ℕ) (signed : Bool)
+    → g.flags.constant ≡ false → g.flags.variable ≡ false
+    → id ≡ g.beginning.report_id → first ≡ g.beginning.first
+    → end ≡ g.beginning.first + g.extent.size * g.extent.count → width ≡ (end - first) / count
+    → count ≡ g.extent.count → signed ≡ is_signed g.shared
+    → SameRuns (run_by id first width count signed ∷ []) (runs_of (group_fields g))
+array-run g id first end width count signed filled single own at upto wide counted sign =
+    let each : width ≡ array_width g =
+    wide ∙ ap (λ n. (n - first) / count) upto
+    ∙ ap (λ n. (g.beginning.first + g.extent.size * g.extent.count - n) / count) at
+    ∙ ap (λ n. (g.beginning.first + g.extent.size * g.extent.count - g.beginning.first) / n) counted in
+    let is : run_by id first width count signed
+    ≡ run_by g.beginning.report_id g.beginning.first (array_width g) g.extent.count
+    (is_signed g.shared) =
+    ap (λ (i : Option ℕ). run_by i first width count signed) own
+    ∙ ap (λ (n : ℕ). run_by g.beginning.report_id n width count signed) at
+    ∙ ap (λ (w : ℕ). run_by g.beginning.report_id g.beginning.first w count signed) each
+    ∙ ap (λ (n : ℕ). run_by g.beginning.report_id g.beginning.first (array_width g) n signed) counted
+    ∙ ap (run_by g.beginning.report_id g.beginning.first (array_width g) g.extent.count) sign in
+    let run = run_by id first width count signed in
     subst (λ (l : List FieldRecord). SameRuns (run ∷ []) (runs_of l))
     (sym (single-by g.flags.constant g.flags.variable _ _ _ filled single))
     (subst (λ (r : RunRecord). SameRuns (run ∷ []) (r ∷ [])) is (same-refl (run ∷ [])))

@@ -1,8 +1,10 @@
 -- Runs of the low bits of values are those of fields of these bits.
 use Rattle.std.proofs.Common.{◌≡◌, ◌∙◌, ◌+◌, ◌-◌, ◌*◌, ◌/◌, ◌<◌, ℕ, zero, suc, Bool, true, false, cond, List, [], ◌∷◌, ◌++◌}
-use Rattle.std.proofs.Common.{Option, ap, append-nil, arith, get_or, length, map, map-append, nat_lt, refl, sym, take}
+use Rattle.std.proofs.Common.{Option, ap, append-nil, arith, get_or, length, map, nat_lt}
+use Rattle.std.proofs.Common.{refl, sym, take}
 use Rattle.std.specs.Prelude.{flat_map, sum_by}
 use Rattle.std.proofs.lemmas.Grind.{common_steps, flat_map-append}
+use Rattle.std.proofs.lemmas.List.{map-append}
 use Rattle.std.proofs.lemmas.List.Sums.{sum_by-append, sum_by-cons}
 use Rattle.hidreport_fields.specs.Reading.{element_width, is_signed}
 use Rattle.hidreport_fields.specs.Records.{Attributes, ArrayRecord, ConstantRecord, FieldPlace}

@@ -2,21 +2,26 @@
 use Rattle.std.proofs.Common.{◌≡◌, ◌∙◌, ◌⊎◌, inl, inr, ◌+◌, ◌-◌, ◌*◌, ◌/◌, ◌<◌, ◌≤◌, ℕ, zero, suc, ℤ, Bool, true, false, cond}
 use Rattle.std.proofs.Common.{List, [], ◌∷◌, ◌++◌, length, Option, None, Some, Result, Ok, Err, IsOk}
 use Rattle.std.proofs.Common.{ap, arith, nat_lt, refl, subst, sym}
-use Rattle.std.specs.Prelude.{flat_map}
+use Rattle.std.specs.Prelude.{flat_map, sum_by}
 use Rattle.std.proofs.lemmas.Bool.Decides.{nat_tests}
 use Rattle.hidreport_lists.specs.Answer.{Refusal}
 use Rattle.hidreport_fields.specs.Reading.{ValueRecord, element_width, reads, values_of, with_id}
 use Rattle.hidreport_fields.specs.Records.{Attributes, ArrayRecord, ConstantRecord, FieldPlace}
-use Rattle.hidreport_fields.specs.Records.{FieldRecord, VariableRecord, own_id, place_of}
+use Rattle.hidreport_fields.specs.Records.{FieldRecord, ReportRecord, VariableRecord, own_id, place_of}
+use Rattle.hidreport_fields.specs.ReportIds.{id_bits}
 use Rattle.hidreport_fields.specs.Tiling.{Covers, Each, HasNoRest, IsOf}
 use Rattle.hidreport_fields.specs.WritingLaws.{numbers_of, reads_numbers}
+use Rattle.hidreport_fields.specs.WritingValues.{value_count}
 use Rattle.hidreport_fields.specs.declared.field.usage.Usage.{Usage}
 use Rattle.hidreport.specs.Fields.{each_from}
-use Rattle.hidreport.specs.LowBits.{low_fields, low_place}
+use Rattle.hidreport.specs.LowBits.{IsReadWhole, low_fields, low_place}
 use Rattle.hidreport.specs.Reader.{before_numbers, report_numbers}
+use Rattle.hidreport.specs.Runs.{RunRecord, StandFor, count_in, runs_of}
 use Rattle.hidreport.specs.Working.{IsNarrow}
+use Rattle.hidreport.proofs.LowLemmas.{low-counted}
 use Rattle.hidreport.proofs.RunListLemmas.{own-by}
 use Rattle.hidreport.proofs.RunReadLemmas.{own-passes}
+use Rattle.hidreport.proofs.SameRunsLemmas.{same-refl, same-stand}
 use Rattle.hidreport.proofs.WorkLemmas.{covers-up, values-ok}
 
 -- the bytes are of the report that has this id
@@ -141,3 +146,24 @@ low-read id bytes first end (f ∷ fields) own within covers whole are =
     both-ok (low_fields f) (flat_map low_fields fields) bytes
     (field-ok f bytes whole.0 some held (own-by (own_id f) id bytes are.0 own))
     (low-read id bytes (place_of f).«end» end fields own within covers.2 whole.1 are.1)
+
+-- what such runs stand for
+
+pub low-stands : (fields : List FieldRecord) (runs : List RunRecord)
+    → runs ≡ runs_of (flat_map low_fields fields) → StandFor (flat_map low_fields fields) runs
+low-stands fields runs is =
+    let own = runs_of (flat_map low_fields fields) in
+    subst (StandFor (flat_map low_fields fields)) (sym is)
+    (same-stand (flat_map low_fields fields) own (same-refl own))
+
+pub low-count : (fields : List FieldRecord) (runs : List RunRecord)
+    → runs ≡ runs_of (flat_map low_fields fields) → count_in runs ≡ sum_by value_count fields
+low-count fields runs is = (low-stands fields runs is).count ∙ low-counted fields
+
+pub low-whole : (report : ReportRecord) (runs : List RunRecord)
+    → runs ≡ runs_of (flat_map low_fields report.fields) → IsReadWhole report runs
+low-whole report runs is = λ filled bytes enough own.
+    subst (λ (r : Result (List ℤ) Refusal). IsOk r)
+    (sym ((low-stands report.fields runs is).reads bytes))
+    (low-read report.id bytes (id_bits report.id) report.size report.fields own enough filled.covers
+    filled.elements filled.own)

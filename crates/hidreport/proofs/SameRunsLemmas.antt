@@ -1,7 +1,7 @@
 -- Runs that read and write the same, and others behind them.
 use Rattle.std.proofs.Common.{◌≡◌, ℕ, ◌+◌, ◌&&◌, ◌||◌, ◌==◌, Bool, true, false, cond, List, [], ◌∷◌, ◌++◌}
 use Rattle.std.proofs.Common.{length, take, drop, get_or, map, Result, Ok, Err, refl, sym, ap, subst}
-use Rattle.std.proofs.Common.{◌∙◌, ◌<◌, arith, ℤ, append-nil}
+use Rattle.std.proofs.Common.{◌∙◌, ◌<◌, IfOk, arith, ℤ, append-nil}
 use Rattle.std.specs.List.{list_all, list_any}
 use Rattle.std.proofs.lemmas.Grind.{common_steps, flat_map-append}
 use Rattle.std.proofs.lemmas.List.{drop-drop, map-append}
@@ -177,3 +177,9 @@ pub same-padding : {X : Type 0} (h : X → FieldRecord) (xs : List X) (i : ℕ) 
 same-padding h xs i x runs lt e so_far none =
     let own = runs_of (map h (take i xs)) in
     subst (SameRuns runs) (sym (runs-next h xs i x lt e ∙ ap (λ l. own ++ l) none ∙ append-nil own)) so_far
+
+-- what holds of one that is made holds of a result that is this where there is one
+pub if-is : {A E : Type 0} (P : A → Type 0) (r : Result A E) (x : A) → IfOk r (λ y. y ≡ x) → P x
+    → IfOk r P
+if-is P (Ok y) x same holds = subst P (sym same) holds
+if-is P (Err e) x same holds = tt

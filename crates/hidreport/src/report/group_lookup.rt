@@ -40,10 +40,10 @@ fn numbered(alloc: Global, group: &Group, number: FieldId) -> Result<Option<Fiel
 pub(crate) fn find_with_usage(
     alloc: Global,
     groups: &[Group],
-    usage: Usage,
+    usage: &Usage,
 ) -> Result<Option<Field>, AllocError>
     ensures { IfOk result (λ field. option_map field_record field
-        ≡ field_for usage (fields_of_groups groups.now)) }
+        ≡ field_for usage.now (fields_of_groups groups.now)) }
 {
     for group in groups {
         if let Some(field) = used(alloc, group, usage)? {
@@ -54,15 +54,15 @@ pub(crate) fn find_with_usage(
 }
 
 /// The first field of a group that has this usage.
-fn used(alloc: Global, group: &Group, usage: Usage) -> Result<Option<Field>, AllocError>
+fn used(alloc: Global, group: &Group, usage: &Usage) -> Result<Option<Field>, AllocError>
     ensures { IfOk result (λ field. option_map field_record field
-        ≡ field_for usage (group_fields group.now)) }
+        ≡ field_for usage.now (group_fields group.now)) }
 {
     for index in 0..group.field_count() {
-        if let Some(field) = group.field(alloc, index)?
-            && field.has_usage(usage)
-        {
-            return Ok(Some(field));
+        if let Some(field) = group.field(alloc, index)? {
+            if field.has_usage(*usage) {
+                return Ok(Some(field));
+            }
         }
     }
     Ok(None)

@@ -106,7 +106,7 @@ impl OutlineReport {
         ensures { IfOk result (λ field. option_map field_record field
             ≡ field_for usage (listed_report self.now).fields) }
     {
-        find_with_usage(alloc, &self.groups, usage)
+        find_with_usage(alloc, &self.groups, &usage)
     }
 
     /// Whether another report is the same once the fields of both are listed, as

@@ -1,5 +1,6 @@
 //! The runs that fields and groups of fields are read by (Section 5.8).
-ghost use Rattle.std.specs.Prelude.{◌≡◌, ◌<◌, ◌≤◌, [], ◌∷◌, ◌++◌, flat_map, map, IfOk, IfSome, IsNone, OnOk};
+ghost use Rattle.std.specs.Prelude.{◌≡◌, ◌+◌, ◌-◌, ◌*◌, ◌/◌, ◌^◌, ◌<◌, ◌≤◌, [], ◌∷◌, ◌++◌, flat_map, map, IfOk, IfSome, IsNone, OnOk};
+ghost use Rattle.hidreport_fields.specs.Reading.{is_signed};
 ghost use Rattle.hidreport_fields.specs.Views.{field_record};
 ghost use Rattle.hidreport.specs.Groups.{fields_of_groups, group_fields};
 ghost use Rattle.hidreport.specs.LowBits.{low_fields, low_run, low_runs};
@@ -10,6 +11,7 @@ use crate::report::group::Group;
 use crate::report::reader::run::Run;
 use hidreport_fields::Field;
 use std::alloc::{AllocError, Global};
+use std::ops::Range;
 
 /// How many bits of a value are read.
 const LOW_BITS: usize = 32;
@@ -66,7 +68,7 @@ fn add_low_runs(runs: &mut Vec<Run>, run: Run) -> Result<(), AllocError>
     }
     runs.reserve(run.count)?;
     for index in 0..run.count {
-        runs.push_reserved(low_run(&run, index));
+        runs.push(low_run(&run, index))?;
     }
     Ok(())
 }
@@ -115,9 +117,25 @@ fn run_of_group(group: &Group) -> Option<Run>
         width: if group.is_variable() {
             group.element_width()
         } else {
-            (bits.end - bits.start).checked_div(count).unwrap_or(0)
+            width_of_each(&bits, count)
         },
         count,
-        is_signed: i32::from(group.logical_minimum()) < 0,
+        is_signed: is_signed(group),
     })
+}
+
+/// How wide one of so many elements of a range is, in bits; 0 of none.
+fn width_of_each(bits: &Range<usize>, count: usize) -> usize
+    requires { bits.now.start ≤ bits.now.end }
+    ensures width { result ≡ (bits.now.end - bits.now.start) / count }
+    ensures counted { bits.now.start + result * count < 2 ^ 64 }
+{
+    (bits.end - bits.start).checked_div(count).unwrap_or(0)
+}
+
+/// Whether values can be below 0.
+fn is_signed(group: &Group) -> bool
+    ensures { result ≡ is_signed group.now.shared }
+{
+    i32::from(group.logical_minimum()) < 0
 }
