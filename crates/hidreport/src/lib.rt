@@ -109,8 +109,8 @@ pub use hidreport_fields::{
 };
 pub use hidreport_lists::{ParserError, Reason};
 pub use laws::{
-    blank_reports_have_their_id_alone, built_bytes_mean_their_items, scaled_values_lie_on_a_line,
-    hosts_agree_with_the_standard, shared_collections_are_a_common_front,
+    blank_reports_have_their_id_alone, built_bytes_mean_their_items, hosts_agree_with_the_standard,
+    scaled_values_lie_on_a_line, shared_collections_are_a_common_front,
 };
 pub use outline::Outline;
 pub use parse_options::ParseOptions;
