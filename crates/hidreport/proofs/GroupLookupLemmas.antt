@@ -1,7 +1,7 @@
 -- The first of fields in groups that passes a test, and the one with a number.
 use Rattle.std.proofs.Common.{◌≡◌, ◌∙◌, ◌+◌, ◌-◌, ◌<◌, ◌≤◌, ℕ, zero, suc, Bool, true, false, cond, List, [], ◌∷◌, ◌++◌}
 use Rattle.std.proofs.Common.{Option, None, Some, ap, append-nil, arith, drop, get_or, length, refl, slice_get}
-use Rattle.std.proofs.Common.{subst, sym, take}
+use Rattle.std.proofs.Common.{sym, take}
 use Rattle.std.proofs.Common.{◌*◌}
 use Rattle.std.specs.Option.{option_or}
 use Rattle.std.specs.Prelude.{◌==◌, find, if◌then◌else◌}
@@ -70,7 +70,7 @@ none-all p (y ∷ ys) (suc i) le before =
 
 -- the same over groups
 
-groups-next : (gs : List GroupRecord) (i : ℕ) (g : GroupRecord) → i < length gs
+pub groups-next : (gs : List GroupRecord) (i : ℕ) (g : GroupRecord) → i < length gs
     → g ≡ get_or gs i g → fields_of_groups (take (i + 1) gs)
     ≡ fields_of_groups (take i gs) ++ group_fields g
 groups-next gs i g lt e =

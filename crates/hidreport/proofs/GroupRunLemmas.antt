@@ -1,19 +1,20 @@
 -- The run of a group reads and writes what its fields do.
 use Rattle.std.proofs.Common.{◌≡◌, ◌∙◌, ◌+◌, ◌-◌, ◌*◌, ◌/◌, ◌<◌, ℕ, zero, suc, Bool, true, false, List, [], ◌∷◌, ◌++◌}
 use Rattle.std.proofs.Common.{Option, ap, append-nil, arith, get_or, length, refl, subst, sym, take}
-use Rattle.std.specs.Prelude.{if◌then◌else◌, flat_map}
-use Rattle.std.proofs.lemmas.Grind.{common_steps, flat_map-append}
+use Rattle.std.specs.Prelude.{if◌then◌else◌}
+use Rattle.std.proofs.lemmas.Grind.{flat_map-append}
 use Rattle.hidreport_items.specs.Flags.{Flags}
 use Rattle.hidreport_fields.specs.ItemParts.{field_count}
 use Rattle.hidreport_fields.specs.Reading.{is_signed}
-use Rattle.hidreport_fields.specs.Records.{Attributes, ArrayRecord, FieldRecord, VariableRecord}
-use Rattle.hidreport.specs.Fields.{Beginning, beginning_at, each_from, make_fields, make_place, usage_at}
+use Rattle.hidreport_fields.specs.Records.{Attributes, FieldRecord, VariableRecord}
+use Rattle.hidreport.specs.Fields.{Beginning, beginning_at, each_from, make_place, usage_at}
 use Rattle.hidreport.specs.Groups.{GroupRecord, fields_of_groups, group_fields}
 use Rattle.hidreport.specs.Runs.{Joins, RunRecord, run_of, runs_of}
 use Rattle.hidreport.specs.SameRuns.{SameRuns}
 use Rattle.hidreport.specs.Usages.{UsageList}
 use Rattle.hidreport.specs.declared.parser.extent.Extent.{Extent}
-use Rattle.hidreport.proofs.JoinLemmas.{joined-same}
+use Rattle.hidreport.proofs.GroupLookupLemmas.{groups-next}
+use Rattle.hidreport.proofs.JoinLemmas.{joined-same, run_by}
 use Rattle.hidreport.proofs.SameRunsLemmas.{same-before, same-behind, same-cons, same-refl, same-then}
 
 -- the run of so many elements of an item, from this one on
@@ -30,15 +31,6 @@ elements b e shared c n = record {
 abbrev element_field : Beginning → Extent → UsageList → Attributes → ℕ → FieldRecord
 element_field b e us shared c =
     VariableRecord (make_place (beginning_at b e c) e.size) (usage_at us.usages c) shared
-
-abbrev run_by : Option ℕ → ℕ → ℕ → ℕ → Bool → RunRecord
-run_by id first width count signed = record {
-  id = id;
-  first = first;
-  width = width;
-  count = count;
-  is_signed = signed;
-}
 
 one-element : (b : Beginning) (e : Extent) (us : UsageList) (shared : Attributes) (c : ℕ)
     → run_of (element_field b e us shared c) ≡ elements b e shared c 1 ∷ []
@@ -169,14 +161,11 @@ no-elements g filled many none =
     ∙ ap (each_from (element_field g.beginning g.extent g.usages g.shared) 0) none)
 
 -- one group more
-groups-next : (gs : List GroupRecord) (i : ℕ) (g : GroupRecord) → i < length gs
+runs-next : (gs : List GroupRecord) (i : ℕ) (g : GroupRecord) → i < length gs
     → g ≡ get_or gs i g → runs_of (fields_of_groups (take (i + 1) gs))
     ≡ runs_of (fields_of_groups (take i gs)) ++ runs_of (group_fields g)
-groups-next gs i g lt e =
-    let next : take (i + 1) gs ≡ take i gs ++ g ∷ [] = grind (arith, common_steps) in
-    ap (λ l. runs_of (fields_of_groups l)) next
-    ∙ ap runs_of (flat_map-append group_fields (take i gs) (g ∷ [])
-    ∙ ap (λ l. fields_of_groups (take i gs) ++ l) (append-nil (group_fields g)))
+runs-next gs i g lt e =
+    ap runs_of (groups-next gs i g lt e)
     ∙ flat_map-append run_of (fields_of_groups (take i gs)) (group_fields g)
 
 pub group-next : (gs : List GroupRecord) (i : ℕ) (g : GroupRecord) (old new : List RunRecord)
@@ -186,7 +175,7 @@ pub group-next : (gs : List GroupRecord) (i : ℕ) (g : GroupRecord) (old new : 
     → SameRuns new (runs_of (fields_of_groups (take (i + 1) gs)))
 group-next gs i g old new run lt e so_far more is =
     let own = runs_of (fields_of_groups (take i gs)) in
-    subst (SameRuns new) (sym (groups-next gs i g lt e))
+    subst (SameRuns new) (sym (runs-next gs i g lt e))
     (same-then new (old ++ run ∷ []) (own ++ runs_of (group_fields g)) more
     (same-then (old ++ run ∷ []) (own ++ run ∷ []) (own ++ runs_of (group_fields g))
     (same-before old own (run ∷ []) so_far)
@@ -198,5 +187,5 @@ pub group-padding : (gs : List GroupRecord) (i : ℕ) (g : GroupRecord) (runs : 
     → SameRuns runs (runs_of (fields_of_groups (take (i + 1) gs)))
 group-padding gs i g runs lt e so_far none =
     let own = runs_of (fields_of_groups (take i gs)) in
-    subst (SameRuns runs) (sym (groups-next gs i g lt e ∙ ap (λ l. own ++ l) none ∙ append-nil own))
+    subst (SameRuns runs) (sym (runs-next gs i g lt e ∙ ap (λ l. own ++ l) none ∙ append-nil own))
     so_far

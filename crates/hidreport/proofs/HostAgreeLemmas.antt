@@ -1,7 +1,7 @@
 -- Single usages and a range on one page are the same for hosts and by the letter of the standard.
-use Rattle.std.proofs.Common.{◌≡◌, ◌∙◌, ◌+◌, ◌-◌, ◌*◌, ◌/◌, ◌%◌, ◌<◌, ℕ, zero, suc, Bool, true, false, cond, List, [], ◌∷◌, ◌++◌}
-use Rattle.std.proofs.Common.{Option, None, Some, Result, Ok, Err, ap, arith, flat_map, map, nat_lt, refl, sym, unwrap_or}
-use Rattle.std.proofs.Common.{option_to_list, ◌||◌, ◌&&◌}
+use Rattle.std.proofs.Common.{◌≡◌, ◌∙◌, ◌+◌, ◌-◌, ◌*◌, ◌/◌, ◌%◌, ◌<◌, ℕ, Bool, true, false, cond, List, [], ◌∷◌, ◌++◌}
+use Rattle.std.proofs.Common.{Option, None, Some, Ok, ap, arith, flat_map, map, nat_lt, refl, sym, unwrap_or}
+use Rattle.std.proofs.Common.{◌||◌}
 use Rattle.std.specs.Prelude.{◌==◌}
 use Rattle.std.specs.List.{list_any}
 use Rattle.std.proofs.lemmas.Bool.Decides.{nat_tests}
@@ -11,13 +11,12 @@ use Rattle.hidreport_fields.specs.declared.field.usage.Usage.{Usage}
 use Rattle.hidreport_items.specs.declared.local.LocalItem.{LocalItem}
 use Rattle.hidreport_items.specs.declared.local.LocalItem.TheVariants as local
 use Rattle.hidreport.specs.HostLaws.{NamesOne, NamesOneOn, ReadAlike, a_range}
-use Rattle.hidreport.specs.HostUsages.{completed, first_set, is_lone, lies_on, minimum_behind, moved_to}
-use Rattle.hidreport.specs.HostUsages.{opens_set, own_span, span_of, span_to, span_usages, spans}
+use Rattle.hidreport.specs.HostUsages.{completed, first_set, is_lone, lies_on, moved_to}
+use Rattle.hidreport.specs.HostUsages.{own_span, span_to, span_usages, spans}
 use Rattle.hidreport.specs.HostUsages.{usages_from}
 use Rattle.hidreport.specs.ItemState.{first_of, local_items}
-use Rattle.hidreport.specs.MeaningFault.{MeaningFault}
-use Rattle.hidreport.specs.Usages.{UsageList, as_single, before_usages, host_usages, last_local, maximum_of}
-use Rattle.hidreport.specs.Usages.{minimum_of, single_usages, standard_usages, usages_of_spans, usages_with}
+use Rattle.hidreport.specs.Usages.{UsageList, as_single, before_usages, last_local}
+use Rattle.hidreport.specs.Usages.{minimum_of, single_usages, usages_of_spans, usages_with}
 use Rattle.hidreport.specs.declared.parser.paged_local.PagedLocal.{PagedLocal}
 use Rattle.hidreport.specs.declared.parser.usage_span.UsageSpan.{UsageSpan}
 use Rattle.hidreport.proofs.HostUsageLemmas.{lone-range, lone-so}

@@ -232,7 +232,7 @@ longer-same run n = record {
       put-taken-parts run.first run.width run.count n numbers bytes;
 }
 
-abbrev run_by : Option ℕ → ℕ → ℕ → ℕ → Bool → RunRecord
+abbrev pub run_by : Option ℕ → ℕ → ℕ → ℕ → Bool → RunRecord
 run_by id first width count is_signed = record {
   id = id;
   first = first;

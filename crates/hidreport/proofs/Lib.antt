@@ -46,8 +46,8 @@ pub mod RunReadLemmas
 pub mod RunWriteLemmas
 pub mod SameRunsLemmas
 pub mod JoinLemmas
-pub mod GroupRunLemmas
 pub mod GroupLookupLemmas
+pub mod GroupRunLemmas
 pub mod LowLemmas
 pub mod LowReadLemmas
 pub mod FilledLemmas

@@ -1,6 +1,6 @@
 -- Runs of the low bits of values are those of fields of these bits.
 use Rattle.std.proofs.Common.{◌≡◌, ◌∙◌, ◌+◌, ◌-◌, ◌*◌, ◌/◌, ◌<◌, ℕ, zero, suc, Bool, true, false, cond, List, [], ◌∷◌, ◌++◌}
-use Rattle.std.proofs.Common.{Option, ap, append-nil, arith, get_or, length, map, nat_lt}
+use Rattle.std.proofs.Common.{ap, append-nil, arith, get_or, length, map, nat_lt}
 use Rattle.std.proofs.Common.{refl, sym, take}
 use Rattle.std.specs.Prelude.{flat_map, sum_by}
 use Rattle.std.proofs.lemmas.Grind.{common_steps, flat_map-append}
@@ -14,15 +14,7 @@ use Rattle.hidreport_fields.specs.declared.field.usage.Usage.{Usage}
 use Rattle.hidreport.specs.Fields.{each_from}
 use Rattle.hidreport.specs.LowBits.{low_fields, low_place, low_run, low_runs}
 use Rattle.hidreport.specs.Runs.{RunRecord, run_of, runs_of}
-
-abbrev run_by : Option ℕ → ℕ → ℕ → ℕ → Bool → RunRecord
-run_by id first width count signed = record {
-  id = id;
-  first = first;
-  width = width;
-  count = count;
-  is_signed = signed;
-}
+use Rattle.hidreport.proofs.JoinLemmas.{run_by}
 
 -- the array of one element that has the low bits of another's
 abbrev low_element : FieldPlace → List Usage → Bool → Attributes → ℕ → ℕ → FieldRecord

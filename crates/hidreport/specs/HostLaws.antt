@@ -1,6 +1,5 @@
 -- Where hosts and the letter of the standard read the same usages (Section 6.2.2.8).
 use Rattle.std.specs.Prelude.{◌≡◌, ◌<◌, ℕ, List, [], ◌∷◌, Ok, Some}
-use Rattle.hidreport_fields.specs.Tiling.{Each}
 use Rattle.hidreport_items.specs.declared.local.LocalItem.{LocalItem}
 use Rattle.hidreport_items.specs.declared.local.LocalItem.TheVariants as local
 use Rattle.hidreport.specs.ItemState.{local_items}

@@ -1,5 +1,5 @@
 -- The low 32 bits of values that have more (Section 5.8), which are what hosts read of them.
-use Rattle.std.specs.Prelude.{◌≡◌, ◌+◌, ◌-◌, ◌*◌, ◌≤◌, ℕ, nat_lt, List, [], ◌∷◌, length, flat_map}
+use Rattle.std.specs.Prelude.{◌≡◌, ◌+◌, ◌-◌, ◌*◌, ◌≤◌, ℕ, nat_lt, List, [], ◌∷◌, length}
 use Rattle.std.specs.Prelude.{if◌then◌else◌, IsOk, Ok}
 use Rattle.hidreport_fields.specs.Reading.{element_width, with_id}
 use Rattle.hidreport_fields.specs.Records.{ArrayRecord, ConstantRecord, FieldPlace, FieldRecord}

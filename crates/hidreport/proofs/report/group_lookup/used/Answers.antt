@@ -1,4 +1,4 @@
-use Rattle.std.proofs.Common.{◌≡◌, ◌∙◌, ◌+◌, ◌≤◌, None, Some, add-one, ap, arith, false, length, rules, slice_get, sym, take, true}
+use Rattle.std.proofs.Common.{◌≡◌, ◌∙◌, ◌≤◌, None, Some, add-one, ap, arith, false, length, rules, slice_get, sym, take, true}
 use Rattle.hidreport.specs.Groups.{group_fields}
 use Rattle.hidreport_fields.specs.ItemParts.{field_count}
 use Rattle.hidreport_fields.specs.Lookup.{field_for, has_usage}

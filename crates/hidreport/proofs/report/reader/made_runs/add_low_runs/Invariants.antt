@@ -1,4 +1,4 @@
-use Rattle.std.proofs.Common.{◌≡◌, ◌++◌, ◌+◌, ◌≤◌, length}
+use Rattle.std.proofs.Common.{◌≡◌, ◌++◌}
 use Rattle.hidreport.specs.Fields.{each_from}
 use Rattle.hidreport.specs.LowBits.{low_run}
 use Rattle.hidreport.proofs.report.reader.made_runs.add_low_runs.Given as goal
