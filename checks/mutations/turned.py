@@ -266,8 +266,8 @@ class Asker:
 
     def begin(self, words, number):
         env = {**os.environ, "TURNED": str(number)}
-        how = {"stdout": subprocess.PIPE, "stderr": subprocess.PIPE, "start_new_session": True, "preexec_fn": bounded}
-        return subprocess.Popen(words, cwd=self.data, env=env, **how)
+        how = {"stdout": subprocess.PIPE, "stderr": subprocess.STDOUT, "text": True, "errors": "replace"}
+        return subprocess.Popen(words, cwd=self.data, env=env, start_new_session=True, preexec_fn=bounded, **how)
 
     def cases_tell(self, number):
         """A case is answered otherwise; the first that is, is enough."""
@@ -275,8 +275,10 @@ class Asker:
         timer = threading.Timer(10 * SECONDS, os.killpg, (started.pid, signal.SIGKILL))
         timer.start()
         try:
-            told = started.stderr.readline()
-            return bool(told) or started.stdout.read().decode() != self.wanted or started.wait() != 0
+            said = started.stdout.readline()
+            if not self.wanted.startswith(said) or said + started.stdout.read() != self.wanted:
+                return True
+            return started.wait() != 0
         finally:
             timer.cancel()
             with contextlib.suppress(OSError):
@@ -286,8 +288,8 @@ class Asker:
     def tests_tell(self, number):
         """A test doesn't pass."""
         started = self.begin([self.runner, "--seconds", str(10 * SECONDS), self.tests], number)
-        out, _ = started.communicate()
-        return self.passed != sorted(it for it in out.decode(errors="replace").split("\n") if it.startswith("test "))
+        said, _ = started.communicate()
+        return self.passed != sorted(it for it in said.split("\n") if it.startswith("test "))
 
     def tell(self, number):
         return self.cases_tell(number) or self.tests_tell(number)
