@@ -1,7 +1,9 @@
 """The sources of the library as words, for the scripts that put something into its code in a copy of the
-tree: reached.py and turned.py."""
+tree: reached.py and turned.py; and switches and kits for programs that have much behind one switch: turned.py
+and plants.py."""
 
 import collections
+import contextlib
 import glob
 import json
 import os
@@ -187,3 +189,80 @@ def listed(path):
         else:
             found.append(line)
     return collections.Counter(found), faults
+
+
+# A switch: a crate whose `stands_at` asks for the number in the environment.
+SWITCH = """//! A switch.
+#![tactic(auto)]
+
+unsafe extern "C" {
+    safe fn switch_number() -> u32;
+}
+
+/// Whether it stands at this number.
+pub fn stands_at(number: u32) -> bool {
+    switch_number() == number
+}
+"""
+SWITCH_C = """#include <stdlib.h>
+
+unsigned switch_number(void);
+
+/* The number in the environment; 0 is none. */
+unsigned switch_number(void)
+{
+    static int is_known;
+    static unsigned number;
+
+    if (!is_known) {
+        const char *word = getenv("VARIABLE");
+        number = word == NULL ? 0 : (unsigned)atoi(word);
+        is_known = 1;
+    }
+    return number;
+}
+"""
+CLANG = """#!/bin/bash
+words=()
+for word; do
+    case $word in
+        -O0) words+=(-O1) ;;
+        -fsanitize=address) ;;
+        *) words+=("$word") ;;
+    esac
+done
+# It is llvm-nm, too, by another name.
+[[ " $* " != *' --defined-only '* ]] || exec -a llvm-nm '%s' "$@"
+exec '%s' "${words[@]}"
+"""
+LINKER = """#!/bin/bash
+'%s' "$@" || exit
+words=()
+while [ $# -gt 0 ]; do
+    case $1 in
+        -o) words+=(-o '%s') && shift ;;
+        # What AddressSanitizer is linked as.
+        --whole-archive) while [ "$1" != --no-whole-archive ]; do shift; done ;;
+        *) words+=("$1") ;;
+    esac
+    shift
+done
+exec '%s' "${words[@]}"
+"""
+
+
+def switch(variable):
+    """The sources of a switch by this variable of the environment."""
+    return SWITCH, SWITCH_C.replace("VARIABLE", variable)
+
+
+def make_kit(folder, kept):
+    """A kit whose programs have no AddressSanitizer, so that their memory can be bounded, and are kept."""
+    run(["bash", "checks/common/unproved.sh", "--kit", folder])
+    tools = f"{os.path.dirname(run(['rt', 'doc']).stdout)}/toolchain/bin"
+    clang, linker = f"{tools}/clang", f"{tools}/ld.lld"
+    for name, text in (("clang", CLANG % (clang, clang)), ("ld.lld", LINKER % (linker, kept, linker))):
+        with contextlib.suppress(FileNotFoundError):
+            os.unlink(f"{folder}/toolchain/bin/{name}")
+        write(f"{folder}/toolchain/bin/{name}", text)
+        os.chmod(f"{folder}/toolchain/bin/{name}", 0o755)

@@ -9,11 +9,13 @@ no longer; each term of `&&` and `||`, which then says nothing (left and right o
 which then is one more (the greatest of a type: one less). No patterns and no constants. All stand in one
 copy behind a switch, the number in the environment's TURNED; the copies of `hidreport_cases` and of the
 tests are built once, without a proof. What no case and no test tells stands in unturned.txt, where a line
-says why: that is a fault where it isn't there, and where it is noticed after all.
+says why, `3 x` before one that stands for three: that is a fault where it isn't there, and where it is
+noticed after all.
 
 --only turns what has WORD in its line, as that stands in unturned.txt: FILE: WHAT: LINE. --keep takes the
 programs of FOLDER where they are made of these sources, or builds them there; so many as --jobs says are
 asked side by side; --write prints what isn't noticed as lines of unturned.txt, each as soon as it is known.
+The build takes two minutes, each way up to two seconds.
 """
 
 import argparse
@@ -32,11 +34,13 @@ import tempfile
 import threading
 from concurrent.futures import ThreadPoolExecutor
 
-from plants import CLANG, LINKER
-from sources import CRATES, PAIRS, TOP, Source, listed, make_tree, put_into, read, run, text_of, write
+from sources import (
+    CRATES, PAIRS, TOP, Source, listed, make_kit, make_tree, put_into, read, run, switch, text_of, write,
+)
 
 LISTED = f"{TOP}/checks/mutations/unturned.txt"
-IS = "turned::turned({})"
+IS = "turned::stands_at({})"
+SWITCH = switch("TURNED")
 # What ends an operand of a comparison, and of `&&` and `||`.
 ENDS = {";", ",", ":", "=", "=>", "if", "while", "return", "match", "in", "else", "&&", "||", "closure", "->"}
 GREATEST = (0xFF, 0xFFFF, 0xFFFFFFFF, 2**31 - 1, 2**64 - 1)
@@ -49,37 +53,6 @@ PROGRAMS = {
 }
 # How long a program may compute that is turned, and how much memory it may have, in bytes.
 SECONDS, MEMORY = 15, 3 << 30
-
-RUST = """//! What is turned.
-#![tactic(auto)]
-
-unsafe extern "C" {
-    safe fn turned_number() -> u32;
-}
-
-/// Whether it is the one with this number.
-pub fn turned(number: u32) -> bool {
-    turned_number() == number
-}
-"""
-C = """#include <stdlib.h>
-
-unsigned turned_number(void);
-
-/* The number in the environment; 0 is none. */
-unsigned turned_number(void)
-{
-    static int is_known;
-    static unsigned number;
-
-    if (!is_known) {
-        const char *word = getenv("TURNED");
-        number = word == NULL ? 0 : (unsigned)atoi(word);
-        is_known = 1;
-    }
-    return number;
-}
-"""
 
 
 class Turned(Source):
@@ -201,38 +174,26 @@ class Turned(Source):
 
 def sum_of(program, turned):
     """A sum over what a program is made of."""
-    made = run(["sh", "tools/program.sh", "code", "hidreport"]).stdout + RUST + C
+    made = run(["sh", "tools/program.sh", "code", "hidreport"]).stdout + "".join(SWITCH)
     for file in sorted(glob.glob(f"{TOP}/tests/{program}/src/*.source")):
         made += text_of(file)
     return hashlib.sha256(made.encode() + repr(sorted(turned.items())).encode()).hexdigest()
-
-
-def make_kit(folder, kept):
-    """A kit whose programs have no AddressSanitizer, so that their memory can be bounded, and are kept."""
-    run(["bash", "checks/common/unproved.sh", "--kit", folder])
-    tools = f"{os.path.dirname(run(['rt', 'doc']).stdout)}/toolchain/bin"
-    clang, linker = f"{tools}/clang", f"{tools}/ld.lld"
-    for name, text in (("clang", CLANG % (clang, clang)), ("ld.lld", LINKER % (linker, kept, linker))):
-        os.unlink(f"{folder}/toolchain/bin/{name}")
-        write(f"{folder}/toolchain/bin/{name}", text)
-        os.chmod(f"{folder}/toolchain/bin/{name}", 0o755)
 
 
 def build(folder):
     """The programs that ask the cases and run the tests, all turned behind the switch; and what is turned."""
     turned, turns = read(f"{TOP}/crates", CRATES, Turned)
     sums = {program: sum_of(program, turned) for program in PROGRAMS}
-    is_there = lambda file, text: os.path.exists(file) and text_of(file) == text
-    wanted = [it for it in PROGRAMS if not is_there(f"{folder}/{it}.sum", sums[it])]
-    if not wanted:
+    there = {it: text_of(f"{folder}/{it}.sum") for it in PROGRAMS if os.path.exists(f"{folder}/{it}.sum")}
+    if there == sums:
         return turns
     os.makedirs(f"{folder}/none", exist_ok=True)
     write(f"{folder}/none/1", "")
     tree = f"{folder}/tree"
     shutil.rmtree(tree, ignore_errors=True)
     make_tree(tree)
-    put_into(tree, read(f"{tree}/crates", CRATES, Turned)[0], CRATES, "turned", RUST, C)
-    for program in wanted:
+    put_into(tree, read(f"{tree}/crates", CRATES, Turned)[0], CRATES, "turned", *SWITCH)
+    for program in [it for it in PROGRAMS if there.get(it) != sums[it]]:
         kit = f"{folder}/kit_{program}"
         shutil.rmtree(kit, ignore_errors=True)
         with contextlib.suppress(FileNotFoundError):
@@ -281,7 +242,7 @@ class Asker:
             return started.wait() != 0
         finally:
             timer.cancel()
-            with contextlib.suppress(OSError):
+            if started.poll() is None:
                 os.killpg(started.pid, signal.SIGKILL)
             started.communicate()
 
@@ -295,10 +256,14 @@ class Asker:
         return self.cases_tell(number) or self.tests_tell(number)
 
 
-def faults_of(silent, own):
-    """What is wrong with the list, given what nothing tells."""
-    faults = [f"nothing tells {it}" for it in (silent - own).elements()]
-    return faults + [f"unturned.txt has what is noticed or isn't there: {it}" for it in (own - silent).elements()]
+def listed_ways(only):
+    """What unturned.txt has of what has the word, each so often as it says, and what is wrong there."""
+    lines, faults = listed(LISTED)
+    own = collections.Counter()
+    for line, times in lines.items():
+        count, way = re.fullmatch(r"(?:(\d+) x )?(.*)", line).groups()
+        own[way] += times * int(count or 1)
+    return collections.Counter({it: n for it, n in own.items() if only in it}), faults
 
 
 def main():
@@ -325,8 +290,9 @@ def main():
                     print(lines[number], flush=True)
     if words.write:
         return 0
-    own, faults = listed(LISTED)
-    faults += faults_of(silent, collections.Counter({it: n for it, n in own.items() if words.only in it}))
+    own, faults = listed_ways(words.only)
+    faults += [f"nothing tells {it}" for it in (silent - own).elements()]
+    faults += [f"unturned.txt has what is noticed or isn't there: {it}" for it in (own - silent).elements()]
     for fault in faults:
         print(f"turned: {fault}")
     if faults:
