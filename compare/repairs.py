@@ -270,6 +270,7 @@ CASES = [
         ("unsigned", "46ffff"), ("unsigned", "27ffffffff"), ("unsigned", "158125ff"), ("unsigned", "358145ff"), ("unsigned", "358125ff"),
         ("unsigned", "158145ff"), ("unsigned", "2580"), ("unsigned", "257f"), ("unsigned", "24"), ("unsigned", "25ff1581"),
         ("unsigned", "a4158125ffb425ff"), ("unsigned", "158125ff150025ff"), ("as-usual", "150025ff"), ("unsigned", "2600ff"),
+        ("unsigned", "2500"), ("unsigned", "4500"), ("unsigned", "457f"), ("unsigned", "350045ff"),
     ]),
     ("What is cut short is refused, or left out where that is asked for.", [
         ("as-usual", "a100c005"), ("cut-short", "a100c005"), ("cut-short", "a100c026ff"), ("cut-short", "a100c027ffffff"),

@@ -40,12 +40,15 @@ import tempfile
 import time
 from concurrent.futures import ThreadPoolExecutor
 
+from sources import CLANG, LINKER, make_kit, switch
+
 HERE = os.path.dirname(os.path.abspath(__file__))
 TOP = os.path.dirname(os.path.dirname(HERE))
 # So many plants are there, and so many of them are noticed.
 ALL = 441
 NOTICED = 440
 SECONDS = 900
+SWITCH = switch("HID_PLANT")
 KEYS = ("name", "file", "old", "new", "put", "table", "by", "why")
 
 # The scripts that are asked about the program HID, from the top of the tree; HIDREPORT is the other one.
@@ -161,7 +164,7 @@ class Plant:
         return self.asked(text)
 
     def asked(self, text):
-        return text.replace("PLANTED", f"hid_planted::planted({self.number})")
+        return text.replace("PLANTED", f"hid_planted::stands_at({self.number})")
 
 
 def output_of(*words):
@@ -232,65 +235,6 @@ def with_plants(file, plants):
     return text
 
 
-PLANTED = """//! Which plant is there.
-#![tactic(auto)]
-
-unsafe extern "C" {
-    safe fn hid_plant() -> u32;
-}
-
-/// Whether it is the one with this number.
-pub fn planted(number: u32) -> bool {
-    hid_plant() == number
-}
-"""
-PLANTED_C = """#include <stdlib.h>
-
-unsigned hid_plant(void);
-
-/* The number in the environment; 0 is no plant. */
-unsigned hid_plant(void)
-{
-    static int is_known;
-    static unsigned number;
-
-    if (!is_known) {
-        const char *word = getenv("HID_PLANT");
-        number = word == NULL ? 0 : (unsigned)atoi(word);
-        is_known = 1;
-    }
-    return number;
-}
-"""
-CLANG = """#!/bin/bash
-words=()
-for word; do
-    case $word in
-        -O0) words+=(-O1) ;;
-        -fsanitize=address) ;;
-        *) words+=("$word") ;;
-    esac
-done
-# It is llvm-nm, too, by another name.
-[[ " $* " != *' --defined-only '* ]] || exec -a llvm-nm '%s' "$@"
-exec '%s' "${words[@]}"
-"""
-LINKER = """#!/bin/bash
-'%s' "$@" || exit
-words=()
-while [ $# -gt 0 ]; do
-    case $1 in
-        -o) words+=(-o '%s') && shift ;;
-        # What AddressSanitizer is linked as.
-        --whole-archive) while [ "$1" != --no-whole-archive ]; do shift; done ;;
-        *) words+=("$1") ;;
-    esac
-    shift
-done
-exec '%s' "${words[@]}"
-"""
-
-
 def copy_crates(tree, plants):
     """The crates of `hid` in a tree of their own, with all plants behind the switch."""
     os.makedirs(f"{tree}/crates")
@@ -306,8 +250,9 @@ def copy_crates(tree, plants):
                 shutil.copytree(f"{TOP}/crates/{crate}/{part}", f"{tree}/crates/{crate}/{part}")
     for part in ("src", "c"):
         os.makedirs(f"{tree}/crates/hid_planted/{part}")
-    write(f"{tree}/crates/hid_planted/src/lib.rt", PLANTED)
-    write(f"{tree}/crates/hid_planted/c/planted.c", PLANTED_C)
+    rust, c = SWITCH
+    write(f"{tree}/crates/hid_planted/src/lib.rt", rust)
+    write(f"{tree}/crates/hid_planted/c/planted.c", c)
     files = {}
     for plant in plants:
         if plant.is_of_program:
@@ -320,7 +265,7 @@ def sum_of(plants):
     """A sum over all that the program is made of."""
     code = output_of("sh", "tools/program.sh", "code", "hid")
     made = [(it.number, it.file, it.old, it.in_switch(), it.table) for it in plants if it.is_of_program]
-    return hashlib.sha256(repr((code, made, PLANTED, PLANTED_C, CLANG, LINKER)).encode()).hexdigest()
+    return hashlib.sha256(repr((code, made, SWITCH, CLANG, LINKER)).encode()).hexdigest()
 
 
 def build(folder, plants):
@@ -335,12 +280,7 @@ def build(folder, plants):
     for old in (tree, kit, f"{folder}/try"):
         shutil.rmtree(old, ignore_errors=True)
     copy_crates(tree, plants)
-    subprocess.run(["bash", f"{TOP}/checks/common/unproved.sh", "--kit", kit], check=True)
-    tools = f"{os.path.dirname(output_of('rt', 'doc'))}/toolchain/bin"
-    write(f"{kit}/toolchain/bin/clang", CLANG % (f"{tools}/clang", f"{tools}/clang"))
-    write(f"{kit}/toolchain/bin/ld.lld", LINKER % (f"{tools}/ld.lld", program, f"{tools}/ld.lld"))
-    for tool in ("clang", "ld.lld"):
-        os.chmod(f"{kit}/toolchain/bin/{tool}", 0o755)
+    make_kit(kit, program)
     os.makedirs(f"{folder}/try/cases")
     write(f"{folder}/try/cases/1", "")
     write(f"{folder}/try/cases/1.args", "--version\n")

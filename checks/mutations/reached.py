@@ -18,21 +18,15 @@ Linux's hid-core and hid-input were asked.
 """
 
 import collections
-import glob
-import json
 import os
-import subprocess
 import sys
 import tempfile
 
-HERE = os.path.dirname(os.path.abspath(__file__))
-TOP = os.path.dirname(os.path.dirname(HERE))
-LISTED = f"{HERE}/unreached.txt"
-# The crates whose branches are counted; those of the last are reached through `hid`.
-CRATES = [
-    "hidreport_types", "hidreport_items", "hidreport_lists", "hidreport_fields", "hidreport", "hidreport_usages",
-    "hidreport_linux",
-]
+from sources import CRATES, TOP, Source, bytes_of, listed, make_tree, put_into, read, run, text_of, write
+
+LISTED = f"{TOP}/checks/mutations/unreached.txt"
+# Those whose branches are reached through `hid`, too.
+ALL = [*CRATES, "hidreport_linux"]
 MARK = "reached::reached({});"
 
 RUST = """//! Which branches are reached.
@@ -79,88 +73,20 @@ void mark_reached(unsigned number)
 }
 """
 
-PAIRS = {"(": ")", "[": "]", "{": "}"}
-
-
-def code_in(files):
-    """Of each file the words of its code, each with where it begins and ends; no comments and no clauses."""
-    said = run(["rattle", "fmt", "--tokens", *files])
-    if said.returncode:
-        sys.exit(f"reached: no words of code: {said.stderr}")
-    found, in_clause, n = {file: [] for file in files}, False, -1
-    for line in said.stdout.split("\n"):
-        if line.startswith("file "):
-            n += 1
-            words = found[files[n]]
-            continue
-        if not line:
-            continue
-        _, start, end, kind, text = line.split(" ", 4)
-        in_clause = kind != "End" and (in_clause or (kind == "Head" and text == '"{"'))
-        if in_clause or kind not in ("Code", "Literal"):
-            continue
-        word, start, end = json.loads(text), int(start), int(end)
-        if word == ">" and words and words[-1][0] == "=" and words[-1][2] == start:
-            word, start, _ = "=>", *words.pop()[1:]
-        words.append((word, start, end))
-    return found
-
-
-class Source:
+class Marked(Source):
     """A source whose branches get marks."""
 
-    def __init__(self, file, text, code, first):
-        self.file, self.text, self.code, self.first = file, text, code, first
-        self.insertions, self.branches = [], []
-        self.close = self.find_pairs()
-
-    def word(self, n):
-        return self.code[n][0] if n < len(self.code) else ""
-
-    def at(self, n):
-        return self.code[n][1]
-
-    def find_pairs(self):
-        """Of each opening bracket the closing one."""
-        found, open_now = {}, []
-        for n, (word, _, _) in enumerate(self.code):
-            if word in PAIRS:
-                open_now.append(n)
-            elif word in PAIRS.values():
-                found[open_now.pop()] = n
-        return found
+    def find(self):
+        for fn, start, end in self.functions():
+            if end > start + 1:
+                self.mark(self.at(start) + 1, "fn", self.at(fn))
+                self.block(start + 1, end)
 
     def mark(self, place, kind, line_of, before="", behind=""):
         """Puts a mark at a place, and counts the branch of the line where `line_of` stands."""
-        start = self.text.rfind(b"\n", 0, line_of) + 1
-        line = self.text[start : self.text.find(b"\n", line_of)].decode().strip()
-        number = self.first + len(self.branches)
-        self.branches.append((self.file, kind, line))
-        self.insertions.append((place, before + MARK.format(number) + behind))
-
-    def marked(self):
-        text, last = b"", 0
-        for place, said in sorted(self.insertions, key=lambda it: it[0]):
-            text += self.text[last:place] + said.encode()
-            last = place
-        return text + self.text[last:]
-
-    def functions(self):
-        """Finds the bodies of functions and marks what is in them."""
-        n = 0
-        while n < len(self.code):
-            is_function = self.word(n) == "fn" and self.word(n - 1) != "const" and self.word(n + 1) != "("
-            n = self.function_at(n) if is_function else n + 1
-
-    def function_at(self, fn):
-        n = fn
-        while self.word(n) not in ("{", ";"):
-            n = self.close[n] + 1 if self.word(n) in ("(", "[") else n + 1
-        if self.word(n) == ";" or self.close[n] == n + 1:
-            return n + 1
-        self.mark(self.at(n) + 1, "fn", self.at(fn))
-        self.block(n + 1, self.close[n])
-        return self.close[n] + 1
+        number = self.first + len(self.found)
+        self.found.append((self.file, kind, self.line_at(line_of)))
+        self.put(place, before + MARK.format(number) + behind)
 
     def block(self, n, end):
         """Marks the branches between two places of a body."""
@@ -189,12 +115,6 @@ class Source:
                 continue
             n += 1
 
-    def brace_behind(self, n):
-        """The brace of a block behind a condition."""
-        while self.word(n) != "{":
-            n = self.close[n] + 1 if self.word(n) in ("(", "[") else n + 1
-        return n
-
     def branch_if(self, n):
         line_of = self.at(n)
         start = self.brace_behind(n + 1)
@@ -215,95 +135,26 @@ class Source:
     def branch_match(self, n):
         start = self.brace_behind(n + 1)
         self.block(n + 1, start)
-        end, n = self.close[start], start + 1
-        while n < end:
-            pattern = n
-            while self.word(n) != "=>":
-                n = self.close[n] + 1 if self.word(n) in PAIRS else n + 1
-            n += 1
-            if self.word(n) == "{":
-                self.mark(self.at(n) + 1, "=>", self.at(pattern))
-                self.block(n + 1, self.close[n])
-                n = self.close[n] + 1
-                n += self.word(n) == ","
-                continue
-            body = n
-            while n < end and self.word(n) != ",":
-                n = self.close[n] + 1 if self.word(n) in PAIRS else n + 1
-            if self.word(body) == "unreachable":
-                n += 1
-                continue
-            self.mark(self.at(body), "=>", self.at(pattern), before="{ ", behind=" ")
-            self.block(body, n)
-            self.insertions.append((self.code[n - 1][2], " }"))
-            n += 1
-        return end + 1
-
-
-def run(words, folder=None, **how):
-    how = {"cwd": folder or TOP, "capture_output": True, "text": True, "errors": "replace", **how}
-    return subprocess.run(words, check=False, **how)
-
-
-def text_of(path):
-    with open(path, encoding="utf-8") as it:
-        return it.read()
-
-
-def bytes_of(path):
-    with open(path, "rb") as it:
-        return it.read()
-
-
-def write(path, text):
-    with open(path, "wb") as it:
-        it.write(text if isinstance(text, bytes) else text.encode())
-
-
-def read(folder):
-    """Of each source below a folder that has the crates, itself with marks; and all branches."""
-    marked, branches, files = {}, [], []
-    for crate in CRATES:
-        files += sorted(glob.glob(f"{folder}/{crate}/src/**/*.rt", recursive=True))
-    for file, code in code_in(files).items():
-        source = Source(os.path.relpath(file, folder), bytes_of(file), code, len(branches))
-        source.functions()
-        marked[file] = source.marked()
-        branches += source.branches
-    return marked, branches
+        for pattern, arrow, end in self.arms(start):
+            body = arrow + 1
+            if self.word(body) == "{":
+                self.mark(self.at(body) + 1, "=>", self.at(pattern))
+                self.block(body, end)
+            elif self.word(body) != "unreachable":
+                self.mark(self.at(body), "=>", self.at(pattern), before="{ ", behind=" ")
+                self.block(body, end)
+                self.put(self.code[end - 1][2], " }")
+        return self.close[start] + 1
 
 
 def mark(tree, kept):
     """Marks the branches in a tree, and begins the file in which they are noted."""
-    marked, branches = read(f"{tree}/crates")
-    for file, text in marked.items():
-        write(file, text)
-    lines = text_of(f"{tree}/crates.txt").split("\n")
-    lines = [f"{it} reached" if it.split(":")[0] in CRATES else it for it in lines]
-    write(f"{tree}/crates.txt", "\n".join(["reached:", *lines]))
-    for part in ("src", "c"):
-        os.makedirs(f"{tree}/crates/reached/{part}")
-    write(f"{tree}/crates/reached/src/lib.rt", RUST)
+    marked, branches = read(f"{tree}/crates", ALL, Marked)
     own = C.replace("MOST", str(len(branches))).replace("KEPT", f'"{os.path.abspath(kept)}"')
-    write(f"{tree}/crates/reached/c/reached.c", own)
+    put_into(tree, marked, ALL, "reached", RUST, own)
     write(kept, "\0" * len(branches))
     # rt runs programs as nobody where it is root.
     os.chmod(kept, 0o666)
-
-
-def listed(path):
-    """The lines of a list, how often each stands there, and those without a reason above them."""
-    found, faults, reason = [], [], None
-    for line in text_of(path).split("\n"):
-        if line.startswith("# "):
-            reason = line
-        elif not line:
-            reason = None
-        elif reason is None:
-            faults.append(f"{os.path.basename(path)} doesn't say why of: {line}")
-        else:
-            found.append(line)
-    return collections.Counter(found), faults
 
 
 def judge(marks, branches, own, counted):
@@ -323,7 +174,7 @@ def tell(kept, counted):
     """Says what was reached; the status."""
     own, faults = listed(LISTED)
     marks = bytes_of(kept)
-    others, count, missed = judge(marks, read(f"{TOP}/crates")[1], own, counted)
+    others, count, missed = judge(marks, read(f"{TOP}/crates", ALL, Marked)[1], own, counted)
     for fault in faults + others:
         print(f"reached: {fault}")
     if faults or others:
@@ -335,7 +186,7 @@ def tell(kept, counted):
 def spoil(kept, counted):
     """Marks, lists and sources that are spoilt have to be noticed."""
     own, _ = listed(LISTED)
-    branches = read(f"{TOP}/crates")[1]
+    branches = read(f"{TOP}/crates", ALL, Marked)[1]
     marks = bytes_of(kept)
     reached = next(n for n, it in enumerate(marks) if it)
     without = {it: n for it, n in own.items() if it != next(iter(own))}
@@ -379,19 +230,18 @@ def main(words):
     if words[:1] == ["mark"] and len(words) == 3:
         return mark(*words[1:])
     if words[:1] == ["judge"] and len(words) == 2:
-        return tell(words[1], CRATES[:-1])
+        return tell(words[1], CRATES)
     if words[:1] == ["--spoil"] and len(words) == 2:
-        return spoil(words[1], CRATES[:-1])
+        return spoil(words[1], CRATES)
     if words:
         return __doc__
     with tempfile.TemporaryDirectory() as folder:
         os.chmod(folder, 0o755)
         tree, kept = f"{folder}/tree", f"{folder}/marks"
-        how = ["bash", "-c", '. checks/common/tests.sh; make_tree_with_tests "$1"', "", tree]
-        run(how, env={**os.environ, "top": TOP})
+        make_tree(tree)
         mark(tree, kept)
         ask_all(folder, tree)
-        return tell(kept, CRATES)
+        return tell(kept, ALL)
 
 
 if __name__ == "__main__":

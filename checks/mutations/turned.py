@@ -2,18 +2,20 @@
 """Turns the library's code, which mirrors its definitions, in one small way after another, and sees that a
 case or a test tells: so a definition that is wrong together with its code would be noticed, too.
 
-    turned.py [--only WORD] [--keep FOLDER] [--write]
+    turned.py [--only WORD] [--keep FOLDER] [--jobs NUMBER] [--write]
 
-Turned are, in the bodies of functions of the crates below: each comparison, whose bound then counts, or no
-longer; each term of `&&` and `||`, which then says nothing; each number, which then is one more (the
-greatest of a type: one less). No patterns and no constants. All stand in one copy behind a switch, the
-number in the environment's TURNED; the copies of `hidreport_cases` and of the tests are built once, without a
-proof. What no case and no test tells stands in unturned.txt, where a line says why: that is a fault
-where it isn't there, and where it is noticed after all.
+Turned are, in the bodies of functions of the library's crates: each comparison, whose bound then counts, or
+no longer; each term of `&&` and `||`, which then says nothing (left and right of the sign); each number,
+which then is one more (the greatest of a type: one less). No patterns and no constants. All stand in one
+copy behind a switch, the number in the environment's TURNED; the copies of `hidreport_cases` and of the
+tests are built once, without a proof. What no case and no test tells stands in unturned.txt, where a line
+says why, `3 x` before one that stands for three: that is a fault where it isn't there, and where it is
+noticed after all.
 
---only turns the files that have WORD in their names; --keep takes the programs of FOLDER where they are made of
-these sources, or builds them there; --write prints what isn't noticed as lines of unturned.txt. It takes
-half an hour. unturned.txt is empty as yet: what isn't noticed was not looked through.
+--only turns what has WORD in its line, as that stands in unturned.txt: FILE: WHAT: LINE. --keep takes the
+programs of FOLDER where they are made of these sources, or builds them there; so many as --jobs says are
+asked side by side; --write prints what isn't noticed as lines of unturned.txt, each as soon as it is known.
+The build takes two minutes, each way up to two seconds.
 """
 
 import argparse
@@ -32,79 +34,36 @@ import tempfile
 import threading
 from concurrent.futures import ThreadPoolExecutor
 
-from plants import CLANG, LINKER
-from reached import PAIRS, TOP, bytes_of, code_in, listed, run, text_of, write
+from sources import (
+    CRATES, PAIRS, TOP, Source, listed, make_kit, make_tree, put_into, read, run, switch, text_of, write,
+)
 
 LISTED = f"{TOP}/checks/mutations/unturned.txt"
-CRATES = ["hidreport_types", "hidreport_items", "hidreport_lists", "hidreport_fields", "hidreport", "hidreport_usages"]
-IS = "turned::turned({})"
-LESS = "turned::less({}, "
-# What two marks are together.
-TOGETHER = ("==", "!=", "<=", ">=", "&&", "||", "=>", "->", "::", "..")
+IS = "turned::stands_at({})"
+SWITCH = switch("TURNED")
 # What ends an operand of a comparison, and of `&&` and `||`.
 ENDS = {";", ",", ":", "=", "=>", "if", "while", "return", "match", "in", "else", "&&", "||", "closure", "->"}
+GREATEST = (0xFF, 0xFFFF, 0xFFFFFFFF, 2**31 - 1, 2**64 - 1)
 NUMBER = re.compile(r"(0x[0-9a-fA-F_]+|0b[01_]+|[0-9][0-9_]*)(u8|u16|u32|u64|u128|usize|i8|i16|i32|i64|i128)?")
 
-RUST = """//! What is turned.
-#![tactic(auto)]
-
-unsafe extern "C" {
-    safe fn turned_number() -> u32;
+# The programs, and how `rt try` builds each; NONE is a folder with an empty case.
+PROGRAMS = {
+    "hidreport_cases": ["--steps", "1", "--seconds", "60", "--cases", "NONE"],
+    "hidreport_tests": ["--test", "--seconds", "300"],
 }
-
-/// Whether it is the one with this number.
-pub fn turned(number: u32) -> bool {
-    turned_number() == number
-}
-"""
-C = """#include <stdlib.h>
-
-unsigned turned_number(void);
-
-/* The number in the environment; 0 is none. */
-unsigned turned_number(void)
-{
-    static int is_known;
-    static unsigned number;
-
-    if (!is_known) {
-        const char *word = getenv("TURNED");
-        number = word == NULL ? 0 : (unsigned)atoi(word);
-        is_known = 1;
-    }
-    return number;
-}
-"""
+# How long a program may compute that is turned, and how much memory it may have, in bytes.
+SECONDS, MEMORY = 15, 3 << 30
 
 
-def joined(code):
-    """The words of code, those together that mean something together."""
-    found = []
-    for word, start, end in code:
-        if found and found[-1][2] == start and found[-1][0] + word in TOGETHER:
-            word, start = found[-1][0] + word, found.pop()[1]
-        found.append((word, start, end))
-    return found
-
-
-class Source:
+class Turned(Source):
     """A source, and what is turned in it."""
 
-    def __init__(self, file, text, code, first):
-        self.file, self.text, self.code, self.first = file, text, joined(code), first
-        self.edits, self.turns = [], []
-        self.close, self.open = {}, {}
-        open_now = []
-        for n, (word, _, _) in enumerate(self.code):
-            if word in PAIRS:
-                open_now.append(n)
-            elif word in PAIRS.values():
-                self.close[open_now.pop()] = n
-        self.open = {end: start for start, end in self.close.items()}
+    def find(self):
+        """Turns what is in the bodies of functions."""
         self.patterns = set()
-
-    def word(self, n):
-        return self.code[n][0] if 0 <= n < len(self.code) else ""
+        for _, start, end in self.functions():
+            self.pass_patterns(start + 1, end)
+            self.body(start + 1, end)
 
     def is_spaced(self, n):
         """A sign with a space before and behind, as one between two operands has."""
@@ -113,44 +72,13 @@ class Source:
 
     def turn(self, n, kind):
         """A number for what is turned at a word."""
-        start = self.text.rfind(b"\n", 0, self.code[n][1]) + 1
-        line = self.text[start : self.text.find(b"\n", start)].decode().strip()
-        self.turns.append((self.file, f"{kind} {self.code[n][0]}", line))
-        return self.first + len(self.turns)
+        self.found.append((self.file, f"{kind} {self.word(n)}", self.line_at(self.at(n))))
+        return self.first + len(self.found)
 
-    def before(self, n, rank, text):
-        self.edits.append((self.code[n][1], 1, rank, text))
-
-    def behind(self, n, rank, text):
-        self.edits.append((self.code[n][2], 0, -rank, text))
-
-    def turned(self):
-        text, last = b"", 0
-        for place, _, _, said in sorted(self.edits, key=lambda it: it[:3]):
-            if isinstance(said, tuple):
-                text, last = text + self.text[last:place] + said[0].encode(), said[1]
-                continue
-            text += self.text[last:place] + said.encode()
-            last = place
-        return text + self.text[last:]
-
-    def find(self):
-        """Finds the bodies of functions and turns what is in them."""
-        n = 0
-        while n < len(self.code):
-            if self.word(n) == "fn" and self.word(n - 1) != "const" and self.word(n + 1) != "(":
-                n = self.function_at(n)
-            else:
-                n += 1
-
-    def function_at(self, n):
-        while self.word(n) not in ("{", ";"):
-            n = self.close[n] + 1 if self.word(n) in ("(", "[") else n + 1
-        if self.word(n) == ";":
-            return n + 1
-        self.pass_patterns(n + 1, self.close[n])
-        self.body(n + 1, self.close[n])
-        return self.close[n] + 1
+    def around(self, first, last, rank, before, behind):
+        """Puts texts before a word and behind another; those with a greater rank stand nearer."""
+        self.put(self.at(first), before, (1, rank))
+        self.put(self.code[last][2], behind, (0, -rank))
 
     def pass_patterns(self, n, end):
         """Notes where patterns stand, arguments of macros, and the ends of closures' parameters."""
@@ -164,10 +92,8 @@ class Source:
             elif word == "!" and self.word(n + 1) in PAIRS and self.code[n][1] == self.code[n - 1][2]:
                 self.patterns.update(range(n, self.close[n + 1]))
             elif word == "match":
-                start = n
-                while self.word(start) != "{":
-                    start = self.close[start] + 1 if self.word(start) in ("(", "[") else start + 1
-                self.pass_arms(start + 1, self.close[start])
+                for pattern, arrow, _ in self.arms(self.brace_behind(n)):
+                    self.patterns.update(range(pattern, arrow))
             elif word == "|" and self.word(n - 1) in ("(", ",", "=", "move"):
                 last = n + 1
                 while self.word(last) != "|":
@@ -176,21 +102,6 @@ class Source:
                 self.code[last] = ("closure", *self.code[last][1:])
             elif word == "||" and self.word(n - 1) in ("(", ",", "="):
                 self.code[n] = ("closure", *self.code[n][1:])
-            n += 1
-
-    def pass_arms(self, n, end):
-        while n < end:
-            first = n
-            while self.word(n) != "=>":
-                n = self.close[n] + 1 if self.word(n) in PAIRS else n + 1
-            self.patterns.update(range(first, n))
-            n += 1
-            if self.word(n) == "{":
-                n = self.close[n] + 1
-                n += self.word(n) == ","
-                continue
-            while n < end and self.word(n) != ",":
-                n = self.close[n] + 1 if self.word(n) in PAIRS else n + 1
             n += 1
 
     def left(self, n, ends):
@@ -226,26 +137,23 @@ class Source:
         first, last = self.left(at, ENDS), self.right(at, ENDS)
         number = self.turn(at, "bound")
         if self.word(at) in ("==", "!="):
-            self.before(first, 3, "((")
-            self.behind(last, 3, f") != {IS.format(number)})")
+            self.around(first, last, 3, "((", f") != {IS.format(number)})")
             return
-        left = self.text[self.code[first][1] : self.code[at - 1][2]].decode()
-        right = self.text[self.code[at + 1][1] : self.code[last][2]].decode()
-        self.before(first, 3, "((")
-        self.behind(last, 3, f") != ({IS.format(number)} && ({left}) == ({right})))")
+        left = self.text[self.at(first) : self.code[at - 1][2]].decode()
+        right = self.text[self.at(at + 1) : self.code[last][2]].decode()
+        self.around(first, last, 3, "((", f") != ({IS.format(number)} && ({left}) == ({right})))")
 
     def terms(self, at, word, terms):
         """Both terms beside a sign, each once."""
         ends = ENDS - {"&&"} if word == "||" else ENDS
         rank = 1 if word == "||" else 2
-        for first, last in ((self.left(at, ends), at - 1), (at + 1, self.right(at, ends))):
+        for side, first, last in (("left", self.left(at, ends), at - 1), ("right", at + 1, self.right(at, ends))):
             if (first, last) in terms or self.is_matched(first):
                 continue
             terms.add((first, last))
-            number = self.turn(at, "term")
+            number = self.turn(at, side)
             without = f"|| {IS.format(number)}" if word == "&&" else f"&& !{IS.format(number)}"
-            self.before(first, rank, "((")
-            self.behind(last, rank, f") {without})")
+            self.around(first, last, rank, "((", f") {without})")
 
     def is_matched(self, first):
         """A term that is matched with a pattern."""
@@ -259,80 +167,49 @@ class Source:
     def number(self, at, word):
         digits, suffix = NUMBER.fullmatch(word).groups()
         value = int(digits.replace("_", ""), 0) if not digits.isdigit() else int(digits)
-        other = value - 1 if value in (0xFF, 0xFFFF, 0xFFFFFFFF, 2**31 - 1, 2**64 - 1) else value + 1
-        number = self.turn(at, "number")
-        text = f"(if {IS.format(number)} {{ {other}{suffix or ''} }} else {{ {word} }})"
-        self.edits.append((self.code[at][1], 1, 9, (text, self.code[at][2])))
+        other = value - 1 if value in GREATEST else value + 1
+        text = f"(if {IS.format(self.turn(at, 'number'))} {{ {other}{suffix or ''} }} else {{ {word} }})"
+        self.put(self.at(at), text, (1, 9), self.code[at][2])
 
 
-def read(folder):
-    turned, turns, files = {}, [], []
-    for crate in CRATES:
-        files += sorted(glob.glob(f"{folder}/{crate}/src/**/*.rt", recursive=True))
-    for file, code in code_in(files).items():
-        source = Source(os.path.relpath(file, folder), bytes_of(file), code, len(turns))
-        source.find()
-        turned[file] = source.turned()
-        turns += source.turns
-    return turned, turns
-
-
-def sum_of(turned):
-    """A sum over what the programs are made of."""
-    made = run(["sh", "tools/program.sh", "code", "hidreport"]).stdout + RUST + C
-    for file in sorted(glob.glob(f"{TOP}/tests/**/*.source", recursive=True)):
+def sum_of(program, turned):
+    """A sum over what a program is made of."""
+    made = run(["sh", "tools/program.sh", "code", "hidreport"]).stdout + "".join(SWITCH)
+    for file in sorted(glob.glob(f"{TOP}/tests/{program}/src/*.source")):
         made += text_of(file)
     return hashlib.sha256(made.encode() + repr(sorted(turned.items())).encode()).hexdigest()
 
 
-def make_kit(folder, kept):
-    """A kit whose programs have no AddressSanitizer, so that their memory can be bounded, and are kept."""
-    run(["bash", "checks/common/unproved.sh", "--kit", folder])
-    tools = f"{os.path.dirname(run(['rt', 'doc']).stdout)}/toolchain/bin"
-    for name, text in (("clang", CLANG % ((f"{tools}/clang",) * 2)), ("ld.lld", LINKER % (f"{tools}/ld.lld", kept, f"{tools}/ld.lld"))):
-        os.unlink(f"{folder}/toolchain/bin/{name}")
-        write(f"{folder}/toolchain/bin/{name}", text)
-        os.chmod(f"{folder}/toolchain/bin/{name}", 0o755)
-
-
 def build(folder):
     """The programs that ask the cases and run the tests, all turned behind the switch; and what is turned."""
-    tree = f"{folder}/tree"
-    _, turns = read(f"{TOP}/crates")
-    wanted = sum_of(read(f"{TOP}/crates")[0])
-    if os.path.exists(f"{folder}/sum") and text_of(f"{folder}/sum") == wanted:
+    turned, turns = read(f"{TOP}/crates", CRATES, Turned)
+    sums = {program: sum_of(program, turned) for program in PROGRAMS}
+    there = {it: text_of(f"{folder}/{it}.sum") for it in PROGRAMS if os.path.exists(f"{folder}/{it}.sum")}
+    if there == sums:
         return turns
-    os.makedirs(folder, exist_ok=True)
-    shutil.rmtree(tree, ignore_errors=True)
-    run(["bash", "-c", '. checks/common/tests.sh; make_tree_with_tests "$1"', "", tree], env={**os.environ, "top": TOP})
-    for file, text in read(f"{tree}/crates")[0].items():
-        write(file, text)
-    lines = text_of(f"{tree}/crates.txt").split("\n")
-    lines = [f"{it} turned" if it.split(":")[0] in CRATES else it for it in lines]
-    write(f"{tree}/crates.txt", "\n".join(["turned:", *lines]))
-    for part, text in (("src/lib.rt", RUST), ("c/turned.c", C)):
-        os.makedirs(f"{tree}/crates/turned/{part.split('/')[0]}")
-        write(f"{tree}/crates/turned/{part}", text)
-    os.makedirs(f"{folder}/none")
+    os.makedirs(f"{folder}/none", exist_ok=True)
     write(f"{folder}/none/1", "")
-    for crate, words in (
-        ("hidreport_cases", ["--steps", "1", "--seconds", "60", "--cases", f"{folder}/none"]),
-        ("hidreport_tests", ["--test", "--seconds", "300"]),
-    ):
-        make_kit(f"{folder}/kit_{crate}", f"{folder}/{crate}")
+    tree = f"{folder}/tree"
+    shutil.rmtree(tree, ignore_errors=True)
+    make_tree(tree)
+    put_into(tree, read(f"{tree}/crates", CRATES, Turned)[0], CRATES, "turned", *SWITCH)
+    for program in [it for it in PROGRAMS if there.get(it) != sums[it]]:
+        kit = f"{folder}/kit_{program}"
+        shutil.rmtree(kit, ignore_errors=True)
+        with contextlib.suppress(FileNotFoundError):
+            os.unlink(f"{folder}/{program}")
+        make_kit(kit, f"{folder}/{program}")
+        words = [it.replace("NONE", f"{folder}/none") for it in PROGRAMS[program]]
         env = {**os.environ, "RT_ALLOW_C": "1", "TMPDIR": folder}
-        done = run([f"{folder}/kit_{crate}/bin/rt", "try", *words], f"{tree}/crates/{crate}", env=env)
-        if not os.path.exists(f"{folder}/{crate}"):
-            sys.exit(f"turned: {crate} isn't built: {done.stdout[-3000:]}{done.stderr[-3000:]}")
-    write(f"{folder}/sum", wanted)
+        done = run([f"{kit}/bin/rt", "try", *words], f"{tree}/crates/{program}", env=env)
+        if not os.path.exists(f"{folder}/{program}"):
+            sys.exit(f"turned: {program} isn't built: {done.stdout[-3000:]}{done.stderr[-3000:]}")
+        write(f"{folder}/{program}.sum", sums[program])
     return turns
 
 
-# How long a program may take that is turned, in seconds, and how much memory, in bytes.
-SECONDS, MEMORY = 15, 3 << 30
-
-
 def bounded():
+    resource.setrlimit(resource.RLIMIT_CPU, (SECONDS, SECONDS))
     resource.setrlimit(resource.RLIMIT_AS, (MEMORY, MEMORY))
     resource.setrlimit(resource.RLIMIT_CORE, (0, 0))
 
@@ -344,72 +221,84 @@ class Asker:
         self.cases, self.tests = f"{folder}/hidreport_cases", f"{folder}/hidreport_tests"
         at = f"{TOP}/tests/hidreport_cases"
         self.words, self.data, self.wanted = text_of(f"{at}/args").split(), f"{at}/data", text_of(f"{at}/stdout")
-        self.passed = text_of(f"{TOP}/tests/hidreport_tests/stdout")
+        passed = text_of(f"{TOP}/tests/hidreport_tests/stdout")
+        self.passed = sorted(line for line in passed.split("\n") if line.startswith("test "))
         self.runner = f"{os.path.dirname(run(['rt', 'doc']).stdout)}/bin/rattle-test"
 
     def begin(self, words, number):
         env = {**os.environ, "TURNED": str(number)}
-        how = {"stdout": subprocess.PIPE, "stderr": subprocess.PIPE, "start_new_session": True, "preexec_fn": bounded}
-        return subprocess.Popen(words, cwd=self.data, env=env, **how)
+        how = {"stdout": subprocess.PIPE, "stderr": subprocess.STDOUT, "text": True, "errors": "replace"}
+        return subprocess.Popen(words, cwd=self.data, env=env, start_new_session=True, preexec_fn=bounded, **how)
 
     def cases_tell(self, number):
         """A case is answered otherwise; the first that is, is enough."""
         started = self.begin([self.cases, *self.words], number)
-        timer = threading.Timer(SECONDS, os.killpg, (started.pid, signal.SIGKILL))
+        timer = threading.Timer(10 * SECONDS, os.killpg, (started.pid, signal.SIGKILL))
         timer.start()
         try:
-            told = started.stderr.readline()
-            return bool(told) or started.stdout.read().decode() != self.wanted or started.wait() != 0
+            said = started.stdout.readline()
+            if not self.wanted.startswith(said) or said + started.stdout.read() != self.wanted:
+                return True
+            return started.wait() != 0
         finally:
             timer.cancel()
-            with contextlib.suppress(OSError):
+            if started.poll() is None:
                 os.killpg(started.pid, signal.SIGKILL)
             started.communicate()
 
     def tests_tell(self, number):
         """A test doesn't pass."""
-        started = self.begin([self.runner, "--seconds", str(SECONDS), self.tests], number)
-        out, _ = started.communicate()
-        ran = [line for line in out.decode(errors="replace").split("\n") if line.startswith("test ")]
-        return sorted(ran) != sorted(it for it in self.passed.split("\n") if it.startswith("test "))
+        started = self.begin([self.runner, "--seconds", str(10 * SECONDS), self.tests], number)
+        said, _ = started.communicate()
+        return self.passed != sorted(it for it in said.split("\n") if it.startswith("test "))
 
     def tell(self, number):
         return self.cases_tell(number) or self.tests_tell(number)
 
 
-def line_of(turn):
-    file, what, line = turn
-    return f"{file}: {what}: {line}"
+def listed_ways(only):
+    """What unturned.txt has of what has the word, each so often as it says, and what is wrong there."""
+    lines, faults = listed(LISTED)
+    own = collections.Counter()
+    for line, times in lines.items():
+        count, way = re.fullmatch(r"(?:(\d+) x )?(.*)", line).groups()
+        own[way] += times * int(count or 1)
+    return collections.Counter({it: n for it, n in own.items() if only in it}), faults
 
 
 def main():
     parser = argparse.ArgumentParser()
     parser.add_argument("--only", default="")
     parser.add_argument("--keep")
+    parser.add_argument("--jobs", type=int, default=len(os.sched_getaffinity(0)))
     parser.add_argument("--write", action="store_true")
     words = parser.parse_args()
+    silent = collections.Counter()
     with contextlib.ExitStack() as stack:
         folder = os.path.abspath(words.keep or stack.enter_context(tempfile.TemporaryDirectory()))
-        turns = build(folder)
+        lines = dict(enumerate((": ".join(it) for it in build(folder)), 1))
         asker = Asker(folder)
         if asker.tell(0):
             sys.exit("turned: where nothing is turned a case or a test tells something")
-        chosen = [n for n, turn in enumerate(turns, 1) if words.only in turn[0]]
-        with ThreadPoolExecutor(len(os.sched_getaffinity(0))) as pool:
-            told = dict(zip(chosen, pool.map(asker.tell, chosen)))
-    silent = collections.Counter(line_of(turns[n - 1]) for n in chosen if not told[n])
+        chosen = [number for number, line in lines.items() if words.only in line]
+        with ThreadPoolExecutor(words.jobs) as pool:
+            for number, is_told in zip(chosen, pool.map(asker.tell, chosen)):
+                if is_told:
+                    continue
+                silent[lines[number]] += 1
+                if words.write:
+                    print(lines[number], flush=True)
     if words.write:
-        print("\n".join(sorted(silent.elements())))
         return 0
-    own, faults = listed(LISTED)
-    own = collections.Counter({it: n for it, n in own.items() if words.only in it.split(":")[0]})
+    own, faults = listed_ways(words.only)
     faults += [f"nothing tells {it}" for it in (silent - own).elements()]
     faults += [f"unturned.txt has what is noticed or isn't there: {it}" for it in (own - silent).elements()]
     for fault in faults:
         print(f"turned: {fault}")
     if faults:
         return f"turned: {len(faults)} faults"
-    print(f"turned: {len(chosen)} ways, {len(chosen) - silent.total()} of them noticed, the others are listed with a reason")
+    told = len(chosen) - silent.total()
+    print(f"turned: {told} of {len(chosen)} ways are noticed, {silent.total()} are listed with a reason")
     return 0
 
 
