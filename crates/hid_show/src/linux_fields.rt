@@ -152,7 +152,7 @@ impl Shown {
             if let Some(field) = field
                 && group.is_variable()
             {
-                let answers = self.rest_answers(read, field, &mut item, own.len())?;
+                let answers = self.rest_answers(read, field, group, &mut item)?;
                 self.show_rest(place, group, &answers, open.len())?;
                 flush_piece(rt, &mut self.text)?;
             }
@@ -191,19 +191,21 @@ impl Shown {
         }
     }
 
-    /// What Linux gives the usages of a field that are left when so many elements have one each.
+    /// What Linux gives the usages of a field that are left when each of its elements has one. Where
+    /// hid-core may read otherwise, there are no more than the group names.
     fn rest_answers(
         &mut self,
         read: &LinuxDevice,
         field: &LinuxField,
+        group: &Group,
         item: &mut Item,
-        elements: usize,
     ) -> Result<Vec<Answered>, AllocError> {
         let mut rest = Vec::new(*self.text.allocator());
         let mut last = 0;
+        let (elements, named) = (group.field_count(), group.usage_count());
         for (index, usage) in read.reading().usages(field).enumerate() {
             last = u32::from(usage);
-            if index >= elements {
+            if index >= elements && (index as u128) < named {
                 rest.push(usage)?;
             }
         }

@@ -1,4 +1,7 @@
 //! The items with data that hid-core keeps as fields.
+ghost use Rattle.std.specs.Prelude.{◌≡◌, ◌++◌, OnOk};
+ghost use Rattle.hidreport_linux.specs.FieldOrder.{fields_in, fields_of};
+
 use crate::linux_field::{LinuxField, LinuxReport};
 use crate::place::Place;
 use crate::reading::LinuxReading;
@@ -12,7 +15,7 @@ impl LinuxReading {
     ghost use Rattle.std.specs.Prelude.{◌≡◌, ◌++◌, drop, IfOk, OnOk, take};
     ghost use Rattle.hidreport_linux.specs.CoreFields.{field_of, if_field, place_by, with_field, with_order};
     ghost use Rattle.hidreport_linux.specs.CoreKept.{around_in_force};
-    ghost use Rattle.hidreport_linux.specs.FieldOrder.{fields_in, fields_in_order, fields_of, usages_left, usages_named, usages_of};
+    ghost use Rattle.hidreport_linux.specs.FieldOrder.{fields_in_order, usages_left, usages_named, usages_of};
 
     /// A report is registered at its first item.
     pub(crate) fn register_report(&mut self, direction: Direction) -> Result<(), AllocError>
@@ -126,44 +129,10 @@ impl LinuxReading {
         ensures { IfOk result (λ fields. fields.items ≡ fields_in_order self.now) }
     {
         let mut fields = Vec::new(alloc);
-        self.add_fields_in(Direction::Input, &mut fields)?;
-        self.add_fields_in(Direction::Output, &mut fields)?;
-        self.add_fields_in(Direction::Feature, &mut fields)?;
+        add_fields_in(Direction::Input, &self.order, &self.fields, &mut fields)?;
+        add_fields_in(Direction::Output, &self.order, &self.fields, &mut fields)?;
+        add_fields_in(Direction::Feature, &self.order, &self.fields, &mut fields)?;
         Ok(fields)
-    }
-
-    /// Adds the fields of a direction.
-    fn add_fields_in(
-        &self,
-        direction: Direction,
-        fields: &mut Vec<LinuxField>,
-    ) -> Result<(), AllocError>
-        ensures { OnOk result (fields.new.items
-            ≡ fields.old.items ++ fields_in direction self.now.fields self.now.order) }
-    {
-        for report in &self.order {
-            if report.lies_in(direction) {
-                self.add_fields_of(report, fields)?;
-            }
-        }
-        Ok(())
-    }
-
-    /// Adds the fields of a report.
-    fn add_fields_of(
-        &self,
-        report: &LinuxReport,
-        fields: &mut Vec<LinuxField>,
-    ) -> Result<(), AllocError>
-        ensures { OnOk result (fields.new.items
-            ≡ fields.old.items ++ fields_of report.now self.now.fields) }
-    {
-        for field in &self.fields {
-            if report.has(field) {
-                fields.push(*field)?;
-            }
-        }
-        Ok(())
     }
 
     /// The usages of one of the fields that hid-input goes over, at most 12,288: none where the
@@ -187,4 +156,38 @@ impl LinuxReading {
             None => &[],
         }
     }
+}
+
+/// Adds those of all fields that are of reports of a direction, report by report.
+fn add_fields_in(
+    direction: Direction,
+    reports: &[LinuxReport],
+    all: &[LinuxField],
+    fields: &mut Vec<LinuxField>,
+) -> Result<(), AllocError>
+    ensures { OnOk result (fields.new.items
+        ≡ fields.old.items ++ fields_in direction all.now reports.now) }
+{
+    for report in reports {
+        if report.lies_in(direction) {
+            add_fields_of(report, all, fields)?;
+        }
+    }
+    Ok(())
+}
+
+/// Adds those of all fields that are of a report.
+fn add_fields_of(
+    report: &LinuxReport,
+    all: &[LinuxField],
+    fields: &mut Vec<LinuxField>,
+) -> Result<(), AllocError>
+    ensures { OnOk result (fields.new.items ≡ fields.old.items ++ fields_of report.now all.now) }
+{
+    for field in all {
+        if report.has(field) {
+            fields.push(*field)?;
+        }
+    }
+    Ok(())
 }
