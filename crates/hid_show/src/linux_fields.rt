@@ -137,22 +137,26 @@ impl Shown {
         let mut kept = kept;
         let mut fields = report.fields();
         let mut open: &[Collection] = &[];
+        let is_known = read.reading().doubt().is_none();
         for group in outline.groups() {
             let (own, rest) = fields.split_at(group.field_count().min(fields.len()));
             fields = rest;
-            let field = if group.is_constant() {
-                None
-            } else {
-                let (field, rest) = self.next_shown(read, kept)?;
-                kept = rest;
-                field
+            let mut field = None;
+            if is_known && !group.is_constant() {
+                let count = self.pass_hidden(read, kept)?;
+                let rest = kept.get(count..).unwrap_or(&[]);
+                field = rest.first();
+                kept = rest.get(1..).unwrap_or(&[]);
+            }
+            let mut item = match field {
+                Some(field) => self.devices.begin_field(field)?,
+                None => self.devices.begin(direction, group),
             };
-            let mut item = self.begin(read, direction, group, field)?;
             open = self.show_item(rt, direction, report, &mut item, own, open)?;
             if let Some(field) = field
                 && group.is_variable()
             {
-                let answers = self.rest_answers(read, field, group, &mut item)?;
+                let answers = self.rest_answers(read, field, &mut item, own.len())?;
                 self.show_rest(place, group, &answers, open.len())?;
                 flush_piece(rt, &mut self.text)?;
             }
@@ -160,52 +164,37 @@ impl Shown {
         Ok(kept)
     }
 
-    /// The next field that has values, and those behind it; goes over the usages of those before it.
-    fn next_shown<'a>(
+    /// Goes over the usages of the fields before the next that is shown, and answers how many fields
+    /// these are: padding, and those without bits.
+    fn pass_hidden(
         &mut self,
         read: &LinuxDevice,
-        kept: &'a [LinuxField],
-    ) -> Result<(Option<&'a LinuxField>, &'a [LinuxField])> {
-        for (index, field) in kept.iter().enumerate() {
+        kept: &[LinuxField],
+    ) -> Result<usize, AllocError> {
+        let mut count: usize = 0;
+        for field in kept {
             if !field.place.is_constant && field.size > 0 && field.count > 0 {
-                let behind = kept.get(index.saturating_add(1)..).unwrap_or(&[]);
-                return Ok((Some(field), behind));
+                break;
             }
             read.reading().pass_field(field, &mut self.devices)?;
+            count = count.saturating_add(1);
         }
-        Ok((None, &[]))
+        Ok(count)
     }
 
-    /// Goes on to a group, by the field that hid-core keeps of it: where it may read otherwise, by the
-    /// group alone.
-    fn begin(
-        &mut self,
-        read: &LinuxDevice,
-        direction: Direction,
-        group: &Group,
-        field: Option<&LinuxField>,
-    ) -> Result<Item, AllocError> {
-        match field {
-            Some(field) if read.reading().doubt().is_none() => self.devices.begin_field(field),
-            _ => Ok(self.devices.begin(direction, group)),
-        }
-    }
-
-    /// What Linux gives the usages of a field that are left when each of its elements has one. Where
-    /// hid-core may read otherwise, there are no more than the group names.
+    /// What Linux gives the usages of a field that are left when each of its elements has one.
     fn rest_answers(
         &mut self,
         read: &LinuxDevice,
         field: &LinuxField,
-        group: &Group,
         item: &mut Item,
+        elements: usize,
     ) -> Result<Vec<Answered>, AllocError> {
         let mut rest = Vec::new(*self.text.allocator());
         let mut last = 0;
-        let (elements, named) = (group.field_count(), group.usage_count());
         for (index, usage) in read.reading().usages(field).enumerate() {
             last = u32::from(usage);
-            if index >= elements && (index as u128) < named {
+            if index >= elements {
                 rest.push(usage)?;
             }
         }

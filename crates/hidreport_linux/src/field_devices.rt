@@ -1,10 +1,13 @@
 //! The input devices of a descriptor, field by field.
-ghost use Rattle.std.specs.Prelude.{◌≡◌};
+ghost use Rattle.std.specs.Prelude.{OnOk};
+ghost use Rattle.hidreport_linux.specs.FieldDevices.{GoesOver, PassesFields};
+ghost use Rattle.hidreport_linux.specs.FieldOrder.{usages_left};
 
 use crate::input_devices::InputDevices;
 use crate::item::Item;
 use crate::linux_field::LinuxField;
 use crate::reading::LinuxReading;
+use crate::reading::field_usages::FieldUsages;
 use std::alloc::{AllocError, Global};
 
 impl InputDevices {
@@ -31,18 +34,25 @@ impl InputDevices {
 }
 
 impl LinuxReading {
+    ghost use Rattle.std.specs.Prelude.{◌≡◌, IfOk, OnErr, OnOk};
+    ghost use Rattle.hidreport_linux.specs.CoreReading.{unmapped_in};
+    ghost use Rattle.hidreport_linux.specs.Devices.{no_devices};
+    ghost use Rattle.hidreport_linux.specs.FieldDevices.{PassesField, PassesFields};
+    ghost use Rattle.hidreport_linux.specs.FieldOrder.{fields_in_order};
+
     /// The input devices that Linux makes of the descriptor, behind all usages: what the axes and
     /// the codes beside an event are in the end.
     ///
     /// # Errors
     ///
     /// - `AllocError`: memory for the fields or an input device is refused.
-    pub fn input_devices_behind(&self, alloc: Global) -> Result<InputDevices, AllocError> {
+    pub fn input_devices_behind(&self, alloc: Global) -> Result<InputDevices, AllocError>
+        ensures { IfOk result (λ devices. PassesFields self.now (fields_in_order self.now)
+            (no_devices self.now.applications (unmapped_in self.now)) devices) }
+    {
         let mut devices = self.input_devices(alloc);
         let fields = self.fields(alloc)?;
-        for field in &fields {
-            self.pass_field(field, &mut devices)?;
-        }
+        pass_fields(self, &fields, &mut devices)?;
         Ok(devices)
     }
 
@@ -55,11 +65,38 @@ impl LinuxReading {
         &self,
         field: &LinuxField,
         devices: &mut InputDevices,
-    ) -> Result<(), AllocError> {
-        let mut item = devices.begin_field(field)?;
-        for usage in self.usages(field) {
-            let _answer = devices.event(&mut item, usage);
-        }
+    ) -> Result<(), AllocError>
+        ensures passed { OnOk result (PassesField self.now field.now devices.old devices.new) }
+        ensures refused { OnErr result (devices.new ≡ devices.old) }
+    {
+        let item = devices.begin_field(field)?;
+        pass_usages(devices, item, self.usages(field));
         Ok(())
+    }
+}
+
+/// Goes over fields, one after the other.
+fn pass_fields(
+    reading: &LinuxReading,
+    fields: &[LinuxField],
+    devices: &mut InputDevices,
+) -> Result<(), AllocError>
+    ensures { OnOk result (PassesFields reading.now fields.now devices.old devices.new) }
+{
+    for field in fields {
+        reading.pass_field(field, devices)?;
+    }
+    Ok(())
+}
+
+/// Goes over usages of an item, one after the other.
+fn pass_usages(devices: &mut InputDevices, item: Item, usages: FieldUsages<'_>)
+    ensures { GoesOver item
+        (usages_left usages.entry.number usages.entry.more usages.entry.named.now)
+        devices.old devices.new }
+{
+    let mut item = item;
+    for usage in usages {
+        let _answer = devices.event(&mut item, usage);
     }
 }

@@ -125,6 +125,27 @@ impl LinuxReading {
     /// # Errors
     ///
     /// - `AllocError`: memory for the list is refused.
+    ///
+    /// # Examples
+    ///
+    /// ```rust
+    /// use hidreport_linux::LinuxDevice;
+    ///
+    /// // A mouse that says its X and Y.
+    /// let bytes = b"\x05\x01\x09\x02\xa1\x01\x09\x30\x09\x31\x25\x7f\x75\x08\x95\x02\x81\x06\xc0";
+    /// let device = LinuxDevice::of(alloc, bytes, None)?;
+    /// let reading = device.reading();
+    /// let mut devices = device.input_devices(alloc);
+    /// let mut names = ["REL_X", "REL_Y"].iter();
+    /// for field in &reading.fields(alloc)? {
+    ///     let mut item = devices.begin_field(field)?;
+    ///     for usage in reading.usages(field) {
+    ///         let event = devices.event(&mut item, usage);
+    ///         let name = event.ok().and_then(|event| event.code.name());
+    ///         assert_eq!(rt; name, names.next().copied());
+    ///     }
+    /// }
+    /// ```
     pub fn fields(&self, alloc: Global) -> Result<Vec<LinuxField>, AllocError>
         ensures { IfOk result (λ fields. fields.items ≡ fields_in_order self.now) }
     {

@@ -4,8 +4,8 @@ use Rattle.hidreport_linux.specs.CoreReading.{behind_id, if_contact, if_elements
 use Rattle.hidreport_linux.specs.CoreReading.{with_report}
 use Rattle.hidreport_linux.proofs.reading.LinuxReading.pass_parts.Goals as goal
 
-pub returns-in_ok-keep_field : goal.returns-in_ok-keep_field
-returns-in_ok-keep_field c =
+pub returns : goal.returns
+returns c =
     c.pass_id.ensures ∙ ap (behind_id c.args.offset)
     (c.in_ok-keep_field.ensures ∙ ap (if_field c.args.offset c.args.direction c.args.flags)
     (c.note_elements.ensures ∙ ap (if_elements c.args.offset c.args.direction)
