@@ -137,26 +137,22 @@ impl Shown {
         let mut kept = kept;
         let mut fields = report.fields();
         let mut open: &[Collection] = &[];
-        let is_known = read.reading().doubt().is_none();
         for group in outline.groups() {
             let (own, rest) = fields.split_at(group.field_count().min(fields.len()));
             fields = rest;
             let mut field = None;
-            if is_known && !group.is_constant() {
+            if !group.is_constant() {
                 let count = self.pass_hidden(read, kept)?;
                 let rest = kept.get(count..).unwrap_or(&[]);
                 field = rest.first();
                 kept = rest.get(1..).unwrap_or(&[]);
             }
-            let mut item = match field {
-                Some(field) => self.devices.begin_field(field)?,
-                None => self.devices.begin(direction, group),
-            };
+            let mut item = self.begin(read, direction, group, field)?;
             open = self.show_item(rt, direction, report, &mut item, own, open)?;
             if let Some(field) = field
                 && group.is_variable()
             {
-                let answers = self.rest_answers(read, field, &mut item, own.len())?;
+                let answers = self.rest_answers(read, field, group, &mut item)?;
                 self.show_rest(place, group, &answers, open.len())?;
                 flush_piece(rt, &mut self.text)?;
             }
@@ -182,19 +178,36 @@ impl Shown {
         Ok(count)
     }
 
-    /// What Linux gives the usages of a field that are left when each of its elements has one.
+    /// Goes on to a group, by the field that hid-core keeps of it; where hid-core may read otherwise, by
+    /// the group alone.
+    fn begin(
+        &mut self,
+        read: &LinuxDevice,
+        direction: Direction,
+        group: &Group,
+        field: Option<&LinuxField>,
+    ) -> Result<Item, AllocError> {
+        match field {
+            Some(field) if read.reading().doubt().is_none() => self.devices.begin_field(field),
+            _ => Ok(self.devices.begin(direction, group)),
+        }
+    }
+
+    /// What Linux gives the usages of a field that are left when each of its elements has one, up to
+    /// as many as the group names.
     fn rest_answers(
         &mut self,
         read: &LinuxDevice,
         field: &LinuxField,
+        group: &Group,
         item: &mut Item,
-        elements: usize,
     ) -> Result<Vec<Answered>, AllocError> {
         let mut rest = Vec::new(*self.text.allocator());
         let mut last = 0;
+        let (elements, named) = (group.field_count(), group.usage_count());
         for (index, usage) in read.reading().usages(field).enumerate() {
             last = u32::from(usage);
-            if index >= elements {
+            if index >= elements && (index as u128) < named {
                 rest.push(usage)?;
             }
         }

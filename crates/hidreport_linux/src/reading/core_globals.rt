@@ -1,4 +1,7 @@
 //! The global items that matter, as hid-core keeps them.
+ghost use Rattle.std.specs.Prelude.{◌≡◌};
+ghost use Rattle.hidreport_linux.specs.CoreKept.{maximum_by};
+
 use crate::axis::Measures;
 
 /// Their numbers, 0 where they are unset.
@@ -20,7 +23,7 @@ impl CoreGlobals {
     ghost use Rattle.std.specs.Prelude.{◌≡◌};
     ghost use Rattle.hidreport_linux.specs.Asking.{exponent_of};
     ghost use Rattle.hidreport_linux.specs.CoreFields.{measures_by};
-    ghost use Rattle.hidreport_linux.specs.CoreKept.{are_below, are_widest, maximum_by, no_globals};
+    ghost use Rattle.hidreport_linux.specs.CoreKept.{are_below, are_widest, no_globals};
 
     /// Before the first item.
     pub(crate) fn none() -> CoreGlobals
@@ -46,11 +49,7 @@ impl CoreGlobals {
           maximum = maximum_by self.old.minimum signed number;
         } }
     {
-        self.maximum = if self.minimum < 0 {
-            signed
-        } else {
-            number.cast_signed()
-        };
+        self.maximum = maximum_by(self.minimum, signed, number);
     }
 
     /// A Physical Maximum, which has no sign where its minimum has none.
@@ -59,11 +58,7 @@ impl CoreGlobals {
           physical_maximum = maximum_by self.old.physical_minimum signed number;
         } }
     {
-        self.physical_maximum = if self.physical_minimum < 0 {
-            signed
-        } else {
-            number.cast_signed()
-        };
+        self.physical_maximum = maximum_by(self.physical_minimum, signed, number);
     }
 
     /// A Unit Exponent, of four bits or of all.
@@ -106,5 +101,16 @@ impl CoreGlobals {
         ensures { result ≡ are_widest self.now }
     {
         self.minimum <= i32::MIN && i32::MAX <= self.maximum
+    }
+}
+
+/// A maximum, with and without a sign: it has none where the minimum has none.
+fn maximum_by(minimum: i32, signed: i32, number: u32) -> i32
+    ensures { result ≡ maximum_by minimum signed number }
+{
+    if minimum < 0 {
+        signed
+    } else {
+        number.cast_signed()
     }
 }
