@@ -1,5 +1,5 @@
 //! `hid fields --linux`: each field with the event codes that Linux gives its usages.
-use anyhow::Result;
+use anyhow::{Result, bail};
 use hid_input::input::descriptor_named;
 use hid_input::linux_read::{read_by_linux, tell_mended};
 use hid_input::settings::Settings;
@@ -9,7 +9,7 @@ use hid_objects::linux::{Answered, add_answers, add_lines, answers_of, objects_o
 use hid_output::ending::Ending;
 use hid_output::{add_json, flush, flush_piece};
 use hid_report::{FieldLine, add_head, around};
-use hid_words::{add_field, add_spaces, indent_of};
+use hid_words::{add_field, add_spaces, fault_words, indent_of};
 use hidreport::{
     Collection, Direction, Field, Group, OutlineReport, RDescReport, Report, ReportDescriptor,
     Usage,
@@ -29,6 +29,8 @@ pub fn show_linux<R: World>(rt: &R, settings: &Settings, file: &str) -> Result<E
     }
     let descriptor = read.outline().lay_out(rt.alloc())?;
     let reading = read.reading();
+    let fields = reading.fields(rt.alloc())?;
+    check_usages(settings, &fields)?;
     let mut shown = Shown {
         text: String::new(rt.alloc()),
         devices: reading.input_devices(rt.alloc()),
@@ -36,7 +38,6 @@ pub fn show_linux<R: World>(rt: &R, settings: &Settings, file: &str) -> Result<E
         is_json: settings.is_json,
         is_coloured: settings.is_coloured,
     };
-    let fields = reading.fields(rt.alloc())?;
     for direction in Direction::ALL {
         for kept in reading.reports() {
             if kept.direction == direction {
@@ -50,6 +51,28 @@ pub fn show_linux<R: World>(rt: &R, settings: &Settings, file: &str) -> Result<E
         tell(rt, reading.doubt(), reading.driver())?;
     }
     Ok(Ending::Done)
+}
+
+/// Refuses fields that name more usages than may be listed.
+fn check_usages(settings: &Settings, fields: &[LinuxField]) -> Result<()> {
+    let Some(limit) = settings.parse.limit else {
+        return Ok(());
+    };
+    let mut listed: usize = 0;
+    let mut past = None;
+    for field in fields {
+        listed = listed.saturating_add(field.usages as usize);
+        if past.is_none() && listed > limit {
+            past = Some(field.offset);
+        }
+    }
+    match past {
+        Some(offset) => {
+            let words = fault_words(&ParserError::BudgetExceeded { offset });
+            bail!("{words} at offset {offset}: --limit {listed} is enough")
+        }
+        None => Ok(()),
+    }
 }
 
 /// Those of all fields in order that are of a report.

@@ -50,6 +50,7 @@ field_of offset d flags report r = record {
   is_variable = flags / 2 % 2 == 1;
   size = r.globals.size;
   count = r.globals.count;
+  usages = r.locals.usages.count;
   left_out = r.locals.left_out;
   place = place_by d flags r.globals.size (around_in_force r);
   measures = measures_by r.globals;

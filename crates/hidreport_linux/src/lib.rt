@@ -1,7 +1,10 @@
 //! Which event codes Linux's hid-input gives the usages of a descriptor.
 //!
-//! - [`InputDevices`]: the input devices that Linux makes of a descriptor; [`InputDevices::event`]
-//!   answers the event of a usage, or why it has none.
+//! - [`LinuxDevice`], [`LinuxReading`]: a descriptor as Linux reads it; [`LinuxReading::fields`] are
+//!   its items with data, [`LinuxReading::usages`] what each names.
+//! - [`InputDevices`]: the input devices that Linux makes of a descriptor;
+//!   [`InputDevices::begin_field`] goes on to an item, and [`InputDevices::event`] answers the event
+//!   of a usage, or why it has none.
 //! - [`Wanted`]: the code that a usage asks for, whatever lies before it.
 //! - [`EventCode`], [`EventType`]: codes and their names.
 //! - [`Axis`]: the bounds and the resolution of an absolute axis.

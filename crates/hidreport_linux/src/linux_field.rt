@@ -41,6 +41,9 @@ pub struct LinuxField {
     /// How many elements it has.
     pub count: u32,
 
+    /// How many usages it names, of those that are kept.
+    pub usages: u32,
+
     /// How many usages behind the last one that is kept it also names.
     pub left_out: u32,
 

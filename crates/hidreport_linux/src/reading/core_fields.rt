@@ -86,6 +86,7 @@ impl LinuxReading {
             is_variable: flags / 2 % 2 == 1,
             size: self.globals.size,
             count: self.globals.count,
+            usages: self.locals.count(),
             left_out: self.locals.left_out(),
             place: self.place_by(direction, flags),
             measures: self.globals.measures(),
@@ -172,10 +173,8 @@ impl LinuxReading {
         if field.count == 0 {
             return &[];
         }
-        match self.named.split_at_checked(field.first_span) {
-            Some((_before, behind)) => behind.get(..field.spans).unwrap_or(behind),
-            None => &[],
-        }
+        let behind = self.named.get(field.first_span..).unwrap_or(&[]);
+        behind.get(..field.spans).unwrap_or(behind)
     }
 }
 

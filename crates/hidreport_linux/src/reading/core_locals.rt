@@ -87,6 +87,13 @@ impl CoreLocals {
         !self.usages.are_none()
     }
 
+    /// How many usages they name.
+    pub(crate) fn count(&self) -> u32
+        ensures { result ≡ self.now.usages.count }
+    {
+        self.usages.count()
+    }
+
     /// How many usages behind the last are left out, since no more are kept.
     pub(crate) fn left_out(&self) -> u32
         ensures { result ≡ self.now.left_out }
