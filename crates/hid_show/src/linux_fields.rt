@@ -11,8 +11,8 @@ use hid_output::{add_json, flush, flush_piece};
 use hid_report::{FieldLine, add_head, around};
 use hid_words::{add_field, add_spaces, fault_words, indent_of};
 use hidreport::{
-    Collection, Direction, Field, Group, OutlineReport, RDescReport, Report, ReportDescriptor,
-    Usage,
+    Collection, Direction, Field, Group, OutlineReport, ParserError, RDescReport, Report,
+    ReportDescriptor, Usage,
 };
 use hidreport_linux::{Doubt, Driver, InputDevices, Item, LinuxDevice, LinuxField, LinuxReport};
 use std::alloc::AllocError;
