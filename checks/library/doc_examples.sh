@@ -11,9 +11,10 @@ export LC_ALL=C
 . "$(dirname "$0")/../common/probe.sh"
 need_rt doc_examples
 repository=${1:-$(dirname "$0")/../..}
-crates=(hidreport_types hidreport_items hidreport_lists hidreport_fields hidreport hidreport_usages)
+crates=(hidreport_types hidreport_items hidreport_lists hidreport_fields hidreport hidreport_usages
+    hidreport_linux)
 # At least so many are found.
-least=26
+least=28
 
 make_probe doc_examples "$repository" "${crates[@]}"
 

@@ -4,7 +4,6 @@
 
 mod decode;
 mod fields;
-mod linux_copy;
 mod linux_fields;
 mod list;
 mod map;

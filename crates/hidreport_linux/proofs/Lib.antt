@@ -1,6 +1,7 @@
 pub mod DeviceLemmas
 pub mod AxisLemmas
 pub mod ClaimLemmas
+pub mod FieldLemmas
 pub mod GivenLemmas
 pub mod ReadingLemmas
 pub mod ResolutionLemmas

@@ -1,11 +1,16 @@
 -- What Linux's hid-core keeps while it reads a descriptor, item by item.
-use Rattle.std.specs.Prelude.{ℕ, ℤ, pos, neg_ℤ, ◌-◌, ◌^◌, int_le, int_lt, nat_lt, Bool, false, ◌&&◌, not}
-use Rattle.std.specs.Prelude.{if◌then◌else◌, List, [], Option, None}
+use Rattle.std.specs.Prelude.{ℕ, ℤ, pos, neg_ℤ, ◌-◌, ◌^◌, ◌==◌, int_le, int_lt, nat_lt, Bool, false}
+use Rattle.std.specs.Prelude.{◌&&◌, not, if◌then◌else◌, List, [], length, Option, None}
 use Rattle.std.specs.Int.{w32, cast_signed, cast_unsigned}
+use Rattle.std.specs.List.{slice_index_or}
 use Rattle.hidreport_linux.specs.CoreLocals.{LocalsRecord, no_locals}
 use Rattle.hidreport_linux.specs.CoreReports.{no_reports}
 use Rattle.hidreport_linux.specs.declared.driver.Driver.{Driver}
+use Rattle.hidreport_linux.specs.declared.linux_field.LinuxField.{LinuxField}
+use Rattle.hidreport_linux.specs.declared.linux_field.LinuxReport.{LinuxReport}
+use Rattle.hidreport_linux.specs.declared.reading.core_around.CoreAround.{CoreAround}
 use Rattle.hidreport_linux.specs.declared.reading.core_globals.CoreGlobals.{CoreGlobals}
+use Rattle.hidreport_linux.specs.declared.reading.core_named.CoreNamed.{CoreNamed}
 use Rattle.hidreport_linux.specs.declared.reading.core_reports.CoreReports.{CoreReports}
 use Rattle.hidreport_linux.specs.declared.reading.placed.Doubt.{Doubt}
 use Rattle.hidreport_linux.specs.declared.reading.placed.Omission.{Omission}
@@ -16,6 +21,10 @@ abbrev pub no_globals : CoreGlobals
 no_globals = record {
   minimum = pos 0;
   maximum = pos 0;
+  physical_minimum = pos 0;
+  physical_maximum = pos 0;
+  unit = 0;
+  exponent = pos 0;
   size = 0;
   count = 0;
   id = 0;
@@ -38,15 +47,16 @@ abbrev pub are_widest : CoreGlobals → Bool
 are_widest g =
     int_le g.minimum (neg_ℤ (pos (2 ^ 31))) && int_le (pos (2 ^ 31 - 1)) g.maximum
 
--- The globals, what each open Push keeps, outermost first; for each open collection the application
--- in force in it; the reports; the locals; whether an item had an id, and whether one had none; how
+-- The globals, what each open Push keeps, outermost first; for each open collection what is in
+-- force in it; the reports; the locals; whether an item had an id, and whether one had none; how
 -- many applications there are, up to two; whether a collection makes the device one of input, and
 -- which driver asks for it; what is the matter first, of each kind; whether an item without bits
--- names usages, and the first item whose multiplier overflows.
+-- names usages, and the first item whose multiplier overflows; the reports as they came, the items
+-- with data that name usages, and what these name.
 pub record ReadingRecord : Type 0 where
   pub globals : CoreGlobals
   pub pushed : List CoreGlobals
-  pub around : List ℕ
+  pub around : List CoreAround
   pub reports : CoreReports
   pub locals : LocalsRecord
   pub has_ids : Bool
@@ -59,6 +69,9 @@ pub record ReadingRecord : Type 0 where
   pub left_out : Option Omission
   pub has_items_without_bits : Bool
   pub overflow : Option ℕ
+  pub order : List LinuxReport
+  pub fields : List LinuxField
+  pub named : List CoreNamed
 
 -- before the first item
 abbrev pub nothing_kept : ReadingRecord
@@ -78,4 +91,28 @@ nothing_kept = record {
   left_out = None;
   has_items_without_bits = false;
   overflow = None;
+  order = [];
+  fields = [];
+  named = [];
 }
+
+-- in no collection
+abbrev pub no_around : CoreAround
+no_around = record { application = 0; physical = 0; logical = 0; has_macros = false }
+
+-- inside a collection of a kind with a usage more
+abbrev pub with_collection : ℕ → ℕ → CoreAround → CoreAround
+with_collection kind usage a = record {
+  application = if kind == 1 then usage else a.application;
+  physical = if kind == 0 then usage else a.physical;
+  logical = if kind == 2 then usage else a.logical;
+  has_macros = kind == 4 && usage == 0xc0003;
+}
+
+-- what is in force in the collections that are open
+abbrev pub around_in_force : ReadingRecord → CoreAround
+around_in_force r = slice_index_or r.around (length r.around - 1) no_around
+
+-- the application among that; 0 where there is none
+abbrev pub application_in_force : ReadingRecord → ℕ
+application_in_force r = (around_in_force r).application

@@ -9,16 +9,24 @@ use Rattle.hidreport_linux.specs.declared.reading.reasons.DoubtReason.TheVariant
 use Rattle.hidreport_linux.specs.declared.reading.reasons.RefusalReason.{RefusalReason}
 use Rattle.hidreport_linux.specs.declared.reading.reasons.RefusalReason.TheVariants as refusal
 
--- the usages, the last minimum, whether a set of usages is open, and how many were opened
+-- the usages, the last minimum, whether a set of usages is open, and how many were opened; how many
+-- usages behind the last are left out, since no more are kept
 pub record LocalsRecord : Type 0 where
   pub usages : UsagesRecord
   pub minimum : ℕ
   pub is_in_set : Bool
   pub sets : ℕ
+  pub left_out : ℕ
 
 -- behind a main item
 abbrev pub no_locals : LocalsRecord
-no_locals = record { usages = no_usages; minimum = 0; is_in_set = false; sets = 0 }
+no_locals = record {
+  usages = no_usages;
+  minimum = 0;
+  is_in_set = false;
+  sets = 0;
+  left_out = 0;
+}
 
 -- of alternatives the first set counts: usages of others are left out
 abbrev pub is_past_set : LocalsRecord → Bool
@@ -99,19 +107,21 @@ abbrev pub with_delimiter : Bool → LocalsRecord → LocalsRecord
 with_delimiter true l = record l { is_in_set = true; sets = min (l.sets + 1) (2 ^ 32 - 1) }
 with_delimiter false l = record l { is_in_set = false }
 
--- behind all usages from the minimum up to a number
-abbrev pub behind_range : ℕ → Bool → ℕ → LocalsRecord → LocalsRecord
-behind_range last has_page page l =
+-- behind all usages from the minimum up to a number, behind which so many are left out
+abbrev pub behind_range : ℕ → ℕ → Bool → ℕ → LocalsRecord → LocalsRecord
+behind_range last left_out has_page page l =
     if nat_lt last l.minimum then l
     else record l {
       usages = with_usages (named_by l.minimum last has_page page)
           (min (last - l.minimum + 1) (2 ^ 32 - 1)) l.usages;
+      left_out = left_out;
     }
 
 -- behind a maximum, of whose usages those are left out that don't fit
 abbrev pub behind_maximum : ℕ → Bool → ℕ → LocalsRecord → LocalsRecord
 behind_maximum number has_page page l =
-    behind_range (range_last l.minimum number l.usages.count) has_page page l
+    behind_range (range_last l.minimum number l.usages.count)
+    (number - range_last l.minimum number l.usages.count) has_page page l
 
 -- behind a usage or one of their bounds, with this page in force
 abbrev pub named_behind : CoreItem → ℕ → LocalsRecord → LocalsRecord

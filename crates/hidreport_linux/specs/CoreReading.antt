@@ -6,8 +6,11 @@ use Rattle.std.specs.List.{slice_index_or}
 use Rattle.hidreport_fields.specs.declared.field.data_item.Direction.{Direction}
 use Rattle.hidreport_fields.specs.declared.field.data_item.Direction.TheVariants as direction
 use Rattle.hidreport_items.specs.Spelling.{data_length}
+use Rattle.hidreport_linux.specs.Asking.{exponent_of}
+use Rattle.hidreport_linux.specs.CoreFields.{if_field, with_order}
 use Rattle.hidreport_linux.specs.CoreItems.{core_item, is_local}
 use Rattle.hidreport_linux.specs.CoreKept.{ReadingRecord, nothing_kept, are_below, are_widest, maximum_by}
+use Rattle.hidreport_linux.specs.CoreKept.{application_in_force, around_in_force, with_collection}
 use Rattle.hidreport_linux.specs.CoreLocals.{behind_local, cuts_usages, local_doubt, local_refusal}
 use Rattle.hidreport_linux.specs.CoreLocals.{no_locals}
 use Rattle.hidreport_linux.specs.CoreReports.{report_at, with_data}
@@ -84,10 +87,6 @@ behind_pop r = record r {
   pushed = take (length r.pushed - 1) r.pushed;
 }
 
--- the application that is in force in the collections that are open; 0 where there is none
-abbrev pub application_in_force : ReadingRecord → ℕ
-application_in_force r = slice_index_or r.around (length r.around - 1) 0
-
 -- of collections of the page Sensors, but those behind a vivaldi's: the last item that asks for a
 -- driver gets its own
 abbrev pub driver_behind : ℕ → ReadingRecord → Option Driver
@@ -99,7 +98,7 @@ driver_behind kind r =
 -- a collection is of its first usage; one of kind 1 is an application
 abbrev pub behind_collection_of : ℕ → ℕ → ReadingRecord → ReadingRecord
 behind_collection_of usage kind r = record r {
-  around = r.around ++ (if kind == 1 then usage else application_in_force r) ∷ [];
+  around = r.around ++ with_collection kind usage (around_in_force r) ∷ [];
   applications =
       if kind == 1 && nat_lt r.applications 2 then r.applications + 1 else r.applications;
   has_input = r.has_input || (nat_le kind 1 && is_input_application usage);
@@ -176,8 +175,8 @@ if_elements offset d r =
 
 -- behind all that an item with data says
 abbrev pub behind_parts : ℕ → Direction → ℕ → ReadingRecord → ReadingRecord
-behind_parts offset d flags r = behind_id offset (if_elements offset d
-    (if_contact d flags (if_past_items offset d (with_report d r))))
+behind_parts offset d flags r = behind_id offset (if_field offset d flags (if_elements offset d
+    (if_contact d flags (if_past_items offset d (with_report d (with_order d r))))))
 
 -- behind an item with data
 abbrev pub behind_data : ℕ → Direction → ℕ → ReadingRecord → ReadingRecord
@@ -221,6 +220,15 @@ behind_other offset (item.LogicalMinimum n) r =
     with_globals (record (r.globals) { minimum = n }) r
 behind_other offset (item.LogicalMaximum n word) r =
     with_globals (record (r.globals) { maximum = maximum_by r.globals.minimum n word }) r
+behind_other offset (item.PhysicalMinimum n) r =
+    with_globals (record (r.globals) { physical_minimum = n }) r
+behind_other offset (item.PhysicalMaximum n word) r =
+    with_globals (record (r.globals) {
+      physical_maximum = maximum_by r.globals.physical_minimum n word;
+    }) r
+behind_other offset (item.UnitExponent n) r =
+    with_globals (record (r.globals) { exponent = exponent_of n }) r
+behind_other offset (item.Unit n) r = with_globals (record (r.globals) { unit = n }) r
 behind_other offset (item.ReportSize bits) r = with_globals (record (r.globals) { size = bits }) r
 behind_other offset (item.ReportCount count) r =
     with_globals (record (r.globals) { count = count }) r

@@ -54,6 +54,16 @@ staying page index count (n ∷ ns) =
 abbrev pub at_place : ℕ → ℕ → ℕ → CoreNamed → CoreNamed
 at_place page staying place n = if nat_lt place staying then n else moved_to page n
 
+-- those from a place on, where so many stay
+abbrev pub moved_from : ℕ → ℕ → ℕ → List CoreNamed → List CoreNamed
+moved_from page staying place [] = []
+moved_from page staying place (n ∷ ns) =
+    at_place page staying place n ∷ moved_from page staying (place + 1) ns
+
+-- all of them, with this page in force at the main item
+abbrev pub moved : ℕ → UsagesRecord → List CoreNamed
+moved page us = moved_from page (staying page 0 0 us.named) 0 us.named
+
 -- a usage is one of those from a place on, where so many stay
 abbrev pub names_one : ℕ → ℕ → ℕ → ℕ → List CoreNamed → Bool
 names_one page usage staying place [] = false

@@ -3,6 +3,7 @@ pub mod Axes
 pub mod AxisNumbers
 pub mod Buttons
 pub mod Claims
+pub mod CoreFields
 pub mod CoreItems
 pub mod CoreKept
 pub mod CoreLocals
@@ -13,6 +14,8 @@ pub mod CoreUsages
 pub mod Devices
 pub mod DevicesRecord
 pub mod Events
+pub mod FieldDevices
+pub mod FieldOrder
 pub mod LinuxDevice
 pub mod Names
 pub mod Places

@@ -12,7 +12,7 @@ use hidreport::{Group, UnitExponent};
 /// The numbers of an item that an axis has its own from, as hid-core keeps them: 0 where one wasn't
 /// set.
 #[derive(Clone, Copy, Debug, PartialEq, Eq)]
-pub(crate) struct Measures {
+pub struct Measures {
     /// The least value.
     pub minimum: i32,
 

@@ -1,5 +1,6 @@
 //! An item of a report, whose usages are gone over.
 use crate::axis::{Axis, Measures};
+use crate::linux_field::LinuxField;
 use crate::place::Place;
 use crate::unmapped::Unmapped;
 use crate::wanted::{Role, Wanted};
@@ -21,6 +22,7 @@ pub struct Item {
 impl Item {
     ghost use Rattle.std.specs.Prelude.{◌≡◌, ◌+◌};
     ghost use Rattle.hidreport_linux.specs.AxisNumbers.{axis_by};
+    ghost use Rattle.hidreport_linux.specs.FieldDevices.{item_at};
     ghost use Rattle.hidreport_linux.specs.Asking.{asked, asks_of, asks_still, counted, item_of, passed, role_in};
 
     /// An item before its first usage; one that is past those of its report that are kept has none.
@@ -31,6 +33,19 @@ impl Item {
             place: Place::of(direction, group),
             measures: Measures::of(group),
             is_past,
+            usages: 0,
+            has_direction: false,
+        }
+    }
+
+    /// A field before its first usage.
+    pub(crate) fn at(field: &LinuxField) -> Item
+        ensures { result ≡ item_at field.now }
+    {
+        Item {
+            place: field.place,
+            measures: field.measures,
+            is_past: field.is_past,
             usages: 0,
             has_direction: false,
         }

@@ -3,22 +3,28 @@ ghost use Rattle.std.specs.Prelude.{◌≡◌};
 ghost use Rattle.hidreport_items.specs.Spelling.{data_length};
 ghost use Rattle.hidreport_linux.specs.CoreReading.{is_feature, is_input};
 
+mod core_around;
+mod core_fields;
 mod core_globals;
 mod core_item;
 mod core_locals;
 mod core_named;
-mod core_reports;
+pub(crate) mod core_reports;
 mod core_usages;
+pub(crate) mod field_usages;
 mod number;
 pub(crate) mod placed;
 pub(crate) mod reasons;
 
 use crate::driver::Driver;
 use crate::input_devices::{InputDevices, is_input_application};
+use crate::linux_field::{LinuxField, LinuxReport};
 use crate::unmapped::Unmapped;
+use core_around::CoreAround;
 use core_globals::CoreGlobals;
 use core_item::CoreItem;
 use core_locals::CoreLocals;
+use core_named::CoreNamed;
 use core_reports::CoreReports;
 use hidreport::Direction;
 use placed::{Doubt, Omission, Refusal};
@@ -49,7 +55,7 @@ const MOST_PUSHES: usize = 4;
 pub struct LinuxReading {
     globals: CoreGlobals,
     pushed: Vec<CoreGlobals>,
-    around: Vec<u32>,
+    around: Vec<CoreAround>,
     reports: CoreReports,
     locals: CoreLocals,
     has_ids: bool,
@@ -62,6 +68,12 @@ pub struct LinuxReading {
     left_out: Option<Omission>,
     has_items_without_bits: bool,
     overflow: Option<usize>,
+    /// The reports, as they came.
+    order: Vec<LinuxReport>,
+    /// The items with data that name usages, in order.
+    fields: Vec<LinuxField>,
+    /// What names their usages.
+    named: Vec<CoreNamed>,
 }
 
 impl Model for LinuxReading {
@@ -85,13 +97,16 @@ impl Model for LinuxReading {
       left_out = r.left_out;
       has_items_without_bits = r.has_items_without_bits;
       overflow = r.overflow;
+      order = r.order.items;
+      fields = r.fields.items;
+      named = r.named.items;
     } };
 }
 
 impl LinuxReading {
     ghost use Rattle.std.specs.Prelude.{◌≡◌, IfOk, OnOk, length};
-    ghost use Rattle.hidreport_linux.specs.CoreKept.{nothing_kept};
-    ghost use Rattle.hidreport_linux.specs.CoreReading.{application_in_force, behind, behind_collection, behind_data, behind_elements, behind_end, behind_id, behind_local_item, behind_other, behind_page, behind_parts, behind_pop, bits_of, data_refusal, driver_behind, ended, if_contact, if_elements, if_past_items, linux_reading, overflows, read_all, refusal_of, refused, unmapped_in, with_cut, with_doubt, with_report};
+    ghost use Rattle.hidreport_linux.specs.CoreKept.{application_in_force, around_in_force, nothing_kept};
+    ghost use Rattle.hidreport_linux.specs.CoreReading.{behind, behind_collection, behind_data, behind_elements, behind_end, behind_id, behind_local_item, behind_other, behind_page, behind_parts, behind_pop, bits_of, data_refusal, driver_behind, ended, if_contact, if_elements, if_past_items, linux_reading, overflows, read_all, refusal_of, refused, unmapped_in, with_cut, with_doubt, with_report};
     ghost use Rattle.hidreport_linux.specs.CoreReports.{application_of};
     ghost use Rattle.hidreport_linux.specs.Devices.{no_devices};
 
@@ -133,6 +148,9 @@ impl LinuxReading {
             left_out: None,
             has_items_without_bits: false,
             overflow: None,
+            order: Vec::new(alloc),
+            fields: Vec::new(alloc),
+            named: Vec::new(alloc),
         }
     }
 
@@ -248,10 +266,16 @@ impl LinuxReading {
             CoreItem::Pop => self.pop(),
             CoreItem::Collection(kind) => self.pass_collection(kind)?,
             CoreItem::EndCollection => self.close(),
-            CoreItem::Data(direction, flags) => self.pass_data(offset, direction, flags),
+            CoreItem::Data(direction, flags) => self.pass_data(offset, direction, flags)?,
             CoreItem::UnknownMain => self.locals.clear(),
             CoreItem::LogicalMinimum(number) => self.globals.minimum = number,
             CoreItem::LogicalMaximum(signed, number) => self.globals.set_maximum(signed, number),
+            CoreItem::PhysicalMinimum(number) => self.globals.physical_minimum = number,
+            CoreItem::PhysicalMaximum(signed, number) => {
+                self.globals.set_physical_maximum(signed, number);
+            }
+            CoreItem::UnitExponent(number) => self.globals.set_exponent(number),
+            CoreItem::Unit(number) => self.globals.unit = number,
             CoreItem::ReportSize(bits) => self.globals.size = bits,
             CoreItem::ReportCount(count) => self.globals.count = count,
             CoreItem::ReportId(id) => self.globals.id = id,
@@ -299,12 +323,8 @@ impl LinuxReading {
         ensures { OnOk result (self.new ≡ behind_collection kind self.old) }
     {
         let usage = self.locals.first(self.globals.page);
-        let application = if kind == 1 {
-            usage
-        } else {
-            self.application_in_force()
-        };
-        self.around.push(application)?;
+        let around = self.around_in_force().with(kind, usage);
+        self.around.push(around)?;
         if kind == 1 && self.applications < 2 {
             self.applications += 1;
         }
@@ -318,7 +338,17 @@ impl LinuxReading {
     fn application_in_force(&self) -> u32
         ensures { result ≡ application_in_force self.now }
     {
-        self.around.last().copied().unwrap_or(0)
+        self.around_in_force().application
+    }
+
+    /// What is in force in the collections that are open.
+    fn around_in_force(&self) -> CoreAround
+        ensures { result ≡ around_in_force self.now }
+    {
+        match self.around.last() {
+            Some(around) => *around,
+            None => CoreAround::none(),
+        }
     }
 
     /// The driver that asks for the device behind a collection: one of sensors, or hid-vivaldi, which
@@ -344,22 +374,36 @@ impl LinuxReading {
     }
 
     /// An Input, Output or Feature.
-    fn pass_data(&mut self, offset: usize, direction: Direction, flags: u32)
-        ensures { self.new ≡ behind_data offset direction flags self.old }
+    fn pass_data(
+        &mut self,
+        offset: usize,
+        direction: Direction,
+        flags: u32,
+    ) -> Result<(), AllocError>
+        ensures { OnOk result (self.new ≡ behind_data offset direction flags self.old) }
     {
-        self.pass_parts(offset, direction, flags);
+        self.pass_parts(offset, direction, flags)?;
         self.locals.clear();
+        Ok(())
     }
 
     /// All that it says, the local items before it among that.
-    fn pass_parts(&mut self, offset: usize, direction: Direction, flags: u32)
-        ensures { self.new ≡ behind_parts offset direction flags self.old }
+    fn pass_parts(
+        &mut self,
+        offset: usize,
+        direction: Direction,
+        flags: u32,
+    ) -> Result<(), AllocError>
+        ensures { OnOk result (self.new ≡ behind_parts offset direction flags self.old) }
     {
+        self.register_report(direction)?;
         self.add_to_report(direction);
         self.leave_items_out(offset, direction);
         self.ask_for_driver(direction, flags);
         self.note_elements(offset, direction);
+        self.keep_field(offset, direction, flags)?;
         self.pass_id(offset);
+        Ok(())
     }
 
     /// Its report has one item more.

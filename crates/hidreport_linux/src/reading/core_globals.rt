@@ -1,10 +1,18 @@
 //! The global items that matter, as hid-core keeps them.
+ghost use Rattle.std.specs.Prelude.{◌≡◌};
+ghost use Rattle.hidreport_linux.specs.CoreKept.{maximum_by};
+
+use crate::axis::Measures;
 
 /// Their numbers, 0 where they are unset.
 #[derive(Clone, Copy)]
 pub(crate) struct CoreGlobals {
     pub(crate) minimum: i32,
     pub(crate) maximum: i32,
+    pub(crate) physical_minimum: i32,
+    pub(crate) physical_maximum: i32,
+    pub(crate) unit: u32,
+    pub(crate) exponent: i32,
     pub(crate) size: u32,
     pub(crate) count: u32,
     pub(crate) id: u32,
@@ -13,7 +21,9 @@ pub(crate) struct CoreGlobals {
 
 impl CoreGlobals {
     ghost use Rattle.std.specs.Prelude.{◌≡◌};
-    ghost use Rattle.hidreport_linux.specs.CoreKept.{are_below, are_widest, maximum_by, no_globals};
+    ghost use Rattle.hidreport_linux.specs.Asking.{exponent_of};
+    ghost use Rattle.hidreport_linux.specs.CoreFields.{measures_by};
+    ghost use Rattle.hidreport_linux.specs.CoreKept.{are_below, are_widest, no_globals};
 
     /// Before the first item.
     pub(crate) fn none() -> CoreGlobals
@@ -22,6 +32,10 @@ impl CoreGlobals {
         CoreGlobals {
             minimum: 0,
             maximum: 0,
+            physical_minimum: 0,
+            physical_maximum: 0,
+            unit: 0,
+            exponent: 0,
             size: 0,
             count: 0,
             id: 0,
@@ -35,11 +49,41 @@ impl CoreGlobals {
           maximum = maximum_by self.old.minimum signed number;
         } }
     {
-        self.maximum = if self.minimum < 0 {
-            signed
+        self.maximum = maximum_by(self.minimum, signed, number);
+    }
+
+    /// A Physical Maximum, which has no sign where its minimum has none.
+    pub(crate) fn set_physical_maximum(&mut self, signed: i32, number: u32)
+        ensures { self.new ≡ record self.old {
+          physical_maximum = maximum_by self.old.physical_minimum signed number;
+        } }
+    {
+        self.physical_maximum = maximum_by(self.physical_minimum, signed, number);
+    }
+
+    /// A Unit Exponent, of four bits or of all.
+    pub(crate) fn set_exponent(&mut self, number: i32)
+        ensures { self.new ≡ record self.old { exponent = exponent_of number } }
+    {
+        self.exponent = if 8 <= number && number <= 15 {
+            number - 16
         } else {
-            number.cast_signed()
+            number
         };
+    }
+
+    /// The numbers that an axis has its own from.
+    pub(crate) fn measures(&self) -> Measures
+        ensures { result ≡ measures_by self.now }
+    {
+        Measures {
+            minimum: self.minimum,
+            maximum: self.maximum,
+            physical_minimum: self.physical_minimum,
+            physical_maximum: self.physical_maximum,
+            unit: self.unit,
+            exponent: self.exponent,
+        }
     }
 
     /// Whether the maximum is below the minimum, without a sign where the minimum has none.
@@ -57,5 +101,16 @@ impl CoreGlobals {
         ensures { result ≡ are_widest self.now }
     {
         self.minimum <= i32::MIN && i32::MAX <= self.maximum
+    }
+}
+
+/// A maximum, with and without a sign: it has none where the minimum has none.
+fn maximum_by(minimum: i32, signed: i32, number: u32) -> i32
+    ensures { result ≡ maximum_by minimum signed number }
+{
+    if minimum < 0 {
+        signed
+    } else {
+        number.cast_signed()
     }
 }

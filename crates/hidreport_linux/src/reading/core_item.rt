@@ -30,6 +30,18 @@ pub(crate) enum CoreItem {
     /// A Usage Page.
     UsagePage(u32),
 
+    /// A Physical Minimum, which has a sign.
+    PhysicalMinimum(i32),
+
+    /// A Physical Maximum, with a sign and without one.
+    PhysicalMaximum(i32, u32),
+
+    /// A Unit Exponent, of four bits or of all.
+    UnitExponent(i32),
+
+    /// A Unit.
+    Unit(u32),
+
     /// A Report Size, in bits.
     ReportSize(u32),
 
@@ -108,6 +120,10 @@ fn item_by(tag: u8, bytes: &[u8]) -> CoreItem
         0x04 => CoreItem::UsagePage(number),
         0x14 => CoreItem::LogicalMinimum(signed(bytes)),
         0x24 => CoreItem::LogicalMaximum(signed(bytes), number),
+        0x34 => CoreItem::PhysicalMinimum(signed(bytes)),
+        0x44 => CoreItem::PhysicalMaximum(signed(bytes), number),
+        0x54 => CoreItem::UnitExponent(signed(bytes)),
+        0x64 => CoreItem::Unit(number),
         0x74 => CoreItem::ReportSize(number),
         0x84 => CoreItem::ReportId(number),
         0x94 => CoreItem::ReportCount(number),

@@ -24,6 +24,9 @@ pub(crate) struct CoreLocals {
 
     /// How many sets were opened.
     sets: u32,
+
+    /// How many usages behind the last are left out, since no more are kept.
+    left_out: u32,
 }
 
 impl Model for CoreLocals {
@@ -36,13 +39,14 @@ impl Model for CoreLocals {
       minimum = l.minimum;
       is_in_set = l.is_in_set;
       sets = l.sets;
+      left_out = l.left_out;
     } };
 }
 
 impl CoreLocals {
-    ghost use Rattle.std.specs.Prelude.{◌≡◌, ◌==◌, not, OnOk};
+    ghost use Rattle.std.specs.Prelude.{◌≡◌, ◌==◌, ◌++◌, length, not, OnOk};
     ghost use Rattle.hidreport_linux.specs.CoreLocals.{behind_local, behind_maximum, cuts_usages, is_full, is_past_set, local_doubt, local_refusal, maximum_refusal, no_locals, with_delimiter};
-    ghost use Rattle.hidreport_linux.specs.CoreUsages.{first_usage, have};
+    ghost use Rattle.hidreport_linux.specs.CoreUsages.{first_usage, have, moved};
 
     /// None yet.
     pub(crate) fn new(alloc: Global) -> CoreLocals
@@ -54,6 +58,7 @@ impl CoreLocals {
             minimum: 0,
             is_in_set: false,
             sets: 0,
+            left_out: 0,
         }
     }
 
@@ -65,6 +70,7 @@ impl CoreLocals {
         self.minimum = 0;
         self.is_in_set = false;
         self.sets = 0;
+        self.left_out = 0;
     }
 
     /// Whether a set of usages is open.
@@ -79,6 +85,34 @@ impl CoreLocals {
         ensures { result ≡ not (self.now.usages.count == 0) }
     {
         !self.usages.are_none()
+    }
+
+    /// How many usages they name.
+    pub(crate) fn count(&self) -> u32
+        ensures { result ≡ self.now.usages.count }
+    {
+        self.usages.count()
+    }
+
+    /// How many usages behind the last are left out, since no more are kept.
+    pub(crate) fn left_out(&self) -> u32
+        ensures { result ≡ self.now.left_out }
+    {
+        self.left_out
+    }
+
+    /// How many local items name them.
+    pub(crate) fn spans(&self) -> usize
+        ensures { result ≡ length self.now.usages.named }
+    {
+        self.usages.spans()
+    }
+
+    /// Adds what names them to others, with this page in force.
+    pub(crate) fn add_to(&self, page: u32, all: &mut Vec<CoreNamed>) -> Result<(), AllocError>
+        ensures { OnOk result (all.new.items ≡ all.old.items ++ moved page self.now.usages) }
+    {
+        self.usages.add_to(page, all)
     }
 
     /// The first usage, with this page in force, 0 where there is none.
@@ -214,7 +248,9 @@ impl CoreLocals {
             return Ok(());
         }
         let named = CoreNamed::new(first, last, has_page, page);
-        self.usages.add(named, (last - first).saturating_add(1))
+        self.usages.add(named, (last - first).saturating_add(1))?;
+        self.left_out = number.saturating_sub(last);
+        Ok(())
     }
 }
 

@@ -119,7 +119,7 @@ impl CoreReports {
 }
 
 /// The place of a report in the list.
-fn place_of(direction: Direction, id: u32) -> usize
+pub(crate) fn place_of(direction: Direction, id: u32) -> usize
     ensures place { result ≡ place_of direction id }
     ensures within { result < 768 }
 {
@@ -127,7 +127,7 @@ fn place_of(direction: Direction, id: u32) -> usize
 }
 
 /// The place of a direction's first report.
-fn first_place(direction: Direction) -> usize
+pub(crate) fn first_place(direction: Direction) -> usize
     ensures place { result ≡ first_place direction }
     ensures within { result < 513 }
 {

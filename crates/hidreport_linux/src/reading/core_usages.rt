@@ -1,6 +1,6 @@
 //! The usages that local items name, as hid-core keeps them for the next main item.
-ghost use Rattle.std.specs.Prelude.{◌≡◌, if◌then◌else◌, nat_lt};
-ghost use Rattle.hidreport_linux.specs.CoreUsages.{at_place, names_one, staying};
+ghost use Rattle.std.specs.Prelude.{◌≡◌, ◌++◌, if◌then◌else◌, nat_lt, OnOk};
+ghost use Rattle.hidreport_linux.specs.CoreUsages.{at_place, moved_from, names_one, staying};
 
 use crate::reading::core_named::CoreNamed;
 use std::alloc::{AllocError, Global};
@@ -22,8 +22,8 @@ impl Model for CoreUsages {
 }
 
 impl CoreUsages {
-    ghost use Rattle.std.specs.Prelude.{◌≡◌, ◌==◌, OnOk};
-    ghost use Rattle.hidreport_linux.specs.CoreUsages.{first_usage, have, no_usages, with_usages};
+    ghost use Rattle.std.specs.Prelude.{◌≡◌, ◌==◌, ◌++◌, length, OnOk};
+    ghost use Rattle.hidreport_linux.specs.CoreUsages.{first_usage, have, moved, no_usages, with_usages};
 
     /// None yet.
     pub(crate) fn new(alloc: Global) -> CoreUsages
@@ -66,6 +66,20 @@ impl CoreUsages {
         Ok(())
     }
 
+    /// How many local items name them.
+    pub(crate) fn spans(&self) -> usize
+        ensures { result ≡ length self.now.named }
+    {
+        self.named.len()
+    }
+
+    /// Adds what stands there to others, with this page in force.
+    pub(crate) fn add_to(&self, page: u32, all: &mut Vec<CoreNamed>) -> Result<(), AllocError>
+        ensures { OnOk result (all.new.items ≡ all.old.items ++ moved page self.now) }
+    {
+        add_moved(page, staying(page, &self.named), &self.named, all)
+    }
+
     /// The first, with this page in force, 0 where there is none.
     pub(crate) fn first(&self, page: u32) -> u32
         ensures { result ≡ first_usage page self.now }
@@ -106,6 +120,21 @@ fn at_place(page: u32, staying: usize, place: usize, named: CoreNamed) -> CoreNa
     } else {
         named.moved_to(page)
     }
+}
+
+/// Adds all that stand there to others, where so many stay as they are.
+fn add_moved(
+    page: u32,
+    staying: usize,
+    named: &[CoreNamed],
+    all: &mut Vec<CoreNamed>,
+) -> Result<(), AllocError>
+    ensures { OnOk result (all.new.items ≡ all.old.items ++ moved_from page staying 0 named.now) }
+{
+    for (index, named) in named.iter().enumerate() {
+        all.push(at_place(page, staying, index, *named))?;
+    }
+    Ok(())
 }
 
 /// Whether a usage is one of them, where so many stay as they are.
