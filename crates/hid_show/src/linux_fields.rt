@@ -68,7 +68,8 @@ fn check_usages(settings: &Settings, fields: &[LinuxField]) -> Result<()> {
     }
     match past {
         Some(offset) => {
-            let words = fault_words(&ParserError::BudgetExceeded { offset });
+            let fault = ParserError::BudgetExceeded { offset };
+            let words = fault_words(&fault);
             bail!("{words} at offset {offset}: --limit {listed} is enough")
         }
         None => Ok(()),

@@ -1,11 +1,12 @@
 -- One item of a descriptor, as hid-core reads it.
-use Rattle.std.proofs.Common.{◌≡◌, ◌∙◌, ◌-◌, ◌∷◌, ap, ℕ, List, drop, false, length, nat_lt, None, Option, refl, Some, suc, sym, take}
+use Rattle.std.proofs.Common.{◌≡◌, ◌∙◌, ◌-◌, ◌∷◌, ap, ℕ, List, drop, false, length, nat_lt, None, Option, refl, Some, suc, sym, take, true}
 use Rattle.hidreport_items.specs.Spelling.{data_length}
 use Rattle.hidreport_linux.specs.CoreItems.{core_item}
 use Rattle.hidreport_linux.specs.CoreKept.{ReadingRecord}
 use Rattle.hidreport_linux.specs.CoreReading.{behind, read_all, refusal_of, refused}
 use Rattle.hidreport_linux.specs.declared.reading.core_item.CoreItem.{CoreItem}
 use Rattle.hidreport_linux.specs.declared.reading.reasons.RefusalReason.{RefusalReason}
+use Rattle.hidreport_linux.specs.declared.reading.reasons.RefusalReason.TheVariants.{CutShort}
 
 -- an item that is refused is the last
 pub read-refused : (n total h : ℕ) (bs : List ℕ) (reason : RefusalReason) (r : ReadingRecord)
@@ -13,6 +14,22 @@ pub read-refused : (n total h : ℕ) (bs : List ℕ) (reason : RefusalReason) (r
     → refusal_of (core_item h (take (data_length h) bs)) r ≡ Some reason
     → read_all (suc n) total (h ∷ bs) r ≡ refused (total - length (h ∷ bs)) reason r
 read-refused n total h bs reason r enough is = rw enough (rw is refl)
+
+-- an item that is cut short is the last
+read-cut : (n total h : ℕ) (bs : List ℕ) (r : ReadingRecord)
+    → nat_lt (length bs) (data_length h) ≡ true
+    → read_all (suc n) total (h ∷ bs) r ≡ refused (total - length (h ∷ bs)) CutShort r
+read-cut n total h bs r short = rw short refl
+
+-- the same, as it is read
+pub read-cut-at : (left n total h offset : ℕ) (bs rest : List ℕ) (r new : ReadingRecord)
+    → left ≡ suc n → rest ≡ h ∷ bs → nat_lt (length bs) (data_length h) ≡ true
+    → offset ≡ total - length rest → new ≡ refused offset CutShort r
+    → new ≡ read_all left total rest r
+read-cut-at left n total h offset bs rest r new more first short at becomes =
+    becomes ∙ ap (λ o. refused o CutShort r) (at ∙ ap (λ l. total - length l) first)
+    ∙ sym (read-cut n total h bs r short)
+    ∙ sym (ap (λ m. read_all m total rest r) more ∙ ap (λ l. read_all (suc n) total l r) first)
 
 -- behind another the rest is read
 pub read-on : (n total h : ℕ) (bs : List ℕ) (r : ReadingRecord)

@@ -1,7 +1,20 @@
-use Rattle.std.proofs.Common.{◌≡◌, ◌∙◌, ◌-◌, arith, false, length, nat_lt, suc}
+use Rattle.std.proofs.Common.{◌≡◌, ◌∙◌, ◌-◌, arith, false, length, nat_lt, suc, true}
 use Rattle.hidreport_items.specs.Spelling.{data_length}
-use Rattle.hidreport_linux.proofs.ReadingLemmas.{read-on-at, read-refused-at}
+use Rattle.hidreport_linux.proofs.ReadingLemmas.{read-cut-at, read-on-at, read-refused-at}
 use Rattle.hidreport_linux.proofs.reading.LinuxReading.read.Goals as goal
+
+pub returns-in_default-split_at_checked : goal.returns-in_default-split_at_checked
+returns-in_default-split_at_checked c =
+    let bs = c.in-Some.behind.now in
+    let more : c.loop-left.left ≡ suc (c.loop-left.left - 1) =
+    omega (arith, c.loop-left-test.true) in
+    let short : nat_lt (length bs) (data_length c.in-Some.header.now) ≡ true =
+    grind (arith, c.in_default-split_at_checked.ensures.cases, c.size_of.ensures) in
+    read-cut-at c.loop-left.left (c.loop-left.left - 1) (length c.args.bytes.now)
+    c.in-Some.header.now c.saturating_sub-offset.result bs c.loop-left.rest.now c.loop-left.self
+    c.refuse.new.self more c.in-Some.ensures.cases.0 short c.saturating_sub-offset.ensures
+    c.refuse.ensures
+    ∙ c.loop-left.invariant
 
 pub returns-in-Some-refusal_of : goal.returns-in-Some-refusal_of
 returns-in-Some-refusal_of c =
