@@ -10,16 +10,23 @@ use Rattle.hidreport_fields.specs.UsageRange.{make_usage, range_from}
 use Rattle.hidreport_fields.specs.declared.field.usage.Usage.{Usage}
 use Rattle.hidreport_items.specs.declared.local.LocalItem.{LocalItem}
 use Rattle.hidreport_items.specs.declared.local.LocalItem.TheVariants as local
-use Rattle.hidreport.specs.HostLaws.{NamesOne, NamesOneOn, ReadAlike, a_range}
+use Rattle.hidreport.specs.HostLaws.{NamesOne, ReadAlike, on_page}
 use Rattle.hidreport.specs.HostUsages.{completed, first_set, is_lone, lies_on, moved_to}
 use Rattle.hidreport.specs.HostUsages.{own_span, span_to, span_usages, spans}
 use Rattle.hidreport.specs.HostUsages.{usages_from}
 use Rattle.hidreport.specs.ItemState.{first_of, local_items}
-use Rattle.hidreport.specs.Usages.{UsageList, as_single, before_usages, last_local}
-use Rattle.hidreport.specs.Usages.{minimum_of, single_usages, usages_of_spans, usages_with}
+use Rattle.hidreport.specs.Usages.{UsageList, as_single, before_usages, host_usages, last_local}
+use Rattle.hidreport.specs.Usages.{minimum_of, single_usages, standard_usages, usages_of_spans, usages_with}
 use Rattle.hidreport.specs.declared.parser.paged_local.PagedLocal.{PagedLocal}
 use Rattle.hidreport.specs.declared.parser.usage_span.UsageSpan.{UsageSpan}
 use Rattle.hidreport.proofs.HostUsageLemmas.{lone-range, lone-so}
+
+-- single usages where this is the page in force
+abbrev NamesOneOn : ℕ → PagedLocal → Type 0
+NamesOneOn page l = (l.page ≡ Some page) × NamesOne l.item
+
+abbrev ReadAlikeOn : ℕ → List PagedLocal → Type 0
+ReadAlikeOn page ls = standard_usages (Some page) (local_items ls) ≡ Ok (host_usages (Some page) ls)
 
 -- the span of a single usage on a page
 abbrev one_span : ℕ → LocalItem → UsageSpan
@@ -154,8 +161,8 @@ none-lone page [] each = refl
 none-lone page (l ∷ []) each = no-range page l.item each.0.1
 none-lone page (l ∷ m ∷ ls) each = refl
 
-pub singles-agree : (page : ℕ) (ls : List PagedLocal) → Each (NamesOneOn page) ls → ReadAlike page ls
-singles-agree page ls each =
+singles-on : (page : ℕ) (ls : List PagedLocal) → Each (NamesOneOn page) ls → ReadAlikeOn page ls
+singles-on page ls each =
     let xs = local_items ls in
     let us = flat_map span_usages (spans_of page ls) in
     let named : completed page (spans 0 (first_set false ls)) ≡ spans_of page ls =
@@ -168,8 +175,24 @@ singles-agree page ls each =
       listed : List Usage → Bool → UsageList
       listed us is_range = record { usages = us; is_range = is_range }
 
+-- where a page is in force at each
+items-on : (page : ℕ) (xs : List LocalItem) → local_items (map (on_page page) xs) ≡ xs
+items-on page [] = refl
+items-on page (x ∷ xs) = ap (λ l. x ∷ l) (items-on page xs)
+
+each-on : (page : ℕ) (xs : List LocalItem) → Each NamesOne xs
+    → Each (NamesOneOn page) (map (on_page page) xs)
+each-on page [] each = tt
+each-on page (x ∷ xs) each = ((refl, each.0), each-on page xs each.1)
+
+pub singles-agree : (page : ℕ) (xs : List LocalItem) → Each NamesOne xs → ReadAlike page xs
+singles-agree page xs each =
+    ap (standard_usages (Some page)) (sym (items-on page xs))
+    ∙ singles-on page (map (on_page page) xs) (each-on page xs each)
+
 -- a minimum and a maximum
-pub range-agrees : (page low high : ℕ) → high < 65536 → ReadAlike page (a_range page low high)
+pub range-agrees : (page low high : ℕ) → high < 65536
+    → ReadAlike page (local.UsageMinimum low ∷ local.UsageMaximum high ∷ [])
 range-agrees page low high few =
     let s = span_to page low high true in
     let short : nat_lt high 65536 ≡ true = grind (arith, nat_tests, few) in

@@ -1,13 +1,14 @@
 //! Laws of the definitions that no single call shows.
-ghost use Rattle.std.specs.Prelude.{◌≡◌, ◌≢◌, ◌+◌, ◌/◌, ◌<◌, ◌≤◌, ℕ, [], List, Option, Some, flat_map, length, map, negsuc, pos, slice_get, take};
+ghost use Rattle.std.specs.Prelude.{◌≡◌, ◌≢◌, ◌+◌, ◌/◌, ◌<◌, ◌≤◌, ◌∷◌, ℕ, [], List, Option, Some, flat_map, length, map, negsuc, pos, slice_get, take};
 ghost use Rattle.hidreport_items.specs.Writing.{item_bytes};
 ghost use Rattle.hidreport_items.specs.declared.item.ItemType.{ItemType};
 ghost use Rattle.hidreport_lists.specs.DescriptorBuilder.{AreSpelled};
 ghost use Rattle.hidreport_lists.specs.Rebuilt.{canonical_entries};
 ghost use Rattle.hidreport_fields.specs.BitValue.{bit};
 ghost use Rattle.hidreport_fields.specs.Tiling.{Each};
-ghost use Rattle.hidreport.specs.HostLaws.{NamesOneOn, ReadAlike, a_range};
-ghost use Rattle.hidreport.specs.declared.parser.paged_local.PagedLocal.{PagedLocal};
+ghost use Rattle.hidreport.specs.HostLaws.{NamesOne, ReadAlike};
+ghost use Rattle.hidreport_items.specs.declared.local.LocalItem.{LocalItem};
+ghost use Rattle.hidreport_items.specs.declared.local.LocalItem.TheVariants as local;
 ghost use Rattle.hidreport.specs.Blank.{blank_bytes};
 ghost use Rattle.hidreport.specs.Laws.{parse_any};
 ghost use Rattle.hidreport.specs.Meaning.{at_offset};
@@ -63,7 +64,7 @@ pub fn blank_reports_have_their_id_alone()
 /// page in force or with a page of its own, and of one range of ids of 16 bits, hosts read what the
 /// letter of the standard says, where no other page comes in force before their main item.
 pub fn hosts_agree_with_the_standard()
-    ensures singles { (page : ℕ) (ls : List PagedLocal) → Each (NamesOneOn page) ls
-        → ReadAlike page ls }
-    ensures range { (page low high : ℕ) → high < 65536 → ReadAlike page (a_range page low high) }
+    ensures singles { (page : ℕ) (xs : List LocalItem) → Each NamesOne xs → ReadAlike page xs }
+    ensures range { (page low high : ℕ) → high < 65536
+        → ReadAlike page (local.UsageMinimum low ∷ local.UsageMaximum high ∷ []) }
 {}

@@ -1,7 +1,7 @@
 //! Local items of which hosts and the letter of the standard read the same usages, and some of which
 //! they don't (Section 6.2.2.8).
 ghost use Rattle.std.specs.Prelude.{[], ◌∷◌};
-ghost use Rattle.hidreport.specs.HostLaws.{NamesOne, NamesOneOn, ReadAlike, a_range, on_page};
+ghost use Rattle.hidreport.specs.HostLaws.{NamesOne, ReadAlike};
 ghost use Rattle.hidreport.specs.LocalItem.TheVariants as local;
 
 /// A single usage has an id of 16 bits, and a page of its own or none.
@@ -13,18 +13,12 @@ pub fn single_usages_have_ids_of_16_bits()
     ensures minimum { NamesOne (local.UsageMinimum 0) → ⊥ }
 {}
 
-/// It is on the page in force.
-pub fn single_usages_lie_on_the_page_in_force()
-    ensures here { NamesOneOn 1 (on_page 1 (local.UsageId 0x30)) }
-    ensures another_page { NamesOneOn 1 (on_page 2 (local.UsageId 0x30)) → ⊥ }
-    ensures maximum { NamesOneOn 1 (on_page 1 (local.UsageMaximum 0x30)) → ⊥ }
-{}
-
-/// Where the page changes between two usages, or a range is one of two, the rules differ.
+/// Where a range is one of two, or its ids have more than 16 bits, the rules differ.
 pub fn both_rules_read_the_same()
-    ensures two { ReadAlike 1 (on_page 1 (local.UsageId 0x30) ∷ on_page 1 (local.Usage 9 1) ∷ []) }
-    ensures range { ReadAlike 9 (a_range 9 1 3) }
-    ensures page { ReadAlike 12 (on_page 9 (local.UsageId 1) ∷ on_page 12 (local.UsageId 0x0224) ∷ [])
+    ensures two { ReadAlike 1 (local.UsageId 0x30 ∷ local.Usage 9 1 ∷ []) }
+    ensures range { ReadAlike 9 (local.UsageMinimum 1 ∷ local.UsageMaximum 3 ∷ []) }
+    ensures wider { ReadAlike 9 (local.UsageMinimum 0x0001_0001 ∷ local.UsageMaximum 0x0001_0002 ∷ [])
         → ⊥ }
-    ensures both { ReadAlike 9 (on_page 9 (local.UsageId 7) ∷ a_range 9 1 2) → ⊥ }
+    ensures both { ReadAlike 9
+        (local.UsageId 7 ∷ local.UsageMinimum 1 ∷ local.UsageMaximum 2 ∷ []) → ⊥ }
 {}

@@ -28,6 +28,6 @@ pub returns : goal.returns
 returns c = record {
   two = refl;
   range = refl;
-  page = λ alike. let same : number 12 ≡ number 9 = ap page_of alike in cc;
+  wider = λ alike. let same : number 9 ≡ number 1 = ap page_of alike in cc;
   both = λ alike. let same : is true ≡ is false = ap range_of alike in cc;
 }
