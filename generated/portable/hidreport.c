@@ -454,8 +454,10 @@ struct hidreport_answer hidreport_repair_message(const uint8_t *descriptor, size
                                                  struct hidreport_options options, uint32_t mends,
                                                  uint8_t *text, size_t room);
 
-/* Value `index` of a field, counted from 0, in a report with these bytes. It takes no memory, and
- * reads nothing but the report's bytes, whatever numbers the field has. */
+/* Value `index` of a field, counted from 0, in a report with these bytes. One without bits or with
+ * more than 32 is HIDREPORT_OUT_OF_BOUNDS: a copy of the field whose `end_bit` is its `first_bit`
+ * plus 32 has the low 32 bits, which hosts read. It takes no memory, and reads nothing but the
+ * report's bytes, whatever numbers the field has. */
 struct hidreport_value hidreport_value(const struct hidreport_field *field, const uint8_t *report,
                                        size_t report_length, size_t index);
 
@@ -470,8 +472,8 @@ struct hidreport_answer hidreport_read(const struct hidreport_field *fields, siz
                                        const uint8_t *report, size_t report_length,
                                        int64_t *values, size_t room);
 
-/* The values of these fields that the bytes have, in order, up to the first that they don't have:
- * what hosts do with a report that is cut short. Bytes that begin with another id than one of the
+/* The values of these fields that the bytes have, in order, up to the first that they don't have, or
+ * that has more than 32 bits: what hosts do with a report that is cut short. Bytes that begin with another id than one of the
  * fields has are HIDREPORT_MISMATCHING_REPORT_ID. It takes no memory. */
 struct hidreport_answer hidreport_read_available(const struct hidreport_field *fields,
                                                  size_t field_count, const uint8_t *report,
@@ -1318,39 +1320,41 @@ static u32 w2c_f56(Z_hidreport_instance_t*, u64, u64);
 static u32 w2c_f57(Z_hidreport_instance_t*, u64);
 static u32 w2c_f58(Z_hidreport_instance_t*, u64);
 static u32 w2c_f59(Z_hidreport_instance_t*, u64);
-static void w2c_f60(Z_hidreport_instance_t*, u64, u64, u64, u64);
+static u32 w2c_f60(Z_hidreport_instance_t*, u64);
 static u32 w2c_f61(Z_hidreport_instance_t*, u64);
-static u32 w2c_f62(Z_hidreport_instance_t*, u64);
-static void w2c_f63(Z_hidreport_instance_t*, u64, u64, u64);
-static void w2c_f64(Z_hidreport_instance_t*, u64);
-static u32 w2c_f65(Z_hidreport_instance_t*, u64, u64);
-static u32 w2c_f66(Z_hidreport_instance_t*, u64, u64, u64);
-static void w2c_f67(Z_hidreport_instance_t*, u64, u64, u64);
-static void w2c_f68(Z_hidreport_instance_t*, u64);
-static void w2c_f69(Z_hidreport_instance_t*, u64);
-static u32 w2c_f70(Z_hidreport_instance_t*, u64, u64, u64, u64);
-static u32 w2c_f71(Z_hidreport_instance_t*, u64, u64, u64);
-static void w2c_f72(Z_hidreport_instance_t*, u64);
-static void w2c_f73(Z_hidreport_instance_t*, u64, u64, u64, u64, u64);
-static void w2c_f74(Z_hidreport_instance_t*, u64, u64, u64, u64, u64);
+static void w2c_f62(Z_hidreport_instance_t*, u64, u64, u64, u64);
+static u32 w2c_f63(Z_hidreport_instance_t*, u64);
+static u32 w2c_f64(Z_hidreport_instance_t*, u64);
+static void w2c_f65(Z_hidreport_instance_t*, u64, u64, u64);
+static void w2c_f66(Z_hidreport_instance_t*, u64);
+static u32 w2c_f67(Z_hidreport_instance_t*, u64, u64);
+static u32 w2c_f68(Z_hidreport_instance_t*, u64, u64, u64);
+static void w2c_f69(Z_hidreport_instance_t*, u64, u64, u64);
+static void w2c_f70(Z_hidreport_instance_t*, u64);
+static void w2c_f71(Z_hidreport_instance_t*, u64);
+static u32 w2c_f72(Z_hidreport_instance_t*, u64, u64, u64, u64);
+static u32 w2c_f73(Z_hidreport_instance_t*, u64, u64, u64);
+static void w2c_f74(Z_hidreport_instance_t*, u64);
 static void w2c_f75(Z_hidreport_instance_t*, u64, u64, u64, u64, u64);
-static void w2c_f76(Z_hidreport_instance_t*, u64, u64, u32, u64, u64);
-static void w2c_f77(Z_hidreport_instance_t*, u64, u64, u64);
-static u32 w2c_f78(Z_hidreport_instance_t*, u64);
-static void w2c_f79(Z_hidreport_instance_t*, u64, u64, u32, u32, u32);
-static void w2c_f80(Z_hidreport_instance_t*, u64, u64, u64, u64, u64);
-static void w2c_f81(Z_hidreport_instance_t*, u64, u64, u64, u64);
-static u32 w2c_f82(Z_hidreport_instance_t*, u64);
-static void w2c_f83(Z_hidreport_instance_t*, u64, u64, u64);
-static void w2c_f84(Z_hidreport_instance_t*, u64, u64, u64);
-static void w2c_f85(Z_hidreport_instance_t*, u64, u64, u64, u64);
-static u32 w2c_f86(Z_hidreport_instance_t*, u64, u32, u64, u64, u64, u64);
-static u32 w2c_f87(Z_hidreport_instance_t*, u64, u64);
-static u32 w2c_f88(Z_hidreport_instance_t*, u64, u64, u64);
-static u32 w2c_f89(Z_hidreport_instance_t*, u64, u64, u64);
-static u32 w2c_f90(Z_hidreport_instance_t*, u64, u32);
-static u32 w2c_f91(Z_hidreport_instance_t*, u64, u64, u64, u32);
-static void w2c_f92(Z_hidreport_instance_t*, u64, u64, u64, u64, u64, u64, u64);
+static void w2c_f76(Z_hidreport_instance_t*, u64, u64, u64, u64, u64);
+static void w2c_f77(Z_hidreport_instance_t*, u64, u64, u64, u64, u64);
+static void w2c_f78(Z_hidreport_instance_t*, u64, u64, u32, u64, u64);
+static void w2c_f79(Z_hidreport_instance_t*, u64, u64, u64);
+static u32 w2c_f80(Z_hidreport_instance_t*, u64);
+static void w2c_f81(Z_hidreport_instance_t*, u64, u64, u32, u32, u32);
+static void w2c_f82(Z_hidreport_instance_t*, u64, u64, u64, u64, u64);
+static void w2c_f83(Z_hidreport_instance_t*, u64, u64, u64, u64);
+static u32 w2c_f84(Z_hidreport_instance_t*, u64);
+static void w2c_f85(Z_hidreport_instance_t*, u64, u64, u64);
+static void w2c_f86(Z_hidreport_instance_t*, u64, u64, u64);
+static void w2c_f87(Z_hidreport_instance_t*, u64, u64, u64, u64);
+static u32 w2c_f88(Z_hidreport_instance_t*, u64, u32, u64, u64, u64, u64);
+static u32 w2c_f89(Z_hidreport_instance_t*, u64, u64);
+static u32 w2c_f90(Z_hidreport_instance_t*, u64, u64, u64);
+static u32 w2c_f91(Z_hidreport_instance_t*, u64, u64, u64);
+static u32 w2c_f92(Z_hidreport_instance_t*, u64, u32);
+static u32 w2c_f93(Z_hidreport_instance_t*, u64, u64, u64, u32);
+static void w2c_f94(Z_hidreport_instance_t*, u64, u64, u64, u64, u64, u64, u64);
 static u32 w2c_hidreport_version(Z_hidreport_instance_t*);
 static void w2c_hidreport_null_value(Z_hidreport_instance_t*, u64, u64);
 static void w2c_hidreport_normalized(Z_hidreport_instance_t*, u64, u64, u64);
@@ -1400,8 +1404,8 @@ static void w2c_hidreport_values(Z_hidreport_instance_t*, u64, u64, u64, u64, u6
 static void w2c_hidreport_read(Z_hidreport_instance_t*, u64, u64, u64, u64, u64, u64, u64);
 static void w2c_rattle_alloc(Z_hidreport_instance_t*, u64, u64, u64);
 static void w2c_rattle_dealloc(Z_hidreport_instance_t*, u64);
-static void w2c_f142(Z_hidreport_instance_t*, u64, u64, u64, u64, u64);
-static void w2c_f143(Z_hidreport_instance_t*, u64, u64, u64, u64, u64);
+static void w2c_f144(Z_hidreport_instance_t*, u64, u64, u64, u64, u64);
+static void w2c_f145(Z_hidreport_instance_t*, u64, u64, u64, u64, u64);
 static u64 w2c_hidreport_answer_room(Z_hidreport_instance_t*);
 
 static void init_globals(Z_hidreport_instance_t* instance) {
@@ -18228,7 +18232,7 @@ static void w2c_f13(Z_hidreport_instance_t* instance, u64 w2c_p0, u64 w2c_p1) {
   w2c_j2 += w2c_j3;
   w2c_i2 = (u32)(w2c_j2);
   w2c_j2 = i64_load(&instance->w2c_memory, (u64)(w2c_i2));
-  w2c_f63(instance, w2c_j0, w2c_j1, w2c_j2);
+  w2c_f65(instance, w2c_j0, w2c_j1, w2c_j2);
   w2c_j0 = w2c_l2;
   w2c_i0 = (u32)(w2c_j0);
   w2c_i0 = i32_load8_u(&instance->w2c_memory, (u64)(w2c_i0) + 144u);
@@ -18246,7 +18250,7 @@ static void w2c_f13(Z_hidreport_instance_t* instance, u64 w2c_p0, u64 w2c_p1) {
   w2c_j2 += w2c_j3;
   w2c_i2 = (u32)(w2c_j2);
   w2c_j2 = i64_load(&instance->w2c_memory, (u64)(w2c_i2));
-  w2c_f63(instance, w2c_j0, w2c_j1, w2c_j2);
+  w2c_f65(instance, w2c_j0, w2c_j1, w2c_j2);
   w2c_j0 = w2c_l2;
   w2c_i0 = (u32)(w2c_j0);
   w2c_i0 = i32_load8_u(&instance->w2c_memory, (u64)(w2c_i0) + 112u);
@@ -18264,7 +18268,7 @@ static void w2c_f13(Z_hidreport_instance_t* instance, u64 w2c_p0, u64 w2c_p1) {
   w2c_j2 += w2c_j3;
   w2c_i2 = (u32)(w2c_j2);
   w2c_j2 = i64_load(&instance->w2c_memory, (u64)(w2c_i2));
-  w2c_f63(instance, w2c_j0, w2c_j1, w2c_j2);
+  w2c_f65(instance, w2c_j0, w2c_j1, w2c_j2);
   w2c_j0 = w2c_l2;
   w2c_j1 = 112ull;
   w2c_j0 += w2c_j1;
@@ -18277,14 +18281,14 @@ static void w2c_f13(Z_hidreport_instance_t* instance, u64 w2c_p0, u64 w2c_p1) {
   w2c_i0 = !(w2c_i0);
   if (w2c_i0) {goto w2c_B1;}
   w2c_j0 = w2c_p1;
-  w2c_f64(instance, w2c_j0);
+  w2c_f66(instance, w2c_j0);
   w2c_B3:;
   w2c_j0 = w2c_l2;
   w2c_j1 = 144ull;
   w2c_j0 += w2c_j1;
   w2c_j1 = 8ull;
   w2c_j0 += w2c_j1;
-  w2c_f64(instance, w2c_j0);
+  w2c_f66(instance, w2c_j0);
   w2c_B2:;
   w2c_j0 = w2c_p0;
   w2c_i0 = (u32)(w2c_j0);
@@ -18617,19 +18621,24 @@ static void w2c_f14(Z_hidreport_instance_t* instance, u64 w2c_p0) {
 }
 
 static void w2c_f15(Z_hidreport_instance_t* instance, u64 w2c_p0, u64 w2c_p1, u64 w2c_p2, u32 w2c_p3, u64 w2c_p4, u32 w2c_p5, u64 w2c_p6) {
-  u32 w2c_l25 = 0, w2c_l26 = 0, w2c_l27 = 0, w2c_l28 = 0, w2c_l29 = 0, w2c_l30 = 0, w2c_l31 = 0, w2c_l32 = 0, 
-      w2c_l33 = 0;
+  u32 w2c_l30 = 0, w2c_l31 = 0, w2c_l32 = 0, w2c_l33 = 0, w2c_l34 = 0, w2c_l35 = 0, w2c_l36 = 0, w2c_l37 = 0, 
+      w2c_l38 = 0, w2c_l39 = 0, w2c_l40 = 0, w2c_l41 = 0, w2c_l42 = 0, w2c_l43 = 0, w2c_l44 = 0, w2c_l45 = 0, 
+      w2c_l46 = 0, w2c_l47 = 0;
   u64 w2c_l7 = 0, w2c_l8 = 0, w2c_l9 = 0, w2c_l10 = 0, w2c_l11 = 0, w2c_l12 = 0, w2c_l13 = 0, w2c_l14 = 0, 
       w2c_l15 = 0, w2c_l16 = 0, w2c_l17 = 0, w2c_l18 = 0, w2c_l19 = 0, w2c_l20 = 0, w2c_l21 = 0, w2c_l22 = 0, 
-      w2c_l23 = 0, w2c_l24 = 0;
+      w2c_l23 = 0, w2c_l24 = 0, w2c_l25 = 0, w2c_l26 = 0, w2c_l27 = 0, w2c_l28 = 0, w2c_l29 = 0;
   FUNC_PROLOGUE;
   u32 w2c_i0, w2c_i1, w2c_i2, w2c_i3, w2c_i4, w2c_i5;
   u64 w2c_j0, w2c_j1, w2c_j2, w2c_j3, w2c_j4, w2c_j5;
   w2c_j0 = instance->w2c_g0;
-  w2c_j1 = 12832ull;
+  w2c_j1 = 12944ull;
   w2c_j0 -= w2c_j1;
   w2c_l7 = w2c_j0;
   instance->w2c_g0 = w2c_j0;
+  w2c_j0 = w2c_l7;
+  w2c_i0 = (u32)(w2c_j0);
+  w2c_j1 = 0ull;
+  i64_store(&instance->w2c_memory, (u64)(w2c_i0) + 48, w2c_j1);
   w2c_j0 = w2c_l7;
   w2c_i0 = (u32)(w2c_j0);
   w2c_j1 = 0ull;
@@ -18642,10 +18651,6 @@ static void w2c_f15(Z_hidreport_instance_t* instance, u64 w2c_p0, u64 w2c_p1, u6
   w2c_i0 = (u32)(w2c_j0);
   w2c_j1 = 0ull;
   i64_store(&instance->w2c_memory, (u64)(w2c_i0) + 24, w2c_j1);
-  w2c_j0 = w2c_l7;
-  w2c_i0 = (u32)(w2c_j0);
-  w2c_j1 = 0ull;
-  i64_store(&instance->w2c_memory, (u64)(w2c_i0) + 16, w2c_j1);
   w2c_i0 = w2c_p5;
   w2c_i1 = 255u;
   w2c_i0 &= w2c_i1;
@@ -18717,10 +18722,6 @@ static void w2c_f15(Z_hidreport_instance_t* instance, u64 w2c_p0, u64 w2c_p1, u6
   w2c_j0 = w2c_l7;
   w2c_i0 = (u32)(w2c_j0);
   w2c_j1 = 0ull;
-  i64_store(&instance->w2c_memory, (u64)(w2c_i0) + 232, w2c_j1);
-  w2c_j0 = w2c_l7;
-  w2c_i0 = (u32)(w2c_j0);
-  w2c_j1 = 0ull;
   i64_store(&instance->w2c_memory, (u64)(w2c_i0) + 240, w2c_j1);
   w2c_j0 = w2c_l7;
   w2c_i0 = (u32)(w2c_j0);
@@ -18733,7 +18734,7 @@ static void w2c_f15(Z_hidreport_instance_t* instance, u64 w2c_p0, u64 w2c_p1, u6
   w2c_j0 = w2c_l7;
   w2c_i0 = (u32)(w2c_j0);
   w2c_j1 = 0ull;
-  i64_store(&instance->w2c_memory, (u64)(w2c_i0) + 184, w2c_j1);
+  i64_store(&instance->w2c_memory, (u64)(w2c_i0) + 264, w2c_j1);
   w2c_j0 = w2c_l7;
   w2c_i0 = (u32)(w2c_j0);
   w2c_j1 = 0ull;
@@ -18757,7 +18758,7 @@ static void w2c_f15(Z_hidreport_instance_t* instance, u64 w2c_p0, u64 w2c_p1, u6
   w2c_j0 = w2c_l7;
   w2c_i0 = (u32)(w2c_j0);
   w2c_j1 = 0ull;
-  i64_store(&instance->w2c_memory, (u64)(w2c_i0) + 128, w2c_j1);
+  i64_store(&instance->w2c_memory, (u64)(w2c_i0) + 232, w2c_j1);
   w2c_j0 = w2c_l7;
   w2c_i0 = (u32)(w2c_j0);
   w2c_j1 = 0ull;
@@ -18783,13 +18784,29 @@ static void w2c_f15(Z_hidreport_instance_t* instance, u64 w2c_p0, u64 w2c_p1, u6
   w2c_j1 = 0ull;
   i64_store(&instance->w2c_memory, (u64)(w2c_i0) + 176, w2c_j1);
   w2c_j0 = w2c_l7;
-  w2c_j1 = 48ull;
+  w2c_i0 = (u32)(w2c_j0);
+  w2c_j1 = 0ull;
+  i64_store(&instance->w2c_memory, (u64)(w2c_i0) + 184, w2c_j1);
+  w2c_j0 = w2c_l7;
+  w2c_j1 = 56ull;
   w2c_j0 += w2c_j1;
   w2c_i0 = (u32)(w2c_j0);
   w2c_i1 = 0u;
   w2c_j2 = 80ull;
   w2c_i2 = (u32)(w2c_j2);
   memory_fill(&instance->w2c_memory, w2c_i0, w2c_i1, w2c_i2);
+  w2c_j0 = w2c_l7;
+  w2c_i0 = (u32)(w2c_j0);
+  w2c_j1 = 0ull;
+  i64_store(&instance->w2c_memory, (u64)(w2c_i0) + 304, w2c_j1);
+  w2c_j0 = w2c_l7;
+  w2c_i0 = (u32)(w2c_j0);
+  w2c_j1 = 0ull;
+  i64_store(&instance->w2c_memory, (u64)(w2c_i0) + 296, w2c_j1);
+  w2c_j0 = w2c_l7;
+  w2c_i0 = (u32)(w2c_j0);
+  w2c_j1 = 0ull;
+  i64_store(&instance->w2c_memory, (u64)(w2c_i0) + 288, w2c_j1);
   w2c_j0 = w2c_l7;
   w2c_i0 = (u32)(w2c_j0);
   w2c_j1 = 0ull;
@@ -18801,29 +18818,25 @@ static void w2c_f15(Z_hidreport_instance_t* instance, u64 w2c_p0, u64 w2c_p1, u6
   w2c_j0 = w2c_l7;
   w2c_i0 = (u32)(w2c_j0);
   w2c_j1 = 0ull;
-  i64_store(&instance->w2c_memory, (u64)(w2c_i0) + 264, w2c_j1);
+  i64_store(&instance->w2c_memory, (u64)(w2c_i0) + 320, w2c_j1);
   w2c_j0 = w2c_l7;
   w2c_i0 = (u32)(w2c_j0);
   w2c_j1 = 0ull;
-  i64_store(&instance->w2c_memory, (u64)(w2c_i0) + 296, w2c_j1);
-  w2c_j0 = w2c_l7;
-  w2c_i0 = (u32)(w2c_j0);
-  w2c_j1 = 0ull;
-  i64_store(&instance->w2c_memory, (u64)(w2c_i0) + 304, w2c_j1);
+  i64_store(&instance->w2c_memory, (u64)(w2c_i0) + 328, w2c_j1);
   w2c_j0 = w2c_l7;
   w2c_i0 = (u32)(w2c_j0);
   w2c_j1 = w2c_l7;
-  w2c_j2 = 12828ull;
-  w2c_j1 += w2c_j2;
-  i64_store(&instance->w2c_memory, (u64)(w2c_i0) + 288, w2c_j1);
-  w2c_j0 = w2c_l7;
-  w2c_i0 = (u32)(w2c_j0);
-  w2c_j1 = w2c_l7;
-  w2c_j2 = 12828ull;
+  w2c_j2 = 12936ull;
   w2c_j1 += w2c_j2;
   i64_store(&instance->w2c_memory, (u64)(w2c_i0) + 312, w2c_j1);
   w2c_j0 = w2c_l7;
-  w2c_j1 = 320ull;
+  w2c_i0 = (u32)(w2c_j0);
+  w2c_j1 = w2c_l7;
+  w2c_j2 = 12936ull;
+  w2c_j1 += w2c_j2;
+  i64_store(&instance->w2c_memory, (u64)(w2c_i0) + 336, w2c_j1);
+  w2c_j0 = w2c_l7;
+  w2c_j1 = 344ull;
   w2c_j0 += w2c_j1;
   w2c_i0 = (u32)(w2c_j0);
   w2c_i1 = 0u;
@@ -18833,17 +18846,59 @@ static void w2c_f15(Z_hidreport_instance_t* instance, u64 w2c_p0, u64 w2c_p1, u6
   w2c_j0 = w2c_l7;
   w2c_i0 = (u32)(w2c_j0);
   w2c_j1 = w2c_l7;
-  w2c_j2 = 12828ull;
+  w2c_j2 = 12936ull;
   w2c_j1 += w2c_j2;
-  i64_store(&instance->w2c_memory, (u64)(w2c_i0) + 12624, w2c_j1);
+  i64_store(&instance->w2c_memory, (u64)(w2c_i0) + 12648, w2c_j1);
   w2c_j0 = w2c_l7;
-  w2c_j1 = 12632ull;
+  w2c_j1 = 12656ull;
   w2c_j0 += w2c_j1;
   w2c_i0 = (u32)(w2c_j0);
   w2c_i1 = 0u;
   w2c_j2 = 160ull;
   w2c_i2 = (u32)(w2c_j2);
   memory_fill(&instance->w2c_memory, w2c_i0, w2c_i1, w2c_i2);
+  w2c_j0 = w2c_l7;
+  w2c_i0 = (u32)(w2c_j0);
+  w2c_j1 = 0ull;
+  i64_store(&instance->w2c_memory, (u64)(w2c_i0) + 12824, w2c_j1);
+  w2c_j0 = w2c_l7;
+  w2c_i0 = (u32)(w2c_j0);
+  w2c_j1 = 0ull;
+  i64_store(&instance->w2c_memory, (u64)(w2c_i0) + 12832, w2c_j1);
+  w2c_j0 = w2c_l7;
+  w2c_i0 = (u32)(w2c_j0);
+  w2c_j1 = 0ull;
+  i64_store(&instance->w2c_memory, (u64)(w2c_i0) + 12848, w2c_j1);
+  w2c_j0 = w2c_l7;
+  w2c_i0 = (u32)(w2c_j0);
+  w2c_j1 = 0ull;
+  i64_store(&instance->w2c_memory, (u64)(w2c_i0) + 12856, w2c_j1);
+  w2c_j0 = w2c_l7;
+  w2c_i0 = (u32)(w2c_j0);
+  w2c_j1 = 0ull;
+  i64_store(&instance->w2c_memory, (u64)(w2c_i0) + 12872, w2c_j1);
+  w2c_j0 = w2c_l7;
+  w2c_i0 = (u32)(w2c_j0);
+  w2c_j1 = 0ull;
+  i64_store(&instance->w2c_memory, (u64)(w2c_i0) + 12880, w2c_j1);
+  w2c_j0 = w2c_l7;
+  w2c_i0 = (u32)(w2c_j0);
+  w2c_j1 = w2c_l7;
+  w2c_j2 = 12936ull;
+  w2c_j1 += w2c_j2;
+  i64_store(&instance->w2c_memory, (u64)(w2c_i0) + 12816, w2c_j1);
+  w2c_j0 = w2c_l7;
+  w2c_i0 = (u32)(w2c_j0);
+  w2c_j1 = w2c_l7;
+  w2c_j2 = 12936ull;
+  w2c_j1 += w2c_j2;
+  i64_store(&instance->w2c_memory, (u64)(w2c_i0) + 12840, w2c_j1);
+  w2c_j0 = w2c_l7;
+  w2c_i0 = (u32)(w2c_j0);
+  w2c_j1 = w2c_l7;
+  w2c_j2 = 12936ull;
+  w2c_j1 += w2c_j2;
+  i64_store(&instance->w2c_memory, (u64)(w2c_i0) + 12864, w2c_j1);
   w2c_j0 = w2c_p2;
   w2c_j1 = 0ull;
   w2c_i0 = w2c_j0 != w2c_j1;
@@ -18853,56 +18908,80 @@ static void w2c_f15(Z_hidreport_instance_t* instance, u64 w2c_p0, u64 w2c_p1, u6
   w2c_j0 = 7ull;
   w2c_l9 = w2c_j0;
   w2c_i0 = 1u;
-  w2c_l25 = w2c_i0;
+  w2c_l30 = w2c_i0;
   w2c_j0 = 0ull;
   w2c_l10 = w2c_j0;
   w2c_j0 = w2c_l7;
-  w2c_j1 = 12828ull;
+  w2c_j1 = 12936ull;
   w2c_j0 += w2c_j1;
   w2c_l11 = w2c_j0;
   w2c_l12 = w2c_j0;
   w2c_i0 = 1u;
   w2c_p5 = w2c_i0;
   w2c_i0 = 1u;
-  w2c_l26 = w2c_i0;
+  w2c_l31 = w2c_i0;
   w2c_j0 = w2c_l11;
   w2c_l13 = w2c_j0;
   w2c_i0 = 1u;
-  w2c_l27 = w2c_i0;
+  w2c_l32 = w2c_i0;
+  w2c_j0 = w2c_l11;
+  w2c_l14 = w2c_j0;
+  w2c_i0 = 1u;
+  w2c_l33 = w2c_i0;
+  w2c_j0 = w2c_l11;
+  w2c_l15 = w2c_j0;
+  w2c_i0 = 1u;
+  w2c_l34 = w2c_i0;
+  w2c_j0 = w2c_l11;
+  w2c_l16 = w2c_j0;
+  w2c_i0 = 1u;
+  w2c_l35 = w2c_i0;
   goto w2c_B4;
   w2c_B5:;
   w2c_j0 = w2c_l7;
-  w2c_j1 = 12761ull;
-  w2c_j0 += w2c_j1;
-  w2c_l14 = w2c_j0;
-  w2c_j0 = w2c_l7;
-  w2c_j1 = 336ull;
-  w2c_j0 += w2c_j1;
-  w2c_l15 = w2c_j0;
-  w2c_j0 = w2c_l7;
-  w2c_j1 = 12713ull;
-  w2c_j0 += w2c_j1;
-  w2c_l13 = w2c_j0;
-  w2c_j0 = w2c_l7;
-  w2c_j1 = 12624ull;
-  w2c_j0 += w2c_j1;
-  w2c_l16 = w2c_j0;
-  w2c_j0 = w2c_l7;
-  w2c_j1 = 264ull;
-  w2c_j0 += w2c_j1;
-  w2c_j1 = 24ull;
+  w2c_j1 = 12785ull;
   w2c_j0 += w2c_j1;
   w2c_l17 = w2c_j0;
   w2c_j0 = w2c_l7;
-  w2c_j1 = 312ull;
+  w2c_j1 = 360ull;
+  w2c_j0 += w2c_j1;
+  w2c_l16 = w2c_j0;
+  w2c_j0 = w2c_l7;
+  w2c_j1 = 12737ull;
+  w2c_j0 += w2c_j1;
+  w2c_l15 = w2c_j0;
+  w2c_j0 = w2c_l7;
+  w2c_j1 = 272ull;
+  w2c_j0 += w2c_j1;
+  w2c_j1 = 40ull;
   w2c_j0 += w2c_j1;
   w2c_l18 = w2c_j0;
+  w2c_j0 = w2c_l7;
+  w2c_j1 = 336ull;
+  w2c_j0 += w2c_j1;
+  w2c_l19 = w2c_j0;
+  w2c_j0 = w2c_l7;
+  w2c_j1 = 12840ull;
+  w2c_j0 += w2c_j1;
+  w2c_l20 = w2c_j0;
+  w2c_j0 = w2c_l7;
+  w2c_j1 = 12864ull;
+  w2c_j0 += w2c_j1;
+  w2c_l21 = w2c_j0;
+  w2c_j0 = w2c_l7;
+  w2c_j1 = 12816ull;
+  w2c_j0 += w2c_j1;
+  w2c_l22 = w2c_j0;
+  w2c_j0 = w2c_l7;
+  w2c_j1 = 12648ull;
+  w2c_j0 += w2c_j1;
+  w2c_l23 = w2c_j0;
   w2c_j0 = w2c_p1;
   w2c_l8 = w2c_j0;
   w2c_j0 = w2c_p2;
   w2c_p6 = w2c_j0;
   w2c_j0 = w2c_p2;
-  w2c_l19 = w2c_j0;
+  w2c_l24 = w2c_j0;
   w2c_L8: 
     w2c_j0 = w2c_p6;
     w2c_i0 = !(w2c_j0);
@@ -18911,58 +18990,58 @@ static void w2c_f15(Z_hidreport_instance_t* instance, u64 w2c_p0, u64 w2c_p1, u6
     w2c_j1 = w2c_p2;
     w2c_j2 = w2c_p6;
     w2c_j1 -= w2c_j2;
-    w2c_l20 = w2c_j1;
-    w2c_j2 = w2c_l20;
+    w2c_l25 = w2c_j1;
+    w2c_j2 = w2c_l25;
     w2c_j3 = w2c_p2;
     w2c_i2 = w2c_j2 > w2c_j3;
     w2c_j0 = w2c_i2 ? w2c_j0 : w2c_j1;
     w2c_l10 = w2c_j0;
     w2c_i0 = 1u;
-    w2c_l28 = w2c_i0;
+    w2c_l36 = w2c_i0;
     w2c_j0 = w2c_p6;
     w2c_j1 = 18446744073709551615ull;
     w2c_j0 += w2c_j1;
-    w2c_l21 = w2c_j0;
+    w2c_l12 = w2c_j0;
     w2c_i1 = 4u;
     w2c_j2 = w2c_l8;
     w2c_i2 = (u32)(w2c_j2);
     w2c_i2 = i32_load8_u(&instance->w2c_memory, (u64)(w2c_i2));
-    w2c_l26 = w2c_i2;
+    w2c_l32 = w2c_i2;
     w2c_i3 = 3u;
     w2c_i2 &= w2c_i3;
     w2c_p5 = w2c_i2;
     w2c_i3 = w2c_p5;
     w2c_i4 = 3u;
     w2c_i3 = w2c_i3 == w2c_i4;
-    w2c_l29 = w2c_i3;
+    w2c_l37 = w2c_i3;
     w2c_i1 = w2c_i3 ? w2c_i1 : w2c_i2;
-    w2c_l30 = w2c_i1;
+    w2c_l38 = w2c_i1;
     w2c_j1 = (u64)(w2c_i1);
-    w2c_l22 = w2c_j1;
+    w2c_l9 = w2c_j1;
     w2c_i0 = w2c_j0 >= w2c_j1;
     if (w2c_i0) {goto w2c_B9;}
     w2c_i0 = 1u;
-    w2c_l31 = w2c_i0;
+    w2c_l39 = w2c_i0;
     goto w2c_B6;
     w2c_B9:;
-    w2c_i0 = w2c_l26;
+    w2c_i0 = w2c_l32;
     w2c_i1 = 239u;
     w2c_i0 = w2c_i0 <= w2c_i1;
     if (w2c_i0) {goto w2c_B10;}
     w2c_i0 = 2u;
-    w2c_l31 = w2c_i0;
+    w2c_l39 = w2c_i0;
     goto w2c_B6;
     w2c_B10:;
     w2c_j0 = w2c_l8;
     w2c_j1 = 1ull;
     w2c_j0 += w2c_j1;
-    w2c_l9 = w2c_j0;
-    w2c_i0 = w2c_l26;
+    w2c_l26 = w2c_j0;
+    w2c_i0 = w2c_l32;
     w2c_i1 = 252u;
     w2c_i0 &= w2c_i1;
-    w2c_l25 = w2c_i0;
+    w2c_l35 = w2c_i0;
     w2c_i0 = w2c_p5;
-    w2c_l27 = w2c_i0;
+    w2c_l31 = w2c_i0;
     w2c_i0 = w2c_p5;
     switch (w2c_i0) {
       case 0: goto w2c_B11;
@@ -18970,395 +19049,506 @@ static void w2c_f15(Z_hidreport_instance_t* instance, u64 w2c_p0, u64 w2c_p1, u6
       default: goto w2c_B12;
     }
     w2c_B13:;
-    w2c_j0 = w2c_l9;
+    w2c_j0 = w2c_l26;
     w2c_i0 = (u32)(w2c_j0);
     w2c_i0 = i32_load8_u(&instance->w2c_memory, (u64)(w2c_i0));
-    w2c_l27 = w2c_i0;
+    w2c_l31 = w2c_i0;
     goto w2c_B11;
     w2c_B12:;
-    w2c_i0 = w2c_l30;
+    w2c_i0 = w2c_l38;
     w2c_i1 = 2u;
     w2c_i0 = w2c_i0 > w2c_i1;
     if (w2c_i0) {goto w2c_B14;}
-    w2c_j0 = w2c_l9;
+    w2c_j0 = w2c_l26;
     w2c_i0 = (u32)(w2c_j0);
     w2c_i0 = i32_load16_u(&instance->w2c_memory, (u64)(w2c_i0));
-    w2c_l27 = w2c_i0;
+    w2c_l31 = w2c_i0;
     goto w2c_B11;
     w2c_B14:;
-    w2c_j0 = w2c_l9;
+    w2c_j0 = w2c_l26;
     w2c_i0 = (u32)(w2c_j0);
     w2c_i0 = i32_load(&instance->w2c_memory, (u64)(w2c_i0));
-    w2c_l27 = w2c_i0;
+    w2c_l31 = w2c_i0;
     w2c_B11:;
     w2c_i0 = 9u;
-    w2c_l31 = w2c_i0;
-    w2c_i0 = 0u;
-    w2c_l32 = w2c_i0;
-    w2c_i0 = w2c_l25;
-    w2c_i1 = 4294967180u;
-    w2c_i0 += w2c_i1;
-    switch (w2c_i0) {
-      case 0: goto w2c_B43;
-      case 1: goto w2c_B47;
-      case 2: goto w2c_B47;
-      case 3: goto w2c_B47;
-      case 4: goto w2c_B47;
-      case 5: goto w2c_B47;
-      case 6: goto w2c_B47;
-      case 7: goto w2c_B47;
-      case 8: goto w2c_B47;
-      case 9: goto w2c_B47;
-      case 10: goto w2c_B47;
-      case 11: goto w2c_B47;
-      case 12: goto w2c_B39;
-      case 13: goto w2c_B47;
-      case 14: goto w2c_B47;
-      case 15: goto w2c_B47;
-      case 16: goto w2c_B41;
-      case 17: goto w2c_B47;
-      case 18: goto w2c_B47;
-      case 19: goto w2c_B47;
-      case 20: goto w2c_B47;
-      case 21: goto w2c_B47;
-      case 22: goto w2c_B47;
-      case 23: goto w2c_B47;
-      case 24: goto w2c_B47;
-      case 25: goto w2c_B47;
-      case 26: goto w2c_B47;
-      case 27: goto w2c_B47;
-      case 28: goto w2c_B40;
-      case 29: goto w2c_B47;
-      case 30: goto w2c_B47;
-      case 31: goto w2c_B47;
-      case 32: goto w2c_B42;
-      case 33: goto w2c_B47;
-      case 34: goto w2c_B47;
-      case 35: goto w2c_B47;
-      case 36: goto w2c_B47;
-      case 37: goto w2c_B47;
-      case 38: goto w2c_B47;
-      case 39: goto w2c_B47;
-      case 40: goto w2c_B47;
-      case 41: goto w2c_B47;
-      case 42: goto w2c_B47;
-      case 43: goto w2c_B47;
-      case 44: goto w2c_B32;
-      case 45: goto w2c_B47;
-      case 46: goto w2c_B47;
-      case 47: goto w2c_B47;
-      case 48: goto w2c_B46;
-      case 49: goto w2c_B47;
-      case 50: goto w2c_B47;
-      case 51: goto w2c_B47;
-      case 52: goto w2c_B38;
-      case 53: goto w2c_B47;
-      case 54: goto w2c_B47;
-      case 55: goto w2c_B47;
-      case 56: goto w2c_B47;
-      case 57: goto w2c_B47;
-      case 58: goto w2c_B47;
-      case 59: goto w2c_B47;
-      case 60: goto w2c_B50;
-      case 61: goto w2c_B47;
-      case 62: goto w2c_B47;
-      case 63: goto w2c_B47;
-      case 64: goto w2c_B45;
-      case 65: goto w2c_B47;
-      case 66: goto w2c_B47;
-      case 67: goto w2c_B47;
-      case 68: goto w2c_B47;
-      case 69: goto w2c_B47;
-      case 70: goto w2c_B47;
-      case 71: goto w2c_B47;
-      case 72: goto w2c_B47;
-      case 73: goto w2c_B47;
-      case 74: goto w2c_B47;
-      case 75: goto w2c_B47;
-      case 76: goto w2c_B44;
-      case 77: goto w2c_B47;
-      case 78: goto w2c_B47;
-      case 79: goto w2c_B47;
-      case 80: goto w2c_B6;
-      case 81: goto w2c_B47;
-      case 82: goto w2c_B47;
-      case 83: goto w2c_B47;
-      case 84: goto w2c_B47;
-      case 85: goto w2c_B47;
-      case 86: goto w2c_B47;
-      case 87: goto w2c_B47;
-      case 88: goto w2c_B47;
-      case 89: goto w2c_B47;
-      case 90: goto w2c_B47;
-      case 91: goto w2c_B47;
-      case 92: goto w2c_B47;
-      case 93: goto w2c_B47;
-      case 94: goto w2c_B47;
-      case 95: goto w2c_B47;
-      case 96: goto w2c_B6;
-      case 97: goto w2c_B47;
-      case 98: goto w2c_B47;
-      case 99: goto w2c_B47;
-      case 100: goto w2c_B47;
-      case 101: goto w2c_B47;
-      case 102: goto w2c_B47;
-      case 103: goto w2c_B47;
-      case 104: goto w2c_B47;
-      case 105: goto w2c_B47;
-      case 106: goto w2c_B47;
-      case 107: goto w2c_B47;
-      case 108: goto w2c_B47;
-      case 109: goto w2c_B47;
-      case 110: goto w2c_B47;
-      case 111: goto w2c_B47;
-      case 112: goto w2c_B6;
-      default: goto w2c_B51;
-    }
-    w2c_B51:;
+    w2c_l39 = w2c_i0;
     w2c_i0 = 6u;
-    w2c_l33 = w2c_i0;
+    w2c_l34 = w2c_i0;
     w2c_i0 = 0u;
-    w2c_l32 = w2c_i0;
-    w2c_i0 = w2c_l27;
-    w2c_l31 = w2c_i0;
-    w2c_i0 = w2c_l25;
+    w2c_l30 = w2c_i0;
+    w2c_i0 = 0u;
+    w2c_l40 = w2c_i0;
+    w2c_i0 = w2c_l31;
+    w2c_l33 = w2c_i0;
+    w2c_i0 = w2c_l35;
     w2c_i1 = 4294967292u;
     w2c_i0 += w2c_i1;
     switch (w2c_i0) {
-      case 0: goto w2c_B27;
-      case 1: goto w2c_B47;
-      case 2: goto w2c_B47;
-      case 3: goto w2c_B47;
-      case 4: goto w2c_B37;
-      case 5: goto w2c_B47;
-      case 6: goto w2c_B47;
-      case 7: goto w2c_B47;
-      case 8: goto w2c_B47;
-      case 9: goto w2c_B47;
-      case 10: goto w2c_B47;
-      case 11: goto w2c_B47;
-      case 12: goto w2c_B47;
-      case 13: goto w2c_B47;
-      case 14: goto w2c_B47;
-      case 15: goto w2c_B47;
-      case 16: goto w2c_B49;
-      case 17: goto w2c_B47;
-      case 18: goto w2c_B47;
-      case 19: goto w2c_B47;
-      case 20: goto w2c_B52;
-      case 21: goto w2c_B47;
-      case 22: goto w2c_B47;
-      case 23: goto w2c_B47;
-      case 24: goto w2c_B47;
-      case 25: goto w2c_B47;
-      case 26: goto w2c_B47;
-      case 27: goto w2c_B47;
-      case 28: goto w2c_B47;
-      case 29: goto w2c_B47;
-      case 30: goto w2c_B47;
-      case 31: goto w2c_B47;
-      case 32: goto w2c_B48;
-      case 33: goto w2c_B47;
-      case 34: goto w2c_B47;
-      case 35: goto w2c_B47;
-      case 36: goto w2c_B36;
-      default: goto w2c_B47;
-    }
-    w2c_B52:;
-    w2c_j0 = w2c_l7;
-    w2c_i0 = (u32)(w2c_j0);
-    w2c_i0 = i32_load(&instance->w2c_memory, (u64)(w2c_i0) + 12664u);
-    w2c_i1 = 1u;
-    w2c_i0 = w2c_i0 <= w2c_i1;
-    if (w2c_i0) {goto w2c_B34;}
-    goto w2c_B15;
-    w2c_B50:;
-    w2c_i0 = 2u;
-    w2c_l32 = w2c_i0;
-    goto w2c_B39;
-    w2c_B49:;
-    w2c_i0 = 4u;
-    w2c_l33 = w2c_i0;
-    w2c_i0 = w2c_p5;
-    w2c_l32 = w2c_i0;
-    w2c_i0 = w2c_p5;
-    w2c_l31 = w2c_i0;
-    w2c_i0 = w2c_p5;
-    switch (w2c_i0) {
-      case 0: goto w2c_B27;
-      case 1: goto w2c_B54;
+      case 0: goto w2c_B31;
+      case 1: goto w2c_B53;
+      case 2: goto w2c_B53;
+      case 3: goto w2c_B53;
+      case 4: goto w2c_B43;
+      case 5: goto w2c_B53;
+      case 6: goto w2c_B53;
+      case 7: goto w2c_B53;
+      case 8: goto w2c_B53;
+      case 9: goto w2c_B53;
+      case 10: goto w2c_B53;
+      case 11: goto w2c_B53;
+      case 12: goto w2c_B53;
+      case 13: goto w2c_B53;
+      case 14: goto w2c_B53;
+      case 15: goto w2c_B53;
+      case 16: goto w2c_B65;
+      case 17: goto w2c_B53;
+      case 18: goto w2c_B53;
+      case 19: goto w2c_B53;
+      case 20: goto w2c_B67;
+      case 21: goto w2c_B53;
+      case 22: goto w2c_B53;
+      case 23: goto w2c_B53;
+      case 24: goto w2c_B53;
+      case 25: goto w2c_B53;
+      case 26: goto w2c_B53;
+      case 27: goto w2c_B53;
+      case 28: goto w2c_B53;
+      case 29: goto w2c_B53;
+      case 30: goto w2c_B53;
+      case 31: goto w2c_B53;
+      case 32: goto w2c_B64;
+      case 33: goto w2c_B53;
+      case 34: goto w2c_B53;
+      case 35: goto w2c_B53;
+      case 36: goto w2c_B42;
+      case 37: goto w2c_B53;
+      case 38: goto w2c_B53;
+      case 39: goto w2c_B53;
+      case 40: goto w2c_B53;
+      case 41: goto w2c_B53;
+      case 42: goto w2c_B53;
+      case 43: goto w2c_B53;
+      case 44: goto w2c_B53;
+      case 45: goto w2c_B53;
+      case 46: goto w2c_B53;
+      case 47: goto w2c_B53;
+      case 48: goto w2c_B63;
+      case 49: goto w2c_B53;
+      case 50: goto w2c_B53;
+      case 51: goto w2c_B53;
+      case 52: goto w2c_B53;
+      case 53: goto w2c_B53;
+      case 54: goto w2c_B53;
+      case 55: goto w2c_B53;
+      case 56: goto w2c_B53;
+      case 57: goto w2c_B53;
+      case 58: goto w2c_B53;
+      case 59: goto w2c_B53;
+      case 60: goto w2c_B53;
+      case 61: goto w2c_B53;
+      case 62: goto w2c_B53;
+      case 63: goto w2c_B53;
+      case 64: goto w2c_B62;
+      case 65: goto w2c_B53;
+      case 66: goto w2c_B53;
+      case 67: goto w2c_B53;
+      case 68: goto w2c_B53;
+      case 69: goto w2c_B53;
+      case 70: goto w2c_B53;
+      case 71: goto w2c_B53;
+      case 72: goto w2c_B53;
+      case 73: goto w2c_B53;
+      case 74: goto w2c_B53;
+      case 75: goto w2c_B53;
+      case 76: goto w2c_B53;
+      case 77: goto w2c_B53;
+      case 78: goto w2c_B53;
+      case 79: goto w2c_B53;
+      case 80: goto w2c_B58;
+      case 81: goto w2c_B53;
+      case 82: goto w2c_B53;
+      case 83: goto w2c_B53;
+      case 84: goto w2c_B53;
+      case 85: goto w2c_B53;
+      case 86: goto w2c_B53;
+      case 87: goto w2c_B53;
+      case 88: goto w2c_B53;
+      case 89: goto w2c_B53;
+      case 90: goto w2c_B53;
+      case 91: goto w2c_B53;
+      case 92: goto w2c_B53;
+      case 93: goto w2c_B53;
+      case 94: goto w2c_B53;
+      case 95: goto w2c_B53;
+      case 96: goto w2c_B54;
+      case 97: goto w2c_B53;
+      case 98: goto w2c_B53;
+      case 99: goto w2c_B53;
+      case 100: goto w2c_B53;
+      case 101: goto w2c_B53;
+      case 102: goto w2c_B53;
+      case 103: goto w2c_B53;
+      case 104: goto w2c_B53;
+      case 105: goto w2c_B53;
+      case 106: goto w2c_B53;
+      case 107: goto w2c_B53;
+      case 108: goto w2c_B53;
+      case 109: goto w2c_B53;
+      case 110: goto w2c_B53;
+      case 111: goto w2c_B53;
+      case 112: goto w2c_B49;
+      case 113: goto w2c_B53;
+      case 114: goto w2c_B53;
+      case 115: goto w2c_B53;
+      case 116: goto w2c_B53;
+      case 117: goto w2c_B53;
+      case 118: goto w2c_B53;
+      case 119: goto w2c_B53;
+      case 120: goto w2c_B53;
+      case 121: goto w2c_B53;
+      case 122: goto w2c_B53;
+      case 123: goto w2c_B53;
+      case 124: goto w2c_B45;
+      case 125: goto w2c_B53;
+      case 126: goto w2c_B53;
+      case 127: goto w2c_B53;
+      case 128: goto w2c_B47;
+      case 129: goto w2c_B53;
+      case 130: goto w2c_B53;
+      case 131: goto w2c_B53;
+      case 132: goto w2c_B53;
+      case 133: goto w2c_B53;
+      case 134: goto w2c_B53;
+      case 135: goto w2c_B53;
+      case 136: goto w2c_B53;
+      case 137: goto w2c_B53;
+      case 138: goto w2c_B53;
+      case 139: goto w2c_B53;
+      case 140: goto w2c_B46;
+      case 141: goto w2c_B53;
+      case 142: goto w2c_B53;
+      case 143: goto w2c_B53;
+      case 144: goto w2c_B48;
+      case 145: goto w2c_B53;
+      case 146: goto w2c_B53;
+      case 147: goto w2c_B53;
+      case 148: goto w2c_B53;
+      case 149: goto w2c_B53;
+      case 150: goto w2c_B53;
+      case 151: goto w2c_B53;
+      case 152: goto w2c_B53;
+      case 153: goto w2c_B53;
+      case 154: goto w2c_B53;
+      case 155: goto w2c_B53;
+      case 156: goto w2c_B38;
+      case 157: goto w2c_B53;
+      case 158: goto w2c_B53;
+      case 159: goto w2c_B53;
+      case 160: goto w2c_B52;
+      case 161: goto w2c_B53;
+      case 162: goto w2c_B53;
+      case 163: goto w2c_B53;
+      case 164: goto w2c_B44;
+      case 165: goto w2c_B53;
+      case 166: goto w2c_B53;
+      case 167: goto w2c_B53;
+      case 168: goto w2c_B53;
+      case 169: goto w2c_B53;
+      case 170: goto w2c_B53;
+      case 171: goto w2c_B53;
+      case 172: goto w2c_B66;
+      case 173: goto w2c_B53;
+      case 174: goto w2c_B53;
+      case 175: goto w2c_B53;
+      case 176: goto w2c_B51;
+      case 177: goto w2c_B53;
+      case 178: goto w2c_B53;
+      case 179: goto w2c_B53;
+      case 180: goto w2c_B53;
+      case 181: goto w2c_B53;
+      case 182: goto w2c_B53;
+      case 183: goto w2c_B53;
+      case 184: goto w2c_B53;
+      case 185: goto w2c_B53;
+      case 186: goto w2c_B53;
+      case 187: goto w2c_B53;
+      case 188: goto w2c_B50;
+      case 189: goto w2c_B53;
+      case 190: goto w2c_B53;
+      case 191: goto w2c_B53;
+      case 192: goto w2c_B6;
+      case 193: goto w2c_B53;
+      case 194: goto w2c_B53;
+      case 195: goto w2c_B53;
+      case 196: goto w2c_B53;
+      case 197: goto w2c_B53;
+      case 198: goto w2c_B53;
+      case 199: goto w2c_B53;
+      case 200: goto w2c_B53;
+      case 201: goto w2c_B53;
+      case 202: goto w2c_B53;
+      case 203: goto w2c_B53;
+      case 204: goto w2c_B53;
+      case 205: goto w2c_B53;
+      case 206: goto w2c_B53;
+      case 207: goto w2c_B53;
+      case 208: goto w2c_B6;
+      case 209: goto w2c_B53;
+      case 210: goto w2c_B53;
+      case 211: goto w2c_B53;
+      case 212: goto w2c_B53;
+      case 213: goto w2c_B53;
+      case 214: goto w2c_B53;
+      case 215: goto w2c_B53;
+      case 216: goto w2c_B53;
+      case 217: goto w2c_B53;
+      case 218: goto w2c_B53;
+      case 219: goto w2c_B53;
+      case 220: goto w2c_B53;
+      case 221: goto w2c_B53;
+      case 222: goto w2c_B53;
+      case 223: goto w2c_B53;
+      case 224: goto w2c_B6;
       default: goto w2c_B53;
     }
-    w2c_B54:;
-    w2c_j0 = w2c_l9;
+    w2c_B67:;
+    w2c_j0 = w2c_l7;
     w2c_i0 = (u32)(w2c_j0);
-    w2c_i0 = i32_load8_s(&instance->w2c_memory, (u64)(w2c_i0));
-    w2c_l31 = w2c_i0;
-    goto w2c_B31;
-    w2c_B53:;
-    w2c_i0 = w2c_l30;
+    w2c_i0 = i32_load(&instance->w2c_memory, (u64)(w2c_i0) + 12688u);
+    w2c_i1 = 1u;
+    w2c_i0 = w2c_i0 <= w2c_i1;
+    if (w2c_i0) {goto w2c_B40;}
+    goto w2c_B15;
+    w2c_B66:;
+    w2c_i0 = 2u;
+    w2c_l30 = w2c_i0;
+    goto w2c_B45;
+    w2c_B65:;
+    w2c_i0 = 4u;
+    w2c_l34 = w2c_i0;
+    w2c_i0 = w2c_p5;
+    w2c_l40 = w2c_i0;
+    w2c_i0 = w2c_p5;
+    w2c_l33 = w2c_i0;
+    w2c_i0 = w2c_p5;
+    switch (w2c_i0) {
+      case 0: goto w2c_B31;
+      case 1: goto w2c_B57;
+      default: goto w2c_B68;
+    }
+    w2c_B68:;
+    w2c_i0 = w2c_l38;
     w2c_i1 = 2u;
     w2c_i0 = w2c_i0 > w2c_i1;
     if (w2c_i0) {goto w2c_B55;}
-    w2c_j0 = w2c_l9;
-    w2c_i0 = (u32)(w2c_j0);
-    w2c_i0 = i32_load16_s(&instance->w2c_memory, (u64)(w2c_i0));
-    w2c_l31 = w2c_i0;
-    goto w2c_B31;
-    w2c_B55:;
-    w2c_j0 = w2c_l9;
-    w2c_i0 = (u32)(w2c_j0);
-    w2c_i0 = i32_load(&instance->w2c_memory, (u64)(w2c_i0));
-    w2c_l31 = w2c_i0;
-    goto w2c_B31;
-    w2c_B48:;
+    goto w2c_B33;
+    w2c_B64:;
     w2c_i0 = 5u;
-    w2c_l33 = w2c_i0;
-    w2c_i0 = w2c_l27;
-    w2c_l32 = w2c_i0;
+    w2c_l34 = w2c_i0;
+    w2c_i0 = w2c_l31;
+    w2c_l40 = w2c_i0;
     w2c_i0 = w2c_p5;
-    w2c_l31 = w2c_i0;
+    w2c_l33 = w2c_i0;
     w2c_i0 = w2c_p5;
     switch (w2c_i0) {
-      case 0: goto w2c_B27;
+      case 0: goto w2c_B31;
+      case 1: goto w2c_B61;
+      default: goto w2c_B69;
+    }
+    w2c_B69:;
+    w2c_i0 = w2c_l38;
+    w2c_i1 = 2u;
+    w2c_i0 = w2c_i0 > w2c_i1;
+    if (w2c_i0) {goto w2c_B59;}
+    goto w2c_B34;
+    w2c_B63:;
+    w2c_i0 = 7u;
+    w2c_l34 = w2c_i0;
+    w2c_i0 = w2c_p5;
+    w2c_l40 = w2c_i0;
+    w2c_i0 = w2c_p5;
+    w2c_l33 = w2c_i0;
+    w2c_i0 = w2c_p5;
+    switch (w2c_i0) {
+      case 0: goto w2c_B31;
+      case 1: goto w2c_B57;
+      default: goto w2c_B70;
+    }
+    w2c_B70:;
+    w2c_i0 = w2c_l38;
+    w2c_i1 = 2u;
+    w2c_i0 = w2c_i0 <= w2c_i1;
+    if (w2c_i0) {goto w2c_B33;}
+    goto w2c_B55;
+    w2c_B62:;
+    w2c_i0 = 8u;
+    w2c_l34 = w2c_i0;
+    w2c_i0 = w2c_l31;
+    w2c_l40 = w2c_i0;
+    w2c_i0 = w2c_p5;
+    w2c_l33 = w2c_i0;
+    w2c_i0 = w2c_p5;
+    switch (w2c_i0) {
+      case 0: goto w2c_B31;
+      case 1: goto w2c_B61;
+      default: goto w2c_B60;
+    }
+    w2c_B61:;
+    w2c_j0 = w2c_l26;
+    w2c_i0 = (u32)(w2c_j0);
+    w2c_i0 = i32_load8_s(&instance->w2c_memory, (u64)(w2c_i0));
+    w2c_l33 = w2c_i0;
+    w2c_i0 = w2c_l31;
+    w2c_l40 = w2c_i0;
+    goto w2c_B31;
+    w2c_B60:;
+    w2c_i0 = w2c_l38;
+    w2c_i1 = 2u;
+    w2c_i0 = w2c_i0 <= w2c_i1;
+    if (w2c_i0) {goto w2c_B34;}
+    w2c_B59:;
+    w2c_j0 = w2c_l26;
+    w2c_i0 = (u32)(w2c_j0);
+    w2c_i0 = i32_load(&instance->w2c_memory, (u64)(w2c_i0));
+    w2c_l33 = w2c_i0;
+    w2c_i0 = w2c_l31;
+    w2c_l40 = w2c_i0;
+    goto w2c_B31;
+    w2c_B58:;
+    w2c_i0 = 9u;
+    w2c_l34 = w2c_i0;
+    w2c_i0 = w2c_p5;
+    w2c_l40 = w2c_i0;
+    w2c_i0 = w2c_p5;
+    w2c_l33 = w2c_i0;
+    w2c_i0 = w2c_p5;
+    switch (w2c_i0) {
+      case 0: goto w2c_B31;
       case 1: goto w2c_B57;
       default: goto w2c_B56;
     }
     w2c_B57:;
-    w2c_j0 = w2c_l9;
+    w2c_j0 = w2c_l26;
     w2c_i0 = (u32)(w2c_j0);
     w2c_i0 = i32_load8_s(&instance->w2c_memory, (u64)(w2c_i0));
-    w2c_l31 = w2c_i0;
-    w2c_i0 = w2c_l27;
-    w2c_l32 = w2c_i0;
-    goto w2c_B27;
+    w2c_l33 = w2c_i0;
+    goto w2c_B32;
     w2c_B56:;
-    w2c_i0 = w2c_l30;
+    w2c_i0 = w2c_l38;
     w2c_i1 = 2u;
-    w2c_i0 = w2c_i0 > w2c_i1;
-    if (w2c_i0) {goto w2c_B58;}
-    w2c_j0 = w2c_l9;
-    w2c_i0 = (u32)(w2c_j0);
-    w2c_i0 = i32_load16_s(&instance->w2c_memory, (u64)(w2c_i0));
-    w2c_l31 = w2c_i0;
-    w2c_i0 = w2c_l27;
-    w2c_l32 = w2c_i0;
-    goto w2c_B27;
-    w2c_B58:;
-    w2c_j0 = w2c_l9;
+    w2c_i0 = w2c_i0 <= w2c_i1;
+    if (w2c_i0) {goto w2c_B33;}
+    w2c_B55:;
+    w2c_j0 = w2c_l26;
     w2c_i0 = (u32)(w2c_j0);
     w2c_i0 = i32_load(&instance->w2c_memory, (u64)(w2c_i0));
-    w2c_l31 = w2c_i0;
-    w2c_i0 = w2c_l27;
-    w2c_l32 = w2c_i0;
-    goto w2c_B27;
-    w2c_B47:;
+    w2c_l33 = w2c_i0;
+    goto w2c_B32;
+    w2c_B54:;
+    w2c_i0 = 10u;
+    w2c_l34 = w2c_i0;
+    goto w2c_B35;
+    w2c_B53:;
     w2c_i0 = 0u;
-    w2c_l32 = w2c_i0;
+    w2c_l40 = w2c_i0;
     w2c_i0 = 0u;
-    w2c_i1 = 14u;
-    w2c_i2 = w2c_l26;
+    w2c_i1 = 18u;
+    w2c_i2 = w2c_l32;
     w2c_i3 = 12u;
     w2c_i2 &= w2c_i3;
     w2c_i0 = w2c_i2 ? w2c_i0 : w2c_i1;
-    w2c_l33 = w2c_i0;
+    w2c_l34 = w2c_i0;
     w2c_i0 = 0u;
-    w2c_l31 = w2c_i0;
-    goto w2c_B27;
-    w2c_B46:;
+    w2c_l33 = w2c_i0;
+    goto w2c_B31;
+    w2c_B52:;
     w2c_j0 = w2c_l7;
     w2c_i0 = (u32)(w2c_j0);
-    w2c_j0 = i64_load(&instance->w2c_memory, (u64)(w2c_i0) + 296u);
+    w2c_j0 = i64_load(&instance->w2c_memory, (u64)(w2c_i0) + 320u);
     w2c_j1 = 3ull;
     w2c_i0 = w2c_j0 > w2c_j1;
-    if (w2c_i0) {goto w2c_B29;}
+    if (w2c_i0) {goto w2c_B37;}
     w2c_i0 = 2u;
-    w2c_l33 = w2c_i0;
-    goto w2c_B28;
-    w2c_B45:;
-    w2c_j0 = w2c_l7;
-    w2c_i0 = (u32)(w2c_j0);
-    w2c_j0 = i64_load(&instance->w2c_memory, (u64)(w2c_i0) + 296u);
-    w2c_i0 = !(w2c_j0);
-    if (w2c_i0) {goto w2c_B59;}
-    w2c_i0 = 3u;
-    w2c_l33 = w2c_i0;
-    goto w2c_B28;
-    w2c_B59:;
-    w2c_i0 = 4u;
-    w2c_l31 = w2c_i0;
-    goto w2c_B6;
-    w2c_B44:;
+    w2c_l34 = w2c_i0;
+    goto w2c_B36;
+    w2c_B51:;
     w2c_j0 = w2c_l7;
     w2c_i0 = (u32)(w2c_j0);
     w2c_j0 = i64_load(&instance->w2c_memory, (u64)(w2c_i0) + 320u);
     w2c_i0 = !(w2c_j0);
-    if (w2c_i0) {goto w2c_B60;}
-    w2c_i0 = 12u;
-    w2c_l33 = w2c_i0;
-    goto w2c_B28;
-    w2c_B60:;
-    w2c_i0 = 5u;
-    w2c_l31 = w2c_i0;
+    if (w2c_i0) {goto w2c_B71;}
+    w2c_i0 = 3u;
+    w2c_l34 = w2c_i0;
+    goto w2c_B36;
+    w2c_B71:;
+    w2c_i0 = 4u;
+    w2c_l39 = w2c_i0;
     goto w2c_B6;
-    w2c_B43:;
-    w2c_i0 = w2c_l27;
+    w2c_B50:;
+    w2c_j0 = w2c_l7;
+    w2c_i0 = (u32)(w2c_j0);
+    w2c_j0 = i64_load(&instance->w2c_memory, (u64)(w2c_i0) + 344u);
+    w2c_i0 = !(w2c_j0);
+    if (w2c_i0) {goto w2c_B72;}
+    w2c_i0 = 16u;
+    w2c_l34 = w2c_i0;
+    goto w2c_B36;
+    w2c_B72:;
+    w2c_i0 = 5u;
+    w2c_l39 = w2c_i0;
+    goto w2c_B6;
+    w2c_B49:;
+    w2c_i0 = w2c_l31;
     w2c_i1 = 256u;
     w2c_i0 = w2c_i0 > w2c_i1;
-    if (w2c_i0) {goto w2c_B61;}
-    w2c_i0 = 7u;
-    w2c_l33 = w2c_i0;
-    w2c_i0 = w2c_l27;
-    w2c_l31 = w2c_i0;
-    goto w2c_B27;
-    w2c_B61:;
+    if (w2c_i0) {goto w2c_B73;}
+    w2c_i0 = 11u;
+    w2c_l34 = w2c_i0;
+    goto w2c_B35;
+    w2c_B73:;
     w2c_i0 = 6u;
-    w2c_l31 = w2c_i0;
+    w2c_l39 = w2c_i0;
     goto w2c_B6;
-    w2c_B42:;
-    w2c_i0 = w2c_l27;
+    w2c_B48:;
+    w2c_i0 = w2c_l31;
     w2c_i1 = 12288u;
     w2c_i0 = w2c_i0 > w2c_i1;
-    if (w2c_i0) {goto w2c_B62;}
-    w2c_i0 = 8u;
-    w2c_l33 = w2c_i0;
-    w2c_i0 = w2c_l27;
-    w2c_l31 = w2c_i0;
-    goto w2c_B27;
-    w2c_B62:;
+    if (w2c_i0) {goto w2c_B74;}
+    w2c_i0 = 12u;
+    w2c_l34 = w2c_i0;
+    goto w2c_B35;
+    w2c_B74:;
     w2c_i0 = 7u;
-    w2c_l31 = w2c_i0;
+    w2c_l39 = w2c_i0;
     goto w2c_B6;
-    w2c_B41:;
-    w2c_i0 = w2c_l27;
+    w2c_B47:;
+    w2c_i0 = w2c_l31;
     w2c_i1 = 4294967040u;
     w2c_i0 += w2c_i1;
     w2c_i1 = 4294967041u;
     w2c_i0 = w2c_i0 < w2c_i1;
-    if (w2c_i0) {goto w2c_B63;}
-    w2c_i0 = 9u;
-    w2c_l33 = w2c_i0;
-    w2c_i0 = w2c_l27;
-    w2c_l31 = w2c_i0;
-    goto w2c_B27;
-    w2c_B63:;
+    if (w2c_i0) {goto w2c_B75;}
+    w2c_i0 = 13u;
+    w2c_l34 = w2c_i0;
+    goto w2c_B35;
+    w2c_B75:;
     w2c_i0 = 8u;
-    w2c_l31 = w2c_i0;
+    w2c_l39 = w2c_i0;
     goto w2c_B6;
-    w2c_B40:;
+    w2c_B46:;
     w2c_i0 = 1u;
-    w2c_l32 = w2c_i0;
-    w2c_B39:;
+    w2c_l30 = w2c_i0;
+    w2c_B45:;
     w2c_j0 = w2c_l7;
     w2c_i0 = (u32)(w2c_j0);
-    w2c_i0 = i32_load(&instance->w2c_memory, (u64)(w2c_i0) + 268u);
-    w2c_l26 = w2c_i0;
+    w2c_i0 = i32_load(&instance->w2c_memory, (u64)(w2c_i0) + 276u);
+    w2c_l32 = w2c_i0;
     w2c_j1 = w2c_l7;
     w2c_i1 = (u32)(w2c_j1);
-    w2c_i1 = i32_load(&instance->w2c_memory, (u64)(w2c_i1) + 264u);
+    w2c_i1 = i32_load(&instance->w2c_memory, (u64)(w2c_i1) + 272u);
     w2c_p5 = w2c_i1;
     w2c_i0 = (u32)((s32)w2c_i0 < (s32)w2c_i1);
-    w2c_i1 = w2c_l26;
+    w2c_i1 = w2c_l32;
     w2c_i2 = w2c_p5;
     w2c_i1 = w2c_i1 < w2c_i2;
     w2c_i2 = w2c_p5;
@@ -19366,347 +19556,362 @@ static void w2c_f15(Z_hidreport_instance_t* instance, u64 w2c_p0, u64 w2c_p1, u6
     w2c_i2 = (u32)((s32)w2c_i2 < (s32)w2c_i3);
     w2c_i0 = w2c_i2 ? w2c_i0 : w2c_i1;
     w2c_i0 = !(w2c_i0);
-    if (w2c_i0) {goto w2c_B64;}
+    if (w2c_i0) {goto w2c_B76;}
     w2c_i0 = 14u;
-    w2c_l31 = w2c_i0;
+    w2c_l39 = w2c_i0;
     goto w2c_B6;
-    w2c_B64:;
+    w2c_B76:;
     w2c_i0 = 4294967295u;
     w2c_i1 = 4294967295u;
     w2c_j2 = w2c_l7;
     w2c_i2 = (u32)(w2c_j2);
-    w2c_i2 = i32_load(&instance->w2c_memory, (u64)(w2c_i2) + 276u);
+    w2c_i2 = i32_load(&instance->w2c_memory, (u64)(w2c_i2) + 300u);
     w2c_p5 = w2c_i2;
     w2c_j3 = w2c_l7;
     w2c_i3 = (u32)(w2c_j3);
-    w2c_i3 = i32_load(&instance->w2c_memory, (u64)(w2c_i3) + 272u);
-    w2c_l26 = w2c_i3;
+    w2c_i3 = i32_load(&instance->w2c_memory, (u64)(w2c_i3) + 296u);
+    w2c_l32 = w2c_i3;
     w2c_i2 *= w2c_i3;
-    w2c_l25 = w2c_i2;
+    w2c_l33 = w2c_i2;
     w2c_j3 = w2c_l7;
-    w2c_j4 = 264ull;
+    w2c_j4 = 272ull;
     w2c_j3 += w2c_j4;
-    w2c_i4 = w2c_l32;
+    w2c_i4 = w2c_l30;
     w2c_j4 = (u64)(w2c_i4);
     w2c_j5 = 12ull;
     w2c_j4 <<= (w2c_j5 & 63);
     w2c_j3 += w2c_j4;
     w2c_j4 = w2c_l7;
     w2c_i4 = (u32)(w2c_j4);
-    w2c_j4 = i64_load32_u(&instance->w2c_memory, (u64)(w2c_i4) + 280u);
-    w2c_j5 = 4ull;
-    w2c_j4 <<= (w2c_j5 & 63);
-    w2c_j5 = 4080ull;
-    w2c_j4 &= w2c_j5;
+    w2c_i4 = i32_load(&instance->w2c_memory, (u64)(w2c_i4) + 304u);
+    w2c_l40 = w2c_i4;
+    w2c_i5 = 4u;
+    w2c_i4 <<= (w2c_i5 & 31);
+    w2c_i5 = 4080u;
+    w2c_i4 &= w2c_i5;
+    w2c_j4 = (u64)(w2c_i4);
+    w2c_p6 = w2c_j4;
     w2c_j3 += w2c_j4;
-    w2c_j4 = 84ull;
+    w2c_j4 = 100ull;
     w2c_j3 += w2c_j4;
     w2c_i3 = (u32)(w2c_j3);
     w2c_i3 = i32_load(&instance->w2c_memory, (u64)(w2c_i3));
-    w2c_l31 = w2c_i3;
+    w2c_l34 = w2c_i3;
     w2c_i2 += w2c_i3;
-    w2c_l33 = w2c_i2;
-    w2c_i3 = w2c_l33;
-    w2c_i4 = w2c_l25;
+    w2c_l35 = w2c_i2;
+    w2c_i3 = w2c_l35;
+    w2c_i4 = w2c_l33;
     w2c_i3 = w2c_i3 < w2c_i4;
     w2c_i1 = w2c_i3 ? w2c_i1 : w2c_i2;
     w2c_i2 = w2c_p5;
     w2c_j2 = (u64)(w2c_i2);
-    w2c_i3 = w2c_l26;
+    w2c_i3 = w2c_l32;
     w2c_j3 = (u64)(w2c_i3);
     w2c_j2 *= w2c_j3;
     w2c_j3 = 32ull;
     w2c_j2 >>= (w2c_j3 & 63);
     w2c_i2 = (u32)(w2c_j2);
     w2c_i0 = w2c_i2 ? w2c_i0 : w2c_i1;
-    w2c_i1 = w2c_l31;
+    w2c_i1 = w2c_l34;
     w2c_i2 = w2c_p5;
     w2c_i0 = w2c_i2 ? w2c_i0 : w2c_i1;
     w2c_i1 = 131064u;
     w2c_i0 = w2c_i0 <= w2c_i1;
     if (w2c_i0) {goto w2c_B30;}
     w2c_i0 = 15u;
-    w2c_l31 = w2c_i0;
+    w2c_l39 = w2c_i0;
     goto w2c_B6;
-    w2c_B38:;
+    w2c_B44:;
     w2c_j0 = w2c_l7;
     w2c_i0 = (u32)(w2c_j0);
-    w2c_i0 = i32_load8_u(&instance->w2c_memory, (u64)(w2c_i0) + 12660u);
-    w2c_i1 = w2c_l27;
+    w2c_i0 = i32_load8_u(&instance->w2c_memory, (u64)(w2c_i0) + 12684u);
+    w2c_i1 = w2c_l31;
     w2c_i2 = 0u;
     w2c_i1 = w2c_i1 != w2c_i2;
     w2c_p5 = w2c_i1;
     w2c_i0 = w2c_i0 != w2c_i1;
-    if (w2c_i0) {goto w2c_B33;}
+    if (w2c_i0) {goto w2c_B39;}
     w2c_i0 = 10u;
-    w2c_l31 = w2c_i0;
+    w2c_l39 = w2c_i0;
     goto w2c_B6;
-    w2c_B37:;
+    w2c_B43:;
     w2c_j0 = w2c_l7;
     w2c_i0 = (u32)(w2c_j0);
-    w2c_i0 = i32_load(&instance->w2c_memory, (u64)(w2c_i0) + 12664u);
+    w2c_i0 = i32_load(&instance->w2c_memory, (u64)(w2c_i0) + 12688u);
     w2c_i1 = 2u;
     w2c_i0 = w2c_i0 >= w2c_i1;
     if (w2c_i0) {goto w2c_B15;}
     w2c_j0 = w2c_l7;
     w2c_i0 = (u32)(w2c_j0);
-    w2c_i0 = i32_load(&instance->w2c_memory, (u64)(w2c_i0) + 12648u);
+    w2c_i0 = i32_load(&instance->w2c_memory, (u64)(w2c_i0) + 12672u);
     w2c_i1 = 12287u;
     w2c_i0 = w2c_i0 <= w2c_i1;
-    if (w2c_i0) {goto w2c_B35;}
+    if (w2c_i0) {goto w2c_B41;}
     w2c_i0 = 13u;
-    w2c_l31 = w2c_i0;
+    w2c_l39 = w2c_i0;
     goto w2c_B6;
-    w2c_B36:;
+    w2c_B42:;
     w2c_j0 = w2c_l7;
     w2c_i0 = (u32)(w2c_j0);
-    w2c_i0 = i32_load(&instance->w2c_memory, (u64)(w2c_i0) + 12664u);
+    w2c_i0 = i32_load(&instance->w2c_memory, (u64)(w2c_i0) + 12688u);
     w2c_i1 = 1u;
     w2c_i0 = w2c_i0 > w2c_i1;
     if (w2c_i0) {goto w2c_B15;}
     w2c_j0 = w2c_l7;
     w2c_i0 = (u32)(w2c_j0);
-    w2c_i0 = i32_load(&instance->w2c_memory, (u64)(w2c_i0) + 12656u);
+    w2c_i0 = i32_load(&instance->w2c_memory, (u64)(w2c_i0) + 12680u);
     w2c_p5 = w2c_i0;
     w2c_j1 = w2c_l7;
     w2c_i1 = (u32)(w2c_j1);
-    w2c_i1 = i32_load(&instance->w2c_memory, (u64)(w2c_i1) + 12648u);
-    w2c_l25 = w2c_i1;
+    w2c_i1 = i32_load(&instance->w2c_memory, (u64)(w2c_i1) + 12672u);
+    w2c_l33 = w2c_i1;
     w2c_i0 -= w2c_i1;
     w2c_i1 = 12287u;
     w2c_i0 += w2c_i1;
-    w2c_l31 = w2c_i0;
-    w2c_i1 = w2c_l27;
-    w2c_i2 = w2c_l25;
-    w2c_i3 = w2c_l27;
+    w2c_l35 = w2c_i0;
+    w2c_i1 = w2c_l31;
+    w2c_i2 = w2c_l33;
+    w2c_i3 = w2c_l31;
     w2c_i2 += w2c_i3;
     w2c_i3 = w2c_p5;
     w2c_i2 -= w2c_i3;
-    w2c_l32 = w2c_i2;
+    w2c_l34 = w2c_i2;
     w2c_i3 = 12287u;
     w2c_i2 = w2c_i2 > w2c_i3;
     w2c_i0 = w2c_i2 ? w2c_i0 : w2c_i1;
-    w2c_l26 = w2c_i0;
-    w2c_i0 = w2c_l32;
+    w2c_l32 = w2c_i0;
+    w2c_i0 = w2c_l34;
     w2c_i1 = 12288u;
     w2c_i0 = w2c_i0 < w2c_i1;
-    w2c_l32 = w2c_i0;
-    if (w2c_i0) {goto w2c_B65;}
-    w2c_i0 = w2c_l26;
-    if (w2c_i0) {goto w2c_B65;}
+    w2c_l34 = w2c_i0;
+    if (w2c_i0) {goto w2c_B77;}
+    w2c_i0 = w2c_l32;
+    if (w2c_i0) {goto w2c_B77;}
     w2c_i0 = 11u;
-    w2c_l31 = w2c_i0;
+    w2c_l39 = w2c_i0;
     goto w2c_B6;
-    w2c_B65:;
-    w2c_i0 = w2c_l26;
+    w2c_B77:;
+    w2c_i0 = w2c_l32;
     w2c_i1 = 4294967295u;
     w2c_i0 = w2c_i0 != w2c_i1;
-    if (w2c_i0) {goto w2c_B66;}
+    if (w2c_i0) {goto w2c_B78;}
     w2c_i0 = 12u;
-    w2c_l31 = w2c_i0;
+    w2c_l39 = w2c_i0;
     goto w2c_B6;
-    w2c_B66:;
+    w2c_B78:;
     w2c_j0 = 0ull;
-    w2c_i1 = w2c_l26;
+    w2c_i1 = w2c_l32;
     w2c_i2 = w2c_p5;
     w2c_i1 -= w2c_i2;
     w2c_j1 = (u64)(w2c_i1);
     w2c_j2 = 1ull;
     w2c_j1 += w2c_j2;
-    w2c_i2 = w2c_l26;
+    w2c_i2 = w2c_l32;
     w2c_i3 = w2c_p5;
     w2c_i2 = w2c_i2 < w2c_i3;
     w2c_j0 = w2c_i2 ? w2c_j0 : w2c_j1;
-    w2c_i1 = w2c_l25;
+    w2c_i1 = w2c_l33;
     w2c_j1 = (u64)(w2c_i1);
     w2c_j0 += w2c_j1;
     w2c_j1 = 12288ull;
     w2c_i0 = w2c_j0 <= w2c_j1;
-    if (w2c_i0) {goto w2c_B67;}
+    if (w2c_i0) {goto w2c_B79;}
     w2c_i0 = 13u;
-    w2c_l31 = w2c_i0;
+    w2c_l39 = w2c_i0;
     goto w2c_B6;
-    w2c_B67:;
-    w2c_i0 = w2c_l29;
-    w2c_i1 = w2c_l27;
+    w2c_B79:;
+    w2c_i0 = w2c_l37;
+    w2c_i1 = w2c_l31;
     w2c_i2 = 65536u;
     w2c_i1 = w2c_i1 < w2c_i2;
     w2c_i0 &= w2c_i1;
-    w2c_l26 = w2c_i0;
+    w2c_l32 = w2c_i0;
     w2c_i1 = 4294967295u;
     w2c_i0 ^= w2c_i1;
-    w2c_i1 = w2c_l27;
+    w2c_i1 = w2c_l31;
     w2c_i2 = w2c_p5;
     w2c_i1 = w2c_i1 >= w2c_i2;
     w2c_i0 &= w2c_i1;
-    if (w2c_i0) {goto w2c_B68;}
+    if (w2c_i0) {goto w2c_B80;}
     w2c_j0 = w2c_l7;
     w2c_i0 = (u32)(w2c_j0);
-    w2c_i0 = i32_load8_u(&instance->w2c_memory, (u64)(w2c_i0) + 12696u);
+    w2c_i0 = i32_load8_u(&instance->w2c_memory, (u64)(w2c_i0) + 12720u);
     w2c_i1 = 255u;
     w2c_i0 &= w2c_i1;
     w2c_i1 = 1u;
     w2c_i0 = w2c_i0 == w2c_i1;
-    if (w2c_i0) {goto w2c_B68;}
-    w2c_j0 = w2c_l13;
+    if (w2c_i0) {goto w2c_B80;}
+    w2c_j0 = w2c_l15;
     w2c_i0 = (u32)(w2c_j0);
     w2c_i1 = 0u;
     i32_store(&instance->w2c_memory, (u64)(w2c_i0), w2c_i1);
-    w2c_j0 = w2c_l13;
+    w2c_j0 = w2c_l15;
     w2c_i0 = (u32)(w2c_j0);
     w2c_i1 = 0u;
     i32_store(&instance->w2c_memory, (u64)(w2c_i0) + 3, w2c_i1);
     w2c_j0 = w2c_l7;
     w2c_i0 = (u32)(w2c_j0);
     w2c_j1 = w2c_l10;
-    i64_store(&instance->w2c_memory, (u64)(w2c_i0) + 12704, w2c_j1);
+    i64_store(&instance->w2c_memory, (u64)(w2c_i0) + 12728, w2c_j1);
     w2c_j0 = w2c_l7;
     w2c_i0 = (u32)(w2c_j0);
     w2c_j1 = 1ull;
-    i64_store(&instance->w2c_memory, (u64)(w2c_i0) + 12696, w2c_j1);
+    i64_store(&instance->w2c_memory, (u64)(w2c_i0) + 12720, w2c_j1);
     w2c_j0 = w2c_l7;
     w2c_i0 = (u32)(w2c_j0);
     w2c_i1 = 1u;
     w2c_i2 = 2u;
     w2c_i3 = 0u;
-    w2c_i4 = w2c_l26;
+    w2c_i4 = w2c_l32;
     w2c_i2 = w2c_i4 ? w2c_i2 : w2c_i3;
-    w2c_i3 = w2c_l27;
+    w2c_i3 = w2c_l31;
     w2c_i4 = w2c_p5;
     w2c_i3 = w2c_i3 < w2c_i4;
     w2c_i1 = w2c_i3 ? w2c_i1 : w2c_i2;
-    i32_store8(&instance->w2c_memory, (u64)(w2c_i0) + 12712, w2c_i1);
-    w2c_B68:;
-    w2c_i0 = w2c_l27;
+    i32_store8(&instance->w2c_memory, (u64)(w2c_i0) + 12736, w2c_i1);
+    w2c_B80:;
+    w2c_i0 = w2c_l31;
     w2c_i1 = w2c_p5;
     w2c_i0 = w2c_i0 < w2c_i1;
-    if (w2c_i0) {goto w2c_B69;}
-    w2c_i0 = w2c_l32;
-    if (w2c_i0) {goto w2c_B69;}
+    if (w2c_i0) {goto w2c_B81;}
+    w2c_i0 = w2c_l34;
+    if (w2c_i0) {goto w2c_B81;}
     w2c_j0 = w2c_l7;
     w2c_i0 = (u32)(w2c_j0);
-    w2c_i0 = i32_load8_u(&instance->w2c_memory, (u64)(w2c_i0) + 12744u);
+    w2c_i0 = i32_load8_u(&instance->w2c_memory, (u64)(w2c_i0) + 12768u);
     w2c_i1 = 255u;
     w2c_i0 &= w2c_i1;
     w2c_i1 = 1u;
     w2c_i0 = w2c_i0 == w2c_i1;
-    if (w2c_i0) {goto w2c_B69;}
+    if (w2c_i0) {goto w2c_B81;}
     w2c_j0 = w2c_l7;
     w2c_i0 = (u32)(w2c_j0);
     w2c_j1 = 0ull;
-    i64_store(&instance->w2c_memory, (u64)(w2c_i0) + 12760, w2c_j1);
+    i64_store(&instance->w2c_memory, (u64)(w2c_i0) + 12784, w2c_j1);
     w2c_j0 = w2c_l7;
     w2c_i0 = (u32)(w2c_j0);
     w2c_j1 = w2c_l10;
-    i64_store(&instance->w2c_memory, (u64)(w2c_i0) + 12752, w2c_j1);
+    i64_store(&instance->w2c_memory, (u64)(w2c_i0) + 12776, w2c_j1);
     w2c_j0 = w2c_l7;
     w2c_i0 = (u32)(w2c_j0);
     w2c_j1 = 1ull;
-    i64_store(&instance->w2c_memory, (u64)(w2c_i0) + 12744, w2c_j1);
-    w2c_B69:;
-    w2c_i0 = w2c_l27;
-    w2c_i1 = w2c_l31;
-    w2c_i2 = w2c_l32;
+    i64_store(&instance->w2c_memory, (u64)(w2c_i0) + 12768, w2c_j1);
+    w2c_B81:;
+    w2c_i0 = w2c_l31;
+    w2c_i1 = w2c_l35;
+    w2c_i2 = w2c_l34;
     w2c_i0 = w2c_i2 ? w2c_i0 : w2c_i1;
-    w2c_l26 = w2c_i0;
+    w2c_l32 = w2c_i0;
     w2c_i1 = w2c_p5;
     w2c_i0 = w2c_i0 < w2c_i1;
     if (w2c_i0) {goto w2c_B15;}
     w2c_i0 = 1u;
-    w2c_l27 = w2c_i0;
+    w2c_l33 = w2c_i0;
     w2c_i0 = w2c_p5;
-    w2c_l25 = w2c_i0;
-    w2c_i0 = w2c_l26;
-    w2c_l32 = w2c_i0;
-    w2c_i0 = w2c_l29;
-    if (w2c_i0) {goto w2c_B70;}
+    w2c_l34 = w2c_i0;
+    w2c_i0 = w2c_l32;
+    w2c_l35 = w2c_i0;
+    w2c_i0 = w2c_l37;
+    if (w2c_i0) {goto w2c_B82;}
     w2c_j0 = w2c_l7;
     w2c_i0 = (u32)(w2c_j0);
-    w2c_i0 = i32_load(&instance->w2c_memory, (u64)(w2c_i0) + 284u);
+    w2c_i0 = i32_load(&instance->w2c_memory, (u64)(w2c_i0) + 308u);
     w2c_i1 = 16u;
     w2c_i0 <<= (w2c_i1 & 31);
-    w2c_l27 = w2c_i0;
-    w2c_i1 = w2c_l26;
+    w2c_l33 = w2c_i0;
+    w2c_i1 = w2c_l32;
     w2c_i2 = 65535u;
     w2c_i1 &= w2c_i2;
     w2c_i0 |= w2c_i1;
-    w2c_l32 = w2c_i0;
-    w2c_i0 = w2c_l27;
+    w2c_l35 = w2c_i0;
+    w2c_i0 = w2c_l33;
     w2c_i1 = w2c_p5;
     w2c_i2 = 65535u;
     w2c_i1 &= w2c_i2;
     w2c_i0 |= w2c_i1;
-    w2c_l25 = w2c_i0;
+    w2c_l34 = w2c_i0;
     w2c_i0 = 0u;
-    w2c_l27 = w2c_i0;
-    w2c_B70:;
+    w2c_l33 = w2c_i0;
+    w2c_B82:;
     w2c_j0 = w2c_l7;
     w2c_i0 = (u32)(w2c_j0);
     w2c_i1 = 0u;
-    i32_store8(&instance->w2c_memory, (u64)(w2c_i0) + 12826, w2c_i1);
+    i32_store8(&instance->w2c_memory, (u64)(w2c_i0) + 12934, w2c_i1);
     w2c_j0 = w2c_l7;
     w2c_i0 = (u32)(w2c_j0);
     w2c_i1 = 0u;
-    i32_store16(&instance->w2c_memory, (u64)(w2c_i0) + 12824, w2c_i1);
+    i32_store16(&instance->w2c_memory, (u64)(w2c_i0) + 12932, w2c_i1);
     w2c_j0 = w2c_l7;
     w2c_i0 = (u32)(w2c_j0);
-    w2c_j0 = i64_load(&instance->w2c_memory, (u64)(w2c_i0) + 12640u);
+    w2c_j0 = i64_load(&instance->w2c_memory, (u64)(w2c_i0) + 12664u);
     w2c_j1 = w2c_l7;
     w2c_i1 = (u32)(w2c_j1);
-    w2c_j1 = i64_load(&instance->w2c_memory, (u64)(w2c_i1) + 12632u);
+    w2c_j1 = i64_load(&instance->w2c_memory, (u64)(w2c_i1) + 12656u);
     w2c_l8 = w2c_j1;
     w2c_i0 = w2c_j0 != w2c_j1;
-    if (w2c_i0) {goto w2c_B71;}
-    w2c_j0 = w2c_l16;
+    if (w2c_i0) {goto w2c_B83;}
+    w2c_j0 = w2c_l23;
     w2c_i0 = w2c_f57(instance, w2c_j0);
     w2c_i0 = !(w2c_i0);
     if (w2c_i0) {goto w2c_B18;}
     w2c_j0 = w2c_l7;
     w2c_i0 = (u32)(w2c_j0);
-    w2c_j0 = i64_load(&instance->w2c_memory, (u64)(w2c_i0) + 12632u);
+    w2c_j0 = i64_load(&instance->w2c_memory, (u64)(w2c_i0) + 12656u);
     w2c_l8 = w2c_j0;
-    w2c_B71:;
+    w2c_B83:;
     w2c_j0 = w2c_l7;
     w2c_i0 = (u32)(w2c_j0);
-    w2c_j0 = i64_load(&instance->w2c_memory, (u64)(w2c_i0) + 12624u);
+    w2c_j0 = i64_load(&instance->w2c_memory, (u64)(w2c_i0) + 12648u);
     w2c_j1 = w2c_l8;
     w2c_j2 = 12ull;
     w2c_j1 *= w2c_j2;
     w2c_j0 += w2c_j1;
     w2c_p6 = w2c_j0;
     w2c_i0 = (u32)(w2c_j0);
-    w2c_i1 = w2c_l27;
+    w2c_i1 = w2c_l33;
     i32_store8(&instance->w2c_memory, (u64)(w2c_i0) + 8, w2c_i1);
     w2c_j0 = w2c_p6;
     w2c_i0 = (u32)(w2c_j0);
-    w2c_i1 = w2c_l32;
+    w2c_i1 = w2c_l35;
     i32_store(&instance->w2c_memory, (u64)(w2c_i0) + 4, w2c_i1);
     w2c_j0 = w2c_p6;
     w2c_i0 = (u32)(w2c_j0);
-    w2c_i1 = w2c_l25;
+    w2c_i1 = w2c_l34;
     i32_store(&instance->w2c_memory, (u64)(w2c_i0), w2c_i1);
     w2c_j0 = w2c_p6;
     w2c_i0 = (u32)(w2c_j0);
     w2c_j1 = w2c_l7;
     w2c_i1 = (u32)(w2c_j1);
-    w2c_i1 = i32_load16_u(&instance->w2c_memory, (u64)(w2c_i1) + 12824u);
+    w2c_i1 = i32_load16_u(&instance->w2c_memory, (u64)(w2c_i1) + 12932u);
     i32_store16(&instance->w2c_memory, (u64)(w2c_i0) + 9, w2c_i1);
     w2c_j0 = w2c_p6;
     w2c_i0 = (u32)(w2c_j0);
     w2c_j1 = w2c_l7;
     w2c_i1 = (u32)(w2c_j1);
-    w2c_i1 = i32_load8_u(&instance->w2c_memory, (u64)(w2c_i1) + 12826u);
+    w2c_i1 = i32_load8_u(&instance->w2c_memory, (u64)(w2c_i1) + 12934u);
     i32_store8(&instance->w2c_memory, (u64)(w2c_i0) + 11, w2c_i1);
     w2c_j0 = w2c_l7;
     w2c_i0 = (u32)(w2c_j0);
     w2c_j1 = w2c_l8;
     w2c_j2 = 1ull;
     w2c_j1 += w2c_j2;
-    i64_store(&instance->w2c_memory, (u64)(w2c_i0) + 12632, w2c_j1);
+    i64_store(&instance->w2c_memory, (u64)(w2c_i0) + 12656, w2c_j1);
+    w2c_j0 = w2c_l7;
+    w2c_i0 = (u32)(w2c_j0);
+    w2c_i1 = 0u;
+    w2c_i2 = w2c_l31;
+    w2c_i3 = w2c_l32;
+    w2c_i2 -= w2c_i3;
+    w2c_l33 = w2c_i2;
+    w2c_i3 = w2c_l33;
+    w2c_i4 = w2c_l31;
+    w2c_i3 = w2c_i3 > w2c_i4;
+    w2c_i1 = w2c_i3 ? w2c_i1 : w2c_i2;
+    i32_store(&instance->w2c_memory, (u64)(w2c_i0) + 12692, w2c_i1);
     w2c_j0 = w2c_l7;
     w2c_i0 = (u32)(w2c_j0);
     w2c_i1 = 4294967295u;
-    w2c_i2 = w2c_l26;
+    w2c_i2 = w2c_l32;
     w2c_i3 = w2c_p5;
     w2c_i2 -= w2c_i3;
     w2c_i3 = 1u;
@@ -19718,76 +19923,76 @@ static void w2c_f15(Z_hidreport_instance_t* instance, u64 w2c_p0, u64 w2c_p1, u6
     w2c_p5 = w2c_i2;
     w2c_j3 = w2c_l7;
     w2c_i3 = (u32)(w2c_j3);
-    w2c_i3 = i32_load(&instance->w2c_memory, (u64)(w2c_i3) + 12648u);
+    w2c_i3 = i32_load(&instance->w2c_memory, (u64)(w2c_i3) + 12672u);
     w2c_i2 += w2c_i3;
-    w2c_l26 = w2c_i2;
-    w2c_i3 = w2c_l26;
+    w2c_l31 = w2c_i2;
+    w2c_i3 = w2c_l31;
     w2c_i4 = w2c_p5;
     w2c_i3 = w2c_i3 < w2c_i4;
     w2c_i1 = w2c_i3 ? w2c_i1 : w2c_i2;
-    i32_store(&instance->w2c_memory, (u64)(w2c_i0) + 12648, w2c_i1);
+    i32_store(&instance->w2c_memory, (u64)(w2c_i0) + 12672, w2c_i1);
     goto w2c_B15;
-    w2c_B35:;
+    w2c_B41:;
     w2c_j0 = w2c_l7;
     w2c_i0 = (u32)(w2c_j0);
-    w2c_i0 = i32_load(&instance->w2c_memory, (u64)(w2c_i0) + 284u);
+    w2c_i0 = i32_load(&instance->w2c_memory, (u64)(w2c_i0) + 308u);
     w2c_p5 = w2c_i0;
     w2c_j0 = w2c_l7;
     w2c_i0 = (u32)(w2c_j0);
     w2c_i1 = 0u;
-    i32_store8(&instance->w2c_memory, (u64)(w2c_i0) + 12798, w2c_i1);
+    i32_store8(&instance->w2c_memory, (u64)(w2c_i0) + 12930, w2c_i1);
     w2c_j0 = w2c_l7;
     w2c_i0 = (u32)(w2c_j0);
     w2c_i1 = 0u;
-    i32_store16(&instance->w2c_memory, (u64)(w2c_i0) + 12796, w2c_i1);
+    i32_store16(&instance->w2c_memory, (u64)(w2c_i0) + 12928, w2c_i1);
     w2c_j0 = w2c_l7;
     w2c_i0 = (u32)(w2c_j0);
     w2c_i1 = 0u;
-    i32_store8(&instance->w2c_memory, (u64)(w2c_i0) + 12802, w2c_i1);
+    i32_store8(&instance->w2c_memory, (u64)(w2c_i0) + 12890, w2c_i1);
     w2c_j0 = w2c_l7;
     w2c_i0 = (u32)(w2c_j0);
     w2c_i1 = 0u;
-    i32_store16(&instance->w2c_memory, (u64)(w2c_i0) + 12800, w2c_i1);
+    i32_store16(&instance->w2c_memory, (u64)(w2c_i0) + 12888, w2c_i1);
     w2c_j0 = w2c_l7;
     w2c_i0 = (u32)(w2c_j0);
-    w2c_j0 = i64_load(&instance->w2c_memory, (u64)(w2c_i0) + 12640u);
+    w2c_j0 = i64_load(&instance->w2c_memory, (u64)(w2c_i0) + 12664u);
     w2c_j1 = w2c_l7;
     w2c_i1 = (u32)(w2c_j1);
-    w2c_j1 = i64_load(&instance->w2c_memory, (u64)(w2c_i1) + 12632u);
+    w2c_j1 = i64_load(&instance->w2c_memory, (u64)(w2c_i1) + 12656u);
     w2c_l8 = w2c_j1;
     w2c_i0 = w2c_j0 != w2c_j1;
-    if (w2c_i0) {goto w2c_B72;}
-    w2c_j0 = w2c_l16;
+    if (w2c_i0) {goto w2c_B84;}
+    w2c_j0 = w2c_l23;
     w2c_i0 = w2c_f57(instance, w2c_j0);
     w2c_i0 = !(w2c_i0);
     if (w2c_i0) {goto w2c_B18;}
     w2c_j0 = w2c_l7;
     w2c_i0 = (u32)(w2c_j0);
-    w2c_j0 = i64_load(&instance->w2c_memory, (u64)(w2c_i0) + 12632u);
+    w2c_j0 = i64_load(&instance->w2c_memory, (u64)(w2c_i0) + 12656u);
     w2c_l8 = w2c_j0;
-    w2c_B72:;
+    w2c_B84:;
     w2c_j0 = w2c_l7;
     w2c_i0 = (u32)(w2c_j0);
-    w2c_j0 = i64_load(&instance->w2c_memory, (u64)(w2c_i0) + 12624u);
+    w2c_j0 = i64_load(&instance->w2c_memory, (u64)(w2c_i0) + 12648u);
     w2c_j1 = w2c_l8;
     w2c_j2 = 12ull;
     w2c_j1 *= w2c_j2;
     w2c_j0 += w2c_j1;
     w2c_p6 = w2c_j0;
     w2c_i0 = (u32)(w2c_j0);
-    w2c_i1 = w2c_l29;
+    w2c_i1 = w2c_l37;
     i32_store8(&instance->w2c_memory, (u64)(w2c_i0) + 8, w2c_i1);
     w2c_j0 = w2c_p6;
     w2c_i0 = (u32)(w2c_j0);
-    w2c_i1 = w2c_l27;
+    w2c_i1 = w2c_l31;
     w2c_i2 = w2c_p5;
     w2c_i3 = 16u;
     w2c_i2 <<= (w2c_i3 & 31);
-    w2c_i3 = w2c_l27;
+    w2c_i3 = w2c_l31;
     w2c_i4 = 65535u;
     w2c_i3 &= w2c_i4;
     w2c_i2 |= w2c_i3;
-    w2c_i3 = w2c_l29;
+    w2c_i3 = w2c_l37;
     w2c_i1 = w2c_i3 ? w2c_i1 : w2c_i2;
     w2c_p5 = w2c_i1;
     i32_store(&instance->w2c_memory, (u64)(w2c_i0) + 4, w2c_i1);
@@ -19799,181 +20004,221 @@ static void w2c_f15(Z_hidreport_instance_t* instance, u64 w2c_p0, u64 w2c_p1, u6
     w2c_i0 = (u32)(w2c_j0);
     w2c_j1 = w2c_l7;
     w2c_i1 = (u32)(w2c_j1);
-    w2c_i1 = i32_load16_u(&instance->w2c_memory, (u64)(w2c_i1) + 12800u);
+    w2c_i1 = i32_load16_u(&instance->w2c_memory, (u64)(w2c_i1) + 12888u);
     i32_store16(&instance->w2c_memory, (u64)(w2c_i0) + 9, w2c_i1);
     w2c_j0 = w2c_p6;
     w2c_i0 = (u32)(w2c_j0);
     w2c_j1 = w2c_l7;
     w2c_i1 = (u32)(w2c_j1);
-    w2c_i1 = i32_load8_u(&instance->w2c_memory, (u64)(w2c_i1) + 12802u);
+    w2c_i1 = i32_load8_u(&instance->w2c_memory, (u64)(w2c_i1) + 12890u);
     i32_store8(&instance->w2c_memory, (u64)(w2c_i0) + 11, w2c_i1);
     w2c_j0 = w2c_l7;
     w2c_i0 = (u32)(w2c_j0);
     w2c_j1 = w2c_l8;
     w2c_j2 = 1ull;
     w2c_j1 += w2c_j2;
-    i64_store(&instance->w2c_memory, (u64)(w2c_i0) + 12632, w2c_j1);
+    i64_store(&instance->w2c_memory, (u64)(w2c_i0) + 12656, w2c_j1);
     w2c_j0 = w2c_l7;
     w2c_i0 = (u32)(w2c_j0);
     w2c_j1 = w2c_l7;
     w2c_i1 = (u32)(w2c_j1);
-    w2c_i1 = i32_load(&instance->w2c_memory, (u64)(w2c_i1) + 12648u);
+    w2c_i1 = i32_load(&instance->w2c_memory, (u64)(w2c_i1) + 12672u);
     w2c_i2 = 1u;
     w2c_i1 += w2c_i2;
     w2c_p5 = w2c_i1;
     w2c_i2 = 4294967295u;
     w2c_i3 = w2c_p5;
     w2c_i1 = w2c_i3 ? w2c_i1 : w2c_i2;
-    i32_store(&instance->w2c_memory, (u64)(w2c_i0) + 12648, w2c_i1);
+    i32_store(&instance->w2c_memory, (u64)(w2c_i0) + 12672, w2c_i1);
     goto w2c_B15;
-    w2c_B34:;
+    w2c_B40:;
     w2c_j0 = w2c_l7;
     w2c_i0 = (u32)(w2c_j0);
-    w2c_i1 = w2c_l27;
-    i32_store(&instance->w2c_memory, (u64)(w2c_i0) + 12656, w2c_i1);
+    w2c_i1 = w2c_l31;
+    i32_store(&instance->w2c_memory, (u64)(w2c_i0) + 12680, w2c_i1);
     goto w2c_B15;
-    w2c_B33:;
+    w2c_B39:;
     w2c_j0 = w2c_l7;
     w2c_i0 = (u32)(w2c_j0);
     w2c_i1 = w2c_p5;
-    i32_store8(&instance->w2c_memory, (u64)(w2c_i0) + 12660, w2c_i1);
-    w2c_i0 = w2c_l27;
+    i32_store8(&instance->w2c_memory, (u64)(w2c_i0) + 12684, w2c_i1);
+    w2c_i0 = w2c_l31;
     w2c_i0 = !(w2c_i0);
     if (w2c_i0) {goto w2c_B15;}
     w2c_j0 = w2c_l7;
     w2c_i0 = (u32)(w2c_j0);
     w2c_j1 = w2c_l7;
     w2c_i1 = (u32)(w2c_j1);
-    w2c_i1 = i32_load(&instance->w2c_memory, (u64)(w2c_i1) + 12664u);
+    w2c_i1 = i32_load(&instance->w2c_memory, (u64)(w2c_i1) + 12688u);
     w2c_i2 = 1u;
     w2c_i1 += w2c_i2;
     w2c_p5 = w2c_i1;
     w2c_i2 = 4294967295u;
     w2c_i3 = w2c_p5;
     w2c_i1 = w2c_i3 ? w2c_i1 : w2c_i2;
-    i32_store(&instance->w2c_memory, (u64)(w2c_i0) + 12664, w2c_i1);
+    i32_store(&instance->w2c_memory, (u64)(w2c_i0) + 12688, w2c_i1);
     goto w2c_B15;
-    w2c_B32:;
-    w2c_i0 = w2c_l27;
+    w2c_B38:;
+    w2c_i0 = w2c_l31;
     w2c_i1 = 255u;
     w2c_i0 &= w2c_i1;
-    w2c_l31 = w2c_i0;
-    w2c_i0 = 11u;
     w2c_l33 = w2c_i0;
-    w2c_B31:;
-    w2c_i0 = 0u;
-    w2c_l32 = w2c_i0;
-    goto w2c_B27;
-    w2c_B30:;
-    w2c_i0 = w2c_l32;
-    w2c_l25 = w2c_i0;
-    w2c_i0 = w2c_l27;
-    w2c_l31 = w2c_i0;
-    goto w2c_B26;
-    w2c_B29:;
+    w2c_i0 = 15u;
+    w2c_l34 = w2c_i0;
+    goto w2c_B32;
+    w2c_B37:;
     w2c_i0 = 3u;
-    w2c_l31 = w2c_i0;
+    w2c_l39 = w2c_i0;
     goto w2c_B6;
-    w2c_B28:;
+    w2c_B36:;
     w2c_i0 = 0u;
-    w2c_l32 = w2c_i0;
+    w2c_l40 = w2c_i0;
     w2c_i0 = 0u;
-    w2c_l31 = w2c_i0;
-    w2c_B27:;
+    w2c_l33 = w2c_i0;
+    goto w2c_B31;
+    w2c_B35:;
     w2c_i0 = 0u;
-    w2c_l25 = w2c_i0;
-    w2c_i0 = w2c_l33;
+    w2c_l40 = w2c_i0;
+    w2c_i0 = w2c_l31;
+    w2c_l33 = w2c_i0;
+    goto w2c_B31;
+    w2c_B34:;
+    w2c_j0 = w2c_l26;
+    w2c_i0 = (u32)(w2c_j0);
+    w2c_i0 = i32_load16_s(&instance->w2c_memory, (u64)(w2c_i0));
+    w2c_l33 = w2c_i0;
+    w2c_i0 = w2c_l31;
+    w2c_l40 = w2c_i0;
+    goto w2c_B31;
+    w2c_B33:;
+    w2c_j0 = w2c_l26;
+    w2c_i0 = (u32)(w2c_j0);
+    w2c_i0 = i32_load16_s(&instance->w2c_memory, (u64)(w2c_i0));
+    w2c_l33 = w2c_i0;
+    w2c_B32:;
+    w2c_i0 = 0u;
+    w2c_l40 = w2c_i0;
+    w2c_B31:;
+    w2c_i0 = w2c_l34;
     switch (w2c_i0) {
       case 0: goto w2c_B15;
       case 1: goto w2c_B15;
-      case 2: goto w2c_B76;
-      case 3: goto w2c_B75;
-      case 4: goto w2c_B24;
-      case 5: goto w2c_B23;
+      case 2: goto w2c_B89;
+      case 3: goto w2c_B88;
+      case 4: goto w2c_B28;
+      case 5: goto w2c_B27;
       case 6: goto w2c_B19;
-      case 7: goto w2c_B22;
-      case 8: goto w2c_B21;
-      case 9: goto w2c_B20;
-      case 10: goto w2c_B15;
-      case 11: goto w2c_B74;
-      case 12: goto w2c_B73;
-      case 13: goto w2c_B26;
-      case 14: goto w2c_B25;
+      case 7: goto w2c_B26;
+      case 8: goto w2c_B25;
+      case 9: goto w2c_B24;
+      case 10: goto w2c_B23;
+      case 11: goto w2c_B22;
+      case 12: goto w2c_B21;
+      case 13: goto w2c_B20;
+      case 14: goto w2c_B15;
+      case 15: goto w2c_B87;
+      case 16: goto w2c_B86;
+      case 17: goto w2c_B85;
+      case 18: goto w2c_B29;
       default: goto w2c_B15;
     }
-    w2c_B76:;
+    w2c_B89:;
+    w2c_j0 = w2c_l7;
+    w2c_i0 = (u32)(w2c_j0);
+    w2c_j1 = w2c_l7;
+    w2c_i1 = (u32)(w2c_j1);
+    w2c_j1 = i64_load(&instance->w2c_memory, (u64)(w2c_i1) + 304u);
+    i64_store(&instance->w2c_memory, (u64)(w2c_i0) + 12920, w2c_j1);
+    w2c_j0 = w2c_l7;
+    w2c_i0 = (u32)(w2c_j0);
+    w2c_j1 = w2c_l7;
+    w2c_i1 = (u32)(w2c_j1);
+    w2c_j1 = i64_load(&instance->w2c_memory, (u64)(w2c_i1) + 296u);
+    i64_store(&instance->w2c_memory, (u64)(w2c_i0) + 12912, w2c_j1);
+    w2c_j0 = w2c_l7;
+    w2c_i0 = (u32)(w2c_j0);
+    w2c_j1 = w2c_l7;
+    w2c_i1 = (u32)(w2c_j1);
+    w2c_j1 = i64_load(&instance->w2c_memory, (u64)(w2c_i1) + 288u);
+    i64_store(&instance->w2c_memory, (u64)(w2c_i0) + 12904, w2c_j1);
     w2c_j0 = w2c_l7;
     w2c_i0 = (u32)(w2c_j0);
     w2c_j1 = w2c_l7;
     w2c_i1 = (u32)(w2c_j1);
     w2c_j1 = i64_load(&instance->w2c_memory, (u64)(w2c_i1) + 280u);
-    i64_store(&instance->w2c_memory, (u64)(w2c_i0) + 12816, w2c_j1);
+    i64_store(&instance->w2c_memory, (u64)(w2c_i0) + 12896, w2c_j1);
     w2c_j0 = w2c_l7;
     w2c_i0 = (u32)(w2c_j0);
     w2c_j1 = w2c_l7;
     w2c_i1 = (u32)(w2c_j1);
     w2c_j1 = i64_load(&instance->w2c_memory, (u64)(w2c_i1) + 272u);
-    i64_store(&instance->w2c_memory, (u64)(w2c_i0) + 12808, w2c_j1);
+    i64_store(&instance->w2c_memory, (u64)(w2c_i0) + 12888, w2c_j1);
     w2c_j0 = w2c_l7;
     w2c_i0 = (u32)(w2c_j0);
+    w2c_j0 = i64_load(&instance->w2c_memory, (u64)(w2c_i0) + 328u);
     w2c_j1 = w2c_l7;
     w2c_i1 = (u32)(w2c_j1);
-    w2c_j1 = i64_load(&instance->w2c_memory, (u64)(w2c_i1) + 264u);
-    i64_store(&instance->w2c_memory, (u64)(w2c_i0) + 12800, w2c_j1);
-    w2c_j0 = w2c_l7;
-    w2c_i0 = (u32)(w2c_j0);
-    w2c_j0 = i64_load(&instance->w2c_memory, (u64)(w2c_i0) + 304u);
-    w2c_j1 = w2c_l7;
-    w2c_i1 = (u32)(w2c_j1);
-    w2c_j1 = i64_load(&instance->w2c_memory, (u64)(w2c_i1) + 296u);
-    w2c_p6 = w2c_j1;
+    w2c_j1 = i64_load(&instance->w2c_memory, (u64)(w2c_i1) + 320u);
+    w2c_l8 = w2c_j1;
     w2c_i0 = w2c_j0 != w2c_j1;
-    if (w2c_i0) {goto w2c_B77;}
-    w2c_j0 = w2c_l17;
+    if (w2c_i0) {goto w2c_B90;}
+    w2c_j0 = w2c_l18;
     w2c_i0 = w2c_f58(instance, w2c_j0);
     w2c_i0 = !(w2c_i0);
     if (w2c_i0) {goto w2c_B18;}
     w2c_j0 = w2c_l7;
     w2c_i0 = (u32)(w2c_j0);
-    w2c_j0 = i64_load(&instance->w2c_memory, (u64)(w2c_i0) + 296u);
-    w2c_p6 = w2c_j0;
-    w2c_B77:;
+    w2c_j0 = i64_load(&instance->w2c_memory, (u64)(w2c_i0) + 320u);
+    w2c_l8 = w2c_j0;
+    w2c_B90:;
     w2c_j0 = w2c_l7;
     w2c_i0 = (u32)(w2c_j0);
-    w2c_j0 = i64_load(&instance->w2c_memory, (u64)(w2c_i0) + 288u);
-    w2c_j1 = w2c_p6;
-    w2c_j2 = 24ull;
+    w2c_j0 = i64_load(&instance->w2c_memory, (u64)(w2c_i0) + 312u);
+    w2c_j1 = w2c_l8;
+    w2c_j2 = 40ull;
     w2c_j1 *= w2c_j2;
     w2c_j0 += w2c_j1;
-    w2c_l8 = w2c_j0;
+    w2c_p6 = w2c_j0;
     w2c_i0 = (u32)(w2c_j0);
     w2c_j1 = w2c_l7;
     w2c_i1 = (u32)(w2c_j1);
-    w2c_j1 = i64_load(&instance->w2c_memory, (u64)(w2c_i1) + 12816u);
+    w2c_j1 = i64_load(&instance->w2c_memory, (u64)(w2c_i1) + 12920u);
+    i64_store(&instance->w2c_memory, (u64)(w2c_i0) + 32, w2c_j1);
+    w2c_j0 = w2c_p6;
+    w2c_i0 = (u32)(w2c_j0);
+    w2c_j1 = w2c_l7;
+    w2c_i1 = (u32)(w2c_j1);
+    w2c_j1 = i64_load(&instance->w2c_memory, (u64)(w2c_i1) + 12912u);
+    i64_store(&instance->w2c_memory, (u64)(w2c_i0) + 24, w2c_j1);
+    w2c_j0 = w2c_p6;
+    w2c_i0 = (u32)(w2c_j0);
+    w2c_j1 = w2c_l7;
+    w2c_i1 = (u32)(w2c_j1);
+    w2c_j1 = i64_load(&instance->w2c_memory, (u64)(w2c_i1) + 12904u);
     i64_store(&instance->w2c_memory, (u64)(w2c_i0) + 16, w2c_j1);
-    w2c_j0 = w2c_l8;
+    w2c_j0 = w2c_p6;
     w2c_i0 = (u32)(w2c_j0);
     w2c_j1 = w2c_l7;
     w2c_i1 = (u32)(w2c_j1);
-    w2c_j1 = i64_load(&instance->w2c_memory, (u64)(w2c_i1) + 12808u);
+    w2c_j1 = i64_load(&instance->w2c_memory, (u64)(w2c_i1) + 12896u);
     i64_store(&instance->w2c_memory, (u64)(w2c_i0) + 8, w2c_j1);
-    w2c_j0 = w2c_l8;
+    w2c_j0 = w2c_p6;
     w2c_i0 = (u32)(w2c_j0);
     w2c_j1 = w2c_l7;
     w2c_i1 = (u32)(w2c_j1);
-    w2c_j1 = i64_load(&instance->w2c_memory, (u64)(w2c_i1) + 12800u);
+    w2c_j1 = i64_load(&instance->w2c_memory, (u64)(w2c_i1) + 12888u);
     i64_store(&instance->w2c_memory, (u64)(w2c_i0), w2c_j1);
     w2c_j0 = w2c_l7;
     w2c_i0 = (u32)(w2c_j0);
-    w2c_j1 = w2c_p6;
+    w2c_j1 = w2c_l8;
     w2c_j2 = 1ull;
     w2c_j1 += w2c_j2;
-    i64_store(&instance->w2c_memory, (u64)(w2c_i0) + 296, w2c_j1);
+    i64_store(&instance->w2c_memory, (u64)(w2c_i0) + 320, w2c_j1);
     goto w2c_B15;
-    w2c_B75:;
+    w2c_B88:;
     w2c_j0 = w2c_l7;
     w2c_i0 = (u32)(w2c_j0);
-    w2c_j0 = i64_load(&instance->w2c_memory, (u64)(w2c_i0) + 296u);
+    w2c_j0 = i64_load(&instance->w2c_memory, (u64)(w2c_i0) + 320u);
     w2c_p6 = w2c_j0;
     w2c_i0 = !(w2c_j0);
     if (w2c_i0) {goto w2c_B15;}
@@ -19983,84 +20228,99 @@ static void w2c_f15(Z_hidreport_instance_t* instance, u64 w2c_p0, u64 w2c_p1, u6
     w2c_j2 = 18446744073709551615ull;
     w2c_j1 += w2c_j2;
     w2c_p6 = w2c_j1;
-    i64_store(&instance->w2c_memory, (u64)(w2c_i0) + 296, w2c_j1);
+    i64_store(&instance->w2c_memory, (u64)(w2c_i0) + 320, w2c_j1);
     w2c_j0 = w2c_l7;
     w2c_i0 = (u32)(w2c_j0);
-    w2c_j0 = i64_load(&instance->w2c_memory, (u64)(w2c_i0) + 288u);
+    w2c_j0 = i64_load(&instance->w2c_memory, (u64)(w2c_i0) + 312u);
     w2c_j1 = w2c_p6;
-    w2c_j2 = 24ull;
+    w2c_j2 = 40ull;
     w2c_j1 *= w2c_j2;
     w2c_j0 += w2c_j1;
     w2c_p6 = w2c_j0;
     w2c_i0 = (u32)(w2c_j0);
-    w2c_j0 = i64_load(&instance->w2c_memory, (u64)(w2c_i0) + 16u);
+    w2c_j0 = i64_load(&instance->w2c_memory, (u64)(w2c_i0) + 32u);
     w2c_l8 = w2c_j0;
     w2c_j0 = w2c_p6;
     w2c_i0 = (u32)(w2c_j0);
+    w2c_j0 = i64_load(&instance->w2c_memory, (u64)(w2c_i0) + 24u);
+    w2c_l25 = w2c_j0;
+    w2c_j0 = w2c_p6;
+    w2c_i0 = (u32)(w2c_j0);
+    w2c_j0 = i64_load(&instance->w2c_memory, (u64)(w2c_i0) + 16u);
+    w2c_l27 = w2c_j0;
+    w2c_j0 = w2c_p6;
+    w2c_i0 = (u32)(w2c_j0);
     w2c_j0 = i64_load(&instance->w2c_memory, (u64)(w2c_i0) + 8u);
-    w2c_l20 = w2c_j0;
+    w2c_l28 = w2c_j0;
     w2c_j0 = w2c_l7;
     w2c_i0 = (u32)(w2c_j0);
     w2c_j1 = w2c_p6;
     w2c_i1 = (u32)(w2c_j1);
     w2c_j1 = i64_load(&instance->w2c_memory, (u64)(w2c_i1));
-    i64_store(&instance->w2c_memory, (u64)(w2c_i0) + 264, w2c_j1);
-    w2c_j0 = w2c_l7;
-    w2c_i0 = (u32)(w2c_j0);
-    w2c_j1 = w2c_l20;
     i64_store(&instance->w2c_memory, (u64)(w2c_i0) + 272, w2c_j1);
     w2c_j0 = w2c_l7;
     w2c_i0 = (u32)(w2c_j0);
-    w2c_j1 = w2c_l8;
+    w2c_j1 = w2c_l28;
     i64_store(&instance->w2c_memory, (u64)(w2c_i0) + 280, w2c_j1);
-    goto w2c_B15;
-    w2c_B74:;
     w2c_j0 = w2c_l7;
     w2c_i0 = (u32)(w2c_j0);
-    w2c_j0 = i64_load(&instance->w2c_memory, (u64)(w2c_i0) + 12632u);
+    w2c_j1 = w2c_l27;
+    i64_store(&instance->w2c_memory, (u64)(w2c_i0) + 288, w2c_j1);
+    w2c_j0 = w2c_l7;
+    w2c_i0 = (u32)(w2c_j0);
+    w2c_j1 = w2c_l25;
+    i64_store(&instance->w2c_memory, (u64)(w2c_i0) + 296, w2c_j1);
+    w2c_j0 = w2c_l7;
+    w2c_i0 = (u32)(w2c_j0);
+    w2c_j1 = w2c_l8;
+    i64_store(&instance->w2c_memory, (u64)(w2c_i0) + 304, w2c_j1);
+    goto w2c_B15;
+    w2c_B87:;
+    w2c_i0 = 0u;
+    w2c_l32 = w2c_i0;
+    w2c_i0 = 0u;
+    w2c_l31 = w2c_i0;
+    w2c_j0 = w2c_l7;
+    w2c_i0 = (u32)(w2c_j0);
+    w2c_j0 = i64_load(&instance->w2c_memory, (u64)(w2c_i0) + 12656u);
     w2c_p6 = w2c_j0;
     w2c_i0 = !(w2c_j0);
-    w2c_i0 = !(w2c_i0);
-    if (w2c_i0) {goto w2c_B79;}
-    w2c_i0 = 0u;
-    w2c_l26 = w2c_i0;
-    goto w2c_B78;
-    w2c_B79:;
+    if (w2c_i0) {goto w2c_B91;}
     w2c_j0 = w2c_l7;
     w2c_i0 = (u32)(w2c_j0);
-    w2c_j0 = i64_load(&instance->w2c_memory, (u64)(w2c_i0) + 12624u);
-    w2c_l10 = w2c_j0;
+    w2c_j0 = i64_load(&instance->w2c_memory, (u64)(w2c_i0) + 12648u);
+    w2c_l28 = w2c_j0;
     w2c_j0 = w2c_l7;
     w2c_i0 = (u32)(w2c_j0);
-    w2c_i0 = i32_load(&instance->w2c_memory, (u64)(w2c_i0) + 284u);
+    w2c_i0 = i32_load(&instance->w2c_memory, (u64)(w2c_i0) + 308u);
     w2c_p5 = w2c_i0;
     w2c_j0 = 0ull;
-    w2c_l20 = w2c_j0;
+    w2c_l25 = w2c_j0;
     w2c_j0 = 0ull;
     w2c_l8 = w2c_j0;
     w2c_j0 = w2c_p6;
     w2c_j1 = 1ull;
     w2c_i0 = w2c_j0 == w2c_j1;
-    if (w2c_i0) {goto w2c_B81;}
+    if (w2c_i0) {goto w2c_B93;}
     w2c_j0 = w2c_p6;
     w2c_j1 = 1ull;
     w2c_j0 &= w2c_j1;
     w2c_l11 = w2c_j0;
     w2c_j0 = 0ull;
-    w2c_l20 = w2c_j0;
+    w2c_l25 = w2c_j0;
     w2c_j0 = 0ull;
     w2c_j1 = w2c_p6;
     w2c_j2 = 18446744073709551614ull;
     w2c_j1 &= w2c_j2;
     w2c_j0 -= w2c_j1;
-    w2c_l23 = w2c_j0;
+    w2c_l27 = w2c_j0;
     w2c_j0 = 1ull;
     w2c_l8 = w2c_j0;
-    w2c_j0 = w2c_l10;
+    w2c_j0 = w2c_l28;
     w2c_p6 = w2c_j0;
-    w2c_L82: 
-      w2c_j0 = w2c_l20;
-      w2c_j1 = w2c_l20;
+    w2c_L94: 
+      w2c_j0 = w2c_l25;
+      w2c_j1 = w2c_l25;
       w2c_j2 = w2c_l8;
       w2c_j3 = w2c_p6;
       w2c_i3 = (u32)(w2c_j3);
@@ -20076,8 +20336,8 @@ static void w2c_f15(Z_hidreport_instance_t* instance, u64 w2c_p0, u64 w2c_p1, u6
       w2c_i3 = 1u;
       w2c_i2 &= w2c_i3;
       w2c_j0 = w2c_i2 ? w2c_j0 : w2c_j1;
-      w2c_l20 = w2c_j0;
-      w2c_j1 = w2c_l20;
+      w2c_l25 = w2c_j0;
+      w2c_j1 = w2c_l25;
       w2c_j2 = w2c_l8;
       w2c_j3 = 1ull;
       w2c_j2 += w2c_j3;
@@ -20097,12 +20357,12 @@ static void w2c_f15(Z_hidreport_instance_t* instance, u64 w2c_p0, u64 w2c_p1, u6
       w2c_i3 = 1u;
       w2c_i2 &= w2c_i3;
       w2c_j0 = w2c_i2 ? w2c_j0 : w2c_j1;
-      w2c_l20 = w2c_j0;
+      w2c_l25 = w2c_j0;
       w2c_j0 = w2c_p6;
       w2c_j1 = 24ull;
       w2c_j0 += w2c_j1;
       w2c_p6 = w2c_j0;
-      w2c_j0 = w2c_l23;
+      w2c_j0 = w2c_l27;
       w2c_j1 = w2c_l8;
       w2c_j2 = 2ull;
       w2c_j1 += w2c_j2;
@@ -20110,21 +20370,21 @@ static void w2c_f15(Z_hidreport_instance_t* instance, u64 w2c_p0, u64 w2c_p1, u6
       w2c_j0 += w2c_j1;
       w2c_j1 = 1ull;
       w2c_i0 = w2c_j0 != w2c_j1;
-      if (w2c_i0) {goto w2c_L82;}
+      if (w2c_i0) {goto w2c_L94;}
     w2c_j0 = w2c_l11;
     w2c_i0 = !(w2c_j0);
-    if (w2c_i0) {goto w2c_B80;}
+    if (w2c_i0) {goto w2c_B92;}
     w2c_j0 = w2c_l8;
     w2c_j1 = 18446744073709551615ull;
     w2c_j0 += w2c_j1;
     w2c_l8 = w2c_j0;
-    w2c_B81:;
-    w2c_j0 = w2c_l20;
-    w2c_j1 = w2c_l20;
+    w2c_B93:;
+    w2c_j0 = w2c_l25;
+    w2c_j1 = w2c_l25;
     w2c_j2 = w2c_l8;
     w2c_j3 = 1ull;
     w2c_j2 += w2c_j3;
-    w2c_j3 = w2c_l10;
+    w2c_j3 = w2c_l28;
     w2c_j4 = w2c_l8;
     w2c_j5 = 12ull;
     w2c_j4 *= w2c_j5;
@@ -20141,204 +20401,247 @@ static void w2c_f15(Z_hidreport_instance_t* instance, u64 w2c_p0, u64 w2c_p1, u6
     w2c_i3 = 1u;
     w2c_i2 &= w2c_i3;
     w2c_j0 = w2c_i2 ? w2c_j0 : w2c_j1;
-    w2c_l20 = w2c_j0;
-    w2c_B80:;
-    w2c_j0 = w2c_l10;
+    w2c_l25 = w2c_j0;
+    w2c_B92:;
+    w2c_j0 = w2c_l28;
     w2c_i0 = (u32)(w2c_j0);
     w2c_i0 = i32_load(&instance->w2c_memory, (u64)(w2c_i0));
-    w2c_l26 = w2c_i0;
-    w2c_j0 = w2c_l20;
+    w2c_l31 = w2c_i0;
+    w2c_j0 = w2c_l25;
     w2c_j1 = 0ull;
     w2c_i0 = w2c_j0 != w2c_j1;
-    if (w2c_i0) {goto w2c_B78;}
-    w2c_j0 = w2c_l10;
+    if (w2c_i0) {goto w2c_B91;}
+    w2c_j0 = w2c_l28;
     w2c_i0 = (u32)(w2c_j0);
     w2c_i0 = i32_load8_u(&instance->w2c_memory, (u64)(w2c_i0) + 8u);
     w2c_i1 = 1u;
     w2c_i0 &= w2c_i1;
-    if (w2c_i0) {goto w2c_B78;}
-    w2c_i0 = w2c_l26;
+    if (w2c_i0) {goto w2c_B91;}
+    w2c_i0 = w2c_l31;
     w2c_i1 = 65535u;
     w2c_i0 &= w2c_i1;
     w2c_i1 = w2c_p5;
     w2c_i2 = 16u;
     w2c_i1 <<= (w2c_i2 & 31);
     w2c_i0 |= w2c_i1;
-    w2c_l26 = w2c_i0;
-    w2c_B78:;
+    w2c_l31 = w2c_i0;
+    w2c_B91:;
     w2c_j0 = w2c_l7;
     w2c_i0 = (u32)(w2c_j0);
-    w2c_j0 = i64_load(&instance->w2c_memory, (u64)(w2c_i0) + 320u);
-    w2c_p6 = w2c_j0;
-    w2c_i0 = w2c_l31;
-    w2c_i1 = 1u;
-    w2c_i0 = w2c_i0 != w2c_i1;
-    if (w2c_i0) {goto w2c_B84;}
-    w2c_i0 = w2c_l26;
-    w2c_p5 = w2c_i0;
-    goto w2c_B83;
-    w2c_B84:;
-    w2c_j0 = w2c_p6;
+    w2c_j0 = i64_load(&instance->w2c_memory, (u64)(w2c_i0) + 344u);
+    w2c_l8 = w2c_j0;
     w2c_i0 = !(w2c_j0);
     w2c_i0 = !(w2c_i0);
-    if (w2c_i0) {goto w2c_B85;}
+    if (w2c_i0) {goto w2c_B96;}
     w2c_i0 = 0u;
     w2c_p5 = w2c_i0;
-    w2c_j0 = 0ull;
-    w2c_p6 = w2c_j0;
-    goto w2c_B83;
-    w2c_B85:;
+    w2c_i0 = 0u;
+    w2c_l34 = w2c_i0;
+    goto w2c_B95;
+    w2c_B96:;
     w2c_j0 = w2c_l7;
     w2c_i0 = (u32)(w2c_j0);
-    w2c_j0 = i64_load(&instance->w2c_memory, (u64)(w2c_i0) + 312u);
-    w2c_j1 = w2c_p6;
-    w2c_j2 = 2ull;
+    w2c_j0 = i64_load(&instance->w2c_memory, (u64)(w2c_i0) + 336u);
+    w2c_j1 = w2c_l8;
+    w2c_j2 = 4ull;
     w2c_j1 <<= (w2c_j2 & 63);
     w2c_j0 += w2c_j1;
-    w2c_j1 = 18446744073709551612ull;
+    w2c_p6 = w2c_j0;
+    w2c_j1 = 18446744073709551600ull;
     w2c_j0 += w2c_j1;
+    w2c_l25 = w2c_j0;
+    w2c_i0 = (u32)(w2c_j0);
+    w2c_i0 = i32_load(&instance->w2c_memory, (u64)(w2c_i0) + 4u);
+    w2c_l34 = w2c_i0;
+    w2c_j0 = w2c_l25;
     w2c_i0 = (u32)(w2c_j0);
     w2c_i0 = i32_load(&instance->w2c_memory, (u64)(w2c_i0));
     w2c_p5 = w2c_i0;
-    w2c_B83:;
+    w2c_j0 = w2c_p6;
+    w2c_j1 = 18446744073709551608ull;
+    w2c_j0 += w2c_j1;
+    w2c_i0 = (u32)(w2c_j0);
+    w2c_i0 = i32_load(&instance->w2c_memory, (u64)(w2c_i0));
+    w2c_l32 = w2c_i0;
+    w2c_B95:;
     w2c_j0 = w2c_l7;
     w2c_i0 = (u32)(w2c_j0);
-    w2c_j0 = i64_load(&instance->w2c_memory, (u64)(w2c_i0) + 328u);
-    w2c_j1 = w2c_p6;
+    w2c_j0 = i64_load(&instance->w2c_memory, (u64)(w2c_i0) + 352u);
+    w2c_j1 = w2c_l8;
     w2c_i0 = w2c_j0 != w2c_j1;
-    if (w2c_i0) {goto w2c_B86;}
-    w2c_j0 = w2c_l18;
+    if (w2c_i0) {goto w2c_B97;}
+    w2c_j0 = w2c_l19;
     w2c_i0 = w2c_f59(instance, w2c_j0);
     w2c_i0 = !(w2c_i0);
     if (w2c_i0) {goto w2c_B18;}
     w2c_j0 = w2c_l7;
     w2c_i0 = (u32)(w2c_j0);
-    w2c_j0 = i64_load(&instance->w2c_memory, (u64)(w2c_i0) + 320u);
-    w2c_p6 = w2c_j0;
-    w2c_B86:;
+    w2c_j0 = i64_load(&instance->w2c_memory, (u64)(w2c_i0) + 344u);
+    w2c_l8 = w2c_j0;
+    w2c_B97:;
     w2c_j0 = w2c_l7;
     w2c_i0 = (u32)(w2c_j0);
-    w2c_j0 = i64_load(&instance->w2c_memory, (u64)(w2c_i0) + 312u);
-    w2c_j1 = w2c_p6;
-    w2c_j2 = 2ull;
+    w2c_j0 = i64_load(&instance->w2c_memory, (u64)(w2c_i0) + 336u);
+    w2c_j1 = w2c_l8;
+    w2c_j2 = 4ull;
     w2c_j1 <<= (w2c_j2 & 63);
     w2c_j0 += w2c_j1;
+    w2c_p6 = w2c_j0;
     w2c_i0 = (u32)(w2c_j0);
-    w2c_i1 = w2c_p5;
+    w2c_i1 = w2c_l34;
+    w2c_i2 = w2c_l31;
+    w2c_i3 = w2c_l33;
+    w2c_i1 = w2c_i3 ? w2c_i1 : w2c_i2;
+    i32_store(&instance->w2c_memory, (u64)(w2c_i0) + 4, w2c_i1);
+    w2c_j0 = w2c_p6;
+    w2c_i0 = (u32)(w2c_j0);
+    w2c_i1 = w2c_l31;
+    w2c_i2 = w2c_p5;
+    w2c_i3 = w2c_l33;
+    w2c_i4 = 1u;
+    w2c_i3 = w2c_i3 == w2c_i4;
+    w2c_i1 = w2c_i3 ? w2c_i1 : w2c_i2;
     i32_store(&instance->w2c_memory, (u64)(w2c_i0), w2c_i1);
+    w2c_j0 = w2c_p6;
+    w2c_i0 = (u32)(w2c_j0);
+    w2c_i1 = 0u;
+    i32_store16(&instance->w2c_memory, (u64)(w2c_i0) + 13, w2c_i1);
+    w2c_j0 = w2c_p6;
+    w2c_i0 = (u32)(w2c_j0);
+    w2c_i1 = w2c_l33;
+    w2c_i2 = 4u;
+    w2c_i1 = w2c_i1 == w2c_i2;
+    w2c_i2 = w2c_l31;
+    w2c_i3 = 786435u;
+    w2c_i2 = w2c_i2 == w2c_i3;
+    w2c_i1 &= w2c_i2;
+    i32_store8(&instance->w2c_memory, (u64)(w2c_i0) + 12, w2c_i1);
+    w2c_j0 = w2c_p6;
+    w2c_i0 = (u32)(w2c_j0);
+    w2c_i1 = w2c_l31;
+    w2c_i2 = w2c_l32;
+    w2c_i3 = w2c_l33;
+    w2c_i4 = 2u;
+    w2c_i3 = w2c_i3 == w2c_i4;
+    w2c_i1 = w2c_i3 ? w2c_i1 : w2c_i2;
+    i32_store(&instance->w2c_memory, (u64)(w2c_i0) + 8, w2c_i1);
+    w2c_j0 = w2c_p6;
+    w2c_i0 = (u32)(w2c_j0);
+    w2c_i1 = 0u;
+    i32_store8(&instance->w2c_memory, (u64)(w2c_i0) + 15, w2c_i1);
     w2c_j0 = w2c_l7;
     w2c_i0 = (u32)(w2c_j0);
-    w2c_j1 = w2c_p6;
+    w2c_j1 = w2c_l8;
     w2c_j2 = 1ull;
     w2c_j1 += w2c_j2;
-    i64_store(&instance->w2c_memory, (u64)(w2c_i0) + 320, w2c_j1);
-    w2c_i0 = w2c_l31;
+    i64_store(&instance->w2c_memory, (u64)(w2c_i0) + 344, w2c_j1);
+    w2c_i0 = w2c_l33;
     w2c_i1 = 1u;
     w2c_i0 = w2c_i0 != w2c_i1;
-    if (w2c_i0) {goto w2c_B87;}
+    if (w2c_i0) {goto w2c_B98;}
     w2c_j0 = w2c_l7;
     w2c_i0 = (u32)(w2c_j0);
-    w2c_j0 = i64_load(&instance->w2c_memory, (u64)(w2c_i0) + 12680u);
+    w2c_j0 = i64_load(&instance->w2c_memory, (u64)(w2c_i0) + 12704u);
     w2c_p6 = w2c_j0;
     w2c_j1 = 1ull;
     w2c_i0 = w2c_j0 > w2c_j1;
-    if (w2c_i0) {goto w2c_B87;}
+    if (w2c_i0) {goto w2c_B98;}
     w2c_j0 = w2c_l7;
     w2c_i0 = (u32)(w2c_j0);
     w2c_j1 = w2c_p6;
     w2c_j2 = 1ull;
     w2c_j1 += w2c_j2;
-    i64_store(&instance->w2c_memory, (u64)(w2c_i0) + 12680, w2c_j1);
-    w2c_B87:;
+    i64_store(&instance->w2c_memory, (u64)(w2c_i0) + 12704, w2c_j1);
+    w2c_B98:;
     w2c_j0 = w2c_l7;
     w2c_i0 = (u32)(w2c_j0);
-    w2c_i0 = i32_load8_u(&instance->w2c_memory, (u64)(w2c_i0) + 12688u);
-    if (w2c_i0) {goto w2c_B89;}
+    w2c_i0 = i32_load8_u(&instance->w2c_memory, (u64)(w2c_i0) + 12712u);
+    if (w2c_i0) {goto w2c_B100;}
     w2c_i0 = 0u;
     w2c_p5 = w2c_i0;
-    w2c_i0 = w2c_l31;
+    w2c_i0 = w2c_l33;
     w2c_i1 = 1u;
     w2c_i0 = w2c_i0 > w2c_i1;
-    if (w2c_i0) {goto w2c_B88;}
-    w2c_i0 = w2c_l26;
+    if (w2c_i0) {goto w2c_B99;}
+    w2c_i0 = w2c_l31;
     w2c_i1 = 65548u;
     w2c_i0 = w2c_i0 == w2c_i1;
-    if (w2c_i0) {goto w2c_B89;}
-    w2c_i0 = w2c_l26;
+    if (w2c_i0) {goto w2c_B100;}
+    w2c_i0 = w2c_l31;
     w2c_i1 = 65664u;
     w2c_i0 = w2c_i0 == w2c_i1;
-    if (w2c_i0) {goto w2c_B89;}
-    w2c_i0 = w2c_l26;
+    if (w2c_i0) {goto w2c_B100;}
+    w2c_i0 = w2c_l31;
     w2c_i1 = 786433u;
     w2c_i0 = w2c_i0 == w2c_i1;
-    if (w2c_i0) {goto w2c_B89;}
-    w2c_i0 = w2c_l26;
+    if (w2c_i0) {goto w2c_B100;}
+    w2c_i0 = w2c_l31;
     w2c_i1 = 65536u;
     w2c_i0 = w2c_i0 < w2c_i1;
-    if (w2c_i0) {goto w2c_B88;}
-    w2c_i0 = w2c_l26;
+    if (w2c_i0) {goto w2c_B99;}
+    w2c_i0 = w2c_l31;
     w2c_i1 = 65545u;
     w2c_i0 = w2c_i0 < w2c_i1;
-    if (w2c_i0) {goto w2c_B89;}
-    w2c_i0 = w2c_l26;
+    if (w2c_i0) {goto w2c_B100;}
+    w2c_i0 = w2c_l31;
     w2c_i1 = 4294115327u;
     w2c_i0 += w2c_i1;
     w2c_i1 = 5u;
     w2c_i0 = w2c_i0 > w2c_i1;
-    if (w2c_i0) {goto w2c_B88;}
-    w2c_B89:;
+    if (w2c_i0) {goto w2c_B99;}
+    w2c_B100:;
     w2c_i0 = 1u;
     w2c_p5 = w2c_i0;
-    w2c_B88:;
+    w2c_B99:;
     w2c_j0 = w2c_l7;
     w2c_i0 = (u32)(w2c_j0);
     w2c_i1 = w2c_p5;
-    i32_store8(&instance->w2c_memory, (u64)(w2c_i0) + 12688, w2c_i1);
+    i32_store8(&instance->w2c_memory, (u64)(w2c_i0) + 12712, w2c_i1);
     w2c_j0 = w2c_l7;
     w2c_i0 = (u32)(w2c_j0);
-    w2c_i0 = i32_load(&instance->w2c_memory, (u64)(w2c_i0) + 284u);
-    w2c_l27 = w2c_i0;
+    w2c_i0 = i32_load(&instance->w2c_memory, (u64)(w2c_i0) + 308u);
+    w2c_l32 = w2c_i0;
     w2c_i1 = 65489u;
     w2c_i0 = w2c_i0 != w2c_i1;
-    if (w2c_i0) {goto w2c_B92;}
+    if (w2c_i0) {goto w2c_B103;}
     w2c_j0 = w2c_l7;
     w2c_i0 = (u32)(w2c_j0);
-    w2c_j0 = i64_load(&instance->w2c_memory, (u64)(w2c_i0) + 12632u);
-    w2c_l10 = w2c_j0;
+    w2c_j0 = i64_load(&instance->w2c_memory, (u64)(w2c_i0) + 12656u);
+    w2c_l28 = w2c_j0;
     w2c_i0 = !(w2c_j0);
-    if (w2c_i0) {goto w2c_B91;}
+    if (w2c_i0) {goto w2c_B102;}
     w2c_j0 = w2c_l7;
     w2c_i0 = (u32)(w2c_j0);
-    w2c_j0 = i64_load(&instance->w2c_memory, (u64)(w2c_i0) + 12624u);
+    w2c_j0 = i64_load(&instance->w2c_memory, (u64)(w2c_i0) + 12648u);
     w2c_l8 = w2c_j0;
     w2c_j0 = 0ull;
-    w2c_l20 = w2c_j0;
+    w2c_l25 = w2c_j0;
     w2c_j0 = 0ull;
     w2c_p6 = w2c_j0;
-    w2c_j0 = w2c_l10;
+    w2c_j0 = w2c_l28;
     w2c_j1 = 1ull;
     w2c_i0 = w2c_j0 == w2c_j1;
-    if (w2c_i0) {goto w2c_B94;}
-    w2c_j0 = w2c_l10;
+    if (w2c_i0) {goto w2c_B105;}
+    w2c_j0 = w2c_l28;
     w2c_j1 = 1ull;
     w2c_j0 &= w2c_j1;
-    w2c_l12 = w2c_j0;
+    w2c_l10 = w2c_j0;
     w2c_j0 = 0ull;
-    w2c_l20 = w2c_j0;
+    w2c_l25 = w2c_j0;
     w2c_j0 = 0ull;
-    w2c_j1 = w2c_l10;
+    w2c_j1 = w2c_l28;
     w2c_j2 = 18446744073709551614ull;
     w2c_j1 &= w2c_j2;
     w2c_j0 -= w2c_j1;
     w2c_l11 = w2c_j0;
     w2c_j0 = 1ull;
-    w2c_l23 = w2c_j0;
+    w2c_l27 = w2c_j0;
     w2c_j0 = w2c_l8;
     w2c_p6 = w2c_j0;
-    w2c_L95: 
-      w2c_j0 = w2c_l20;
-      w2c_j1 = w2c_l20;
-      w2c_j2 = w2c_l23;
+    w2c_L106: 
+      w2c_j0 = w2c_l25;
+      w2c_j1 = w2c_l25;
+      w2c_j2 = w2c_l27;
       w2c_j3 = w2c_p6;
       w2c_i3 = (u32)(w2c_j3);
       w2c_i3 = i32_load(&instance->w2c_memory, (u64)(w2c_i3));
@@ -20355,9 +20658,9 @@ static void w2c_f15(Z_hidreport_instance_t* instance, u64 w2c_p0, u64 w2c_p1, u6
       w2c_i3 = 1u;
       w2c_i2 &= w2c_i3;
       w2c_j0 = w2c_i2 ? w2c_j0 : w2c_j1;
-      w2c_l20 = w2c_j0;
-      w2c_j1 = w2c_l20;
-      w2c_j2 = w2c_l23;
+      w2c_l25 = w2c_j0;
+      w2c_j1 = w2c_l25;
+      w2c_j2 = w2c_l27;
       w2c_j3 = 1ull;
       w2c_j2 += w2c_j3;
       w2c_j3 = w2c_p6;
@@ -20378,30 +20681,30 @@ static void w2c_f15(Z_hidreport_instance_t* instance, u64 w2c_p0, u64 w2c_p1, u6
       w2c_i3 = 1u;
       w2c_i2 &= w2c_i3;
       w2c_j0 = w2c_i2 ? w2c_j0 : w2c_j1;
-      w2c_l20 = w2c_j0;
+      w2c_l25 = w2c_j0;
       w2c_j0 = w2c_p6;
       w2c_j1 = 24ull;
       w2c_j0 += w2c_j1;
       w2c_p6 = w2c_j0;
       w2c_j0 = w2c_l11;
-      w2c_j1 = w2c_l23;
+      w2c_j1 = w2c_l27;
       w2c_j2 = 2ull;
       w2c_j1 += w2c_j2;
-      w2c_l23 = w2c_j1;
+      w2c_l27 = w2c_j1;
       w2c_j0 += w2c_j1;
       w2c_j1 = 1ull;
       w2c_i0 = w2c_j0 != w2c_j1;
-      if (w2c_i0) {goto w2c_L95;}
-    w2c_j0 = w2c_l12;
+      if (w2c_i0) {goto w2c_L106;}
+    w2c_j0 = w2c_l10;
     w2c_i0 = !(w2c_j0);
-    if (w2c_i0) {goto w2c_B93;}
-    w2c_j0 = w2c_l23;
+    if (w2c_i0) {goto w2c_B104;}
+    w2c_j0 = w2c_l27;
     w2c_j1 = 18446744073709551615ull;
     w2c_j0 += w2c_j1;
     w2c_p6 = w2c_j0;
-    w2c_B94:;
-    w2c_j0 = w2c_l20;
-    w2c_j1 = w2c_l20;
+    w2c_B105:;
+    w2c_j0 = w2c_l25;
+    w2c_j1 = w2c_l25;
     w2c_j2 = w2c_p6;
     w2c_j3 = 1ull;
     w2c_j2 += w2c_j3;
@@ -20424,25 +20727,25 @@ static void w2c_f15(Z_hidreport_instance_t* instance, u64 w2c_p0, u64 w2c_p1, u6
     w2c_i3 = 1u;
     w2c_i2 &= w2c_i3;
     w2c_j0 = w2c_i2 ? w2c_j0 : w2c_j1;
-    w2c_l20 = w2c_j0;
-    w2c_B93:;
+    w2c_l25 = w2c_j0;
+    w2c_B104:;
     w2c_j0 = 0ull;
     w2c_p6 = w2c_j0;
-    w2c_L96: 
+    w2c_L107: 
       w2c_j0 = w2c_l8;
       w2c_j1 = 4ull;
       w2c_j0 += w2c_j1;
       w2c_i0 = (u32)(w2c_j0);
       w2c_i0 = i32_load(&instance->w2c_memory, (u64)(w2c_i0));
-      w2c_l26 = w2c_i0;
+      w2c_l31 = w2c_i0;
       w2c_j0 = w2c_l8;
       w2c_i0 = (u32)(w2c_j0);
       w2c_i0 = i32_load(&instance->w2c_memory, (u64)(w2c_i0));
       w2c_p5 = w2c_i0;
       w2c_j0 = w2c_p6;
-      w2c_j1 = w2c_l20;
+      w2c_j1 = w2c_l25;
       w2c_i0 = w2c_j0 < w2c_j1;
-      if (w2c_i0) {goto w2c_B97;}
+      if (w2c_i0) {goto w2c_B108;}
       w2c_j0 = w2c_l8;
       w2c_j1 = 8ull;
       w2c_j0 += w2c_j1;
@@ -20450,149 +20753,184 @@ static void w2c_f15(Z_hidreport_instance_t* instance, u64 w2c_p0, u64 w2c_p1, u6
       w2c_i0 = i32_load8_u(&instance->w2c_memory, (u64)(w2c_i0));
       w2c_i1 = 1u;
       w2c_i0 &= w2c_i1;
-      if (w2c_i0) {goto w2c_B97;}
-      w2c_i0 = w2c_l26;
+      if (w2c_i0) {goto w2c_B108;}
+      w2c_i0 = w2c_l31;
       w2c_i1 = 65535u;
       w2c_i0 &= w2c_i1;
       w2c_i1 = 4291887104u;
       w2c_i0 |= w2c_i1;
-      w2c_l26 = w2c_i0;
+      w2c_l31 = w2c_i0;
       w2c_i0 = w2c_p5;
       w2c_i1 = 65535u;
       w2c_i0 &= w2c_i1;
       w2c_i1 = 4291887104u;
       w2c_i0 |= w2c_i1;
       w2c_p5 = w2c_i0;
-      w2c_B97:;
+      w2c_B108:;
       w2c_i0 = w2c_p5;
       w2c_i1 = 4291887105u;
       w2c_i0 = w2c_i0 > w2c_i1;
-      if (w2c_i0) {goto w2c_B99;}
-      w2c_i0 = w2c_l26;
+      if (w2c_i0) {goto w2c_B110;}
+      w2c_i0 = w2c_l31;
       w2c_i1 = 4291887104u;
       w2c_i0 = w2c_i0 > w2c_i1;
-      if (w2c_i0) {goto w2c_B98;}
-      w2c_B99:;
+      if (w2c_i0) {goto w2c_B109;}
+      w2c_B110:;
       w2c_j0 = w2c_l8;
       w2c_j1 = 12ull;
       w2c_j0 += w2c_j1;
       w2c_l8 = w2c_j0;
-      w2c_j0 = w2c_l10;
+      w2c_j0 = w2c_l28;
       w2c_j1 = w2c_p6;
       w2c_j2 = 1ull;
       w2c_j1 += w2c_j2;
       w2c_p6 = w2c_j1;
       w2c_i0 = w2c_j0 == w2c_j1;
-      if (w2c_i0) {goto w2c_B92;}
-      goto w2c_L96;
-      w2c_B98:;
+      if (w2c_i0) {goto w2c_B103;}
+      goto w2c_L107;
+      w2c_B109:;
     w2c_i0 = 0u;
     w2c_p5 = w2c_i0;
     w2c_i0 = 0u;
-    w2c_l26 = w2c_i0;
-    goto w2c_B90;
-    w2c_B92:;
+    w2c_l31 = w2c_i0;
+    goto w2c_B101;
+    w2c_B103:;
     w2c_i0 = 1u;
     w2c_p5 = w2c_i0;
-    w2c_i0 = w2c_l31;
+    w2c_i0 = w2c_l33;
     w2c_i1 = 1u;
     w2c_i0 = w2c_i0 > w2c_i1;
-    if (w2c_i0) {goto w2c_B91;}
+    if (w2c_i0) {goto w2c_B102;}
     w2c_i0 = 1u;
-    w2c_l26 = w2c_i0;
-    w2c_i0 = w2c_l27;
+    w2c_l31 = w2c_i0;
+    w2c_i0 = w2c_l32;
     w2c_i1 = 32u;
     w2c_i0 = w2c_i0 == w2c_i1;
-    if (w2c_i0) {goto w2c_B90;}
-    w2c_B91:;
+    if (w2c_i0) {goto w2c_B101;}
+    w2c_B102:;
     w2c_j0 = w2c_l7;
     w2c_i0 = (u32)(w2c_j0);
-    w2c_i0 = i32_load8_u(&instance->w2c_memory, (u64)(w2c_i0) + 12690u);
+    w2c_i0 = i32_load8_u(&instance->w2c_memory, (u64)(w2c_i0) + 12714u);
     w2c_p5 = w2c_i0;
     w2c_j0 = w2c_l7;
     w2c_i0 = (u32)(w2c_j0);
-    w2c_i0 = i32_load8_u(&instance->w2c_memory, (u64)(w2c_i0) + 12689u);
-    w2c_l26 = w2c_i0;
-    w2c_B90:;
+    w2c_i0 = i32_load8_u(&instance->w2c_memory, (u64)(w2c_i0) + 12713u);
+    w2c_l31 = w2c_i0;
+    w2c_B101:;
     w2c_j0 = w2c_l7;
     w2c_i0 = (u32)(w2c_j0);
     w2c_i1 = w2c_p5;
-    i32_store8(&instance->w2c_memory, (u64)(w2c_i0) + 12690, w2c_i1);
+    i32_store8(&instance->w2c_memory, (u64)(w2c_i0) + 12714, w2c_i1);
     w2c_j0 = w2c_l7;
     w2c_i0 = (u32)(w2c_j0);
-    w2c_i1 = w2c_l26;
-    i32_store8(&instance->w2c_memory, (u64)(w2c_i0) + 12689, w2c_i1);
+    w2c_i1 = w2c_l31;
+    i32_store8(&instance->w2c_memory, (u64)(w2c_i0) + 12713, w2c_i1);
     w2c_j0 = w2c_l7;
     w2c_i0 = (u32)(w2c_j0);
-    w2c_j0 = i64_load(&instance->w2c_memory, (u64)(w2c_i0) + 12632u);
+    w2c_j0 = i64_load(&instance->w2c_memory, (u64)(w2c_i0) + 12656u);
     w2c_i0 = !(w2c_j0);
     if (w2c_i0) {goto w2c_B16;}
     goto w2c_B17;
-    w2c_B73:;
+    w2c_B86:;
     w2c_j0 = w2c_l7;
     w2c_i0 = (u32)(w2c_j0);
-    w2c_j0 = i64_load(&instance->w2c_memory, (u64)(w2c_i0) + 320u);
+    w2c_j0 = i64_load(&instance->w2c_memory, (u64)(w2c_i0) + 344u);
     w2c_p6 = w2c_j0;
     w2c_i0 = !(w2c_j0);
-    if (w2c_i0) {goto w2c_B100;}
+    if (w2c_i0) {goto w2c_B111;}
     w2c_j0 = w2c_l7;
     w2c_i0 = (u32)(w2c_j0);
     w2c_j1 = w2c_p6;
     w2c_j2 = 18446744073709551615ull;
     w2c_j1 += w2c_j2;
-    i64_store(&instance->w2c_memory, (u64)(w2c_i0) + 320, w2c_j1);
-    w2c_B100:;
+    i64_store(&instance->w2c_memory, (u64)(w2c_i0) + 344, w2c_j1);
+    w2c_B111:;
     w2c_j0 = w2c_l7;
     w2c_i0 = (u32)(w2c_j0);
-    w2c_j0 = i64_load(&instance->w2c_memory, (u64)(w2c_i0) + 12632u);
+    w2c_j0 = i64_load(&instance->w2c_memory, (u64)(w2c_i0) + 12656u);
     w2c_i0 = !(w2c_j0);
     w2c_i0 = !(w2c_i0);
     if (w2c_i0) {goto w2c_B17;}
     goto w2c_B16;
-    w2c_B26:;
+    w2c_B85:;
     w2c_j0 = w2c_l7;
     w2c_i0 = (u32)(w2c_j0);
-    w2c_j0 = i64_load(&instance->w2c_memory, (u64)(w2c_i0) + 320u);
+    w2c_i0 = i32_load(&instance->w2c_memory, (u64)(w2c_i0) + 304u);
+    w2c_l40 = w2c_i0;
+    w2c_i1 = 4u;
+    w2c_i0 <<= (w2c_i1 & 31);
+    w2c_i1 = 4080u;
+    w2c_i0 &= w2c_i1;
+    w2c_j0 = (u64)(w2c_i0);
     w2c_p6 = w2c_j0;
-    w2c_i0 = !(w2c_j0);
-    w2c_i0 = !(w2c_i0);
-    if (w2c_i0) {goto w2c_B102;}
     w2c_i0 = 0u;
-    w2c_p5 = w2c_i0;
-    goto w2c_B101;
-    w2c_B102:;
+    w2c_l30 = w2c_i0;
+    w2c_i0 = w2c_l33;
+    w2c_l31 = w2c_i0;
+    w2c_B30:;
     w2c_j0 = w2c_l7;
     w2c_i0 = (u32)(w2c_j0);
-    w2c_j0 = i64_load(&instance->w2c_memory, (u64)(w2c_i0) + 312u);
-    w2c_j1 = w2c_p6;
-    w2c_j2 = 2ull;
-    w2c_j1 <<= (w2c_j2 & 63);
-    w2c_j0 += w2c_j1;
-    w2c_j1 = 18446744073709551612ull;
-    w2c_j0 += w2c_j1;
-    w2c_i0 = (u32)(w2c_j0);
-    w2c_i0 = i32_load(&instance->w2c_memory, (u64)(w2c_i0));
-    w2c_p5 = w2c_i0;
-    w2c_B101:;
-    w2c_j0 = w2c_l7;
-    w2c_i0 = (u32)(w2c_j0);
-    w2c_i0 = i32_load(&instance->w2c_memory, (u64)(w2c_i0) + 12648u);
-    w2c_l26 = w2c_i0;
-    w2c_j0 = w2c_l15;
-    w2c_i1 = w2c_l25;
+    w2c_j0 = i64_load(&instance->w2c_memory, (u64)(w2c_i0) + 344u);
+    w2c_l14 = w2c_j0;
+    w2c_j0 = w2c_l16;
+    w2c_i1 = w2c_l30;
     w2c_j1 = (u64)(w2c_i1);
     w2c_j2 = 12ull;
     w2c_j1 <<= (w2c_j2 & 63);
     w2c_j0 += w2c_j1;
+    w2c_l8 = w2c_j0;
+    w2c_j1 = w2c_p6;
+    w2c_j0 += w2c_j1;
+    w2c_i0 = (u32)(w2c_j0);
+    w2c_i0 = i32_load8_u(&instance->w2c_memory, (u64)(w2c_i0));
+    w2c_i1 = 1u;
+    w2c_i0 &= w2c_i1;
+    if (w2c_i0) {goto w2c_B112;}
+    w2c_j0 = w2c_l14;
+    w2c_i0 = !(w2c_j0);
+    w2c_i0 = !(w2c_i0);
+    if (w2c_i0) {goto w2c_B114;}
+    w2c_i0 = 0u;
+    w2c_p5 = w2c_i0;
+    goto w2c_B113;
+    w2c_B114:;
+    w2c_j0 = w2c_l7;
+    w2c_i0 = (u32)(w2c_j0);
+    w2c_j0 = i64_load(&instance->w2c_memory, (u64)(w2c_i0) + 336u);
+    w2c_j1 = w2c_l14;
+    w2c_j2 = 4ull;
+    w2c_j1 <<= (w2c_j2 & 63);
+    w2c_j0 += w2c_j1;
+    w2c_j1 = 18446744073709551600ull;
+    w2c_j0 += w2c_j1;
+    w2c_i0 = (u32)(w2c_j0);
+    w2c_i0 = i32_load(&instance->w2c_memory, (u64)(w2c_i0));
+    w2c_p5 = w2c_i0;
+    w2c_B113:;
+    w2c_j0 = w2c_l7;
+    w2c_i0 = (u32)(w2c_j0);
+    w2c_j0 = i64_load(&instance->w2c_memory, (u64)(w2c_i0) + 12832u);
     w2c_j1 = w2c_l7;
     w2c_i1 = (u32)(w2c_j1);
-    w2c_i1 = i32_load(&instance->w2c_memory, (u64)(w2c_i1) + 280u);
-    w2c_l32 = w2c_i1;
-    w2c_i2 = 4u;
-    w2c_i1 <<= (w2c_i2 & 31);
-    w2c_i2 = 4080u;
-    w2c_i1 &= w2c_i2;
-    w2c_j1 = (u64)(w2c_i1);
+    w2c_j1 = i64_load(&instance->w2c_memory, (u64)(w2c_i1) + 12824u);
+    w2c_l25 = w2c_j1;
+    w2c_i0 = w2c_j0 != w2c_j1;
+    if (w2c_i0) {goto w2c_B115;}
+    w2c_j0 = w2c_l22;
+    w2c_i0 = w2c_f60(instance, w2c_j0);
+    w2c_i0 = !(w2c_i0);
+    if (w2c_i0) {goto w2c_B18;}
+    w2c_j0 = w2c_l7;
+    w2c_i0 = (u32)(w2c_j0);
+    w2c_j0 = i64_load(&instance->w2c_memory, (u64)(w2c_i0) + 12824u);
+    w2c_l25 = w2c_j0;
+    w2c_B115:;
+    w2c_j0 = w2c_l7;
+    w2c_i0 = (u32)(w2c_j0);
+    w2c_j0 = i64_load(&instance->w2c_memory, (u64)(w2c_i0) + 12816u);
+    w2c_j1 = w2c_l25;
+    w2c_j2 = 12ull;
+    w2c_j1 *= w2c_j2;
     w2c_j0 += w2c_j1;
     w2c_p6 = w2c_j0;
     w2c_i0 = (u32)(w2c_j0);
@@ -20600,34 +20938,102 @@ static void w2c_f15(Z_hidreport_instance_t* instance, u64 w2c_p0, u64 w2c_p1, u6
     i32_store16(&instance->w2c_memory, (u64)(w2c_i0) + 1, w2c_i1);
     w2c_j0 = w2c_p6;
     w2c_i0 = (u32)(w2c_j0);
+    w2c_i1 = w2c_l30;
+    i32_store8(&instance->w2c_memory, (u64)(w2c_i0), w2c_i1);
+    w2c_j0 = w2c_p6;
+    w2c_i0 = (u32)(w2c_j0);
     w2c_i1 = 0u;
     i32_store8(&instance->w2c_memory, (u64)(w2c_i0) + 3, w2c_i1);
     w2c_j0 = w2c_p6;
     w2c_i0 = (u32)(w2c_j0);
-    w2c_i0 = i32_load8_u(&instance->w2c_memory, (u64)(w2c_i0));
-    w2c_l27 = w2c_i0;
+    w2c_i1 = w2c_p5;
+    i32_store(&instance->w2c_memory, (u64)(w2c_i0) + 8, w2c_i1);
     w2c_j0 = w2c_p6;
+    w2c_i0 = (u32)(w2c_j0);
+    w2c_i1 = w2c_l40;
+    i32_store(&instance->w2c_memory, (u64)(w2c_i0) + 4, w2c_i1);
+    w2c_j0 = w2c_l7;
+    w2c_i0 = (u32)(w2c_j0);
+    w2c_j1 = w2c_l25;
+    w2c_j2 = 1ull;
+    w2c_j1 += w2c_j2;
+    i64_store(&instance->w2c_memory, (u64)(w2c_i0) + 12824, w2c_j1);
+    w2c_j0 = w2c_l7;
+    w2c_i0 = (u32)(w2c_j0);
+    w2c_j0 = i64_load(&instance->w2c_memory, (u64)(w2c_i0) + 344u);
+    w2c_l14 = w2c_j0;
+    w2c_B112:;
+    w2c_j0 = w2c_l14;
+    w2c_i0 = !(w2c_j0);
+    w2c_l36 = w2c_i0;
+    w2c_i0 = !(w2c_i0);
+    if (w2c_i0) {goto w2c_B117;}
+    w2c_i0 = 0u;
+    w2c_p5 = w2c_i0;
+    goto w2c_B116;
+    w2c_B117:;
+    w2c_j0 = w2c_l7;
+    w2c_i0 = (u32)(w2c_j0);
+    w2c_j0 = i64_load(&instance->w2c_memory, (u64)(w2c_i0) + 336u);
+    w2c_j1 = w2c_l14;
+    w2c_j2 = 4ull;
+    w2c_j1 <<= (w2c_j2 & 63);
+    w2c_j0 += w2c_j1;
+    w2c_j1 = 18446744073709551600ull;
+    w2c_j0 += w2c_j1;
+    w2c_i0 = (u32)(w2c_j0);
+    w2c_i0 = i32_load(&instance->w2c_memory, (u64)(w2c_i0));
+    w2c_p5 = w2c_i0;
+    w2c_B116:;
+    w2c_j0 = w2c_l7;
+    w2c_i0 = (u32)(w2c_j0);
+    w2c_i0 = i32_load(&instance->w2c_memory, (u64)(w2c_i0) + 12672u);
+    w2c_l32 = w2c_i0;
+    w2c_j0 = w2c_l8;
+    w2c_j1 = w2c_l7;
+    w2c_i1 = (u32)(w2c_j1);
+    w2c_i1 = i32_load(&instance->w2c_memory, (u64)(w2c_i1) + 304u);
+    w2c_l34 = w2c_i1;
+    w2c_i2 = 4u;
+    w2c_i1 <<= (w2c_i2 & 31);
+    w2c_i2 = 4080u;
+    w2c_i1 &= w2c_i2;
+    w2c_j1 = (u64)(w2c_i1);
+    w2c_j0 += w2c_j1;
+    w2c_l28 = w2c_j0;
+    w2c_i0 = (u32)(w2c_j0);
+    w2c_i1 = 0u;
+    i32_store16(&instance->w2c_memory, (u64)(w2c_i0) + 1, w2c_i1);
+    w2c_j0 = w2c_l28;
+    w2c_i0 = (u32)(w2c_j0);
+    w2c_i1 = 0u;
+    i32_store8(&instance->w2c_memory, (u64)(w2c_i0) + 3, w2c_i1);
+    w2c_j0 = w2c_l28;
+    w2c_i0 = (u32)(w2c_j0);
+    w2c_i0 = i32_load8_u(&instance->w2c_memory, (u64)(w2c_i0));
+    w2c_l33 = w2c_i0;
+    w2c_j0 = w2c_l28;
     w2c_i0 = (u32)(w2c_j0);
     w2c_i1 = 1u;
     i32_store8(&instance->w2c_memory, (u64)(w2c_i0), w2c_i1);
-    w2c_j0 = w2c_p6;
+    w2c_j0 = w2c_l28;
     w2c_i0 = (u32)(w2c_j0);
-    w2c_j1 = w2c_p6;
+    w2c_j1 = w2c_l28;
     w2c_i1 = (u32)(w2c_j1);
     w2c_i1 = i32_load(&instance->w2c_memory, (u64)(w2c_i1) + 8u);
     w2c_i2 = w2c_p5;
-    w2c_i3 = w2c_l27;
+    w2c_i3 = w2c_l33;
     w2c_i4 = 1u;
     w2c_i3 &= w2c_i4;
     w2c_i1 = w2c_i3 ? w2c_i1 : w2c_i2;
     i32_store(&instance->w2c_memory, (u64)(w2c_i0) + 8, w2c_i1);
-    w2c_j0 = w2c_p6;
+    w2c_j0 = w2c_l28;
     w2c_i0 = (u32)(w2c_j0);
-    w2c_j1 = w2c_p6;
+    w2c_j1 = w2c_l28;
     w2c_i1 = (u32)(w2c_j1);
     w2c_i1 = i32_load(&instance->w2c_memory, (u64)(w2c_i1) + 4u);
     w2c_p5 = w2c_i1;
-    w2c_i2 = w2c_l26;
+    w2c_i2 = w2c_l32;
     w2c_i3 = 0u;
     w2c_i2 = w2c_i2 != w2c_i3;
     w2c_i3 = w2c_p5;
@@ -20637,124 +21043,124 @@ static void w2c_f15(Z_hidreport_instance_t* instance, u64 w2c_p0, u64 w2c_p1, u6
     w2c_i1 += w2c_i2;
     w2c_p5 = w2c_i1;
     i32_store(&instance->w2c_memory, (u64)(w2c_i0) + 4, w2c_i1);
-    w2c_j0 = w2c_p6;
+    w2c_j0 = w2c_l28;
     w2c_i0 = (u32)(w2c_j0);
     w2c_i1 = 4294967295u;
     w2c_i2 = 4294967295u;
     w2c_j3 = w2c_l7;
     w2c_i3 = (u32)(w2c_j3);
-    w2c_i3 = i32_load(&instance->w2c_memory, (u64)(w2c_i3) + 276u);
-    w2c_l27 = w2c_i3;
+    w2c_i3 = i32_load(&instance->w2c_memory, (u64)(w2c_i3) + 300u);
+    w2c_l33 = w2c_i3;
     w2c_j4 = w2c_l7;
     w2c_i4 = (u32)(w2c_j4);
-    w2c_i4 = i32_load(&instance->w2c_memory, (u64)(w2c_i4) + 272u);
-    w2c_l33 = w2c_i4;
+    w2c_i4 = i32_load(&instance->w2c_memory, (u64)(w2c_i4) + 296u);
+    w2c_l35 = w2c_i4;
     w2c_i3 *= w2c_i4;
-    w2c_l26 = w2c_i3;
-    w2c_j4 = w2c_p6;
+    w2c_l32 = w2c_i3;
+    w2c_j4 = w2c_l28;
     w2c_i4 = (u32)(w2c_j4);
     w2c_i4 = i32_load(&instance->w2c_memory, (u64)(w2c_i4) + 12u);
-    w2c_l30 = w2c_i4;
+    w2c_l40 = w2c_i4;
     w2c_i3 += w2c_i4;
-    w2c_l28 = w2c_i3;
-    w2c_i4 = w2c_l28;
-    w2c_i5 = w2c_l26;
+    w2c_l38 = w2c_i3;
+    w2c_i4 = w2c_l38;
+    w2c_i5 = w2c_l32;
     w2c_i4 = w2c_i4 < w2c_i5;
     w2c_i2 = w2c_i4 ? w2c_i2 : w2c_i3;
-    w2c_i3 = w2c_l27;
+    w2c_i3 = w2c_l33;
     w2c_j3 = (u64)(w2c_i3);
-    w2c_i4 = w2c_l33;
+    w2c_i4 = w2c_l35;
     w2c_j4 = (u64)(w2c_i4);
     w2c_j3 *= w2c_j4;
     w2c_j4 = 32ull;
     w2c_j3 >>= (w2c_j4 & 63);
     w2c_i3 = (u32)(w2c_j3);
     w2c_i1 = w2c_i3 ? w2c_i1 : w2c_i2;
-    w2c_i2 = w2c_l30;
-    w2c_i3 = w2c_l27;
+    w2c_i2 = w2c_l40;
+    w2c_i3 = w2c_l33;
     w2c_i1 = w2c_i3 ? w2c_i1 : w2c_i2;
     i32_store(&instance->w2c_memory, (u64)(w2c_i0) + 12, w2c_i1);
     w2c_i0 = w2c_p5;
     w2c_i1 = 257u;
     w2c_i0 = w2c_i0 < w2c_i1;
-    if (w2c_i0) {goto w2c_B103;}
+    if (w2c_i0) {goto w2c_B118;}
     w2c_j0 = w2c_l7;
     w2c_i0 = (u32)(w2c_j0);
-    w2c_i0 = i32_load8_u(&instance->w2c_memory, (u64)(w2c_i0) + 12744u);
+    w2c_i0 = i32_load8_u(&instance->w2c_memory, (u64)(w2c_i0) + 12768u);
     w2c_i1 = 255u;
     w2c_i0 &= w2c_i1;
     w2c_i1 = 1u;
     w2c_i0 = w2c_i0 == w2c_i1;
-    if (w2c_i0) {goto w2c_B103;}
-    w2c_j0 = w2c_l14;
+    if (w2c_i0) {goto w2c_B118;}
+    w2c_j0 = w2c_l17;
     w2c_i0 = (u32)(w2c_j0);
     w2c_i1 = 0u;
     i32_store(&instance->w2c_memory, (u64)(w2c_i0), w2c_i1);
-    w2c_j0 = w2c_l14;
+    w2c_j0 = w2c_l17;
     w2c_i0 = (u32)(w2c_j0);
     w2c_i1 = 0u;
     i32_store(&instance->w2c_memory, (u64)(w2c_i0) + 3, w2c_i1);
     w2c_j0 = w2c_l7;
     w2c_i0 = (u32)(w2c_j0);
     w2c_i1 = 1u;
-    i32_store8(&instance->w2c_memory, (u64)(w2c_i0) + 12760, w2c_i1);
+    i32_store8(&instance->w2c_memory, (u64)(w2c_i0) + 12784, w2c_i1);
     w2c_j0 = w2c_l7;
     w2c_i0 = (u32)(w2c_j0);
     w2c_j1 = w2c_l10;
-    i64_store(&instance->w2c_memory, (u64)(w2c_i0) + 12752, w2c_j1);
+    i64_store(&instance->w2c_memory, (u64)(w2c_i0) + 12776, w2c_j1);
     w2c_j0 = w2c_l7;
     w2c_i0 = (u32)(w2c_j0);
     w2c_j1 = 1ull;
-    i64_store(&instance->w2c_memory, (u64)(w2c_i0) + 12744, w2c_j1);
-    w2c_B103:;
-    w2c_i0 = w2c_l25;
-    if (w2c_i0) {goto w2c_B104;}
+    i64_store(&instance->w2c_memory, (u64)(w2c_i0) + 12768, w2c_j1);
+    w2c_B118:;
+    w2c_i0 = w2c_l30;
+    if (w2c_i0) {goto w2c_B119;}
     w2c_i0 = w2c_l31;
     w2c_i1 = 1u;
     w2c_i0 &= w2c_i1;
-    if (w2c_i0) {goto w2c_B104;}
+    if (w2c_i0) {goto w2c_B119;}
     w2c_j0 = w2c_l7;
     w2c_i0 = (u32)(w2c_j0);
-    w2c_j0 = i64_load(&instance->w2c_memory, (u64)(w2c_i0) + 12632u);
+    w2c_j0 = i64_load(&instance->w2c_memory, (u64)(w2c_i0) + 12656u);
     w2c_l11 = w2c_j0;
     w2c_i0 = !(w2c_j0);
-    if (w2c_i0) {goto w2c_B104;}
+    if (w2c_i0) {goto w2c_B119;}
     w2c_j0 = w2c_l7;
     w2c_i0 = (u32)(w2c_j0);
-    w2c_j0 = i64_load(&instance->w2c_memory, (u64)(w2c_i0) + 12624u);
+    w2c_j0 = i64_load(&instance->w2c_memory, (u64)(w2c_i0) + 12648u);
     w2c_l8 = w2c_j0;
     w2c_j0 = w2c_l7;
     w2c_i0 = (u32)(w2c_j0);
-    w2c_i0 = i32_load(&instance->w2c_memory, (u64)(w2c_i0) + 284u);
+    w2c_i0 = i32_load(&instance->w2c_memory, (u64)(w2c_i0) + 308u);
     w2c_p5 = w2c_i0;
     w2c_j0 = 0ull;
-    w2c_l20 = w2c_j0;
+    w2c_l25 = w2c_j0;
     w2c_j0 = 0ull;
     w2c_p6 = w2c_j0;
     w2c_j0 = w2c_l11;
     w2c_j1 = 1ull;
     w2c_i0 = w2c_j0 == w2c_j1;
-    if (w2c_i0) {goto w2c_B106;}
+    if (w2c_i0) {goto w2c_B121;}
     w2c_j0 = w2c_l11;
     w2c_j1 = 1ull;
     w2c_j0 &= w2c_j1;
-    w2c_l24 = w2c_j0;
+    w2c_l29 = w2c_j0;
     w2c_j0 = 0ull;
-    w2c_l20 = w2c_j0;
+    w2c_l25 = w2c_j0;
     w2c_j0 = 0ull;
     w2c_j1 = w2c_l11;
     w2c_j2 = 18446744073709551614ull;
     w2c_j1 &= w2c_j2;
     w2c_j0 -= w2c_j1;
-    w2c_l12 = w2c_j0;
+    w2c_l13 = w2c_j0;
     w2c_j0 = 1ull;
-    w2c_l23 = w2c_j0;
+    w2c_l27 = w2c_j0;
     w2c_j0 = w2c_l8;
     w2c_p6 = w2c_j0;
-    w2c_L107: 
-      w2c_j0 = w2c_l20;
-      w2c_j1 = w2c_l20;
-      w2c_j2 = w2c_l23;
+    w2c_L122: 
+      w2c_j0 = w2c_l25;
+      w2c_j1 = w2c_l25;
+      w2c_j2 = w2c_l27;
       w2c_j3 = w2c_p6;
       w2c_i3 = (u32)(w2c_j3);
       w2c_i3 = i32_load16_u(&instance->w2c_memory, (u64)(w2c_i3) + 2u);
@@ -20769,9 +21175,9 @@ static void w2c_f15(Z_hidreport_instance_t* instance, u64 w2c_p0, u64 w2c_p1, u6
       w2c_i3 = 1u;
       w2c_i2 &= w2c_i3;
       w2c_j0 = w2c_i2 ? w2c_j0 : w2c_j1;
-      w2c_l20 = w2c_j0;
-      w2c_j1 = w2c_l20;
-      w2c_j2 = w2c_l23;
+      w2c_l25 = w2c_j0;
+      w2c_j1 = w2c_l25;
+      w2c_j2 = w2c_l27;
       w2c_j3 = 1ull;
       w2c_j2 += w2c_j3;
       w2c_j3 = w2c_p6;
@@ -20790,30 +21196,30 @@ static void w2c_f15(Z_hidreport_instance_t* instance, u64 w2c_p0, u64 w2c_p1, u6
       w2c_i3 = 1u;
       w2c_i2 &= w2c_i3;
       w2c_j0 = w2c_i2 ? w2c_j0 : w2c_j1;
-      w2c_l20 = w2c_j0;
+      w2c_l25 = w2c_j0;
       w2c_j0 = w2c_p6;
       w2c_j1 = 24ull;
       w2c_j0 += w2c_j1;
       w2c_p6 = w2c_j0;
-      w2c_j0 = w2c_l12;
-      w2c_j1 = w2c_l23;
+      w2c_j0 = w2c_l13;
+      w2c_j1 = w2c_l27;
       w2c_j2 = 2ull;
       w2c_j1 += w2c_j2;
-      w2c_l23 = w2c_j1;
+      w2c_l27 = w2c_j1;
       w2c_j0 += w2c_j1;
       w2c_j1 = 1ull;
       w2c_i0 = w2c_j0 != w2c_j1;
-      if (w2c_i0) {goto w2c_L107;}
-    w2c_j0 = w2c_l24;
+      if (w2c_i0) {goto w2c_L122;}
+    w2c_j0 = w2c_l29;
     w2c_i0 = !(w2c_j0);
-    if (w2c_i0) {goto w2c_B105;}
-    w2c_j0 = w2c_l23;
+    if (w2c_i0) {goto w2c_B120;}
+    w2c_j0 = w2c_l27;
     w2c_j1 = 18446744073709551615ull;
     w2c_j0 += w2c_j1;
     w2c_p6 = w2c_j0;
-    w2c_B106:;
-    w2c_j0 = w2c_l20;
-    w2c_j1 = w2c_l20;
+    w2c_B121:;
+    w2c_j0 = w2c_l25;
+    w2c_j1 = w2c_l25;
     w2c_j2 = w2c_p6;
     w2c_j3 = 1ull;
     w2c_j2 += w2c_j3;
@@ -20834,29 +21240,29 @@ static void w2c_f15(Z_hidreport_instance_t* instance, u64 w2c_p0, u64 w2c_p1, u6
     w2c_i3 = 1u;
     w2c_i2 &= w2c_i3;
     w2c_j0 = w2c_i2 ? w2c_j0 : w2c_j1;
-    w2c_l20 = w2c_j0;
-    w2c_B105:;
+    w2c_l25 = w2c_j0;
+    w2c_B120:;
     w2c_i0 = w2c_p5;
     w2c_i1 = 16u;
     w2c_i0 <<= (w2c_i1 & 31);
-    w2c_l31 = w2c_i0;
+    w2c_l40 = w2c_i0;
     w2c_j0 = 0ull;
     w2c_p6 = w2c_j0;
-    w2c_L108: 
+    w2c_L123: 
       w2c_j0 = w2c_l8;
       w2c_j1 = 4ull;
       w2c_j0 += w2c_j1;
       w2c_i0 = (u32)(w2c_j0);
       w2c_i0 = i32_load(&instance->w2c_memory, (u64)(w2c_i0));
-      w2c_l26 = w2c_i0;
+      w2c_l32 = w2c_i0;
       w2c_j0 = w2c_l8;
       w2c_i0 = (u32)(w2c_j0);
       w2c_i0 = i32_load(&instance->w2c_memory, (u64)(w2c_i0));
       w2c_p5 = w2c_i0;
       w2c_j0 = w2c_p6;
-      w2c_j1 = w2c_l20;
+      w2c_j1 = w2c_l25;
       w2c_i0 = w2c_j0 < w2c_j1;
-      if (w2c_i0) {goto w2c_B109;}
+      if (w2c_i0) {goto w2c_B124;}
       w2c_j0 = w2c_l8;
       w2c_j1 = 8ull;
       w2c_j0 += w2c_j1;
@@ -20864,29 +21270,29 @@ static void w2c_f15(Z_hidreport_instance_t* instance, u64 w2c_p0, u64 w2c_p1, u6
       w2c_i0 = i32_load8_u(&instance->w2c_memory, (u64)(w2c_i0));
       w2c_i1 = 1u;
       w2c_i0 &= w2c_i1;
-      if (w2c_i0) {goto w2c_B109;}
-      w2c_i0 = w2c_l26;
+      if (w2c_i0) {goto w2c_B124;}
+      w2c_i0 = w2c_l32;
       w2c_i1 = 65535u;
       w2c_i0 &= w2c_i1;
-      w2c_i1 = w2c_l31;
+      w2c_i1 = w2c_l40;
       w2c_i0 |= w2c_i1;
-      w2c_l26 = w2c_i0;
+      w2c_l32 = w2c_i0;
       w2c_i0 = w2c_p5;
       w2c_i1 = 65535u;
       w2c_i0 &= w2c_i1;
-      w2c_i1 = w2c_l31;
+      w2c_i1 = w2c_l40;
       w2c_i0 |= w2c_i1;
       w2c_p5 = w2c_i0;
-      w2c_B109:;
+      w2c_B124:;
       w2c_i0 = w2c_p5;
       w2c_i1 = 852049u;
       w2c_i0 = w2c_i0 > w2c_i1;
-      if (w2c_i0) {goto w2c_B111;}
-      w2c_i0 = w2c_l26;
+      if (w2c_i0) {goto w2c_B126;}
+      w2c_i0 = w2c_l32;
       w2c_i1 = 852049u;
       w2c_i0 = w2c_i0 >= w2c_i1;
-      if (w2c_i0) {goto w2c_B110;}
-      w2c_B111:;
+      if (w2c_i0) {goto w2c_B125;}
+      w2c_B126:;
       w2c_j0 = w2c_l8;
       w2c_j1 = 12ull;
       w2c_j0 += w2c_j1;
@@ -20897,95 +21303,96 @@ static void w2c_f15(Z_hidreport_instance_t* instance, u64 w2c_p0, u64 w2c_p1, u6
       w2c_j1 += w2c_j2;
       w2c_p6 = w2c_j1;
       w2c_i0 = w2c_j0 == w2c_j1;
-      if (w2c_i0) {goto w2c_B104;}
-      goto w2c_L108;
-      w2c_B110:;
+      if (w2c_i0) {goto w2c_B119;}
+      goto w2c_L123;
+      w2c_B125:;
     w2c_j0 = w2c_l7;
     w2c_i0 = (u32)(w2c_j0);
     w2c_i1 = 1u;
-    i32_store16(&instance->w2c_memory, (u64)(w2c_i0) + 12689, w2c_i1);
-    w2c_B104:;
-    w2c_i0 = w2c_l27;
-    w2c_i0 = !(w2c_i0);
-    if (w2c_i0) {goto w2c_B112;}
+    i32_store16(&instance->w2c_memory, (u64)(w2c_i0) + 12713, w2c_i1);
+    w2c_B119:;
     w2c_j0 = w2c_l7;
     w2c_i0 = (u32)(w2c_j0);
-    w2c_i0 = i32_load(&instance->w2c_memory, (u64)(w2c_i0) + 12648u);
+    w2c_i0 = i32_load(&instance->w2c_memory, (u64)(w2c_i0) + 12672u);
+    w2c_l40 = w2c_i0;
     w2c_i0 = !(w2c_i0);
-    if (w2c_i0) {goto w2c_B112;}
+    if (w2c_i0) {goto w2c_B127;}
     w2c_i0 = w2c_l33;
-    if (w2c_i0) {goto w2c_B113;}
+    w2c_i0 = !(w2c_i0);
+    if (w2c_i0) {goto w2c_B128;}
+    w2c_i0 = w2c_l35;
+    if (w2c_i0) {goto w2c_B129;}
     w2c_j0 = w2c_l7;
     w2c_i0 = (u32)(w2c_j0);
     w2c_i1 = 1u;
-    i32_store8(&instance->w2c_memory, (u64)(w2c_i0) + 12768, w2c_i1);
-    w2c_B113:;
-    w2c_i0 = w2c_l25;
+    i32_store8(&instance->w2c_memory, (u64)(w2c_i0) + 12792, w2c_i1);
+    w2c_B129:;
+    w2c_i0 = w2c_l30;
     w2c_i1 = 2u;
     w2c_i0 = w2c_i0 != w2c_i1;
-    if (w2c_i0) {goto w2c_B112;}
+    if (w2c_i0) {goto w2c_B128;}
     w2c_j0 = w2c_l7;
     w2c_i0 = (u32)(w2c_j0);
-    w2c_i0 = i32_load8_u(&instance->w2c_memory, (u64)(w2c_i0) + 12776u);
+    w2c_i0 = i32_load8_u(&instance->w2c_memory, (u64)(w2c_i0) + 12800u);
     w2c_i1 = 255u;
     w2c_i0 &= w2c_i1;
     w2c_i1 = 1u;
     w2c_i0 = w2c_i0 == w2c_i1;
-    if (w2c_i0) {goto w2c_B112;}
+    if (w2c_i0) {goto w2c_B128;}
     w2c_j0 = w2c_l7;
     w2c_i0 = (u32)(w2c_j0);
-    w2c_i0 = i32_load(&instance->w2c_memory, (u64)(w2c_i0) + 264u);
+    w2c_i0 = i32_load(&instance->w2c_memory, (u64)(w2c_i0) + 272u);
     w2c_i1 = 2147483648u;
     w2c_i0 = w2c_i0 != w2c_i1;
-    if (w2c_i0) {goto w2c_B112;}
+    if (w2c_i0) {goto w2c_B128;}
     w2c_j0 = w2c_l7;
     w2c_i0 = (u32)(w2c_j0);
-    w2c_i0 = i32_load(&instance->w2c_memory, (u64)(w2c_i0) + 268u);
+    w2c_i0 = i32_load(&instance->w2c_memory, (u64)(w2c_i0) + 276u);
     w2c_i1 = 2147483647u;
     w2c_i0 = w2c_i0 != w2c_i1;
-    if (w2c_i0) {goto w2c_B112;}
+    if (w2c_i0) {goto w2c_B128;}
     w2c_j0 = w2c_l7;
     w2c_i0 = (u32)(w2c_j0);
-    w2c_j0 = i64_load(&instance->w2c_memory, (u64)(w2c_i0) + 12632u);
+    w2c_j0 = i64_load(&instance->w2c_memory, (u64)(w2c_i0) + 12656u);
     w2c_l11 = w2c_j0;
     w2c_i0 = !(w2c_j0);
-    if (w2c_i0) {goto w2c_B112;}
+    if (w2c_i0) {goto w2c_B128;}
     w2c_j0 = w2c_l7;
     w2c_i0 = (u32)(w2c_j0);
-    w2c_j0 = i64_load(&instance->w2c_memory, (u64)(w2c_i0) + 12624u);
+    w2c_j0 = i64_load(&instance->w2c_memory, (u64)(w2c_i0) + 12648u);
     w2c_l8 = w2c_j0;
     w2c_j0 = w2c_l7;
     w2c_i0 = (u32)(w2c_j0);
-    w2c_i0 = i32_load(&instance->w2c_memory, (u64)(w2c_i0) + 284u);
+    w2c_i0 = i32_load(&instance->w2c_memory, (u64)(w2c_i0) + 308u);
     w2c_p5 = w2c_i0;
     w2c_j0 = 0ull;
-    w2c_l20 = w2c_j0;
+    w2c_l25 = w2c_j0;
     w2c_j0 = 0ull;
     w2c_p6 = w2c_j0;
     w2c_j0 = w2c_l11;
     w2c_j1 = 1ull;
     w2c_i0 = w2c_j0 == w2c_j1;
-    if (w2c_i0) {goto w2c_B115;}
+    if (w2c_i0) {goto w2c_B131;}
     w2c_j0 = w2c_l11;
     w2c_j1 = 1ull;
     w2c_j0 &= w2c_j1;
-    w2c_l24 = w2c_j0;
+    w2c_l29 = w2c_j0;
     w2c_j0 = 0ull;
-    w2c_l20 = w2c_j0;
+    w2c_l25 = w2c_j0;
     w2c_j0 = 0ull;
     w2c_j1 = w2c_l11;
     w2c_j2 = 18446744073709551614ull;
     w2c_j1 &= w2c_j2;
     w2c_j0 -= w2c_j1;
-    w2c_l12 = w2c_j0;
+    w2c_l13 = w2c_j0;
     w2c_j0 = 1ull;
-    w2c_l23 = w2c_j0;
+    w2c_l27 = w2c_j0;
     w2c_j0 = w2c_l8;
     w2c_p6 = w2c_j0;
-    w2c_L116: 
-      w2c_j0 = w2c_l20;
-      w2c_j1 = w2c_l20;
-      w2c_j2 = w2c_l23;
+    w2c_L132: 
+      w2c_j0 = w2c_l25;
+      w2c_j1 = w2c_l25;
+      w2c_j2 = w2c_l27;
       w2c_j3 = w2c_p6;
       w2c_i3 = (u32)(w2c_j3);
       w2c_i3 = i32_load16_u(&instance->w2c_memory, (u64)(w2c_i3) + 2u);
@@ -21000,9 +21407,9 @@ static void w2c_f15(Z_hidreport_instance_t* instance, u64 w2c_p0, u64 w2c_p1, u6
       w2c_i3 = 1u;
       w2c_i2 &= w2c_i3;
       w2c_j0 = w2c_i2 ? w2c_j0 : w2c_j1;
-      w2c_l20 = w2c_j0;
-      w2c_j1 = w2c_l20;
-      w2c_j2 = w2c_l23;
+      w2c_l25 = w2c_j0;
+      w2c_j1 = w2c_l25;
+      w2c_j2 = w2c_l27;
       w2c_j3 = 1ull;
       w2c_j2 += w2c_j3;
       w2c_j3 = w2c_p6;
@@ -21021,30 +21428,30 @@ static void w2c_f15(Z_hidreport_instance_t* instance, u64 w2c_p0, u64 w2c_p1, u6
       w2c_i3 = 1u;
       w2c_i2 &= w2c_i3;
       w2c_j0 = w2c_i2 ? w2c_j0 : w2c_j1;
-      w2c_l20 = w2c_j0;
+      w2c_l25 = w2c_j0;
       w2c_j0 = w2c_p6;
       w2c_j1 = 24ull;
       w2c_j0 += w2c_j1;
       w2c_p6 = w2c_j0;
-      w2c_j0 = w2c_l12;
-      w2c_j1 = w2c_l23;
+      w2c_j0 = w2c_l13;
+      w2c_j1 = w2c_l27;
       w2c_j2 = 2ull;
       w2c_j1 += w2c_j2;
-      w2c_l23 = w2c_j1;
+      w2c_l27 = w2c_j1;
       w2c_j0 += w2c_j1;
       w2c_j1 = 1ull;
       w2c_i0 = w2c_j0 != w2c_j1;
-      if (w2c_i0) {goto w2c_L116;}
-    w2c_j0 = w2c_l24;
+      if (w2c_i0) {goto w2c_L132;}
+    w2c_j0 = w2c_l29;
     w2c_i0 = !(w2c_j0);
-    if (w2c_i0) {goto w2c_B114;}
-    w2c_j0 = w2c_l23;
+    if (w2c_i0) {goto w2c_B130;}
+    w2c_j0 = w2c_l27;
     w2c_j1 = 18446744073709551615ull;
     w2c_j0 += w2c_j1;
     w2c_p6 = w2c_j0;
-    w2c_B115:;
-    w2c_j0 = w2c_l20;
-    w2c_j1 = w2c_l20;
+    w2c_B131:;
+    w2c_j0 = w2c_l25;
+    w2c_j1 = w2c_l25;
     w2c_j2 = w2c_p6;
     w2c_j3 = 1ull;
     w2c_j2 += w2c_j3;
@@ -21065,29 +21472,29 @@ static void w2c_f15(Z_hidreport_instance_t* instance, u64 w2c_p0, u64 w2c_p1, u6
     w2c_i3 = 1u;
     w2c_i2 &= w2c_i3;
     w2c_j0 = w2c_i2 ? w2c_j0 : w2c_j1;
-    w2c_l20 = w2c_j0;
-    w2c_B114:;
+    w2c_l25 = w2c_j0;
+    w2c_B130:;
     w2c_i0 = w2c_p5;
     w2c_i1 = 16u;
     w2c_i0 <<= (w2c_i1 & 31);
-    w2c_l27 = w2c_i0;
+    w2c_l38 = w2c_i0;
     w2c_j0 = 0ull;
     w2c_p6 = w2c_j0;
-    w2c_L117: 
+    w2c_L133: 
       w2c_j0 = w2c_l8;
       w2c_j1 = 4ull;
       w2c_j0 += w2c_j1;
       w2c_i0 = (u32)(w2c_j0);
       w2c_i0 = i32_load(&instance->w2c_memory, (u64)(w2c_i0));
-      w2c_l26 = w2c_i0;
+      w2c_l32 = w2c_i0;
       w2c_j0 = w2c_l8;
       w2c_i0 = (u32)(w2c_j0);
       w2c_i0 = i32_load(&instance->w2c_memory, (u64)(w2c_i0));
       w2c_p5 = w2c_i0;
       w2c_j0 = w2c_p6;
-      w2c_j1 = w2c_l20;
+      w2c_j1 = w2c_l25;
       w2c_i0 = w2c_j0 < w2c_j1;
-      if (w2c_i0) {goto w2c_B118;}
+      if (w2c_i0) {goto w2c_B134;}
       w2c_j0 = w2c_l8;
       w2c_j1 = 8ull;
       w2c_j0 += w2c_j1;
@@ -21095,29 +21502,29 @@ static void w2c_f15(Z_hidreport_instance_t* instance, u64 w2c_p0, u64 w2c_p1, u6
       w2c_i0 = i32_load8_u(&instance->w2c_memory, (u64)(w2c_i0));
       w2c_i1 = 1u;
       w2c_i0 &= w2c_i1;
-      if (w2c_i0) {goto w2c_B118;}
-      w2c_i0 = w2c_l26;
+      if (w2c_i0) {goto w2c_B134;}
+      w2c_i0 = w2c_l32;
       w2c_i1 = 65535u;
       w2c_i0 &= w2c_i1;
-      w2c_i1 = w2c_l27;
+      w2c_i1 = w2c_l38;
       w2c_i0 |= w2c_i1;
-      w2c_l26 = w2c_i0;
+      w2c_l32 = w2c_i0;
       w2c_i0 = w2c_p5;
       w2c_i1 = 65535u;
       w2c_i0 &= w2c_i1;
-      w2c_i1 = w2c_l27;
+      w2c_i1 = w2c_l38;
       w2c_i0 |= w2c_i1;
       w2c_p5 = w2c_i0;
-      w2c_B118:;
+      w2c_B134:;
       w2c_i0 = w2c_p5;
       w2c_i1 = 65608u;
       w2c_i0 = w2c_i0 > w2c_i1;
-      if (w2c_i0) {goto w2c_B120;}
-      w2c_i0 = w2c_l26;
+      if (w2c_i0) {goto w2c_B136;}
+      w2c_i0 = w2c_l32;
       w2c_i1 = 65608u;
       w2c_i0 = w2c_i0 >= w2c_i1;
-      if (w2c_i0) {goto w2c_B119;}
-      w2c_B120:;
+      if (w2c_i0) {goto w2c_B135;}
+      w2c_B136:;
       w2c_j0 = w2c_l8;
       w2c_j1 = 12ull;
       w2c_j0 += w2c_j1;
@@ -21128,197 +21535,814 @@ static void w2c_f15(Z_hidreport_instance_t* instance, u64 w2c_p0, u64 w2c_p1, u6
       w2c_j1 += w2c_j2;
       w2c_p6 = w2c_j1;
       w2c_i0 = w2c_j0 == w2c_j1;
-      if (w2c_i0) {goto w2c_B112;}
-      goto w2c_L117;
-      w2c_B119:;
+      if (w2c_i0) {goto w2c_B128;}
+      goto w2c_L133;
+      w2c_B135:;
     w2c_j0 = w2c_l7;
     w2c_i0 = (u32)(w2c_j0);
     w2c_j1 = w2c_l10;
-    i64_store(&instance->w2c_memory, (u64)(w2c_i0) + 12784, w2c_j1);
+    i64_store(&instance->w2c_memory, (u64)(w2c_i0) + 12808, w2c_j1);
     w2c_j0 = w2c_l7;
     w2c_i0 = (u32)(w2c_j0);
     w2c_j1 = 1ull;
-    i64_store(&instance->w2c_memory, (u64)(w2c_i0) + 12776, w2c_j1);
-    w2c_B112:;
+    i64_store(&instance->w2c_memory, (u64)(w2c_i0) + 12800, w2c_j1);
+    w2c_B128:;
+    w2c_j0 = w2c_l28;
+    w2c_i0 = (u32)(w2c_j0);
+    w2c_i0 = i32_load(&instance->w2c_memory, (u64)(w2c_i0) + 8u);
+    w2c_l32 = w2c_i0;
+    w2c_j0 = w2c_l28;
+    w2c_i0 = (u32)(w2c_j0);
+    w2c_i0 = i32_load(&instance->w2c_memory, (u64)(w2c_i0) + 4u);
+    w2c_p5 = w2c_i0;
     w2c_j0 = w2c_l7;
     w2c_i0 = (u32)(w2c_j0);
+    w2c_i0 = i32_load(&instance->w2c_memory, (u64)(w2c_i0) + 12692u);
+    w2c_l38 = w2c_i0;
+    w2c_i0 = w2c_l36;
+    w2c_i0 = !(w2c_i0);
+    if (w2c_i0) {goto w2c_B138;}
+    w2c_i0 = 0u;
+    w2c_l36 = w2c_i0;
+    w2c_i0 = 0u;
+    w2c_l39 = w2c_i0;
+    w2c_i0 = 0u;
+    w2c_l37 = w2c_i0;
+    w2c_i0 = 0u;
+    w2c_l41 = w2c_i0;
+    goto w2c_B137;
+    w2c_B138:;
+    w2c_j0 = w2c_l7;
+    w2c_i0 = (u32)(w2c_j0);
+    w2c_j0 = i64_load(&instance->w2c_memory, (u64)(w2c_i0) + 336u);
+    w2c_j1 = w2c_l14;
+    w2c_j2 = 4ull;
+    w2c_j1 <<= (w2c_j2 & 63);
+    w2c_j0 += w2c_j1;
+    w2c_p6 = w2c_j0;
+    w2c_j1 = 18446744073709551600ull;
+    w2c_j0 += w2c_j1;
+    w2c_l8 = w2c_j0;
+    w2c_i0 = (u32)(w2c_j0);
+    w2c_i0 = i32_load(&instance->w2c_memory, (u64)(w2c_i0) + 4u);
+    w2c_l41 = w2c_i0;
+    w2c_j0 = w2c_l8;
+    w2c_i0 = (u32)(w2c_j0);
+    w2c_i0 = i32_load(&instance->w2c_memory, (u64)(w2c_i0));
+    w2c_l37 = w2c_i0;
+    w2c_j0 = w2c_p6;
+    w2c_j1 = 18446744073709551612ull;
+    w2c_j0 += w2c_j1;
+    w2c_i0 = (u32)(w2c_j0);
+    w2c_i0 = i32_load8_u(&instance->w2c_memory, (u64)(w2c_i0));
+    w2c_l39 = w2c_i0;
+    w2c_j0 = w2c_p6;
+    w2c_j1 = 18446744073709551608ull;
+    w2c_j0 += w2c_j1;
+    w2c_i0 = (u32)(w2c_j0);
+    w2c_i0 = i32_load(&instance->w2c_memory, (u64)(w2c_i0));
+    w2c_l36 = w2c_i0;
+    w2c_B137:;
+    w2c_j0 = w2c_l7;
+    w2c_i0 = (u32)(w2c_j0);
+    w2c_i0 = i32_load(&instance->w2c_memory, (u64)(w2c_i0) + 292u);
+    w2c_l42 = w2c_i0;
+    w2c_j0 = w2c_l7;
+    w2c_i0 = (u32)(w2c_j0);
+    w2c_i0 = i32_load(&instance->w2c_memory, (u64)(w2c_i0) + 288u);
+    w2c_l43 = w2c_i0;
+    w2c_j0 = w2c_l7;
+    w2c_i0 = (u32)(w2c_j0);
+    w2c_i0 = i32_load(&instance->w2c_memory, (u64)(w2c_i0) + 284u);
+    w2c_l44 = w2c_i0;
+    w2c_j0 = w2c_l7;
+    w2c_i0 = (u32)(w2c_j0);
+    w2c_i0 = i32_load(&instance->w2c_memory, (u64)(w2c_i0) + 280u);
+    w2c_l45 = w2c_i0;
+    w2c_j0 = w2c_l7;
+    w2c_i0 = (u32)(w2c_j0);
+    w2c_i0 = i32_load(&instance->w2c_memory, (u64)(w2c_i0) + 276u);
+    w2c_l46 = w2c_i0;
+    w2c_j0 = w2c_l7;
+    w2c_i0 = (u32)(w2c_j0);
+    w2c_i0 = i32_load(&instance->w2c_memory, (u64)(w2c_i0) + 272u);
+    w2c_l47 = w2c_i0;
+    w2c_j0 = w2c_l7;
+    w2c_i0 = (u32)(w2c_j0);
+    w2c_j0 = i64_load(&instance->w2c_memory, (u64)(w2c_i0) + 12656u);
+    w2c_l25 = w2c_j0;
+    w2c_j0 = w2c_l7;
+    w2c_i0 = (u32)(w2c_j0);
+    w2c_j0 = i64_load(&instance->w2c_memory, (u64)(w2c_i0) + 12872u);
+    w2c_l27 = w2c_j0;
+    w2c_j0 = w2c_l7;
+    w2c_i0 = (u32)(w2c_j0);
+    w2c_j0 = i64_load(&instance->w2c_memory, (u64)(w2c_i0) + 12856u);
+    w2c_j1 = w2c_l7;
+    w2c_i1 = (u32)(w2c_j1);
+    w2c_j1 = i64_load(&instance->w2c_memory, (u64)(w2c_i1) + 12848u);
+    w2c_l8 = w2c_j1;
+    w2c_i0 = w2c_j0 != w2c_j1;
+    if (w2c_i0) {goto w2c_B139;}
+    w2c_j0 = w2c_l20;
+    w2c_i0 = w2c_f61(instance, w2c_j0);
+    w2c_i0 = !(w2c_i0);
+    if (w2c_i0) {goto w2c_B18;}
+    w2c_j0 = w2c_l7;
+    w2c_i0 = (u32)(w2c_j0);
+    w2c_j0 = i64_load(&instance->w2c_memory, (u64)(w2c_i0) + 12848u);
+    w2c_l8 = w2c_j0;
+    w2c_B139:;
+    w2c_j0 = w2c_l7;
+    w2c_i0 = (u32)(w2c_j0);
+    w2c_j0 = i64_load(&instance->w2c_memory, (u64)(w2c_i0) + 12840u);
+    w2c_j1 = w2c_l8;
+    w2c_j2 = 104ull;
+    w2c_j1 *= w2c_j2;
+    w2c_j0 += w2c_j1;
+    w2c_p6 = w2c_j0;
+    w2c_i0 = (u32)(w2c_j0);
+    w2c_i1 = w2c_l41;
+    i32_store(&instance->w2c_memory, (u64)(w2c_i0) + 48, w2c_i1);
+    w2c_j0 = w2c_p6;
+    w2c_i0 = (u32)(w2c_j0);
+    w2c_i1 = w2c_l37;
+    i32_store(&instance->w2c_memory, (u64)(w2c_i0) + 44, w2c_i1);
+    w2c_j0 = w2c_p6;
+    w2c_i0 = (u32)(w2c_j0);
+    w2c_i1 = w2c_l39;
+    i32_store8(&instance->w2c_memory, (u64)(w2c_i0) + 56, w2c_i1);
+    w2c_j0 = w2c_p6;
+    w2c_i0 = (u32)(w2c_j0);
+    w2c_i1 = w2c_l36;
+    i32_store(&instance->w2c_memory, (u64)(w2c_i0) + 52, w2c_i1);
+    w2c_j0 = w2c_p6;
+    w2c_i0 = (u32)(w2c_j0);
+    w2c_i1 = w2c_l35;
+    w2c_i2 = 1u;
+    w2c_i1 = w2c_i1 == w2c_i2;
+    i32_store8(&instance->w2c_memory, (u64)(w2c_i0) + 43, w2c_i1);
+    w2c_j0 = w2c_p6;
+    w2c_i0 = (u32)(w2c_j0);
+    w2c_i1 = w2c_l31;
+    w2c_i2 = 2u;
+    w2c_i1 >>= (w2c_i2 & 31);
+    w2c_i2 = 1u;
+    w2c_i1 &= w2c_i2;
+    i32_store8(&instance->w2c_memory, (u64)(w2c_i0) + 42, w2c_i1);
+    w2c_j0 = w2c_p6;
+    w2c_i0 = (u32)(w2c_j0);
+    w2c_i1 = w2c_l31;
+    w2c_i2 = 1u;
+    w2c_i1 &= w2c_i2;
+    i32_store8(&instance->w2c_memory, (u64)(w2c_i0) + 41, w2c_i1);
+    w2c_j0 = w2c_p6;
+    w2c_i0 = (u32)(w2c_j0);
+    w2c_i1 = w2c_l30;
+    i32_store8(&instance->w2c_memory, (u64)(w2c_i0) + 40, w2c_i1);
+    w2c_j0 = w2c_p6;
+    w2c_i0 = (u32)(w2c_j0);
+    w2c_i1 = w2c_l38;
+    i32_store(&instance->w2c_memory, (u64)(w2c_i0) + 36, w2c_i1);
+    w2c_j0 = w2c_p6;
+    w2c_i0 = (u32)(w2c_j0);
+    w2c_i1 = w2c_l40;
+    i32_store(&instance->w2c_memory, (u64)(w2c_i0) + 32, w2c_i1);
+    w2c_j0 = w2c_p6;
+    w2c_i0 = (u32)(w2c_j0);
+    w2c_i1 = w2c_l33;
+    i32_store(&instance->w2c_memory, (u64)(w2c_i0) + 28, w2c_i1);
+    w2c_j0 = w2c_p6;
+    w2c_i0 = (u32)(w2c_j0);
+    w2c_i1 = w2c_l35;
+    i32_store(&instance->w2c_memory, (u64)(w2c_i0) + 24, w2c_i1);
+    w2c_j0 = w2c_p6;
+    w2c_i0 = (u32)(w2c_j0);
+    w2c_i1 = 0u;
+    i32_store8(&instance->w2c_memory, (u64)(w2c_i0) + 23, w2c_i1);
+    w2c_j0 = w2c_p6;
+    w2c_i0 = (u32)(w2c_j0);
+    w2c_i1 = w2c_l31;
+    w2c_i2 = 1u;
+    w2c_i1 >>= (w2c_i2 & 31);
+    w2c_i2 = 1u;
+    w2c_i1 &= w2c_i2;
+    i32_store8(&instance->w2c_memory, (u64)(w2c_i0) + 22, w2c_i1);
+    w2c_j0 = w2c_p6;
+    w2c_i0 = (u32)(w2c_j0);
+    w2c_i1 = w2c_p5;
+    w2c_i2 = 256u;
+    w2c_i1 = w2c_i1 > w2c_i2;
+    i32_store8(&instance->w2c_memory, (u64)(w2c_i0) + 21, w2c_i1);
+    w2c_j0 = w2c_p6;
+    w2c_i0 = (u32)(w2c_j0);
+    w2c_i1 = w2c_p5;
+    w2c_i2 = 1u;
+    w2c_i1 = w2c_i1 == w2c_i2;
+    i32_store8(&instance->w2c_memory, (u64)(w2c_i0) + 20, w2c_i1);
+    w2c_j0 = w2c_p6;
+    w2c_i0 = (u32)(w2c_j0);
     w2c_i1 = w2c_l32;
+    i32_store(&instance->w2c_memory, (u64)(w2c_i0) + 16, w2c_i1);
+    w2c_j0 = w2c_p6;
+    w2c_i0 = (u32)(w2c_j0);
+    w2c_i1 = w2c_l34;
+    i32_store(&instance->w2c_memory, (u64)(w2c_i0) + 12, w2c_i1);
+    w2c_j0 = w2c_p6;
+    w2c_i0 = (u32)(w2c_j0);
+    w2c_i1 = w2c_l30;
+    i32_store(&instance->w2c_memory, (u64)(w2c_i0) + 8, w2c_i1);
+    w2c_j0 = w2c_p6;
+    w2c_i0 = (u32)(w2c_j0);
+    w2c_j1 = w2c_l10;
+    i64_store(&instance->w2c_memory, (u64)(w2c_i0), w2c_j1);
+    w2c_j0 = w2c_p6;
+    w2c_i0 = (u32)(w2c_j0);
+    w2c_i1 = 0u;
+    i32_store8(&instance->w2c_memory, (u64)(w2c_i0) + 59, w2c_i1);
+    w2c_j0 = w2c_p6;
+    w2c_i0 = (u32)(w2c_j0);
+    w2c_i1 = 0u;
+    i32_store16(&instance->w2c_memory, (u64)(w2c_i0) + 57, w2c_i1);
+    w2c_j0 = w2c_p6;
+    w2c_i0 = (u32)(w2c_j0);
+    w2c_i1 = 0u;
+    i32_store(&instance->w2c_memory, (u64)(w2c_i0) + 84, w2c_i1);
+    w2c_j0 = w2c_p6;
+    w2c_i0 = (u32)(w2c_j0);
+    w2c_j1 = w2c_l27;
+    i64_store(&instance->w2c_memory, (u64)(w2c_i0) + 88, w2c_j1);
+    w2c_j0 = w2c_p6;
+    w2c_i0 = (u32)(w2c_j0);
+    w2c_j1 = w2c_l25;
+    i64_store(&instance->w2c_memory, (u64)(w2c_i0) + 96, w2c_j1);
+    w2c_j0 = w2c_p6;
+    w2c_i0 = (u32)(w2c_j0);
+    w2c_i1 = w2c_l42;
+    i32_store(&instance->w2c_memory, (u64)(w2c_i0) + 80, w2c_i1);
+    w2c_j0 = w2c_p6;
+    w2c_i0 = (u32)(w2c_j0);
+    w2c_i1 = w2c_l43;
+    i32_store(&instance->w2c_memory, (u64)(w2c_i0) + 76, w2c_i1);
+    w2c_j0 = w2c_p6;
+    w2c_i0 = (u32)(w2c_j0);
+    w2c_i1 = w2c_l44;
+    i32_store(&instance->w2c_memory, (u64)(w2c_i0) + 72, w2c_i1);
+    w2c_j0 = w2c_p6;
+    w2c_i0 = (u32)(w2c_j0);
+    w2c_i1 = w2c_l45;
+    i32_store(&instance->w2c_memory, (u64)(w2c_i0) + 68, w2c_i1);
+    w2c_j0 = w2c_p6;
+    w2c_i0 = (u32)(w2c_j0);
+    w2c_i1 = w2c_l46;
+    i32_store(&instance->w2c_memory, (u64)(w2c_i0) + 64, w2c_i1);
+    w2c_j0 = w2c_p6;
+    w2c_i0 = (u32)(w2c_j0);
+    w2c_i1 = w2c_l47;
+    i32_store(&instance->w2c_memory, (u64)(w2c_i0) + 60, w2c_i1);
+    w2c_j0 = w2c_l7;
+    w2c_i0 = (u32)(w2c_j0);
+    w2c_j1 = w2c_l8;
+    w2c_j2 = 1ull;
+    w2c_j1 += w2c_j2;
+    i64_store(&instance->w2c_memory, (u64)(w2c_i0) + 12848, w2c_j1);
+    w2c_j0 = w2c_l7;
+    w2c_i0 = (u32)(w2c_j0);
+    w2c_j0 = i64_load(&instance->w2c_memory, (u64)(w2c_i0) + 12656u);
+    w2c_l11 = w2c_j0;
+    w2c_i0 = !(w2c_j0);
+    if (w2c_i0) {goto w2c_B140;}
+    w2c_j0 = w2c_l7;
+    w2c_i0 = (u32)(w2c_j0);
+    w2c_j0 = i64_load(&instance->w2c_memory, (u64)(w2c_i0) + 12648u);
+    w2c_p6 = w2c_j0;
+    w2c_j0 = w2c_l7;
+    w2c_i0 = (u32)(w2c_j0);
+    w2c_i0 = i32_load(&instance->w2c_memory, (u64)(w2c_i0) + 308u);
+    w2c_p5 = w2c_i0;
+    w2c_j0 = 0ull;
+    w2c_l28 = w2c_j0;
+    w2c_j0 = 0ull;
+    w2c_l8 = w2c_j0;
+    w2c_j0 = w2c_l11;
+    w2c_j1 = 1ull;
+    w2c_i0 = w2c_j0 == w2c_j1;
+    if (w2c_i0) {goto w2c_B142;}
+    w2c_j0 = w2c_l11;
+    w2c_j1 = 1ull;
+    w2c_j0 &= w2c_j1;
+    w2c_l14 = w2c_j0;
+    w2c_j0 = 0ull;
+    w2c_l28 = w2c_j0;
+    w2c_j0 = 0ull;
+    w2c_j1 = w2c_l11;
+    w2c_j2 = 18446744073709551614ull;
+    w2c_j1 &= w2c_j2;
+    w2c_j0 -= w2c_j1;
+    w2c_l13 = w2c_j0;
+    w2c_j0 = 1ull;
+    w2c_l25 = w2c_j0;
+    w2c_j0 = w2c_p6;
+    w2c_l8 = w2c_j0;
+    w2c_L143: 
+      w2c_j0 = w2c_l28;
+      w2c_j1 = w2c_l28;
+      w2c_j2 = w2c_l25;
+      w2c_j3 = w2c_l8;
+      w2c_i3 = (u32)(w2c_j3);
+      w2c_i3 = i32_load16_u(&instance->w2c_memory, (u64)(w2c_i3) + 2u);
+      w2c_i4 = w2c_p5;
+      w2c_i3 = w2c_i3 != w2c_i4;
+      w2c_j1 = w2c_i3 ? w2c_j1 : w2c_j2;
+      w2c_j2 = w2c_l8;
+      w2c_j3 = 8ull;
+      w2c_j2 += w2c_j3;
+      w2c_i2 = (u32)(w2c_j2);
+      w2c_i2 = i32_load8_u(&instance->w2c_memory, (u64)(w2c_i2));
+      w2c_i3 = 1u;
+      w2c_i2 &= w2c_i3;
+      w2c_j0 = w2c_i2 ? w2c_j0 : w2c_j1;
+      w2c_l27 = w2c_j0;
+      w2c_j1 = w2c_l27;
+      w2c_j2 = w2c_l25;
+      w2c_j3 = 1ull;
+      w2c_j2 += w2c_j3;
+      w2c_j3 = w2c_l8;
+      w2c_j4 = 14ull;
+      w2c_j3 += w2c_j4;
+      w2c_i3 = (u32)(w2c_j3);
+      w2c_i3 = i32_load16_u(&instance->w2c_memory, (u64)(w2c_i3));
+      w2c_i4 = w2c_p5;
+      w2c_i3 = w2c_i3 != w2c_i4;
+      w2c_j1 = w2c_i3 ? w2c_j1 : w2c_j2;
+      w2c_j2 = w2c_l8;
+      w2c_j3 = 20ull;
+      w2c_j2 += w2c_j3;
+      w2c_i2 = (u32)(w2c_j2);
+      w2c_i2 = i32_load8_u(&instance->w2c_memory, (u64)(w2c_i2));
+      w2c_i3 = 1u;
+      w2c_i2 &= w2c_i3;
+      w2c_j0 = w2c_i2 ? w2c_j0 : w2c_j1;
+      w2c_l28 = w2c_j0;
+      w2c_j0 = w2c_l8;
+      w2c_j1 = 24ull;
+      w2c_j0 += w2c_j1;
+      w2c_l8 = w2c_j0;
+      w2c_j0 = w2c_l13;
+      w2c_j1 = w2c_l25;
+      w2c_j2 = 2ull;
+      w2c_j1 += w2c_j2;
+      w2c_l25 = w2c_j1;
+      w2c_j0 += w2c_j1;
+      w2c_j1 = 1ull;
+      w2c_i0 = w2c_j0 != w2c_j1;
+      if (w2c_i0) {goto w2c_L143;}
+    w2c_j0 = w2c_l14;
+    w2c_i0 = !(w2c_j0);
+    if (w2c_i0) {goto w2c_B141;}
+    w2c_j0 = w2c_l25;
+    w2c_j1 = 18446744073709551615ull;
+    w2c_j0 += w2c_j1;
+    w2c_l8 = w2c_j0;
+    w2c_B142:;
+    w2c_j0 = w2c_l28;
+    w2c_j1 = w2c_l28;
+    w2c_j2 = w2c_l8;
+    w2c_j3 = 1ull;
+    w2c_j2 += w2c_j3;
+    w2c_j3 = w2c_p6;
+    w2c_j4 = w2c_l8;
+    w2c_j5 = 12ull;
+    w2c_j4 *= w2c_j5;
+    w2c_j3 += w2c_j4;
+    w2c_l8 = w2c_j3;
+    w2c_i3 = (u32)(w2c_j3);
+    w2c_i3 = i32_load16_u(&instance->w2c_memory, (u64)(w2c_i3) + 2u);
+    w2c_i4 = w2c_p5;
+    w2c_i3 = w2c_i3 != w2c_i4;
+    w2c_j1 = w2c_i3 ? w2c_j1 : w2c_j2;
+    w2c_j2 = w2c_l8;
+    w2c_i2 = (u32)(w2c_j2);
+    w2c_i2 = i32_load8_u(&instance->w2c_memory, (u64)(w2c_i2) + 8u);
+    w2c_i3 = 1u;
+    w2c_i2 &= w2c_i3;
+    w2c_j0 = w2c_i2 ? w2c_j0 : w2c_j1;
+    w2c_l28 = w2c_j0;
+    w2c_B141:;
+    w2c_i0 = w2c_p5;
+    w2c_i1 = 16u;
+    w2c_i0 <<= (w2c_i1 & 31);
+    w2c_l33 = w2c_i0;
+    w2c_j0 = 0ull;
+    w2c_l27 = w2c_j0;
+    w2c_L144: 
+      w2c_j0 = w2c_p6;
+      w2c_j1 = 9ull;
+      w2c_j0 += w2c_j1;
+      w2c_l8 = w2c_j0;
+      w2c_j0 = w2c_p6;
+      w2c_j1 = 8ull;
+      w2c_j0 += w2c_j1;
+      w2c_i0 = (u32)(w2c_j0);
+      w2c_i0 = i32_load8_u(&instance->w2c_memory, (u64)(w2c_i0));
+      w2c_p5 = w2c_i0;
+      w2c_j0 = w2c_p6;
+      w2c_i0 = (u32)(w2c_j0);
+      w2c_i0 = i32_load(&instance->w2c_memory, (u64)(w2c_i0) + 4u);
+      w2c_l31 = w2c_i0;
+      w2c_j0 = w2c_p6;
+      w2c_i0 = (u32)(w2c_j0);
+      w2c_i0 = i32_load(&instance->w2c_memory, (u64)(w2c_i0));
+      w2c_l32 = w2c_i0;
+      w2c_j0 = w2c_l27;
+      w2c_j1 = w2c_l28;
+      w2c_i0 = w2c_j0 >= w2c_j1;
+      if (w2c_i0) {goto w2c_B146;}
+      w2c_j0 = w2c_l7;
+      w2c_i0 = (u32)(w2c_j0);
+      w2c_j1 = w2c_l8;
+      w2c_i1 = (u32)(w2c_j1);
+      w2c_i1 = i32_load8_u(&instance->w2c_memory, (u64)(w2c_i1) + 2u);
+      i32_store8(&instance->w2c_memory, (u64)(w2c_i0) + 12890, w2c_i1);
+      w2c_j0 = w2c_l7;
+      w2c_i0 = (u32)(w2c_j0);
+      w2c_j1 = w2c_l8;
+      w2c_i1 = (u32)(w2c_j1);
+      w2c_i1 = i32_load16_u(&instance->w2c_memory, (u64)(w2c_i1));
+      i32_store16(&instance->w2c_memory, (u64)(w2c_i0) + 12888, w2c_i1);
+      goto w2c_B145;
+      w2c_B146:;
+      w2c_i0 = w2c_p5;
+      w2c_i1 = 1u;
+      w2c_i0 &= w2c_i1;
+      w2c_i0 = !(w2c_i0);
+      if (w2c_i0) {goto w2c_B147;}
+      w2c_j0 = w2c_l7;
+      w2c_i0 = (u32)(w2c_j0);
+      w2c_j1 = w2c_l8;
+      w2c_i1 = (u32)(w2c_j1);
+      w2c_i1 = i32_load8_u(&instance->w2c_memory, (u64)(w2c_i1) + 2u);
+      i32_store8(&instance->w2c_memory, (u64)(w2c_i0) + 12890, w2c_i1);
+      w2c_j0 = w2c_l7;
+      w2c_i0 = (u32)(w2c_j0);
+      w2c_j1 = w2c_l8;
+      w2c_i1 = (u32)(w2c_j1);
+      w2c_i1 = i32_load16_u(&instance->w2c_memory, (u64)(w2c_i1));
+      i32_store16(&instance->w2c_memory, (u64)(w2c_i0) + 12888, w2c_i1);
+      goto w2c_B145;
+      w2c_B147:;
+      w2c_i0 = 0u;
+      w2c_p5 = w2c_i0;
+      w2c_j0 = w2c_l7;
+      w2c_i0 = (u32)(w2c_j0);
+      w2c_i1 = 0u;
+      i32_store8(&instance->w2c_memory, (u64)(w2c_i0) + 12890, w2c_i1);
+      w2c_j0 = w2c_l7;
+      w2c_i0 = (u32)(w2c_j0);
+      w2c_i1 = 0u;
+      i32_store16(&instance->w2c_memory, (u64)(w2c_i0) + 12888, w2c_i1);
+      w2c_i0 = w2c_l32;
+      w2c_i1 = 65535u;
+      w2c_i0 &= w2c_i1;
+      w2c_i1 = w2c_l33;
+      w2c_i0 |= w2c_i1;
+      w2c_l32 = w2c_i0;
+      w2c_i0 = w2c_l31;
+      w2c_i1 = 65535u;
+      w2c_i0 &= w2c_i1;
+      w2c_i1 = w2c_l33;
+      w2c_i0 |= w2c_i1;
+      w2c_l31 = w2c_i0;
+      w2c_B145:;
+      w2c_j0 = w2c_l7;
+      w2c_i0 = (u32)(w2c_j0);
+      w2c_j1 = w2c_l7;
+      w2c_i1 = (u32)(w2c_j1);
+      w2c_i1 = i32_load8_u(&instance->w2c_memory, (u64)(w2c_i1) + 12890u);
+      i32_store8(&instance->w2c_memory, (u64)(w2c_i0) + 12930, w2c_i1);
+      w2c_j0 = w2c_l7;
+      w2c_i0 = (u32)(w2c_j0);
+      w2c_j1 = w2c_l7;
+      w2c_i1 = (u32)(w2c_j1);
+      w2c_i1 = i32_load16_u(&instance->w2c_memory, (u64)(w2c_i1) + 12888u);
+      i32_store16(&instance->w2c_memory, (u64)(w2c_i0) + 12928, w2c_i1);
+      w2c_j0 = w2c_l7;
+      w2c_i0 = (u32)(w2c_j0);
+      w2c_j0 = i64_load(&instance->w2c_memory, (u64)(w2c_i0) + 12880u);
+      w2c_j1 = w2c_l7;
+      w2c_i1 = (u32)(w2c_j1);
+      w2c_j1 = i64_load(&instance->w2c_memory, (u64)(w2c_i1) + 12872u);
+      w2c_l25 = w2c_j1;
+      w2c_i0 = w2c_j0 != w2c_j1;
+      if (w2c_i0) {goto w2c_B148;}
+      w2c_j0 = w2c_l21;
+      w2c_i0 = w2c_f57(instance, w2c_j0);
+      w2c_i0 = !(w2c_i0);
+      if (w2c_i0) {goto w2c_B18;}
+      w2c_j0 = w2c_l7;
+      w2c_i0 = (u32)(w2c_j0);
+      w2c_j0 = i64_load(&instance->w2c_memory, (u64)(w2c_i0) + 12872u);
+      w2c_l25 = w2c_j0;
+      w2c_B148:;
+      w2c_j0 = w2c_l7;
+      w2c_i0 = (u32)(w2c_j0);
+      w2c_j0 = i64_load(&instance->w2c_memory, (u64)(w2c_i0) + 12864u);
+      w2c_j1 = w2c_l25;
+      w2c_j2 = 12ull;
+      w2c_j1 *= w2c_j2;
+      w2c_j0 += w2c_j1;
+      w2c_l8 = w2c_j0;
+      w2c_i0 = (u32)(w2c_j0);
+      w2c_i1 = w2c_l31;
+      i32_store(&instance->w2c_memory, (u64)(w2c_i0) + 4, w2c_i1);
+      w2c_j0 = w2c_l8;
+      w2c_i0 = (u32)(w2c_j0);
+      w2c_i1 = w2c_l32;
+      i32_store(&instance->w2c_memory, (u64)(w2c_i0), w2c_i1);
+      w2c_j0 = w2c_l8;
+      w2c_i0 = (u32)(w2c_j0);
+      w2c_i1 = w2c_p5;
+      i32_store8(&instance->w2c_memory, (u64)(w2c_i0) + 8, w2c_i1);
+      w2c_j0 = w2c_l8;
+      w2c_i0 = (u32)(w2c_j0);
+      w2c_j1 = w2c_l7;
+      w2c_i1 = (u32)(w2c_j1);
+      w2c_i1 = i32_load16_u(&instance->w2c_memory, (u64)(w2c_i1) + 12928u);
+      i32_store16(&instance->w2c_memory, (u64)(w2c_i0) + 9, w2c_i1);
+      w2c_j0 = w2c_l8;
+      w2c_i0 = (u32)(w2c_j0);
+      w2c_j1 = w2c_l7;
+      w2c_i1 = (u32)(w2c_j1);
+      w2c_i1 = i32_load8_u(&instance->w2c_memory, (u64)(w2c_i1) + 12930u);
+      i32_store8(&instance->w2c_memory, (u64)(w2c_i0) + 11, w2c_i1);
+      w2c_j0 = w2c_l7;
+      w2c_i0 = (u32)(w2c_j0);
+      w2c_j1 = w2c_l25;
+      w2c_j2 = 1ull;
+      w2c_j1 += w2c_j2;
+      i64_store(&instance->w2c_memory, (u64)(w2c_i0) + 12872, w2c_j1);
+      w2c_j0 = w2c_p6;
+      w2c_j1 = 12ull;
+      w2c_j0 += w2c_j1;
+      w2c_p6 = w2c_j0;
+      w2c_j0 = w2c_l11;
+      w2c_j1 = w2c_l27;
+      w2c_j2 = 1ull;
+      w2c_j1 += w2c_j2;
+      w2c_l27 = w2c_j1;
+      w2c_i0 = w2c_j0 != w2c_j1;
+      if (w2c_i0) {goto w2c_L144;}
+    w2c_B140:;
+    w2c_j0 = w2c_l7;
+    w2c_i0 = (u32)(w2c_j0);
+    w2c_i0 = i32_load(&instance->w2c_memory, (u64)(w2c_i0) + 304u);
+    w2c_l34 = w2c_i0;
+    w2c_B127:;
+    w2c_j0 = w2c_l7;
+    w2c_i0 = (u32)(w2c_j0);
+    w2c_i1 = w2c_l34;
     w2c_i1 = !(w2c_i1);
     w2c_j2 = w2c_l7;
     w2c_i2 = (u32)(w2c_j2);
-    w2c_i2 = i32_load8_u(&instance->w2c_memory, (u64)(w2c_i2) + 12673u);
+    w2c_i2 = i32_load8_u(&instance->w2c_memory, (u64)(w2c_i2) + 12697u);
     w2c_i1 |= w2c_i2;
-    w2c_l26 = w2c_i1;
-    i32_store8(&instance->w2c_memory, (u64)(w2c_i0) + 12673, w2c_i1);
+    w2c_l31 = w2c_i1;
+    i32_store8(&instance->w2c_memory, (u64)(w2c_i0) + 12697, w2c_i1);
     w2c_j0 = w2c_l7;
     w2c_i0 = (u32)(w2c_j0);
-    w2c_i1 = w2c_l32;
+    w2c_i1 = w2c_l34;
     w2c_i2 = 0u;
     w2c_i1 = w2c_i1 != w2c_i2;
     w2c_j2 = w2c_l7;
     w2c_i2 = (u32)(w2c_j2);
-    w2c_i2 = i32_load8_u(&instance->w2c_memory, (u64)(w2c_i2) + 12672u);
+    w2c_i2 = i32_load8_u(&instance->w2c_memory, (u64)(w2c_i2) + 12696u);
     w2c_i1 |= w2c_i2;
     w2c_p5 = w2c_i1;
-    i32_store8(&instance->w2c_memory, (u64)(w2c_i0) + 12672, w2c_i1);
+    i32_store8(&instance->w2c_memory, (u64)(w2c_i0) + 12696, w2c_i1);
     w2c_i0 = w2c_p5;
     w2c_i1 = 1u;
     w2c_i0 &= w2c_i1;
     w2c_i0 = !(w2c_i0);
-    if (w2c_i0) {goto w2c_B121;}
-    w2c_i0 = w2c_l26;
+    if (w2c_i0) {goto w2c_B149;}
+    w2c_i0 = w2c_l31;
     w2c_i1 = 1u;
     w2c_i0 &= w2c_i1;
     w2c_i0 = !(w2c_i0);
-    if (w2c_i0) {goto w2c_B121;}
+    if (w2c_i0) {goto w2c_B149;}
     w2c_j0 = w2c_l7;
     w2c_i0 = (u32)(w2c_j0);
-    w2c_i0 = i32_load8_u(&instance->w2c_memory, (u64)(w2c_i0) + 12696u);
+    w2c_i0 = i32_load8_u(&instance->w2c_memory, (u64)(w2c_i0) + 12720u);
     w2c_i1 = 255u;
     w2c_i0 &= w2c_i1;
     w2c_i1 = 1u;
     w2c_i0 = w2c_i0 == w2c_i1;
-    if (w2c_i0) {goto w2c_B121;}
-    w2c_j0 = w2c_l13;
+    if (w2c_i0) {goto w2c_B149;}
+    w2c_j0 = w2c_l15;
     w2c_i0 = (u32)(w2c_j0);
     w2c_i1 = 0u;
     i32_store(&instance->w2c_memory, (u64)(w2c_i0), w2c_i1);
-    w2c_j0 = w2c_l13;
+    w2c_j0 = w2c_l15;
     w2c_i0 = (u32)(w2c_j0);
     w2c_i1 = 0u;
     i32_store(&instance->w2c_memory, (u64)(w2c_i0) + 3, w2c_i1);
     w2c_j0 = w2c_l7;
     w2c_i0 = (u32)(w2c_j0);
     w2c_i1 = 3u;
-    i32_store8(&instance->w2c_memory, (u64)(w2c_i0) + 12712, w2c_i1);
+    i32_store8(&instance->w2c_memory, (u64)(w2c_i0) + 12736, w2c_i1);
     w2c_j0 = w2c_l7;
     w2c_i0 = (u32)(w2c_j0);
     w2c_j1 = w2c_l10;
-    i64_store(&instance->w2c_memory, (u64)(w2c_i0) + 12704, w2c_j1);
+    i64_store(&instance->w2c_memory, (u64)(w2c_i0) + 12728, w2c_j1);
     w2c_j0 = w2c_l7;
     w2c_i0 = (u32)(w2c_j0);
     w2c_j1 = 1ull;
-    i64_store(&instance->w2c_memory, (u64)(w2c_i0) + 12696, w2c_j1);
-    w2c_B121:;
+    i64_store(&instance->w2c_memory, (u64)(w2c_i0) + 12720, w2c_j1);
+    w2c_B149:;
     w2c_j0 = w2c_l7;
     w2c_i0 = (u32)(w2c_j0);
-    w2c_j0 = i64_load(&instance->w2c_memory, (u64)(w2c_i0) + 12632u);
+    w2c_j0 = i64_load(&instance->w2c_memory, (u64)(w2c_i0) + 12656u);
     w2c_i0 = !(w2c_j0);
     w2c_i0 = !(w2c_i0);
     if (w2c_i0) {goto w2c_B17;}
     goto w2c_B16;
+    w2c_B29:;
+    w2c_j0 = w2c_l7;
+    w2c_i0 = (u32)(w2c_j0);
+    w2c_j0 = i64_load(&instance->w2c_memory, (u64)(w2c_i0) + 12656u);
+    w2c_i0 = !(w2c_j0);
+    w2c_i0 = !(w2c_i0);
+    if (w2c_i0) {goto w2c_B17;}
+    goto w2c_B16;
+    w2c_B28:;
+    w2c_j0 = w2c_l7;
+    w2c_i0 = (u32)(w2c_j0);
+    w2c_i1 = w2c_l33;
+    i32_store(&instance->w2c_memory, (u64)(w2c_i0) + 272, w2c_i1);
+    goto w2c_B15;
+    w2c_B27:;
+    w2c_j0 = w2c_l7;
+    w2c_i0 = (u32)(w2c_j0);
+    w2c_i1 = w2c_l33;
+    w2c_i2 = w2c_l40;
+    w2c_j3 = w2c_l7;
+    w2c_i3 = (u32)(w2c_j3);
+    w2c_i3 = i32_load(&instance->w2c_memory, (u64)(w2c_i3) + 272u);
+    w2c_i4 = 0u;
+    w2c_i3 = (u32)((s32)w2c_i3 < (s32)w2c_i4);
+    w2c_i1 = w2c_i3 ? w2c_i1 : w2c_i2;
+    i32_store(&instance->w2c_memory, (u64)(w2c_i0) + 276, w2c_i1);
+    goto w2c_B15;
+    w2c_B26:;
+    w2c_j0 = w2c_l7;
+    w2c_i0 = (u32)(w2c_j0);
+    w2c_i1 = w2c_l33;
+    i32_store(&instance->w2c_memory, (u64)(w2c_i0) + 280, w2c_i1);
+    goto w2c_B15;
     w2c_B25:;
     w2c_j0 = w2c_l7;
     w2c_i0 = (u32)(w2c_j0);
-    w2c_j0 = i64_load(&instance->w2c_memory, (u64)(w2c_i0) + 12632u);
-    w2c_i0 = !(w2c_j0);
-    w2c_i0 = !(w2c_i0);
-    if (w2c_i0) {goto w2c_B17;}
-    goto w2c_B16;
+    w2c_i1 = w2c_l33;
+    w2c_i2 = w2c_l40;
+    w2c_j3 = w2c_l7;
+    w2c_i3 = (u32)(w2c_j3);
+    w2c_i3 = i32_load(&instance->w2c_memory, (u64)(w2c_i3) + 280u);
+    w2c_i4 = 0u;
+    w2c_i3 = (u32)((s32)w2c_i3 < (s32)w2c_i4);
+    w2c_i1 = w2c_i3 ? w2c_i1 : w2c_i2;
+    i32_store(&instance->w2c_memory, (u64)(w2c_i0) + 284, w2c_i1);
+    goto w2c_B15;
     w2c_B24:;
     w2c_j0 = w2c_l7;
     w2c_i0 = (u32)(w2c_j0);
-    w2c_i1 = w2c_l31;
-    i32_store(&instance->w2c_memory, (u64)(w2c_i0) + 264, w2c_i1);
+    w2c_i1 = w2c_l33;
+    w2c_i2 = 4294967280u;
+    w2c_i1 += w2c_i2;
+    w2c_i2 = w2c_l33;
+    w2c_i3 = w2c_l33;
+    w2c_i4 = 4294967288u;
+    w2c_i3 &= w2c_i4;
+    w2c_i4 = 8u;
+    w2c_i3 = w2c_i3 == w2c_i4;
+    w2c_i1 = w2c_i3 ? w2c_i1 : w2c_i2;
+    i32_store(&instance->w2c_memory, (u64)(w2c_i0) + 292, w2c_i1);
     goto w2c_B15;
     w2c_B23:;
     w2c_j0 = w2c_l7;
     w2c_i0 = (u32)(w2c_j0);
-    w2c_i1 = w2c_l31;
-    w2c_i2 = w2c_l32;
-    w2c_j3 = w2c_l7;
-    w2c_i3 = (u32)(w2c_j3);
-    w2c_i3 = i32_load(&instance->w2c_memory, (u64)(w2c_i3) + 264u);
-    w2c_i4 = 0u;
-    w2c_i3 = (u32)((s32)w2c_i3 < (s32)w2c_i4);
-    w2c_i1 = w2c_i3 ? w2c_i1 : w2c_i2;
-    i32_store(&instance->w2c_memory, (u64)(w2c_i0) + 268, w2c_i1);
+    w2c_i1 = w2c_l33;
+    i32_store(&instance->w2c_memory, (u64)(w2c_i0) + 288, w2c_i1);
     goto w2c_B15;
     w2c_B22:;
     w2c_j0 = w2c_l7;
     w2c_i0 = (u32)(w2c_j0);
-    w2c_i1 = w2c_l31;
-    i32_store(&instance->w2c_memory, (u64)(w2c_i0) + 272, w2c_i1);
+    w2c_i1 = w2c_l33;
+    i32_store(&instance->w2c_memory, (u64)(w2c_i0) + 296, w2c_i1);
     goto w2c_B15;
     w2c_B21:;
     w2c_j0 = w2c_l7;
     w2c_i0 = (u32)(w2c_j0);
-    w2c_i1 = w2c_l31;
-    i32_store(&instance->w2c_memory, (u64)(w2c_i0) + 276, w2c_i1);
+    w2c_i1 = w2c_l33;
+    i32_store(&instance->w2c_memory, (u64)(w2c_i0) + 300, w2c_i1);
     goto w2c_B15;
     w2c_B20:;
     w2c_j0 = w2c_l7;
     w2c_i0 = (u32)(w2c_j0);
-    w2c_i1 = w2c_l31;
-    i32_store(&instance->w2c_memory, (u64)(w2c_i0) + 280, w2c_i1);
+    w2c_i1 = w2c_l33;
+    i32_store(&instance->w2c_memory, (u64)(w2c_i0) + 304, w2c_i1);
     goto w2c_B15;
     w2c_B19:;
-    w2c_i0 = w2c_l31;
+    w2c_i0 = w2c_l33;
     w2c_i1 = 65536u;
     w2c_i0 = w2c_i0 < w2c_i1;
-    if (w2c_i0) {goto w2c_B122;}
+    if (w2c_i0) {goto w2c_B150;}
     w2c_j0 = w2c_l7;
     w2c_i0 = (u32)(w2c_j0);
-    w2c_i0 = i32_load8_u(&instance->w2c_memory, (u64)(w2c_i0) + 12696u);
+    w2c_i0 = i32_load8_u(&instance->w2c_memory, (u64)(w2c_i0) + 12720u);
     w2c_i1 = 1u;
     w2c_i0 = w2c_i0 == w2c_i1;
     if (w2c_i0) {goto w2c_B15;}
     w2c_j0 = w2c_l7;
     w2c_i0 = (u32)(w2c_j0);
     w2c_j1 = 0ull;
-    i64_store(&instance->w2c_memory, (u64)(w2c_i0) + 12712, w2c_j1);
+    i64_store(&instance->w2c_memory, (u64)(w2c_i0) + 12736, w2c_j1);
     w2c_j0 = w2c_l7;
     w2c_i0 = (u32)(w2c_j0);
     w2c_j1 = w2c_l10;
-    i64_store(&instance->w2c_memory, (u64)(w2c_i0) + 12704, w2c_j1);
+    i64_store(&instance->w2c_memory, (u64)(w2c_i0) + 12728, w2c_j1);
     w2c_j0 = w2c_l7;
     w2c_i0 = (u32)(w2c_j0);
     w2c_j1 = 1ull;
-    i64_store(&instance->w2c_memory, (u64)(w2c_i0) + 12696, w2c_j1);
+    i64_store(&instance->w2c_memory, (u64)(w2c_i0) + 12720, w2c_j1);
     goto w2c_B15;
-    w2c_B122:;
+    w2c_B150:;
     w2c_j0 = w2c_l7;
     w2c_i0 = (u32)(w2c_j0);
-    w2c_i1 = w2c_l31;
-    i32_store(&instance->w2c_memory, (u64)(w2c_i0) + 284, w2c_i1);
+    w2c_i1 = w2c_l33;
+    i32_store(&instance->w2c_memory, (u64)(w2c_i0) + 308, w2c_i1);
     goto w2c_B15;
     w2c_B18:;
     w2c_j0 = w2c_l7;
     w2c_i0 = (u32)(w2c_j0);
-    w2c_j0 = i64_load(&instance->w2c_memory, (u64)(w2c_i0) + 304u);
-    w2c_i0 = !(w2c_j0);
-    if (w2c_i0) {goto w2c_B123;}
-    w2c_j0 = w2c_l7;
-    w2c_i0 = (u32)(w2c_j0);
-    w2c_j0 = i64_load(&instance->w2c_memory, (u64)(w2c_i0) + 288u);
-    w2c_rattle_dealloc(instance, w2c_j0);
-    w2c_B123:;
-    w2c_j0 = w2c_l7;
-    w2c_i0 = (u32)(w2c_j0);
     w2c_j0 = i64_load(&instance->w2c_memory, (u64)(w2c_i0) + 328u);
     w2c_i0 = !(w2c_j0);
-    if (w2c_i0) {goto w2c_B124;}
+    if (w2c_i0) {goto w2c_B151;}
     w2c_j0 = w2c_l7;
     w2c_i0 = (u32)(w2c_j0);
     w2c_j0 = i64_load(&instance->w2c_memory, (u64)(w2c_i0) + 312u);
     w2c_rattle_dealloc(instance, w2c_j0);
-    w2c_B124:;
+    w2c_B151:;
     w2c_j0 = w2c_l7;
     w2c_i0 = (u32)(w2c_j0);
-    w2c_j0 = i64_load(&instance->w2c_memory, (u64)(w2c_i0) + 12640u);
+    w2c_j0 = i64_load(&instance->w2c_memory, (u64)(w2c_i0) + 352u);
     w2c_i0 = !(w2c_j0);
-    if (w2c_i0) {goto w2c_B125;}
+    if (w2c_i0) {goto w2c_B152;}
     w2c_j0 = w2c_l7;
     w2c_i0 = (u32)(w2c_j0);
-    w2c_j0 = i64_load(&instance->w2c_memory, (u64)(w2c_i0) + 12624u);
+    w2c_j0 = i64_load(&instance->w2c_memory, (u64)(w2c_i0) + 336u);
     w2c_rattle_dealloc(instance, w2c_j0);
-    w2c_B125:;
+    w2c_B152:;
+    w2c_j0 = w2c_l7;
+    w2c_i0 = (u32)(w2c_j0);
+    w2c_j0 = i64_load(&instance->w2c_memory, (u64)(w2c_i0) + 12664u);
+    w2c_i0 = !(w2c_j0);
+    if (w2c_i0) {goto w2c_B153;}
+    w2c_j0 = w2c_l7;
+    w2c_i0 = (u32)(w2c_j0);
+    w2c_j0 = i64_load(&instance->w2c_memory, (u64)(w2c_i0) + 12648u);
+    w2c_rattle_dealloc(instance, w2c_j0);
+    w2c_B153:;
+    w2c_j0 = w2c_l7;
+    w2c_i0 = (u32)(w2c_j0);
+    w2c_j0 = i64_load(&instance->w2c_memory, (u64)(w2c_i0) + 12832u);
+    w2c_i0 = !(w2c_j0);
+    if (w2c_i0) {goto w2c_B154;}
+    w2c_j0 = w2c_l7;
+    w2c_i0 = (u32)(w2c_j0);
+    w2c_j0 = i64_load(&instance->w2c_memory, (u64)(w2c_i0) + 12816u);
+    w2c_rattle_dealloc(instance, w2c_j0);
+    w2c_B154:;
+    w2c_j0 = w2c_l7;
+    w2c_i0 = (u32)(w2c_j0);
+    w2c_j0 = i64_load(&instance->w2c_memory, (u64)(w2c_i0) + 12856u);
+    w2c_i0 = !(w2c_j0);
+    if (w2c_i0) {goto w2c_B155;}
+    w2c_j0 = w2c_l7;
+    w2c_i0 = (u32)(w2c_j0);
+    w2c_j0 = i64_load(&instance->w2c_memory, (u64)(w2c_i0) + 12840u);
+    w2c_rattle_dealloc(instance, w2c_j0);
+    w2c_B155:;
+    w2c_j0 = w2c_l7;
+    w2c_i0 = (u32)(w2c_j0);
+    w2c_j0 = i64_load(&instance->w2c_memory, (u64)(w2c_i0) + 12880u);
+    w2c_i0 = !(w2c_j0);
+    if (w2c_i0) {goto w2c_B156;}
+    w2c_j0 = w2c_l7;
+    w2c_i0 = (u32)(w2c_j0);
+    w2c_j0 = i64_load(&instance->w2c_memory, (u64)(w2c_i0) + 12864u);
+    w2c_rattle_dealloc(instance, w2c_j0);
+    w2c_B156:;
     w2c_j0 = 0ull;
     w2c_l10 = w2c_j0;
-    w2c_j0 = w2c_l7;
-    w2c_i0 = (u32)(w2c_j0);
-    w2c_j1 = 0ull;
-    i64_store(&instance->w2c_memory, (u64)(w2c_i0) + 16, w2c_j1);
     w2c_j0 = w2c_l7;
     w2c_i0 = (u32)(w2c_j0);
     w2c_j1 = 0ull;
@@ -21331,130 +22355,167 @@ static void w2c_f15(Z_hidreport_instance_t* instance, u64 w2c_p0, u64 w2c_p1, u6
     w2c_i0 = (u32)(w2c_j0);
     w2c_j1 = 0ull;
     i64_store(&instance->w2c_memory, (u64)(w2c_i0) + 40, w2c_j1);
+    w2c_j0 = w2c_l7;
+    w2c_i0 = (u32)(w2c_j0);
+    w2c_j1 = 0ull;
+    i64_store(&instance->w2c_memory, (u64)(w2c_i0) + 48, w2c_j1);
     w2c_j0 = 1ull;
     w2c_p6 = w2c_j0;
     w2c_j0 = 3ull;
-    w2c_l21 = w2c_j0;
+    w2c_l24 = w2c_j0;
     w2c_j0 = 0ull;
-    w2c_l23 = w2c_j0;
+    w2c_l27 = w2c_j0;
     w2c_j0 = 0ull;
     w2c_l9 = w2c_j0;
     w2c_j0 = 0ull;
-    w2c_l22 = w2c_j0;
+    w2c_p2 = w2c_j0;
     goto w2c_B2;
     w2c_B17:;
     w2c_j0 = w2c_l7;
     w2c_i0 = (u32)(w2c_j0);
     w2c_j1 = 0ull;
-    i64_store(&instance->w2c_memory, (u64)(w2c_i0) + 12632, w2c_j1);
+    i64_store(&instance->w2c_memory, (u64)(w2c_i0) + 12656, w2c_j1);
     w2c_B16:;
     w2c_j0 = w2c_l7;
     w2c_i0 = (u32)(w2c_j0);
-    w2c_i1 = 0u;
-    i32_store(&instance->w2c_memory, (u64)(w2c_i0) + 12664, w2c_i1);
+    w2c_j1 = 0ull;
+    i64_store(&instance->w2c_memory, (u64)(w2c_i0) + 12688, w2c_j1);
     w2c_j0 = w2c_l7;
     w2c_i0 = (u32)(w2c_j0);
     w2c_i1 = 0u;
-    i32_store8(&instance->w2c_memory, (u64)(w2c_i0) + 12660, w2c_i1);
+    i32_store8(&instance->w2c_memory, (u64)(w2c_i0) + 12684, w2c_i1);
     w2c_j0 = w2c_l7;
     w2c_i0 = (u32)(w2c_j0);
     w2c_i1 = 0u;
-    i32_store(&instance->w2c_memory, (u64)(w2c_i0) + 12656, w2c_i1);
+    i32_store(&instance->w2c_memory, (u64)(w2c_i0) + 12680, w2c_i1);
     w2c_j0 = w2c_l7;
     w2c_i0 = (u32)(w2c_j0);
     w2c_i1 = 0u;
-    i32_store(&instance->w2c_memory, (u64)(w2c_i0) + 12648, w2c_i1);
+    i32_store(&instance->w2c_memory, (u64)(w2c_i0) + 12672, w2c_i1);
     w2c_B15:;
-    w2c_j0 = w2c_l21;
-    w2c_j1 = w2c_l22;
+    w2c_j0 = w2c_l12;
+    w2c_j1 = w2c_l9;
     w2c_j0 -= w2c_j1;
     w2c_p6 = w2c_j0;
-    w2c_j0 = w2c_l9;
-    w2c_j1 = w2c_l22;
+    w2c_j0 = w2c_l26;
+    w2c_j1 = w2c_l9;
     w2c_j0 += w2c_j1;
     w2c_l8 = w2c_j0;
-    w2c_j0 = w2c_l19;
+    w2c_j0 = w2c_l24;
     w2c_j1 = 18446744073709551615ull;
     w2c_j0 += w2c_j1;
-    w2c_l19 = w2c_j0;
+    w2c_l24 = w2c_j0;
     w2c_i0 = !(w2c_j0);
     w2c_i0 = !(w2c_i0);
     if (w2c_i0) {goto w2c_L8;}
   w2c_B7:;
   w2c_i0 = 1u;
-  w2c_l28 = w2c_i0;
+  w2c_l36 = w2c_i0;
   w2c_j0 = w2c_l7;
   w2c_i0 = (u32)(w2c_j0);
-  w2c_j0 = i64_load(&instance->w2c_memory, (u64)(w2c_i0) + 320u);
+  w2c_j0 = i64_load(&instance->w2c_memory, (u64)(w2c_i0) + 344u);
   w2c_j1 = 0ull;
   w2c_i0 = w2c_j0 == w2c_j1;
-  if (w2c_i0) {goto w2c_B126;}
+  if (w2c_i0) {goto w2c_B157;}
   w2c_i0 = 16u;
-  w2c_l31 = w2c_i0;
+  w2c_l39 = w2c_i0;
   w2c_j0 = w2c_p2;
   w2c_l10 = w2c_j0;
   goto w2c_B6;
-  w2c_B126:;
+  w2c_B157:;
   w2c_j0 = w2c_l7;
   w2c_i0 = (u32)(w2c_j0);
-  w2c_i0 = i32_load8_u(&instance->w2c_memory, (u64)(w2c_i0) + 12660u);
+  w2c_i0 = i32_load8_u(&instance->w2c_memory, (u64)(w2c_i0) + 12684u);
   w2c_i0 = !(w2c_i0);
-  if (w2c_i0) {goto w2c_B127;}
+  if (w2c_i0) {goto w2c_B158;}
   w2c_i0 = 17u;
-  w2c_l31 = w2c_i0;
+  w2c_l39 = w2c_i0;
   w2c_j0 = w2c_p2;
   w2c_l10 = w2c_j0;
   goto w2c_B6;
-  w2c_B127:;
+  w2c_B158:;
   w2c_j0 = w2c_l7;
   w2c_i0 = (u32)(w2c_j0);
-  w2c_i0 = i32_load8_u(&instance->w2c_memory, (u64)(w2c_i0) + 12720u);
+  w2c_i0 = i32_load8_u(&instance->w2c_memory, (u64)(w2c_i0) + 12744u);
   w2c_i1 = 1u;
   w2c_i0 = w2c_i0 == w2c_i1;
-  w2c_l28 = w2c_i0;
+  w2c_l36 = w2c_i0;
   w2c_j0 = w2c_l7;
   w2c_i0 = (u32)(w2c_j0);
-  w2c_i0 = i32_load8_u(&instance->w2c_memory, (u64)(w2c_i0) + 12736u);
-  w2c_l31 = w2c_i0;
+  w2c_i0 = i32_load8_u(&instance->w2c_memory, (u64)(w2c_i0) + 12760u);
+  w2c_l39 = w2c_i0;
   w2c_j0 = w2c_l7;
   w2c_i0 = (u32)(w2c_j0);
-  w2c_j0 = i64_load(&instance->w2c_memory, (u64)(w2c_i0) + 12728u);
+  w2c_j0 = i64_load(&instance->w2c_memory, (u64)(w2c_i0) + 12752u);
   w2c_l10 = w2c_j0;
   w2c_B6:;
   w2c_j0 = w2c_l7;
   w2c_i0 = (u32)(w2c_j0);
-  w2c_j0 = i64_load(&instance->w2c_memory, (u64)(w2c_i0) + 12624u);
-  w2c_l13 = w2c_j0;
+  w2c_j0 = i64_load(&instance->w2c_memory, (u64)(w2c_i0) + 12864u);
+  w2c_l16 = w2c_j0;
   w2c_j0 = w2c_l7;
   w2c_i0 = (u32)(w2c_j0);
-  w2c_j0 = i64_load(&instance->w2c_memory, (u64)(w2c_i0) + 312u);
-  w2c_l11 = w2c_j0;
+  w2c_j0 = i64_load(&instance->w2c_memory, (u64)(w2c_i0) + 12840u);
+  w2c_l15 = w2c_j0;
   w2c_j0 = w2c_l7;
   w2c_i0 = (u32)(w2c_j0);
-  w2c_j0 = i64_load(&instance->w2c_memory, (u64)(w2c_i0) + 288u);
-  w2c_l12 = w2c_j0;
-  w2c_j0 = w2c_l7;
-  w2c_i0 = (u32)(w2c_j0);
-  w2c_j0 = i64_load(&instance->w2c_memory, (u64)(w2c_i0) + 304u);
-  w2c_l19 = w2c_j0;
-  w2c_j0 = w2c_l7;
-  w2c_i0 = (u32)(w2c_j0);
-  w2c_j0 = i64_load(&instance->w2c_memory, (u64)(w2c_i0) + 328u);
+  w2c_j0 = i64_load(&instance->w2c_memory, (u64)(w2c_i0) + 12816u);
   w2c_l14 = w2c_j0;
   w2c_j0 = w2c_l7;
   w2c_i0 = (u32)(w2c_j0);
-  w2c_j0 = i64_load(&instance->w2c_memory, (u64)(w2c_i0) + 12640u);
-  w2c_l15 = w2c_j0;
-  w2c_i0 = w2c_l28;
+  w2c_j0 = i64_load(&instance->w2c_memory, (u64)(w2c_i0) + 12648u);
+  w2c_l13 = w2c_j0;
+  w2c_j0 = w2c_l7;
+  w2c_i0 = (u32)(w2c_j0);
+  w2c_j0 = i64_load(&instance->w2c_memory, (u64)(w2c_i0) + 336u);
+  w2c_l11 = w2c_j0;
+  w2c_j0 = w2c_l7;
+  w2c_i0 = (u32)(w2c_j0);
+  w2c_j0 = i64_load(&instance->w2c_memory, (u64)(w2c_i0) + 312u);
+  w2c_l12 = w2c_j0;
+  w2c_j0 = w2c_l7;
+  w2c_i0 = (u32)(w2c_j0);
+  w2c_j0 = i64_load(&instance->w2c_memory, (u64)(w2c_i0) + 328u);
+  w2c_l26 = w2c_j0;
+  w2c_j0 = w2c_l7;
+  w2c_i0 = (u32)(w2c_j0);
+  w2c_j0 = i64_load(&instance->w2c_memory, (u64)(w2c_i0) + 352u);
+  w2c_l17 = w2c_j0;
+  w2c_j0 = w2c_l7;
+  w2c_i0 = (u32)(w2c_j0);
+  w2c_j0 = i64_load(&instance->w2c_memory, (u64)(w2c_i0) + 12664u);
+  w2c_l21 = w2c_j0;
+  w2c_j0 = w2c_l7;
+  w2c_i0 = (u32)(w2c_j0);
+  w2c_j0 = i64_load(&instance->w2c_memory, (u64)(w2c_i0) + 12832u);
+  w2c_l20 = w2c_j0;
+  w2c_j0 = w2c_l7;
+  w2c_i0 = (u32)(w2c_j0);
+  w2c_j0 = i64_load(&instance->w2c_memory, (u64)(w2c_i0) + 12856u);
+  w2c_l22 = w2c_j0;
+  w2c_j0 = w2c_l7;
+  w2c_i0 = (u32)(w2c_j0);
+  w2c_j0 = i64_load(&instance->w2c_memory, (u64)(w2c_i0) + 12880u);
+  w2c_l18 = w2c_j0;
+  w2c_i0 = w2c_l36;
   w2c_i0 = !(w2c_i0);
   if (w2c_i0) {goto w2c_B3;}
-  w2c_j0 = w2c_l15;
+  w2c_j0 = w2c_l18;
   w2c_i0 = !(w2c_j0);
-  w2c_l27 = w2c_i0;
-  w2c_j0 = w2c_l14;
+  w2c_l35 = w2c_i0;
+  w2c_j0 = w2c_l22;
   w2c_i0 = !(w2c_j0);
-  w2c_l26 = w2c_i0;
-  w2c_j0 = w2c_l19;
+  w2c_l34 = w2c_i0;
+  w2c_j0 = w2c_l20;
+  w2c_i0 = !(w2c_j0);
+  w2c_l33 = w2c_i0;
+  w2c_j0 = w2c_l21;
+  w2c_i0 = !(w2c_j0);
+  w2c_l32 = w2c_i0;
+  w2c_j0 = w2c_l17;
+  w2c_i0 = !(w2c_j0);
+  w2c_l31 = w2c_i0;
+  w2c_j0 = w2c_l26;
   w2c_i0 = !(w2c_j0);
   w2c_p5 = w2c_i0;
   w2c_j0 = 1122455ull;
@@ -21462,268 +22523,270 @@ static void w2c_f15(Z_hidreport_instance_t* instance, u64 w2c_p0, u64 w2c_p1, u6
   w2c_j0 = 7ull;
   w2c_l9 = w2c_j0;
   w2c_i0 = 1u;
-  w2c_l25 = w2c_i0;
-  w2c_i0 = w2c_l31;
+  w2c_l30 = w2c_i0;
+  w2c_i0 = w2c_l39;
   w2c_j0 = (u64)(w2c_i0);
   w2c_j1 = 255ull;
   w2c_j0 &= w2c_j1;
   w2c_i0 = (u32)(w2c_j0);
   switch (w2c_i0) {
     case 0: goto w2c_B4;
-    case 1: goto w2c_B146;
-    case 2: goto w2c_B145;
-    case 3: goto w2c_B144;
-    case 4: goto w2c_B143;
-    case 5: goto w2c_B142;
-    case 6: goto w2c_B141;
-    case 7: goto w2c_B140;
-    case 8: goto w2c_B139;
-    case 9: goto w2c_B138;
-    case 10: goto w2c_B137;
-    case 11: goto w2c_B136;
-    case 12: goto w2c_B135;
-    case 13: goto w2c_B134;
-    case 14: goto w2c_B133;
-    case 15: goto w2c_B132;
-    case 16: goto w2c_B131;
-    case 17: goto w2c_B130;
+    case 1: goto w2c_B177;
+    case 2: goto w2c_B176;
+    case 3: goto w2c_B175;
+    case 4: goto w2c_B174;
+    case 5: goto w2c_B173;
+    case 6: goto w2c_B172;
+    case 7: goto w2c_B171;
+    case 8: goto w2c_B170;
+    case 9: goto w2c_B169;
+    case 10: goto w2c_B168;
+    case 11: goto w2c_B167;
+    case 12: goto w2c_B166;
+    case 13: goto w2c_B165;
+    case 14: goto w2c_B164;
+    case 15: goto w2c_B163;
+    case 16: goto w2c_B162;
+    case 17: goto w2c_B161;
     default: goto w2c_B4;
   }
-  w2c_B146:;
+  w2c_B177:;
   w2c_j0 = 1122462ull;
   w2c_l8 = w2c_j0;
   w2c_j0 = 25ull;
   w2c_l9 = w2c_j0;
-  goto w2c_B128;
-  w2c_B145:;
+  goto w2c_B159;
+  w2c_B176:;
   w2c_j0 = 1122487ull;
   w2c_l8 = w2c_j0;
   w2c_j0 = 11ull;
   w2c_l9 = w2c_j0;
   goto w2c_B4;
-  w2c_B144:;
+  w2c_B175:;
   w2c_j0 = 1122498ull;
   w2c_l8 = w2c_j0;
   w2c_j0 = 36ull;
   w2c_l9 = w2c_j0;
-  goto w2c_B128;
-  w2c_B143:;
+  goto w2c_B159;
+  w2c_B174:;
   w2c_j0 = 1122534ull;
   w2c_l8 = w2c_j0;
   w2c_j0 = 20ull;
   w2c_l9 = w2c_j0;
-  goto w2c_B128;
-  w2c_B142:;
+  goto w2c_B159;
+  w2c_B173:;
   w2c_j0 = 1122554ull;
   w2c_l8 = w2c_j0;
   w2c_j0 = 38ull;
   w2c_l9 = w2c_j0;
-  goto w2c_B128;
-  w2c_B141:;
+  goto w2c_B159;
+  w2c_B172:;
   w2c_j0 = 1122592ull;
   w2c_l8 = w2c_j0;
   w2c_j0 = 28ull;
   w2c_l9 = w2c_j0;
-  goto w2c_B128;
-  w2c_B140:;
+  goto w2c_B159;
+  w2c_B171:;
   w2c_j0 = 1122620ull;
   w2c_l8 = w2c_j0;
   w2c_j0 = 26ull;
   w2c_l9 = w2c_j0;
-  goto w2c_B128;
-  w2c_B139:;
+  goto w2c_B159;
+  w2c_B170:;
   w2c_j0 = 1122646ull;
   w2c_l8 = w2c_j0;
   w2c_j0 = 24ull;
   w2c_l9 = w2c_j0;
-  goto w2c_B128;
-  w2c_B138:;
+  goto w2c_B159;
+  w2c_B169:;
   w2c_j0 = 1122670ull;
   w2c_l8 = w2c_j0;
   w2c_j0 = 26ull;
   w2c_l9 = w2c_j0;
-  goto w2c_B128;
-  w2c_B137:;
+  goto w2c_B159;
+  w2c_B168:;
   w2c_j0 = 1122696ull;
   w2c_l8 = w2c_j0;
   w2c_j0 = 43ull;
   w2c_l9 = w2c_j0;
-  goto w2c_B128;
-  w2c_B136:;
+  goto w2c_B159;
+  w2c_B167:;
   w2c_j0 = 1122739ull;
   w2c_l8 = w2c_j0;
   w2c_j0 = 43ull;
   w2c_l9 = w2c_j0;
-  goto w2c_B128;
-  w2c_B135:;
+  goto w2c_B159;
+  w2c_B166:;
   w2c_j0 = 1122782ull;
   w2c_l8 = w2c_j0;
   w2c_j0 = 43ull;
   w2c_l9 = w2c_j0;
-  goto w2c_B128;
-  w2c_B134:;
+  goto w2c_B159;
+  w2c_B165:;
   w2c_j0 = 1122825ull;
   w2c_l8 = w2c_j0;
   w2c_j0 = 22ull;
   w2c_l9 = w2c_j0;
-  goto w2c_B128;
-  w2c_B133:;
+  goto w2c_B159;
+  w2c_B164:;
   w2c_j0 = 1122847ull;
   w2c_l8 = w2c_j0;
   w2c_j0 = 35ull;
   w2c_l9 = w2c_j0;
-  goto w2c_B128;
-  w2c_B132:;
+  goto w2c_B159;
+  w2c_B163:;
   w2c_j0 = 1122882ull;
   w2c_l8 = w2c_j0;
-  goto w2c_B129;
-  w2c_B131:;
+  goto w2c_B160;
+  w2c_B162:;
   w2c_j0 = 1122915ull;
   w2c_l8 = w2c_j0;
   w2c_j0 = 30ull;
   w2c_l9 = w2c_j0;
-  goto w2c_B128;
-  w2c_B130:;
+  goto w2c_B159;
+  w2c_B161:;
   w2c_j0 = 1122945ull;
   w2c_l8 = w2c_j0;
-  w2c_B129:;
+  w2c_B160:;
   w2c_j0 = 33ull;
   w2c_l9 = w2c_j0;
-  w2c_B128:;
+  w2c_B159:;
   w2c_i0 = 0u;
-  w2c_l25 = w2c_i0;
+  w2c_l30 = w2c_i0;
   w2c_B4:;
   w2c_j0 = w2c_l7;
+  w2c_j1 = 8ull;
+  w2c_j0 += w2c_j1;
   w2c_j1 = w2c_l9;
   w2c_j2 = 1ull;
   w2c_rattle_alloc(instance, w2c_j0, w2c_j1, w2c_j2);
   w2c_j0 = w2c_l7;
   w2c_i0 = (u32)(w2c_j0);
-  w2c_j0 = i64_load(&instance->w2c_memory, (u64)(w2c_i0));
+  w2c_j0 = i64_load(&instance->w2c_memory, (u64)(w2c_i0) + 8u);
   w2c_i0 = (u32)(w2c_j0);
   w2c_i1 = 1u;
   w2c_i0 &= w2c_i1;
-  if (w2c_i0) {goto w2c_B148;}
+  if (w2c_i0) {goto w2c_B179;}
   w2c_j0 = 3ull;
-  w2c_l21 = w2c_j0;
+  w2c_l24 = w2c_j0;
   w2c_j0 = 0ull;
-  w2c_l23 = w2c_j0;
+  w2c_l27 = w2c_j0;
   w2c_j0 = 0ull;
   w2c_l9 = w2c_j0;
   w2c_j0 = 0ull;
   w2c_l10 = w2c_j0;
-  goto w2c_B147;
-  w2c_B148:;
+  goto w2c_B178;
+  w2c_B179:;
   w2c_j0 = w2c_l7;
   w2c_i0 = (u32)(w2c_j0);
-  w2c_j0 = i64_load(&instance->w2c_memory, (u64)(w2c_i0) + 8u);
-  w2c_l23 = w2c_j0;
+  w2c_j0 = i64_load(&instance->w2c_memory, (u64)(w2c_i0) + 16u);
+  w2c_l27 = w2c_j0;
   w2c_j1 = w2c_l8;
   w2c_j0 -= w2c_j1;
   w2c_j1 = w2c_l9;
   w2c_i0 = w2c_j0 >= w2c_j1;
-  if (w2c_i0) {goto w2c_B150;}
+  if (w2c_i0) {goto w2c_B181;}
   w2c_j0 = 0ull;
-  w2c_l20 = w2c_j0;
-  w2c_j0 = w2c_l23;
+  w2c_l25 = w2c_j0;
+  w2c_j0 = w2c_l27;
   w2c_j1 = w2c_l8;
   w2c_j0 -= w2c_j1;
   w2c_j1 = 16ull;
   w2c_i0 = w2c_j0 < w2c_j1;
-  if (w2c_i0) {goto w2c_B151;}
+  if (w2c_i0) {goto w2c_B182;}
   w2c_j0 = 0ull;
-  w2c_l20 = w2c_j0;
-  w2c_i0 = w2c_l25;
-  if (w2c_i0) {goto w2c_B152;}
+  w2c_l25 = w2c_j0;
+  w2c_i0 = w2c_l30;
+  if (w2c_i0) {goto w2c_B183;}
   w2c_j0 = w2c_l9;
   w2c_j1 = 48ull;
   w2c_j0 &= w2c_j1;
-  w2c_l20 = w2c_j0;
+  w2c_l25 = w2c_j0;
   w2c_j0 = 0ull;
   w2c_p6 = w2c_j0;
-  w2c_L153: 
+  w2c_L184: 
     w2c_j0 = w2c_l8;
     w2c_j1 = w2c_p6;
     w2c_j0 += w2c_j1;
-    w2c_p2 = w2c_j0;
+    w2c_l28 = w2c_j0;
     w2c_i0 = (u32)(w2c_j0);
     w2c_j0 = i64_load(&instance->w2c_memory, (u64)(w2c_i0));
-    w2c_l22 = w2c_j0;
-    w2c_j0 = w2c_l23;
+    w2c_p2 = w2c_j0;
+    w2c_j0 = w2c_l27;
     w2c_j1 = w2c_p6;
     w2c_j0 += w2c_j1;
-    w2c_l19 = w2c_j0;
+    w2c_l26 = w2c_j0;
     w2c_j1 = 8ull;
     w2c_j0 += w2c_j1;
     w2c_i0 = (u32)(w2c_j0);
-    w2c_j1 = w2c_p2;
+    w2c_j1 = w2c_l28;
     w2c_j2 = 8ull;
     w2c_j1 += w2c_j2;
     w2c_i1 = (u32)(w2c_j1);
     w2c_j1 = i64_load(&instance->w2c_memory, (u64)(w2c_i1));
     i64_store(&instance->w2c_memory, (u64)(w2c_i0), w2c_j1);
-    w2c_j0 = w2c_l19;
+    w2c_j0 = w2c_l26;
     w2c_i0 = (u32)(w2c_j0);
-    w2c_j1 = w2c_l22;
+    w2c_j1 = w2c_p2;
     i64_store(&instance->w2c_memory, (u64)(w2c_i0), w2c_j1);
-    w2c_j0 = w2c_l20;
+    w2c_j0 = w2c_l25;
     w2c_j1 = w2c_p6;
     w2c_j2 = 16ull;
     w2c_j1 += w2c_j2;
     w2c_p6 = w2c_j1;
     w2c_i0 = w2c_j0 != w2c_j1;
-    if (w2c_i0) {goto w2c_L153;}
+    if (w2c_i0) {goto w2c_L184;}
   w2c_j0 = w2c_l9;
-  w2c_j1 = w2c_l20;
+  w2c_j1 = w2c_l25;
   w2c_i0 = w2c_j0 == w2c_j1;
-  if (w2c_i0) {goto w2c_B149;}
+  if (w2c_i0) {goto w2c_B180;}
   w2c_j0 = w2c_l9;
   w2c_j1 = 12ull;
   w2c_j0 &= w2c_j1;
   w2c_i0 = !(w2c_j0);
-  if (w2c_i0) {goto w2c_B151;}
-  w2c_B152:;
+  if (w2c_i0) {goto w2c_B182;}
+  w2c_B183:;
   w2c_j0 = w2c_l9;
   w2c_j1 = 60ull;
   w2c_j0 &= w2c_j1;
   w2c_p6 = w2c_j0;
-  w2c_L154: 
-    w2c_j0 = w2c_l23;
-    w2c_j1 = w2c_l20;
+  w2c_L185: 
+    w2c_j0 = w2c_l27;
+    w2c_j1 = w2c_l25;
     w2c_j0 += w2c_j1;
     w2c_i0 = (u32)(w2c_j0);
     w2c_j1 = w2c_l8;
-    w2c_j2 = w2c_l20;
+    w2c_j2 = w2c_l25;
     w2c_j1 += w2c_j2;
     w2c_i1 = (u32)(w2c_j1);
     w2c_i1 = i32_load(&instance->w2c_memory, (u64)(w2c_i1));
     i32_store(&instance->w2c_memory, (u64)(w2c_i0), w2c_i1);
     w2c_j0 = w2c_p6;
-    w2c_j1 = w2c_l20;
+    w2c_j1 = w2c_l25;
     w2c_j2 = 4ull;
     w2c_j1 += w2c_j2;
-    w2c_l20 = w2c_j1;
+    w2c_l25 = w2c_j1;
     w2c_i0 = w2c_j0 != w2c_j1;
-    if (w2c_i0) {goto w2c_L154;}
+    if (w2c_i0) {goto w2c_L185;}
   w2c_j0 = w2c_p6;
-  w2c_l20 = w2c_j0;
+  w2c_l25 = w2c_j0;
   w2c_j0 = w2c_l9;
   w2c_j1 = w2c_p6;
   w2c_i0 = w2c_j0 == w2c_j1;
-  if (w2c_i0) {goto w2c_B149;}
-  w2c_B151:;
-  w2c_j0 = w2c_l20;
+  if (w2c_i0) {goto w2c_B180;}
+  w2c_B182:;
+  w2c_j0 = w2c_l25;
   w2c_p6 = w2c_j0;
   w2c_j0 = w2c_l9;
   w2c_j1 = 3ull;
   w2c_j0 &= w2c_j1;
-  w2c_p2 = w2c_j0;
+  w2c_l28 = w2c_j0;
   w2c_i0 = !(w2c_j0);
-  if (w2c_i0) {goto w2c_B155;}
-  w2c_j0 = w2c_l20;
+  if (w2c_i0) {goto w2c_B186;}
+  w2c_j0 = w2c_l25;
   w2c_p6 = w2c_j0;
-  w2c_L156: 
-    w2c_j0 = w2c_l23;
+  w2c_L187: 
+    w2c_j0 = w2c_l27;
     w2c_j1 = w2c_p6;
     w2c_j0 += w2c_j1;
     w2c_i0 = (u32)(w2c_j0);
@@ -21737,116 +22800,137 @@ static void w2c_f15(Z_hidreport_instance_t* instance, u64 w2c_p0, u64 w2c_p1, u6
     w2c_j1 = 1ull;
     w2c_j0 += w2c_j1;
     w2c_p6 = w2c_j0;
-    w2c_j0 = w2c_p2;
+    w2c_j0 = w2c_l28;
     w2c_j1 = 18446744073709551615ull;
     w2c_j0 += w2c_j1;
-    w2c_p2 = w2c_j0;
+    w2c_l28 = w2c_j0;
     w2c_j1 = 0ull;
     w2c_i0 = w2c_j0 != w2c_j1;
-    if (w2c_i0) {goto w2c_L156;}
-  w2c_B155:;
+    if (w2c_i0) {goto w2c_L187;}
+  w2c_B186:;
   w2c_j0 = 0ull;
-  w2c_l21 = w2c_j0;
-  w2c_j0 = w2c_l20;
+  w2c_l24 = w2c_j0;
+  w2c_j0 = w2c_l25;
   w2c_j1 = w2c_l9;
   w2c_j0 -= w2c_j1;
   w2c_j1 = 18446744073709551612ull;
   w2c_i0 = w2c_j0 > w2c_j1;
-  if (w2c_i0) {goto w2c_B147;}
-  w2c_j0 = w2c_l23;
-  w2c_l22 = w2c_j0;
+  if (w2c_i0) {goto w2c_B178;}
+  w2c_j0 = w2c_l27;
+  w2c_p2 = w2c_j0;
   w2c_j0 = w2c_l9;
-  w2c_l19 = w2c_j0;
-  w2c_L157: 
-    w2c_j0 = w2c_l22;
+  w2c_l26 = w2c_j0;
+  w2c_L188: 
+    w2c_j0 = w2c_p2;
     w2c_j1 = w2c_p6;
     w2c_j0 += w2c_j1;
-    w2c_l20 = w2c_j0;
+    w2c_l25 = w2c_j0;
     w2c_i0 = (u32)(w2c_j0);
     w2c_j1 = w2c_l8;
     w2c_j2 = w2c_p6;
     w2c_j1 += w2c_j2;
-    w2c_p2 = w2c_j1;
+    w2c_l28 = w2c_j1;
     w2c_i1 = (u32)(w2c_j1);
     w2c_i1 = i32_load8_u(&instance->w2c_memory, (u64)(w2c_i1));
     i32_store8(&instance->w2c_memory, (u64)(w2c_i0), w2c_i1);
-    w2c_j0 = w2c_l20;
+    w2c_j0 = w2c_l25;
     w2c_j1 = 1ull;
     w2c_j0 += w2c_j1;
     w2c_i0 = (u32)(w2c_j0);
-    w2c_j1 = w2c_p2;
+    w2c_j1 = w2c_l28;
     w2c_j2 = 1ull;
     w2c_j1 += w2c_j2;
     w2c_i1 = (u32)(w2c_j1);
     w2c_i1 = i32_load8_u(&instance->w2c_memory, (u64)(w2c_i1));
     i32_store8(&instance->w2c_memory, (u64)(w2c_i0), w2c_i1);
-    w2c_j0 = w2c_l20;
+    w2c_j0 = w2c_l25;
     w2c_j1 = 2ull;
     w2c_j0 += w2c_j1;
     w2c_i0 = (u32)(w2c_j0);
-    w2c_j1 = w2c_p2;
+    w2c_j1 = w2c_l28;
     w2c_j2 = 2ull;
     w2c_j1 += w2c_j2;
     w2c_i1 = (u32)(w2c_j1);
     w2c_i1 = i32_load8_u(&instance->w2c_memory, (u64)(w2c_i1));
     i32_store8(&instance->w2c_memory, (u64)(w2c_i0), w2c_i1);
-    w2c_j0 = w2c_l20;
+    w2c_j0 = w2c_l25;
     w2c_j1 = 3ull;
     w2c_j0 += w2c_j1;
     w2c_i0 = (u32)(w2c_j0);
-    w2c_j1 = w2c_p2;
+    w2c_j1 = w2c_l28;
     w2c_j2 = 3ull;
     w2c_j1 += w2c_j2;
     w2c_i1 = (u32)(w2c_j1);
     w2c_i1 = i32_load8_u(&instance->w2c_memory, (u64)(w2c_i1));
     i32_store8(&instance->w2c_memory, (u64)(w2c_i0), w2c_i1);
-    w2c_j0 = w2c_l22;
+    w2c_j0 = w2c_p2;
     w2c_j1 = 4ull;
     w2c_j0 += w2c_j1;
-    w2c_l22 = w2c_j0;
+    w2c_p2 = w2c_j0;
     w2c_j0 = w2c_l8;
     w2c_j1 = 4ull;
     w2c_j0 += w2c_j1;
     w2c_l8 = w2c_j0;
     w2c_j0 = w2c_p6;
-    w2c_j1 = w2c_l19;
+    w2c_j1 = w2c_l26;
     w2c_j2 = 18446744073709551612ull;
     w2c_j1 += w2c_j2;
-    w2c_l19 = w2c_j1;
+    w2c_l26 = w2c_j1;
     w2c_i0 = w2c_j0 != w2c_j1;
-    if (w2c_i0) {goto w2c_L157;}
-    goto w2c_B147;
+    if (w2c_i0) {goto w2c_L188;}
+    goto w2c_B178;
   UNREACHABLE;
-  w2c_B150:;
+  w2c_B181:;
   w2c_j0 = w2c_l9;
   w2c_i0 = !(w2c_j0);
-  if (w2c_i0) {goto w2c_B149;}
-  w2c_j0 = w2c_l23;
+  if (w2c_i0) {goto w2c_B180;}
+  w2c_j0 = w2c_l27;
   w2c_i0 = (u32)(w2c_j0);
   w2c_j1 = w2c_l8;
   w2c_i1 = (u32)(w2c_j1);
   w2c_j2 = w2c_l9;
   w2c_i2 = (u32)(w2c_j2);
   memory_copy(&instance->w2c_memory, &instance->w2c_memory, w2c_i0, w2c_i1, w2c_i2);
-  w2c_B149:;
+  w2c_B180:;
   w2c_j0 = 0ull;
-  w2c_l21 = w2c_j0;
-  w2c_B147:;
+  w2c_l24 = w2c_j0;
+  w2c_B178:;
   w2c_i0 = w2c_p5;
-  if (w2c_i0) {goto w2c_B158;}
+  if (w2c_i0) {goto w2c_B189;}
   w2c_j0 = w2c_l12;
   w2c_rattle_dealloc(instance, w2c_j0);
-  w2c_B158:;
-  w2c_i0 = w2c_l26;
-  if (w2c_i0) {goto w2c_B159;}
+  w2c_B189:;
+  w2c_i0 = w2c_l31;
+  if (w2c_i0) {goto w2c_B190;}
   w2c_j0 = w2c_l11;
   w2c_rattle_dealloc(instance, w2c_j0);
-  w2c_B159:;
-  w2c_i0 = w2c_l27;
-  if (w2c_i0) {goto w2c_B160;}
+  w2c_B190:;
+  w2c_i0 = w2c_l32;
+  if (w2c_i0) {goto w2c_B191;}
   w2c_j0 = w2c_l13;
   w2c_rattle_dealloc(instance, w2c_j0);
-  w2c_B160:;
+  w2c_B191:;
+  w2c_i0 = w2c_l33;
+  if (w2c_i0) {goto w2c_B192;}
+  w2c_j0 = w2c_l14;
+  w2c_rattle_dealloc(instance, w2c_j0);
+  w2c_B192:;
+  w2c_i0 = w2c_l34;
+  if (w2c_i0) {goto w2c_B193;}
+  w2c_j0 = w2c_l15;
+  w2c_rattle_dealloc(instance, w2c_j0);
+  w2c_B193:;
+  w2c_i0 = w2c_l35;
+  if (w2c_i0) {goto w2c_B194;}
+  w2c_j0 = w2c_l16;
+  w2c_rattle_dealloc(instance, w2c_j0);
+  w2c_B194:;
+  w2c_j0 = w2c_l7;
+  w2c_i0 = (u32)(w2c_j0);
+  w2c_j1 = w2c_l7;
+  w2c_i1 = (u32)(w2c_j1);
+  w2c_j1 = i64_load(&instance->w2c_memory, (u64)(w2c_i1) + 264u);
+  i64_store(&instance->w2c_memory, (u64)(w2c_i0) + 48, w2c_j1);
   w2c_j0 = w2c_l7;
   w2c_i0 = (u32)(w2c_j0);
   w2c_j1 = w2c_l7;
@@ -21865,167 +22949,161 @@ static void w2c_f15(Z_hidreport_instance_t* instance, u64 w2c_p0, u64 w2c_p1, u6
   w2c_i1 = (u32)(w2c_j1);
   w2c_j1 = i64_load(&instance->w2c_memory, (u64)(w2c_i1) + 240u);
   i64_store(&instance->w2c_memory, (u64)(w2c_i0) + 24, w2c_j1);
-  w2c_j0 = w2c_l7;
-  w2c_i0 = (u32)(w2c_j0);
-  w2c_j1 = w2c_l7;
-  w2c_i1 = (u32)(w2c_j1);
-  w2c_j1 = i64_load(&instance->w2c_memory, (u64)(w2c_i1) + 232u);
-  i64_store(&instance->w2c_memory, (u64)(w2c_i0) + 16, w2c_j1);
   w2c_j0 = 1ull;
   w2c_p6 = w2c_j0;
   w2c_j0 = w2c_l9;
-  w2c_l22 = w2c_j0;
+  w2c_p2 = w2c_j0;
   goto w2c_B2;
   w2c_B3:;
-  w2c_j0 = w2c_l7;
-  w2c_i0 = (u32)(w2c_j0);
-  w2c_j1 = 0ull;
-  i64_store(&instance->w2c_memory, (u64)(w2c_i0) + 208, w2c_j1);
-  w2c_j0 = w2c_l7;
-  w2c_i0 = (u32)(w2c_j0);
-  w2c_j1 = w2c_p4;
-  i64_store(&instance->w2c_memory, (u64)(w2c_i0) + 200, w2c_j1);
-  w2c_j0 = w2c_l7;
-  w2c_i0 = (u32)(w2c_j0);
-  w2c_j1 = 257ull;
-  i64_store(&instance->w2c_memory, (u64)(w2c_i0) + 184, w2c_j1);
   w2c_j0 = w2c_l7;
   w2c_i0 = (u32)(w2c_j0);
   w2c_j1 = 0ull;
   i64_store(&instance->w2c_memory, (u64)(w2c_i0) + 216, w2c_j1);
   w2c_j0 = w2c_l7;
   w2c_i0 = (u32)(w2c_j0);
+  w2c_j1 = w2c_p4;
+  i64_store(&instance->w2c_memory, (u64)(w2c_i0) + 208, w2c_j1);
+  w2c_j0 = w2c_l7;
+  w2c_i0 = (u32)(w2c_j0);
+  w2c_j1 = 257ull;
+  i64_store(&instance->w2c_memory, (u64)(w2c_i0) + 192, w2c_j1);
+  w2c_j0 = w2c_l7;
+  w2c_i0 = (u32)(w2c_j0);
+  w2c_j1 = 0ull;
+  i64_store(&instance->w2c_memory, (u64)(w2c_i0) + 224, w2c_j1);
+  w2c_j0 = w2c_l7;
+  w2c_i0 = (u32)(w2c_j0);
   w2c_i1 = 0u;
-  i32_store(&instance->w2c_memory, (u64)(w2c_i0) + 226, w2c_i1);
+  i32_store(&instance->w2c_memory, (u64)(w2c_i0) + 234, w2c_i1);
   w2c_j0 = w2c_l7;
   w2c_i0 = (u32)(w2c_j0);
   w2c_i1 = 256u;
-  i32_store16(&instance->w2c_memory, (u64)(w2c_i0) + 224, w2c_i1);
+  i32_store16(&instance->w2c_memory, (u64)(w2c_i0) + 232, w2c_i1);
   w2c_j0 = w2c_l7;
   w2c_i0 = (u32)(w2c_j0);
   w2c_i1 = 0u;
-  i32_store16(&instance->w2c_memory, (u64)(w2c_i0) + 230, w2c_i1);
+  i32_store16(&instance->w2c_memory, (u64)(w2c_i0) + 238, w2c_i1);
   w2c_j0 = w2c_l7;
   w2c_i0 = (u32)(w2c_j0);
   w2c_i1 = w2c_p3;
   w2c_j1 = (u64)(w2c_i1);
   w2c_j2 = 255ull;
   w2c_j1 &= w2c_j2;
-  i64_store(&instance->w2c_memory, (u64)(w2c_i0) + 192, w2c_j1);
+  i64_store(&instance->w2c_memory, (u64)(w2c_i0) + 200, w2c_j1);
   w2c_j0 = w2c_l7;
-  w2c_j1 = 128ull;
+  w2c_j1 = 136ull;
   w2c_j0 += w2c_j1;
   w2c_j1 = w2c_p1;
   w2c_j2 = w2c_p2;
   w2c_j3 = w2c_l7;
-  w2c_j4 = 184ull;
+  w2c_j4 = 192ull;
   w2c_j3 += w2c_j4;
-  w2c_f60(instance, w2c_j0, w2c_j1, w2c_j2, w2c_j3);
-  w2c_j0 = w2c_l7;
-  w2c_i0 = (u32)(w2c_j0);
-  w2c_j0 = i64_load(&instance->w2c_memory, (u64)(w2c_i0) + 144u);
-  w2c_l10 = w2c_j0;
-  w2c_j0 = w2c_l7;
-  w2c_i0 = (u32)(w2c_j0);
-  w2c_j0 = i64_load(&instance->w2c_memory, (u64)(w2c_i0) + 136u);
-  w2c_p6 = w2c_j0;
-  w2c_j0 = w2c_l7;
-  w2c_i0 = (u32)(w2c_j0);
-  w2c_i0 = i32_load8_u(&instance->w2c_memory, (u64)(w2c_i0) + 128u);
-  if (w2c_i0) {goto w2c_B163;}
-  w2c_j0 = w2c_l7;
-  w2c_i0 = (u32)(w2c_j0);
-  w2c_j0 = i64_load(&instance->w2c_memory, (u64)(w2c_i0) + 168u);
-  w2c_l8 = w2c_j0;
-  w2c_j0 = w2c_l7;
-  w2c_i0 = (u32)(w2c_j0);
-  w2c_j0 = i64_load(&instance->w2c_memory, (u64)(w2c_i0) + 160u);
-  w2c_p1 = w2c_j0;
+  w2c_f62(instance, w2c_j0, w2c_j1, w2c_j2, w2c_j3);
   w2c_j0 = w2c_l7;
   w2c_i0 = (u32)(w2c_j0);
   w2c_j0 = i64_load(&instance->w2c_memory, (u64)(w2c_i0) + 152u);
-  w2c_l20 = w2c_j0;
+  w2c_l10 = w2c_j0;
+  w2c_j0 = w2c_l7;
+  w2c_i0 = (u32)(w2c_j0);
+  w2c_j0 = i64_load(&instance->w2c_memory, (u64)(w2c_i0) + 144u);
+  w2c_p6 = w2c_j0;
+  w2c_j0 = w2c_l7;
+  w2c_i0 = (u32)(w2c_j0);
+  w2c_i0 = i32_load8_u(&instance->w2c_memory, (u64)(w2c_i0) + 136u);
+  if (w2c_i0) {goto w2c_B197;}
   w2c_j0 = w2c_l7;
   w2c_i0 = (u32)(w2c_j0);
   w2c_j0 = i64_load(&instance->w2c_memory, (u64)(w2c_i0) + 176u);
+  w2c_l8 = w2c_j0;
+  w2c_j0 = w2c_l7;
+  w2c_i0 = (u32)(w2c_j0);
+  w2c_j0 = i64_load(&instance->w2c_memory, (u64)(w2c_i0) + 168u);
+  w2c_p1 = w2c_j0;
+  w2c_j0 = w2c_l7;
+  w2c_i0 = (u32)(w2c_j0);
+  w2c_j0 = i64_load(&instance->w2c_memory, (u64)(w2c_i0) + 160u);
+  w2c_l25 = w2c_j0;
+  w2c_j0 = w2c_l7;
+  w2c_i0 = (u32)(w2c_j0);
+  w2c_j0 = i64_load(&instance->w2c_memory, (u64)(w2c_i0) + 184u);
   w2c_p4 = w2c_j0;
   w2c_j0 = w2c_l7;
-  w2c_j1 = 48ull;
+  w2c_j1 = 56ull;
   w2c_j0 += w2c_j1;
   w2c_j1 = w2c_p6;
   w2c_j2 = w2c_l10;
   w2c_j3 = w2c_l7;
-  w2c_j4 = 184ull;
+  w2c_j4 = 192ull;
   w2c_j3 += w2c_j4;
   w2c_f12(instance, w2c_j0, w2c_j1, w2c_j2, w2c_j3);
   w2c_j0 = w2c_l7;
   w2c_i0 = (u32)(w2c_j0);
-  w2c_j0 = i64_load(&instance->w2c_memory, (u64)(w2c_i0) + 64u);
+  w2c_j0 = i64_load(&instance->w2c_memory, (u64)(w2c_i0) + 72u);
   w2c_l10 = w2c_j0;
   w2c_j0 = w2c_l7;
   w2c_i0 = (u32)(w2c_j0);
-  w2c_j0 = i64_load(&instance->w2c_memory, (u64)(w2c_i0) + 56u);
-  w2c_l21 = w2c_j0;
+  w2c_j0 = i64_load(&instance->w2c_memory, (u64)(w2c_i0) + 64u);
+  w2c_l24 = w2c_j0;
   w2c_j0 = w2c_l7;
   w2c_i0 = (u32)(w2c_j0);
-  w2c_i0 = i32_load8_u(&instance->w2c_memory, (u64)(w2c_i0) + 48u);
-  if (w2c_i0) {goto w2c_B162;}
+  w2c_i0 = i32_load8_u(&instance->w2c_memory, (u64)(w2c_i0) + 56u);
+  if (w2c_i0) {goto w2c_B196;}
+  w2c_j0 = w2c_l7;
+  w2c_i0 = (u32)(w2c_j0);
+  w2c_j0 = i64_load(&instance->w2c_memory, (u64)(w2c_i0) + 96u);
+  w2c_p2 = w2c_j0;
   w2c_j0 = w2c_l7;
   w2c_i0 = (u32)(w2c_j0);
   w2c_j0 = i64_load(&instance->w2c_memory, (u64)(w2c_i0) + 88u);
-  w2c_l22 = w2c_j0;
-  w2c_j0 = w2c_l7;
-  w2c_i0 = (u32)(w2c_j0);
-  w2c_j0 = i64_load(&instance->w2c_memory, (u64)(w2c_i0) + 80u);
   w2c_l9 = w2c_j0;
   w2c_j0 = w2c_l7;
   w2c_i0 = (u32)(w2c_j0);
-  w2c_j0 = i64_load(&instance->w2c_memory, (u64)(w2c_i0) + 72u);
-  w2c_l23 = w2c_j0;
-  w2c_j0 = w2c_l20;
+  w2c_j0 = i64_load(&instance->w2c_memory, (u64)(w2c_i0) + 80u);
+  w2c_l27 = w2c_j0;
+  w2c_j0 = w2c_l25;
   w2c_i0 = !(w2c_j0);
-  if (w2c_i0) {goto w2c_B164;}
+  if (w2c_i0) {goto w2c_B198;}
   w2c_j0 = w2c_p6;
   w2c_rattle_dealloc(instance, w2c_j0);
-  w2c_B164:;
+  w2c_B198:;
   w2c_j0 = w2c_l8;
   w2c_i0 = !(w2c_j0);
-  if (w2c_i0) {goto w2c_B165;}
+  if (w2c_i0) {goto w2c_B199;}
   w2c_j0 = w2c_p1;
   w2c_j1 = 48ull;
   w2c_j0 += w2c_j1;
   w2c_p6 = w2c_j0;
-  w2c_L166: 
+  w2c_L200: 
     w2c_j0 = w2c_p6;
     w2c_j1 = 18446744073709551600ull;
     w2c_j0 += w2c_j1;
     w2c_i0 = (u32)(w2c_j0);
     w2c_j0 = i64_load(&instance->w2c_memory, (u64)(w2c_i0));
-    w2c_p2 = w2c_j0;
+    w2c_l28 = w2c_j0;
     w2c_j0 = w2c_p6;
     w2c_i0 = (u32)(w2c_j0);
     w2c_j0 = i64_load(&instance->w2c_memory, (u64)(w2c_i0));
-    w2c_l20 = w2c_j0;
+    w2c_l25 = w2c_j0;
     w2c_j0 = w2c_p6;
     w2c_j1 = 18446744073709551592ull;
     w2c_j0 += w2c_j1;
     w2c_i0 = (u32)(w2c_j0);
     w2c_j0 = i64_load(&instance->w2c_memory, (u64)(w2c_i0));
     w2c_i0 = !(w2c_j0);
-    if (w2c_i0) {goto w2c_B167;}
+    if (w2c_i0) {goto w2c_B201;}
     w2c_j0 = w2c_p6;
     w2c_j1 = 18446744073709551576ull;
     w2c_j0 += w2c_j1;
     w2c_i0 = (u32)(w2c_j0);
     w2c_j0 = i64_load(&instance->w2c_memory, (u64)(w2c_i0));
     w2c_rattle_dealloc(instance, w2c_j0);
-    w2c_B167:;
-    w2c_j0 = w2c_l20;
+    w2c_B201:;
+    w2c_j0 = w2c_l25;
     w2c_i0 = !(w2c_j0);
-    if (w2c_i0) {goto w2c_B168;}
-    w2c_j0 = w2c_p2;
+    if (w2c_i0) {goto w2c_B202;}
+    w2c_j0 = w2c_l28;
     w2c_rattle_dealloc(instance, w2c_j0);
-    w2c_B168:;
+    w2c_B202:;
     w2c_j0 = w2c_p6;
     w2c_j1 = 64ull;
     w2c_j0 += w2c_j1;
@@ -22036,98 +23114,138 @@ static void w2c_f15(Z_hidreport_instance_t* instance, u64 w2c_p0, u64 w2c_p1, u6
     w2c_l8 = w2c_j0;
     w2c_j1 = 0ull;
     w2c_i0 = w2c_j0 != w2c_j1;
-    if (w2c_i0) {goto w2c_L166;}
-  w2c_B165:;
+    if (w2c_i0) {goto w2c_L200;}
+  w2c_B199:;
   w2c_j0 = w2c_p4;
   w2c_i0 = !(w2c_j0);
-  if (w2c_i0) {goto w2c_B169;}
+  if (w2c_i0) {goto w2c_B203;}
   w2c_j0 = w2c_p1;
   w2c_rattle_dealloc(instance, w2c_j0);
-  w2c_B169:;
-  w2c_j0 = w2c_l19;
+  w2c_B203:;
+  w2c_j0 = w2c_l26;
   w2c_i0 = !(w2c_j0);
-  if (w2c_i0) {goto w2c_B170;}
+  if (w2c_i0) {goto w2c_B204;}
   w2c_j0 = w2c_l12;
   w2c_rattle_dealloc(instance, w2c_j0);
-  w2c_B170:;
-  w2c_j0 = w2c_l14;
+  w2c_B204:;
+  w2c_j0 = w2c_l17;
   w2c_i0 = !(w2c_j0);
-  if (w2c_i0) {goto w2c_B171;}
+  if (w2c_i0) {goto w2c_B205;}
   w2c_j0 = w2c_l11;
   w2c_rattle_dealloc(instance, w2c_j0);
-  w2c_B171:;
-  w2c_j0 = w2c_l7;
-  w2c_j1 = 96ull;
-  w2c_j0 += w2c_j1;
-  w2c_p6 = w2c_j0;
-  w2c_j0 = w2c_l15;
+  w2c_B205:;
+  w2c_j0 = w2c_l21;
   w2c_i0 = !(w2c_j0);
-  if (w2c_i0) {goto w2c_B172;}
+  if (w2c_i0) {goto w2c_B206;}
   w2c_j0 = w2c_l13;
   w2c_rattle_dealloc(instance, w2c_j0);
-  w2c_B172:;
+  w2c_B206:;
+  w2c_j0 = w2c_l20;
+  w2c_i0 = !(w2c_j0);
+  if (w2c_i0) {goto w2c_B207;}
+  w2c_j0 = w2c_l14;
+  w2c_rattle_dealloc(instance, w2c_j0);
+  w2c_B207:;
+  w2c_j0 = w2c_l22;
+  w2c_i0 = !(w2c_j0);
+  if (w2c_i0) {goto w2c_B208;}
+  w2c_j0 = w2c_l15;
+  w2c_rattle_dealloc(instance, w2c_j0);
+  w2c_B208:;
+  w2c_j0 = w2c_l7;
+  w2c_j1 = 104ull;
+  w2c_j0 += w2c_j1;
+  w2c_p6 = w2c_j0;
+  w2c_j0 = w2c_l18;
+  w2c_i0 = !(w2c_j0);
+  if (w2c_i0) {goto w2c_B209;}
+  w2c_j0 = w2c_l16;
+  w2c_rattle_dealloc(instance, w2c_j0);
+  w2c_B209:;
   w2c_j0 = w2c_l7;
   w2c_i0 = (u32)(w2c_j0);
   w2c_j1 = w2c_p6;
   w2c_i1 = (u32)(w2c_j1);
   w2c_j1 = i64_load(&instance->w2c_memory, (u64)(w2c_i1) + 24u);
-  i64_store(&instance->w2c_memory, (u64)(w2c_i0) + 40, w2c_j1);
+  i64_store(&instance->w2c_memory, (u64)(w2c_i0) + 48, w2c_j1);
   w2c_j0 = w2c_l7;
   w2c_i0 = (u32)(w2c_j0);
   w2c_j1 = w2c_p6;
   w2c_i1 = (u32)(w2c_j1);
   w2c_j1 = i64_load(&instance->w2c_memory, (u64)(w2c_i1) + 16u);
-  i64_store(&instance->w2c_memory, (u64)(w2c_i0) + 32, w2c_j1);
+  i64_store(&instance->w2c_memory, (u64)(w2c_i0) + 40, w2c_j1);
   w2c_j0 = w2c_l7;
   w2c_i0 = (u32)(w2c_j0);
   w2c_j1 = w2c_p6;
   w2c_i1 = (u32)(w2c_j1);
   w2c_j1 = i64_load(&instance->w2c_memory, (u64)(w2c_i1) + 8u);
-  i64_store(&instance->w2c_memory, (u64)(w2c_i0) + 24, w2c_j1);
+  i64_store(&instance->w2c_memory, (u64)(w2c_i0) + 32, w2c_j1);
   w2c_j0 = w2c_l7;
   w2c_i0 = (u32)(w2c_j0);
   w2c_j1 = w2c_p6;
   w2c_i1 = (u32)(w2c_j1);
   w2c_j1 = i64_load(&instance->w2c_memory, (u64)(w2c_i1));
-  i64_store(&instance->w2c_memory, (u64)(w2c_i0) + 16, w2c_j1);
+  i64_store(&instance->w2c_memory, (u64)(w2c_i0) + 24, w2c_j1);
   w2c_j0 = 0ull;
   w2c_p6 = w2c_j0;
   goto w2c_B2;
-  w2c_B163:;
+  w2c_B197:;
+  w2c_j0 = w2c_l7;
+  w2c_i0 = (u32)(w2c_j0);
+  w2c_j0 = i64_load(&instance->w2c_memory, (u64)(w2c_i0) + 176u);
+  w2c_p2 = w2c_j0;
   w2c_j0 = w2c_l7;
   w2c_i0 = (u32)(w2c_j0);
   w2c_j0 = i64_load(&instance->w2c_memory, (u64)(w2c_i0) + 168u);
-  w2c_l22 = w2c_j0;
-  w2c_j0 = w2c_l7;
-  w2c_i0 = (u32)(w2c_j0);
-  w2c_j0 = i64_load(&instance->w2c_memory, (u64)(w2c_i0) + 160u);
   w2c_l9 = w2c_j0;
   w2c_j0 = w2c_l7;
   w2c_i0 = (u32)(w2c_j0);
-  w2c_j0 = i64_load(&instance->w2c_memory, (u64)(w2c_i0) + 152u);
-  w2c_l23 = w2c_j0;
-  w2c_j0 = w2c_l19;
+  w2c_j0 = i64_load(&instance->w2c_memory, (u64)(w2c_i0) + 160u);
+  w2c_l27 = w2c_j0;
+  w2c_j0 = w2c_l26;
   w2c_i0 = !(w2c_j0);
-  if (w2c_i0) {goto w2c_B173;}
+  if (w2c_i0) {goto w2c_B210;}
   w2c_j0 = w2c_l12;
   w2c_rattle_dealloc(instance, w2c_j0);
-  w2c_B173:;
-  w2c_j0 = w2c_l14;
+  w2c_B210:;
+  w2c_j0 = w2c_l17;
   w2c_i0 = !(w2c_j0);
-  if (w2c_i0) {goto w2c_B174;}
+  if (w2c_i0) {goto w2c_B211;}
   w2c_j0 = w2c_l11;
   w2c_rattle_dealloc(instance, w2c_j0);
-  w2c_B174:;
-  w2c_j0 = w2c_l15;
+  w2c_B211:;
+  w2c_j0 = w2c_l21;
   w2c_i0 = !(w2c_j0);
-  if (w2c_i0) {goto w2c_B175;}
+  if (w2c_i0) {goto w2c_B212;}
   w2c_j0 = w2c_l13;
   w2c_rattle_dealloc(instance, w2c_j0);
-  w2c_B175:;
+  w2c_B212:;
+  w2c_j0 = w2c_l20;
+  w2c_i0 = !(w2c_j0);
+  if (w2c_i0) {goto w2c_B213;}
+  w2c_j0 = w2c_l14;
+  w2c_rattle_dealloc(instance, w2c_j0);
+  w2c_B213:;
+  w2c_j0 = w2c_l22;
+  w2c_i0 = !(w2c_j0);
+  if (w2c_i0) {goto w2c_B214;}
+  w2c_j0 = w2c_l15;
+  w2c_rattle_dealloc(instance, w2c_j0);
+  w2c_B214:;
+  w2c_j0 = w2c_l18;
+  w2c_i0 = !(w2c_j0);
+  if (w2c_i0) {goto w2c_B215;}
+  w2c_j0 = w2c_l16;
+  w2c_rattle_dealloc(instance, w2c_j0);
+  w2c_B215:;
   w2c_j0 = w2c_p6;
   w2c_j1 = 255ull;
   w2c_j0 &= w2c_j1;
-  w2c_l21 = w2c_j0;
+  w2c_l24 = w2c_j0;
+  w2c_j0 = w2c_l7;
+  w2c_i0 = (u32)(w2c_j0);
+  w2c_j1 = 0ull;
+  i64_store(&instance->w2c_memory, (u64)(w2c_i0) + 48, w2c_j1);
   w2c_j0 = w2c_l7;
   w2c_i0 = (u32)(w2c_j0);
   w2c_j1 = 0ull;
@@ -22140,68 +23258,64 @@ static void w2c_f15(Z_hidreport_instance_t* instance, u64 w2c_p0, u64 w2c_p1, u6
   w2c_i0 = (u32)(w2c_j0);
   w2c_j1 = 0ull;
   i64_store(&instance->w2c_memory, (u64)(w2c_i0) + 24, w2c_j1);
+  goto w2c_B195;
+  w2c_B196:;
   w2c_j0 = w2c_l7;
   w2c_i0 = (u32)(w2c_j0);
-  w2c_j1 = 0ull;
-  i64_store(&instance->w2c_memory, (u64)(w2c_i0) + 16, w2c_j1);
-  goto w2c_B161;
-  w2c_B162:;
+  w2c_j0 = i64_load(&instance->w2c_memory, (u64)(w2c_i0) + 96u);
+  w2c_p2 = w2c_j0;
   w2c_j0 = w2c_l7;
   w2c_i0 = (u32)(w2c_j0);
   w2c_j0 = i64_load(&instance->w2c_memory, (u64)(w2c_i0) + 88u);
-  w2c_l22 = w2c_j0;
-  w2c_j0 = w2c_l7;
-  w2c_i0 = (u32)(w2c_j0);
-  w2c_j0 = i64_load(&instance->w2c_memory, (u64)(w2c_i0) + 80u);
   w2c_l9 = w2c_j0;
   w2c_j0 = w2c_l7;
   w2c_i0 = (u32)(w2c_j0);
-  w2c_j0 = i64_load(&instance->w2c_memory, (u64)(w2c_i0) + 72u);
-  w2c_l23 = w2c_j0;
-  w2c_j0 = w2c_l20;
+  w2c_j0 = i64_load(&instance->w2c_memory, (u64)(w2c_i0) + 80u);
+  w2c_l27 = w2c_j0;
+  w2c_j0 = w2c_l25;
   w2c_i0 = !(w2c_j0);
-  if (w2c_i0) {goto w2c_B176;}
+  if (w2c_i0) {goto w2c_B216;}
   w2c_j0 = w2c_p6;
   w2c_rattle_dealloc(instance, w2c_j0);
-  w2c_B176:;
+  w2c_B216:;
   w2c_j0 = w2c_l8;
   w2c_i0 = !(w2c_j0);
-  if (w2c_i0) {goto w2c_B177;}
+  if (w2c_i0) {goto w2c_B217;}
   w2c_j0 = w2c_p1;
   w2c_j1 = 48ull;
   w2c_j0 += w2c_j1;
   w2c_p6 = w2c_j0;
-  w2c_L178: 
+  w2c_L218: 
     w2c_j0 = w2c_p6;
     w2c_j1 = 18446744073709551600ull;
     w2c_j0 += w2c_j1;
     w2c_i0 = (u32)(w2c_j0);
     w2c_j0 = i64_load(&instance->w2c_memory, (u64)(w2c_i0));
-    w2c_p2 = w2c_j0;
+    w2c_l28 = w2c_j0;
     w2c_j0 = w2c_p6;
     w2c_i0 = (u32)(w2c_j0);
     w2c_j0 = i64_load(&instance->w2c_memory, (u64)(w2c_i0));
-    w2c_l20 = w2c_j0;
+    w2c_l25 = w2c_j0;
     w2c_j0 = w2c_p6;
     w2c_j1 = 18446744073709551592ull;
     w2c_j0 += w2c_j1;
     w2c_i0 = (u32)(w2c_j0);
     w2c_j0 = i64_load(&instance->w2c_memory, (u64)(w2c_i0));
     w2c_i0 = !(w2c_j0);
-    if (w2c_i0) {goto w2c_B179;}
+    if (w2c_i0) {goto w2c_B219;}
     w2c_j0 = w2c_p6;
     w2c_j1 = 18446744073709551576ull;
     w2c_j0 += w2c_j1;
     w2c_i0 = (u32)(w2c_j0);
     w2c_j0 = i64_load(&instance->w2c_memory, (u64)(w2c_i0));
     w2c_rattle_dealloc(instance, w2c_j0);
-    w2c_B179:;
-    w2c_j0 = w2c_l20;
+    w2c_B219:;
+    w2c_j0 = w2c_l25;
     w2c_i0 = !(w2c_j0);
-    if (w2c_i0) {goto w2c_B180;}
-    w2c_j0 = w2c_p2;
+    if (w2c_i0) {goto w2c_B220;}
+    w2c_j0 = w2c_l28;
     w2c_rattle_dealloc(instance, w2c_j0);
-    w2c_B180:;
+    w2c_B220:;
     w2c_j0 = w2c_p6;
     w2c_j1 = 64ull;
     w2c_j0 += w2c_j1;
@@ -22212,36 +23326,58 @@ static void w2c_f15(Z_hidreport_instance_t* instance, u64 w2c_p0, u64 w2c_p1, u6
     w2c_l8 = w2c_j0;
     w2c_j1 = 0ull;
     w2c_i0 = w2c_j0 != w2c_j1;
-    if (w2c_i0) {goto w2c_L178;}
-  w2c_B177:;
+    if (w2c_i0) {goto w2c_L218;}
+  w2c_B217:;
   w2c_j0 = w2c_p4;
   w2c_i0 = !(w2c_j0);
-  if (w2c_i0) {goto w2c_B181;}
+  if (w2c_i0) {goto w2c_B221;}
   w2c_j0 = w2c_p1;
   w2c_rattle_dealloc(instance, w2c_j0);
-  w2c_B181:;
-  w2c_j0 = w2c_l19;
+  w2c_B221:;
+  w2c_j0 = w2c_l26;
   w2c_i0 = !(w2c_j0);
-  if (w2c_i0) {goto w2c_B182;}
+  if (w2c_i0) {goto w2c_B222;}
   w2c_j0 = w2c_l12;
   w2c_rattle_dealloc(instance, w2c_j0);
-  w2c_B182:;
-  w2c_j0 = w2c_l14;
+  w2c_B222:;
+  w2c_j0 = w2c_l17;
   w2c_i0 = !(w2c_j0);
-  if (w2c_i0) {goto w2c_B183;}
+  if (w2c_i0) {goto w2c_B223;}
   w2c_j0 = w2c_l11;
   w2c_rattle_dealloc(instance, w2c_j0);
-  w2c_B183:;
-  w2c_j0 = w2c_l15;
+  w2c_B223:;
+  w2c_j0 = w2c_l21;
   w2c_i0 = !(w2c_j0);
-  if (w2c_i0) {goto w2c_B184;}
+  if (w2c_i0) {goto w2c_B224;}
   w2c_j0 = w2c_l13;
   w2c_rattle_dealloc(instance, w2c_j0);
-  w2c_B184:;
-  w2c_j0 = w2c_l21;
+  w2c_B224:;
+  w2c_j0 = w2c_l20;
+  w2c_i0 = !(w2c_j0);
+  if (w2c_i0) {goto w2c_B225;}
+  w2c_j0 = w2c_l14;
+  w2c_rattle_dealloc(instance, w2c_j0);
+  w2c_B225:;
+  w2c_j0 = w2c_l22;
+  w2c_i0 = !(w2c_j0);
+  if (w2c_i0) {goto w2c_B226;}
+  w2c_j0 = w2c_l15;
+  w2c_rattle_dealloc(instance, w2c_j0);
+  w2c_B226:;
+  w2c_j0 = w2c_l18;
+  w2c_i0 = !(w2c_j0);
+  if (w2c_i0) {goto w2c_B227;}
+  w2c_j0 = w2c_l16;
+  w2c_rattle_dealloc(instance, w2c_j0);
+  w2c_B227:;
+  w2c_j0 = w2c_l24;
   w2c_j1 = 255ull;
   w2c_j0 &= w2c_j1;
-  w2c_l21 = w2c_j0;
+  w2c_l24 = w2c_j0;
+  w2c_j0 = w2c_l7;
+  w2c_i0 = (u32)(w2c_j0);
+  w2c_j1 = 0ull;
+  i64_store(&instance->w2c_memory, (u64)(w2c_i0) + 48, w2c_j1);
   w2c_j0 = w2c_l7;
   w2c_i0 = (u32)(w2c_j0);
   w2c_j1 = 0ull;
@@ -22254,11 +23390,7 @@ static void w2c_f15(Z_hidreport_instance_t* instance, u64 w2c_p0, u64 w2c_p1, u6
   w2c_i0 = (u32)(w2c_j0);
   w2c_j1 = 0ull;
   i64_store(&instance->w2c_memory, (u64)(w2c_i0) + 24, w2c_j1);
-  w2c_j0 = w2c_l7;
-  w2c_i0 = (u32)(w2c_j0);
-  w2c_j1 = 0ull;
-  i64_store(&instance->w2c_memory, (u64)(w2c_i0) + 16, w2c_j1);
-  w2c_B161:;
+  w2c_B195:;
   w2c_j0 = 1ull;
   w2c_p6 = w2c_j0;
   w2c_B2:;
@@ -22266,7 +23398,7 @@ static void w2c_f15(Z_hidreport_instance_t* instance, u64 w2c_p0, u64 w2c_p1, u6
   w2c_j1 = 40ull;
   w2c_j0 += w2c_j1;
   w2c_i0 = (u32)(w2c_j0);
-  w2c_j1 = w2c_l22;
+  w2c_j1 = w2c_p2;
   i64_store(&instance->w2c_memory, (u64)(w2c_i0), w2c_j1);
   w2c_j0 = w2c_p0;
   w2c_j1 = 32ull;
@@ -22278,7 +23410,7 @@ static void w2c_f15(Z_hidreport_instance_t* instance, u64 w2c_p0, u64 w2c_p1, u6
   w2c_j1 = 24ull;
   w2c_j0 += w2c_j1;
   w2c_i0 = (u32)(w2c_j0);
-  w2c_j1 = w2c_l23;
+  w2c_j1 = w2c_l27;
   i64_store(&instance->w2c_memory, (u64)(w2c_i0), w2c_j1);
   w2c_j0 = w2c_p0;
   w2c_j1 = 16ull;
@@ -22290,7 +23422,7 @@ static void w2c_f15(Z_hidreport_instance_t* instance, u64 w2c_p0, u64 w2c_p1, u6
   w2c_j1 = 8ull;
   w2c_j0 += w2c_j1;
   w2c_i0 = (u32)(w2c_j0);
-  w2c_j1 = w2c_l21;
+  w2c_j1 = w2c_l24;
   i64_store(&instance->w2c_memory, (u64)(w2c_i0), w2c_j1);
   w2c_j0 = w2c_p0;
   w2c_i0 = (u32)(w2c_j0);
@@ -22302,7 +23434,7 @@ static void w2c_f15(Z_hidreport_instance_t* instance, u64 w2c_p0, u64 w2c_p1, u6
   w2c_i0 = (u32)(w2c_j0);
   w2c_j1 = w2c_l7;
   w2c_i1 = (u32)(w2c_j1);
-  w2c_j1 = i64_load(&instance->w2c_memory, (u64)(w2c_i1) + 16u);
+  w2c_j1 = i64_load(&instance->w2c_memory, (u64)(w2c_i1) + 24u);
   i64_store(&instance->w2c_memory, (u64)(w2c_i0), w2c_j1);
   w2c_j0 = w2c_p0;
   w2c_j1 = 56ull;
@@ -22310,7 +23442,7 @@ static void w2c_f15(Z_hidreport_instance_t* instance, u64 w2c_p0, u64 w2c_p1, u6
   w2c_i0 = (u32)(w2c_j0);
   w2c_j1 = w2c_l7;
   w2c_i1 = (u32)(w2c_j1);
-  w2c_j1 = i64_load(&instance->w2c_memory, (u64)(w2c_i1) + 24u);
+  w2c_j1 = i64_load(&instance->w2c_memory, (u64)(w2c_i1) + 32u);
   i64_store(&instance->w2c_memory, (u64)(w2c_i0), w2c_j1);
   w2c_j0 = w2c_p0;
   w2c_j1 = 64ull;
@@ -22318,7 +23450,7 @@ static void w2c_f15(Z_hidreport_instance_t* instance, u64 w2c_p0, u64 w2c_p1, u6
   w2c_i0 = (u32)(w2c_j0);
   w2c_j1 = w2c_l7;
   w2c_i1 = (u32)(w2c_j1);
-  w2c_j1 = i64_load(&instance->w2c_memory, (u64)(w2c_i1) + 32u);
+  w2c_j1 = i64_load(&instance->w2c_memory, (u64)(w2c_i1) + 40u);
   i64_store(&instance->w2c_memory, (u64)(w2c_i0), w2c_j1);
   w2c_j0 = w2c_p0;
   w2c_j1 = 72ull;
@@ -22326,11 +23458,11 @@ static void w2c_f15(Z_hidreport_instance_t* instance, u64 w2c_p0, u64 w2c_p1, u6
   w2c_i0 = (u32)(w2c_j0);
   w2c_j1 = w2c_l7;
   w2c_i1 = (u32)(w2c_j1);
-  w2c_j1 = i64_load(&instance->w2c_memory, (u64)(w2c_i1) + 40u);
+  w2c_j1 = i64_load(&instance->w2c_memory, (u64)(w2c_i1) + 48u);
   i64_store(&instance->w2c_memory, (u64)(w2c_i0), w2c_j1);
   w2c_B0:;
   w2c_j0 = w2c_l7;
-  w2c_j1 = 12832ull;
+  w2c_j1 = 12944ull;
   w2c_j0 += w2c_j1;
   instance->w2c_g0 = w2c_j0;
   FUNC_EPILOGUE;
@@ -28616,7 +29748,7 @@ static u32 w2c_f23(Z_hidreport_instance_t* instance, u64 w2c_p0, u64 w2c_p1) {
   w2c_j2 = w2c_l3;
   w2c_j3 = w2c_p1;
   w2c_j4 = 1ull;
-  w2c_f142(instance, w2c_j0, w2c_j1, w2c_j2, w2c_j3, w2c_j4);
+  w2c_f144(instance, w2c_j0, w2c_j1, w2c_j2, w2c_j3, w2c_j4);
   w2c_j0 = w2c_l2;
   w2c_i0 = (u32)(w2c_j0);
   w2c_j0 = i64_load(&instance->w2c_memory, (u64)(w2c_i0) + 16u);
@@ -29519,7 +30651,7 @@ static u32 w2c_f27(Z_hidreport_instance_t* instance, u64 w2c_p0, u64 w2c_p1) {
   w2c_j2 = w2c_l3;
   w2c_j3 = w2c_p1;
   w2c_j4 = 1ull;
-  w2c_f142(instance, w2c_j0, w2c_j1, w2c_j2, w2c_j3, w2c_j4);
+  w2c_f144(instance, w2c_j0, w2c_j1, w2c_j2, w2c_j3, w2c_j4);
   w2c_j0 = w2c_l2;
   w2c_i0 = (u32)(w2c_j0);
   w2c_j0 = i64_load(&instance->w2c_memory, (u64)(w2c_i0) + 16u);
@@ -31523,7 +32655,7 @@ static u32 w2c_f32(Z_hidreport_instance_t* instance, u64 w2c_p0, u64 w2c_p1) {
   w2c_j2 = w2c_l3;
   w2c_j3 = w2c_p1;
   w2c_j4 = 1ull;
-  w2c_f142(instance, w2c_j0, w2c_j1, w2c_j2, w2c_j3, w2c_j4);
+  w2c_f144(instance, w2c_j0, w2c_j1, w2c_j2, w2c_j3, w2c_j4);
   w2c_j0 = w2c_l2;
   w2c_i0 = (u32)(w2c_j0);
   w2c_j0 = i64_load(&instance->w2c_memory, (u64)(w2c_i0) + 16u);
@@ -32320,7 +33452,7 @@ static u32 w2c_f35(Z_hidreport_instance_t* instance, u64 w2c_p0) {
   w2c_j4 = 112ull;
   w2c_j3 *= w2c_j4;
   w2c_j4 = 8ull;
-  w2c_f142(instance, w2c_j0, w2c_j1, w2c_j2, w2c_j3, w2c_j4);
+  w2c_f144(instance, w2c_j0, w2c_j1, w2c_j2, w2c_j3, w2c_j4);
   w2c_j0 = w2c_l1;
   w2c_i0 = (u32)(w2c_j0);
   w2c_j0 = i64_load(&instance->w2c_memory, (u64)(w2c_i0) + 16u);
@@ -32446,7 +33578,7 @@ static u32 w2c_f36(Z_hidreport_instance_t* instance, u64 w2c_p0) {
   w2c_j4 = 12ull;
   w2c_j3 *= w2c_j4;
   w2c_j4 = 4ull;
-  w2c_f142(instance, w2c_j0, w2c_j1, w2c_j2, w2c_j3, w2c_j4);
+  w2c_f144(instance, w2c_j0, w2c_j1, w2c_j2, w2c_j3, w2c_j4);
   w2c_j0 = w2c_l1;
   w2c_i0 = (u32)(w2c_j0);
   w2c_j0 = i64_load(&instance->w2c_memory, (u64)(w2c_i0) + 16u);
@@ -32572,7 +33704,7 @@ static u32 w2c_f37(Z_hidreport_instance_t* instance, u64 w2c_p0) {
   w2c_j4 = 6ull;
   w2c_j3 *= w2c_j4;
   w2c_j4 = 2ull;
-  w2c_f142(instance, w2c_j0, w2c_j1, w2c_j2, w2c_j3, w2c_j4);
+  w2c_f144(instance, w2c_j0, w2c_j1, w2c_j2, w2c_j3, w2c_j4);
   w2c_j0 = w2c_l1;
   w2c_i0 = (u32)(w2c_j0);
   w2c_j0 = i64_load(&instance->w2c_memory, (u64)(w2c_i0) + 16u);
@@ -32698,7 +33830,7 @@ static u32 w2c_f38(Z_hidreport_instance_t* instance, u64 w2c_p0) {
   w2c_j4 = 2ull;
   w2c_j3 <<= (w2c_j4 & 63);
   w2c_j4 = 4ull;
-  w2c_f142(instance, w2c_j0, w2c_j1, w2c_j2, w2c_j3, w2c_j4);
+  w2c_f144(instance, w2c_j0, w2c_j1, w2c_j2, w2c_j3, w2c_j4);
   w2c_j0 = w2c_l1;
   w2c_i0 = (u32)(w2c_j0);
   w2c_j0 = i64_load(&instance->w2c_memory, (u64)(w2c_i0) + 16u);
@@ -32824,7 +33956,7 @@ static u32 w2c_f39(Z_hidreport_instance_t* instance, u64 w2c_p0) {
   w2c_j4 = 2ull;
   w2c_j3 <<= (w2c_j4 & 63);
   w2c_j4 = 4ull;
-  w2c_f142(instance, w2c_j0, w2c_j1, w2c_j2, w2c_j3, w2c_j4);
+  w2c_f144(instance, w2c_j0, w2c_j1, w2c_j2, w2c_j3, w2c_j4);
   w2c_j0 = w2c_l1;
   w2c_i0 = (u32)(w2c_j0);
   w2c_j0 = i64_load(&instance->w2c_memory, (u64)(w2c_i0) + 16u);
@@ -33603,7 +34735,7 @@ static void w2c_f40(Z_hidreport_instance_t* instance, u64 w2c_p0, u64 w2c_p1, u6
   w2c_j2 = 0ull;
   w2c_j3 = w2c_l5;
   w2c_j4 = 0ull;
-  w2c_f143(instance, w2c_j0, w2c_j1, w2c_j2, w2c_j3, w2c_j4);
+  w2c_f145(instance, w2c_j0, w2c_j1, w2c_j2, w2c_j3, w2c_j4);
   w2c_j0 = w2c_l4;
   w2c_i0 = (u32)(w2c_j0);
   w2c_j0 = i64_load(&instance->w2c_memory, (u64)(w2c_i0) + 56u);
@@ -36927,7 +38059,7 @@ static u32 w2c_f43(Z_hidreport_instance_t* instance, u64 w2c_p0) {
   w2c_j4 = 5ull;
   w2c_j3 <<= (w2c_j4 & 63);
   w2c_j4 = 8ull;
-  w2c_f142(instance, w2c_j0, w2c_j1, w2c_j2, w2c_j3, w2c_j4);
+  w2c_f144(instance, w2c_j0, w2c_j1, w2c_j2, w2c_j3, w2c_j4);
   w2c_j0 = w2c_l1;
   w2c_i0 = (u32)(w2c_j0);
   w2c_j0 = i64_load(&instance->w2c_memory, (u64)(w2c_i0) + 16u);
@@ -37678,7 +38810,7 @@ static void w2c_f46(Z_hidreport_instance_t* instance, u64 w2c_p0, u64 w2c_p1, u6
   w2c_j2 = 0ull;
   w2c_j3 = w2c_p2;
   w2c_j4 = 0ull;
-  w2c_f143(instance, w2c_j0, w2c_j1, w2c_j2, w2c_j3, w2c_j4);
+  w2c_f145(instance, w2c_j0, w2c_j1, w2c_j2, w2c_j3, w2c_j4);
   w2c_j0 = w2c_l5;
   w2c_j1 = 16ull;
   w2c_j0 += w2c_j1;
@@ -37686,7 +38818,7 @@ static void w2c_f46(Z_hidreport_instance_t* instance, u64 w2c_p0, u64 w2c_p1, u6
   w2c_j2 = 0ull;
   w2c_j3 = w2c_p2;
   w2c_j4 = 0ull;
-  w2c_f143(instance, w2c_j0, w2c_j1, w2c_j2, w2c_j3, w2c_j4);
+  w2c_f145(instance, w2c_j0, w2c_j1, w2c_j2, w2c_j3, w2c_j4);
   w2c_i0 = 6u;
   w2c_l7 = w2c_i0;
   w2c_j0 = w2c_l5;
@@ -42187,7 +43319,7 @@ static u32 w2c_f50(Z_hidreport_instance_t* instance, u64 w2c_p0) {
   w2c_j4 = 4ull;
   w2c_j3 <<= (w2c_j4 & 63);
   w2c_j4 = 4ull;
-  w2c_f142(instance, w2c_j0, w2c_j1, w2c_j2, w2c_j3, w2c_j4);
+  w2c_f144(instance, w2c_j0, w2c_j1, w2c_j2, w2c_j3, w2c_j4);
   w2c_j0 = w2c_l1;
   w2c_i0 = (u32)(w2c_j0);
   w2c_j0 = i64_load(&instance->w2c_memory, (u64)(w2c_i0) + 16u);
@@ -43762,7 +44894,7 @@ static u32 w2c_f53(Z_hidreport_instance_t* instance, u64 w2c_p0) {
   w2c_j4 = 176ull;
   w2c_j3 *= w2c_j4;
   w2c_j4 = 16ull;
-  w2c_f142(instance, w2c_j0, w2c_j1, w2c_j2, w2c_j3, w2c_j4);
+  w2c_f144(instance, w2c_j0, w2c_j1, w2c_j2, w2c_j3, w2c_j4);
   w2c_j0 = w2c_l1;
   w2c_i0 = (u32)(w2c_j0);
   w2c_j0 = i64_load(&instance->w2c_memory, (u64)(w2c_i0) + 16u);
@@ -43888,7 +45020,7 @@ static u32 w2c_f54(Z_hidreport_instance_t* instance, u64 w2c_p0) {
   w2c_j4 = 40ull;
   w2c_j3 *= w2c_j4;
   w2c_j4 = 8ull;
-  w2c_f142(instance, w2c_j0, w2c_j1, w2c_j2, w2c_j3, w2c_j4);
+  w2c_f144(instance, w2c_j0, w2c_j1, w2c_j2, w2c_j3, w2c_j4);
   w2c_j0 = w2c_l1;
   w2c_i0 = (u32)(w2c_j0);
   w2c_j0 = i64_load(&instance->w2c_memory, (u64)(w2c_i0) + 16u);
@@ -44120,7 +45252,7 @@ static u32 w2c_f56(Z_hidreport_instance_t* instance, u64 w2c_p0, u64 w2c_p1) {
   w2c_j4 = 2ull;
   w2c_j3 <<= (w2c_j4 & 63);
   w2c_j4 = 2ull;
-  w2c_f142(instance, w2c_j0, w2c_j1, w2c_j2, w2c_j3, w2c_j4);
+  w2c_f144(instance, w2c_j0, w2c_j1, w2c_j2, w2c_j3, w2c_j4);
   w2c_j0 = w2c_l2;
   w2c_i0 = (u32)(w2c_j0);
   w2c_j0 = i64_load(&instance->w2c_memory, (u64)(w2c_i0) + 16u);
@@ -44246,7 +45378,7 @@ static u32 w2c_f57(Z_hidreport_instance_t* instance, u64 w2c_p0) {
   w2c_j4 = 12ull;
   w2c_j3 *= w2c_j4;
   w2c_j4 = 4ull;
-  w2c_f142(instance, w2c_j0, w2c_j1, w2c_j2, w2c_j3, w2c_j4);
+  w2c_f144(instance, w2c_j0, w2c_j1, w2c_j2, w2c_j3, w2c_j4);
   w2c_j0 = w2c_l1;
   w2c_i0 = (u32)(w2c_j0);
   w2c_j0 = i64_load(&instance->w2c_memory, (u64)(w2c_i0) + 16u);
@@ -44353,7 +45485,7 @@ static u32 w2c_f58(Z_hidreport_instance_t* instance, u64 w2c_p0) {
   w2c_i2 = w2c_j2 < w2c_j3;
   w2c_j0 = w2c_i2 ? w2c_j0 : w2c_j1;
   w2c_l3 = w2c_j0;
-  w2c_j1 = 384307168202282325ull;
+  w2c_j1 = 230584300921369395ull;
   w2c_i0 = w2c_j0 > w2c_j1;
   if (w2c_i0) {goto w2c_B0;}
   w2c_j0 = w2c_l4;
@@ -44366,13 +45498,13 @@ static u32 w2c_f58(Z_hidreport_instance_t* instance, u64 w2c_p0) {
   w2c_i1 = (u32)(w2c_j1);
   w2c_j1 = i64_load(&instance->w2c_memory, (u64)(w2c_i1));
   w2c_j2 = w2c_l2;
-  w2c_j3 = 24ull;
+  w2c_j3 = 40ull;
   w2c_j2 *= w2c_j3;
   w2c_j3 = w2c_l3;
-  w2c_j4 = 24ull;
+  w2c_j4 = 40ull;
   w2c_j3 *= w2c_j4;
   w2c_j4 = 4ull;
-  w2c_f142(instance, w2c_j0, w2c_j1, w2c_j2, w2c_j3, w2c_j4);
+  w2c_f144(instance, w2c_j0, w2c_j1, w2c_j2, w2c_j3, w2c_j4);
   w2c_j0 = w2c_l1;
   w2c_i0 = (u32)(w2c_j0);
   w2c_j0 = i64_load(&instance->w2c_memory, (u64)(w2c_i0) + 16u);
@@ -44389,7 +45521,7 @@ static u32 w2c_f58(Z_hidreport_instance_t* instance, u64 w2c_p0) {
   w2c_B2:;
   w2c_j0 = w2c_l1;
   w2c_j1 = w2c_l5;
-  w2c_j2 = 24ull;
+  w2c_j2 = 40ull;
   w2c_j1 *= w2c_j2;
   w2c_j2 = 4ull;
   w2c_rattle_alloc(instance, w2c_j0, w2c_j1, w2c_j2);
@@ -44479,7 +45611,7 @@ static u32 w2c_f59(Z_hidreport_instance_t* instance, u64 w2c_p0) {
   w2c_i2 = w2c_j2 < w2c_j3;
   w2c_j0 = w2c_i2 ? w2c_j0 : w2c_j1;
   w2c_l3 = w2c_j0;
-  w2c_j1 = 2305843009213693951ull;
+  w2c_j1 = 576460752303423487ull;
   w2c_i0 = w2c_j0 > w2c_j1;
   if (w2c_i0) {goto w2c_B0;}
   w2c_j0 = w2c_l4;
@@ -44492,13 +45624,13 @@ static u32 w2c_f59(Z_hidreport_instance_t* instance, u64 w2c_p0) {
   w2c_i1 = (u32)(w2c_j1);
   w2c_j1 = i64_load(&instance->w2c_memory, (u64)(w2c_i1));
   w2c_j2 = w2c_l2;
-  w2c_j3 = 2ull;
+  w2c_j3 = 4ull;
   w2c_j2 <<= (w2c_j3 & 63);
   w2c_j3 = w2c_l3;
-  w2c_j4 = 2ull;
+  w2c_j4 = 4ull;
   w2c_j3 <<= (w2c_j4 & 63);
   w2c_j4 = 4ull;
-  w2c_f142(instance, w2c_j0, w2c_j1, w2c_j2, w2c_j3, w2c_j4);
+  w2c_f144(instance, w2c_j0, w2c_j1, w2c_j2, w2c_j3, w2c_j4);
   w2c_j0 = w2c_l1;
   w2c_i0 = (u32)(w2c_j0);
   w2c_j0 = i64_load(&instance->w2c_memory, (u64)(w2c_i0) + 16u);
@@ -44515,7 +45647,7 @@ static u32 w2c_f59(Z_hidreport_instance_t* instance, u64 w2c_p0) {
   w2c_B2:;
   w2c_j0 = w2c_l1;
   w2c_j1 = w2c_l5;
-  w2c_j2 = 2ull;
+  w2c_j2 = 4ull;
   w2c_j1 <<= (w2c_j2 & 63);
   w2c_j2 = 4ull;
   w2c_rattle_alloc(instance, w2c_j0, w2c_j1, w2c_j2);
@@ -44554,7 +45686,259 @@ static u32 w2c_f59(Z_hidreport_instance_t* instance, u64 w2c_p0) {
   return w2c_i0;
 }
 
-static void w2c_f60(Z_hidreport_instance_t* instance, u64 w2c_p0, u64 w2c_p1, u64 w2c_p2, u64 w2c_p3) {
+static u32 w2c_f60(Z_hidreport_instance_t* instance, u64 w2c_p0) {
+  u32 w2c_l6 = 0;
+  u64 w2c_l1 = 0, w2c_l2 = 0, w2c_l3 = 0, w2c_l4 = 0, w2c_l5 = 0;
+  FUNC_PROLOGUE;
+  u32 w2c_i0, w2c_i1, w2c_i2;
+  u64 w2c_j0, w2c_j1, w2c_j2, w2c_j3, w2c_j4;
+  w2c_j0 = instance->w2c_g0;
+  w2c_j1 = 32ull;
+  w2c_j0 -= w2c_j1;
+  w2c_l1 = w2c_j0;
+  instance->w2c_g0 = w2c_j0;
+  w2c_i0 = 0u;
+  w2c_l6 = w2c_i0;
+  w2c_j0 = w2c_p0;
+  w2c_j1 = 8ull;
+  w2c_j0 += w2c_j1;
+  w2c_i0 = (u32)(w2c_j0);
+  w2c_j0 = i64_load(&instance->w2c_memory, (u64)(w2c_i0));
+  w2c_l2 = w2c_j0;
+  w2c_j1 = 18446744073709551615ull;
+  w2c_i0 = w2c_j0 == w2c_j1;
+  if (w2c_i0) {goto w2c_B0;}
+  w2c_j0 = w2c_l2;
+  w2c_j1 = 3ull;
+  w2c_j2 = w2c_l2;
+  w2c_j3 = 3ull;
+  w2c_i2 = w2c_j2 > w2c_j3;
+  w2c_j0 = w2c_i2 ? w2c_j0 : w2c_j1;
+  w2c_j1 = 1ull;
+  w2c_j0 += w2c_j1;
+  w2c_l3 = w2c_j0;
+  w2c_j1 = w2c_p0;
+  w2c_j2 = 16ull;
+  w2c_j1 += w2c_j2;
+  w2c_i1 = (u32)(w2c_j1);
+  w2c_j1 = i64_load(&instance->w2c_memory, (u64)(w2c_i1));
+  w2c_l4 = w2c_j1;
+  w2c_j2 = 1ull;
+  w2c_j1 <<= (w2c_j2 & 63);
+  w2c_l5 = w2c_j1;
+  w2c_j2 = w2c_l3;
+  w2c_j3 = w2c_l5;
+  w2c_i2 = w2c_j2 > w2c_j3;
+  w2c_j0 = w2c_i2 ? w2c_j0 : w2c_j1;
+  w2c_l5 = w2c_j0;
+  w2c_j1 = w2c_l3;
+  w2c_j2 = w2c_l4;
+  w2c_j3 = 4611686018427387904ull;
+  w2c_i2 = w2c_j2 < w2c_j3;
+  w2c_j0 = w2c_i2 ? w2c_j0 : w2c_j1;
+  w2c_l3 = w2c_j0;
+  w2c_j1 = 768614336404564650ull;
+  w2c_i0 = w2c_j0 > w2c_j1;
+  if (w2c_i0) {goto w2c_B0;}
+  w2c_j0 = w2c_l4;
+  w2c_i0 = !(w2c_j0);
+  if (w2c_i0) {goto w2c_B2;}
+  w2c_j0 = w2c_l1;
+  w2c_j1 = 16ull;
+  w2c_j0 += w2c_j1;
+  w2c_j1 = w2c_p0;
+  w2c_i1 = (u32)(w2c_j1);
+  w2c_j1 = i64_load(&instance->w2c_memory, (u64)(w2c_i1));
+  w2c_j2 = w2c_l2;
+  w2c_j3 = 12ull;
+  w2c_j2 *= w2c_j3;
+  w2c_j3 = w2c_l3;
+  w2c_j4 = 12ull;
+  w2c_j3 *= w2c_j4;
+  w2c_j4 = 4ull;
+  w2c_f144(instance, w2c_j0, w2c_j1, w2c_j2, w2c_j3, w2c_j4);
+  w2c_j0 = w2c_l1;
+  w2c_i0 = (u32)(w2c_j0);
+  w2c_j0 = i64_load(&instance->w2c_memory, (u64)(w2c_i0) + 16u);
+  w2c_i0 = (u32)(w2c_j0);
+  w2c_i1 = 1u;
+  w2c_i0 &= w2c_i1;
+  w2c_i0 = !(w2c_i0);
+  if (w2c_i0) {goto w2c_B0;}
+  w2c_j0 = w2c_l1;
+  w2c_i0 = (u32)(w2c_j0);
+  w2c_j0 = i64_load(&instance->w2c_memory, (u64)(w2c_i0) + 24u);
+  w2c_l2 = w2c_j0;
+  goto w2c_B1;
+  w2c_B2:;
+  w2c_j0 = w2c_l1;
+  w2c_j1 = w2c_l5;
+  w2c_j2 = 12ull;
+  w2c_j1 *= w2c_j2;
+  w2c_j2 = 4ull;
+  w2c_rattle_alloc(instance, w2c_j0, w2c_j1, w2c_j2);
+  w2c_j0 = w2c_l1;
+  w2c_i0 = (u32)(w2c_j0);
+  w2c_j0 = i64_load(&instance->w2c_memory, (u64)(w2c_i0));
+  w2c_i0 = (u32)(w2c_j0);
+  w2c_i1 = 1u;
+  w2c_i0 &= w2c_i1;
+  w2c_i0 = !(w2c_i0);
+  if (w2c_i0) {goto w2c_B0;}
+  w2c_j0 = w2c_l1;
+  w2c_i0 = (u32)(w2c_j0);
+  w2c_j0 = i64_load(&instance->w2c_memory, (u64)(w2c_i0) + 8u);
+  w2c_l2 = w2c_j0;
+  w2c_B1:;
+  w2c_j0 = w2c_p0;
+  w2c_j1 = 16ull;
+  w2c_j0 += w2c_j1;
+  w2c_i0 = (u32)(w2c_j0);
+  w2c_j1 = w2c_l3;
+  i64_store(&instance->w2c_memory, (u64)(w2c_i0), w2c_j1);
+  w2c_j0 = w2c_p0;
+  w2c_i0 = (u32)(w2c_j0);
+  w2c_j1 = w2c_l2;
+  i64_store(&instance->w2c_memory, (u64)(w2c_i0), w2c_j1);
+  w2c_i0 = 1u;
+  w2c_l6 = w2c_i0;
+  w2c_B0:;
+  w2c_j0 = w2c_l1;
+  w2c_j1 = 32ull;
+  w2c_j0 += w2c_j1;
+  instance->w2c_g0 = w2c_j0;
+  w2c_i0 = w2c_l6;
+  FUNC_EPILOGUE;
+  return w2c_i0;
+}
+
+static u32 w2c_f61(Z_hidreport_instance_t* instance, u64 w2c_p0) {
+  u32 w2c_l6 = 0;
+  u64 w2c_l1 = 0, w2c_l2 = 0, w2c_l3 = 0, w2c_l4 = 0, w2c_l5 = 0;
+  FUNC_PROLOGUE;
+  u32 w2c_i0, w2c_i1, w2c_i2;
+  u64 w2c_j0, w2c_j1, w2c_j2, w2c_j3, w2c_j4;
+  w2c_j0 = instance->w2c_g0;
+  w2c_j1 = 32ull;
+  w2c_j0 -= w2c_j1;
+  w2c_l1 = w2c_j0;
+  instance->w2c_g0 = w2c_j0;
+  w2c_i0 = 0u;
+  w2c_l6 = w2c_i0;
+  w2c_j0 = w2c_p0;
+  w2c_j1 = 8ull;
+  w2c_j0 += w2c_j1;
+  w2c_i0 = (u32)(w2c_j0);
+  w2c_j0 = i64_load(&instance->w2c_memory, (u64)(w2c_i0));
+  w2c_l2 = w2c_j0;
+  w2c_j1 = 18446744073709551615ull;
+  w2c_i0 = w2c_j0 == w2c_j1;
+  if (w2c_i0) {goto w2c_B0;}
+  w2c_j0 = w2c_l2;
+  w2c_j1 = 3ull;
+  w2c_j2 = w2c_l2;
+  w2c_j3 = 3ull;
+  w2c_i2 = w2c_j2 > w2c_j3;
+  w2c_j0 = w2c_i2 ? w2c_j0 : w2c_j1;
+  w2c_j1 = 1ull;
+  w2c_j0 += w2c_j1;
+  w2c_l3 = w2c_j0;
+  w2c_j1 = w2c_p0;
+  w2c_j2 = 16ull;
+  w2c_j1 += w2c_j2;
+  w2c_i1 = (u32)(w2c_j1);
+  w2c_j1 = i64_load(&instance->w2c_memory, (u64)(w2c_i1));
+  w2c_l4 = w2c_j1;
+  w2c_j2 = 1ull;
+  w2c_j1 <<= (w2c_j2 & 63);
+  w2c_l5 = w2c_j1;
+  w2c_j2 = w2c_l3;
+  w2c_j3 = w2c_l5;
+  w2c_i2 = w2c_j2 > w2c_j3;
+  w2c_j0 = w2c_i2 ? w2c_j0 : w2c_j1;
+  w2c_l5 = w2c_j0;
+  w2c_j1 = w2c_l3;
+  w2c_j2 = w2c_l4;
+  w2c_j3 = 4611686018427387904ull;
+  w2c_i2 = w2c_j2 < w2c_j3;
+  w2c_j0 = w2c_i2 ? w2c_j0 : w2c_j1;
+  w2c_l3 = w2c_j0;
+  w2c_j1 = 88686269585142075ull;
+  w2c_i0 = w2c_j0 > w2c_j1;
+  if (w2c_i0) {goto w2c_B0;}
+  w2c_j0 = w2c_l4;
+  w2c_i0 = !(w2c_j0);
+  if (w2c_i0) {goto w2c_B2;}
+  w2c_j0 = w2c_l1;
+  w2c_j1 = 16ull;
+  w2c_j0 += w2c_j1;
+  w2c_j1 = w2c_p0;
+  w2c_i1 = (u32)(w2c_j1);
+  w2c_j1 = i64_load(&instance->w2c_memory, (u64)(w2c_i1));
+  w2c_j2 = w2c_l2;
+  w2c_j3 = 104ull;
+  w2c_j2 *= w2c_j3;
+  w2c_j3 = w2c_l3;
+  w2c_j4 = 104ull;
+  w2c_j3 *= w2c_j4;
+  w2c_j4 = 8ull;
+  w2c_f144(instance, w2c_j0, w2c_j1, w2c_j2, w2c_j3, w2c_j4);
+  w2c_j0 = w2c_l1;
+  w2c_i0 = (u32)(w2c_j0);
+  w2c_j0 = i64_load(&instance->w2c_memory, (u64)(w2c_i0) + 16u);
+  w2c_i0 = (u32)(w2c_j0);
+  w2c_i1 = 1u;
+  w2c_i0 &= w2c_i1;
+  w2c_i0 = !(w2c_i0);
+  if (w2c_i0) {goto w2c_B0;}
+  w2c_j0 = w2c_l1;
+  w2c_i0 = (u32)(w2c_j0);
+  w2c_j0 = i64_load(&instance->w2c_memory, (u64)(w2c_i0) + 24u);
+  w2c_l2 = w2c_j0;
+  goto w2c_B1;
+  w2c_B2:;
+  w2c_j0 = w2c_l1;
+  w2c_j1 = w2c_l5;
+  w2c_j2 = 104ull;
+  w2c_j1 *= w2c_j2;
+  w2c_j2 = 8ull;
+  w2c_rattle_alloc(instance, w2c_j0, w2c_j1, w2c_j2);
+  w2c_j0 = w2c_l1;
+  w2c_i0 = (u32)(w2c_j0);
+  w2c_j0 = i64_load(&instance->w2c_memory, (u64)(w2c_i0));
+  w2c_i0 = (u32)(w2c_j0);
+  w2c_i1 = 1u;
+  w2c_i0 &= w2c_i1;
+  w2c_i0 = !(w2c_i0);
+  if (w2c_i0) {goto w2c_B0;}
+  w2c_j0 = w2c_l1;
+  w2c_i0 = (u32)(w2c_j0);
+  w2c_j0 = i64_load(&instance->w2c_memory, (u64)(w2c_i0) + 8u);
+  w2c_l2 = w2c_j0;
+  w2c_B1:;
+  w2c_j0 = w2c_p0;
+  w2c_j1 = 16ull;
+  w2c_j0 += w2c_j1;
+  w2c_i0 = (u32)(w2c_j0);
+  w2c_j1 = w2c_l3;
+  i64_store(&instance->w2c_memory, (u64)(w2c_i0), w2c_j1);
+  w2c_j0 = w2c_p0;
+  w2c_i0 = (u32)(w2c_j0);
+  w2c_j1 = w2c_l2;
+  i64_store(&instance->w2c_memory, (u64)(w2c_i0), w2c_j1);
+  w2c_i0 = 1u;
+  w2c_l6 = w2c_i0;
+  w2c_B0:;
+  w2c_j0 = w2c_l1;
+  w2c_j1 = 32ull;
+  w2c_j0 += w2c_j1;
+  instance->w2c_g0 = w2c_j0;
+  w2c_i0 = w2c_l6;
+  FUNC_EPILOGUE;
+  return w2c_i0;
+}
+
+static void w2c_f62(Z_hidreport_instance_t* instance, u64 w2c_p0, u64 w2c_p1, u64 w2c_p2, u64 w2c_p3) {
   u32 w2c_l29 = 0, w2c_l30 = 0, w2c_l31 = 0, w2c_l32 = 0, w2c_l33 = 0, w2c_l34 = 0, w2c_l35 = 0, w2c_l36 = 0, 
       w2c_l37 = 0, w2c_l38 = 0, w2c_l39 = 0;
   u64 w2c_l4 = 0, w2c_l5 = 0, w2c_l6 = 0, w2c_l7 = 0, w2c_l8 = 0, w2c_l9 = 0, w2c_l10 = 0, w2c_l11 = 0, 
@@ -45550,7 +46934,7 @@ static void w2c_f60(Z_hidreport_instance_t* instance, u64 w2c_p0, u64 w2c_p1, u6
     w2c_j0 = w2c_l4;
     w2c_j1 = 1096ull;
     w2c_j0 += w2c_j1;
-    w2c_i0 = w2c_f61(instance, w2c_j0);
+    w2c_i0 = w2c_f63(instance, w2c_j0);
     w2c_i0 = !(w2c_i0);
     if (w2c_i0) {goto w2c_B37;}
     w2c_j0 = w2c_l4;
@@ -49766,7 +51150,7 @@ static void w2c_f60(Z_hidreport_instance_t* instance, u64 w2c_p0, u64 w2c_p1, u6
     w2c_j0 = w2c_l4;
     w2c_j1 = 592ull;
     w2c_j0 += w2c_j1;
-    w2c_i0 = w2c_f62(instance, w2c_j0);
+    w2c_i0 = w2c_f64(instance, w2c_j0);
     w2c_i0 = !(w2c_i0);
     if (w2c_i0) {goto w2c_B155;}
     w2c_j0 = w2c_l4;
@@ -50350,7 +51734,7 @@ static void w2c_f60(Z_hidreport_instance_t* instance, u64 w2c_p0, u64 w2c_p1, u6
   FUNC_EPILOGUE;
 }
 
-static u32 w2c_f61(Z_hidreport_instance_t* instance, u64 w2c_p0) {
+static u32 w2c_f63(Z_hidreport_instance_t* instance, u64 w2c_p0) {
   u32 w2c_l6 = 0;
   u64 w2c_l1 = 0, w2c_l2 = 0, w2c_l3 = 0, w2c_l4 = 0, w2c_l5 = 0;
   FUNC_PROLOGUE;
@@ -50420,7 +51804,7 @@ static u32 w2c_f61(Z_hidreport_instance_t* instance, u64 w2c_p0) {
   w2c_j4 = 80ull;
   w2c_j3 *= w2c_j4;
   w2c_j4 = 8ull;
-  w2c_f142(instance, w2c_j0, w2c_j1, w2c_j2, w2c_j3, w2c_j4);
+  w2c_f144(instance, w2c_j0, w2c_j1, w2c_j2, w2c_j3, w2c_j4);
   w2c_j0 = w2c_l1;
   w2c_i0 = (u32)(w2c_j0);
   w2c_j0 = i64_load(&instance->w2c_memory, (u64)(w2c_i0) + 16u);
@@ -50476,7 +51860,7 @@ static u32 w2c_f61(Z_hidreport_instance_t* instance, u64 w2c_p0) {
   return w2c_i0;
 }
 
-static u32 w2c_f62(Z_hidreport_instance_t* instance, u64 w2c_p0) {
+static u32 w2c_f64(Z_hidreport_instance_t* instance, u64 w2c_p0) {
   u32 w2c_l6 = 0;
   u64 w2c_l1 = 0, w2c_l2 = 0, w2c_l3 = 0, w2c_l4 = 0, w2c_l5 = 0;
   FUNC_PROLOGUE;
@@ -50546,7 +51930,7 @@ static u32 w2c_f62(Z_hidreport_instance_t* instance, u64 w2c_p0) {
   w2c_j4 = 6ull;
   w2c_j3 <<= (w2c_j4 & 63);
   w2c_j4 = 8ull;
-  w2c_f142(instance, w2c_j0, w2c_j1, w2c_j2, w2c_j3, w2c_j4);
+  w2c_f144(instance, w2c_j0, w2c_j1, w2c_j2, w2c_j3, w2c_j4);
   w2c_j0 = w2c_l1;
   w2c_i0 = (u32)(w2c_j0);
   w2c_j0 = i64_load(&instance->w2c_memory, (u64)(w2c_i0) + 16u);
@@ -50602,7 +51986,7 @@ static u32 w2c_f62(Z_hidreport_instance_t* instance, u64 w2c_p0) {
   return w2c_i0;
 }
 
-static void w2c_f63(Z_hidreport_instance_t* instance, u64 w2c_p0, u64 w2c_p1, u64 w2c_p2) {
+static void w2c_f65(Z_hidreport_instance_t* instance, u64 w2c_p0, u64 w2c_p1, u64 w2c_p2) {
   u32 w2c_l20 = 0, w2c_l21 = 0, w2c_l22 = 0, w2c_l23 = 0, w2c_l24 = 0;
   u64 w2c_l3 = 0, w2c_l4 = 0, w2c_l5 = 0, w2c_l6 = 0, w2c_l7 = 0, w2c_l8 = 0, w2c_l9 = 0, w2c_l10 = 0, 
       w2c_l11 = 0, w2c_l12 = 0, w2c_l13 = 0, w2c_l14 = 0, w2c_l15 = 0, w2c_l16 = 0, w2c_l17 = 0, w2c_l18 = 0, 
@@ -51074,7 +52458,7 @@ static void w2c_f63(Z_hidreport_instance_t* instance, u64 w2c_p0, u64 w2c_p1, u6
       w2c_j1 = 112ull;
       w2c_j0 += w2c_j1;
       w2c_j1 = 1ull;
-      w2c_i0 = w2c_f65(instance, w2c_j0, w2c_j1);
+      w2c_i0 = w2c_f67(instance, w2c_j0, w2c_j1);
       w2c_i0 = !(w2c_i0);
       if (w2c_i0) {goto w2c_B19;}
       w2c_j0 = w2c_l3;
@@ -51157,7 +52541,7 @@ static void w2c_f63(Z_hidreport_instance_t* instance, u64 w2c_p0, u64 w2c_p1, u6
       w2c_j2 = w2c_l3;
       w2c_j3 = 112ull;
       w2c_j2 += w2c_j3;
-      w2c_i0 = w2c_f66(instance, w2c_j0, w2c_j1, w2c_j2);
+      w2c_i0 = w2c_f68(instance, w2c_j0, w2c_j1, w2c_j2);
       w2c_i1 = 255u;
       w2c_i0 &= w2c_i1;
       if (w2c_i0) {goto w2c_B19;}
@@ -51170,7 +52554,7 @@ static void w2c_f63(Z_hidreport_instance_t* instance, u64 w2c_p0, u64 w2c_p1, u6
       w2c_j2 = w2c_l3;
       w2c_j3 = 184ull;
       w2c_j2 += w2c_j3;
-      w2c_f67(instance, w2c_j0, w2c_j1, w2c_j2);
+      w2c_f69(instance, w2c_j0, w2c_j1, w2c_j2);
       w2c_j0 = w2c_l3;
       w2c_i0 = (u32)(w2c_j0);
       w2c_i0 = i32_load8_u(&instance->w2c_memory, (u64)(w2c_i0) + 336u);
@@ -51192,7 +52576,7 @@ static void w2c_f63(Z_hidreport_instance_t* instance, u64 w2c_p0, u64 w2c_p1, u6
       w2c_j1 = 112ull;
       w2c_j0 += w2c_j1;
       w2c_j1 = 1ull;
-      w2c_i0 = w2c_f65(instance, w2c_j0, w2c_j1);
+      w2c_i0 = w2c_f67(instance, w2c_j0, w2c_j1);
       w2c_i0 = !(w2c_i0);
       if (w2c_i0) {goto w2c_B27;}
       w2c_j0 = w2c_l3;
@@ -51245,7 +52629,7 @@ static void w2c_f63(Z_hidreport_instance_t* instance, u64 w2c_p0, u64 w2c_p1, u6
       w2c_j0 = w2c_l3;
       w2c_j1 = 208ull;
       w2c_j0 += w2c_j1;
-      w2c_f68(instance, w2c_j0);
+      w2c_f70(instance, w2c_j0);
       goto w2c_B19;
       w2c_B25:;
       w2c_j0 = w2c_l3;
@@ -51335,7 +52719,7 @@ static void w2c_f63(Z_hidreport_instance_t* instance, u64 w2c_p0, u64 w2c_p1, u6
       w2c_j1 = 112ull;
       w2c_j0 += w2c_j1;
       w2c_j1 = 1ull;
-      w2c_i0 = w2c_f65(instance, w2c_j0, w2c_j1);
+      w2c_i0 = w2c_f67(instance, w2c_j0, w2c_j1);
       w2c_i0 = !(w2c_i0);
       if (w2c_i0) {goto w2c_B19;}
       w2c_j0 = w2c_l3;
@@ -51417,7 +52801,7 @@ static void w2c_f63(Z_hidreport_instance_t* instance, u64 w2c_p0, u64 w2c_p1, u6
       w2c_j2 = w2c_l3;
       w2c_j3 = 160ull;
       w2c_j2 += w2c_j3;
-      w2c_f67(instance, w2c_j0, w2c_j1, w2c_j2);
+      w2c_f69(instance, w2c_j0, w2c_j1, w2c_j2);
       w2c_j0 = w2c_l3;
       w2c_i0 = (u32)(w2c_j0);
       w2c_i0 = i32_load8_u(&instance->w2c_memory, (u64)(w2c_i0) + 336u);
@@ -51439,7 +52823,7 @@ static void w2c_f63(Z_hidreport_instance_t* instance, u64 w2c_p0, u64 w2c_p1, u6
       w2c_j1 = 112ull;
       w2c_j0 += w2c_j1;
       w2c_j1 = 1ull;
-      w2c_i0 = w2c_f65(instance, w2c_j0, w2c_j1);
+      w2c_i0 = w2c_f67(instance, w2c_j0, w2c_j1);
       w2c_i0 = !(w2c_i0);
       if (w2c_i0) {goto w2c_B23;}
       w2c_j0 = w2c_l3;
@@ -51555,7 +52939,7 @@ static void w2c_f63(Z_hidreport_instance_t* instance, u64 w2c_p0, u64 w2c_p1, u6
       w2c_j1 = 112ull;
       w2c_j0 += w2c_j1;
       w2c_j1 = 1ull;
-      w2c_i0 = w2c_f65(instance, w2c_j0, w2c_j1);
+      w2c_i0 = w2c_f67(instance, w2c_j0, w2c_j1);
       w2c_i0 = !(w2c_i0);
       if (w2c_i0) {goto w2c_B19;}
       w2c_j0 = w2c_l3;
@@ -51637,7 +53021,7 @@ static void w2c_f63(Z_hidreport_instance_t* instance, u64 w2c_p0, u64 w2c_p1, u6
       w2c_j2 = w2c_l3;
       w2c_j3 = 136ull;
       w2c_j2 += w2c_j3;
-      w2c_f67(instance, w2c_j0, w2c_j1, w2c_j2);
+      w2c_f69(instance, w2c_j0, w2c_j1, w2c_j2);
       w2c_j0 = w2c_l3;
       w2c_i0 = (u32)(w2c_j0);
       w2c_i0 = i32_load8_u(&instance->w2c_memory, (u64)(w2c_i0) + 336u);
@@ -51659,7 +53043,7 @@ static void w2c_f63(Z_hidreport_instance_t* instance, u64 w2c_p0, u64 w2c_p1, u6
       w2c_j1 = 112ull;
       w2c_j0 += w2c_j1;
       w2c_j1 = 1ull;
-      w2c_i0 = w2c_f65(instance, w2c_j0, w2c_j1);
+      w2c_i0 = w2c_f67(instance, w2c_j0, w2c_j1);
       w2c_i0 = !(w2c_i0);
       if (w2c_i0) {goto w2c_B38;}
       w2c_j0 = w2c_l3;
@@ -51712,7 +53096,7 @@ static void w2c_f63(Z_hidreport_instance_t* instance, u64 w2c_p0, u64 w2c_p1, u6
       w2c_j0 = w2c_l3;
       w2c_j1 = 208ull;
       w2c_j0 += w2c_j1;
-      w2c_f68(instance, w2c_j0);
+      w2c_f70(instance, w2c_j0);
       goto w2c_B19;
       w2c_B37:;
       w2c_j0 = w2c_l13;
@@ -51722,7 +53106,7 @@ static void w2c_f63(Z_hidreport_instance_t* instance, u64 w2c_p0, u64 w2c_p1, u6
       w2c_j2 = w2c_l3;
       w2c_j3 = 112ull;
       w2c_j2 += w2c_j3;
-      w2c_i0 = w2c_f66(instance, w2c_j0, w2c_j1, w2c_j2);
+      w2c_i0 = w2c_f68(instance, w2c_j0, w2c_j1, w2c_j2);
       w2c_i1 = 255u;
       w2c_i0 &= w2c_i1;
       w2c_i0 = !(w2c_i0);
@@ -51745,7 +53129,7 @@ static void w2c_f63(Z_hidreport_instance_t* instance, u64 w2c_p0, u64 w2c_p1, u6
       w2c_j0 = w2c_l3;
       w2c_j1 = 208ull;
       w2c_j0 += w2c_j1;
-      w2c_f68(instance, w2c_j0);
+      w2c_f70(instance, w2c_j0);
       goto w2c_B19;
       w2c_B22:;
       w2c_j0 = w2c_l13;
@@ -51755,7 +53139,7 @@ static void w2c_f63(Z_hidreport_instance_t* instance, u64 w2c_p0, u64 w2c_p1, u6
       w2c_j2 = w2c_l3;
       w2c_j3 = 112ull;
       w2c_j2 += w2c_j3;
-      w2c_i0 = w2c_f66(instance, w2c_j0, w2c_j1, w2c_j2);
+      w2c_i0 = w2c_f68(instance, w2c_j0, w2c_j1, w2c_j2);
       w2c_i1 = 255u;
       w2c_i0 &= w2c_i1;
       if (w2c_i0) {goto w2c_B19;}
@@ -51865,7 +53249,7 @@ static void w2c_f63(Z_hidreport_instance_t* instance, u64 w2c_p0, u64 w2c_p1, u6
     w2c_j0 = w2c_l3;
     w2c_j1 = 32ull;
     w2c_j0 += w2c_j1;
-    w2c_f64(instance, w2c_j0);
+    w2c_f66(instance, w2c_j0);
     w2c_j0 = w2c_p0;
     w2c_j1 = 8ull;
     w2c_j0 += w2c_j1;
@@ -52044,7 +53428,7 @@ static void w2c_f63(Z_hidreport_instance_t* instance, u64 w2c_p0, u64 w2c_p1, u6
   FUNC_EPILOGUE;
 }
 
-static void w2c_f64(Z_hidreport_instance_t* instance, u64 w2c_p0) {
+static void w2c_f66(Z_hidreport_instance_t* instance, u64 w2c_p0) {
   u64 w2c_l1 = 0, w2c_l2 = 0, w2c_l3 = 0, w2c_l4 = 0, w2c_l5 = 0, w2c_l6 = 0, w2c_l7 = 0, w2c_l8 = 0, 
       w2c_l9 = 0, w2c_l10 = 0, w2c_l11 = 0, w2c_l12 = 0, w2c_l13 = 0, w2c_l14 = 0;
   FUNC_PROLOGUE;
@@ -52371,7 +53755,7 @@ static void w2c_f64(Z_hidreport_instance_t* instance, u64 w2c_p0) {
   FUNC_EPILOGUE;
 }
 
-static u32 w2c_f65(Z_hidreport_instance_t* instance, u64 w2c_p0, u64 w2c_p1) {
+static u32 w2c_f67(Z_hidreport_instance_t* instance, u64 w2c_p0, u64 w2c_p1) {
   u32 w2c_l6 = 0;
   u64 w2c_l2 = 0, w2c_l3 = 0, w2c_l4 = 0, w2c_l5 = 0;
   FUNC_PROLOGUE;
@@ -52444,7 +53828,7 @@ static u32 w2c_f65(Z_hidreport_instance_t* instance, u64 w2c_p0, u64 w2c_p1) {
   w2c_j4 = 7ull;
   w2c_j3 <<= (w2c_j4 & 63);
   w2c_j4 = 8ull;
-  w2c_f142(instance, w2c_j0, w2c_j1, w2c_j2, w2c_j3, w2c_j4);
+  w2c_f144(instance, w2c_j0, w2c_j1, w2c_j2, w2c_j3, w2c_j4);
   w2c_j0 = w2c_l2;
   w2c_i0 = (u32)(w2c_j0);
   w2c_j0 = i64_load(&instance->w2c_memory, (u64)(w2c_i0) + 16u);
@@ -52500,7 +53884,7 @@ static u32 w2c_f65(Z_hidreport_instance_t* instance, u64 w2c_p0, u64 w2c_p1) {
   return w2c_i0;
 }
 
-static u32 w2c_f66(Z_hidreport_instance_t* instance, u64 w2c_p0, u64 w2c_p1, u64 w2c_p2) {
+static u32 w2c_f68(Z_hidreport_instance_t* instance, u64 w2c_p0, u64 w2c_p1, u64 w2c_p2) {
   u32 w2c_l25 = 0, w2c_l26 = 0, w2c_l27 = 0, w2c_l28 = 0, w2c_l29 = 0, w2c_l30 = 0, w2c_l31 = 0, w2c_l32 = 0, 
       w2c_l33 = 0, w2c_l34 = 0, w2c_l35 = 0, w2c_l36 = 0, w2c_l37 = 0, w2c_l38 = 0, w2c_l39 = 0;
   u64 w2c_l3 = 0, w2c_l4 = 0, w2c_l5 = 0, w2c_l6 = 0, w2c_l7 = 0, w2c_l8 = 0, w2c_l9 = 0, w2c_l10 = 0, 
@@ -52619,7 +54003,7 @@ static u32 w2c_f66(Z_hidreport_instance_t* instance, u64 w2c_p0, u64 w2c_p1, u64
   if (w2c_i0) {goto w2c_B5;}
   w2c_j0 = w2c_p2;
   w2c_j1 = w2c_l4;
-  w2c_i0 = w2c_f65(instance, w2c_j0, w2c_j1);
+  w2c_i0 = w2c_f67(instance, w2c_j0, w2c_j1);
   w2c_i0 = !(w2c_i0);
   if (w2c_i0) {goto w2c_B4;}
   w2c_j0 = w2c_p0;
@@ -53299,7 +54683,7 @@ static u32 w2c_f66(Z_hidreport_instance_t* instance, u64 w2c_p0, u64 w2c_p1, u64
   return w2c_i0;
 }
 
-static void w2c_f67(Z_hidreport_instance_t* instance, u64 w2c_p0, u64 w2c_p1, u64 w2c_p2) {
+static void w2c_f69(Z_hidreport_instance_t* instance, u64 w2c_p0, u64 w2c_p1, u64 w2c_p2) {
   u32 w2c_l12 = 0, w2c_l13 = 0, w2c_l14 = 0, w2c_l15 = 0, w2c_l16 = 0, w2c_l17 = 0, w2c_l18 = 0, w2c_l19 = 0, 
       w2c_l20 = 0, w2c_l21 = 0, w2c_l22 = 0;
   u64 w2c_l3 = 0, w2c_l4 = 0, w2c_l5 = 0, w2c_l6 = 0, w2c_l7 = 0, w2c_l8 = 0, w2c_l9 = 0, w2c_l10 = 0, 
@@ -53776,7 +55160,7 @@ static void w2c_f67(Z_hidreport_instance_t* instance, u64 w2c_p0, u64 w2c_p1, u6
   FUNC_EPILOGUE;
 }
 
-static void w2c_f68(Z_hidreport_instance_t* instance, u64 w2c_p0) {
+static void w2c_f70(Z_hidreport_instance_t* instance, u64 w2c_p0) {
   u64 w2c_l1 = 0;
   FUNC_PROLOGUE;
   u32 w2c_i0;
@@ -53826,7 +55210,7 @@ static void w2c_f68(Z_hidreport_instance_t* instance, u64 w2c_p0) {
   FUNC_EPILOGUE;
 }
 
-static void w2c_f69(Z_hidreport_instance_t* instance, u64 w2c_p0) {
+static void w2c_f71(Z_hidreport_instance_t* instance, u64 w2c_p0) {
   u64 w2c_l1 = 0, w2c_l2 = 0, w2c_l3 = 0, w2c_l4 = 0, w2c_l5 = 0, w2c_l6 = 0;
   FUNC_PROLOGUE;
   u32 w2c_i0, w2c_i1;
@@ -53935,7 +55319,7 @@ static void w2c_f69(Z_hidreport_instance_t* instance, u64 w2c_p0) {
   FUNC_EPILOGUE;
 }
 
-static u32 w2c_f70(Z_hidreport_instance_t* instance, u64 w2c_p0, u64 w2c_p1, u64 w2c_p2, u64 w2c_p3) {
+static u32 w2c_f72(Z_hidreport_instance_t* instance, u64 w2c_p0, u64 w2c_p1, u64 w2c_p2, u64 w2c_p3) {
   u32 w2c_l4 = 0, w2c_l5 = 0, w2c_l6 = 0, w2c_l7 = 0, w2c_l8 = 0, w2c_l9 = 0, w2c_l10 = 0, w2c_l11 = 0, 
       w2c_l12 = 0, w2c_l13 = 0, w2c_l14 = 0, w2c_l15 = 0, w2c_l16 = 0;
   u64 w2c_l17 = 0, w2c_l18 = 0, w2c_l19 = 0, w2c_l20 = 0, w2c_l21 = 0, w2c_l22 = 0, w2c_l23 = 0, w2c_l24 = 0, 
@@ -54843,7 +56227,7 @@ static u32 w2c_f70(Z_hidreport_instance_t* instance, u64 w2c_p0, u64 w2c_p1, u64
         w2c_j0 = w2c_l27;
         w2c_j1 = w2c_l29;
         w2c_j2 = w2c_p3;
-        w2c_i0 = w2c_f71(instance, w2c_j0, w2c_j1, w2c_j2);
+        w2c_i0 = w2c_f73(instance, w2c_j0, w2c_j1, w2c_j2);
         if (w2c_i0) {goto w2c_B60;}
         w2c_i0 = 0u;
         goto w2c_Bfunc;
@@ -55122,7 +56506,7 @@ static u32 w2c_f70(Z_hidreport_instance_t* instance, u64 w2c_p0, u64 w2c_p1, u64
       w2c_j0 = w2c_l27;
       w2c_j1 = w2c_l26;
       w2c_j2 = w2c_l29;
-      w2c_i0 = w2c_f71(instance, w2c_j0, w2c_j1, w2c_j2);
+      w2c_i0 = w2c_f73(instance, w2c_j0, w2c_j1, w2c_j2);
       if (w2c_i0) {goto w2c_B77;}
       w2c_i0 = 0u;
       goto w2c_Bfunc;
@@ -55784,7 +57168,7 @@ static u32 w2c_f70(Z_hidreport_instance_t* instance, u64 w2c_p0, u64 w2c_p1, u64
         w2c_j0 = w2c_l27;
         w2c_j1 = w2c_l29;
         w2c_j2 = w2c_p3;
-        w2c_i0 = w2c_f71(instance, w2c_j0, w2c_j1, w2c_j2);
+        w2c_i0 = w2c_f73(instance, w2c_j0, w2c_j1, w2c_j2);
         if (w2c_i0) {goto w2c_B118;}
         w2c_i0 = 0u;
         goto w2c_Bfunc;
@@ -55825,7 +57209,7 @@ static u32 w2c_f70(Z_hidreport_instance_t* instance, u64 w2c_p0, u64 w2c_p1, u64
   return w2c_i0;
 }
 
-static u32 w2c_f71(Z_hidreport_instance_t* instance, u64 w2c_p0, u64 w2c_p1, u64 w2c_p2) {
+static u32 w2c_f73(Z_hidreport_instance_t* instance, u64 w2c_p0, u64 w2c_p1, u64 w2c_p2) {
   u32 w2c_l3 = 0, w2c_l4 = 0, w2c_l5 = 0, w2c_l6 = 0, w2c_l7 = 0, w2c_l8 = 0, w2c_l9 = 0, w2c_l10 = 0, 
       w2c_l11 = 0, w2c_l12 = 0, w2c_l13 = 0, w2c_l14 = 0, w2c_l15 = 0, w2c_l16 = 0, w2c_l17 = 0;
   u64 w2c_l18 = 0, w2c_l19 = 0, w2c_l20 = 0, w2c_l21 = 0, w2c_l22 = 0, w2c_l23 = 0;
@@ -57774,7 +59158,7 @@ static u32 w2c_f71(Z_hidreport_instance_t* instance, u64 w2c_p0, u64 w2c_p1, u64
   return w2c_i0;
 }
 
-static void w2c_f72(Z_hidreport_instance_t* instance, u64 w2c_p0) {
+static void w2c_f74(Z_hidreport_instance_t* instance, u64 w2c_p0) {
   u64 w2c_l1 = 0, w2c_l2 = 0, w2c_l3 = 0, w2c_l4 = 0, w2c_l5 = 0, w2c_l6 = 0, w2c_l7 = 0, w2c_l8 = 0, 
       w2c_l9 = 0, w2c_l10 = 0, w2c_l11 = 0, w2c_l12 = 0, w2c_l13 = 0, w2c_l14 = 0;
   FUNC_PROLOGUE;
@@ -58101,7 +59485,7 @@ static void w2c_f72(Z_hidreport_instance_t* instance, u64 w2c_p0) {
   FUNC_EPILOGUE;
 }
 
-static void w2c_f73(Z_hidreport_instance_t* instance, u64 w2c_p0, u64 w2c_p1, u64 w2c_p2, u64 w2c_p3, u64 w2c_p4) {
+static void w2c_f75(Z_hidreport_instance_t* instance, u64 w2c_p0, u64 w2c_p1, u64 w2c_p2, u64 w2c_p3, u64 w2c_p4) {
   u32 w2c_l5 = 0;
   u64 w2c_l6 = 0, w2c_l7 = 0, w2c_l8 = 0, w2c_l9 = 0, w2c_l10 = 0, w2c_l11 = 0, w2c_l12 = 0, w2c_l13 = 0, 
       w2c_l14 = 0, w2c_l15 = 0, w2c_l16 = 0, w2c_l17 = 0, w2c_l18 = 0, w2c_l19 = 0, w2c_l20 = 0, w2c_l21 = 0, 
@@ -58470,7 +59854,7 @@ static void w2c_f73(Z_hidreport_instance_t* instance, u64 w2c_p0, u64 w2c_p1, u6
   FUNC_EPILOGUE;
 }
 
-static void w2c_f74(Z_hidreport_instance_t* instance, u64 w2c_p0, u64 w2c_p1, u64 w2c_p2, u64 w2c_p3, u64 w2c_p4) {
+static void w2c_f76(Z_hidreport_instance_t* instance, u64 w2c_p0, u64 w2c_p1, u64 w2c_p2, u64 w2c_p3, u64 w2c_p4) {
   u32 w2c_l5 = 0, w2c_l6 = 0, w2c_l7 = 0, w2c_l8 = 0;
   u64 w2c_l9 = 0, w2c_l10 = 0, w2c_l11 = 0, w2c_l12 = 0, w2c_l13 = 0, w2c_l14 = 0, w2c_l15 = 0, w2c_l16 = 0, 
       w2c_l17 = 0, w2c_l18 = 0, w2c_l19 = 0, w2c_l20 = 0, w2c_l21 = 0, w2c_l22 = 0, w2c_l23 = 0;
@@ -58802,7 +60186,7 @@ static void w2c_f74(Z_hidreport_instance_t* instance, u64 w2c_p0, u64 w2c_p1, u6
   FUNC_EPILOGUE;
 }
 
-static void w2c_f75(Z_hidreport_instance_t* instance, u64 w2c_p0, u64 w2c_p1, u64 w2c_p2, u64 w2c_p3, u64 w2c_p4) {
+static void w2c_f77(Z_hidreport_instance_t* instance, u64 w2c_p0, u64 w2c_p1, u64 w2c_p2, u64 w2c_p3, u64 w2c_p4) {
   u32 w2c_l23 = 0;
   u64 w2c_l5 = 0, w2c_l6 = 0, w2c_l7 = 0, w2c_l8 = 0, w2c_l9 = 0, w2c_l10 = 0, w2c_l11 = 0, w2c_l12 = 0, 
       w2c_l13 = 0, w2c_l14 = 0, w2c_l15 = 0, w2c_l16 = 0, w2c_l17 = 0, w2c_l18 = 0, w2c_l19 = 0, w2c_l20 = 0, 
@@ -59218,7 +60602,7 @@ static void w2c_f75(Z_hidreport_instance_t* instance, u64 w2c_p0, u64 w2c_p1, u6
   FUNC_EPILOGUE;
 }
 
-static void w2c_f76(Z_hidreport_instance_t* instance, u64 w2c_p0, u64 w2c_p1, u32 w2c_p2, u64 w2c_p3, u64 w2c_p4) {
+static void w2c_f78(Z_hidreport_instance_t* instance, u64 w2c_p0, u64 w2c_p1, u32 w2c_p2, u64 w2c_p3, u64 w2c_p4) {
   u32 w2c_l5 = 0;
   u64 w2c_l6 = 0;
   FUNC_PROLOGUE;
@@ -59607,7 +60991,7 @@ static void w2c_f76(Z_hidreport_instance_t* instance, u64 w2c_p0, u64 w2c_p1, u3
   FUNC_EPILOGUE;
 }
 
-static void w2c_f77(Z_hidreport_instance_t* instance, u64 w2c_p0, u64 w2c_p1, u64 w2c_p2) {
+static void w2c_f79(Z_hidreport_instance_t* instance, u64 w2c_p0, u64 w2c_p1, u64 w2c_p2) {
   u32 w2c_l18 = 0, w2c_l19 = 0, w2c_l20 = 0, w2c_l21 = 0, w2c_l22 = 0;
   u64 w2c_l3 = 0, w2c_l4 = 0, w2c_l5 = 0, w2c_l6 = 0, w2c_l7 = 0, w2c_l8 = 0, w2c_l9 = 0, w2c_l10 = 0, 
       w2c_l11 = 0, w2c_l12 = 0, w2c_l13 = 0, w2c_l14 = 0, w2c_l15 = 0, w2c_l16 = 0, w2c_l17 = 0;
@@ -60784,7 +62168,7 @@ static void w2c_f77(Z_hidreport_instance_t* instance, u64 w2c_p0, u64 w2c_p1, u6
     w2c_j0 = w2c_l3;
     w2c_j1 = 176ull;
     w2c_j0 += w2c_j1;
-    w2c_i0 = w2c_f78(instance, w2c_j0);
+    w2c_i0 = w2c_f80(instance, w2c_j0);
     w2c_i0 = !(w2c_i0);
     if (w2c_i0) {goto w2c_B8;}
     w2c_j0 = w2c_l3;
@@ -61105,7 +62489,7 @@ static void w2c_f77(Z_hidreport_instance_t* instance, u64 w2c_p0, u64 w2c_p1, u6
   FUNC_EPILOGUE;
 }
 
-static u32 w2c_f78(Z_hidreport_instance_t* instance, u64 w2c_p0) {
+static u32 w2c_f80(Z_hidreport_instance_t* instance, u64 w2c_p0) {
   u32 w2c_l6 = 0;
   u64 w2c_l1 = 0, w2c_l2 = 0, w2c_l3 = 0, w2c_l4 = 0, w2c_l5 = 0;
   FUNC_PROLOGUE;
@@ -61175,7 +62559,7 @@ static u32 w2c_f78(Z_hidreport_instance_t* instance, u64 w2c_p0) {
   w2c_j4 = 56ull;
   w2c_j3 *= w2c_j4;
   w2c_j4 = 8ull;
-  w2c_f142(instance, w2c_j0, w2c_j1, w2c_j2, w2c_j3, w2c_j4);
+  w2c_f144(instance, w2c_j0, w2c_j1, w2c_j2, w2c_j3, w2c_j4);
   w2c_j0 = w2c_l1;
   w2c_i0 = (u32)(w2c_j0);
   w2c_j0 = i64_load(&instance->w2c_memory, (u64)(w2c_i0) + 16u);
@@ -61231,7 +62615,7 @@ static u32 w2c_f78(Z_hidreport_instance_t* instance, u64 w2c_p0) {
   return w2c_i0;
 }
 
-static void w2c_f79(Z_hidreport_instance_t* instance, u64 w2c_p0, u64 w2c_p1, u32 w2c_p2, u32 w2c_p3, u32 w2c_p4) {
+static void w2c_f81(Z_hidreport_instance_t* instance, u64 w2c_p0, u64 w2c_p1, u32 w2c_p2, u32 w2c_p3, u32 w2c_p4) {
   u32 w2c_l5 = 0;
   u64 w2c_l6 = 0, w2c_l7 = 0, w2c_l8 = 0;
   FUNC_PROLOGUE;
@@ -61686,7 +63070,7 @@ static void w2c_f79(Z_hidreport_instance_t* instance, u64 w2c_p0, u64 w2c_p1, u3
   FUNC_EPILOGUE;
 }
 
-static void w2c_f80(Z_hidreport_instance_t* instance, u64 w2c_p0, u64 w2c_p1, u64 w2c_p2, u64 w2c_p3, u64 w2c_p4) {
+static void w2c_f82(Z_hidreport_instance_t* instance, u64 w2c_p0, u64 w2c_p1, u64 w2c_p2, u64 w2c_p3, u64 w2c_p4) {
   u32 w2c_l23 = 0, w2c_l24 = 0, w2c_l25 = 0, w2c_l26 = 0, w2c_l27 = 0, w2c_l28 = 0, w2c_l29 = 0, w2c_l30 = 0, 
       w2c_l31 = 0, w2c_l32 = 0, w2c_l33 = 0, w2c_l34 = 0, w2c_l35 = 0, w2c_l36 = 0, w2c_l37 = 0, w2c_l38 = 0, 
       w2c_l39 = 0, w2c_l40 = 0, w2c_l41 = 0, w2c_l42 = 0, w2c_l43 = 0, w2c_l44 = 0, w2c_l45 = 0, w2c_l46 = 0, 
@@ -62528,7 +63912,7 @@ static void w2c_f80(Z_hidreport_instance_t* instance, u64 w2c_p0, u64 w2c_p1, u6
   FUNC_EPILOGUE;
 }
 
-static void w2c_f81(Z_hidreport_instance_t* instance, u64 w2c_p0, u64 w2c_p1, u64 w2c_p2, u64 w2c_p3) {
+static void w2c_f83(Z_hidreport_instance_t* instance, u64 w2c_p0, u64 w2c_p1, u64 w2c_p2, u64 w2c_p3) {
   u32 w2c_l11 = 0, w2c_l12 = 0;
   u64 w2c_l4 = 0, w2c_l5 = 0, w2c_l6 = 0, w2c_l7 = 0, w2c_l8 = 0, w2c_l9 = 0, w2c_l10 = 0;
   FUNC_PROLOGUE;
@@ -62993,7 +64377,7 @@ static void w2c_f81(Z_hidreport_instance_t* instance, u64 w2c_p0, u64 w2c_p1, u6
   FUNC_EPILOGUE;
 }
 
-static u32 w2c_f82(Z_hidreport_instance_t* instance, u64 w2c_p0) {
+static u32 w2c_f84(Z_hidreport_instance_t* instance, u64 w2c_p0) {
   u32 w2c_l6 = 0;
   u64 w2c_l1 = 0, w2c_l2 = 0, w2c_l3 = 0, w2c_l4 = 0, w2c_l5 = 0;
   FUNC_PROLOGUE;
@@ -63063,7 +64447,7 @@ static u32 w2c_f82(Z_hidreport_instance_t* instance, u64 w2c_p0) {
   w2c_j4 = 3ull;
   w2c_j3 <<= (w2c_j4 & 63);
   w2c_j4 = 8ull;
-  w2c_f142(instance, w2c_j0, w2c_j1, w2c_j2, w2c_j3, w2c_j4);
+  w2c_f144(instance, w2c_j0, w2c_j1, w2c_j2, w2c_j3, w2c_j4);
   w2c_j0 = w2c_l1;
   w2c_i0 = (u32)(w2c_j0);
   w2c_j0 = i64_load(&instance->w2c_memory, (u64)(w2c_i0) + 16u);
@@ -63119,7 +64503,7 @@ static u32 w2c_f82(Z_hidreport_instance_t* instance, u64 w2c_p0) {
   return w2c_i0;
 }
 
-static void w2c_f83(Z_hidreport_instance_t* instance, u64 w2c_p0, u64 w2c_p1, u64 w2c_p2) {
+static void w2c_f85(Z_hidreport_instance_t* instance, u64 w2c_p0, u64 w2c_p1, u64 w2c_p2) {
   u64 w2c_l3 = 0, w2c_l4 = 0;
   FUNC_PROLOGUE;
   u32 w2c_i0, w2c_i1;
@@ -63242,7 +64626,7 @@ static void w2c_f83(Z_hidreport_instance_t* instance, u64 w2c_p0, u64 w2c_p1, u6
   w2c_j0 += w2c_j1;
   w2c_j1 = w2c_p1;
   w2c_j2 = w2c_p2;
-  w2c_f84(instance, w2c_j0, w2c_j1, w2c_j2);
+  w2c_f86(instance, w2c_j0, w2c_j1, w2c_j2);
   w2c_j0 = w2c_p0;
   w2c_j1 = 2ull;
   w2c_j0 += w2c_j1;
@@ -63264,7 +64648,7 @@ static void w2c_f83(Z_hidreport_instance_t* instance, u64 w2c_p0, u64 w2c_p1, u6
   FUNC_EPILOGUE;
 }
 
-static void w2c_f84(Z_hidreport_instance_t* instance, u64 w2c_p0, u64 w2c_p1, u64 w2c_p2) {
+static void w2c_f86(Z_hidreport_instance_t* instance, u64 w2c_p0, u64 w2c_p1, u64 w2c_p2) {
   u32 w2c_l3 = 0, w2c_l4 = 0, w2c_l5 = 0, w2c_l6 = 0;
   u64 w2c_l7 = 0, w2c_l8 = 0, w2c_l9 = 0, w2c_l10 = 0, w2c_l11 = 0, w2c_l12 = 0, w2c_l13 = 0, w2c_l14 = 0, 
       w2c_l15 = 0, w2c_l16 = 0, w2c_l17 = 0;
@@ -63839,7 +65223,7 @@ static void w2c_f84(Z_hidreport_instance_t* instance, u64 w2c_p0, u64 w2c_p1, u6
   FUNC_EPILOGUE;
 }
 
-static void w2c_f85(Z_hidreport_instance_t* instance, u64 w2c_p0, u64 w2c_p1, u64 w2c_p2, u64 w2c_p3) {
+static void w2c_f87(Z_hidreport_instance_t* instance, u64 w2c_p0, u64 w2c_p1, u64 w2c_p2, u64 w2c_p3) {
   u32 w2c_l11 = 0, w2c_l12 = 0, w2c_l13 = 0, w2c_l14 = 0, w2c_l15 = 0, w2c_l16 = 0, w2c_l17 = 0, w2c_l18 = 0, 
       w2c_l19 = 0, w2c_l20 = 0, w2c_l21 = 0, w2c_l22 = 0, w2c_l23 = 0;
   u64 w2c_l4 = 0, w2c_l5 = 0, w2c_l6 = 0, w2c_l7 = 0, w2c_l8 = 0, w2c_l9 = 0, w2c_l10 = 0;
@@ -64011,7 +65395,7 @@ static void w2c_f85(Z_hidreport_instance_t* instance, u64 w2c_p0, u64 w2c_p1, u6
   w2c_j0 += w2c_j1;
   w2c_j1 = w2c_p1;
   w2c_j2 = w2c_p2;
-  w2c_f67(instance, w2c_j0, w2c_j1, w2c_j2);
+  w2c_f69(instance, w2c_j0, w2c_j1, w2c_j2);
   w2c_j0 = w2c_l4;
   w2c_i0 = (u32)(w2c_j0);
   w2c_i0 = i32_load8_u(&instance->w2c_memory, (u64)(w2c_i0) + 24u);
@@ -64782,7 +66166,7 @@ static void w2c_f85(Z_hidreport_instance_t* instance, u64 w2c_p0, u64 w2c_p1, u6
   FUNC_EPILOGUE;
 }
 
-static u32 w2c_f86(Z_hidreport_instance_t* instance, u64 w2c_p0, u32 w2c_p1, u64 w2c_p2, u64 w2c_p3, u64 w2c_p4, u64 w2c_p5) {
+static u32 w2c_f88(Z_hidreport_instance_t* instance, u64 w2c_p0, u32 w2c_p1, u64 w2c_p2, u64 w2c_p3, u64 w2c_p4, u64 w2c_p5) {
   u64 w2c_l6 = 0, w2c_l7 = 0;
   FUNC_PROLOGUE;
   u32 w2c_i0, w2c_i1, w2c_i2;
@@ -64821,7 +66205,7 @@ static u32 w2c_f86(Z_hidreport_instance_t* instance, u64 w2c_p0, u32 w2c_p1, u64
   w2c_p1 = w2c_i0;
   w2c_j0 = w2c_p0;
   w2c_j1 = w2c_p3;
-  w2c_i0 = w2c_f87(instance, w2c_j0, w2c_j1);
+  w2c_i0 = w2c_f89(instance, w2c_j0, w2c_j1);
   w2c_i0 = !(w2c_i0);
   if (w2c_i0) {goto w2c_B0;}
   w2c_j0 = w2c_p0;
@@ -64950,7 +66334,7 @@ static u32 w2c_f86(Z_hidreport_instance_t* instance, u64 w2c_p0, u32 w2c_p1, u64
   w2c_j0 = w2c_p0;
   w2c_j1 = w2c_p2;
   w2c_j2 = w2c_p3;
-  w2c_i0 = w2c_f88(instance, w2c_j0, w2c_j1, w2c_j2);
+  w2c_i0 = w2c_f90(instance, w2c_j0, w2c_j1, w2c_j2);
   w2c_i1 = 255u;
   w2c_i0 &= w2c_i1;
   goto w2c_Bfunc;
@@ -64980,7 +66364,7 @@ static u32 w2c_f86(Z_hidreport_instance_t* instance, u64 w2c_p0, u32 w2c_p1, u64
   w2c_p1 = w2c_i0;
   w2c_j0 = w2c_p0;
   w2c_j1 = w2c_p5;
-  w2c_i0 = w2c_f87(instance, w2c_j0, w2c_j1);
+  w2c_i0 = w2c_f89(instance, w2c_j0, w2c_j1);
   w2c_i0 = !(w2c_i0);
   if (w2c_i0) {goto w2c_B0;}
   w2c_j0 = w2c_p0;
@@ -65121,7 +66505,7 @@ static u32 w2c_f86(Z_hidreport_instance_t* instance, u64 w2c_p0, u32 w2c_p1, u64
   w2c_j0 = w2c_p0;
   w2c_j1 = w2c_p4;
   w2c_j2 = w2c_p5;
-  w2c_i0 = w2c_f88(instance, w2c_j0, w2c_j1, w2c_j2);
+  w2c_i0 = w2c_f90(instance, w2c_j0, w2c_j1, w2c_j2);
   w2c_i1 = 255u;
   w2c_i0 &= w2c_i1;
   w2c_p1 = w2c_i0;
@@ -65132,7 +66516,7 @@ static u32 w2c_f86(Z_hidreport_instance_t* instance, u64 w2c_p0, u32 w2c_p1, u64
   return w2c_i0;
 }
 
-static u32 w2c_f87(Z_hidreport_instance_t* instance, u64 w2c_p0, u64 w2c_p1) {
+static u32 w2c_f89(Z_hidreport_instance_t* instance, u64 w2c_p0, u64 w2c_p1) {
   u32 w2c_l6 = 0;
   u64 w2c_l2 = 0, w2c_l3 = 0, w2c_l4 = 0, w2c_l5 = 0;
   FUNC_PROLOGUE;
@@ -65201,7 +66585,7 @@ static u32 w2c_f87(Z_hidreport_instance_t* instance, u64 w2c_p0, u64 w2c_p1) {
   w2c_j2 = w2c_l3;
   w2c_j3 = w2c_p1;
   w2c_j4 = 1ull;
-  w2c_f142(instance, w2c_j0, w2c_j1, w2c_j2, w2c_j3, w2c_j4);
+  w2c_f144(instance, w2c_j0, w2c_j1, w2c_j2, w2c_j3, w2c_j4);
   w2c_j0 = w2c_l2;
   w2c_i0 = (u32)(w2c_j0);
   w2c_j0 = i64_load(&instance->w2c_memory, (u64)(w2c_i0) + 16u);
@@ -65255,7 +66639,7 @@ static u32 w2c_f87(Z_hidreport_instance_t* instance, u64 w2c_p0, u64 w2c_p1) {
   return w2c_i0;
 }
 
-static u32 w2c_f88(Z_hidreport_instance_t* instance, u64 w2c_p0, u64 w2c_p1, u64 w2c_p2) {
+static u32 w2c_f90(Z_hidreport_instance_t* instance, u64 w2c_p0, u64 w2c_p1, u64 w2c_p2) {
   u32 w2c_l3 = 0;
   u64 w2c_l4 = 0, w2c_l5 = 0, w2c_l6 = 0, w2c_l7 = 0, w2c_l8 = 0, w2c_l9 = 0;
   FUNC_PROLOGUE;
@@ -65320,7 +66704,7 @@ static u32 w2c_f88(Z_hidreport_instance_t* instance, u64 w2c_p0, u64 w2c_p1, u64
       w2c_j0 = w2c_p0;
       w2c_j1 = 1122219ull;
       w2c_j2 = 4ull;
-      w2c_i0 = w2c_f89(instance, w2c_j0, w2c_j1, w2c_j2);
+      w2c_i0 = w2c_f91(instance, w2c_j0, w2c_j1, w2c_j2);
       w2c_i1 = 255u;
       w2c_i0 &= w2c_i1;
       if (w2c_i0) {goto w2c_B5;}
@@ -65356,7 +66740,7 @@ static u32 w2c_f88(Z_hidreport_instance_t* instance, u64 w2c_p0, u64 w2c_p1, u64
     w2c_j2 = w2c_l7;
     w2c_j3 = w2c_l8;
     w2c_j2 -= w2c_j3;
-    w2c_i0 = w2c_f89(instance, w2c_j0, w2c_j1, w2c_j2);
+    w2c_i0 = w2c_f91(instance, w2c_j0, w2c_j1, w2c_j2);
     w2c_i1 = 255u;
     w2c_i0 &= w2c_i1;
     if (w2c_i0) {goto w2c_B0;}
@@ -65392,7 +66776,7 @@ static u32 w2c_f88(Z_hidreport_instance_t* instance, u64 w2c_p0, u64 w2c_p1, u64
     w2c_j0 = w2c_p0;
     w2c_j1 = 1122219ull;
     w2c_j2 = 4ull;
-    w2c_i0 = w2c_f89(instance, w2c_j0, w2c_j1, w2c_j2);
+    w2c_i0 = w2c_f91(instance, w2c_j0, w2c_j1, w2c_j2);
     w2c_i1 = 255u;
     w2c_i0 &= w2c_i1;
     if (w2c_i0) {goto w2c_B8;}
@@ -65430,7 +66814,7 @@ static u32 w2c_f88(Z_hidreport_instance_t* instance, u64 w2c_p0, u64 w2c_p1, u64
   w2c_j5 = w2c_p2;
   w2c_i4 = w2c_j4 > w2c_j5;
   w2c_j2 = w2c_i4 ? w2c_j2 : w2c_j3;
-  w2c_i0 = w2c_f89(instance, w2c_j0, w2c_j1, w2c_j2);
+  w2c_i0 = w2c_f91(instance, w2c_j0, w2c_j1, w2c_j2);
   w2c_i1 = 255u;
   w2c_i0 &= w2c_i1;
   w2c_l3 = w2c_i0;
@@ -65441,7 +66825,7 @@ static u32 w2c_f88(Z_hidreport_instance_t* instance, u64 w2c_p0, u64 w2c_p1, u64
   return w2c_i0;
 }
 
-static u32 w2c_f89(Z_hidreport_instance_t* instance, u64 w2c_p0, u64 w2c_p1, u64 w2c_p2) {
+static u32 w2c_f91(Z_hidreport_instance_t* instance, u64 w2c_p0, u64 w2c_p1, u64 w2c_p2) {
   u32 w2c_l3 = 0, w2c_l4 = 0, w2c_l5 = 0, w2c_l6 = 0, w2c_l7 = 0;
   u64 w2c_l8 = 0, w2c_l9 = 0, w2c_l10 = 0, w2c_l11 = 0, w2c_l12 = 0, w2c_l13 = 0, w2c_l14 = 0, w2c_l15 = 0, 
       w2c_l16 = 0, w2c_l17 = 0, w2c_l18 = 0, w2c_l19 = 0;
@@ -65615,7 +66999,7 @@ static u32 w2c_f89(Z_hidreport_instance_t* instance, u64 w2c_p0, u64 w2c_p1, u64
   w2c_l5 = w2c_i0;
   w2c_j0 = w2c_p0;
   w2c_j1 = w2c_p2;
-  w2c_i0 = w2c_f87(instance, w2c_j0, w2c_j1);
+  w2c_i0 = w2c_f89(instance, w2c_j0, w2c_j1);
   w2c_i0 = !(w2c_i0);
   if (w2c_i0) {goto w2c_B0;}
   w2c_j0 = w2c_p0;
@@ -65928,7 +67312,7 @@ static u32 w2c_f89(Z_hidreport_instance_t* instance, u64 w2c_p0, u64 w2c_p1, u64
   return w2c_i0;
 }
 
-static u32 w2c_f90(Z_hidreport_instance_t* instance, u64 w2c_p0, u32 w2c_p1) {
+static u32 w2c_f92(Z_hidreport_instance_t* instance, u64 w2c_p0, u32 w2c_p1) {
   u64 w2c_l2 = 0, w2c_l3 = 0, w2c_l4 = 0, w2c_l5 = 0, w2c_l6 = 0, w2c_l7 = 0;
   FUNC_PROLOGUE;
   u32 w2c_i0, w2c_i1;
@@ -65970,7 +67354,7 @@ static u32 w2c_f90(Z_hidreport_instance_t* instance, u64 w2c_p0, u32 w2c_p1) {
   if (w2c_i0) {goto w2c_B2;}
   w2c_j0 = w2c_p0;
   w2c_j1 = 1ull;
-  w2c_i0 = w2c_f87(instance, w2c_j0, w2c_j1);
+  w2c_i0 = w2c_f89(instance, w2c_j0, w2c_j1);
   if (w2c_i0) {goto w2c_B3;}
   w2c_i0 = 1u;
   goto w2c_Bfunc;
@@ -66018,7 +67402,7 @@ static u32 w2c_f90(Z_hidreport_instance_t* instance, u64 w2c_p0, u32 w2c_p1) {
   w2c_j0 = w2c_p0;
   w2c_j1 = w2c_l2;
   w2c_j2 = 1ull;
-  w2c_i0 = w2c_f88(instance, w2c_j0, w2c_j1, w2c_j2);
+  w2c_i0 = w2c_f90(instance, w2c_j0, w2c_j1, w2c_j2);
   w2c_i1 = 255u;
   w2c_i0 &= w2c_i1;
   w2c_i0 = !(w2c_i0);
@@ -66063,7 +67447,7 @@ static u32 w2c_f90(Z_hidreport_instance_t* instance, u64 w2c_p0, u32 w2c_p1) {
   if (w2c_i0) {goto w2c_B6;}
   w2c_j0 = w2c_p0;
   w2c_j1 = 1ull;
-  w2c_i0 = w2c_f87(instance, w2c_j0, w2c_j1);
+  w2c_i0 = w2c_f89(instance, w2c_j0, w2c_j1);
   if (w2c_i0) {goto w2c_B7;}
   w2c_i0 = 1u;
   goto w2c_Bfunc;
@@ -66111,7 +67495,7 @@ static u32 w2c_f90(Z_hidreport_instance_t* instance, u64 w2c_p0, u32 w2c_p1) {
   w2c_j0 = w2c_p0;
   w2c_j1 = w2c_l2;
   w2c_j2 = 1ull;
-  w2c_i0 = w2c_f88(instance, w2c_j0, w2c_j1, w2c_j2);
+  w2c_i0 = w2c_f90(instance, w2c_j0, w2c_j1, w2c_j2);
   w2c_i1 = 255u;
   w2c_i0 &= w2c_i1;
   w2c_i0 = !(w2c_i0);
@@ -66156,7 +67540,7 @@ static u32 w2c_f90(Z_hidreport_instance_t* instance, u64 w2c_p0, u32 w2c_p1) {
   if (w2c_i0) {goto w2c_B10;}
   w2c_j0 = w2c_p0;
   w2c_j1 = 1ull;
-  w2c_i0 = w2c_f87(instance, w2c_j0, w2c_j1);
+  w2c_i0 = w2c_f89(instance, w2c_j0, w2c_j1);
   if (w2c_i0) {goto w2c_B11;}
   w2c_i0 = 1u;
   goto w2c_Bfunc;
@@ -66204,7 +67588,7 @@ static u32 w2c_f90(Z_hidreport_instance_t* instance, u64 w2c_p0, u32 w2c_p1) {
   w2c_j0 = w2c_p0;
   w2c_j1 = w2c_l2;
   w2c_j2 = 1ull;
-  w2c_i0 = w2c_f88(instance, w2c_j0, w2c_j1, w2c_j2);
+  w2c_i0 = w2c_f90(instance, w2c_j0, w2c_j1, w2c_j2);
   w2c_i1 = 255u;
   w2c_i0 &= w2c_i1;
   w2c_i0 = !(w2c_i0);
@@ -66249,7 +67633,7 @@ static u32 w2c_f90(Z_hidreport_instance_t* instance, u64 w2c_p0, u32 w2c_p1) {
   w2c_p1 = w2c_i0;
   w2c_j0 = w2c_p0;
   w2c_j1 = 1ull;
-  w2c_i0 = w2c_f87(instance, w2c_j0, w2c_j1);
+  w2c_i0 = w2c_f89(instance, w2c_j0, w2c_j1);
   w2c_i0 = !(w2c_i0);
   if (w2c_i0) {goto w2c_B12;}
   w2c_j0 = w2c_p0;
@@ -66296,7 +67680,7 @@ static u32 w2c_f90(Z_hidreport_instance_t* instance, u64 w2c_p0, u32 w2c_p1) {
   w2c_j0 = w2c_p0;
   w2c_j1 = w2c_l2;
   w2c_j2 = 1ull;
-  w2c_i0 = w2c_f88(instance, w2c_j0, w2c_j1, w2c_j2);
+  w2c_i0 = w2c_f90(instance, w2c_j0, w2c_j1, w2c_j2);
   w2c_i1 = 255u;
   w2c_i0 &= w2c_i1;
   w2c_p1 = w2c_i0;
@@ -66307,7 +67691,7 @@ static u32 w2c_f90(Z_hidreport_instance_t* instance, u64 w2c_p0, u32 w2c_p1) {
   return w2c_i0;
 }
 
-static u32 w2c_f91(Z_hidreport_instance_t* instance, u64 w2c_p0, u64 w2c_p1, u64 w2c_p2, u32 w2c_p3) {
+static u32 w2c_f93(Z_hidreport_instance_t* instance, u64 w2c_p0, u64 w2c_p1, u64 w2c_p2, u32 w2c_p3) {
   u32 w2c_l13 = 0, w2c_l14 = 0;
   u64 w2c_l4 = 0, w2c_l5 = 0, w2c_l6 = 0, w2c_l7 = 0, w2c_l8 = 0, w2c_l9 = 0, w2c_l10 = 0, w2c_l11 = 0, 
       w2c_l12 = 0;
@@ -66346,7 +67730,7 @@ static u32 w2c_f91(Z_hidreport_instance_t* instance, u64 w2c_p0, u64 w2c_p1, u64
   if (w2c_i0) {goto w2c_B3;}
   w2c_j0 = w2c_p0;
   w2c_j1 = w2c_p2;
-  w2c_i0 = w2c_f87(instance, w2c_j0, w2c_j1);
+  w2c_i0 = w2c_f89(instance, w2c_j0, w2c_j1);
   if (w2c_i0) {goto w2c_B4;}
   w2c_i0 = 1u;
   w2c_p3 = w2c_i0;
@@ -66517,7 +67901,7 @@ static u32 w2c_f91(Z_hidreport_instance_t* instance, u64 w2c_p0, u64 w2c_p1, u64
   w2c_j0 = w2c_p0;
   w2c_j1 = w2c_p1;
   w2c_j2 = w2c_p2;
-  w2c_i0 = w2c_f88(instance, w2c_j0, w2c_j1, w2c_j2);
+  w2c_i0 = w2c_f90(instance, w2c_j0, w2c_j1, w2c_j2);
   w2c_i1 = 255u;
   w2c_i0 &= w2c_i1;
   w2c_i0 = !(w2c_i0);
@@ -66721,7 +68105,7 @@ static u32 w2c_f91(Z_hidreport_instance_t* instance, u64 w2c_p0, u64 w2c_p1, u64
   w2c_p3 = w2c_i0;
   w2c_j0 = w2c_p0;
   w2c_j1 = w2c_l8;
-  w2c_i0 = w2c_f87(instance, w2c_j0, w2c_j1);
+  w2c_i0 = w2c_f89(instance, w2c_j0, w2c_j1);
   w2c_i0 = !(w2c_i0);
   if (w2c_i0) {goto w2c_B0;}
   w2c_j0 = w2c_p0;
@@ -66779,7 +68163,7 @@ static u32 w2c_f91(Z_hidreport_instance_t* instance, u64 w2c_p0, u64 w2c_p1, u64
   w2c_j0 = w2c_p0;
   w2c_j1 = w2c_p1;
   w2c_j2 = w2c_l8;
-  w2c_i0 = w2c_f88(instance, w2c_j0, w2c_j1, w2c_j2);
+  w2c_i0 = w2c_f90(instance, w2c_j0, w2c_j1, w2c_j2);
   w2c_i1 = 255u;
   w2c_i0 &= w2c_i1;
   w2c_p3 = w2c_i0;
@@ -66793,7 +68177,7 @@ static u32 w2c_f91(Z_hidreport_instance_t* instance, u64 w2c_p0, u64 w2c_p1, u64
   return w2c_i0;
 }
 
-static void w2c_f92(Z_hidreport_instance_t* instance, u64 w2c_p0, u64 w2c_p1, u64 w2c_p2, u64 w2c_p3, u64 w2c_p4, u64 w2c_p5, u64 w2c_p6) {
+static void w2c_f94(Z_hidreport_instance_t* instance, u64 w2c_p0, u64 w2c_p1, u64 w2c_p2, u64 w2c_p3, u64 w2c_p4, u64 w2c_p5, u64 w2c_p6) {
   u32 w2c_l7 = 0, w2c_l8 = 0;
   u64 w2c_l9 = 0, w2c_l10 = 0, w2c_l11 = 0, w2c_l12 = 0, w2c_l13 = 0, w2c_l14 = 0, w2c_l15 = 0, w2c_l16 = 0, 
       w2c_l17 = 0, w2c_l18 = 0, w2c_l19 = 0, w2c_l20 = 0, w2c_l21 = 0, w2c_l22 = 0, w2c_l23 = 0, w2c_l24 = 0, 
@@ -67610,7 +68994,7 @@ static void w2c_hidreport_physical(Z_hidreport_instance_t* instance, u64 w2c_p0,
   w2c_j4 = w2c_p2;
   w2c_j5 = 63ull;
   w2c_j4 = (u64)((s64)w2c_j4 >> (w2c_j5 & 63));
-  w2c_f143(instance, w2c_j0, w2c_j1, w2c_j2, w2c_j3, w2c_j4);
+  w2c_f145(instance, w2c_j0, w2c_j1, w2c_j2, w2c_j3, w2c_j4);
   w2c_j0 = w2c_l5;
   w2c_j1 = 0ull;
   w2c_j2 = w2c_l3;
@@ -67682,7 +69066,7 @@ static void w2c_hidreport_physical(Z_hidreport_instance_t* instance, u64 w2c_p0,
   w2c_i5 = w2c_j5 < w2c_j6;
   w2c_j5 = (u64)(w2c_i5);
   w2c_j4 -= w2c_j5;
-  w2c_f143(instance, w2c_j0, w2c_j1, w2c_j2, w2c_j3, w2c_j4);
+  w2c_f145(instance, w2c_j0, w2c_j1, w2c_j2, w2c_j3, w2c_j4);
   w2c_j0 = w2c_l3;
   w2c_j1 = 16ull;
   w2c_j0 += w2c_j1;
@@ -67704,7 +69088,7 @@ static void w2c_hidreport_physical(Z_hidreport_instance_t* instance, u64 w2c_p0,
   w2c_j2 -= w2c_j3;
   w2c_j3 = w2c_l4;
   w2c_j4 = w2c_l5;
-  w2c_f143(instance, w2c_j0, w2c_j1, w2c_j2, w2c_j3, w2c_j4);
+  w2c_f145(instance, w2c_j0, w2c_j1, w2c_j2, w2c_j3, w2c_j4);
   w2c_j0 = w2c_l7;
   w2c_j1 = 0ull;
   w2c_j2 = w2c_l3;
@@ -69456,14 +70840,14 @@ static void w2c_hidreport_is_alike(Z_hidreport_instance_t* instance, u64 w2c_p0,
   w2c_i3 = (u32)(w2c_j3);
   w2c_j3 = i64_load(&instance->w2c_memory, (u64)(w2c_i3) + 160u);
   w2c_l20 = w2c_j3;
-  w2c_i0 = w2c_f70(instance, w2c_j0, w2c_j1, w2c_j2, w2c_j3);
+  w2c_i0 = w2c_f72(instance, w2c_j0, w2c_j1, w2c_j2, w2c_j3);
   w2c_i0 = !(w2c_i0);
   if (w2c_i0) {goto w2c_B3;}
   w2c_j0 = w2c_l12;
   w2c_j1 = w2c_p2;
   w2c_j2 = w2c_p4;
   w2c_j3 = w2c_p3;
-  w2c_i0 = w2c_f70(instance, w2c_j0, w2c_j1, w2c_j2, w2c_j3);
+  w2c_i0 = w2c_f72(instance, w2c_j0, w2c_j1, w2c_j2, w2c_j3);
   w2c_i0 = !(w2c_i0);
   if (w2c_i0) {goto w2c_B3;}
   w2c_j0 = 1099511627776ull;
@@ -69472,7 +70856,7 @@ static void w2c_hidreport_is_alike(Z_hidreport_instance_t* instance, u64 w2c_p0,
   w2c_j3 = w2c_l9;
   w2c_j4 = w2c_l16;
   w2c_j5 = w2c_l15;
-  w2c_i2 = w2c_f70(instance, w2c_j2, w2c_j3, w2c_j4, w2c_j5);
+  w2c_i2 = w2c_f72(instance, w2c_j2, w2c_j3, w2c_j4, w2c_j5);
   w2c_j0 = w2c_i2 ? w2c_j0 : w2c_j1;
   w2c_p6 = w2c_j0;
   w2c_B3:;
@@ -69491,7 +70875,7 @@ static void w2c_hidreport_is_alike(Z_hidreport_instance_t* instance, u64 w2c_p0,
   w2c_j0 = w2c_l7;
   w2c_j1 = 120ull;
   w2c_j0 += w2c_j1;
-  w2c_f72(instance, w2c_j0);
+  w2c_f74(instance, w2c_j0);
   w2c_j0 = w2c_l7;
   w2c_i0 = (u32)(w2c_j0);
   w2c_j1 = w2c_l17;
@@ -69507,7 +70891,7 @@ static void w2c_hidreport_is_alike(Z_hidreport_instance_t* instance, u64 w2c_p0,
   w2c_j0 = w2c_l7;
   w2c_j1 = 96ull;
   w2c_j0 += w2c_j1;
-  w2c_f72(instance, w2c_j0);
+  w2c_f74(instance, w2c_j0);
   w2c_j0 = w2c_l7;
   w2c_i0 = (u32)(w2c_j0);
   w2c_j1 = w2c_l14;
@@ -69523,7 +70907,7 @@ static void w2c_hidreport_is_alike(Z_hidreport_instance_t* instance, u64 w2c_p0,
   w2c_j0 = w2c_l7;
   w2c_j1 = 72ull;
   w2c_j0 += w2c_j1;
-  w2c_f72(instance, w2c_j0);
+  w2c_f74(instance, w2c_j0);
   w2c_j0 = w2c_l7;
   w2c_i0 = (u32)(w2c_j0);
   w2c_j1 = w2c_l13;
@@ -69539,7 +70923,7 @@ static void w2c_hidreport_is_alike(Z_hidreport_instance_t* instance, u64 w2c_p0,
   w2c_j0 = w2c_l7;
   w2c_j1 = 48ull;
   w2c_j0 += w2c_j1;
-  w2c_f72(instance, w2c_j0);
+  w2c_f74(instance, w2c_j0);
   w2c_j0 = w2c_l7;
   w2c_i0 = (u32)(w2c_j0);
   w2c_j1 = w2c_l11;
@@ -69555,7 +70939,7 @@ static void w2c_hidreport_is_alike(Z_hidreport_instance_t* instance, u64 w2c_p0,
   w2c_j0 = w2c_l7;
   w2c_j1 = 24ull;
   w2c_j0 += w2c_j1;
-  w2c_f72(instance, w2c_j0);
+  w2c_f74(instance, w2c_j0);
   w2c_j0 = w2c_l7;
   w2c_i0 = (u32)(w2c_j0);
   w2c_j1 = w2c_l8;
@@ -69569,7 +70953,7 @@ static void w2c_hidreport_is_alike(Z_hidreport_instance_t* instance, u64 w2c_p0,
   w2c_j1 = w2c_l10;
   i64_store(&instance->w2c_memory, (u64)(w2c_i0), w2c_j1);
   w2c_j0 = w2c_l7;
-  w2c_f72(instance, w2c_j0);
+  w2c_f74(instance, w2c_j0);
   w2c_j0 = 0ull;
   w2c_p1 = w2c_j0;
   w2c_i0 = 0u;
@@ -69599,7 +70983,7 @@ static void w2c_hidreport_is_alike(Z_hidreport_instance_t* instance, u64 w2c_p0,
   w2c_j0 = w2c_l7;
   w2c_j1 = 120ull;
   w2c_j0 += w2c_j1;
-  w2c_f72(instance, w2c_j0);
+  w2c_f74(instance, w2c_j0);
   w2c_j0 = w2c_l7;
   w2c_i0 = (u32)(w2c_j0);
   w2c_j1 = w2c_l11;
@@ -69615,7 +70999,7 @@ static void w2c_hidreport_is_alike(Z_hidreport_instance_t* instance, u64 w2c_p0,
   w2c_j0 = w2c_l7;
   w2c_j1 = 96ull;
   w2c_j0 += w2c_j1;
-  w2c_f72(instance, w2c_j0);
+  w2c_f74(instance, w2c_j0);
   w2c_j0 = w2c_l7;
   w2c_i0 = (u32)(w2c_j0);
   w2c_j1 = w2c_l8;
@@ -69631,7 +71015,7 @@ static void w2c_hidreport_is_alike(Z_hidreport_instance_t* instance, u64 w2c_p0,
   w2c_j0 = w2c_l7;
   w2c_j1 = 72ull;
   w2c_j0 += w2c_j1;
-  w2c_f72(instance, w2c_j0);
+  w2c_f74(instance, w2c_j0);
   w2c_j0 = 4294967296ull;
   w2c_p6 = w2c_j0;
   goto w2c_B0;
@@ -70040,7 +71424,7 @@ static void w2c_hidreport_describe_collection_usages(Z_hidreport_instance_t* ins
   w2c_j4 = 200ull;
   w2c_j3 += w2c_j4;
   w2c_j4 = 0ull;
-  w2c_f73(instance, w2c_j0, w2c_j1, w2c_j2, w2c_j3, w2c_j4);
+  w2c_f75(instance, w2c_j0, w2c_j1, w2c_j2, w2c_j3, w2c_j4);
   w2c_i0 = 4u;
   w2c_p5 = w2c_i0;
   w2c_j0 = 0ull;
@@ -70062,7 +71446,7 @@ static void w2c_hidreport_describe_collection_usages(Z_hidreport_instance_t* ins
   w2c_j4 = w2c_i6 ? w2c_j4 : w2c_j5;
   w2c_j3 += w2c_j4;
   w2c_j4 = w2c_p7;
-  w2c_f73(instance, w2c_j0, w2c_j1, w2c_j2, w2c_j3, w2c_j4);
+  w2c_f75(instance, w2c_j0, w2c_j1, w2c_j2, w2c_j3, w2c_j4);
   w2c_i0 = 0u;
   w2c_i1 = 4u;
   w2c_j2 = w2c_l8;
@@ -70096,7 +71480,7 @@ static void w2c_hidreport_describe_collection_usages(Z_hidreport_instance_t* ins
   w2c_j0 = w2c_l8;
   w2c_j1 = 80ull;
   w2c_j0 += w2c_j1;
-  w2c_f72(instance, w2c_j0);
+  w2c_f74(instance, w2c_j0);
   w2c_j0 = w2c_l8;
   w2c_i0 = (u32)(w2c_j0);
   w2c_j1 = w2c_l16;
@@ -70112,7 +71496,7 @@ static void w2c_hidreport_describe_collection_usages(Z_hidreport_instance_t* ins
   w2c_j0 = w2c_l8;
   w2c_j1 = 56ull;
   w2c_j0 += w2c_j1;
-  w2c_f72(instance, w2c_j0);
+  w2c_f74(instance, w2c_j0);
   w2c_j0 = w2c_l8;
   w2c_i0 = (u32)(w2c_j0);
   w2c_j1 = w2c_l15;
@@ -70128,7 +71512,7 @@ static void w2c_hidreport_describe_collection_usages(Z_hidreport_instance_t* ins
   w2c_j0 = w2c_l8;
   w2c_j1 = 32ull;
   w2c_j0 += w2c_j1;
-  w2c_f72(instance, w2c_j0);
+  w2c_f74(instance, w2c_j0);
   w2c_i0 = 0u;
   w2c_l18 = w2c_i0;
   goto w2c_B0;
@@ -70296,7 +71680,7 @@ static void w2c_hidreport_describe_collections(Z_hidreport_instance_t* instance,
   w2c_j4 = 200ull;
   w2c_j3 += w2c_j4;
   w2c_j4 = 0ull;
-  w2c_f74(instance, w2c_j0, w2c_j1, w2c_j2, w2c_j3, w2c_j4);
+  w2c_f76(instance, w2c_j0, w2c_j1, w2c_j2, w2c_j3, w2c_j4);
   w2c_i0 = 4u;
   w2c_p5 = w2c_i0;
   w2c_j0 = 0ull;
@@ -70318,7 +71702,7 @@ static void w2c_hidreport_describe_collections(Z_hidreport_instance_t* instance,
   w2c_j4 = w2c_i6 ? w2c_j4 : w2c_j5;
   w2c_j3 += w2c_j4;
   w2c_j4 = w2c_p7;
-  w2c_f74(instance, w2c_j0, w2c_j1, w2c_j2, w2c_j3, w2c_j4);
+  w2c_f76(instance, w2c_j0, w2c_j1, w2c_j2, w2c_j3, w2c_j4);
   w2c_i0 = 0u;
   w2c_i1 = 4u;
   w2c_j2 = w2c_l8;
@@ -70352,7 +71736,7 @@ static void w2c_hidreport_describe_collections(Z_hidreport_instance_t* instance,
   w2c_j0 = w2c_l8;
   w2c_j1 = 80ull;
   w2c_j0 += w2c_j1;
-  w2c_f72(instance, w2c_j0);
+  w2c_f74(instance, w2c_j0);
   w2c_j0 = w2c_l8;
   w2c_i0 = (u32)(w2c_j0);
   w2c_j1 = w2c_l16;
@@ -70368,7 +71752,7 @@ static void w2c_hidreport_describe_collections(Z_hidreport_instance_t* instance,
   w2c_j0 = w2c_l8;
   w2c_j1 = 56ull;
   w2c_j0 += w2c_j1;
-  w2c_f72(instance, w2c_j0);
+  w2c_f74(instance, w2c_j0);
   w2c_j0 = w2c_l8;
   w2c_i0 = (u32)(w2c_j0);
   w2c_j1 = w2c_l15;
@@ -70384,7 +71768,7 @@ static void w2c_hidreport_describe_collections(Z_hidreport_instance_t* instance,
   w2c_j0 = w2c_l8;
   w2c_j1 = 32ull;
   w2c_j0 += w2c_j1;
-  w2c_f72(instance, w2c_j0);
+  w2c_f74(instance, w2c_j0);
   w2c_i0 = 0u;
   w2c_l18 = w2c_i0;
   goto w2c_B0;
@@ -70566,7 +71950,7 @@ static void w2c_hidreport_describe_usages(Z_hidreport_instance_t* instance, u64 
   w2c_j2 = w2c_p4;
   w2c_j3 = w2c_l9;
   w2c_j4 = w2c_p7;
-  w2c_f75(instance, w2c_j0, w2c_j1, w2c_j2, w2c_j3, w2c_j4);
+  w2c_f77(instance, w2c_j0, w2c_j1, w2c_j2, w2c_j3, w2c_j4);
   w2c_j0 = w2c_l8;
   w2c_i0 = (u32)(w2c_j0);
   w2c_j1 = w2c_l13;
@@ -70582,7 +71966,7 @@ static void w2c_hidreport_describe_usages(Z_hidreport_instance_t* instance, u64 
   w2c_j0 = w2c_l8;
   w2c_j1 = 56ull;
   w2c_j0 += w2c_j1;
-  w2c_f72(instance, w2c_j0);
+  w2c_f74(instance, w2c_j0);
   w2c_j0 = w2c_l8;
   w2c_i0 = (u32)(w2c_j0);
   w2c_j1 = w2c_l11;
@@ -70598,7 +71982,7 @@ static void w2c_hidreport_describe_usages(Z_hidreport_instance_t* instance, u64 
   w2c_j0 = w2c_l8;
   w2c_j1 = 32ull;
   w2c_j0 += w2c_j1;
-  w2c_f72(instance, w2c_j0);
+  w2c_f74(instance, w2c_j0);
   w2c_j0 = w2c_l8;
   w2c_i0 = (u32)(w2c_j0);
   w2c_j1 = w2c_l10;
@@ -70614,7 +71998,7 @@ static void w2c_hidreport_describe_usages(Z_hidreport_instance_t* instance, u64 
   w2c_j0 = w2c_l8;
   w2c_j1 = 8ull;
   w2c_j0 += w2c_j1;
-  w2c_f72(instance, w2c_j0);
+  w2c_f74(instance, w2c_j0);
   goto w2c_B0;
   w2c_B1:;
   w2c_j0 = w2c_l8;
@@ -70737,7 +72121,7 @@ static void w2c_hidreport_find_usages(Z_hidreport_instance_t* instance, u64 w2c_
   w2c_j4 = w2c_i6 ? w2c_j4 : w2c_j5;
   w2c_j3 += w2c_j4;
   w2c_j4 = w2c_p7;
-  w2c_f76(instance, w2c_j0, w2c_j1, w2c_i2, w2c_j3, w2c_j4);
+  w2c_f78(instance, w2c_j0, w2c_j1, w2c_i2, w2c_j3, w2c_j4);
   w2c_j0 = w2c_l10;
   w2c_j1 = 16ull;
   w2c_j0 += w2c_j1;
@@ -70764,17 +72148,17 @@ static void w2c_hidreport_find_usages(Z_hidreport_instance_t* instance, u64 w2c_
   w2c_j4 = w2c_i6 ? w2c_j4 : w2c_j5;
   w2c_j3 += w2c_j4;
   w2c_j4 = w2c_p9;
-  w2c_f75(instance, w2c_j0, w2c_j1, w2c_j2, w2c_j3, w2c_j4);
+  w2c_f77(instance, w2c_j0, w2c_j1, w2c_j2, w2c_j3, w2c_j4);
   w2c_j0 = w2c_p1;
-  w2c_f72(instance, w2c_j0);
+  w2c_f74(instance, w2c_j0);
   w2c_j0 = w2c_l10;
   w2c_j1 = 72ull;
   w2c_j0 += w2c_j1;
-  w2c_f72(instance, w2c_j0);
+  w2c_f74(instance, w2c_j0);
   w2c_j0 = w2c_l10;
   w2c_j1 = 96ull;
   w2c_j0 += w2c_j1;
-  w2c_f72(instance, w2c_j0);
+  w2c_f74(instance, w2c_j0);
   goto w2c_B0;
   w2c_B1:;
   w2c_j0 = w2c_l10;
@@ -71664,7 +73048,7 @@ static void w2c_hidreport_changes(Z_hidreport_instance_t* instance, u64 w2c_p0, 
   w2c_j3 = w2c_l8;
   w2c_j4 = 64ull;
   w2c_j3 += w2c_j4;
-  w2c_f60(instance, w2c_j0, w2c_j1, w2c_j2, w2c_j3);
+  w2c_f62(instance, w2c_j0, w2c_j1, w2c_j2, w2c_j3);
   w2c_j0 = w2c_l8;
   w2c_i0 = (u32)(w2c_j0);
   w2c_i0 = i32_load8_u(&instance->w2c_memory, (u64)(w2c_i0) + 8u);
@@ -72427,7 +73811,7 @@ static void w2c_hidreport_collection_usages(Z_hidreport_instance_t* instance, u6
   w2c_j0 = w2c_l9;
   w2c_j1 = 56ull;
   w2c_j0 += w2c_j1;
-  w2c_f72(instance, w2c_j0);
+  w2c_f74(instance, w2c_j0);
   w2c_j0 = w2c_l9;
   w2c_i0 = (u32)(w2c_j0);
   w2c_j1 = w2c_l14;
@@ -72443,7 +73827,7 @@ static void w2c_hidreport_collection_usages(Z_hidreport_instance_t* instance, u6
   w2c_j0 = w2c_l9;
   w2c_j1 = 32ull;
   w2c_j0 += w2c_j1;
-  w2c_f72(instance, w2c_j0);
+  w2c_f74(instance, w2c_j0);
   w2c_j0 = w2c_l9;
   w2c_i0 = (u32)(w2c_j0);
   w2c_j1 = w2c_l11;
@@ -72459,7 +73843,7 @@ static void w2c_hidreport_collection_usages(Z_hidreport_instance_t* instance, u6
   w2c_j0 = w2c_l9;
   w2c_j1 = 8ull;
   w2c_j0 += w2c_j1;
-  w2c_f72(instance, w2c_j0);
+  w2c_f74(instance, w2c_j0);
   w2c_B0:;
   w2c_j0 = w2c_p0;
   w2c_i0 = (u32)(w2c_j0);
@@ -72985,7 +74369,7 @@ static void w2c_hidreport_collections(Z_hidreport_instance_t* instance, u64 w2c_
   w2c_j0 = w2c_l8;
   w2c_j1 = 56ull;
   w2c_j0 += w2c_j1;
-  w2c_f72(instance, w2c_j0);
+  w2c_f74(instance, w2c_j0);
   w2c_j0 = w2c_l8;
   w2c_i0 = (u32)(w2c_j0);
   w2c_j1 = w2c_l13;
@@ -73001,7 +74385,7 @@ static void w2c_hidreport_collections(Z_hidreport_instance_t* instance, u64 w2c_
   w2c_j0 = w2c_l8;
   w2c_j1 = 32ull;
   w2c_j0 += w2c_j1;
-  w2c_f72(instance, w2c_j0);
+  w2c_f74(instance, w2c_j0);
   w2c_j0 = w2c_l8;
   w2c_i0 = (u32)(w2c_j0);
   w2c_j1 = w2c_l10;
@@ -73017,7 +74401,7 @@ static void w2c_hidreport_collections(Z_hidreport_instance_t* instance, u64 w2c_
   w2c_j0 = w2c_l8;
   w2c_j1 = 8ull;
   w2c_j0 += w2c_j1;
-  w2c_f72(instance, w2c_j0);
+  w2c_f74(instance, w2c_j0);
   w2c_B0:;
   w2c_j0 = w2c_p0;
   w2c_i0 = (u32)(w2c_j0);
@@ -73089,7 +74473,7 @@ static void w2c_hidreport_items(Z_hidreport_instance_t* instance, u64 w2c_p0, u6
   w2c_j2 = w2c_i4 ? w2c_j2 : w2c_j3;
   w2c_j1 += w2c_j2;
   w2c_j2 = w2c_p2;
-  w2c_f77(instance, w2c_j0, w2c_j1, w2c_j2);
+  w2c_f79(instance, w2c_j0, w2c_j1, w2c_j2);
   w2c_j0 = w2c_l5;
   w2c_i0 = (u32)(w2c_j0);
   w2c_j0 = i64_load(&instance->w2c_memory, (u64)(w2c_i0) + 16u);
@@ -73616,7 +75000,7 @@ static void w2c_hidreport_reports(Z_hidreport_instance_t* instance, u64 w2c_p0, 
   w2c_j0 = w2c_l8;
   w2c_j1 = 56ull;
   w2c_j0 += w2c_j1;
-  w2c_f72(instance, w2c_j0);
+  w2c_f74(instance, w2c_j0);
   w2c_j0 = w2c_l8;
   w2c_i0 = (u32)(w2c_j0);
   w2c_j1 = w2c_l13;
@@ -73632,7 +75016,7 @@ static void w2c_hidreport_reports(Z_hidreport_instance_t* instance, u64 w2c_p0, 
   w2c_j0 = w2c_l8;
   w2c_j1 = 32ull;
   w2c_j0 += w2c_j1;
-  w2c_f72(instance, w2c_j0);
+  w2c_f74(instance, w2c_j0);
   w2c_j0 = w2c_l8;
   w2c_i0 = (u32)(w2c_j0);
   w2c_j1 = w2c_l10;
@@ -73648,7 +75032,7 @@ static void w2c_hidreport_reports(Z_hidreport_instance_t* instance, u64 w2c_p0, 
   w2c_j0 = w2c_l8;
   w2c_j1 = 8ull;
   w2c_j0 += w2c_j1;
-  w2c_f72(instance, w2c_j0);
+  w2c_f74(instance, w2c_j0);
   goto w2c_B0;
   w2c_B1:;
   w2c_j0 = w2c_l8;
@@ -74364,7 +75748,7 @@ static void w2c_hidreport_rebuild(Z_hidreport_instance_t* instance, u64 w2c_p0, 
   w2c_j2 = w2c_i4 ? w2c_j2 : w2c_j3;
   w2c_j1 += w2c_j2;
   w2c_j2 = w2c_p2;
-  w2c_f77(instance, w2c_j0, w2c_j1, w2c_j2);
+  w2c_f79(instance, w2c_j0, w2c_j1, w2c_j2);
   w2c_j0 = w2c_l5;
   w2c_i0 = (u32)(w2c_j0);
   w2c_j0 = i64_load(&instance->w2c_memory, (u64)(w2c_i0) + 40u);
@@ -76760,7 +78144,7 @@ static void w2c_hidreport_repair(Z_hidreport_instance_t* instance, u64 w2c_p0, u
   w2c_j3 = w2c_l8;
   w2c_j4 = 64ull;
   w2c_j3 += w2c_j4;
-  w2c_f60(instance, w2c_j0, w2c_j1, w2c_j2, w2c_j3);
+  w2c_f62(instance, w2c_j0, w2c_j1, w2c_j2, w2c_j3);
   w2c_j0 = w2c_l8;
   w2c_i0 = (u32)(w2c_j0);
   w2c_j0 = i64_load(&instance->w2c_memory, (u64)(w2c_i0) + 24u);
@@ -77288,7 +78672,7 @@ static void w2c_hidreport_field_for(Z_hidreport_instance_t* instance, u64 w2c_p0
   w2c_i5 = 0u;
   w2c_i6 = w2c_p6;
   w2c_i4 = w2c_i6 ? w2c_i4 : w2c_i5;
-  w2c_f79(instance, w2c_j0, w2c_j1, w2c_i2, w2c_i3, w2c_i4);
+  w2c_f81(instance, w2c_j0, w2c_j1, w2c_i2, w2c_i3, w2c_i4);
   w2c_j0 = w2c_l11;
   w2c_i0 = (u32)(w2c_j0);
   w2c_i0 = i32_load8_u(&instance->w2c_memory, (u64)(w2c_i0));
@@ -77433,7 +78817,7 @@ static void w2c_hidreport_field_for(Z_hidreport_instance_t* instance, u64 w2c_p0
   w2c_j2 = 0ull;
   w2c_j3 = w2c_p9;
   w2c_j4 = w2c_p10;
-  w2c_f80(instance, w2c_j0, w2c_j1, w2c_j2, w2c_j3, w2c_j4);
+  w2c_f82(instance, w2c_j0, w2c_j1, w2c_j2, w2c_j3, w2c_j4);
   w2c_B1:;
   w2c_j0 = w2c_l11;
   w2c_i0 = (u32)(w2c_j0);
@@ -77444,15 +78828,15 @@ static void w2c_hidreport_field_for(Z_hidreport_instance_t* instance, u64 w2c_p0
   w2c_j1 = 0ull;
   i64_store(&instance->w2c_memory, (u64)(w2c_i0) + 24, w2c_j1);
   w2c_j0 = w2c_l12;
-  w2c_f72(instance, w2c_j0);
+  w2c_f74(instance, w2c_j0);
   w2c_j0 = w2c_l11;
   w2c_j1 = 64ull;
   w2c_j0 += w2c_j1;
-  w2c_f72(instance, w2c_j0);
+  w2c_f74(instance, w2c_j0);
   w2c_j0 = w2c_l11;
   w2c_j1 = 88ull;
   w2c_j0 += w2c_j1;
-  w2c_f72(instance, w2c_j0);
+  w2c_f74(instance, w2c_j0);
   w2c_B0:;
   w2c_j0 = w2c_p0;
   w2c_i0 = (u32)(w2c_j0);
@@ -77763,7 +79147,7 @@ static void w2c_hidreport_field_numbered(Z_hidreport_instance_t* instance, u64 w
   w2c_j4 = w2c_i6 ? w2c_j4 : w2c_j5;
   w2c_j3 += w2c_j4;
   w2c_j4 = w2c_p7;
-  w2c_f80(instance, w2c_j0, w2c_j1, w2c_j2, w2c_j3, w2c_j4);
+  w2c_f82(instance, w2c_j0, w2c_j1, w2c_j2, w2c_j3, w2c_j4);
   w2c_B1:;
   w2c_j0 = w2c_l8;
   w2c_i0 = (u32)(w2c_j0);
@@ -77788,7 +79172,7 @@ static void w2c_hidreport_field_numbered(Z_hidreport_instance_t* instance, u64 w
   w2c_j0 = w2c_l8;
   w2c_j1 = 56ull;
   w2c_j0 += w2c_j1;
-  w2c_f72(instance, w2c_j0);
+  w2c_f74(instance, w2c_j0);
   w2c_j0 = w2c_l8;
   w2c_i0 = (u32)(w2c_j0);
   w2c_j1 = w2c_l12;
@@ -77804,7 +79188,7 @@ static void w2c_hidreport_field_numbered(Z_hidreport_instance_t* instance, u64 w
   w2c_j0 = w2c_l8;
   w2c_j1 = 32ull;
   w2c_j0 += w2c_j1;
-  w2c_f72(instance, w2c_j0);
+  w2c_f74(instance, w2c_j0);
   w2c_j0 = w2c_l8;
   w2c_i0 = (u32)(w2c_j0);
   w2c_j1 = w2c_l9;
@@ -77820,7 +79204,7 @@ static void w2c_hidreport_field_numbered(Z_hidreport_instance_t* instance, u64 w
   w2c_j0 = w2c_l8;
   w2c_j1 = 8ull;
   w2c_j0 += w2c_j1;
-  w2c_f72(instance, w2c_j0);
+  w2c_f74(instance, w2c_j0);
   w2c_B0:;
   w2c_j0 = w2c_p0;
   w2c_i0 = (u32)(w2c_j0);
@@ -78022,7 +79406,7 @@ static void w2c_hidreport_describe(Z_hidreport_instance_t* instance, u64 w2c_p0,
     w2c_j2 = w2c_p3;
     w2c_j3 = w2c_l20;
     w2c_j4 = w2c_p7;
-    w2c_f80(instance, w2c_j0, w2c_j1, w2c_j2, w2c_j3, w2c_j4);
+    w2c_f82(instance, w2c_j0, w2c_j1, w2c_j2, w2c_j3, w2c_j4);
     w2c_j0 = w2c_p1;
     w2c_i0 = (u32)(w2c_j0);
     w2c_j0 = i64_load(&instance->w2c_memory, (u64)(w2c_i0));
@@ -78058,7 +79442,7 @@ static void w2c_hidreport_describe(Z_hidreport_instance_t* instance, u64 w2c_p0,
   w2c_j0 = w2c_l8;
   w2c_j1 = 56ull;
   w2c_j0 += w2c_j1;
-  w2c_f72(instance, w2c_j0);
+  w2c_f74(instance, w2c_j0);
   w2c_j0 = w2c_l8;
   w2c_i0 = (u32)(w2c_j0);
   w2c_j1 = w2c_l14;
@@ -78074,7 +79458,7 @@ static void w2c_hidreport_describe(Z_hidreport_instance_t* instance, u64 w2c_p0,
   w2c_j0 = w2c_l8;
   w2c_j1 = 32ull;
   w2c_j0 += w2c_j1;
-  w2c_f72(instance, w2c_j0);
+  w2c_f74(instance, w2c_j0);
   w2c_j0 = w2c_l8;
   w2c_i0 = (u32)(w2c_j0);
   w2c_j1 = w2c_l11;
@@ -78090,7 +79474,7 @@ static void w2c_hidreport_describe(Z_hidreport_instance_t* instance, u64 w2c_p0,
   w2c_j0 = w2c_l8;
   w2c_j1 = 8ull;
   w2c_j0 += w2c_j1;
-  w2c_f72(instance, w2c_j0);
+  w2c_f74(instance, w2c_j0);
   w2c_i0 = 0u;
   w2c_p5 = w2c_i0;
   w2c_j0 = 0ull;
@@ -78195,7 +79579,7 @@ static void w2c_hidreport_find(Z_hidreport_instance_t* instance, u64 w2c_p0, u64
   w2c_j4 = w2c_i6 ? w2c_j4 : w2c_j5;
   w2c_j3 += w2c_j4;
   w2c_j4 = w2c_p7;
-  w2c_f76(instance, w2c_j0, w2c_j1, w2c_i2, w2c_j3, w2c_j4);
+  w2c_f78(instance, w2c_j0, w2c_j1, w2c_i2, w2c_j3, w2c_j4);
   w2c_j0 = w2c_l10;
   w2c_i0 = (u32)(w2c_j0);
   w2c_i0 = i32_load8_u(&instance->w2c_memory, (u64)(w2c_i0));
@@ -78228,7 +79612,7 @@ static void w2c_hidreport_find(Z_hidreport_instance_t* instance, u64 w2c_p0, u64
   w2c_j4 = w2c_p3;
   w2c_j3 += w2c_j4;
   w2c_j4 = w2c_p9;
-  w2c_f80(instance, w2c_j0, w2c_j1, w2c_j2, w2c_j3, w2c_j4);
+  w2c_f82(instance, w2c_j0, w2c_j1, w2c_j2, w2c_j3, w2c_j4);
   w2c_B2:;
   w2c_j0 = w2c_l10;
   w2c_i0 = (u32)(w2c_j0);
@@ -78239,15 +79623,15 @@ static void w2c_hidreport_find(Z_hidreport_instance_t* instance, u64 w2c_p0, u64
   w2c_j1 = 0ull;
   i64_store(&instance->w2c_memory, (u64)(w2c_i0) + 112, w2c_j1);
   w2c_j0 = w2c_p1;
-  w2c_f72(instance, w2c_j0);
+  w2c_f74(instance, w2c_j0);
   w2c_j0 = w2c_l10;
   w2c_j1 = 48ull;
   w2c_j0 += w2c_j1;
-  w2c_f72(instance, w2c_j0);
+  w2c_f74(instance, w2c_j0);
   w2c_j0 = w2c_l10;
   w2c_j1 = 72ull;
   w2c_j0 += w2c_j1;
-  w2c_f72(instance, w2c_j0);
+  w2c_f74(instance, w2c_j0);
   goto w2c_B0;
   w2c_B1:;
   w2c_j0 = w2c_l10;
@@ -78335,7 +79719,7 @@ static void w2c_hidreport_groups(Z_hidreport_instance_t* instance, u64 w2c_p0, u
   w2c_j3 = w2c_l8;
   w2c_j4 = 104ull;
   w2c_j3 += w2c_j4;
-  w2c_f81(instance, w2c_j0, w2c_j1, w2c_j2, w2c_j3);
+  w2c_f83(instance, w2c_j0, w2c_j1, w2c_j2, w2c_j3);
   w2c_j0 = w2c_l8;
   w2c_i0 = (u32)(w2c_j0);
   w2c_j0 = i64_load(&instance->w2c_memory, (u64)(w2c_i0) + 40u);
@@ -78469,7 +79853,7 @@ static void w2c_hidreport_groups(Z_hidreport_instance_t* instance, u64 w2c_p0, u
       w2c_j0 = w2c_l8;
       w2c_j1 = 144ull;
       w2c_j0 += w2c_j1;
-      w2c_i0 = w2c_f82(instance, w2c_j0);
+      w2c_i0 = w2c_f84(instance, w2c_j0);
       w2c_i0 = !(w2c_i0);
       if (w2c_i0) {goto w2c_B2;}
       w2c_j0 = w2c_l8;
@@ -78761,7 +80145,7 @@ static void w2c_hidreport_groups(Z_hidreport_instance_t* instance, u64 w2c_p0, u
     w2c_j0 = w2c_l8;
     w2c_j1 = w2c_l19;
     w2c_j2 = 0ull;
-    w2c_f84(instance, w2c_j0, w2c_j1, w2c_j2);
+    w2c_f86(instance, w2c_j0, w2c_j1, w2c_j2);
     w2c_j0 = w2c_l8;
     w2c_i0 = (u32)(w2c_j0);
     w2c_i0 = i32_load(&instance->w2c_memory, (u64)(w2c_i0) + 2u);
@@ -78889,7 +80273,7 @@ static void w2c_hidreport_groups(Z_hidreport_instance_t* instance, u64 w2c_p0, u
     w2c_j0 = w2c_l8;
     w2c_j1 = w2c_l19;
     w2c_j2 = 0ull;
-    w2c_f84(instance, w2c_j0, w2c_j1, w2c_j2);
+    w2c_f86(instance, w2c_j0, w2c_j1, w2c_j2);
     w2c_j0 = w2c_l8;
     w2c_i0 = (u32)(w2c_j0);
     w2c_i0 = i32_load(&instance->w2c_memory, (u64)(w2c_i0) + 2u);
@@ -79532,7 +80916,7 @@ static void w2c_hidreport_group_field(Z_hidreport_instance_t* instance, u64 w2c_
   w2c_j3 = w2c_l10;
   w2c_j4 = 152ull;
   w2c_j3 += w2c_j4;
-  w2c_f81(instance, w2c_j0, w2c_j1, w2c_j2, w2c_j3);
+  w2c_f83(instance, w2c_j0, w2c_j1, w2c_j2, w2c_j3);
   w2c_j0 = w2c_l10;
   w2c_i0 = (u32)(w2c_j0);
   w2c_j0 = i64_load(&instance->w2c_memory, (u64)(w2c_i0) + 88u);
@@ -79674,7 +81058,7 @@ static void w2c_hidreport_group_field(Z_hidreport_instance_t* instance, u64 w2c_
       w2c_j0 = w2c_l10;
       w2c_j1 = 312ull;
       w2c_j0 += w2c_j1;
-      w2c_i0 = w2c_f82(instance, w2c_j0);
+      w2c_i0 = w2c_f84(instance, w2c_j0);
       w2c_i0 = !(w2c_i0);
       if (w2c_i0) {goto w2c_B14;}
       w2c_j0 = w2c_l10;
@@ -79874,7 +81258,7 @@ static void w2c_hidreport_group_field(Z_hidreport_instance_t* instance, u64 w2c_
   w2c_j1 = w2c_p1;
   w2c_j2 = w2c_p2;
   w2c_j3 = w2c_p7;
-  w2c_f85(instance, w2c_j0, w2c_j1, w2c_j2, w2c_j3);
+  w2c_f87(instance, w2c_j0, w2c_j1, w2c_j2, w2c_j3);
   w2c_j0 = w2c_l10;
   w2c_i0 = (u32)(w2c_j0);
   w2c_i0 = i32_load8_u(&instance->w2c_memory, (u64)(w2c_i0) + 312u);
@@ -79944,7 +81328,7 @@ static void w2c_hidreport_group_field(Z_hidreport_instance_t* instance, u64 w2c_
   w2c_j2 = 0ull;
   w2c_j3 = w2c_l22;
   w2c_j4 = w2c_p9;
-  w2c_f80(instance, w2c_j0, w2c_j1, w2c_j2, w2c_j3, w2c_j4);
+  w2c_f82(instance, w2c_j0, w2c_j1, w2c_j2, w2c_j3, w2c_j4);
   w2c_i0 = w2c_l24;
   switch (w2c_i0) {
     case 0: goto w2c_B23;
@@ -79974,7 +81358,7 @@ static void w2c_hidreport_group_field(Z_hidreport_instance_t* instance, u64 w2c_
   w2c_rattle_dealloc(instance, w2c_j0);
   w2c_B21:;
   w2c_j0 = w2c_p2;
-  w2c_f69(instance, w2c_j0);
+  w2c_f71(instance, w2c_j0);
   w2c_B20:;
   w2c_j0 = w2c_p3;
   w2c_i0 = !(w2c_j0);
@@ -80128,7 +81512,7 @@ static void w2c_hidreport_items_message(Z_hidreport_instance_t* instance, u64 w2
   w2c_j2 = w2c_i4 ? w2c_j2 : w2c_j3;
   w2c_j1 += w2c_j2;
   w2c_j2 = w2c_p2;
-  w2c_f77(instance, w2c_j0, w2c_j1, w2c_j2);
+  w2c_f79(instance, w2c_j0, w2c_j1, w2c_j2);
   w2c_j0 = w2c_l5;
   w2c_i0 = (u32)(w2c_j0);
   w2c_i0 = i32_load8_u(&instance->w2c_memory, (u64)(w2c_i0));
@@ -81008,15 +82392,15 @@ static void w2c_hidreport_message(Z_hidreport_instance_t* instance, u64 w2c_p0, 
   w2c_j0 = w2c_l7;
   w2c_j1 = 8ull;
   w2c_j0 += w2c_j1;
-  w2c_f72(instance, w2c_j0);
+  w2c_f74(instance, w2c_j0);
   w2c_j0 = w2c_l7;
   w2c_j1 = 32ull;
   w2c_j0 += w2c_j1;
-  w2c_f72(instance, w2c_j0);
+  w2c_f74(instance, w2c_j0);
   w2c_j0 = w2c_l7;
   w2c_j1 = 56ull;
   w2c_j0 += w2c_j1;
-  w2c_f72(instance, w2c_j0);
+  w2c_f74(instance, w2c_j0);
   w2c_j0 = w2c_p0;
   w2c_i0 = (u32)(w2c_j0);
   w2c_j1 = 0ull;
@@ -81855,7 +83239,7 @@ static void w2c_hidreport_repair_message(Z_hidreport_instance_t* instance, u64 w
   w2c_j3 = w2c_l8;
   w2c_j4 = 64ull;
   w2c_j3 += w2c_j4;
-  w2c_f60(instance, w2c_j0, w2c_j1, w2c_j2, w2c_j3);
+  w2c_f62(instance, w2c_j0, w2c_j1, w2c_j2, w2c_j3);
   w2c_j0 = w2c_l8;
   w2c_i0 = (u32)(w2c_j0);
   w2c_i0 = i32_load8_u(&instance->w2c_memory, (u64)(w2c_i0) + 8u);
@@ -82693,7 +84077,7 @@ static void w2c_hidreport_report_with(Z_hidreport_instance_t* instance, u64 w2c_
   w2c_i5 = 0u;
   w2c_i6 = w2c_p6;
   w2c_i4 = w2c_i6 ? w2c_i4 : w2c_i5;
-  w2c_f79(instance, w2c_j0, w2c_j1, w2c_i2, w2c_i3, w2c_i4);
+  w2c_f81(instance, w2c_j0, w2c_j1, w2c_i2, w2c_i3, w2c_i4);
   w2c_j0 = w2c_l10;
   w2c_i0 = (u32)(w2c_j0);
   w2c_i0 = i32_load8_u(&instance->w2c_memory, (u64)(w2c_i0));
@@ -82798,15 +84182,15 @@ static void w2c_hidreport_report_with(Z_hidreport_instance_t* instance, u64 w2c_
   w2c_j1 = 0ull;
   i64_store(&instance->w2c_memory, (u64)(w2c_i0) + 112, w2c_j1);
   w2c_j0 = w2c_p3;
-  w2c_f72(instance, w2c_j0);
+  w2c_f74(instance, w2c_j0);
   w2c_j0 = w2c_l10;
   w2c_j1 = 48ull;
   w2c_j0 += w2c_j1;
-  w2c_f72(instance, w2c_j0);
+  w2c_f74(instance, w2c_j0);
   w2c_j0 = w2c_l10;
   w2c_j1 = 72ull;
   w2c_j0 += w2c_j1;
-  w2c_f72(instance, w2c_j0);
+  w2c_f74(instance, w2c_j0);
   goto w2c_B0;
   w2c_B1:;
   w2c_j0 = w2c_l10;
@@ -83046,7 +84430,7 @@ static void w2c_hidreport_flag_words(Z_hidreport_instance_t* instance, u64 w2c_p
   w2c_j3 = 5ull;
   w2c_j4 = 1123445ull;
   w2c_j5 = 4ull;
-  w2c_i0 = w2c_f86(instance, w2c_j0, w2c_i1, w2c_j2, w2c_j3, w2c_j4, w2c_j5);
+  w2c_i0 = w2c_f88(instance, w2c_j0, w2c_i1, w2c_j2, w2c_j3, w2c_j4, w2c_j5);
   w2c_i1 = 255u;
   w2c_i0 &= w2c_i1;
   if (w2c_i0) {goto w2c_B8;}
@@ -83060,7 +84444,7 @@ static void w2c_hidreport_flag_words(Z_hidreport_instance_t* instance, u64 w2c_p
   w2c_j3 = 4ull;
   w2c_j4 = 1123453ull;
   w2c_j5 = 4ull;
-  w2c_i0 = w2c_f86(instance, w2c_j0, w2c_i1, w2c_j2, w2c_j3, w2c_j4, w2c_j5);
+  w2c_i0 = w2c_f88(instance, w2c_j0, w2c_i1, w2c_j2, w2c_j3, w2c_j4, w2c_j5);
   w2c_i1 = 255u;
   w2c_i0 &= w2c_i1;
   if (w2c_i0) {goto w2c_B8;}
@@ -83074,7 +84458,7 @@ static void w2c_hidreport_flag_words(Z_hidreport_instance_t* instance, u64 w2c_p
   w2c_j3 = 4ull;
   w2c_j4 = 1123461ull;
   w2c_j5 = 4ull;
-  w2c_i0 = w2c_f86(instance, w2c_j0, w2c_i1, w2c_j2, w2c_j3, w2c_j4, w2c_j5);
+  w2c_i0 = w2c_f88(instance, w2c_j0, w2c_i1, w2c_j2, w2c_j3, w2c_j4, w2c_j5);
   w2c_i1 = 255u;
   w2c_i0 &= w2c_i1;
   if (w2c_i0) {goto w2c_B8;}
@@ -83088,7 +84472,7 @@ static void w2c_hidreport_flag_words(Z_hidreport_instance_t* instance, u64 w2c_p
   w2c_j3 = 5ull;
   w2c_j4 = 1122223ull;
   w2c_j5 = 0ull;
-  w2c_i0 = w2c_f86(instance, w2c_j0, w2c_i1, w2c_j2, w2c_j3, w2c_j4, w2c_j5);
+  w2c_i0 = w2c_f88(instance, w2c_j0, w2c_i1, w2c_j2, w2c_j3, w2c_j4, w2c_j5);
   w2c_i1 = 255u;
   w2c_i0 &= w2c_i1;
   if (w2c_i0) {goto w2c_B8;}
@@ -83102,7 +84486,7 @@ static void w2c_hidreport_flag_words(Z_hidreport_instance_t* instance, u64 w2c_p
   w2c_j3 = 7ull;
   w2c_j4 = 1122223ull;
   w2c_j5 = 0ull;
-  w2c_i0 = w2c_f86(instance, w2c_j0, w2c_i1, w2c_j2, w2c_j3, w2c_j4, w2c_j5);
+  w2c_i0 = w2c_f88(instance, w2c_j0, w2c_i1, w2c_j2, w2c_j3, w2c_j4, w2c_j5);
   w2c_i1 = 255u;
   w2c_i0 &= w2c_i1;
   if (w2c_i0) {goto w2c_B8;}
@@ -83116,7 +84500,7 @@ static void w2c_hidreport_flag_words(Z_hidreport_instance_t* instance, u64 w2c_p
   w2c_j3 = 7ull;
   w2c_j4 = 1122223ull;
   w2c_j5 = 0ull;
-  w2c_i0 = w2c_f86(instance, w2c_j0, w2c_i1, w2c_j2, w2c_j3, w2c_j4, w2c_j5);
+  w2c_i0 = w2c_f88(instance, w2c_j0, w2c_i1, w2c_j2, w2c_j3, w2c_j4, w2c_j5);
   w2c_i1 = 255u;
   w2c_i0 &= w2c_i1;
   if (w2c_i0) {goto w2c_B8;}
@@ -83131,7 +84515,7 @@ static void w2c_hidreport_flag_words(Z_hidreport_instance_t* instance, u64 w2c_p
   w2c_j3 = 5ull;
   w2c_j4 = 1123489ull;
   w2c_j5 = 7ull;
-  w2c_i0 = w2c_f86(instance, w2c_j0, w2c_i1, w2c_j2, w2c_j3, w2c_j4, w2c_j5);
+  w2c_i0 = w2c_f88(instance, w2c_j0, w2c_i1, w2c_j2, w2c_j3, w2c_j4, w2c_j5);
   w2c_i1 = 255u;
   w2c_i0 &= w2c_i1;
   if (w2c_i0) {goto w2c_B8;}
@@ -83143,7 +84527,7 @@ static void w2c_hidreport_flag_words(Z_hidreport_instance_t* instance, u64 w2c_p
   w2c_j3 = 4ull;
   w2c_j4 = 1122223ull;
   w2c_j5 = 0ull;
-  w2c_i0 = w2c_f86(instance, w2c_j0, w2c_i1, w2c_j2, w2c_j3, w2c_j4, w2c_j5);
+  w2c_i0 = w2c_f88(instance, w2c_j0, w2c_i1, w2c_j2, w2c_j3, w2c_j4, w2c_j5);
   w2c_i1 = 255u;
   w2c_i0 &= w2c_i1;
   if (w2c_i0) {goto w2c_B8;}
@@ -83160,7 +84544,7 @@ static void w2c_hidreport_flag_words(Z_hidreport_instance_t* instance, u64 w2c_p
   w2c_j3 = 4ull;
   w2c_j4 = 1122223ull;
   w2c_j5 = 0ull;
-  w2c_i0 = w2c_f86(instance, w2c_j0, w2c_i1, w2c_j2, w2c_j3, w2c_j4, w2c_j5);
+  w2c_i0 = w2c_f88(instance, w2c_j0, w2c_i1, w2c_j2, w2c_j3, w2c_j4, w2c_j5);
   w2c_i1 = 255u;
   w2c_i0 &= w2c_i1;
   w2c_i0 = !(w2c_i0);
@@ -83700,7 +85084,7 @@ static void w2c_hidreport_page_name(Z_hidreport_instance_t* instance, u64 w2c_p0
   w2c_j1 = 8ull;
   w2c_j0 += w2c_j1;
   w2c_j1 = w2c_l5;
-  w2c_i0 = w2c_f87(instance, w2c_j0, w2c_j1);
+  w2c_i0 = w2c_f89(instance, w2c_j0, w2c_j1);
   w2c_i0 = !(w2c_i0);
   if (w2c_i0) {goto w2c_B4;}
   w2c_j0 = w2c_l4;
@@ -83973,7 +85357,7 @@ static void w2c_hidreport_page_name(Z_hidreport_instance_t* instance, u64 w2c_p0
   w2c_j1 = 8ull;
   w2c_j0 += w2c_j1;
   w2c_j1 = 15ull;
-  w2c_i0 = w2c_f87(instance, w2c_j0, w2c_j1);
+  w2c_i0 = w2c_f89(instance, w2c_j0, w2c_j1);
   w2c_i0 = !(w2c_i0);
   if (w2c_i0) {goto w2c_B4;}
   w2c_j0 = w2c_l4;
@@ -84033,7 +85417,7 @@ static void w2c_hidreport_page_name(Z_hidreport_instance_t* instance, u64 w2c_p0
   w2c_j1 = 8ull;
   w2c_j0 += w2c_j1;
   w2c_i1 = w2c_p1;
-  w2c_i0 = w2c_f90(instance, w2c_j0, w2c_i1);
+  w2c_i0 = w2c_f92(instance, w2c_j0, w2c_i1);
   w2c_i1 = 255u;
   w2c_i0 &= w2c_i1;
   if (w2c_i0) {goto w2c_B4;}
@@ -84463,7 +85847,7 @@ static void w2c_hidreport_usage_name(Z_hidreport_instance_t* instance, u64 w2c_p
   w2c_j1 = 8ull;
   w2c_j0 += w2c_j1;
   w2c_j1 = 13ull;
-  w2c_i0 = w2c_f87(instance, w2c_j0, w2c_j1);
+  w2c_i0 = w2c_f89(instance, w2c_j0, w2c_j1);
   w2c_i0 = !(w2c_i0);
   if (w2c_i0) {goto w2c_B2;}
   w2c_j0 = w2c_l4;
@@ -84550,7 +85934,7 @@ static void w2c_hidreport_usage_name(Z_hidreport_instance_t* instance, u64 w2c_p
   w2c_j1 = 1121924ull;
   w2c_j2 = 9ull;
   w2c_i3 = w2c_p1;
-  w2c_i0 = w2c_f91(instance, w2c_j0, w2c_j1, w2c_j2, w2c_i3);
+  w2c_i0 = w2c_f93(instance, w2c_j0, w2c_j1, w2c_j2, w2c_i3);
   w2c_i1 = 255u;
   w2c_i0 &= w2c_i1;
   w2c_p1 = w2c_i0;
@@ -84795,7 +86179,7 @@ static void w2c_hidreport_usage_name(Z_hidreport_instance_t* instance, u64 w2c_p
   w2c_j1 = 1121935ull;
   w2c_j2 = 5ull;
   w2c_i3 = w2c_p1;
-  w2c_i0 = w2c_f91(instance, w2c_j0, w2c_j1, w2c_j2, w2c_i3);
+  w2c_i0 = w2c_f93(instance, w2c_j0, w2c_j1, w2c_j2, w2c_i3);
   w2c_i1 = 255u;
   w2c_i0 &= w2c_i1;
   w2c_p1 = w2c_i0;
@@ -84926,7 +86310,7 @@ static void w2c_hidreport_usage_name(Z_hidreport_instance_t* instance, u64 w2c_p
   w2c_j1 = 8ull;
   w2c_j0 += w2c_j1;
   w2c_j1 = w2c_l8;
-  w2c_i0 = w2c_f87(instance, w2c_j0, w2c_j1);
+  w2c_i0 = w2c_f89(instance, w2c_j0, w2c_j1);
   w2c_i0 = !(w2c_i0);
   if (w2c_i0) {goto w2c_B3;}
   w2c_j0 = w2c_l4;
@@ -85184,7 +86568,7 @@ static void w2c_hidreport_usage_name(Z_hidreport_instance_t* instance, u64 w2c_p
   w2c_j1 = 1121970ull;
   w2c_j2 = 7ull;
   w2c_i3 = w2c_p1;
-  w2c_i0 = w2c_f91(instance, w2c_j0, w2c_j1, w2c_j2, w2c_i3);
+  w2c_i0 = w2c_f93(instance, w2c_j0, w2c_j1, w2c_j2, w2c_i3);
   w2c_i1 = 255u;
   w2c_i0 &= w2c_i1;
   w2c_p1 = w2c_i0;
@@ -85232,7 +86616,7 @@ static void w2c_hidreport_usage_name(Z_hidreport_instance_t* instance, u64 w2c_p
   w2c_j1 = 8ull;
   w2c_j0 += w2c_j1;
   w2c_j1 = 2ull;
-  w2c_i0 = w2c_f87(instance, w2c_j0, w2c_j1);
+  w2c_i0 = w2c_f89(instance, w2c_j0, w2c_j1);
   w2c_i0 = !(w2c_i0);
   if (w2c_i0) {goto w2c_B2;}
   w2c_j0 = w2c_l4;
@@ -85272,7 +86656,7 @@ static void w2c_hidreport_usage_name(Z_hidreport_instance_t* instance, u64 w2c_p
   w2c_j1 = 8ull;
   w2c_j0 += w2c_j1;
   w2c_i1 = w2c_p1;
-  w2c_i0 = w2c_f90(instance, w2c_j0, w2c_i1);
+  w2c_i0 = w2c_f92(instance, w2c_j0, w2c_i1);
   w2c_i1 = 255u;
   w2c_i0 &= w2c_i1;
   w2c_p1 = w2c_i0;
@@ -85299,7 +86683,7 @@ static void w2c_hidreport_usage_name(Z_hidreport_instance_t* instance, u64 w2c_p
   w2c_j1 = 8ull;
   w2c_j0 += w2c_j1;
   w2c_i1 = w2c_p1;
-  w2c_i0 = w2c_f90(instance, w2c_j0, w2c_i1);
+  w2c_i0 = w2c_f92(instance, w2c_j0, w2c_i1);
   w2c_i1 = 255u;
   w2c_i0 &= w2c_i1;
   w2c_p1 = w2c_i0;
@@ -85678,7 +87062,7 @@ static void w2c_hidreport_group_usage(Z_hidreport_instance_t* instance, u64 w2c_
   w2c_j3 = w2c_l10;
   w2c_j4 = 128ull;
   w2c_j3 += w2c_j4;
-  w2c_f81(instance, w2c_j0, w2c_j1, w2c_j2, w2c_j3);
+  w2c_f83(instance, w2c_j0, w2c_j1, w2c_j2, w2c_j3);
   w2c_j0 = w2c_l10;
   w2c_i0 = (u32)(w2c_j0);
   w2c_j0 = i64_load(&instance->w2c_memory, (u64)(w2c_i0) + 64u);
@@ -85812,7 +87196,7 @@ static void w2c_hidreport_group_usage(Z_hidreport_instance_t* instance, u64 w2c_
       w2c_j0 = w2c_l10;
       w2c_j1 = 144ull;
       w2c_j0 += w2c_j1;
-      w2c_i0 = w2c_f82(instance, w2c_j0);
+      w2c_i0 = w2c_f84(instance, w2c_j0);
       w2c_i0 = !(w2c_i0);
       if (w2c_i0) {goto w2c_B10;}
       w2c_j0 = w2c_l10;
@@ -85919,7 +87303,7 @@ static void w2c_hidreport_group_usage(Z_hidreport_instance_t* instance, u64 w2c_
   w2c_j2 = 128ull;
   w2c_j1 += w2c_j2;
   w2c_j2 = w2c_p7;
-  w2c_f83(instance, w2c_j0, w2c_j1, w2c_j2);
+  w2c_f85(instance, w2c_j0, w2c_j1, w2c_j2);
   w2c_j0 = w2c_l10;
   w2c_i0 = (u32)(w2c_j0);
   w2c_i0 = i32_load8_u(&instance->w2c_memory, (u64)(w2c_i0) + 144u);
@@ -86537,7 +87921,7 @@ static void w2c_hidreport_usages(Z_hidreport_instance_t* instance, u64 w2c_p0, u
   w2c_j0 = w2c_l8;
   w2c_j1 = 56ull;
   w2c_j0 += w2c_j1;
-  w2c_f72(instance, w2c_j0);
+  w2c_f74(instance, w2c_j0);
   w2c_j0 = w2c_l8;
   w2c_i0 = (u32)(w2c_j0);
   w2c_j1 = w2c_l13;
@@ -86553,7 +87937,7 @@ static void w2c_hidreport_usages(Z_hidreport_instance_t* instance, u64 w2c_p0, u
   w2c_j0 = w2c_l8;
   w2c_j1 = 32ull;
   w2c_j0 += w2c_j1;
-  w2c_f72(instance, w2c_j0);
+  w2c_f74(instance, w2c_j0);
   w2c_j0 = w2c_l8;
   w2c_i0 = (u32)(w2c_j0);
   w2c_j1 = w2c_l10;
@@ -86569,7 +87953,7 @@ static void w2c_hidreport_usages(Z_hidreport_instance_t* instance, u64 w2c_p0, u
   w2c_j0 = w2c_l8;
   w2c_j1 = 8ull;
   w2c_j0 += w2c_j1;
-  w2c_f72(instance, w2c_j0);
+  w2c_f74(instance, w2c_j0);
   w2c_B0:;
   w2c_j0 = w2c_p0;
   w2c_i0 = (u32)(w2c_j0);
@@ -87032,7 +88416,7 @@ static void w2c_hidreport_read(Z_hidreport_instance_t* instance, u64 w2c_p0, u64
   w2c_j6 = 40ull;
   w2c_j5 += w2c_j6;
   w2c_j6 = 0ull;
-  w2c_f92(instance, w2c_j0, w2c_j1, w2c_j2, w2c_j3, w2c_j4, w2c_j5, w2c_j6);
+  w2c_f94(instance, w2c_j0, w2c_j1, w2c_j2, w2c_j3, w2c_j4, w2c_j5, w2c_j6);
   w2c_j0 = w2c_l7;
   w2c_i0 = (u32)(w2c_j0);
   w2c_i0 = i32_load8_u(&instance->w2c_memory, (u64)(w2c_i0) + 24u);
@@ -87068,7 +88452,7 @@ static void w2c_hidreport_read(Z_hidreport_instance_t* instance, u64 w2c_p0, u64
   w2c_j6 = w2c_i8 ? w2c_j6 : w2c_j7;
   w2c_j5 += w2c_j6;
   w2c_j6 = w2c_p6;
-  w2c_f92(instance, w2c_j0, w2c_j1, w2c_j2, w2c_j3, w2c_j4, w2c_j5, w2c_j6);
+  w2c_f94(instance, w2c_j0, w2c_j1, w2c_j2, w2c_j3, w2c_j4, w2c_j5, w2c_j6);
   w2c_j0 = w2c_l7;
   w2c_i0 = (u32)(w2c_j0);
   w2c_j0 = i64_load(&instance->w2c_memory, (u64)(w2c_i0) + 16u);
@@ -87364,7 +88748,7 @@ static void w2c_rattle_dealloc(Z_hidreport_instance_t* instance, u64 w2c_p0) {
   FUNC_EPILOGUE;
 }
 
-static void w2c_f142(Z_hidreport_instance_t* instance, u64 w2c_p0, u64 w2c_p1, u64 w2c_p2, u64 w2c_p3, u64 w2c_p4) {
+static void w2c_f144(Z_hidreport_instance_t* instance, u64 w2c_p0, u64 w2c_p1, u64 w2c_p2, u64 w2c_p3, u64 w2c_p4) {
   u64 w2c_l5 = 0, w2c_l6 = 0, w2c_l7 = 0, w2c_l8 = 0, w2c_l9 = 0, w2c_l10 = 0, w2c_l11 = 0;
   FUNC_PROLOGUE;
   u32 w2c_i0, w2c_i1, w2c_i2;
@@ -87815,7 +89199,7 @@ static void w2c_f142(Z_hidreport_instance_t* instance, u64 w2c_p0, u64 w2c_p1, u
   FUNC_EPILOGUE;
 }
 
-static void w2c_f143(Z_hidreport_instance_t* instance, u64 w2c_p0, u64 w2c_p1, u64 w2c_p2, u64 w2c_p3, u64 w2c_p4) {
+static void w2c_f145(Z_hidreport_instance_t* instance, u64 w2c_p0, u64 w2c_p1, u64 w2c_p2, u64 w2c_p3, u64 w2c_p4) {
   u64 w2c_l5 = 0;
   FUNC_PROLOGUE;
   u32 w2c_i0;

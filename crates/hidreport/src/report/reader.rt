@@ -111,7 +111,7 @@ impl Reader {
     /// let report_bytes = b"\x01\x02\x03\x04\x05\x06\x07\x08\x09";
     /// let mut values = [0; 2];
     /// let exact = Reader::new(alloc, report)?.read(report_bytes, &mut values);
-    /// assert_eq!(rt; exact.err(), Some(ParserError::OutOfBounds));
+    /// assert!(rt; matches!(exact, Err(ParserError::OutOfBounds)));
     /// assert_eq!(rt; Reader::of_low_bits(alloc, report)?.read(report_bytes, &mut values)?, 2);
     /// assert_eq!(rt; values, [0x0403_0201, 9]);
     /// ```
