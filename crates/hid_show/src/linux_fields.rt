@@ -14,8 +14,10 @@ use hidreport::{
     Collection, Direction, Field, Group, OutlineReport, ParserError, RDescReport, Report,
     ReportDescriptor, Usage,
 };
-use hidreport_linux::{Doubt, Driver, InputDevices, Item, LinuxDevice, LinuxField, LinuxReport};
-use std::alloc::AllocError;
+use hidreport_linux::{
+    Doubt, Driver, FieldUsages, InputDevices, Item, LinuxDevice, LinuxField, LinuxReport,
+};
+use std::alloc::{AllocError, Global};
 
 /// How much deeper than its array's the usages of an array stand.
 const DEEPER: usize = 12;
@@ -226,15 +228,9 @@ impl Shown {
         group: &Group,
         item: &mut Item,
     ) -> Result<Vec<Answered>, AllocError> {
-        let mut rest = Vec::new(*self.text.allocator());
-        let mut last = 0;
-        let (elements, named) = (group.field_count(), group.usage_count());
-        for (index, usage) in read.reading().usages(field).enumerate() {
-            last = u32::from(usage);
-            if index >= elements && (index as u128) < named {
-                rest.push(usage)?;
-            }
-        }
+        let alloc = *self.text.allocator();
+        let usages = read.reading().usages(field);
+        let (mut rest, last) = left_of(alloc, usages, group.field_count(), group.usage_count())?;
         if field.left_out > 0 {
             rest.push(Usage::from(last.saturating_add(1)))?;
         }
@@ -301,6 +297,27 @@ impl Shown {
         add_lines(&mut self.text, answers, indent.saturating_add(DEEPER))?;
         Ok(self.text.push_str("\n")?)
     }
+}
+
+/// The usages behind those of so many elements, of the first that are named; and the last of all, 0
+/// where there is none.
+fn left_of(
+    alloc: Global,
+    usages: FieldUsages<'_>,
+    elements: usize,
+    named: u128,
+) -> Result<(Vec<Usage>, u32), AllocError> {
+    let mut rest = Vec::new(alloc);
+    let mut last = 0;
+    let mut index: usize = 0;
+    for usage in usages {
+        last = u32::from(usage);
+        if index >= elements && (index as u128) < named {
+            rest.push(Usage::from(last))?;
+        }
+        index = index.saturating_add(1);
+    }
+    Ok((rest, last))
 }
 
 /// The id of a report, 0 where it has none.
