@@ -4,6 +4,7 @@
 
 mod decode;
 mod fields;
+mod linux_copy;
 mod linux_fields;
 mod list;
 mod map;

@@ -1,23 +1,19 @@
 //! `hid fields --linux`: each field with the event codes that Linux gives its usages.
-use anyhow::{Result, bail};
+use crate::linux_copy::{LinuxCopy, has_no_bits, id_of, pass_item};
+use anyhow::Result;
 use hid_input::input::descriptor_named;
 use hid_input::linux_read::{read_by_linux, tell_mended};
 use hid_input::settings::Settings;
 use hid_input::world::World;
 use hid_objects::field_object::{RestObject, object_of};
-use hid_objects::linux::{Answered, add_answers, add_lines, answers_of, objects_of, stretch};
+use hid_objects::linux::{Answered, add_answers, add_lines, answers_of, objects_of};
 use hid_output::ending::Ending;
 use hid_output::{add_json, flush, flush_piece};
 use hid_report::{FieldLine, add_head, around};
-use hid_words::{add_field, add_spaces, fault_words, indent_of};
-use hidreport::{
-    Collection, Direction, Field, Group, OutlineReport, ParserError, RDescReport, Report,
-    ReportDescriptor, Usage,
-};
-use hidreport_linux::{
-    Doubt, Driver, FieldUsages, InputDevices, Item, LinuxDevice, LinuxField, LinuxReport,
-};
-use std::alloc::{AllocError, Global};
+use hid_words::{add_field, add_spaces, indent_of};
+use hidreport::{Collection, Direction, Field, Group, OutlineReport, RDescReport, Report, Usage};
+use hidreport_linux::{Doubt, Driver, InputDevices, Item, LinuxReading};
+use std::alloc::AllocError;
 
 /// How much deeper than its array's the usages of an array stand.
 const DEEPER: usize = 12;
@@ -30,65 +26,30 @@ pub fn show_linux<R: World>(rt: &R, settings: &Settings, file: &str) -> Result<E
         tell_mended(rt, file, &read)?;
     }
     let descriptor = read.outline().lay_out(rt.alloc())?;
-    let reading = read.reading();
-    let fields = reading.fields(rt.alloc())?;
-    check_usages(settings, &fields)?;
+    let copy = LinuxCopy::of(rt.alloc(), settings, read.bytes(), read.reading())?;
+    let reading = read.into_reading();
     let mut shown = Shown {
         text: String::new(rt.alloc()),
         devices: reading.input_devices(rt.alloc()),
-        all: reading.input_devices_behind(rt.alloc())?,
+        all: copy.devices(rt.alloc(), &reading)?,
+        reading,
         is_json: settings.is_json,
         is_coloured: settings.is_coloured,
     };
     for direction in Direction::ALL {
-        for kept in reading.reports() {
-            if kept.direction == direction {
-                let fields = fields_of(kept, &fields);
-                shown.show_report(rt, &read, &descriptor, kept, fields)?;
-            }
+        let (outlines, arrays) = copy.reports(direction);
+        for parts in outlines.iter().zip(arrays) {
+            let id = parts.0.report_id();
+            let mut reports = descriptor.reports(direction).iter();
+            let report = reports.find(|report| report.report_id() == id);
+            shown.show_report(rt, direction, report, parts)?;
         }
     }
     flush(rt, &mut shown.text)?;
     if settings.has_notes() {
-        tell(rt, reading.doubt(), reading.driver())?;
+        tell(rt, shown.reading.doubt(), shown.reading.driver())?;
     }
     Ok(Ending::Done)
-}
-
-/// Refuses fields that name more usages than may be listed.
-fn check_usages(settings: &Settings, fields: &[LinuxField]) -> Result<()> {
-    let Some(limit) = settings.parse.limit else {
-        return Ok(());
-    };
-    let mut listed: usize = 0;
-    let mut past = None;
-    for field in fields {
-        listed = listed.saturating_add(field.usages as usize);
-        if past.is_none() && listed > limit {
-            past = Some(field.offset);
-        }
-    }
-    match past {
-        Some(offset) => {
-            let fault = ParserError::BudgetExceeded { offset };
-            let words = fault_words(&fault);
-            bail!("{words} at offset {offset}: --limit {listed} is enough")
-        }
-        None => Ok(()),
-    }
-}
-
-/// Those of all fields in order that are of a report.
-fn fields_of<'a>(report: &LinuxReport, fields: &'a [LinuxField]) -> &'a [LinuxField] {
-    let is_its = |field: &LinuxField| field.report == *report;
-    let Some(first) = fields.iter().position(is_its) else {
-        return &[];
-    };
-    let rest = fields.get(first..).unwrap_or(&[]);
-    match rest.iter().position(|field| field.report != *report) {
-        Some(count) => rest.get(..count).unwrap_or(rest),
-        None => rest,
-    }
 }
 
 /// The same options, by which a descriptor isn't mended when it is read.
@@ -119,124 +80,58 @@ struct Shown {
     text: String,
     devices: InputDevices,
     all: InputDevices,
+    reading: LinuxReading,
     is_json: bool,
     is_coloured: bool,
 }
 
 impl Shown {
-    /// Shows a report, if it has bits, and goes over the usages of its other fields.
+    /// Shows a report; one of elements without bits is none, and goes on to its device.
     fn show_report<R: Print>(
         &mut self,
         rt: &R,
-        read: &LinuxDevice,
-        descriptor: &ReportDescriptor,
-        kept: &LinuxReport,
-        fields: &[LinuxField],
+        direction: Direction,
+        report: Option<&RDescReport>,
+        parts: (&OutlineReport, &RDescReport),
     ) -> Result<()> {
-        let direction = kept.direction;
-        let outlines = read.outline().reports(direction);
-        let mut rest = fields;
-        for (outline, report) in outlines.iter().zip(descriptor.reports(direction)) {
-            if id_of(outline) == kept.id {
-                if !self.is_json {
-                    add_head(&mut self.text, direction, report)?;
-                }
-                rest = self.show_groups(rt, read, outline, (direction, report), fields)?;
-            }
+        let (outline, named) = parts;
+        let application = self.reading.application(direction, id_of(outline));
+        self.devices.enter(application)?;
+        let Some(report) = report else {
+            self.pass_report(direction, parts);
+            return Ok(());
+        };
+        if !self.is_json {
+            add_head(&mut self.text, direction, report)?;
         }
-        for field in rest {
-            read.reading().pass_field(field, &mut self.devices)?;
+        let mut fields = report.fields();
+        let mut open: &[Collection] = &[];
+        for (group, array) in outline.groups().iter().zip(named.fields()) {
+            let mut item = self.devices.begin(direction, group);
+            if has_no_bits(group) {
+                pass_item(&mut self.devices, &mut item, group, array);
+                continue;
+            }
+            let (own, rest) = fields.split_at(group.field_count().min(fields.len()));
+            open = self.show_item(rt, direction, report, &mut item, own, open)?;
+            fields = rest;
+            if group.is_variable() {
+                let rest = array.usages().get(own.len()..).unwrap_or(&[]);
+                let answers = self.answers(&mut item, rest)?;
+                self.show_rest((direction, report), group, &answers, open.len())?;
+                flush_piece(rt, &mut self.text)?;
+            }
         }
         Ok(())
     }
 
-    /// Shows the groups of a report, and answers the fields behind them.
-    fn show_groups<'a, R: Print>(
-        &mut self,
-        rt: &R,
-        read: &LinuxDevice,
-        outline: &OutlineReport,
-        place: (Direction, &RDescReport),
-        kept: &'a [LinuxField],
-    ) -> Result<&'a [LinuxField]> {
-        let (direction, report) = place;
-        let mut kept = kept;
-        let mut fields = report.fields();
-        let mut open: &[Collection] = &[];
-        for group in outline.groups() {
-            let (own, rest) = fields.split_at(group.field_count().min(fields.len()));
-            fields = rest;
-            let mut field = None;
-            if !group.is_constant() {
-                let count = self.pass_hidden(read, kept)?;
-                let rest = kept.get(count..).unwrap_or(&[]);
-                field = rest.first();
-                kept = rest.get(1..).unwrap_or(&[]);
-            }
-            let mut item = self.begin(read, direction, group, field)?;
-            open = self.show_item(rt, direction, report, &mut item, own, open)?;
-            if let Some(field) = field
-                && group.is_variable()
-            {
-                let answers = self.rest_answers(read, field, group, &mut item)?;
-                self.show_rest(place, group, &answers, open.len())?;
-                flush_piece(rt, &mut self.text)?;
-            }
+    /// Goes over the usages of a report that isn't shown.
+    fn pass_report(&mut self, direction: Direction, parts: (&OutlineReport, &RDescReport)) {
+        let (outline, named) = parts;
+        for (group, array) in outline.groups().iter().zip(named.fields()) {
+            let mut item = self.devices.begin(direction, group);
+            pass_item(&mut self.devices, &mut item, group, array);
         }
-        Ok(kept)
-    }
-
-    /// Goes over the usages of the fields before the next that is shown, and answers how many fields
-    /// these are: padding, and those without bits.
-    fn pass_hidden(
-        &mut self,
-        read: &LinuxDevice,
-        kept: &[LinuxField],
-    ) -> Result<usize, AllocError> {
-        let mut count: usize = 0;
-        for field in kept {
-            if !field.place.is_constant && field.size > 0 && field.count > 0 {
-                break;
-            }
-            read.reading().pass_field(field, &mut self.devices)?;
-            count = count.saturating_add(1);
-        }
-        Ok(count)
-    }
-
-    /// Goes on to a group, by the field that hid-core keeps of it; where hid-core may read otherwise, by
-    /// the group alone.
-    fn begin(
-        &mut self,
-        read: &LinuxDevice,
-        direction: Direction,
-        group: &Group,
-        field: Option<&LinuxField>,
-    ) -> Result<Item, AllocError> {
-        match field {
-            Some(field) if read.reading().doubt().is_none() => self.devices.begin_field(field),
-            _ => Ok(self.devices.begin(direction, group)),
-        }
-    }
-
-    /// What Linux gives the usages of a field that are left when each of its elements has one, up to
-    /// as many as the group names.
-    fn rest_answers(
-        &mut self,
-        read: &LinuxDevice,
-        field: &LinuxField,
-        group: &Group,
-        item: &mut Item,
-    ) -> Result<Vec<Answered>, AllocError> {
-        let alloc = *self.text.allocator();
-        let usages = read.reading().usages(field);
-        let (mut rest, last) = left_of(alloc, usages, group.field_count(), group.usage_count())?;
-        if field.left_out > 0 {
-            rest.push(Usage::from(last.saturating_add(1)))?;
-        }
-        let mut answers = self.answers(item, &rest)?;
-        stretch(&mut answers, field.left_out.saturating_sub(1));
-        Ok(answers)
     }
 
     /// What Linux gives usages of an item.
@@ -297,32 +192,6 @@ impl Shown {
         add_lines(&mut self.text, answers, indent.saturating_add(DEEPER))?;
         Ok(self.text.push_str("\n")?)
     }
-}
-
-/// The usages behind those of so many elements, of the first that are named; and the last of all, 0
-/// where there is none.
-fn left_of(
-    alloc: Global,
-    usages: FieldUsages<'_>,
-    elements: usize,
-    named: u128,
-) -> Result<(Vec<Usage>, u32), AllocError> {
-    let mut rest = Vec::new(alloc);
-    let mut last = 0;
-    let mut index: usize = 0;
-    for usage in usages {
-        last = u32::from(usage);
-        if index >= elements && (index as u128) < named {
-            rest.push(Usage::from(last))?;
-        }
-        index = index.saturating_add(1);
-    }
-    Ok((rest, last))
-}
-
-/// The id of a report, 0 where it has none.
-fn id_of(report: &OutlineReport) -> u32 {
-    report.report_id().map_or(0, |id| u32::from(u8::from(id)))
 }
 
 /// Appends a field inside so many collections, and what Linux gives it.
