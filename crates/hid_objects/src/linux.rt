@@ -69,6 +69,13 @@ fn role_in(all: &InputDevices, event: &Event) -> Role {
     }
 }
 
+/// So many usages more behind the last are given the same.
+pub fn stretch(answers: &mut [Answered], count: u32) {
+    if let Some(answered) = answers.last_mut() {
+        answered.last = Usage::from(u32::from(answered.last).saturating_add(count));
+    }
+}
+
 impl Answered {
     /// Whether the next usage has none for the same reason.
     fn goes_on(&self, next: &Answered) -> bool {

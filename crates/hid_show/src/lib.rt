@@ -4,8 +4,8 @@
 
 mod decode;
 mod fields;
-mod linux_copy;
 mod linux_fields;
+mod linux_usages;
 mod list;
 mod map;
 

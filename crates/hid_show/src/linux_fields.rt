@@ -1,18 +1,21 @@
 //! `hid fields --linux`: each field with the event codes that Linux gives its usages.
-use crate::linux_copy::{LinuxCopy, has_no_bits, id_of, pass_item};
+use crate::linux_usages::{check_usages, fields_of, left_of};
 use anyhow::Result;
 use hid_input::input::descriptor_named;
 use hid_input::linux_read::{read_by_linux, tell_mended};
 use hid_input::settings::Settings;
 use hid_input::world::World;
 use hid_objects::field_object::{RestObject, object_of};
-use hid_objects::linux::{Answered, add_answers, add_lines, answers_of, objects_of};
+use hid_objects::linux::{Answered, add_answers, add_lines, answers_of, objects_of, stretch};
 use hid_output::ending::Ending;
 use hid_output::{add_json, flush, flush_piece};
 use hid_report::{FieldLine, add_head, around};
 use hid_words::{add_field, add_spaces, indent_of};
-use hidreport::{Collection, Direction, Field, Group, OutlineReport, RDescReport, Report, Usage};
-use hidreport_linux::{Doubt, Driver, InputDevices, Item, LinuxReading};
+use hidreport::{
+    Collection, Direction, Field, Group, OutlineReport, RDescReport, Report, ReportDescriptor,
+    Usage,
+};
+use hidreport_linux::{Doubt, Driver, InputDevices, Item, LinuxDevice, LinuxField, LinuxReport};
 use std::alloc::AllocError;
 
 /// How much deeper than its array's the usages of an array stand.
@@ -26,28 +29,22 @@ pub fn show_linux<R: World>(rt: &R, settings: &Settings, file: &str) -> Result<E
         tell_mended(rt, file, &read)?;
     }
     let descriptor = read.outline().lay_out(rt.alloc())?;
-    let copy = LinuxCopy::of(rt.alloc(), settings, read.bytes(), read.reading())?;
-    let reading = read.into_reading();
+    let reading = read.reading();
+    let fields = reading.fields(rt.alloc())?;
+    check_usages(settings, &fields)?;
     let mut shown = Shown {
         text: String::new(rt.alloc()),
         devices: reading.input_devices(rt.alloc()),
-        all: copy.devices(rt.alloc(), &reading)?,
-        reading,
+        all: reading.input_devices_behind(rt.alloc())?,
         is_json: settings.is_json,
         is_coloured: settings.is_coloured,
     };
     for direction in Direction::ALL {
-        let (outlines, arrays) = copy.reports(direction);
-        for parts in outlines.iter().zip(arrays) {
-            let id = parts.0.report_id();
-            let mut reports = descriptor.reports(direction).iter();
-            let report = reports.find(|report| report.report_id() == id);
-            shown.show_report(rt, direction, report, parts)?;
-        }
+        shown.show_reports(rt, &read, &descriptor, direction, &fields)?;
     }
     flush(rt, &mut shown.text)?;
     if settings.has_notes() {
-        tell(rt, shown.reading.doubt(), shown.reading.driver())?;
+        tell(rt, reading.doubt(), reading.driver())?;
     }
     Ok(Ending::Done)
 }
@@ -80,58 +77,144 @@ struct Shown {
     text: String,
     devices: InputDevices,
     all: InputDevices,
-    reading: LinuxReading,
     is_json: bool,
     is_coloured: bool,
 }
 
 impl Shown {
-    /// Shows a report; one of elements without bits is none, and goes on to its device.
-    fn show_report<R: Print>(
+    /// Shows the reports of a direction in the order in which Linux meets them.
+    fn show_reports<R: Print>(
         &mut self,
         rt: &R,
+        read: &LinuxDevice,
+        descriptor: &ReportDescriptor,
         direction: Direction,
-        report: Option<&RDescReport>,
-        parts: (&OutlineReport, &RDescReport),
+        fields: &[LinuxField],
     ) -> Result<()> {
-        let (outline, named) = parts;
-        let application = self.reading.application(direction, id_of(outline));
-        self.devices.enter(application)?;
-        let Some(report) = report else {
-            self.pass_report(direction, parts);
-            return Ok(());
-        };
-        if !self.is_json {
-            add_head(&mut self.text, direction, report)?;
-        }
-        let mut fields = report.fields();
-        let mut open: &[Collection] = &[];
-        for (group, array) in outline.groups().iter().zip(named.fields()) {
-            let mut item = self.devices.begin(direction, group);
-            if has_no_bits(group) {
-                pass_item(&mut self.devices, &mut item, group, array);
-                continue;
-            }
-            let (own, rest) = fields.split_at(group.field_count().min(fields.len()));
-            open = self.show_item(rt, direction, report, &mut item, own, open)?;
-            fields = rest;
-            if group.is_variable() {
-                let rest = array.usages().get(own.len()..).unwrap_or(&[]);
-                let answers = self.answers(&mut item, rest)?;
-                self.show_rest((direction, report), group, &answers, open.len())?;
-                flush_piece(rt, &mut self.text)?;
+        for kept in read.reading().reports() {
+            if kept.direction == direction {
+                let fields = fields_of(kept, fields);
+                let laid_out = laid_out(read, descriptor, kept);
+                self.show_report(rt, read, direction, laid_out, fields)?;
             }
         }
         Ok(())
     }
 
-    /// Goes over the usages of a report that isn't shown.
-    fn pass_report(&mut self, direction: Direction, parts: (&OutlineReport, &RDescReport)) {
-        let (outline, named) = parts;
-        for (group, array) in outline.groups().iter().zip(named.fields()) {
-            let mut item = self.devices.begin(direction, group);
-            pass_item(&mut self.devices, &mut item, group, array);
+    /// Shows a report, if it has bits, and goes over the usages of its other fields.
+    fn show_report<R: Print>(
+        &mut self,
+        rt: &R,
+        read: &LinuxDevice,
+        direction: Direction,
+        laid_out: Option<(&OutlineReport, &RDescReport)>,
+        fields: &[LinuxField],
+    ) -> Result<()> {
+        let Some((outline, report)) = laid_out else {
+            return Ok(self.pass_fields(read, fields)?);
+        };
+        if !self.is_json {
+            add_head(&mut self.text, direction, report)?;
         }
+        let rest = self.show_groups(rt, read, outline, (direction, report), fields)?;
+        Ok(self.pass_fields(read, rest)?)
+    }
+
+    /// Goes over the usages of fields that aren't shown.
+    fn pass_fields(&mut self, read: &LinuxDevice, fields: &[LinuxField]) -> Result<(), AllocError> {
+        for field in fields {
+            read.reading().pass_field(field, &mut self.devices)?;
+        }
+        Ok(())
+    }
+
+    /// Shows the groups of a report, and answers the fields behind them.
+    fn show_groups<'a, R: Print>(
+        &mut self,
+        rt: &R,
+        read: &LinuxDevice,
+        outline: &OutlineReport,
+        place: (Direction, &RDescReport),
+        kept: &'a [LinuxField],
+    ) -> Result<&'a [LinuxField]> {
+        let (direction, report) = place;
+        let mut kept = kept;
+        let mut fields = report.fields();
+        let mut open: &[Collection] = &[];
+        for group in outline.groups() {
+            let (own, rest) = fields.split_at(group.field_count().min(fields.len()));
+            fields = rest;
+            let mut field = None;
+            if !group.is_constant() {
+                let count = self.pass_hidden(read, kept)?;
+                let rest = kept.get(count..).unwrap_or(&[]);
+                field = rest.first();
+                kept = rest.get(1..).unwrap_or(&[]);
+            }
+            let mut item = self.begin(read, direction, group, field)?;
+            open = self.show_item(rt, direction, report, &mut item, own, open)?;
+            if let Some(field) = field
+                && group.is_variable()
+            {
+                let answers = self.rest_answers(read, field, group, &mut item)?;
+                self.show_rest(place, group, &answers, open.len())?;
+                flush_piece(rt, &mut self.text)?;
+            }
+        }
+        Ok(kept)
+    }
+
+    /// Goes over the usages of the fields before the next that is shown, and answers how many fields
+    /// these are: padding, and those without bits.
+    fn pass_hidden(
+        &mut self,
+        read: &LinuxDevice,
+        kept: &[LinuxField],
+    ) -> Result<usize, AllocError> {
+        let mut count: usize = 0;
+        for field in kept {
+            if !field.place.is_constant && field.size > 0 && field.count > 0 {
+                break;
+            }
+            read.reading().pass_field(field, &mut self.devices)?;
+            count = count.saturating_add(1);
+        }
+        Ok(count)
+    }
+
+    /// Goes on to a group, by the field that hid-core keeps of it; where hid-core may read otherwise, by
+    /// the group alone.
+    fn begin(
+        &mut self,
+        read: &LinuxDevice,
+        direction: Direction,
+        group: &Group,
+        field: Option<&LinuxField>,
+    ) -> Result<Item, AllocError> {
+        match field {
+            Some(field) if read.reading().doubt().is_none() => self.devices.begin_field(field),
+            _ => Ok(self.devices.begin(direction, group)),
+        }
+    }
+
+    /// What Linux gives the usages of a field that are left when each of its elements has one, up to
+    /// as many as the group names.
+    fn rest_answers(
+        &mut self,
+        read: &LinuxDevice,
+        field: &LinuxField,
+        group: &Group,
+        item: &mut Item,
+    ) -> Result<Vec<Answered>, AllocError> {
+        let alloc = *self.text.allocator();
+        let usages = read.reading().usages(field);
+        let (mut rest, last) = left_of(alloc, usages, group.field_count(), group.usage_count())?;
+        if field.left_out > 0 {
+            rest.push(Usage::from(last.saturating_add(1)))?;
+        }
+        let mut answers = self.answers(item, &rest)?;
+        stretch(&mut answers, field.left_out.saturating_sub(1));
+        Ok(answers)
     }
 
     /// What Linux gives usages of an item.
@@ -192,6 +275,24 @@ impl Shown {
         add_lines(&mut self.text, answers, indent.saturating_add(DEEPER))?;
         Ok(self.text.push_str("\n")?)
     }
+}
+
+/// A report that has bits, as it is outlined and laid out.
+fn laid_out<'a>(
+    read: &'a LinuxDevice,
+    descriptor: &'a ReportDescriptor,
+    kept: &LinuxReport,
+) -> Option<(&'a OutlineReport, &'a RDescReport)> {
+    let outlines = read.outline().reports(kept.direction);
+    let is_its = |outline: &OutlineReport| id_of(outline) == kept.id;
+    let at = outlines.iter().position(is_its)?;
+    let report = descriptor.reports(kept.direction).get(at)?;
+    Some((outlines.get(at)?, report))
+}
+
+/// The id of a report, 0 where it has none.
+fn id_of(report: &OutlineReport) -> u32 {
+    report.report_id().map_or(0, |id| u32::from(u8::from(id)))
 }
 
 /// Appends a field inside so many collections, and what Linux gives it.
