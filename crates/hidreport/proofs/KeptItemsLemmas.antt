@@ -53,7 +53,7 @@ use Rattle.hidreport.specs.Parser.Machine.{start_in, start_for, counts_in, fault
 use Rattle.hidreport.specs.Parser.Machine.{last_item_state}
 use Rattle.hidreport.specs.Parser.Machine.{next_item_state, item_state_behind, next_stack}
 use Rattle.hidreport.specs.Parser.Machine.{next_state}
-use Rattle.hidreport.specs.Parser.Machine.{next_groups, next_opened, next_reports}
+use Rattle.hidreport.specs.Parser.Machine.{next_groups, next_reports}
 use Rattle.hidreport.specs.Parser.Machine.{new_collection, first_state}
 use Rattle.hidreport.specs.Groups.{GroupRecord, OutlineRecord, carried, groups_of, named_of}
 use Rattle.hidreport.specs.Groups.{taken_of}
@@ -486,7 +486,7 @@ not-kept-stop left h x e =
 
 -- the walk over all items and that over the kept ones, faults at their own offsets
 
-offset-behind : (front rest : List Entry) (e : Entry)
+pub offset-behind : (front rest : List Entry) (e : Entry)
     → offset_at (front ++ e ∷ rest) (length front) ≡ e.offset
 offset-behind [] rest e = refl
 offset-behind (f ∷ front) rest e = offset-behind front rest e

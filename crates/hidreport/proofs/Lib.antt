@@ -8,6 +8,7 @@ pub mod WholeLemmas
 pub mod WholeReadLemmas
 pub mod ReportWriteLemmas
 pub mod WindowLemmas
+pub mod ItemPlaceLemmas
 pub mod ItemStateLemmas
 pub mod ReportLemmas
 pub mod HostUsageLemmas

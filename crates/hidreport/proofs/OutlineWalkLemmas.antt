@@ -1,7 +1,7 @@
 -- The walk that answers groups: where it ends they are the definition's.
 use Rattle.std.proofs.Common.{◌≡◌, ◌∙◌, ◌+◌, ℕ, suc, List, [], ◌∷◌, ◌++◌, Option, None, Some}
 use Rattle.std.proofs.Common.{Result, Ok, Err, add-one, ap, append-nil, append_assoc, arith}
-use Rattle.std.proofs.Common.{IfSome, ◌≢◌, length, map, refl, subst, sym}
+use Rattle.std.proofs.Common.{IfSome, ◌≢◌, length, refl, subst, sym}
 use Rattle.std.specs.Prelude.{option_map}
 use Rattle.std.specs.List.{enumerate_from}
 use Rattle.std.proofs.lemmas.Grind.{common_steps}
@@ -37,7 +37,7 @@ use Rattle.hidreport.proofs.PushReadings.{kept_stack, reading-follows}
 use Rattle.hidreport.proofs.WalkLemmas.{Follows, Holds, groups-at-end, holds-next, holds-nothing}
 
 -- an item that stops nothing has no fault
-unstopped : (o p : Option MeaningFault) → first_of o p ≡ None → o ≡ None
+pub unstopped : (o p : Option MeaningFault) → first_of o p ≡ None → o ≡ None
 unstopped None p none = refl
 unstopped (Some f) p none = cc
 

@@ -242,7 +242,7 @@ set-by size count false e t h =
     let b : count ≡ e.count = ap (λ (x : Extent). x.count) whole in
     (grind (arith, nat_tests, common_steps), grind (arith, nat_tests, common_steps))
 
-both-some : (a b : Option ℕ) (e : Extent) → both_set a b ≡ Some e → (0 < e.size) × (0 < e.count)
+pub both-some : (a b : Option ℕ) (e : Extent) → both_set a b ≡ Some e → (0 < e.size) × (0 < e.count)
 both-some (Some size) (Some count) e h = set-by size count (size == 0 || count == 0) e refl h
 both-some None count e h = cc
 both-some (Some size) None e h = cc

@@ -5,6 +5,7 @@ pub mod Fields
 pub mod Groups
 pub mod HostLaws
 pub mod HostUsages
+pub mod ItemPlaces
 pub mod ItemState
 pub mod Kinds
 pub mod Laws

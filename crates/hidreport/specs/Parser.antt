@@ -3,6 +3,7 @@
 pub mod Budget
 pub mod DataItem
 pub mod Groups
+pub mod ItemPlaces
 pub mod ItemStates
 pub mod Journal
 pub mod Layout

@@ -94,6 +94,14 @@ impl Outline {
         Outline::read(alloc, bytes, options)
     }
 
+    /// The outline with these reports.
+    pub(crate) fn of(reports: OutlineReports) -> Outline
+        requires { IsTiled (listed reports) }
+        ensures { result ≡ reports }
+    {
+        Outline { reports }
+    }
+
     /// The same of bytes that aren't too many.
     fn read(alloc: Global, bytes: &[u8], options: ParseOptions) -> Result<Outline, ParserError>
         ensures { Answers result (answer_with (groups_in options bytes.now)

@@ -1,12 +1,14 @@
 //! The parser: one walk over the items of a descriptor, forward.
-ghost use Rattle.std.specs.Prelude.{◌≡◌, ◌+◌, ◌<◌, ◌^◌, ℕ, length, Err, IfSome, IsOk, None};
+ghost use Rattle.std.specs.Prelude.{◌≡◌, ◌+◌, ◌++◌, ◌<◌, ◌^◌, ℕ, [], length, Err, Ok, IfOk, IfSome, IsOk, None, OnOk, option_to_list, true};
 ghost use Rattle.hidreport_items.specs.Answer.{GrammarFault};
 ghost use Rattle.hidreport_items.specs.Spelling.{item_of};
-ghost use Rattle.hidreport_lists.specs.Answer.{Answers, InvalidData};
-ghost use Rattle.hidreport_lists.specs.Itemising.{items_from};
+ghost use Rattle.hidreport_lists.specs.Answer.{Answers, AnswersBy, InvalidData};
+ghost use Rattle.hidreport_lists.specs.Itemising.{items_from, itemise};
 ghost use Rattle.hidreport_lists.specs.Messages.{grammar_message};
 ghost use Rattle.hidreport.specs.Meaning.{empty_descriptor, refusal_at};
 ghost use Rattle.hidreport.specs.Parser.Budget.{in_groups, walk_bytes_to};
+ghost use Rattle.hidreport.specs.Parser.ItemPlaces.{placed};
+ghost use Rattle.hidreport.specs.Parser.Machine.{first_state};
 ghost use Rattle.hidreport.specs.Parser.Refusals.{IsRefusal, fault_named};
 
 pub(crate) mod budget;
@@ -34,12 +36,20 @@ pub(crate) mod usages;
 pub(crate) mod usages_by;
 
 use crate::parse_options::ParseOptions;
+use crate::report::item_place::{GroupPlace, ItemPlace};
 use crate::report::outline_reports::OutlineReports;
 use budget::Budget;
 use fault::{Fault, invalid_data};
 use hidreport_lists::{ParserError, PlacedFault, check_items, front_item};
 use state::State;
-use std::alloc::Global;
+use std::alloc::{AllocError, Global};
+
+/// What the items of a descriptor make, and, where it is kept, where those stand that make fields.
+#[derive(Drop)]
+pub(crate) struct Walked {
+    pub(crate) reports: OutlineReports,
+    pub(crate) places: Vec<GroupPlace>,
+}
 
 /// The reports that the bytes of a descriptor announce by these options, however many bytes they
 /// are.
@@ -50,26 +60,70 @@ pub(crate) fn parse(
 ) -> Result<OutlineReports, ParserError>
     ensures { Answers result (walk_bytes_to in_groups options bytes.now) }
 {
+    let Walked { reports, places: _ } = walk(alloc, bytes, options, false)?;
+    Ok(reports)
+}
+
+/// The same reports, and where the items stand that make their groups, where that is kept.
+pub(crate) fn walk(
+    alloc: Global,
+    bytes: &[u8],
+    options: ParseOptions,
+    keeps_places: bool,
+) -> Result<Walked, ParserError>
+    ensures reports { AnswersBy (λ walked. walked.reports) result
+        (walk_bytes_to in_groups options bytes.now) }
+    ensures places { IfOk result (λ walked. keeps_places ≡ true
+        → placed [] (first_state options) 0 (itemise item_of bytes.now) ≡ Ok walked.places.items) }
+{
     if bytes.is_empty() {
         return Err(empty_descriptor(alloc));
     }
     let mut state = State::new(alloc, options);
     let mut budget = Budget::new(options.limit);
-    let mut offset = 0;
+    let mut places = Vec::new(alloc);
+    let mut place = ItemPlace {
+        index: 0,
+        offset: 0,
+    };
     let mut rest = bytes;
     while !rest.is_empty() {
+        let offset = place.offset;
         let front = match front_item(rest) {
             Ok(front) => front,
             Err(fault) => return Err(PlacedFault { offset, fault }.refusal(alloc)),
         };
         let behind = offset + front.size;
         rest = rest.split_at(front.size).1;
+        let made = state.place_of(&front.item, place);
         if let Err(fault) = state.take(alloc, &mut budget, front.item) {
             return Err(refusal(alloc, offset, fault, behind, rest));
         }
-        offset = behind;
+        keep(&mut places, made, keeps_places)?;
+        place = ItemPlace {
+            index: place.index + 1,
+            offset: behind,
+        };
     }
-    Ok(state.into_reports())
+    Ok(Walked {
+        reports: state.into_reports(),
+        places,
+    })
+}
+
+/// Keeps the place of an item that makes fields, where that is asked for.
+fn keep(
+    places: &mut Vec<GroupPlace>,
+    made: Option<GroupPlace>,
+    keeps_places: bool,
+) -> Result<(), AllocError>
+    ensures { OnOk result (keeps_places ≡ true
+        → places.new.items ≡ places.old.items ++ option_to_list made) }
+{
+    if keeps_places && let Some(place) = made {
+        places.push(place)?;
+    }
+    Ok(())
 }
 
 /// The refusal of no bytes at all.

@@ -10,6 +10,7 @@ ghost use Rattle.hidreport_fields.specs.WritingLaws.{IsWhole};
 
 pub(crate) mod group;
 mod group_lookup;
+pub(crate) mod item_place;
 pub(crate) mod outline_report;
 pub(crate) mod outline_reports;
 pub(crate) mod reader;

@@ -1,10 +1,12 @@
 //! What the parser knows between two items.
-ghost use Rattle.std.specs.Prelude.{◌≡◌, ◌≢◌, ◌+◌, ◌*◌, ◌<◌, ◌≤◌, ◌^◌, None, IfOk, IfErr, OnOk};
+ghost use Rattle.std.specs.Prelude.{◌≡◌, ◌≢◌, None, IfOk, IfErr, OnOk, is_some};
+ghost use Rattle.hidreport.specs.Kinds.{data_of};
 ghost use Rattle.hidreport.specs.Parser.Refusals.{IsFaultOf, fault_named};
 ghost use Rattle.hidreport.specs.Parser.Usages.{HasUsages, spans_in, usages_fault};
 
 use crate::parse_options::ParseOptions;
 use crate::parser::budget::{Budget, weight_of_each};
+use crate::parser::extent::bits_within;
 use crate::parser::fault::Fault;
 use crate::parser::item_state_table::ItemStateTable;
 use crate::parser::layout::Layout;
@@ -12,6 +14,7 @@ use crate::parser::open_collections::OpenCollections;
 use crate::parser::report_lists::ReportLists;
 use crate::parser::usage_span::UsageSpan;
 use crate::parser::usages::{Usages, spans_in, usages_of};
+use crate::report::item_place::{GroupPlace, ItemPlace};
 use crate::report::outline_reports::OutlineReports;
 use hidreport_fields::DataItem;
 use hidreport_items::{CollectionItem, GlobalItem, ItemType, MainItem};
@@ -55,6 +58,7 @@ impl State {
     ghost use Rattle.std.specs.Prelude.{◌≡◌, ◌+◌, false, None, Ok, Some, IfErr, IfOk, OnOk};
     ghost use Rattle.hidreport.specs.Repair.{is_meant_unsigned, is_missing_usages};
     ghost use Rattle.hidreport.specs.Parser.Budget.{is_past, left_behind, stop_in, weight_in};
+    ghost use Rattle.hidreport.specs.Parser.ItemPlaces.{place_in};
     ghost use Rattle.hidreport.specs.Parser.Machine.{fault_in, first_state, next_opened, next_state, step};
     ghost use Rattle.hidreport.specs.Parser.Refusals.{IsFaultOf};
     ghost use Rattle.hidreport_fields.specs.DataItem.{as_item};
@@ -91,6 +95,19 @@ impl State {
             ItemType::Long | ItemType::Reserved => {}
         }
         Ok(())
+    }
+
+    /// Where the next item stands, with the number of its first field, if it makes fields.
+    pub(crate) fn place_of(&self, item: &ItemType, place: ItemPlace) -> Option<GroupPlace>
+        ensures { result ≡ place_in self.now place item.now }
+    {
+        if !is_data(item) || self.item_states.globals().extent().is_none() {
+            return None;
+        }
+        Some(GroupPlace {
+            number: self.field_count,
+            place,
+        })
     }
 
     /// Whether an item is a data item that would make fields with data, and there are no usages.
@@ -289,6 +306,18 @@ impl State {
     }
 }
 
+/// Whether an item is a data item.
+fn is_data(item: &ItemType) -> bool
+    ensures { result ≡ is_some (data_of item.now) }
+{
+    match item {
+        ItemType::Main(MainItem::Input(_)) => true,
+        ItemType::Main(MainItem::Output(_)) => true,
+        ItemType::Main(MainItem::Feature(_)) => true,
+        _ => false,
+    }
+}
+
 /// The usages of a data item, of which it needs some unless it is constant.
 fn needed_usages<'a>(
     item: &DataItem,
@@ -313,18 +342,4 @@ fn needed_usages<'a>(
         return Err(Fault::MissingUsages);
     }
     Ok(usages)
-}
-
-/// How many bits so many elements take, unless the report's end passes what can be counted.
-fn bits_within(start: usize, size: usize, count: usize) -> Result<usize, Fault>
-    ensures fits { IfOk result (λ bits. (bits ≡ size * count) × (start + size * count < 2 ^ 64)) }
-    ensures past { IfErr result (λ e. (e ≡ Fault.OutOfBounds) × (2 ^ 64 ≤ start + size * count)) }
-{
-    let Some(bits) = size.checked_mul(count) else {
-        return Err(Fault::OutOfBounds);
-    };
-    if start.checked_add(bits).is_none() {
-        return Err(Fault::OutOfBounds);
-    }
-    Ok(bits)
 }

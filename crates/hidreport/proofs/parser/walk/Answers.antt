@@ -1,4 +1,4 @@
-use Rattle.std.proofs.Common.{◌≡◌, ◌≢◌, ◌+◌, ◌∙◌, [], ap, arith, drop, length, length-drop, subst, sym}
+use Rattle.std.proofs.Common.{◌≡◌, ◌≢◌, ◌+◌, ◌++◌, ◌∙◌, [], ap, option_to_list, arith, drop, length, length-drop, subst, sym}
 use Rattle.std.proofs.Common.{◌∷◌, ℕ, List, take, Result}
 use Rattle.hidreport_items.specs.ItemFaults.{told_fault}
 use Rattle.hidreport_items.specs.Spelling.{item_of}
@@ -11,8 +11,10 @@ use Rattle.hidreport_lists.proofs.FrontLemmas.{front-first}
 use Rattle.hidreport_lists.proofs.ItemLemmas.{items_from-fault, refuses-invalid, with_front}
 use Rattle.hidreport.specs.Parser.Budget.{in_groups, walk_items_to}
 use Rattle.hidreport.specs.Groups.{OutlineRecord}
+use Rattle.hidreport.specs.Parser.ItemPlaces.{placed}
+use Rattle.hidreport.proofs.ItemPlaceLemmas.{placed-on}
 use Rattle.hidreport.proofs.ParseLemmas.{shorter, stopped, walk-some, walked-on}
-use Rattle.hidreport.proofs.parser.parse.Goals as goal
+use Rattle.hidreport.proofs.parser.walk.Goals as goal
 
 -- the item in front of the rest
 abbrev entry_at : ℕ → FrontItem → List ℕ → Entry
@@ -22,8 +24,8 @@ entry_at offset front rest = record {
   item = front.item;
 }
 
-pub returns-in-Err : goal.returns-in-Err
-returns-in-Err c =
+pub returns-in-Err-clause-reports : goal.returns-in-Err-clause-reports
+returns-in-Err-clause-reports c =
     let some : c.args.bytes.now ≢ [] =
     λ e. let l : length c.args.bytes.now ≡ 0 = ap length e in grind
     (arith, c.is_empty.ensures) in
@@ -31,24 +33,24 @@ returns-in-Err c =
     λ e. let l : length c.loop-rest.rest.now ≡ 0 = ap length e in grind
     (arith, c.is_empty-in-loop-rest.ensures, c.loop-rest-test.true) in
     let fault = told_fault c.in-Err.fault in
-    refuses-invalid c.refusal.result c.loop-rest.offset (grammar_message fault) _ c.refusal.ensures
+    refuses-invalid c.refusal.result c.loop-rest.place.offset (grammar_message fault) _ c.refusal.ensures
     (sym (c.loop-rest.invariant.walk ∙ walk-some in_groups c.args.options c.args.bytes.now some)
     ∙ ap (walk_items_to in_groups c.loop-rest.budget c.loop-rest.state)
-    (items_from-fault c.loop-rest.offset c.loop-rest.rest.now fault more c.in-Err.ensures.fault))
+    (items_from-fault c.loop-rest.place.offset c.loop-rest.rest.now fault more c.in-Err.ensures.fault))
 
-pub returns-in-Err-take : goal.returns-in-Err-take
-returns-in-Err-take c =
+pub returns-in-Err-take-clause-reports : goal.returns-in-Err-take-clause-reports
+returns-in-Err-take-clause-reports c =
     let some : c.args.bytes.now ≢ [] =
     λ e. let l : length c.args.bytes.now ≡ 0 = ap length e in grind
     (arith, c.is_empty.ensures) in
     let rest = c.loop-rest.rest.now in
     let front = c.in-Ok.front in
-    let entry = entry_at c.loop-rest.offset front rest in
-    let behind = items_from item_of (c.loop-rest.offset + front.size) 0 c.split_at.result.1.now in
-    let first = (front-first c.loop-rest.offset rest front c.in-Ok.ensures.item).1 in
+    let entry = entry_at c.loop-rest.place.offset front rest in
+    let behind = items_from item_of (c.loop-rest.place.offset + front.size) 0 c.split_at.result.1.now in
+    let first = (front-first c.loop-rest.place.offset rest front c.in-Ok.ensures.item).1 in
     subst (λ (r : Result OutlineRecord Refusal). Refuses c.refusal-in-Err-take.result r)
     (ap (λ l. walk_items_to in_groups c.loop-rest.budget c.loop-rest.state (with_front (entry ∷ [])
-    (items_from item_of (c.loop-rest.offset + front.size) 0 l))) c.split_at.ensures.back
+    (items_from item_of (c.loop-rest.place.offset + front.size) 0 l))) c.split_at.ensures.back
     ∙ ap (walk_items_to in_groups c.loop-rest.budget c.loop-rest.state) (sym first)
     ∙ c.loop-rest.invariant.walk
     ∙ walk-some in_groups c.args.options c.args.bytes.now some)
@@ -65,15 +67,31 @@ pub loop-rest-preserved : goal.loop-rest-preserved
 loop-rest-preserved c =
     let rest = c.loop-rest.rest.now in
     let front = c.in-Ok.front in
-    let entry = entry_at c.loop-rest.offset front rest in
-    let first = (front-first c.loop-rest.offset rest front c.in-Ok.ensures.item).1 in
+    let entry = entry_at c.loop-rest.place.offset front rest in
+    let first = (front-first c.loop-rest.place.offset rest front c.in-Ok.ensures.item).1 in
     record {
       place = rw c.split_at.ensures.back (simp length-drop
           (omega (arith, c.in-Ok.ensures.item.0, c.loop-rest.invariant.place)));
+      counted = omega (
+        arith,
+        c.loop-rest.invariant.counted,
+        (front-first c.loop-rest.place.offset rest
+            front c.in-Ok.ensures.item).0,
+      );
+      places = λ keeps. ap (λ l. placed c.keep.new.places.items c.take.new.self (c.loop-rest.place.index + 1)
+          (items_from item_of (c.loop-rest.place.offset + front.size) 0 l)) c.split_at.ensures.back
+          ∙ ap (λ l. placed l c.take.new.self (c.loop-rest.place.index + 1)
+          (items_from item_of (c.loop-rest.place.offset + front.size) 0 (drop front.size rest)))
+          (c.in_ok-keep.ensures keeps ∙ ap (λ o. c.loop-rest.places.items ++ option_to_list o) c.place_of-made.ensures)
+          ∙ sym (placed-on c.loop-rest.places.items c.loop-rest.state c.take.new.self
+          c.loop-rest.place.index entry (items_from item_of (c.loop-rest.place.offset + front.size) 0
+          (drop front.size rest)) c.in_default.ensures.ok)
+          ∙ ap (placed c.loop-rest.places.items c.loop-rest.state c.loop-rest.place.index) (sym first)
+          ∙ c.loop-rest.invariant.places keeps;
       walk = ap (λ l. walk_items_to in_groups c.take.new.budget c.take.new.self
-          (items_from item_of (c.loop-rest.offset + front.size) 0 l)) c.split_at.ensures.back
+          (items_from item_of (c.loop-rest.place.offset + front.size) 0 l)) c.split_at.ensures.back
           ∙ sym (walked-on in_groups entry c.loop-rest.budget c.take.new.budget c.loop-rest.state
-          c.take.new.self (items_from item_of (c.loop-rest.offset + front.size) 0
+          c.take.new.self (items_from item_of (c.loop-rest.place.offset + front.size) 0
           (drop front.size rest)) c.in_default.ensures.ok c.in_default.ensures.within
           c.in_default.ensures.left)
           ∙ ap (walk_items_to in_groups c.loop-rest.budget c.loop-rest.state) (sym first)
