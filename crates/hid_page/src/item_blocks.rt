@@ -1,12 +1,12 @@
 //! The items in a page: as text, as JSON, and which bits each makes.
-use crate::made_bits::MadeBits;
+use crate::made_bits::made_bits;
 use crate::sheet::Sheet;
 use anyhow::Result;
 use hid_input::settings::Settings;
 use hid_items::item_lines::{ItemLines, ItemStyle};
-use hid_output::flush_piece;
 use hid_output::html::add_html;
-use hidreport::ParserError;
+use hid_output::{add_json, flush_piece};
+use hidreport::{ParserError, PlacedOutline};
 use std::alloc::Global;
 
 /// The items of a descriptor, of which a page has the first.
@@ -68,15 +68,15 @@ impl<'a> ItemBlocks<'a> {
 /// Writes the block of the bits that the first items make.
 pub fn show_made_bits<R: AllocGlobal + Print>(
     rt: &R,
+    settings: &Settings,
     bytes: &[u8],
     sheet: &mut Sheet,
 ) -> Result<()> {
     sheet.begin("made")?;
-    let mut made = MadeBits::new(rt.alloc(), bytes)?;
-    for _ in 0..sheet.left_out.most.items.min(bytes.len()) {
-        if !made.add_next(&mut sheet.lines)? {
-            break;
-        }
+    let placed = PlacedOutline::try_from_with(rt.alloc(), bytes, settings.parse)?;
+    let made = made_bits(rt.alloc(), &placed, sheet.left_out.most.items)?;
+    for object in &made {
+        add_json(&mut sheet.lines, object)?;
         sheet.take(rt)?;
     }
     Ok(sheet.end()?)

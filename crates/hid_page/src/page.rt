@@ -109,7 +109,7 @@ impl<'a> Page<'a> {
         let streams = streams_of(rt, settings, &self.inputs.reports)?;
         let mut sheet = self.sheet(rt.alloc());
         self.show_items(rt, settings, given, None, &mut sheet)?;
-        show_made_bits(rt, given.descriptor(), &mut sheet)?;
+        show_made_bits(rt, settings, given.descriptor(), &mut sheet)?;
         show_fields(rt, descriptor, &mut sheet)?;
         self.show_streams(rt, given, &streams, descriptor, &mut sheet)?;
         show_notes(rt, settings, given, &mut sheet)?;
