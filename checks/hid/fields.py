@@ -3,10 +3,11 @@
 
 hid_fields.py PROGRAM: the descriptors are on standard input, the digits of one in each line. Of each
 the lines of `hid fields` are unfolded here (reports with the same fields, blocks that stand again,
-fields side by side) and compared with those of `--all`, and these with the fields of `--json`. No
-descriptor may take more than 200 lines for fewer than 100 different fields; that some would without
+fields side by side) and compared with those of `--all`, and these with the fields of `--json`, each of which
+has to have the offset of an item that makes such fields by its header alone. No descriptor may take more than 200 lines for fewer than 100 different fields; that some would without
 folding is asked, too.
 """
+import collections
 import json
 import multiprocessing
 import re
@@ -21,6 +22,8 @@ AGAIN = re.compile(
     r'the (?:field|(\d+) fields) above( with (?:its|their) collections?)? '
     r'(?:once more, (\d+) bits further|(\d+) more times, each (\d+) bits further)$')
 SEVERAL = re.compile(r'(.*), (\d+) × (\d+) (bits?)(, .*)$', re.S)
+
+DIRECTIONS = {0x80: 'input', 0x90: 'output', 0xb0: 'feature'}
 
 program = None
 
@@ -139,35 +142,80 @@ def in_order(text):
     return out
 
 
+def makers(descriptor):
+    """The items that make fields (Sections 6.2.2.2 to 6.2.2.7), by their headers and the sizes in force: the
+    direction, the offset and the kind of each of their fields."""
+    size = count = at = 0
+    kept, found = [], []
+    while at < len(descriptor):
+        header = descriptor[at]
+        length = descriptor[at + 1] + 2 if header == 0xfe else (0, 1, 2, 4)[header & 3]
+        data = int.from_bytes(descriptor[at + 1:at + 1 + length], 'little')
+        tag = header & 0xfc
+        if tag == 0x74:
+            size = data
+        elif tag == 0x94:
+            count = data
+        elif tag == 0xa4:
+            kept.append((size, count))
+        elif tag == 0xb4:
+            size, count = kept.pop()
+        elif tag in DIRECTIONS and size and count:
+            kind = 'padding' if data & 1 else 'variable' if data & 2 else 'array'
+            found += [(DIRECTIONS[tag], at, kind)] * (count if kind == 'variable' else 1)
+        at += 1 + length
+    return found
+
+
+def stand_elsewhere(digits, objects):
+    """Whether fields have other offsets than the items that make them, or go back in a report."""
+    told = [(it['direction'], it['offset'], it['kind']) for it in objects]
+    behind = {}
+    for it in objects:
+        report = it['direction'], it['report']
+        if it['offset'] < behind.get(report, 0):
+            return True
+        behind[report] = it['offset']
+    return collections.Counter(told) != collections.Counter(makers(bytes.fromhex(digits)))
+
+
 def ask(digits):
-    """What is wrong, the number of lines, of those without folding, and of different fields."""
+    """What is wrong, the number of lines, of those without folding, of different fields, and of all."""
     folded, each = fields(digits), fields(digits, '--all')
     if folded is None or each is None:
-        return ('' if folded == each else f'{digits}: refused once', 0, 0, 0)
+        return ('' if folded == each else f'{digits}: refused once', 0, 0, 0, 0)
     lines, all_lines = len(folded.splitlines()), len(each.splitlines())
     told = in_order(each)
     shown_fields = [it for _, rows in told.values() for it in rows if not isinstance(it, str)]
     different = len({it[3] for it in shown_fields})
+    objects = [json.loads(line) for line in fields(digits, '--json').splitlines()]
+    counts = lines, all_lines, different, len(objects)
+    if stand_elsewhere(digits, objects):
+        return f'{digits}: a field has another offset than its item', *counts
     if '> ' in each:
-        return '', lines, all_lines, different
+        return '', *counts
     try:
         if in_order(folded) != told:
-            return f'{digits}: unfolded it is something else', lines, all_lines, different
+            return f'{digits}: unfolded it is something else', *counts
     except (ValueError, IndexError) as error:
-        return f'{digits}: {error}', lines, all_lines, different
-    objects = [json.loads(line) for line in fields(digits, '--json').splitlines()]
+        return f'{digits}: {error}', *counts
     wanted = [(it['start'], it['end']) for it in objects]
     if [(it[1], it[2]) for it in shown_fields] != wanted:
-        return f'{digits}: --all has not the fields of --json', lines, all_lines, different
+        return f'{digits}: --all has not the fields of --json', *counts
     if lines > MOST_LINES and different < FEWEST_FIELDS:
-        return f'{digits}: {lines} lines for {different} fields', lines, all_lines, different
-    return '', lines, all_lines, different
+        return f'{digits}: {lines} lines for {different} fields', *counts
+    return '', *counts
 
 
 def main():
     global program
     program = sys.argv[1]
     digits = sys.stdin.read().split()
+    x_axis = '05010930750895018102'
+    told = [json.loads(line) for line in fields(x_axis, '--json').splitlines()]
+    spoilt = [{**told[0], 'offset': 9}], [{**told[0], 'kind': 'array'}], told * 2, []
+    if stand_elsewhere(x_axis, told) or not all(stand_elsewhere(x_axis, it) for it in spoilt):
+        sys.exit('hid_fields: a field at another offset is not noticed')
     with multiprocessing.Pool() as pool:
         answers = pool.map(ask, digits, 16)
     faults = [it[0] for it in answers if it[0]]
@@ -177,7 +225,8 @@ def main():
     folded = sum(it[1] < it[2] for it in answers)
     if faults or long < 5 or folded < 300:
         sys.exit(f'hid_fields: {len(faults)} of {len(answers)} differ; {folded} are folded, {long} had to be')
-    print(f'hid_fields: {len(answers)} descriptors, {folded} folded, all as --all shows them; {long} had to be')
+    print(f'hid_fields: {len(answers)} descriptors, {folded} folded, all as --all shows them; {long} had to be; '
+          f'{sum(it[4] for it in answers)} fields have the offsets of their items')
 
 
 if __name__ == '__main__':

@@ -36,6 +36,8 @@ pub struct FieldObject {
     direction: &'static str,
     report: Option<u8>,
     field: u32,
+    #[serde(skip_serializing_if = "Option::is_none")]
+    offset: Option<usize>,
     start: usize,
     end: usize,
     kind: &'static str,
@@ -69,22 +71,25 @@ pub struct FieldObject {
 pub struct RestObject {
     direction: &'static str,
     report: Option<u8>,
+    offset: Option<usize>,
     kind: &'static str,
     collections: Vec<CollectionObject>,
     linux: Vec<AnswerObject>,
 }
 
 impl RestObject {
-    /// Those of an item in a report.
+    /// Those of an item in a report that stands at an offset.
     pub fn of(
         direction: Direction,
         report: &RDescReport,
+        offset: Option<usize>,
         around: &[Collection],
         linux: Vec<AnswerObject>,
     ) -> Result<RestObject, AllocError> {
         Ok(RestObject {
             direction: word_of(direction),
             report: report.report_id().map(u8::from),
+            offset,
             kind: "usages without a field",
             collections: collections_of(*linux.allocator(), around)?,
             linux,
@@ -137,6 +142,7 @@ fn plain(
         direction: word_of(direction),
         report: report.report_id().map(u8::from),
         field: u32::from(field.id()),
+        offset: None,
         start: field.bits().start,
         end: field.bits().end,
         kind,
@@ -160,6 +166,11 @@ fn plain(
 }
 
 impl FieldObject {
+    /// Takes the offset of the field's item.
+    pub fn add_offset(&mut self, offset: Option<usize>) {
+        self.offset = offset;
+    }
+
     /// Takes what Linux gives the field's usages.
     pub fn add_linux(&mut self, answers: Vec<AnswerObject>) {
         self.linux = Some(answers);

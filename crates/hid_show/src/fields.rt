@@ -1,10 +1,10 @@
 //! `hid fields`: the reports of a descriptor with their fields, inside their collections.
+use crate::field_objects::show_objects;
 use crate::linux_fields::show_linux;
 use anyhow::Result;
 use hid_input::parsing::descriptor_by;
 use hid_input::settings::Settings;
 use hid_input::world::World;
-use hid_objects::field_object::add_field_object;
 use hid_output::ending::Ending;
 use hid_output::{escaped, flush, flush_piece};
 use hid_report::{Block, SameReports, field_lines};
@@ -34,22 +34,28 @@ impl<'a> Fields<'a> {
         if self.shows_linux {
             return show_linux(rt, settings, self.file);
         }
-        let descriptor = descriptor_by(rt, settings, self.file)?;
-        let mut text = String::new(rt.alloc());
-        for direction in Direction::ALL {
-            let reports = descriptor.reports(direction);
-            if settings.is_json {
-                show_objects(rt, &mut text, direction, reports)?;
-            } else {
-                self.show_reports(rt, settings, &mut text, (direction, reports))?;
-            }
-        }
-        flush(rt, &mut text)?;
+        let descriptor = if settings.is_json {
+            show_objects(rt, settings, self.file)?
+        } else {
+            self.show_text(rt, settings)?
+        };
         if settings.has_notes() && has_no_report(&descriptor) {
             let file = escaped(rt.alloc(), self.file)?;
             eprintln!(rt; "hid: {file}: no item makes a field, so there is no report")?;
         }
         Ok(Ending::Done)
+    }
+
+    /// Shows them in words, and answers what they are of.
+    fn show_text<R: World>(&self, rt: &R, settings: &Settings) -> Result<ReportDescriptor> {
+        let descriptor = descriptor_by(rt, settings, self.file)?;
+        let mut text = String::new(rt.alloc());
+        for direction in Direction::ALL {
+            let reports = descriptor.reports(direction);
+            self.show_reports(rt, settings, &mut text, (direction, reports))?;
+        }
+        flush(rt, &mut text)?;
+        Ok(descriptor)
     }
 
     /// Shows reports, those with the same fields once.
@@ -98,20 +104,4 @@ impl<'a> Fields<'a> {
         }
         Ok(())
     }
-}
-
-/// Shows the fields of reports as JSON.
-fn show_objects<R: Print>(
-    rt: &R,
-    text: &mut String,
-    direction: Direction,
-    reports: &[RDescReport],
-) -> Result<()> {
-    for report in reports {
-        for field in report.fields() {
-            add_field_object(text, direction, report, field)?;
-            flush_piece(rt, text)?;
-        }
-    }
-    Ok(())
 }

@@ -3,7 +3,9 @@
 #![tactic(auto)]
 
 mod decode;
+mod field_objects;
 mod fields;
+mod item_offsets;
 mod linux_fields;
 mod linux_usages;
 mod list;

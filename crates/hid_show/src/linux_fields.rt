@@ -1,4 +1,5 @@
 //! `hid fields --linux`: each field with the event codes that Linux gives its usages.
+use crate::item_offsets::{ItemOffsets, unmended};
 use crate::linux_usages::{check_usages, fields_of, left_of};
 use anyhow::Result;
 use hid_input::input::descriptor_named;
@@ -36,6 +37,7 @@ pub fn show_linux<R: World>(rt: &R, settings: &Settings, file: &str) -> Result<E
         text: String::new(rt.alloc()),
         devices: reading.input_devices(rt.alloc()),
         all: reading.input_devices_behind(rt.alloc())?,
+        offsets: ItemOffsets::of(rt.alloc(), settings, read.bytes(), read.changes())?,
         is_json: settings.is_json,
         is_coloured: settings.is_coloured,
     };
@@ -47,13 +49,6 @@ pub fn show_linux<R: World>(rt: &R, settings: &Settings, file: &str) -> Result<E
         tell(rt, reading.doubt(), reading.driver())?;
     }
     Ok(Ending::Done)
-}
-
-/// The same options, by which a descriptor isn't mended when it is read.
-fn unmended<'a>(settings: &Settings<'a>) -> Settings<'a> {
-    let mut own = *settings;
-    own.read_as = None;
-    own
 }
 
 /// Says why no codes are known, and which driver takes the device.
@@ -73,15 +68,16 @@ fn tell<R: Eprint>(rt: &R, doubt: Option<Doubt>, driver: Option<Driver>) -> Resu
 
 /// What is shown so far; `all` are the input devices behind all usages.
 #[derive(Drop)]
-struct Shown {
+struct Shown<'c> {
     text: String,
     devices: InputDevices,
     all: InputDevices,
+    offsets: ItemOffsets<'c>,
     is_json: bool,
     is_coloured: bool,
 }
 
-impl Shown {
+impl Shown<'_> {
     /// Shows the reports of a direction in the order in which Linux meets them.
     fn show_reports<R: Print>(
         &mut self,
@@ -137,9 +133,8 @@ impl Shown {
         place: (Direction, &RDescReport),
         kept: &'a [LinuxField],
     ) -> Result<&'a [LinuxField]> {
-        let (direction, report) = place;
         let mut kept = kept;
-        let mut fields = report.fields();
+        let mut fields = place.1.fields();
         let mut open: &[Collection] = &[];
         for group in outline.groups() {
             let (own, rest) = fields.split_at(group.field_count().min(fields.len()));
@@ -151,8 +146,9 @@ impl Shown {
                 field = rest.first();
                 kept = rest.get(1..).unwrap_or(&[]);
             }
-            let mut item = self.begin(read, direction, group, field)?;
-            open = self.show_item(rt, direction, report, &mut item, own, open)?;
+            let mut item = self.begin(read, place.0, group, field)?;
+            let offset = self.offsets.offset(group);
+            open = self.show_item(rt, place, offset, &mut item, own, open)?;
             if let Some(field) = field
                 && group.is_variable()
             {
@@ -223,12 +219,12 @@ impl Shown {
         answers_of(alloc, &mut self.devices, &self.all, item, usages)
     }
 
-    /// Shows the fields of an item, and answers the collections around the last.
+    /// Shows the fields of an item at an offset, and answers the collections around the last.
     fn show_item<'a, R: Print>(
         &mut self,
         rt: &R,
-        direction: Direction,
-        report: &RDescReport,
+        place: (Direction, &RDescReport),
+        offset: Option<usize>,
         item: &mut Item,
         fields: &'a [Field],
         before: &'a [Collection],
@@ -238,7 +234,8 @@ impl Shown {
             let alloc = *self.text.allocator();
             let answers = self.answers(item, field.usages())?;
             if self.is_json {
-                let mut object = object_of(alloc, direction, report, field)?;
+                let mut object = object_of(alloc, place.0, place.1, field)?;
+                object.add_offset(offset);
                 object.add_linux(objects_of(alloc, &answers)?);
                 add_json(&mut self.text, &object)?;
             } else {
@@ -266,7 +263,8 @@ impl Shown {
         if self.is_json {
             let (direction, report) = place;
             let objects = objects_of(*self.text.allocator(), answers)?;
-            let object = RestObject::of(direction, report, group.collections(), objects)?;
+            let offset = self.offsets.offset(group);
+            let object = RestObject::of(direction, report, offset, group.collections(), objects)?;
             return add_json(&mut self.text, &object);
         }
         let indent = indent_of(depth.saturating_add(1));
