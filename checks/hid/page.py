@@ -180,15 +180,18 @@ def made_by(items):
     return made
 
 
-def look_at_made(about, page):
-    """Each item makes the bits that it should, and each field lies in those of one item."""
+def look_at_made(about, page, told):
+    """Each item makes the bits that it should, and each field lies in those of one item, which is the one that
+    `hid fields` tells where none is mended."""
     made = page.blocks["made"]
     same(f"{about}: bits made", made_by(page.blocks["items"]), made)
-    for field in page.blocks["fields"]:
-        makers = [it for it in made if it["direction"] == field["direction"]
+    is_mended = any("mended" in str(note) for note in page.blocks["notes"])
+    for field, other in zip(page.blocks["fields"], told):
+        offsets = [it["offset"] for it in made if it["direction"] == field["direction"]
                   and it["report"] == field["report"]
                   and it["start"] <= field["start"] and field["end"] <= it["end"]]
-        same(f"{about}: makers of {field['start']}", 1, len(makers))
+        one = (1, len(offsets)) if is_mended else ([other["offset"]], offsets)
+        same(f"{about}: makers of {field['start']}", *one)
 
 
 def values_of(page):
@@ -242,9 +245,10 @@ def look_at(about, *words, reports=()):
     same(f"{about}: fault", [line for line in decoded if "fault" in line], page.blocks["device"][1:])
     if not is_read:
         return page
-    same(f"{about}: fields", lines_of(run("fields", "--json", *words)), page.blocks["fields"])
+    told = lines_of(run("fields", "--json", *words))
+    same(f"{about}: fields", [{key: it[key] for key in it if key != "offset"} for it in told], page.blocks["fields"])
     look_at_lines(about, page, words)
-    look_at_made(about, page)
+    look_at_made(about, page, told)
     return page
 
 
