@@ -31,15 +31,33 @@ fn show_read<R: AllocGlobal + Print>(rt: &R, offsets: &ItemOffsets) -> Result<Re
     let descriptor = offsets.outline().lay_out(rt.alloc())?;
     let mut text = String::new(rt.alloc());
     for direction in Direction::ALL {
-        let outlines = offsets.outline().reports(direction);
-        for (place, report) in descriptor.reports(direction).iter().enumerate() {
-            if let Some(outline) = outlines.get(place) {
-                show_report(rt, &mut text, offsets, outline, (direction, report))?;
-            }
-        }
+        show_direction(
+            rt,
+            &mut text,
+            offsets,
+            direction,
+            descriptor.reports(direction),
+        )?;
     }
     flush(rt, &mut text)?;
     Ok(descriptor)
+}
+
+/// Shows the fields of a direction's reports.
+fn show_direction<R: Print>(
+    rt: &R,
+    text: &mut String,
+    offsets: &ItemOffsets,
+    direction: Direction,
+    reports: &[RDescReport],
+) -> Result<()> {
+    let outlines = offsets.outline().reports(direction);
+    for (place, report) in reports.iter().enumerate() {
+        if let Some(outline) = outlines.get(place) {
+            show_report(rt, text, offsets, outline, (direction, report))?;
+        }
+    }
+    Ok(())
 }
 
 /// Shows the fields of a report, group by group.
