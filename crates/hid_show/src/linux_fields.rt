@@ -17,7 +17,7 @@ use hidreport::{
     Usage,
 };
 use hidreport_linux::{Doubt, Driver, InputDevices, Item, LinuxDevice, LinuxField, LinuxReport};
-use std::alloc::AllocError;
+use std::alloc::{AllocError, Global};
 
 /// How much deeper than its array's the usages of an array stand.
 const DEEPER: usize = 12;
@@ -29,26 +29,27 @@ pub fn show_linux<R: World>(rt: &R, settings: &Settings, file: &str) -> Result<E
     if settings.has_notes() {
         tell_mended(rt, file, &read)?;
     }
-    let descriptor = read.outline().lay_out(rt.alloc())?;
-    let reading = read.reading();
-    let fields = reading.fields(rt.alloc())?;
-    check_usages(settings, &fields)?;
-    let mut shown = Shown {
-        text: String::new(rt.alloc()),
-        devices: reading.input_devices(rt.alloc()),
-        all: reading.input_devices_behind(rt.alloc())?,
-        offsets: ItemOffsets::of(rt.alloc(), settings, read.bytes(), read.changes())?,
-        is_json: settings.is_json,
-        is_coloured: settings.is_coloured,
-    };
-    for direction in Direction::ALL {
-        shown.show_reports(rt, &read, &descriptor, direction, &fields)?;
-    }
-    flush(rt, &mut shown.text)?;
+    show_read(rt, settings, &read)?;
     if settings.has_notes() {
-        tell(rt, reading.doubt(), reading.driver())?;
+        tell(rt, read.reading().doubt(), read.reading().driver())?;
     }
     Ok(Ending::Done)
+}
+
+/// Shows the reports of a device.
+fn show_read<R: AllocGlobal + Print>(
+    rt: &R,
+    settings: &Settings,
+    read: &LinuxDevice,
+) -> Result<()> {
+    let descriptor = read.outline().lay_out(rt.alloc())?;
+    let fields = read.reading().fields(rt.alloc())?;
+    check_usages(settings, &fields)?;
+    let mut shown = Shown::of(rt.alloc(), settings, read)?;
+    for direction in Direction::ALL {
+        shown.show_reports(rt, read, &descriptor, direction, &fields)?;
+    }
+    flush(rt, &mut shown.text)
 }
 
 /// Says why no codes are known, and which driver takes the device.
@@ -77,7 +78,19 @@ struct Shown<'c> {
     is_coloured: bool,
 }
 
-impl Shown<'_> {
+impl<'c> Shown<'c> {
+    /// Before the first report of a device.
+    fn of(alloc: Global, settings: &Settings, read: &'c LinuxDevice) -> Result<Shown<'c>> {
+        Ok(Shown {
+            text: String::new(alloc),
+            devices: read.reading().input_devices(alloc),
+            all: read.reading().input_devices_behind(alloc)?,
+            offsets: ItemOffsets::of(alloc, settings, read.bytes(), read.changes())?,
+            is_json: settings.is_json,
+            is_coloured: settings.is_coloured,
+        })
+    }
+
     /// Shows the reports of a direction in the order in which Linux meets them.
     fn show_reports<R: Print>(
         &mut self,
