@@ -1,7 +1,7 @@
 -- Where the items stand that make fields: by the walk, by the definition, and by their numbers.
 use Rattle.std.proofs.Common.{◌≡◌, ◌≢◌, ◌∙◌, ◌+◌, ◌<◌, ◌≤◌, ◌==◌, ℕ, zero, suc, Bool, true, false, cond}
 use Rattle.std.proofs.Common.{List, [], ◌∷◌, ◌++◌, Option, None, Some, Result, Ok, Err, add-one, ap}
-use Rattle.std.proofs.Common.{append_assoc, arith, filter, get_or, length, map, refl}
+use Rattle.std.proofs.Common.{append-nil, append_assoc, arith, filter, get_or, length, map, refl}
 use Rattle.std.proofs.Common.{option_to_list, subst, sym}
 use Rattle.std.specs.Prelude.{◌&&◌, find, is_some, option_map}
 use Rattle.std.specs.List.{enumerate_from}
@@ -16,7 +16,7 @@ use Rattle.hidreport_items.specs.Answer.{GrammarFault}
 use Rattle.hidreport_items.specs.Flags.{Flags}
 use Rattle.hidreport_items.specs.Spelling.{item_of}
 use Rattle.hidreport_lists.specs.Entry.{Entry}
-use Rattle.hidreport_lists.specs.Itemising.{itemise}
+use Rattle.hidreport_lists.specs.Itemising.{itemise, items_from}
 use Rattle.hidreport_lists.proofs.ItemLemmas.{with_front}
 use Rattle.hidreport.specs.Fields.{fields_before, fields_made}
 use Rattle.hidreport.specs.Groups.{OutlineRecord}
@@ -74,6 +74,19 @@ placed-on before h next k e r stepped = placed-next before h k e r
     ∙ ap (λ s. placed (before
     ++ option_to_list (place_in h (record { index = k; offset = e.offset }) e.item)) s (k + 1) r)
     (stepped-by (fault_in h e.item) (next_state h e.item) next stepped)
+
+-- none behind the last, and all of bytes
+
+pub placed-end : (before : List GroupPlace) (h : StateRecord) (k offset : ℕ) (rest : List ℕ)
+    → length rest ≡ 0 → placed before h k (items_from item_of offset 0 rest) ≡ Ok before
+placed-end before h k offset [] none = ap Ok (append-nil before)
+placed-end before h k offset (b ∷ bs) none = absurd (omega (arith, none))
+
+pub placed-all : (options : ParseOptions) (bytes : List ℕ) → bytes ≢ []
+    → placed [] (first_state options) 0 (items_from item_of 0 0 bytes)
+    ≡ placed [] (first_state options) 0 (itemise item_of bytes)
+placed-all options [] some = absurd (some refl)
+placed-all options (b ∷ bs) some = refl
 
 -- the walk's places are the definition's
 

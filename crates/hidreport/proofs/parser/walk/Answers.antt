@@ -12,7 +12,7 @@ use Rattle.hidreport_lists.proofs.ItemLemmas.{items_from-fault, refuses-invalid,
 use Rattle.hidreport.specs.Parser.Budget.{in_groups, walk_items_to}
 use Rattle.hidreport.specs.Groups.{OutlineRecord}
 use Rattle.hidreport.specs.Parser.ItemPlaces.{placed}
-use Rattle.hidreport.proofs.ItemPlaceLemmas.{placed-on}
+use Rattle.hidreport.proofs.ItemPlaceLemmas.{placed-all, placed-end, placed-on}
 use Rattle.hidreport.proofs.ParseLemmas.{shorter, stopped, walk-some, walked-on}
 use Rattle.hidreport.proofs.parser.walk.Goals as goal
 
@@ -97,3 +97,14 @@ loop-rest-preserved c =
           ∙ ap (walk_items_to in_groups c.loop-rest.budget c.loop-rest.state) (sym first)
           ∙ c.loop-rest.invariant.walk;
     }
+
+pub returns-clause-places : goal.returns-clause-places
+returns-clause-places c = λ keeps.
+    let some : c.args.bytes.now ≢ [] =
+    λ e. let l : length c.args.bytes.now ≡ 0 = ap length e in grind
+    (arith, c.is_empty.ensures) in
+    let none : length c.loop-rest.rest.now ≡ 0 = grind
+    (arith, c.is_empty-in-loop-rest.ensures, c.loop-rest-test.false) in
+    sym (c.loop-rest.invariant.places keeps ∙ placed-all c.args.options c.args.bytes.now some)
+    ∙ placed-end c.loop-rest.places.items c.loop-rest.state c.loop-rest.place.index
+    c.loop-rest.place.offset c.loop-rest.rest.now none
