@@ -242,6 +242,31 @@ static void ask_for_many_ranges(void)
     say(answer.count == 1 && usages[1] == 0, "the first usage of the second range");
 }
 
+/* Without a limit a collection's usages aren't listed for the groups in it: 2^32 between a minimum and
+ * a maximum, and, as hosts read them, one and 2^28 behind it. */
+static void ask_for_collections(void)
+{
+    static const uint8_t range[] = "\x05\x01\x1b\0\0\0\0\x2b\xff\xff\xff\xff\xa1\x01"
+                                   "\x75\x08\x95\x01\x09\x30\x81\x02\xc0";
+    static const uint8_t spans[] = "\x05\x01\x09\x02\x2b\xff\xff\xff\x0f\xa1\x01"
+                                   "\x75\x08\x95\x01\x09\x30\x81\x02\xc0";
+    struct hidreport_options options = HIDREPORT_DEFAULTS;
+    struct hidreport_group group;
+
+    options.limit = HIDREPORT_NO_LIMIT;
+    struct hidreport_answer answer =
+        hidreport_groups(range, sizeof range - 1, options, HIDREPORT_INPUT, &group, 1);
+    say(answer.status == HIDREPORT_ACCEPTED && answer.count == 1 && group.usage == 0x10030
+        && group.collections.count == 1 && group.collections.innermost == 0,
+        "a group in a collection of a range");
+    options = HIDREPORT_REPAIR_DEFAULTS;
+    options.limit = HIDREPORT_NO_LIMIT;
+    answer = hidreport_groups(spans, sizeof spans - 1, options, HIDREPORT_INPUT, &group, 1);
+    say(answer.status == HIDREPORT_ACCEPTED && answer.count == 1 && group.usage == 0x10030
+        && group.collections.count == 1 && group.collections.innermost == 0,
+        "a group in a collection of spans");
+}
+
 /* A report that says that it has more bytes than there are gets those that there are. */
 static void ask_for_a_blank(void)
 {
@@ -283,6 +308,7 @@ int main(void)
     ask_for_a_blank();
     ask_for_groups();
     ask_for_many_ranges();
+    ask_for_collections();
     ask_to_read(say);
     ask_to_read_with_little_room(say);
     ask_to_write_more_than_counted(say);

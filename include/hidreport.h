@@ -304,9 +304,9 @@ struct hidreport_answer hidreport_find(const uint8_t *descriptor, size_t length,
 
 /* The groups of the fields that a descriptor announces in a direction, in the order of its reports
  * and of their bits, one for each item that makes fields: laid out, they are the fields that
- * hidreport_describe lists. Neither these nor their usages are listed, so that with
- * HIDREPORT_NO_LIMIT, too, no more memory is taken than for the descriptor's items and the usages of
- * the collections around them. */
+ * hidreport_describe lists. Neither these are listed nor usages between a minimum and a maximum,
+ * theirs or those of collections, so that with HIDREPORT_NO_LIMIT, too, no more memory is taken than
+ * for the descriptor's items and lists of the collections around them. */
 struct hidreport_answer hidreport_groups(const uint8_t *descriptor, size_t length,
                                          struct hidreport_options options, uint32_t direction,
                                          struct hidreport_group *groups, size_t room);

@@ -4,8 +4,8 @@ use anyhow::Result;
 use hid_output::add_json;
 use hid_words::{FieldNumbers, add_collection_kind, add_name, word_of};
 use hidreport::{
-    ArrayField, Collection, Direction, Field, FieldAttributes, RDescReport, Report, Usage,
-    VariableField,
+    ArrayField, Collection, Direction, Field, FieldAttributes, GroupCollection, RDescReport,
+    Report, Usage, VariableField,
 };
 use serde::Serialize;
 use std::alloc::{AllocError, Global};
@@ -83,7 +83,7 @@ impl RestObject {
         direction: Direction,
         report: &RDescReport,
         offset: Option<usize>,
-        around: &[Collection],
+        around: &[GroupCollection],
         linux: Vec<AnswerObject>,
     ) -> Result<RestObject, AllocError> {
         Ok(RestObject {
@@ -91,7 +91,7 @@ impl RestObject {
             report: report.report_id().map(u8::from),
             offset,
             kind: "usages without a field",
-            collections: collections_of(*linux.allocator(), around)?,
+            collections: collections_around(*linux.allocator(), around)?,
             linux,
         })
     }
@@ -241,13 +241,33 @@ fn collections_of(
 ) -> Result<Vec<CollectionObject>, AllocError> {
     let mut objects = Vec::new(alloc);
     for collection in collections {
-        let mut kind = String::new(alloc);
-        add_collection_kind(&mut kind, collection.collection_type())?;
-        objects.push(CollectionObject {
-            id: u32::from(collection.id()),
-            kind,
-            usages: numbers_of(alloc, collection.usages())?,
-        })?;
+        objects.push(collection_object(alloc, collection)?)?;
     }
     Ok(objects)
+}
+
+/// Those around an item.
+fn collections_around(
+    alloc: Global,
+    collections: &[GroupCollection],
+) -> Result<Vec<CollectionObject>, AllocError> {
+    let mut objects = Vec::new(alloc);
+    for collection in collections {
+        objects.push(collection_object(alloc, &collection.listed(alloc)?)?)?;
+    }
+    Ok(objects)
+}
+
+/// A collection as JSON.
+fn collection_object(
+    alloc: Global,
+    collection: &Collection,
+) -> Result<CollectionObject, AllocError> {
+    let mut kind = String::new(alloc);
+    add_collection_kind(&mut kind, collection.collection_type())?;
+    Ok(CollectionObject {
+        id: u32::from(collection.id()),
+        kind,
+        usages: numbers_of(alloc, collection.usages())?,
+    })
 }

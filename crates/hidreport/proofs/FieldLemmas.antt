@@ -1,6 +1,7 @@
 -- The fields of an item, one after the other.
 use Rattle.std.proofs.Common.{◌≡◌, ℕ, zero, suc, ◌+◌, ◌-◌, ◌<◌, min, List, [], ◌∷◌, ◌++◌, length}
-use Rattle.std.proofs.Common.{get_or, refl, sym, ap, ◌∙◌, add-one, zero-add, append_assoc, arith}
+use Rattle.std.proofs.Common.{Some, get_or, slice_get}
+use Rattle.std.proofs.Common.{refl, sym, ap, ◌∙◌, add-one, zero-add, append_assoc, arith}
 use Rattle.hidreport.specs.Fields.{each_from, usage_at}
 use Rattle.hidreport_fields.specs.declared.field.usage.Usage.{Usage}
 
@@ -38,3 +39,12 @@ usage_at-min (u ∷ v ∷ us) (suc c) n d some e =
     let more : 0 < length (v ∷ us) = omega arith in
     ap (λ k. get_or (u ∷ v ∷ us) k d) later
     ∙ usage_at-min (v ∷ us) c (min c (length (v ∷ us) - 1)) d more refl
+
+-- usage c, where there are more than c
+pub usage_at-get : (us : List Usage) (c : ℕ) → c < length us → Some (usage_at us c) ≡ slice_get us c
+usage_at-get [] c lt = absurd (omega arith)
+usage_at-get (u ∷ []) zero lt = refl
+usage_at-get (u ∷ []) (suc c) lt = absurd (omega arith)
+usage_at-get (u ∷ v ∷ us) zero lt = refl
+usage_at-get (u ∷ v ∷ us) (suc c) lt =
+    let behind : c < length (v ∷ us) = omega arith in usage_at-get (v ∷ us) c behind

@@ -156,7 +156,7 @@ impl ReportDescriptor {
         ensures unlimited { options.limit ≡ None → options.longest ≡ None
             → (offset : ℕ) → result ≢ Err (ParserError.BudgetExceeded offset) }
     {
-        let outline = Outline::try_from_with(alloc, bytes, options)?;
+        let outline = Outline::parsed(alloc, bytes, options, true)?;
         Ok(outline.lay_out(alloc)?)
     }
 

@@ -8,8 +8,8 @@
 //! # Which type for what
 //!
 //! - [`ReportDescriptor`]: the reports that a descriptor announces, with all their fields.
-//! - [`Outline`]: the same with a [`Group`] of fields for each main item, where fields are many;
-//!   [`PlacedOutline`] knows where each of these items stands.
+//! - [`Outline`]: the same with a [`Group`] of fields for each main item, where fields are many, and
+//!   each [`GroupCollection`] around it; [`PlacedOutline`] knows where each of these items stands.
 //! - [`ParseOptions`]: limits, and by which rules a descriptor is read.
 //! - [`Report`]: a report's id, length and fields; its `blank` makes the bytes of a new one.
 //! - [`Field`]: a [`VariableField`], an [`ArrayField`] or padding, a [`ConstantField`]; `extract`
@@ -121,6 +121,7 @@ pub use parser::usages_by::UsagesBy;
 pub use placed_outline::PlacedOutline;
 pub use repairing::{Change, RepairOptions, Repaired, repair};
 pub use report::group::Group;
+pub use report::group_collection::GroupCollection;
 pub use report::item_place::ItemPlace;
 pub use report::outline_report::OutlineReport;
 pub use report::reader::Reader;

@@ -88,10 +88,34 @@ impl Outline {
         ensures unlimited { options.limit ≡ None → options.longest ≡ None
             → (offset : ℕ) → result ≢ Err (ParserError.BudgetExceeded offset) }
     {
+        Outline::parsed(alloc, bytes, options, false)
+    }
+
+    /// The same, also where its fields are to be listed: the groups share what these share.
+    pub(crate) fn parsed(
+        alloc: Global,
+        bytes: &[u8],
+        options: ParseOptions,
+        lists_fields: bool,
+    ) -> Result<Outline, ParserError>
+        ensures exact { Answers result (outline_as options bytes.now) }
+        ensures listed { AnswersBy listed result (parse_as options bytes.now) }
+        ensures bounded { IfOk result (λ outline.
+            IfSome options.limit (λ limit. descriptor_weight (listed outline) ≤ limit)) }
+        ensures plain { IfOk result (λ outline.
+            parse_by (reading_of options) bytes.now ≡ Ok (listed outline)) }
+        ensures tiled { IfOk result (λ outline. IsTiled (listed outline)) }
+        ensures struck { SegmentsAreIdle options bytes.now }
+        ensures kept { KeptItemsMean options bytes.now }
+        ensures rebuilt { RebuiltBytesMean options bytes.now }
+        ensures own_bytes { result ≢ Err ParserError.MismatchingReportId }
+        ensures unlimited { options.limit ≡ None → options.longest ≡ None
+            → (offset : ℕ) → result ≢ Err (ParserError.BudgetExceeded offset) }
+    {
         if let Some(offset) = options.past_longest(bytes.len()) {
             return Err(ParserError::BudgetExceeded { offset });
         }
-        Outline::read(alloc, bytes, options)
+        Outline::read(alloc, bytes, options, lists_fields)
     }
 
     /// The outline with these reports.
@@ -103,11 +127,16 @@ impl Outline {
     }
 
     /// The same of bytes that aren't too many.
-    fn read(alloc: Global, bytes: &[u8], options: ParseOptions) -> Result<Outline, ParserError>
+    fn read(
+        alloc: Global,
+        bytes: &[u8],
+        options: ParseOptions,
+        lists_fields: bool,
+    ) -> Result<Outline, ParserError>
         ensures { Answers result (answer_with (groups_in options bytes.now)
             (parse_any options bytes.now)) }
     {
-        let reports = parser::parse(alloc, bytes, options)?;
+        let reports = parser::parse(alloc, bytes, options, lists_fields)?;
         Ok(Outline { reports })
     }
 

@@ -11,6 +11,7 @@ ghost use Rattle.hidreport.specs.Parser.ItemPlaces.{placed};
 ghost use Rattle.hidreport.specs.Parser.Machine.{first_state};
 ghost use Rattle.hidreport.specs.Parser.Refusals.{IsRefusal, fault_named};
 
+pub(crate) mod around;
 pub(crate) mod budget;
 mod extent;
 mod fault;
@@ -22,7 +23,7 @@ mod journal;
 pub(crate) mod layout;
 mod local_usages;
 mod locals;
-mod open_collection;
+pub(crate) mod named_usages;
 mod open_collections;
 mod paged_local;
 pub(crate) mod push_keeps;
@@ -51,16 +52,31 @@ pub(crate) struct Walked {
     pub(crate) places: Vec<GroupPlace>,
 }
 
+/// What is to be made beside the groups.
+#[derive(Clone, Copy)]
+pub(crate) struct Beside {
+    /// Whether the fields will be listed, with the usages of their collections.
+    pub(crate) lists_fields: bool,
+
+    /// Whether the places of the items are kept.
+    pub(crate) keeps_places: bool,
+}
+
 /// The reports that the bytes of a descriptor announce by these options, however many bytes they
 /// are.
 pub(crate) fn parse(
     alloc: Global,
     bytes: &[u8],
     options: ParseOptions,
+    lists_fields: bool,
 ) -> Result<OutlineReports, ParserError>
     ensures { Answers result (walk_bytes_to in_groups options bytes.now) }
 {
-    let Walked { reports, places: _ } = walk(alloc, bytes, options, false)?;
+    let beside = Beside {
+        lists_fields,
+        keeps_places: false,
+    };
+    let Walked { reports, places: _ } = walk(alloc, bytes, options, beside)?;
     Ok(reports)
 }
 
@@ -69,17 +85,17 @@ pub(crate) fn walk(
     alloc: Global,
     bytes: &[u8],
     options: ParseOptions,
-    keeps_places: bool,
+    beside: Beside,
 ) -> Result<Walked, ParserError>
     ensures reports { AnswersBy (λ walked. walked.reports) result
         (walk_bytes_to in_groups options bytes.now) }
-    ensures places { IfOk result (λ walked. keeps_places ≡ true
+    ensures places { IfOk result (λ walked. beside.keeps_places ≡ true
         → placed [] (first_state options) 0 (itemise item_of bytes.now) ≡ Ok walked.places.items) }
 {
     if bytes.is_empty() {
         return Err(empty_descriptor(alloc));
     }
-    let mut state = State::new(alloc, options);
+    let mut state = State::new(alloc, options, beside.lists_fields);
     let mut budget = Budget::new(options.limit);
     let mut places = Vec::new(alloc);
     let mut place = ItemPlace {
@@ -99,7 +115,7 @@ pub(crate) fn walk(
         if let Err(fault) = state.take(alloc, &mut budget, front.item) {
             return Err(refusal(alloc, offset, fault, behind, rest));
         }
-        keep(&mut places, made, keeps_places)?;
+        keep(&mut places, made, beside.keeps_places)?;
         place = ItemPlace {
             index: place.index + 1,
             offset: behind,

@@ -6,7 +6,7 @@ ghost use Rattle.hidreport.specs.Outline.{outline_as};
 
 use crate::outline::Outline;
 use crate::parse_options::ParseOptions;
-use crate::parser::{Walked, walk};
+use crate::parser::{Beside, Walked, walk};
 use crate::report::group::Group;
 use crate::report::item_place::{GroupPlace, ItemPlace};
 use hidreport_lists::ParserError;
@@ -61,7 +61,11 @@ impl PlacedOutline {
         if let Some(offset) = options.past_longest(bytes.len()) {
             return Err(ParserError::BudgetExceeded { offset });
         }
-        let Walked { reports, places } = walk(alloc, bytes, options, true)?;
+        let beside = Beside {
+            lists_fields: false,
+            keeps_places: true,
+        };
+        let Walked { reports, places } = walk(alloc, bytes, options, beside)?;
         let outline = Outline::of(reports);
         Ok(PlacedOutline { outline, places })
     }

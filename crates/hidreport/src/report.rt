@@ -9,6 +9,7 @@ ghost use Rattle.hidreport.specs.Working.{TakesAll};
 ghost use Rattle.hidreport_fields.specs.WritingLaws.{IsWhole};
 
 pub(crate) mod group;
+pub(crate) mod group_collection;
 mod group_lookup;
 pub(crate) mod item_place;
 pub(crate) mod outline_report;

@@ -2,6 +2,7 @@
 ghost use Rattle.std.specs.Prelude.{◌≡◌, ◌&&◌, nat_le, [], ◌∷◌, Ok, MatchResult, option_map, ◌++◌, IfOk, OnOk};
 ghost use Rattle.hidreport.specs.Views.{field_record};
 ghost use Rattle.hidreport_c.specs.Answer.{GroupsOf, Lists, array_after, counted, no_memory};
+ghost use Rattle.hidreport_c.specs.Field.{collections_as_c};
 ghost use Rattle.hidreport_c.specs.Group.{all_groups, field_placed, flags_in, group_as_c, groups_as_c, groups_of};
 ghost use Rattle.hidreport_c.specs.Group.{kind_in, lent, measures_in, one_field, one_usage, usage_in, usage_listed};
 ghost use Rattle.hidreport_c.specs.Lookup.{field_or_none};
@@ -9,14 +10,13 @@ ghost use Rattle.hidreport_c.specs.Describe.{reports_in_direction};
 
 use crate::answer::outline;
 use crate::field::{
-    ARRAY, CONSTANT, VARIABLE, attributes_of, collections_of, measures, nothing_measured,
-    nothing_set,
+    ARRAY, CONSTANT, VARIABLE, attributes_of, measures, nothing_measured, nothing_set,
 };
 use crate::part::{Part, write};
 use crate::status::OUT_OF_MEMORY;
 use crate::structs::{
-    HidreportAnswer, HidreportField, HidreportFlags, HidreportGroup, HidreportMeasures,
-    HidreportOptions,
+    HidreportAnswer, HidreportCollections, HidreportField, HidreportFlags, HidreportGroup,
+    HidreportMeasures, HidreportOptions,
 };
 use hidreport::{Field, Group, Outline, OutlineReport};
 use std::alloc::{AllocError, Global};
@@ -245,13 +245,25 @@ fn as_c(group: &Group) -> HidreportGroup
         field_count: group.field_count(),
         usage: usage_of(group, 0),
         measures: measures_of(group),
-        collections: collections_of(group.collections()),
+        collections: collections_around(group),
         flags: flags_of(group),
         has_report_id: report_id.is_some(),
         report_id: match report_id {
             Some(id) => u8::from(id),
             None => 0,
         },
+    }
+}
+
+fn collections_around(group: &Group) -> HidreportCollections
+    ensures { result ≡ collections_as_c group.now.shared.collections }
+{
+    let around = group.collections();
+    HidreportCollections {
+        count: around.len(),
+        innermost: around
+            .last()
+            .map_or(0, |collection| u32::from(collection.id())),
     }
 }
 

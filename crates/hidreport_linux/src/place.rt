@@ -3,7 +3,7 @@ ghost use Rattle.std.specs.Prelude.{◌≡◌, ◌==◌, if◌then◌else◌};
 ghost use Rattle.hidreport.specs.Spelling.{kind_number};
 ghost use Rattle.hidreport_linux.specs.Places.{has_macros, innermost, is_of_macros, usage_of};
 
-use hidreport::{Collection, Direction, FieldAttributes, Group};
+use hidreport::{Direction, FieldAttributes, Group, GroupCollection};
 
 /// What hid-input asks of an item's usages beside their numbers.
 ///
@@ -70,7 +70,7 @@ const NAMED_ARRAY: u8 = 4;
 const PROGRAMMABLE_BUTTONS: u32 = 0x000c_0003;
 
 /// The usage of the innermost collection of a kind, 0 where there is none.
-fn innermost(around: &[Collection], kind: u8) -> u32
+fn innermost(around: &[GroupCollection], kind: u8) -> u32
     ensures { result ≡ innermost kind around.now }
 {
     let mut found = 0;
@@ -81,7 +81,7 @@ fn innermost(around: &[Collection], kind: u8) -> u32
 }
 
 /// The usage of a collection of a kind, else what was found before.
-fn usage_or(before: u32, collection: &Collection, kind: u8) -> u32
+fn usage_or(before: u32, collection: &GroupCollection, kind: u8) -> u32
     ensures { result ≡ (if kind_number collection.now.kind == kind
         then usage_of collection.now else before) }
 {
@@ -93,24 +93,24 @@ fn usage_or(before: u32, collection: &Collection, kind: u8) -> u32
 }
 
 /// The number of a collection's kind.
-fn kind_of(collection: &Collection) -> u8
+fn kind_of(collection: &GroupCollection) -> u8
     ensures { result ≡ kind_number collection.now.kind }
 {
     u8::from(&collection.collection_type())
 }
 
 /// The first usage of a collection, 0 where there is none.
-fn usage_of(collection: &Collection) -> u32
+fn usage_of(collection: &GroupCollection) -> u32
     ensures { result ≡ usage_of collection.now }
 {
-    match collection.usages().first() {
+    match collection.usage(0) {
         Some(usage) => u32::from(usage),
         None => 0,
     }
 }
 
 /// Whether the innermost collection is a named array of programmable buttons.
-fn has_macros(around: &[Collection]) -> bool
+fn has_macros(around: &[GroupCollection]) -> bool
     ensures { result ≡ has_macros around.now }
 {
     match around.last() {
@@ -120,7 +120,7 @@ fn has_macros(around: &[Collection]) -> bool
 }
 
 /// Whether a collection is a named array of programmable buttons.
-fn is_of_macros(collection: &Collection) -> bool
+fn is_of_macros(collection: &GroupCollection) -> bool
     ensures { result ≡ is_of_macros collection.now }
 {
     kind_of(collection) == NAMED_ARRAY && usage_of(collection) == PROGRAMMABLE_BUTTONS

@@ -1,9 +1,6 @@
 -- The fields of one item as the parser lays them out.
 use Rattle.std.specs.Prelude.{◌≡◌, ℕ, ◌+◌, ◌*◌, ◌^◌, ◌<◌, ◌≤◌, false, [], List, length, Option}
 use Rattle.std.specs.Prelude.{None, Some}
-use Rattle.std.specs.Arc.{arc_slice_items}
-use Rattle.std.specs.Global.{Global}
-use Rattle.std.specs.declared.sync.ArcSlice.{ArcSlice}
 use Rattle.hidreport.specs.Fields.{Beginning, beginning_at, make_place, make_fields}
 use Rattle.hidreport_fields.specs.ItemParts.{field_count}
 use Rattle.hidreport.specs.Fields.{usage_at}
@@ -15,9 +12,9 @@ use Rattle.hidreport.specs.declared.parser.layout.Layout.{Layout}
 use Rattle.hidreport.specs.declared.parser.extent.Extent.{Extent}
 
 -- the collections that the fields carry; padding has none
-abbrev pub shared_list : Option (ArcSlice CollectionRecord Global) → List CollectionRecord
+abbrev pub shared_list : Option (List CollectionRecord) → List CollectionRecord
 shared_list None = []
-shared_list (Some shared) = arc_slice_items shared
+shared_list (Some around) = around
 
 -- what the item's fields share
 abbrev pub shared_of : Layout → Attributes

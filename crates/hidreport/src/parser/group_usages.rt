@@ -7,7 +7,7 @@ use crate::parser::layout::Layout;
 use crate::parser::local_usages::LocalUsage;
 use crate::parser::usage_bounds::UsageBounds;
 use crate::parser::usage_span::UsageSpan;
-use crate::parser::usages::Usages;
+use crate::parser::usages::{Usages, copied};
 use hidreport_fields::{Field, Usage};
 use hidreport_types::UsagePage;
 use std::alloc::{AllocError, Global};
@@ -180,15 +180,4 @@ fn front(usages: &[LocalUsage], most: usize) -> &[LocalUsage]
     } else {
         usages
     }
-}
-
-/// A list with these elements.
-fn copied<T: Copy>(alloc: Global, slice: &[T]) -> Result<Vec<T>, AllocError>
-    ensures { IfOk result (λ list. list.items ≡ slice.now) }
-{
-    let mut list = Vec::with_capacity(alloc, slice.len())?;
-    for element in slice {
-        list.push_reserved(*element);
-    }
-    Ok(list)
 }

@@ -3,7 +3,8 @@ ghost use Rattle.std.specs.Prelude.{◌≡◌, ◌<◌, length, IfSome};
 ghost use Rattle.hidreport.specs.Fields.{usage_at};
 ghost use Rattle.hidreport.specs.Parser.Usages.{usage_list};
 
-use crate::parser::usages::Usages;
+use crate::parser::around::Around;
+use crate::parser::usages::{Usages, usage_at};
 use hidreport_fields::{
     Choices, Collection, DataItem, Field, Measures, Place, Usage, make_array, make_padding,
     make_variable, numbered_field,
@@ -20,7 +21,7 @@ pub(crate) struct Layout {
     pub(crate) report_count: Option<ReportCount>,
     pub(crate) measures: Measures,
     pub(crate) item: DataItem,
-    pub(crate) collections: Option<ArcSlice<Collection>>,
+    pub(crate) collections: Option<Around>,
     pub(crate) first_id: u64,
     pub(crate) first_bit: usize,
     pub(crate) size: usize,
@@ -47,7 +48,7 @@ impl Layout {
             → IsPossible self.now us → IsPossible layout us) }
     {
         let collections = match &self.collections {
-            Some(shared) => Some(shared.clone()?),
+            Some(around) => Some(around.clone()?),
             None => None,
         };
         Ok(Layout {
@@ -136,11 +137,11 @@ impl Layout {
     {
         let found = usages.first_of_many(alloc, self.count.max(1))?;
         let listed = &found;
+        let collections = self.shared_collections(alloc)?;
         fields.reserve(self.count)?;
         for c in 0..self.count {
-            let collections = self.shared_collections(alloc)?;
             let usage = usage_of(usages, listed, c);
-            fields.push_reserved(self.variable_field(collections, usage, c));
+            fields.push_reserved(self.variable_field(collections.clone()?, usage, c));
         }
         Ok(())
     }
@@ -200,7 +201,7 @@ impl Layout {
             arc_slice_items shared ≡ shared_list self.now.collections) }
     {
         match &self.collections {
-            Some(shared) => shared.clone(),
+            Some(around) => around.listed(alloc),
             None => ArcSlice::from_vec(Vec::new(alloc)),
         }
     }
@@ -237,12 +238,4 @@ fn usage_of(usages: &Usages, listed: &Option<Vec<Usage>>, c: usize) -> Usage
         Some(list) => usage_at(list.as_slice(), c),
         None => usages.at(c),
     }
-}
-
-/// Usage number `c` of a list, or the last one where there are fewer.
-fn usage_at(usages: &[Usage], c: usize) -> Usage
-    requires { 0 < length usages.now }
-    ensures { result ≡ usage_at usages.now c }
-{
-    usages[c.min(usages.len() - 1)]
 }

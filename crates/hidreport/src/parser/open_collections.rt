@@ -1,28 +1,26 @@
 //! The collections that are open (Section 6.2.2.6).
-ghost use Rattle.std.specs.Prelude.{◌≡◌, IfOk};
-
-use crate::parser::open_collection::OpenCollection;
+use crate::parser::around::Around;
 use crate::parser::usages::Usages;
-use hidreport_fields::{Collection, DataItem};
+use crate::report::group_collection::GroupCollection;
+use hidreport_fields::DataItem;
 use hidreport_items::CollectionItem;
 use std::alloc::{AllocError, Global};
 use std::marker::Model;
 use std::mem;
-use std::sync::ArcSlice;
 
 /// The collections that are open, outermost first (Section 6.2.2.6).
 ///
-/// Fields share a list of them, which is kept as long as no collection opens or closes.
+/// Items share a list of them, which is kept as long as no collection opens or closes.
 #[derive(Drop)]
 pub(crate) struct OpenCollections {
-    open: Vec<OpenCollection>,
+    open: Vec<GroupCollection>,
     count: u64,
     weight: u128,
-    shared: Option<ArcSlice<Collection>>,
+    shared: Option<Around>,
+    lists_fields: bool,
 }
 
 impl Model for OpenCollections {
-    ghost use Rattle.std.specs.Arc.{arc_slice_items};
     ghost use Rattle.std.specs.Prelude.{◌≡◌, ◌≤◌, ◌*◌, ◌^◌, IfSome, sum_by};
     ghost use Rattle.hidreport.specs.Parser.Opened.{Opened};
     ghost use Rattle.hidreport.specs.Weight.{collection_weight};
@@ -31,20 +29,19 @@ impl Model for OpenCollections {
 
     ghost view = { λ o. record { list = o.open.items; count = o.count } };
 
-    ghost invariant = { λ o. IfSome o.shared (λ s. arc_slice_items s ≡ o.open.items)
+    ghost invariant = { λ o. IfSome o.shared (λ around. around ≡ o.open.items)
         × (o.weight ≡ sum_by collection_weight o.open.items)
         × (o.weight ≤ o.count * 2 ^ 64) × (o.count ≤ 2 ^ 32) };
 }
 
 impl OpenCollections {
-    ghost use Rattle.std.specs.Arc.{arc_slice_items};
     ghost use Rattle.std.specs.Prelude.{◌≡◌, ◌<◌, ◌+◌, ◌-◌, ◌^◌, ◌≤◌, false, [], ◌∷◌, ◌++◌, length, sum_by, take, IfOk, IfSome, IsTrue, OnOk, true};
     ghost use Rattle.hidreport.specs.Parser.Layout.{shared_list};
     ghost use Rattle.hidreport.specs.Parser.Usages.{usage_list};
     ghost use Rattle.hidreport.specs.Weight.{collection_weight};
 
-    /// None is open.
-    pub(crate) fn new(alloc: Global) -> OpenCollections
+    /// None is open. Usages are listed only where fields are to be.
+    pub(crate) fn new(alloc: Global, lists_fields: bool) -> OpenCollections
         ensures { result ≡ record { list = []; count = 0 } }
     {
         OpenCollections {
@@ -52,6 +49,7 @@ impl OpenCollections {
             count: 0,
             weight: 0,
             shared: None,
+            lists_fields,
         }
     }
 
@@ -87,7 +85,7 @@ impl OpenCollections {
           count = self.old.count + 1;
         }) }
     {
-        let collection = OpenCollection::new(alloc, self.count as u32, collection_type, usages)?;
+        let collection = GroupCollection::new(alloc, self.count as u32, collection_type, usages)?;
         let weight = self.weight + collection.weight();
         self.shared = None;
         self.open.push(collection)?;
@@ -119,13 +117,13 @@ impl OpenCollections {
         &mut self,
         alloc: Global,
         item: &DataItem,
-    ) -> Result<Option<ArcSlice<Collection>>, AllocError>
+    ) -> Result<Option<Around>, AllocError>
         ensures all { IfOk result (λ shared.
             item.now.flags.constant ≡ false → shared_list shared ≡ self.old.list) }
         ensures none { IfOk result (λ shared.
             item.now.flags.constant ≡ true → shared_list shared ≡ []) }
         ensures list { IfOk result (λ shared.
-            IfSome shared (λ list. arc_slice_items list ≡ self.old.list)) }
+            IfSome shared (λ around. around ≡ self.old.list)) }
         ensures same { self.new ≡ self.old }
     {
         if item.flags.is_constant {
@@ -134,28 +132,16 @@ impl OpenCollections {
         if let Some(shared) = mem::replace(&mut self.shared, None) {
             return Ok(Some(shared));
         }
-        Ok(Some(ArcSlice::from_vec(carried(alloc, &mut self.open)?)?))
+        Ok(Some(Around::new(alloc, &mut self.open, self.lists_fields)?))
     }
 
     /// Keeps a list of them for the next item.
-    pub(crate) fn keep(&mut self, shared: Option<ArcSlice<Collection>>)
-        requires { IfSome shared (λ list. arc_slice_items list ≡ self.old.list) }
+    pub(crate) fn keep(&mut self, shared: Option<Around>)
+        requires { IfSome shared (λ around. around ≡ self.old.list) }
         ensures { self.new ≡ self.old }
     {
         if let Some(shared) = shared {
             self.shared = Some(shared);
         }
     }
-}
-
-/// The collections as fields carry them.
-fn carried(alloc: Global, opened: &mut [OpenCollection]) -> Result<Vec<Collection>, AllocError>
-    ensures all { IfOk result (λ collections. collections.items ≡ opened.old) }
-    ensures same { opened.new ≡ opened.old }
-{
-    let mut collections = Vec::with_capacity(alloc, opened.len())?;
-    for collection in opened.iter_mut() {
-        collections.push_reserved(collection.carried(alloc)?);
-    }
-    Ok(collections)
 }

@@ -64,15 +64,15 @@ impl State {
     ghost use Rattle.hidreport_fields.specs.DataItem.{as_item};
     ghost use Rattle.hidreport.specs.Parser.DataItem.{collection, end_collection};
 
-    /// Before the first item.
-    pub(crate) fn new(alloc: Global, options: ParseOptions) -> State
+    /// Before the first item, where fields are to be listed or not.
+    pub(crate) fn new(alloc: Global, options: ParseOptions, lists_fields: bool) -> State
         ensures { result ≡ first_state options }
     {
         State {
             item_states: ItemStateTable::new(alloc, options.push_keeps, options.usages),
             reports: ReportLists::new(alloc),
             field_count: 0,
-            collections: OpenCollections::new(alloc),
+            collections: OpenCollections::new(alloc, lists_fields),
         }
     }
 

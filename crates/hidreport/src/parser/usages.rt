@@ -131,6 +131,14 @@ fn single_at(page: UsagePage, usages: &[LocalUsage], c: usize) -> Usage
     usages[c.min(usages.len() - 1)].under(page)
 }
 
+/// Usage number `c` of a list, or the last one where there are fewer.
+pub(crate) fn usage_at(usages: &[Usage], c: usize) -> Usage
+    requires { 0 < length usages.now }
+    ensures { result ≡ usage_at usages.now c }
+{
+    usages[c.min(usages.len() - 1)]
+}
+
 /// Single usages in a list.
 fn single_list(
     alloc: Global,
@@ -142,6 +150,17 @@ fn single_list(
     let mut list = Vec::with_capacity(alloc, usages.len())?;
     for usage in usages {
         list.push_reserved(usage.under(page));
+    }
+    Ok(list)
+}
+
+/// A list with these elements.
+pub(crate) fn copied<T: Copy>(alloc: Global, slice: &[T]) -> Result<Vec<T>, AllocError>
+    ensures { IfOk result (λ list. list.items ≡ slice.now) }
+{
+    let mut list = Vec::with_capacity(alloc, slice.len())?;
+    for element in slice {
+        list.push_reserved(*element);
     }
     Ok(list)
 }

@@ -22,7 +22,7 @@ pub(crate) fn mend_all(
     ensures ok { OnOk result (all_mended options [] pieces.old ≡ Ok pieces.new) }
     ensures err { IfErr result (λ e. Refuses e (all_mended options [] pieces.old)) }
 {
-    let mut state = State::new(alloc, options.parse);
+    let mut state = State::new(alloc, options.parse, false);
     let mut budget = Budget::new(options.parse.limit);
     for piece in pieces.iter_mut() {
         let offset = piece.offset();

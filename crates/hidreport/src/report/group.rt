@@ -8,7 +8,8 @@ ghost use Rattle.hidreport.specs.Parser.Usages.{usage_list};
 use crate::parser::group_usages::GroupUsages;
 use crate::parser::layout::Layout;
 use crate::parser::usages::Usages;
-use hidreport_fields::{Collection, Field, FieldAttributes, Usage};
+use crate::report::group_collection::GroupCollection;
+use hidreport_fields::{Field, FieldAttributes, Usage};
 use hidreport_items::ItemFlags;
 use hidreport_types::{
     LogicalMaximum, LogicalMinimum, PhysicalMaximum, PhysicalMinimum, ReportId, Unit, UnitExponent,
@@ -250,11 +251,11 @@ impl Group {
     }
 
     /// The collections that the fields lie in, outermost first; padding has none.
-    pub fn collections(&self) -> &[Collection]
+    pub fn collections(&self) -> &[GroupCollection]
         ensures { result.now ≡ self.now.shared.collections }
     {
         match &self.layout.collections {
-            Some(shared) => shared,
+            Some(around) => around.as_slice(),
             None => &[],
         }
     }

@@ -14,7 +14,7 @@ invariant-loop-rest l = record {
   counted : l.place.index ≤ l.place.offset;
   walk : walk_items_to in_groups l.budget l.state (items_from item_of l.place.offset 0 l.rest)
       ≡ walk_items_to in_groups l.fn.options.limit (first_state l.fn.options) (items_from item_of 0 0 l.bytes);
-  places : l.keeps_places ≡ true → placed l.places.items l.state l.place.index (items_from item_of l.place.offset 0 l.rest)
+  places : l.beside.keeps_places ≡ true → placed l.places.items l.state l.place.index (items_from item_of l.place.offset 0 l.rest)
       ≡ placed [] (first_state l.fn.options) 0 (items_from item_of 0 0 l.bytes);
 }
 

@@ -1,4 +1,4 @@
-use Rattle.std.proofs.Common.{◌∙◌, IfSome, Option, ap, subst, sym}
+use Rattle.std.proofs.Common.{IfSome, Option, subst, sym}
 use Rattle.hidreport.specs.Groups.{GroupedReport, listed, listed_report}
 use Rattle.hidreport.specs.Working.{AllOwn, AllWork}
 use Rattle.hidreport_fields.specs.Lookup.{find_report, reports_of}

@@ -1,6 +1,6 @@
 use Rattle.std.proofs.Common.{rules, ◌-◌, ◌≡◌, ◌∙◌, min, length}
 use Rattle.hidreport.proofs.FieldLemmas.{usage_at-min}
-use Rattle.hidreport.proofs.parser.layout.usage_at.Goals as goal
+use Rattle.hidreport.proofs.parser.usages.usage_at.Goals as goal
 
 pub returns : goal.returns
 returns c =

@@ -14,7 +14,7 @@ use Rattle.hidreport.proofs.OutlineWalkLemmas.{with-never}
 use Rattle.hidreport.proofs.RefusalLemmas.{no-budget, no-mismatch}
 use Rattle.hidreport.proofs.SegmentLemmas.{parse-struck}
 use Rattle.hidreport.proofs.TilingWalkLemmas.{parse-tiled}
-use Rattle.hidreport.proofs.outline.Outline.try_from_with.Goals as goal
+use Rattle.hidreport.proofs.outline.Outline.parsed.Goals as goal
 
 pub returns-in-Some-clause-struck : goal.returns-in-Some-clause-struck
 returns-in-Some-clause-struck c = parse-struck c.args.options c.args.bytes.now

@@ -1,5 +1,5 @@
 use Rattle.std.proofs.Common.{◌≡◌, ◌≤◌, length, take, vec_capacity, vec_len}
-use Rattle.hidreport.proofs.parser.group_usages.copied.Given as goal
+use Rattle.hidreport.proofs.parser.usages.copied.Given as goal
 
 -- the first ones, and room for the others
 abbrev pub invariant-loop-element : goal.invariant-loop-element
