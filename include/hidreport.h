@@ -464,8 +464,8 @@ struct hidreport_answer hidreport_read(const struct hidreport_field *fields, siz
                                        int64_t *values, size_t room);
 
 /* The values of these fields that the bytes have, in order, up to the first that they don't have, or
- * that has more than 32 bits: what hosts do with a report that is cut short. Bytes that begin with another id than one of the
- * fields has are HIDREPORT_MISMATCHING_REPORT_ID. It takes no memory. */
+ * that has more than 32 bits: what hosts do with a report that is cut short. Bytes that begin with
+ * another id than one of the fields has are HIDREPORT_MISMATCHING_REPORT_ID. It takes no memory. */
 struct hidreport_answer hidreport_read_available(const struct hidreport_field *fields,
                                                  size_t field_count, const uint8_t *report,
                                                  size_t report_length, int64_t *values,
