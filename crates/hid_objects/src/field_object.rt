@@ -4,8 +4,8 @@ use anyhow::Result;
 use hid_output::add_json;
 use hid_words::{FieldNumbers, add_collection_kind, add_name, word_of};
 use hidreport::{
-    ArrayField, Collection, Direction, Field, FieldAttributes, GroupCollection, RDescReport,
-    Report, Usage, VariableField,
+    ArrayField, Collection, Direction, Field, FieldAttributes, Group, RDescReport, Report, Usage,
+    VariableField,
 };
 use serde::Serialize;
 use std::alloc::{AllocError, Global};
@@ -83,7 +83,7 @@ impl RestObject {
         direction: Direction,
         report: &RDescReport,
         offset: Option<usize>,
-        around: &[GroupCollection],
+        group: &Group,
         linux: Vec<AnswerObject>,
     ) -> Result<RestObject, AllocError> {
         Ok(RestObject {
@@ -91,7 +91,7 @@ impl RestObject {
             report: report.report_id().map(u8::from),
             offset,
             kind: "usages without a field",
-            collections: collections_around(*linux.allocator(), around)?,
+            collections: collections_around(*linux.allocator(), group)?,
             linux,
         })
     }
@@ -247,13 +247,12 @@ fn collections_of(
 }
 
 /// Those around an item.
-fn collections_around(
-    alloc: Global,
-    collections: &[GroupCollection],
-) -> Result<Vec<CollectionObject>, AllocError> {
+fn collections_around(alloc: Global, group: &Group) -> Result<Vec<CollectionObject>, AllocError> {
     let mut objects = Vec::new(alloc);
-    for collection in collections {
-        objects.push(collection_object(alloc, &collection.listed(alloc)?)?)?;
+    for index in 0..group.collection_count() {
+        if let Some(collection) = group.collection(index) {
+            objects.push(collection_object(alloc, &collection.listed(alloc)?)?)?;
+        }
     }
     Ok(objects)
 }

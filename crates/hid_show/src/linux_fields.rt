@@ -277,7 +277,7 @@ impl<'c> Shown<'c> {
             let (direction, report) = place;
             let objects = objects_of(*self.text.allocator(), answers)?;
             let offset = self.offsets.offset(group);
-            let object = RestObject::of(direction, report, offset, group.collections(), objects)?;
+            let object = RestObject::of(direction, report, offset, group, objects)?;
             return add_json(&mut self.text, &object);
         }
         let indent = indent_of(depth.saturating_add(1));

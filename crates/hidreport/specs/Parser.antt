@@ -2,6 +2,7 @@
 -- it.
 pub mod Budget
 pub mod DataItem
+pub mod GroupCollections
 pub mod Groups
 pub mod ItemPlaces
 pub mod ItemStates
@@ -11,6 +12,7 @@ pub mod Ids
 pub mod Locals
 pub mod Machine
 pub mod Mended
+pub mod NamedUsages
 pub mod Opened
 pub mod Refusals
 pub mod Usages

@@ -23,6 +23,7 @@ mod journal;
 pub(crate) mod layout;
 mod local_usages;
 mod locals;
+pub(crate) mod named_collection;
 pub(crate) mod named_usages;
 mod open_collections;
 mod paged_local;

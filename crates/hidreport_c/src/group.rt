@@ -258,12 +258,13 @@ fn as_c(group: &Group) -> HidreportGroup
 fn collections_around(group: &Group) -> HidreportCollections
     ensures { result ≡ collections_as_c group.now.shared.collections }
 {
-    let around = group.collections();
+    let count = group.collection_count();
     HidreportCollections {
-        count: around.len(),
-        innermost: around
-            .last()
-            .map_or(0, |collection| u32::from(collection.id())),
+        count,
+        innermost: match group.collection(count.saturating_sub(1)) {
+            Some(collection) => u32::from(collection.id()),
+            None => 0,
+        },
     }
 }
 

@@ -43,16 +43,15 @@ impl Place {
     pub fn of(direction: Direction, group: &Group) -> Place
         ensures { result ≡ place_of direction group.now }
     {
-        let around = group.collections();
         Place {
             direction,
             is_constant: group.is_constant(),
             is_relative: group.is_relative(),
             is_bit: group.element_width() == 1,
-            application: innermost(around, APPLICATION),
-            physical: innermost(around, PHYSICAL),
-            logical: innermost(around, LOGICAL),
-            has_macros: has_macros(around),
+            application: innermost(group, APPLICATION),
+            physical: innermost(group, PHYSICAL),
+            logical: innermost(group, LOGICAL),
+            has_macros: has_macros(group),
         }
     }
 }
@@ -70,12 +69,14 @@ const NAMED_ARRAY: u8 = 4;
 const PROGRAMMABLE_BUTTONS: u32 = 0x000c_0003;
 
 /// The usage of the innermost collection of a kind, 0 where there is none.
-fn innermost(around: &[GroupCollection], kind: u8) -> u32
-    ensures { result ≡ innermost kind around.now }
+fn innermost(group: &Group, kind: u8) -> u32
+    ensures { result ≡ innermost kind group.now.shared.collections }
 {
     let mut found = 0;
-    for collection in around {
-        found = usage_or(found, collection, kind);
+    for index in 0..group.collection_count() {
+        if let Some(collection) = group.collection(index) {
+            found = usage_or(found, &collection, kind);
+        }
     }
     found
 }
@@ -110,11 +111,11 @@ fn usage_of(collection: &GroupCollection) -> u32
 }
 
 /// Whether the innermost collection is a named array of programmable buttons.
-fn has_macros(around: &[GroupCollection]) -> bool
-    ensures { result ≡ has_macros around.now }
+fn has_macros(group: &Group) -> bool
+    ensures { result ≡ has_macros group.now.shared.collections }
 {
-    match around.last() {
-        Some(collection) => is_of_macros(collection),
+    match group.collection(group.collection_count().saturating_sub(1)) {
+        Some(collection) => is_of_macros(&collection),
         None => false,
     }
 }

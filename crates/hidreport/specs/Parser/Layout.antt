@@ -1,6 +1,7 @@
 -- The fields of one item as the parser lays them out.
 use Rattle.std.specs.Prelude.{◌≡◌, ℕ, ◌+◌, ◌*◌, ◌^◌, ◌<◌, ◌≤◌, false, [], List, length, Option}
 use Rattle.std.specs.Prelude.{None, Some}
+use Rattle.std.specs.Arc.{arc_slice_items}
 use Rattle.hidreport.specs.Fields.{Beginning, beginning_at, make_place, make_fields}
 use Rattle.hidreport_fields.specs.ItemParts.{field_count}
 use Rattle.hidreport.specs.Fields.{usage_at}
@@ -8,13 +9,20 @@ use Rattle.hidreport_fields.specs.ItemParts.{attributes_with}
 use Rattle.hidreport_fields.specs.Records.{Attributes, CollectionRecord, FieldRecord, VariableRecord}
 use Rattle.hidreport.specs.Usages.{UsageList}
 use Rattle.hidreport_fields.specs.declared.field.usage.Usage.{Usage}
+use Rattle.hidreport.specs.declared.parser.around.Around.{Around}
+use Rattle.hidreport.specs.declared.parser.around.Around.TheVariants as around
 use Rattle.hidreport.specs.declared.parser.layout.Layout.{Layout}
 use Rattle.hidreport.specs.declared.parser.extent.Extent.{Extent}
 
+-- the collections, listed or not
+abbrev pub around_list : Around → List CollectionRecord
+around_list (around.Listed list) = arc_slice_items list
+around_list (around.Named list) = arc_slice_items list
+
 -- the collections that the fields carry; padding has none
-abbrev pub shared_list : Option (List CollectionRecord) → List CollectionRecord
+abbrev pub shared_list : Option Around → List CollectionRecord
 shared_list None = []
-shared_list (Some around) = around
+shared_list (Some around) = around_list around
 
 -- what the item's fields share
 abbrev pub shared_of : Layout → Attributes

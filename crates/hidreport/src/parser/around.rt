@@ -2,98 +2,103 @@
 ghost use Rattle.std.specs.Arc.{arc_slice_items};
 ghost use Rattle.std.specs.Prelude.{◌≡◌, IfOk};
 
+use crate::parser::named_collection::NamedCollection;
 use crate::report::group_collection::GroupCollection;
 use hidreport_fields::Collection;
 use std::alloc::{AllocError, Global};
-use std::marker::Model;
 use std::sync::ArcSlice;
 
-/// The collections around the fields of an item, outermost first, which items share; where the
-/// fields are to be listed, also as these carry them.
+/// The collections around the fields of an item, outermost first, which items share.
 #[derive(Drop)]
-pub(crate) struct Around {
-    collections: ArcSlice<GroupCollection>,
-    listed: Option<ArcSlice<Collection>>,
-}
+pub(crate) enum Around {
+    /// As fields carry them.
+    Listed(ArcSlice<Collection>),
 
-impl Model for Around {
-    ghost use Rattle.std.specs.Arc.{arc_slice_items};
-    ghost use Rattle.std.specs.Prelude.{◌≡◌, List, IfSome};
-    ghost use Rattle.hidreport_fields.specs.Records.{CollectionRecord};
-
-    ghost Value = { List CollectionRecord };
-
-    ghost view = { λ a. arc_slice_items a.collections };
-
-    ghost invariant = { λ a.
-        IfSome a.listed (λ list. arc_slice_items list ≡ arc_slice_items a.collections) };
+    /// With their usages as items name them.
+    Named(ArcSlice<NamedCollection>),
 }
 
 impl Around {
     ghost use Rattle.std.specs.Arc.{arc_slice_items};
-    ghost use Rattle.std.specs.Prelude.{◌≡◌, IfOk};
+    ghost use Rattle.std.specs.Prelude.{◌≡◌, IfOk, length, slice_get};
+    ghost use Rattle.hidreport.specs.Parser.Layout.{around_list};
 
-    /// Those that are open, also as fields carry them, if these are to be listed.
+    /// Those that are open. Their usages are listed only if the fields are to be listed, or all
+    /// usages are already.
     pub(crate) fn new(
         alloc: Global,
-        open: &mut [GroupCollection],
+        open: &mut [NamedCollection],
         lists_fields: bool,
     ) -> Result<Around, AllocError>
-        ensures all { IfOk result (λ around. around ≡ open.old) }
+        ensures all { IfOk result (λ around. around_list around ≡ open.old) }
         ensures same { open.new ≡ open.old }
     {
-        if !lists_fields {
-            return Ok(Around {
-                collections: shared(alloc, open)?,
-                listed: None,
-            });
+        if !lists_fields && waits(open) {
+            return Ok(Around::Named(named(alloc, open)?));
         }
         for collection in open.iter_mut() {
             collection.list(alloc)?;
         }
-        Ok(Around {
-            collections: shared(alloc, open)?,
-            listed: Some(listed(alloc, open)?),
-        })
+        Ok(Around::Listed(listed(alloc, open)?))
     }
 
     /// The same once more.
     pub(crate) fn clone(&self) -> Result<Around, AllocError>
-        ensures { IfOk result (λ copy. copy ≡ self.now) }
+        ensures { IfOk result (λ copy. around_list copy ≡ around_list self.now) }
     {
-        let listed = match &self.listed {
-            Some(list) => Some(list.clone()?),
-            None => None,
-        };
-        Ok(Around {
-            collections: self.collections.clone()?,
-            listed,
-        })
+        match self {
+            Around::Listed(list) => Ok(Around::Listed(list.clone()?)),
+            Around::Named(list) => Ok(Around::Named(list.clone()?)),
+        }
     }
 
-    /// The collections as groups have them.
-    pub(crate) fn as_slice(&self) -> &[GroupCollection]
-        ensures { result.now ≡ self.now }
+    /// How many there are.
+    pub(crate) fn len(&self) -> usize
+        ensures { result ≡ length (around_list self.now) }
     {
-        &self.collections
+        match self {
+            Around::Listed(list) => list.len(),
+            Around::Named(list) => list.len(),
+        }
+    }
+
+    /// Collection number `index`, `None` where there are no more.
+    pub(crate) fn get(&self, index: usize) -> Option<GroupCollection<'_>>
+        ensures { result ≡ slice_get (around_list self.now) index }
+    {
+        match self {
+            Around::Listed(list) => match list.get(index) {
+                Some(collection) => Some(GroupCollection::of_listed(collection)),
+                None => None,
+            },
+            Around::Named(list) => match list.get(index) {
+                Some(collection) => Some(GroupCollection::of_named(collection)),
+                None => None,
+            },
+        }
     }
 
     /// The collections as fields carry them, which share the list, if there is one.
     pub(crate) fn listed(&self, alloc: Global) -> Result<ArcSlice<Collection>, AllocError>
-        ensures { IfOk result (λ list. arc_slice_items list ≡ self.now) }
+        ensures { IfOk result (λ list. arc_slice_items list ≡ around_list self.now) }
     {
-        match &self.listed {
-            Some(list) => list.clone(),
-            None => listed(alloc, &self.collections),
+        match self {
+            Around::Listed(list) => list.clone(),
+            Around::Named(list) => listed(alloc, list),
         }
     }
 }
 
+/// Whether usages of a collection aren't listed.
+fn waits(collections: &[NamedCollection]) -> bool {
+    collections.iter().any(|collection| collection.waits())
+}
+
 /// A list of collections, which share their usages with these.
-fn shared(
+fn named(
     alloc: Global,
-    collections: &[GroupCollection],
-) -> Result<ArcSlice<GroupCollection>, AllocError>
+    collections: &[NamedCollection],
+) -> Result<ArcSlice<NamedCollection>, AllocError>
     ensures { IfOk result (λ list. arc_slice_items list ≡ collections.now) }
 {
     let mut list = Vec::with_capacity(alloc, collections.len())?;
@@ -106,7 +111,7 @@ fn shared(
 /// The collections as fields carry them.
 fn listed(
     alloc: Global,
-    collections: &[GroupCollection],
+    collections: &[NamedCollection],
 ) -> Result<ArcSlice<Collection>, AllocError>
     ensures { IfOk result (λ list. arc_slice_items list ≡ collections.now) }
 {

@@ -1,8 +1,8 @@
 //! The usages of a collection, which outlast its locals (Section 6.2.2.8).
-ghost use Rattle.std.specs.Prelude.{◌≡◌, ◌≤◌, ◌<◌, ◌^◌, length, slice_get, IfOk};
+ghost use Rattle.std.specs.Prelude.{◌≡◌, ◌≤◌, ◌<◌, ◌^◌, length, IfOk};
 ghost use Rattle.hidreport_fields.specs.CollectionUsages.{collection_usages};
 ghost use Rattle.hidreport.specs.Fields.{usage_at};
-ghost use Rattle.hidreport.specs.Parser.Opened.{IsCounted, named_usages};
+ghost use Rattle.hidreport.specs.Parser.NamedUsages.{IsCounted, named_usages};
 ghost use Rattle.hidreport.specs.Parser.Usages.{usage_list};
 
 use crate::parser::host_usages;
@@ -65,19 +65,8 @@ impl NamedUsages {
         }
     }
 
-    /// Usage number `index`, `None` where there are no more.
-    pub(crate) fn at(&self, index: usize) -> Option<Usage>
-        requires { IsCounted self.now }
-        ensures { result ≡ slice_get (named_usages self.now) index }
-    {
-        if index as u64 >= self.count() {
-            return None;
-        }
-        Some(self.usage(index))
-    }
-
     /// Usage number `index` of those that there are.
-    fn usage(&self, index: usize) -> Usage
+    pub(crate) fn usage(&self, index: usize) -> Usage
         requires { index < length (named_usages self.now) }
         ensures { result ≡ usage_at (named_usages self.now) index }
     {
@@ -86,6 +75,11 @@ impl NamedUsages {
             NamedUsages::Spans(spans) => host_usages::usage_at(spans, index),
             NamedUsages::Listed(usages) => usage_at(usages.as_slice(), index),
         }
+    }
+
+    /// Whether they aren't listed.
+    pub(crate) fn waits(&self) -> bool {
+        !matches!(self, NamedUsages::Listed(_))
     }
 
     /// The same once more; a list is shared.

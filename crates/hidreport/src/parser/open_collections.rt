@@ -1,7 +1,7 @@
 //! The collections that are open (Section 6.2.2.6).
 use crate::parser::around::Around;
+use crate::parser::named_collection::NamedCollection;
 use crate::parser::usages::Usages;
-use crate::report::group_collection::GroupCollection;
 use hidreport_fields::DataItem;
 use hidreport_items::CollectionItem;
 use std::alloc::{AllocError, Global};
@@ -13,7 +13,7 @@ use std::mem;
 /// Items share a list of them, which is kept as long as no collection opens or closes.
 #[derive(Drop)]
 pub(crate) struct OpenCollections {
-    open: Vec<GroupCollection>,
+    open: Vec<NamedCollection>,
     count: u64,
     weight: u128,
     shared: Option<Around>,
@@ -22,6 +22,7 @@ pub(crate) struct OpenCollections {
 
 impl Model for OpenCollections {
     ghost use Rattle.std.specs.Prelude.{◌≡◌, ◌≤◌, ◌*◌, ◌^◌, IfSome, sum_by};
+    ghost use Rattle.hidreport.specs.Parser.Layout.{around_list};
     ghost use Rattle.hidreport.specs.Parser.Opened.{Opened};
     ghost use Rattle.hidreport.specs.Weight.{collection_weight};
 
@@ -29,14 +30,14 @@ impl Model for OpenCollections {
 
     ghost view = { λ o. record { list = o.open.items; count = o.count } };
 
-    ghost invariant = { λ o. IfSome o.shared (λ around. around ≡ o.open.items)
+    ghost invariant = { λ o. IfSome o.shared (λ around. around_list around ≡ o.open.items)
         × (o.weight ≡ sum_by collection_weight o.open.items)
         × (o.weight ≤ o.count * 2 ^ 64) × (o.count ≤ 2 ^ 32) };
 }
 
 impl OpenCollections {
     ghost use Rattle.std.specs.Prelude.{◌≡◌, ◌<◌, ◌+◌, ◌-◌, ◌^◌, ◌≤◌, false, [], ◌∷◌, ◌++◌, length, sum_by, take, IfOk, IfSome, IsTrue, OnOk, true};
-    ghost use Rattle.hidreport.specs.Parser.Layout.{shared_list};
+    ghost use Rattle.hidreport.specs.Parser.Layout.{around_list, shared_list};
     ghost use Rattle.hidreport.specs.Parser.Usages.{usage_list};
     ghost use Rattle.hidreport.specs.Weight.{collection_weight};
 
@@ -85,7 +86,7 @@ impl OpenCollections {
           count = self.old.count + 1;
         }) }
     {
-        let collection = GroupCollection::new(alloc, self.count as u32, collection_type, usages)?;
+        let collection = NamedCollection::new(alloc, self.count as u32, collection_type, usages)?;
         let weight = self.weight + collection.weight();
         self.shared = None;
         self.open.push(collection)?;
@@ -123,7 +124,7 @@ impl OpenCollections {
         ensures none { IfOk result (λ shared.
             item.now.flags.constant ≡ true → shared_list shared ≡ []) }
         ensures list { IfOk result (λ shared.
-            IfSome shared (λ around. around ≡ self.old.list)) }
+            IfSome shared (λ around. around_list around ≡ self.old.list)) }
         ensures same { self.new ≡ self.old }
     {
         if item.flags.is_constant {
@@ -137,7 +138,7 @@ impl OpenCollections {
 
     /// Keeps a list of them for the next item.
     pub(crate) fn keep(&mut self, shared: Option<Around>)
-        requires { IfSome shared (λ around. around ≡ self.old.list) }
+        requires { IfSome shared (λ around. around_list around ≡ self.old.list) }
         ensures { self.new ≡ self.old }
     {
         if let Some(shared) = shared {

@@ -250,13 +250,24 @@ impl Group {
         self.layout.measures.unit_exponent
     }
 
-    /// The collections that the fields lie in, outermost first; padding has none.
-    pub fn collections(&self) -> &[GroupCollection]
-        ensures { result.now ≡ self.now.shared.collections }
+    /// How many collections the fields lie in; padding lies in none.
+    pub fn collection_count(&self) -> usize
+        ensures { result ≡ length self.now.shared.collections }
     {
         match &self.layout.collections {
-            Some(around) => around.as_slice(),
-            None => &[],
+            Some(around) => around.len(),
+            None => 0,
+        }
+    }
+
+    /// Collection number `index` of those that the fields lie in, counted from 0, the outermost;
+    /// `None` where there are no more.
+    pub fn collection(&self, index: usize) -> Option<GroupCollection<'_>>
+        ensures { result ≡ slice_get self.now.shared.collections index }
+    {
+        match &self.layout.collections {
+            Some(around) => around.get(index),
+            None => None,
         }
     }
 }

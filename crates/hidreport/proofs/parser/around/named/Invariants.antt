@@ -1,5 +1,5 @@
 use Rattle.std.proofs.Common.{◌≡◌, ◌≤◌, length, take, vec_len, vec_capacity}
-use Rattle.hidreport.proofs.parser.around.shared.Given as goal
+use Rattle.hidreport.proofs.parser.around.named.Given as goal
 
 -- the collections so far, and room for all
 abbrev pub invariant-loop-collection : goal.invariant-loop-collection
