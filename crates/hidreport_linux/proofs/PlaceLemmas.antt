@@ -1,6 +1,6 @@
 -- The collections around an item, one after the other.
 use Rattle.std.proofs.Common.{◌≡◌, ◌≤◌, ◌==◌, ℕ, zero, suc, List, [], ◌∷◌, Some, None, ap, arith}
-use Rattle.std.proofs.Common.{cond, drop, length, refl, slice_get}
+use Rattle.std.proofs.Common.{cond, drop, length, slice_get}
 use Rattle.hidreport.specs.Records.{CollectionRecord}
 use Rattle.hidreport.specs.Spelling.{kind_number}
 use Rattle.hidreport_linux.specs.Places.{innermost_or, usage_of}
