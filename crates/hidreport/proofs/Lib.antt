@@ -64,3 +64,4 @@ pub mod MendedPieceLemmas
 pub mod PushReadings
 pub mod SegmentLemmas
 pub mod SpelledPieceLemmas
+pub mod FrontStepLemmas

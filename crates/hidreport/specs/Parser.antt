@@ -2,6 +2,7 @@
 -- it.
 pub mod Budget
 pub mod DataItem
+pub mod FrontStep
 pub mod GroupCollections
 pub mod Groups
 pub mod ItemPlaces

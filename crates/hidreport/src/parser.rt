@@ -106,6 +106,11 @@ pub(crate) fn walk(
     let mut rest = bytes;
     while !rest.is_empty() {
         let offset = place.offset;
+        if let Some(size) = state.take_front(rest)? {
+            rest = rest.split_at(size).1;
+            place = place.behind(size);
+            continue;
+        }
         let front = match front_item(rest) {
             Ok(front) => front,
             Err(fault) => return Err(PlacedFault { offset, fault }.refusal(alloc)),
@@ -117,10 +122,7 @@ pub(crate) fn walk(
             return Err(refusal(alloc, offset, fault, behind, rest));
         }
         keep(&mut places, made, beside.keeps_places)?;
-        place = ItemPlace {
-            index: place.index + 1,
-            offset: behind,
-        };
+        place = place.behind(front.size);
     }
     Ok(Walked {
         reports: state.into_reports(),

@@ -1,6 +1,7 @@
 //! Global items.
 ghost use Rattle.hidreport_items.specs.Answer.{GivesWithoutMemory, Writes};
 ghost use Rattle.std.specs.Prelude.{◌≡◌};
+ghost use Rattle.hidreport_items.specs.ItemFaults.{told_answer};
 ghost use Rattle.hidreport_items.specs.Spelling.{global_item, read_with};
 ghost use Rattle.hidreport_items.specs.Writing.{global_bytes, global_prefix};
 
@@ -160,4 +161,19 @@ impl Spelled for GlobalItem {
             GlobalItem::Reserved => with_header(0xc4, &[]),
         }
     }
+}
+
+/// Reads a global item from its header and its data, all of it (Section 6.2.2.7); takes no memory.
+///
+/// # Errors
+///
+/// Those of `GlobalItem::try_from` without their messages:
+///
+/// - `Length`: there is data of a length that no short item has.
+/// - `TooFew`: a ReportSize, ReportId or ReportCount has no data.
+#[inline(always)]
+pub fn read_global(header: u8, data_bytes: &[u8]) -> Result<GlobalItem, ItemFault>
+    ensures { told_answer result ≡ global_item header data_bytes.now }
+{
+    GlobalItem::from_parts(header, data_bytes)
 }

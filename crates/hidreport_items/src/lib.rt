@@ -42,13 +42,13 @@ pub use builder_state::{
 pub use error::HidError;
 pub use feature::FeatureItem;
 pub use flags::{ItemFlags, MainDataItem};
-pub use global::GlobalItem;
+pub use global::{GlobalItem, read_global};
 pub use input::InputItem;
 pub use item::{ItemType, is_long_header, read_item, write_item};
 pub use item_builder::ItemBuilder;
 pub use item_bytes::ItemBytes;
 pub use item_fault::ItemFault;
-pub use local::LocalItem;
+pub use local::{LocalItem, read_local};
 pub use main_item::{CollectionItem, MainItem};
 pub use message::{error_of, invalid_data, with_message};
 pub use output::OutputItem;

@@ -1,6 +1,7 @@
 //! Local items.
 ghost use Rattle.std.specs.Prelude.{◌≡◌, ◌+◌, ◌*◌};
 ghost use Rattle.hidreport_items.specs.Answer.{GivesWithoutMemory, Writes};
+ghost use Rattle.hidreport_items.specs.ItemFaults.{told_answer};
 ghost use Rattle.hidreport_items.specs.Writing.{local_bytes, local_prefix};
 ghost use Rattle.hidreport_items.specs.Spelling.{local_item, usage_item, read_with};
 
@@ -155,6 +156,21 @@ impl Spelled for LocalItem {
             LocalItem::Reserved { value } => with_header(0xf8, &[*value]),
         }
     }
+}
+
+/// Reads a local item from its header and its data, all of it (Section 6.2.2.8); takes no memory.
+///
+/// # Errors
+///
+/// Those of `LocalItem::try_from` without their messages:
+///
+/// - `TooFew`: there is no data.
+/// - `Length`: there is data of a length that no short item has.
+#[inline(always)]
+pub fn read_local(header: u8, data_bytes: &[u8]) -> Result<LocalItem, ItemFault>
+    ensures { told_answer result ≡ local_item header data_bytes.now }
+{
+    LocalItem::from_parts(header, data_bytes)
 }
 
 /// A usage in four bytes has a page in its upper half.

@@ -6,9 +6,10 @@ use Rattle.hidreport_items.specs.Answer.{GrammarFault}
 use Rattle.hidreport_items.specs.Spelling.{following_length, item_of, read_as}
 use Rattle.hidreport_items.specs.declared.item.ItemType.{ItemType}
 use Rattle.hidreport_lists.specs.Entry.{Entry, Spelled}
-use Rattle.hidreport_lists.specs.FrontItem.{IsAtFront}
+use Rattle.hidreport_lists.specs.FrontItem.{AreAtFront, IsAtFront}
 use Rattle.hidreport_lists.specs.Itemising.{front_item, items_from}
 use Rattle.hidreport_lists.specs.declared.front.FrontItem.{FrontItem}
+use Rattle.hidreport_lists.specs.declared.front.FrontParts.{FrontParts}
 use Rattle.hidreport_lists.proofs.ItemLemmas.{at_offset, front-read, items_from-item, with_front}
 
 -- what is read of a header and so many bytes behind it, if these are those that follow it
@@ -23,28 +24,43 @@ front-of h after n read is room e =
     (item_of h (take m after))) (sym is)
     ∙ ap (read_as (λ x. record { bytes = h ∷ take n after; item = x })) (sym e)
 
-pub front-ok : (bytes : List ℕ) (h : ℕ) (after : List ℕ) (n : ℕ) (x : ItemType)
-    → bytes ≡ h ∷ after
-    → n ≡ following_length h after → n ≤ length after → Ok x ≡ item_of h (take n after)
-    → front_item item_of bytes ≡ Ok (record { bytes = take (1 + n) bytes; item = x })
-front-ok bytes h after n x cut is room e =
-    let one : suc n ≡ 1 + n = omega arith in
-    ap (front_item item_of) cut ∙ front-of h after n (Ok x) is room e
-    ∙ ap (λ k. Ok (record { bytes = take k (h ∷ after); item = x })) one
-    ∙ ap (λ l. Ok (record { bytes = take (1 + n) l; item = x })) (sym cut)
-
-pub front-err : (bytes : List ℕ) (h : ℕ) (after : List ℕ) (n : ℕ) (fault : GrammarFault)
-    → bytes ≡ h ∷ after
-    → n ≡ following_length h after → n ≤ length after → Err fault ≡ item_of h (take n after)
-    → front_item item_of bytes ≡ Err fault
-front-err bytes h after n fault cut is room e =
-    ap (front_item item_of) cut ∙ front-of h after n (Err fault) is room e
-
 pub front-room : (bytes : List ℕ) (h : ℕ) (after : List ℕ) (n : ℕ) → bytes ≡ h ∷ after
     → n ≤ length after → 1 + n ≤ length bytes
 front-room bytes h after n cut room =
     let size : length bytes ≡ 1 + length after = ap length cut ∙ omega arith in
     omega (arith, size, room)
+
+-- a header and so many bytes behind it are its parts, if these are those that follow it
+pub front-cut : (bytes : List ℕ) (h : ℕ) (after : List ℕ) (n : ℕ) → bytes ≡ h ∷ after
+    → n ≡ following_length h after → n ≤ length after
+    → (1 + length (take n after) ≤ length bytes)
+    × (front_item item_of bytes ≡ read_as
+    (λ x. record { bytes = take (1 + length (take n after)) bytes; item = x }) (item_of h (take n after)))
+front-cut bytes h after n cut is room =
+    let all : length (take n after) ≡ n = simp length-take (omega (arith, room)) in
+    let size : 1 + length (take n after) ≡ suc n = omega (arith, all) in (
+      omega (arith, all, front-room bytes h after n cut room),
+      ap (front_item item_of) cut ∙ front-of h after n (item_of h (take n after)) is room refl
+          ∙ ap (λ k. read_as (λ x. record { bytes = take k (h ∷ after); item = x }) (item_of h (take n after)))
+          (sym size)
+          ∙ ap (λ l. read_as (λ x. record { bytes = take (1 + length (take n after)) l; item = x })
+          (item_of h (take n after))) (sym cut),
+    )
+
+-- what is read of its parts is the item at the front
+pub parts-ok : (parts : FrontParts) (bytes : List ℕ) (x : ItemType) → AreAtFront parts bytes
+    → Ok x ≡ item_of parts.header parts.data.now
+    → IsAtFront (record { item = x; size = 1 + length parts.data.now }) bytes
+parts-ok parts bytes x at is = (
+  at.0,
+  at.1 ∙ ap (read_as (λ y. record { bytes = take (1 + length parts.data.now) bytes; item = y })) (sym is),
+)
+
+pub parts-err : (parts : FrontParts) (bytes : List ℕ) (fault : GrammarFault)
+    → AreAtFront parts bytes → Err fault ≡ item_of parts.header parts.data.now
+    → front_item item_of bytes ≡ Err fault
+parts-err parts bytes fault at is =
+    at.1 ∙ ap (read_as (λ y. record { bytes = take (1 + length parts.data.now) bytes; item = y })) (sym is)
 
 -- it has as many bytes as it says
 front-size : (bytes : List ℕ) (front : FrontItem) → IsAtFront front bytes

@@ -3,7 +3,7 @@ ghost use Rattle.std.specs.Prelude.{◌≡◌, ◌+◌, ◌<◌, ◌≤◌, ◌^
 ghost use Rattle.hidreport_items.specs.ItemFaults.{told_fault};
 ghost use Rattle.hidreport_items.specs.Spelling.{item_of};
 ghost use Rattle.hidreport_lists.specs.Answer.{IsInvalidAt};
-ghost use Rattle.hidreport_lists.specs.FrontItem.{IsAtFront};
+ghost use Rattle.hidreport_lists.specs.FrontItem.{AreAtFront, IsAtFront};
 ghost use Rattle.hidreport_lists.specs.Itemising.{front_item, items_from};
 ghost use Rattle.hidreport_lists.specs.Messages.{grammar_message};
 
@@ -23,6 +23,16 @@ pub struct FrontItem {
     pub size: usize,
 }
 
+/// The bytes of an item where they stand (Section 6.2.2).
+#[derive(Clone, Copy)]
+pub struct FrontParts<'a> {
+    /// The item's first byte.
+    pub header: u8,
+
+    /// The bytes that follow the header, all that the item has.
+    pub data: &'a [u8],
+}
+
 /// The offset of an item that can't be read, and why.
 #[derive(Clone, Copy)]
 pub struct PlacedFault {
@@ -31,6 +41,30 @@ pub struct PlacedFault {
 
     /// Why the bytes there are no item.
     pub fault: ItemFault,
+}
+
+/// The header of the item at the front of the bytes, and what follows it (Section 6.2.2), whether
+/// they are read as an item or not; takes no memory.
+///
+/// # Errors
+///
+/// - `TooFew`: there are no bytes, or fewer than the header announces.
+#[inline(always)]
+pub fn front_parts(bytes: &[u8]) -> Result<FrontParts<'_>, ItemFault>
+    ensures parts { IfOk result (λ parts. AreAtFront parts bytes.now) }
+    ensures fault { IfErr result (λ fault. front_item item_of bytes.now ≡ Err (told_fault fault)) }
+{
+    let Some((header, after)) = bytes.split_first() else {
+        return Err(ItemFault::TooFew);
+    };
+    let following = following(*header, after);
+    if after.len() < following {
+        return Err(ItemFault::TooFew);
+    }
+    Ok(FrontParts {
+        header: *header,
+        data: &after[..following],
+    })
 }
 
 /// Reads the item at the front of the bytes, a long one where the first is FE (Section 6.2.2);
@@ -55,17 +89,11 @@ pub fn front_item(bytes: &[u8]) -> Result<FrontItem, ItemFault>
     ensures item { IfOk result (λ front. IsAtFront front bytes.now) }
     ensures fault { IfErr result (λ fault. front_item item_of bytes.now ≡ Err (told_fault fault)) }
 {
-    let Some((header, after)) = bytes.split_first() else {
-        return Err(ItemFault::TooFew);
-    };
-    let following = following(*header, after);
-    if after.len() < following {
-        return Err(ItemFault::TooFew);
-    }
-    let item = read_item(*header, &after[..following])?;
+    let parts = front_parts(bytes)?;
+    let item = read_item(parts.header, parts.data)?;
     Ok(FrontItem {
         item,
-        size: 1 + following,
+        size: 1 + parts.data.len(),
     })
 }
 

@@ -43,7 +43,7 @@ pub use descriptor_builder_state::{
     ReportDescriptorBuilderToplevelPush,
 };
 pub use error::ParserError;
-pub use front::{FrontItem, PlacedFault, check_items, front_item};
+pub use front::{FrontItem, FrontParts, PlacedFault, check_items, front_item, front_parts};
 pub use laws::bytes_are_items_or_have_a_fault;
 pub use list::{ReportDescriptorItem, ReportDescriptorItems};
 pub use long_item::LongItem;

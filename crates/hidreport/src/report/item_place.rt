@@ -1,4 +1,5 @@
 //! Where an item stands in a descriptor (Section 6.2.2).
+ghost use Rattle.std.specs.Prelude.{◌≡◌, ◌+◌, ◌<◌, ◌^◌};
 
 /// Where an item stands in a descriptor (Section 6.2.2).
 #[derive(Clone, Copy, PartialEq, Eq, Debug)]
@@ -8,6 +9,21 @@ pub struct ItemPlace {
 
     /// How many bytes stand before it.
     pub offset: usize,
+}
+
+impl ItemPlace {
+    /// Where the next item stands, behind one of so many bytes.
+    #[inline(always)]
+    pub(crate) fn behind(self, size: usize) -> ItemPlace
+        requires counted { self.index + 1 < 2 ^ 64 }
+        requires placed { self.offset + size < 2 ^ 64 }
+        ensures { result ≡ record { index = self.index + 1; offset = self.offset + size } }
+    {
+        ItemPlace {
+            index: self.index + 1,
+            offset: self.offset + size,
+        }
+    }
 }
 
 /// Where the item stands that makes a group, by the number of the group's first field.
