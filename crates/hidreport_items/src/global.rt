@@ -121,6 +121,7 @@ impl Spelled for GlobalItem {
 
     ghost spelling = { global_bytes };
 
+    #[inline(always)]
     fn from_parts(header: u8, bytes: &[u8]) -> Result<GlobalItem, ItemFault> {
         if !is_short_length(bytes.len()) {
             return Err(ItemFault::Length(bytes.len()));

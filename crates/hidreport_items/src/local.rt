@@ -117,6 +117,7 @@ impl Spelled for LocalItem {
 
     ghost spelling = { local_bytes };
 
+    #[inline(always)]
     fn from_parts(header: u8, bytes: &[u8]) -> Result<LocalItem, ItemFault> {
         if bytes.is_empty() {
             return Err(ItemFault::TooFew);

@@ -51,6 +51,7 @@ impl Globals {
     }
 
     /// Sets the item's value; a Push, a Pop and a reserved item have none.
+    #[inline(always)]
     pub(crate) fn set(&mut self, item: GlobalItem)
         ensures { (by : UsagesBy) (locals : List PagedLocal) → item_state_of by self.new locals
             ≡ record (next_item_state (item_state_of by self.old locals) (items.Global item)) {

@@ -79,7 +79,16 @@ impl ItemStateTable {
         &self.locals
     }
 
+    /// Whether a Push is open.
+    #[inline(always)]
+    pub(crate) fn has_push(&self) -> bool
+        ensures { result ≡ false → self.now.stack ≡ [] }
+    {
+        self.journal.is_open()
+    }
+
     /// Sets the value of a global item; a Push, a Pop and a reserved item have none.
+    #[inline(always)]
     pub(crate) fn set(&mut self, item: GlobalItem) -> Result<(), AllocError>
         ensures { OnOk result (self.new ≡ record self.old {
           now = next_item_state self.old.now (items.Global item);
@@ -91,6 +100,7 @@ impl ItemStateTable {
     }
 
     /// Adds a local item.
+    #[inline(always)]
     pub(crate) fn add_local(&mut self, item: LocalItem) -> Result<(), AllocError>
         ensures { OnOk result (self.new ≡ record self.old {
           now = next_item_state self.old.now (items.Local item);

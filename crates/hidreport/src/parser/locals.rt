@@ -91,6 +91,7 @@ impl Locals {
     }
 
     /// Adds one.
+    #[inline(always)]
     pub(crate) fn add(&mut self, local: PagedLocal) -> Result<(), AllocError>
         ensures ok { OnOk result (self.new ≡ self.old ++ local ∷ []) }
         ensures err { OnErr result (self.new ≡ self.old) }

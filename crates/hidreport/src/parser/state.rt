@@ -120,6 +120,7 @@ impl State {
     }
 
     /// The same of a header and its data; answers whether it went on.
+    #[inline(always)]
     fn take_parts(&mut self, header: u8, data: &[u8]) -> Result<bool, AllocError>
         ensures taken { IfOk result (λ is_taken. IsTrue is_taken
             → GoesBy self.old self.new (item_of header data.now)) }
@@ -132,12 +133,17 @@ impl State {
         }
     }
 
-    /// Goes on by the global item of a header and its data, unless it is none, a Push or a Pop.
+    /// Goes on by the global item of a header and its data, unless it is none, a Push or a Pop, or
+    /// a Push is open, whose Pop wants to know what it replaces.
+    #[inline(always)]
     fn take_global_parts(&mut self, header: u8, data: &[u8]) -> Result<bool, AllocError>
         ensures taken { IfOk result (λ is_taken. IsTrue is_taken
             → GoesBy self.old self.new (read_as ItemType.Global (global_item header data.now))) }
         ensures left { IfOk result (λ is_taken. is_taken ≡ false → self.new ≡ self.old) }
     {
+        if self.item_states.has_push() {
+            return Ok(false);
+        }
         match read_global(header, data) {
             Ok(item) => self.take_setting(item),
             Err(_) => Ok(false),
@@ -145,6 +151,7 @@ impl State {
     }
 
     /// Goes on by a global item, unless it is a Push or a Pop.
+    #[inline(always)]
     fn take_setting(&mut self, item: GlobalItem) -> Result<bool, AllocError>
         ensures taken { IfOk result (λ is_taken. IsTrue is_taken
             → step self.old (ItemType.Global item) ≡ Ok self.new) }
@@ -161,6 +168,7 @@ impl State {
     }
 
     /// Goes on by the local item of a header and its data, unless it is none.
+    #[inline(always)]
     fn take_local_parts(&mut self, header: u8, data: &[u8]) -> Result<bool, AllocError>
         ensures taken { IfOk result (λ is_taken. IsTrue is_taken
             → GoesBy self.old self.new (read_as ItemType.Local (local_item header data.now))) }
