@@ -95,6 +95,7 @@ impl Spelled for FeatureItem {
 
     ghost spelling = { λ item. main_bytes (Feature item) };
 
+    #[inline(always)]
     fn from_parts(_header: u8, bytes: &[u8]) -> Result<FeatureItem, ItemFault> {
         Ok(FeatureItem::from_flags(ItemFlags::from_data(bytes)?))
     }

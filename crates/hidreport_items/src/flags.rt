@@ -190,6 +190,7 @@ impl Model for ItemFlags {
 
 impl ItemFlags {
     /// The flags that these data bytes spell, all nine.
+    #[inline(always)]
     pub(crate) fn from_data(bytes: &[u8]) -> Result<ItemFlags, ItemFault>
         ensures { told_answer result ≡ output_item bytes.now }
     {
@@ -203,6 +204,7 @@ impl ItemFlags {
     }
 
     /// The flags that this number spells.
+    #[inline(always)]
     fn from_word(number: u32) -> ItemFlags
         ensures { result ≡ flags_of number }
     {

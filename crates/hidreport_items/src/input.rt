@@ -71,6 +71,7 @@ impl InputItem {
     }
 
     /// The item with these flags; it has no flag 7.
+    #[inline(always)]
     pub(crate) fn from_flags(flags: ItemFlags) -> InputItem
         ensures { result ≡ record flags { volatile = false } }
     {
@@ -88,6 +89,7 @@ impl Spelled for InputItem {
 
     ghost spelling = { λ item. main_bytes (Input item) };
 
+    #[inline(always)]
     fn from_parts(_header: u8, bytes: &[u8]) -> Result<InputItem, ItemFault> {
         Ok(InputItem::from_flags(ItemFlags::from_data(bytes)?))
     }

@@ -131,6 +131,7 @@ pub fn is_long_header(header: u8) -> bool
 /// - `Tag`: a main item has another tag than the five.
 /// - `TooFew`: an item that needs data has none.
 /// - `Length`: there is data of a length that the item doesn't have.
+#[inline(always)]
 pub fn read_item(header: u8, data_bytes: &[u8]) -> Result<ItemType, ItemFault>
     ensures { told_answer result ≡ item_of header data_bytes.now }
 {

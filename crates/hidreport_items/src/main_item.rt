@@ -208,6 +208,7 @@ impl Spelled for MainItem {
 
     ghost spelling = { main_bytes };
 
+    #[inline(always)]
     fn from_parts(header: u8, bytes: &[u8]) -> Result<MainItem, ItemFault> {
         match header & 0xfc {
             0x80 => Ok(MainItem::Input(InputItem::from_parts(header, bytes)?)),

@@ -95,6 +95,7 @@ impl Spelled for OutputItem {
 
     ghost spelling = { λ item. main_bytes (Output item) };
 
+    #[inline(always)]
     fn from_parts(_header: u8, bytes: &[u8]) -> Result<OutputItem, ItemFault> {
         Ok(OutputItem::from_flags(ItemFlags::from_data(bytes)?))
     }
