@@ -85,6 +85,7 @@ pub fn front_parts(bytes: &[u8]) -> Result<FrontParts<'_>, ItemFault>
 /// assert_eq!(rt; front_item(b"\x05\x01\x75")?.size, 2);
 /// assert!(rt; matches!(front_item(b"\x75"), Err(ItemFault::TooFew)));
 /// ```
+#[inline(always)]
 pub fn front_item(bytes: &[u8]) -> Result<FrontItem, ItemFault>
     ensures item { IfOk result (λ front. IsAtFront front bytes.now) }
     ensures fault { IfErr result (λ fault. front_item item_of bytes.now ≡ Err (told_fault fault)) }

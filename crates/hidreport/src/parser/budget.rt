@@ -35,6 +35,7 @@ impl Budget {
     }
 
     /// Spends what so many parts of one weight weigh, unless that passes what is left.
+    #[inline(always)]
     pub(crate) fn spend(&mut self, count: usize, each: u128) -> Result<(), Fault>
         ensures within { OnOk result (is_past self.old (count * each) ≡ false) }
         ensures left { OnOk result (self.new ≡ left_behind self.old (count * each)) }
@@ -64,6 +65,7 @@ fn left_behind(left: usize, count: usize, each: u128) -> Option<usize>
 }
 
 /// What each field of a data item weighs, with its usages and the weight of the open collections.
+#[inline(always)]
 pub(crate) fn weight_of_each(item: &DataItem, usages: &Usages, around: u128) -> u128
     requires { around ≤ 2 ^ 96 }
     ensures { result

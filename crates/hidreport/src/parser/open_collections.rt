@@ -137,6 +137,7 @@ impl OpenCollections {
     }
 
     /// Keeps a list of them for the next item.
+    #[inline(always)]
     pub(crate) fn keep(&mut self, shared: Option<Around>)
         requires { IfSome shared (λ around. around_list around ≡ self.old.list) }
         ensures { self.new ≡ self.old }

@@ -55,6 +55,7 @@ impl ReportList {
     }
 
     /// Where fields with this id in force begin: without one in the first report.
+    #[inline(always)]
     pub(crate) fn begin(&self, id: Option<ReportId>) -> Room
         ensures key { result.slot.key ≡ first_of id (first_id self.now) }
         ensures index { result.slot.index ≡ index_in result.slot.key self.now }

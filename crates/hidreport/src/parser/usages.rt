@@ -166,6 +166,7 @@ pub(crate) fn copied<T: Copy>(alloc: Global, slice: &[T]) -> Result<Vec<T>, Allo
 }
 
 /// The spans of usages that an item has as hosts read them; by the standard's rule there are none.
+#[inline(always)]
 pub(crate) fn spans_in(
     alloc: Global,
     item_states: &ItemStateTable,
