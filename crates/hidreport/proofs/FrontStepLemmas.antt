@@ -1,5 +1,5 @@
 -- One step by the item at the front of the bytes.
-use Rattle.std.proofs.Common.{◌≡◌, ◌+◌, ◌++◌, ◌∙◌, [], ◌∷◌, ℕ, List, drop, length, take, Option, None, Ok, Err, Result, ap}
+use Rattle.std.proofs.Common.{◌≡◌, ◌+◌, ◌++◌, ◌∙◌, ℕ, List, drop, length, take, Option, None, Ok, Err, Result, ap}
 use Rattle.std.proofs.Common.{append-nil, option_to_list, refl, sym}
 use Rattle.hidreport_items.specs.Answer.{GrammarFault}
 use Rattle.hidreport_items.specs.Spelling.{item_of}
