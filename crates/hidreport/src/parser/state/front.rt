@@ -32,14 +32,14 @@ impl State {
 
     /// The same of a header and its data; answers whether it went on.
     #[inline(always)]
-    fn take_parts(&mut self, header: u8, data: &[u8]) -> Result<bool, AllocError>
+    fn take_parts(&mut self, header: u8, data_bytes: &[u8]) -> Result<bool, AllocError>
         ensures taken { IfOk result (λ is_taken. IsTrue is_taken
-            → GoesBy self.old self.new (item_of header data.now)) }
+            → GoesBy self.old self.new (item_of header data_bytes.now)) }
         ensures left { IfOk result (λ is_taken. is_taken ≡ false → self.new ≡ self.old) }
     {
         match header >> 2 & 0x03 {
-            1 => self.take_global_parts(header, data),
-            2 => self.take_local_parts(header, data),
+            1 => self.take_global_parts(header, data_bytes),
+            2 => self.take_local_parts(header, data_bytes),
             _ => Ok(false),
         }
     }
@@ -47,15 +47,16 @@ impl State {
     /// Goes on by the global item of a header and its data, unless it is none, a Push or a Pop, or
     /// a Push is open, whose Pop wants to know what it replaces.
     #[inline(always)]
-    fn take_global_parts(&mut self, header: u8, data: &[u8]) -> Result<bool, AllocError>
+    fn take_global_parts(&mut self, header: u8, data_bytes: &[u8]) -> Result<bool, AllocError>
         ensures taken { IfOk result (λ is_taken. IsTrue is_taken
-            → GoesBy self.old self.new (read_as ItemType.Global (global_item header data.now))) }
+            → GoesBy self.old self.new
+            (read_as ItemType.Global (global_item header data_bytes.now))) }
         ensures left { IfOk result (λ is_taken. is_taken ≡ false → self.new ≡ self.old) }
     {
         if self.item_states.has_push() {
             return Ok(false);
         }
-        match read_global(header, data) {
+        match read_global(header, data_bytes) {
             Ok(item) => self.take_setting(item),
             Err(_) => Ok(false),
         }
@@ -80,12 +81,13 @@ impl State {
 
     /// Goes on by the local item of a header and its data, unless it is none.
     #[inline(always)]
-    fn take_local_parts(&mut self, header: u8, data: &[u8]) -> Result<bool, AllocError>
+    fn take_local_parts(&mut self, header: u8, data_bytes: &[u8]) -> Result<bool, AllocError>
         ensures taken { IfOk result (λ is_taken. IsTrue is_taken
-            → GoesBy self.old self.new (read_as ItemType.Local (local_item header data.now))) }
+            → GoesBy self.old self.new
+            (read_as ItemType.Local (local_item header data_bytes.now))) }
         ensures left { IfOk result (λ is_taken. is_taken ≡ false → self.new ≡ self.old) }
     {
-        match read_local(header, data) {
+        match read_local(header, data_bytes) {
             Ok(item) => {
                 self.item_states.add_local(item)?;
                 Ok(true)
