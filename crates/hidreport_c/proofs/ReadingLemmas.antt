@@ -1,23 +1,25 @@
 -- All values of several fields, field by field.
 use Rattle.std.proofs.Common.{◌≡◌, ℕ, ℤ, ◌+◌, ◌<◌, ◌≤◌, Bool, true, false, cond, List, [], ◌∷◌, ◌++◌}
-use Rattle.std.proofs.Common.{length, take, drop, map, get_or, Option, None, Some}
+use Rattle.std.proofs.Common.{◌^◌, length, nat_lt, subst, take, drop, map, get_or, Option, None, Some}
 use Rattle.std.proofs.Common.{Result, Ok, Err, IsOk, refl, ap, sym, ◌∙◌, arith, append-nil}
 use Rattle.std.proofs.Common.{append_assoc, length-append}
 use Rattle.std.proofs.Common.{◌⊎◌, inl, inr}
 use Rattle.std.proofs.Math.Dec.{leb}
-use Rattle.std.proofs.lemmas.Bool.Decides.{leb_tells}
+use Rattle.std.proofs.lemmas.Bool.Decides.{leb_tells, nat_tests}
+use Rattle.std.proofs.lemmas.List.Sums.{sum_by-cons}
 use Rattle.std.proofs.lemmas.List.{drop_more, get_or_default, length-map, take-append-drop, take_more}
 use Rattle.std.specs.Prelude.{◌==◌}
-use Rattle.hidreport.specs.Answer.{Refusal, MismatchingReportId}
+use Rattle.hidreport.specs.Answer.{Refusal, MismatchingReportId, OutOfBounds}
 use Rattle.hidreport.specs.Choosing.{value_number}
 use Rattle.hidreport.specs.Reader.{before_numbers}
 use Rattle.hidreport.specs.Reading.{ValueRecord, with_id}
 use Rattle.hidreport_c.proofs.ValuesLemmas.{elements-length, values-place}
-use Rattle.hidreport_c.specs.Answer.{as_answer, offset_of, refused}
+use Rattle.hidreport_c.specs.Answer.{as_answer, counted, list_or_nothing, offset_of, refused}
 use Rattle.hidreport_c.specs.Field.{nothing_measured, nothing_set}
 use Rattle.hidreport_c.specs.Reading.{if_countable, numbers_in}
 use Rattle.hidreport_c.specs.Status.{by_status, status_of}
 use Rattle.hidreport_c.specs.Value.{acceptance, elements_at, id_of, value_numbers, values_at}
+use Rattle.hidreport_c.specs.Writing.{count_at}
 use Rattle.hidreport_c.specs.declared.structs.HidreportField.{HidreportField}
 
 -- what stands for a field behind the last
@@ -254,3 +256,72 @@ at-least a n h = least (leb_tells n a) where
   least : ((leb n a ≡ true) × (n ≤ a)) ⊎ ((leb n a ≡ false) × (a < n)) → n ≤ a
   least (inl (test, above)) = above
   least (inr (test, below)) = absurd (h below)
+
+count-by : (f : HidreportField) (bytes : List ℕ) (a : Result (List ValueRecord) Refusal)
+    (rest : Result (List ℤ) Refusal) (n : ℕ) (all : List ℤ) → values_at f bytes ≡ a
+    → before_numbers (value_numbers a) rest ≡ Ok all
+    → ((ns : List ℤ) → rest ≡ Ok ns → length ns ≡ n) → length all ≡ f.value_count + n
+count-by f bytes (Err e) rest n all is h counted = cc
+count-by f bytes (Ok vs) (Err e) n all is h counted = cc
+count-by f bytes (Ok vs) (Ok ns) n all is h counted =
+    let whole : map value_number vs ++ ns ≡ all = cc in
+    let own = length-map vs value_number
+    ∙ elements-length f.first_bit f.end_bit f.value_count _ bytes 0 f.value_count vs
+    (with-own (id_of f) bytes (elements_at f bytes) vs is) in
+    omega (arith, own, counted ns refl, length-append (map value_number vs) ns, ap length whole)
+
+-- fields that are read have as many numbers as they have values
+pub numbers-count : (fields : List HidreportField) (bytes : List ℕ) (all : List ℤ)
+    → numbers_in fields bytes ≡ Ok all → length all ≡ count_at fields
+numbers-count [] bytes all is = let none : [] ≡ all = cc in ap length (sym none)
+numbers-count (f ∷ fields) bytes all is =
+    count-by f bytes (values_at f bytes) (numbers_in fields bytes) (count_at fields) all refl is
+    (numbers-count fields bytes)
+    ∙ sym (sum_by-cons (λ (g : HidreportField). g.value_count) f fields)
+
+pub count-listed : (fields : List HidreportField) (bytes : List ℕ)
+    → IsOk (numbers_in fields bytes)
+    → length (list_or_nothing (numbers_in fields bytes)) ≡ count_at fields
+count-listed fields bytes ok =
+    let all = ok-numbers (numbers_in fields bytes) ok in
+    ap (λ r. length (list_or_nothing r)) all.1 ∙ numbers-count fields bytes all.0 all.1
+
+below : (n : ℕ) → n < 2 ^ 64 → nat_lt n (2 ^ 64) ≡ true
+below n h = grind (arith, nat_tests)
+
+past : (n : ℕ) → 2 ^ 64 ≤ n → nat_lt n (2 ^ 64) ≡ false
+past n h = grind (arith, nat_tests)
+
+countable-by : (r : Result (List ℤ) Refusal) → IsOk r → length (list_or_nothing r) < 2 ^ 64
+    → if_countable r ≡ r
+countable-by (Ok all) ok h = ap (λ b. cond b (Ok all) (Err OutOfBounds)) (below (length all) h)
+countable-by (Err e) ok h = cc
+
+uncountable-by : (r : Result (List ℤ) Refusal) → IsOk r → 2 ^ 64 ≤ length (list_or_nothing r)
+    → if_countable r ≡ Err OutOfBounds
+uncountable-by (Ok all) ok h = ap (λ b. cond b (Ok all) (Err OutOfBounds)) (past (length all) h)
+uncountable-by (Err e) ok h = cc
+
+-- so their values can be counted or not as their numbers can
+pub countable : (fields : List HidreportField) (bytes : List ℕ) → IsOk (numbers_in fields bytes)
+    → count_at fields < 2 ^ 64 → if_countable (numbers_in fields bytes) ≡ numbers_in fields bytes
+countable fields bytes ok h =
+    countable-by (numbers_in fields bytes) ok (omega (arith, count-listed fields bytes ok, h))
+
+pub uncountable : (fields : List HidreportField) (bytes : List ℕ) → IsOk (numbers_in fields bytes)
+    → 2 ^ 64 ≤ count_at fields → if_countable (numbers_in fields bytes) ≡ Err OutOfBounds
+uncountable fields bytes ok h =
+    uncountable-by (numbers_in fields bytes) ok (omega (arith, count-listed fields bytes ok, h))
+
+counted-by : (r : Result (List ℤ) Refusal) → IsOk r
+    → as_answer r ≡ counted (length (list_or_nothing r))
+counted-by (Ok all) ok = refl
+counted-by (Err e) ok = cc
+
+pub counted-all : (fields : List HidreportField) (bytes : List ℕ) (count : ℕ)
+    → IsOk (numbers_in fields bytes) → count ≡ count_at fields → count < 2 ^ 64
+    → counted count ≡ as_answer (if_countable (numbers_in fields bytes))
+counted-all fields bytes count ok is h =
+    ap counted (is ∙ sym (count-listed fields bytes ok))
+    ∙ sym (counted-by (numbers_in fields bytes) ok)
+    ∙ ap as_answer (sym (countable fields bytes ok (subst (λ n. n < 2 ^ 64) is h)))

@@ -1,5 +1,5 @@
 //! All values of a report at once, by fields that were listed.
-ghost use Rattle.std.specs.Prelude.{◌≡◌, ◌≤◌, ◌^◌, List, IfSome, IsNone, IsOk, length, map};
+ghost use Rattle.std.specs.Prelude.{◌≡◌, ◌<◌, ◌≤◌, ◌^◌, List, IfSome, IsNone, IsOk, length, map};
 ghost use Rattle.std.specs.List.{list_any};
 ghost use Rattle.hidreport.specs.Reader.{available_numbers, begins_otherwise, report_numbers};
 ghost use Rattle.hidreport.specs.Records.{FieldRecord};
@@ -8,6 +8,7 @@ ghost use Rattle.hidreport_c.specs.Field.{as_c};
 ghost use Rattle.hidreport_c.specs.Reading.{available_in, if_countable, numbers_in, there_at, there_in};
 ghost use Rattle.hidreport_c.specs.Status.{by_status};
 ghost use Rattle.hidreport_c.specs.Value.{acceptance, id_of};
+ghost use Rattle.hidreport_c.specs.Writing.{count_at};
 ghost use Rattle.hidreport_c.specs.declared.structs.HidreportField.{HidreportField};
 
 use crate::status::{MISMATCHING_REPORT_ID, OUT_OF_BOUNDS};
@@ -37,13 +38,11 @@ pub extern "C" fn hidreport_read(
     if let Err(status) = check_all(fields, report) {
         return HidreportAnswer::refused(status);
     }
-    if put_all(fields, report, &mut []).is_none() {
+    let Some(count) = count_of(fields) else {
         return HidreportAnswer::refused(OUT_OF_BOUNDS);
-    }
-    match put_all(fields, report, values) {
-        Some(count) => HidreportAnswer::counted(count),
-        None => HidreportAnswer::refused(OUT_OF_BOUNDS),
-    }
+    };
+    put_all(fields, report, values);
+    HidreportAnswer::counted(count)
 }
 
 /// The values that these bytes of a report have, in order, up to the first that they don't have:
@@ -89,24 +88,32 @@ pub(crate) fn check_all(fields: &[HidreportField], report: &[u8]) -> Result<(), 
     Ok(())
 }
 
-/// Puts the values of all fields in place of the first of `values`, as many as there is room for;
-/// how many there are, if they can be counted.
-fn put_all(fields: &[HidreportField], report: &[u8], values: &mut [i64]) -> Option<usize>
-    requires { IsOk (numbers_in fields.now report.now) }
-    ensures some { IfSome result (λ count. (count
-        ≡ length (list_or_nothing (numbers_in fields.now report.now)))
-        × (values.new ≡ array_after (list_or_nothing (numbers_in fields.now report.now))
-        values.old)) }
-    ensures none { IsNone result
-        → 2 ^ 64 ≤ length (list_or_nothing (numbers_in fields.now report.now)) }
+/// How many values fields have, if they can be counted.
+fn count_of(fields: &[HidreportField]) -> Option<usize>
+    ensures some { IfSome result (λ count. count ≡ count_at fields.now) }
+    ensures bound { IfSome result (λ count. count < 2 ^ 64) }
+    ensures none { IsNone result → 2 ^ 64 ≤ count_at fields.now }
+{
+    let mut count: usize = 0;
+    for field in fields {
+        count = count.checked_add(field.value_count)?;
+    }
+    Some(count)
+}
+
+/// Puts the values of all fields in place of the first of `values`, as many as there is room for.
+fn put_all(fields: &[HidreportField], report: &[u8], values: &mut [i64])
+    requires read { IsOk (numbers_in fields.now report.now) }
+    requires counted { count_at fields.now < 2 ^ 64 }
+    ensures { values.new
+        ≡ array_after (list_or_nothing (numbers_in fields.now report.now)) values.old }
 {
     let mut count: usize = 0;
     for field in fields {
         let begun = count.min(values.len());
         field.write_values(report, &mut values[begun..]);
-        count = count.checked_add(field.value_count)?;
+        count += field.value_count;
     }
-    Some(count)
 }
 
 /// Whether bytes begin with another id than that which one of the fields is read by.

@@ -146,8 +146,11 @@ impl HidreportField {
             ≡ element_width self.now.first_bit self.now.end_bit self.now.value_count }
         ensures counted { self.now.first_bit + result * self.now.value_count < 2 ^ 64 }
     {
-        let width = self.end_bit.saturating_sub(self.first_bit);
-        width.checked_div(self.value_count).unwrap_or(0)
+        let bits = self.end_bit.saturating_sub(self.first_bit);
+        if self.value_count == 1 {
+            return bits;
+        }
+        bits.checked_div(self.value_count).unwrap_or(0)
     }
 
     /// A value that is there, of so many bits, whatever the report's id.
