@@ -1,17 +1,18 @@
 //! Each part of what it is that bytes have a fault, and of what stands at the front of them.
-ghost use Rattle.std.specs.Prelude.{◌≡◌, ℕ, List, [], ◌∷◌, ◌++◌, length, take, Err, String, codes, string_bytes};
+ghost use Rattle.std.specs.Prelude.{◌≡◌, ◌+◌, ◌≤◌, ℕ, List, [], ◌∷◌, ◌++◌, length, take, Err, String, codes, string_bytes};
 ghost use Rattle.std.specs.Global.{Global};
-ghost use Rattle.hidreport_lists.specs.FrontItem.{IsAtFront};
+ghost use Rattle.hidreport_lists.specs.FrontItem.{AreAtFront, IsAtFront};
+ghost use Rattle.hidreport_lists.specs.declared.front.FrontParts.{FrontParts};
 ghost use Rattle.hidreport.specs.Canonical.{IsCanonical};
 ghost use Rattle.hidreport.specs.GlobalItem.TheVariants as global;
 ghost use Rattle.hidreport.specs.ItemAnswer.{Insufficient};
 ghost use Rattle.hidreport.specs.Messages.{grammar_message};
 ghost use Rattle.hidreport.specs.ItemType.{ItemType};
 ghost use Rattle.hidreport.specs.ItemType.TheVariants as item;
-ghost use Rattle.hidreport.specs.Itemising.{AreRead, IsFaultAt, IsGrammarFault, Reads, all_bytes, item_at};
+ghost use Rattle.hidreport.specs.Itemising.{AreRead, IsFaultAt, IsGrammarFault, Reads, all_bytes, front_item, item_at};
 ghost use Rattle.hidreport.specs.ParserError.TheVariants as errors;
 ghost use Rattle.hidreport.specs.Rebuilt.{AreCanonical};
-ghost use Rattle.hidreport.specs.Spelling.{item_of};
+ghost use Rattle.hidreport.specs.Spelling.{item_of, read_as};
 ghost use Rattle.hidreport_definitions.specs.Cut.{another_page, page_at};
 ghost use Rattle.hidreport_definitions.specs.Hex.{hex};
 
@@ -57,6 +58,16 @@ pub fn an_item_stands_at_the_front()
         (hex (codes "05 01")) → ⊥ }
     ensures another { IsAtFront (record { size = 2; item = item.Global (global.UsagePage 2) })
         (hex (codes "05 01 75")) → ⊥ }
+{}
+
+/// The header and the data of the item at the front are there, and it is the item that they spell.
+pub fn parts_stand_at_the_front()
+    ensures there { (parts : FrontParts) (bytes : List ℕ) (law : AreAtFront parts bytes)
+        → 1 + length parts.data.now ≤ length bytes }
+    ensures spelled { (parts : FrontParts) (bytes : List ℕ) (law : AreAtFront parts bytes)
+        → front_item item_of bytes ≡ read_as
+        (λ x. record { bytes = take (1 + length parts.data.now) bytes; item = x })
+        (item_of parts.header parts.data.now) }
 {}
 
 /// Each of several items stands in its canonical spelling.
