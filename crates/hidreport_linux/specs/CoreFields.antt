@@ -1,5 +1,5 @@
 -- The items with data that Linux's hid-core keeps as fields (hid_add_field of Linux 6.12).
-use Rattle.std.specs.Prelude.{ℕ, ◌+◌, ◌/◌, ◌%◌, ◌==◌, nat_lt, Bool, if◌then◌else◌, [], ◌∷◌, ◌++◌, length}
+use Rattle.std.specs.Prelude.{ℕ, ◌+◌, ◌-◌, ◌*◌, ◌/◌, ◌%◌, ◌^◌, ◌==◌, min, nat_lt, Bool, if◌then◌else◌, [], ◌∷◌, ◌++◌, length}
 use Rattle.hidreport_fields.specs.declared.field.data_item.Direction.{Direction}
 use Rattle.hidreport_linux.specs.CoreKept.{ReadingRecord, application_in_force, around_in_force}
 use Rattle.hidreport_linux.specs.CoreReports.{report_at}
@@ -48,6 +48,10 @@ field_of offset d flags report r = record {
   is_first = report.items == 1;
   is_past = nat_lt 256 report.items;
   is_variable = flags / 2 % 2 == 1;
+  has_null_state = flags / 64 % 2 == 1;
+  is_buffered = flags / 256 % 2 == 1;
+  collection = (around_in_force r).collection;
+  first_bit = report.bits - min (r.globals.size * r.globals.count) (2 ^ 32 - 1);
   size = r.globals.size;
   count = r.globals.count;
   usages = r.locals.usages.count;

@@ -1,11 +1,12 @@
 -- What Linux's hid-core keeps while it reads a descriptor, item by item.
 use Rattle.std.specs.Prelude.{ℕ, ℤ, pos, neg_ℤ, ◌-◌, ◌^◌, ◌==◌, int_le, int_lt, nat_lt, Bool, false}
-use Rattle.std.specs.Prelude.{◌&&◌, not, if◌then◌else◌, List, [], length, Option, None}
+use Rattle.std.specs.Prelude.{◌&&◌, not, if◌then◌else◌, List, [], length, Option, None, Some}
 use Rattle.std.specs.Int.{w32, cast_signed, cast_unsigned}
 use Rattle.std.specs.List.{slice_index_or}
 use Rattle.hidreport_linux.specs.CoreLocals.{LocalsRecord, no_locals}
 use Rattle.hidreport_linux.specs.CoreReports.{no_reports}
 use Rattle.hidreport_linux.specs.declared.driver.Driver.{Driver}
+use Rattle.hidreport_linux.specs.declared.linux_field.LinuxCollection.{LinuxCollection}
 use Rattle.hidreport_linux.specs.declared.linux_field.LinuxField.{LinuxField}
 use Rattle.hidreport_linux.specs.declared.linux_field.LinuxReport.{LinuxReport}
 use Rattle.hidreport_linux.specs.declared.reading.core_around.CoreAround.{CoreAround}
@@ -51,8 +52,8 @@ are_widest g =
 -- force in it; the reports; the locals; whether an item had an id, and whether one had none; how
 -- many applications there are, up to two; whether a collection makes the device one of input, and
 -- which driver asks for it; what is the matter first, of each kind; whether an item without bits
--- names usages, and the first item whose multiplier overflows; the reports as they came, the items
--- with data that name usages, and what these name.
+-- names usages, and the first item whose multiplier overflows; the collections and the reports as
+-- they came, the items with data that name usages, and what these name.
 pub record ReadingRecord : Type 0 where
   pub globals : CoreGlobals
   pub pushed : List CoreGlobals
@@ -69,6 +70,7 @@ pub record ReadingRecord : Type 0 where
   pub left_out : Option Omission
   pub has_items_without_bits : Bool
   pub overflow : Option ℕ
+  pub collections : List LinuxCollection
   pub order : List LinuxReport
   pub fields : List LinuxField
   pub named : List CoreNamed
@@ -91,6 +93,7 @@ nothing_kept = record {
   left_out = None;
   has_items_without_bits = false;
   overflow = None;
+  collections = [];
   order = [];
   fields = [];
   named = [];
@@ -98,15 +101,22 @@ nothing_kept = record {
 
 -- in no collection
 abbrev pub no_around : CoreAround
-no_around = record { application = 0; physical = 0; logical = 0; has_macros = false }
+no_around = record {
+  application = 0;
+  physical = 0;
+  logical = 0;
+  has_macros = false;
+  collection = 0;
+}
 
--- inside a collection of a kind with a usage more
-abbrev pub with_collection : ℕ → ℕ → CoreAround → CoreAround
-with_collection kind usage a = record {
+-- inside a collection more: its number, its kind and its usage
+abbrev pub with_collection : ℕ → ℕ → ℕ → CoreAround → CoreAround
+with_collection number kind usage a = record {
   application = if kind == 1 then usage else a.application;
   physical = if kind == 0 then usage else a.physical;
   logical = if kind == 2 then usage else a.logical;
   has_macros = kind == 4 && usage == 0xc0003;
+  collection = number;
 }
 
 -- what is in force in the collections that are open
@@ -116,3 +126,8 @@ around_in_force r = slice_index_or r.around (length r.around - 1) no_around
 -- the application among that; 0 where there is none
 abbrev pub application_in_force : ReadingRecord → ℕ
 application_in_force r = (around_in_force r).application
+
+-- the number of the collection that is open, if one is
+abbrev pub open_collection : ReadingRecord → Option ℕ
+open_collection r =
+    if length r.around == 0 then None else Some (around_in_force r).collection

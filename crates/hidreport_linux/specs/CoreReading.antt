@@ -10,7 +10,8 @@ use Rattle.hidreport_linux.specs.Asking.{exponent_of}
 use Rattle.hidreport_linux.specs.CoreFields.{if_field, with_order}
 use Rattle.hidreport_linux.specs.CoreItems.{core_item, is_local}
 use Rattle.hidreport_linux.specs.CoreKept.{ReadingRecord, nothing_kept, are_below, are_widest, maximum_by}
-use Rattle.hidreport_linux.specs.CoreKept.{application_in_force, around_in_force, with_collection}
+use Rattle.hidreport_linux.specs.CoreKept.{application_in_force, around_in_force, open_collection}
+use Rattle.hidreport_linux.specs.CoreKept.{with_collection}
 use Rattle.hidreport_linux.specs.CoreLocals.{behind_local, cuts_usages, local_doubt, local_refusal}
 use Rattle.hidreport_linux.specs.CoreLocals.{no_locals}
 use Rattle.hidreport_linux.specs.CoreReports.{report_at, with_data}
@@ -98,7 +99,10 @@ driver_behind kind r =
 -- a collection is of its first usage; one of kind 1 is an application
 abbrev pub behind_collection_of : ℕ → ℕ → ReadingRecord → ReadingRecord
 behind_collection_of usage kind r = record r {
-  around = r.around ++ with_collection kind usage (around_in_force r) ∷ [];
+  around =
+      r.around ++ with_collection (length r.collections) kind usage (around_in_force r) ∷ [];
+  collections = r.collections
+      ++ (record { parent = open_collection r; is_logical = kind == 2 }) ∷ [];
   applications =
       if kind == 1 && nat_lt r.applications 2 then r.applications + 1 else r.applications;
   has_input = r.has_input || (nat_le kind 1 && is_input_application usage);

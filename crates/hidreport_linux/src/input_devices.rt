@@ -226,6 +226,13 @@ impl InputDevices {
         }
     }
 
+    /// The index of the device that the report goes to.
+    pub fn current(&self) -> usize
+        ensures { result ≡ self.now.current }
+    {
+        self.current
+    }
+
     /// What the axis of an event says of itself, by the last usage so far that has it; `None` of a
     /// code that is no axis.
     pub fn axis(&self, event: &Event) -> Option<Axis>

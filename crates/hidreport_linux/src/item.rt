@@ -103,6 +103,13 @@ impl Item {
         }
     }
 
+    /// Whether what is gone over so far says that the item is relative.
+    pub fn is_relative(&self) -> bool
+        ensures { result ≡ self.now.place.is_relative }
+    {
+        self.place.is_relative
+    }
+
     /// Counts a usage, up to those that are kept.
     pub(crate) fn count(&mut self)
         ensures { self.new ≡ counted self.old }

@@ -41,7 +41,7 @@ pub use event_code::{EventCode, EventType};
 pub use input_devices::{InputDevices, is_input_application};
 pub use item::Item;
 pub use linux_device::{LinuxDevice, LinuxRefusal, outline_as_linux};
-pub use linux_field::{LinuxField, LinuxReport};
+pub use linux_field::{LinuxCollection, LinuxField, LinuxReport};
 pub use place::Place;
 pub use reading::LinuxReading;
 pub use reading::field_usages::FieldUsages;

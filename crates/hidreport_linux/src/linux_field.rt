@@ -17,6 +17,16 @@ pub struct LinuxReport {
     pub application: u32,
 }
 
+/// A collection that hid-core registers.
+#[derive(Clone, Copy, Debug, PartialEq, Eq)]
+pub struct LinuxCollection {
+    /// The number of the collection that it lies in; `None` where it lies in none.
+    pub parent: Option<usize>,
+
+    /// Whether it is a logical one.
+    pub is_logical: bool,
+}
+
 /// An item with data that names usages, which hid-core keeps as one field.
 #[derive(Clone, Copy, Debug)]
 pub struct LinuxField {
@@ -34,6 +44,19 @@ pub struct LinuxField {
 
     /// Whether each element has a usage of its own.
     pub is_variable: bool,
+
+    /// Whether a value outside of its bounds says nothing (Null State).
+    pub has_null_state: bool,
+
+    /// Whether its elements are bytes of a stream (Buffered Bytes).
+    pub is_buffered: bool,
+
+    /// The innermost collection around it, by its number in `LinuxReading::collections`; 0 where it
+    /// lies in none.
+    pub collection: usize,
+
+    /// Where its first element begins in its report, in bits behind the id.
+    pub first_bit: u32,
 
     /// How many bits each element has.
     pub size: u32,

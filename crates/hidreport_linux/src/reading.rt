@@ -18,7 +18,7 @@ pub(crate) mod reasons;
 
 use crate::driver::Driver;
 use crate::input_devices::{InputDevices, is_input_application};
-use crate::linux_field::{LinuxField, LinuxReport};
+use crate::linux_field::{LinuxCollection, LinuxField, LinuxReport};
 use crate::unmapped::Unmapped;
 use core_around::CoreAround;
 use core_globals::CoreGlobals;
@@ -68,6 +68,8 @@ pub struct LinuxReading {
     left_out: Option<Omission>,
     has_items_without_bits: bool,
     overflow: Option<usize>,
+    /// The collections, as they came.
+    collections: Vec<LinuxCollection>,
     /// The reports, as they came.
     order: Vec<LinuxReport>,
     /// The items with data that name usages, in order.
@@ -97,6 +99,7 @@ impl Model for LinuxReading {
       left_out = r.left_out;
       has_items_without_bits = r.has_items_without_bits;
       overflow = r.overflow;
+      collections = r.collections.items;
       order = r.order.items;
       fields = r.fields.items;
       named = r.named.items;
@@ -105,7 +108,7 @@ impl Model for LinuxReading {
 
 impl LinuxReading {
     ghost use Rattle.std.specs.Prelude.{◌≡◌, IfOk, OnOk, length};
-    ghost use Rattle.hidreport_linux.specs.CoreKept.{application_in_force, around_in_force, nothing_kept};
+    ghost use Rattle.hidreport_linux.specs.CoreKept.{application_in_force, around_in_force, nothing_kept, open_collection};
     ghost use Rattle.hidreport_linux.specs.CoreReading.{behind, behind_collection, behind_data, behind_elements, behind_end, behind_id, behind_local_item, behind_other, behind_page, behind_parts, behind_pop, bits_of, data_refusal, driver_behind, ended, if_contact, if_elements, if_past_items, linux_reading, overflows, read_all, refusal_of, refused, unmapped_in, with_cut, with_doubt, with_report};
     ghost use Rattle.hidreport_linux.specs.CoreReports.{application_of};
     ghost use Rattle.hidreport_linux.specs.Devices.{no_devices};
@@ -148,6 +151,7 @@ impl LinuxReading {
             left_out: None,
             has_items_without_bits: false,
             overflow: None,
+            collections: Vec::new(alloc),
             order: Vec::new(alloc),
             fields: Vec::new(alloc),
             named: Vec::new(alloc),
@@ -323,7 +327,13 @@ impl LinuxReading {
         ensures { OnOk result (self.new ≡ behind_collection kind self.old) }
     {
         let usage = self.locals.first(self.globals.page);
-        let around = self.around_in_force().with(kind, usage);
+        let number = self.collections.len();
+        let parent = self.open_collection();
+        self.collections.push(LinuxCollection {
+            parent,
+            is_logical: kind == 2,
+        })?;
+        let around = self.around_in_force().with(number, kind, usage);
         self.around.push(around)?;
         if kind == 1 && self.applications < 2 {
             self.applications += 1;
@@ -348,6 +358,17 @@ impl LinuxReading {
         match self.around.last() {
             Some(around) => *around,
             None => CoreAround::none(),
+        }
+    }
+
+    /// The number of the collection that is open, if one is.
+    fn open_collection(&self) -> Option<usize>
+        ensures { result ≡ open_collection self.now }
+    {
+        if self.around.is_empty() {
+            None
+        } else {
+            Some(self.around_in_force().collection)
         }
     }
 

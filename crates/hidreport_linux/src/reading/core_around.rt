@@ -8,6 +8,8 @@ pub(crate) struct CoreAround {
     pub(crate) physical: u32,
     pub(crate) logical: u32,
     pub(crate) has_macros: bool,
+    /// The number of the innermost of all, 0 where there is none.
+    pub(crate) collection: usize,
 }
 
 impl CoreAround {
@@ -23,18 +25,20 @@ impl CoreAround {
             physical: 0,
             logical: 0,
             has_macros: false,
+            collection: 0,
         }
     }
 
-    /// Inside a collection of a kind with a usage more.
-    pub(crate) fn with(self, kind: u32, usage: u32) -> CoreAround
-        ensures { result ≡ with_collection kind usage self }
+    /// Inside a collection more: its number, its kind and its usage.
+    pub(crate) fn with(self, number: usize, kind: u32, usage: u32) -> CoreAround
+        ensures { result ≡ with_collection number kind usage self }
     {
         CoreAround {
             application: if kind == 1 { usage } else { self.application },
             physical: if kind == 0 { usage } else { self.physical },
             logical: if kind == 2 { usage } else { self.logical },
             has_macros: kind == 4 && usage == 0x000c_0003,
+            collection: number,
         }
     }
 }

@@ -2,7 +2,7 @@
 ghost use Rattle.std.specs.Prelude.{◌≡◌, ◌++◌, OnOk};
 ghost use Rattle.hidreport_linux.specs.FieldOrder.{fields_in, fields_of};
 
-use crate::linux_field::{LinuxField, LinuxReport};
+use crate::linux_field::{LinuxCollection, LinuxField, LinuxReport};
 use crate::place::Place;
 use crate::reading::LinuxReading;
 use crate::reading::core_named::CoreNamed;
@@ -15,6 +15,7 @@ impl LinuxReading {
     ghost use Rattle.std.specs.Prelude.{◌≡◌, ◌++◌, drop, IfOk, OnOk, take};
     ghost use Rattle.hidreport_linux.specs.CoreFields.{field_of, if_field, place_by, with_field, with_order};
     ghost use Rattle.hidreport_linux.specs.CoreKept.{around_in_force};
+    ghost use Rattle.hidreport_linux.specs.CoreReports.{report_at};
     ghost use Rattle.hidreport_linux.specs.FieldOrder.{fields_in_order, usages_left, usages_named, usages_of};
 
     /// A report is registered at its first item.
@@ -84,6 +85,10 @@ impl LinuxReading {
             is_first: report.items == 1,
             is_past: report.items > 256,
             is_variable: flags / 2 % 2 == 1,
+            has_null_state: flags / 0x40 % 2 == 1,
+            is_buffered: flags / 0x100 % 2 == 1,
+            collection: self.around_in_force().collection,
+            first_bit: report.bits.saturating_sub(self.bits()),
             size: self.globals.size,
             count: self.globals.count,
             usages: self.locals.count(),
@@ -113,11 +118,25 @@ impl LinuxReading {
         }
     }
 
+    /// The collections that hid-core registers, in order.
+    pub fn collections(&self) -> &[LinuxCollection]
+        ensures { result.now ≡ self.now.collections }
+    {
+        &self.collections
+    }
+
     /// The reports that hid-core registers, in the order of their first items.
     pub fn reports(&self) -> &[LinuxReport]
         ensures { result.now ≡ self.now.order }
     {
         &self.order
+    }
+
+    /// How many bits a report has, without its id.
+    pub fn bits_of(&self, report: &LinuxReport) -> u32
+        ensures { result ≡ (report_at report.now.direction report.now.id self.now.reports).bits }
+    {
+        self.reports.of(report.direction, report.id).bits
     }
 
     /// The items with data that name usages, in the order in which hid-input goes over them: those
