@@ -13,7 +13,7 @@ export LC_ALL=C
 . "$(dirname "$0")/../common/probe.sh"
 need_rt refused_memory
 repository=${1:-$(dirname "$0")/../..}
-make_probe refused_memory "$repository" hidreport_types hidreport_items hidreport_lists hidreport_fields hidreport hidreport_transfer hidreport_program
+make_probe refused_memory "$repository" hidreport_types hidreport_items hidreport_lists hidreport_fields hidreport hidreport_linux hidreport_events hidreport_transfer hidreport_program
 
 # More allocations than the calls make together, and than the runs do.
 all=1100

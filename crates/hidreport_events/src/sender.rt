@@ -1,0 +1,432 @@
+//! What an input device holds, and what it hands on.
+ghost use Rattle.std.specs.Prelude.{◌≡◌};
+ghost use Rattle.hidreport_events.specs.Senders.{drawn, is_near_by, middle, mostly, steadied};
+
+use crate::input_event::InputEvent;
+use hidreport_linux::{EventCode, EventType};
+use std::alloc::{AllocError, Global};
+use std::marker::Model;
+use std::mem;
+
+/// How many keys there are.
+const KEYS: usize = 0x300;
+
+/// How many axes there are.
+const AXES: usize = 0x40;
+
+/// How many lamps there are.
+const LAMPS: usize = 0x10;
+
+/// How many movements there are.
+const MOTIONS: usize = 0x10;
+
+/// How many events go together beside those of axes and movements.
+const OTHER_EVENTS: usize = 8;
+
+/// The tool of a pen that a report says to be near: its code, 0 for none, and whether a part of the
+/// report says so.
+#[derive(Clone, Copy)]
+pub(crate) struct Tool {
+    code: u16,
+    is_near: bool,
+}
+
+impl Tool {
+    ghost use Rattle.std.specs.Prelude.{◌≡◌};
+    ghost use Rattle.hidreport_events.specs.Senders.{no_tool_near};
+
+    /// No tool is near.
+    pub(crate) fn none() -> Tool
+        ensures { result ≡ no_tool_near }
+    {
+        Tool {
+            code: 0,
+            is_near: false,
+        }
+    }
+}
+
+/// An input device: which keys are down, where its axes are, and what it hands on.
+#[derive(Drop)]
+pub(crate) struct Sender {
+    keys: [bool; KEYS],
+    lamps: [bool; LAMPS],
+    axes: [i32; AXES],
+
+    /// By how much each axis may tremble.
+    fuzz: [i32; AXES],
+
+    /// Whether it has keys at all.
+    pub(crate) has_keys: bool,
+
+    /// Whether pressures say `BTN_TOUCH`.
+    pub(crate) says_touch: bool,
+
+    /// Whether an eraser alone says that the pen is turned.
+    pub(crate) lacks_invert: bool,
+
+    /// Whether it can say that the pen is turned.
+    pub(crate) has_rubber: bool,
+
+    /// Which axes, and which movements, it has.
+    has_axes: [bool; AXES],
+    has_motions: [bool; MOTIONS],
+
+    /// How many events go together, at most.
+    room: usize,
+
+    /// How many events wait for the end of those that belong together.
+    waiting: usize,
+
+    /// The code of the tool that the report says to be near, 0 for none.
+    pub(crate) tool: u16,
+
+    /// Whether a part of the report says that the tool is near.
+    pub(crate) is_near: bool,
+
+    /// By how much the wheels are turned behind the last click, in parts of 120.
+    pub(crate) wheel: i16,
+    pub(crate) side_wheel: i16,
+
+    sent: Vec<InputEvent>,
+}
+
+impl Model for Sender {
+    ghost use Rattle.hidreport_events.specs.Senders.{SenderRecord};
+
+    ghost Value = { SenderRecord };
+
+    ghost view = { λ s. record {
+      keys = s.keys;
+      lamps = s.lamps;
+      axes = s.axes;
+      fuzz = s.fuzz;
+      has_keys = s.has_keys;
+      says_touch = s.says_touch;
+      lacks_invert = s.lacks_invert;
+      has_rubber = s.has_rubber;
+      has_axes = s.has_axes;
+      has_motions = s.has_motions;
+      room = s.room;
+      waiting = s.waiting;
+      tool = s.tool;
+      is_near = s.is_near;
+      wheel = s.wheel;
+      side_wheel = s.side_wheel;
+      sent = s.sent.items;
+    } };
+}
+
+impl Sender {
+    ghost use Rattle.std.specs.Prelude.{◌≡◌, OnOk};
+    ghost use Rattle.hidreport_events.specs.Senders.{axis_at, behind_axis, behind_key, behind_lamp, behind_motion, ended, fuzz_at, holding, is_down, new_sender, is_lit, put, sends, synced, tool_in, with_axis, with_axis_code, with_code, with_fuzz, with_key, with_lamp, with_motion_code, without_sent};
+
+    /// One without codes, with all keys up and all axes at 0.
+    pub(crate) fn new(alloc: Global) -> Sender
+        ensures { result ≡ new_sender }
+    {
+        Sender {
+            keys: [false; KEYS],
+            lamps: [false; LAMPS],
+            axes: [0; AXES],
+            fuzz: [0; AXES],
+            has_keys: false,
+            says_touch: false,
+            lacks_invert: false,
+            has_rubber: false,
+            has_axes: [false; AXES],
+            has_motions: [false; MOTIONS],
+            room: OTHER_EVENTS,
+            waiting: 0,
+            tool: 0,
+            is_near: false,
+            wheel: 0,
+            side_wheel: 0,
+            sent: Vec::new(alloc),
+        }
+    }
+
+    /// That it has a code: of an axis or a movement one event more goes together.
+    pub(crate) fn claim(&mut self, code: EventCode)
+        ensures { self.new ≡ with_code code self.old }
+    {
+        match code.event_type {
+            EventType::Absolute => self.claim_axis(code.number),
+            EventType::Relative => self.claim_motion(code.number),
+            EventType::Key => self.has_keys = true,
+            EventType::Other | EventType::Led => {}
+        }
+    }
+
+    /// That it has an axis.
+    fn claim_axis(&mut self, number: u16)
+        ensures { self.new ≡ with_axis_code number self.old }
+    {
+        let number = usize::from(number);
+        if number < AXES && !self.has_axes[number] {
+            self.has_axes[number] = true;
+            self.room = self.room.saturating_add(1);
+        }
+    }
+
+    /// That it has a movement.
+    fn claim_motion(&mut self, number: u16)
+        ensures { self.new ≡ with_motion_code number self.old }
+    {
+        let number = usize::from(number);
+        if number < MOTIONS && !self.has_motions[number] {
+            self.has_motions[number] = true;
+            self.room = self.room.saturating_add(1);
+        }
+    }
+
+    /// By how much an axis may tremble.
+    pub(crate) fn set_fuzz(&mut self, number: u16, fuzz: i32)
+        ensures { self.new ≡ with_fuzz number fuzz self.old }
+    {
+        let number = usize::from(number);
+        if number < AXES {
+            self.fuzz[number] = fuzz;
+        }
+    }
+
+    /// Whether a key is down.
+    pub(crate) fn is_down(&self, number: u16) -> bool
+        ensures { result ≡ is_down number self.now }
+    {
+        let number = usize::from(number);
+        number < KEYS && self.keys[number]
+    }
+
+    /// That a key is down, or isn't.
+    fn set_key(&mut self, number: u16, down: bool)
+        ensures { self.new ≡ with_key number down self.old }
+    {
+        let number = usize::from(number);
+        if number < KEYS {
+            self.keys[number] = down;
+        }
+    }
+
+    /// Whether a lamp is lit.
+    fn is_lit(&self, number: u16) -> bool
+        ensures { result ≡ is_lit number self.now }
+    {
+        let number = usize::from(number);
+        number < LAMPS && self.lamps[number]
+    }
+
+    /// That a lamp is lit, or isn't.
+    fn set_lamp(&mut self, number: u16, lit: bool)
+        ensures { self.new ≡ with_lamp number lit self.old }
+    {
+        let number = usize::from(number);
+        if number < LAMPS {
+            self.lamps[number] = lit;
+        }
+    }
+
+    /// Where an axis is.
+    fn axis_at(&self, number: u16) -> i32
+        ensures { result ≡ axis_at number self.now }
+    {
+        let number = usize::from(number);
+        if number < AXES { self.axes[number] } else { 0 }
+    }
+
+    /// By how much an axis may tremble.
+    fn fuzz_at(&self, number: u16) -> i32
+        ensures { result ≡ fuzz_at number self.now }
+    {
+        let number = usize::from(number);
+        if number < AXES { self.fuzz[number] } else { 0 }
+    }
+
+    /// That an axis is somewhere else.
+    fn set_axis(&mut self, number: u16, value: i32)
+        ensures { self.new ≡ with_axis number value self.old }
+    {
+        let number = usize::from(number);
+        if number < AXES {
+            self.axes[number] = value;
+        }
+    }
+
+    /// Hands an event on; where no more go together, they end.
+    fn put(&mut self, code: EventCode, value: i32) -> Result<(), AllocError>
+        ensures { OnOk result (self.new ≡ put code value self.old) }
+    {
+        self.sent.push(InputEvent {
+            code: Some(code),
+            value,
+        })?;
+        self.waiting = self.waiting.saturating_add(1);
+        if self.waiting >= self.room {
+            self.end(1)
+        } else {
+            Ok(())
+        }
+    }
+
+    /// Ends the events that belong together.
+    fn end(&mut self, value: i32) -> Result<(), AllocError>
+        ensures { OnOk result (self.new ≡ ended value self.old) }
+    {
+        self.sent.push(InputEvent { code: None, value })?;
+        self.waiting = 0;
+        Ok(())
+    }
+
+    /// Ends them, if there are any.
+    #[tactic(auto, unfolding(crate::specs::Senders::synced))]
+    pub(crate) fn sync(&mut self) -> Result<(), AllocError>
+        ensures { OnOk result (self.new ≡ synced self.old) }
+    {
+        if self.waiting == 0 {
+            return Ok(());
+        }
+        self.end(0)
+    }
+
+    /// The tool that is near.
+    pub(crate) fn tool(&self) -> Tool
+        ensures { result ≡ tool_in self.now }
+    {
+        Tool {
+            code: self.tool,
+            is_near: self.is_near,
+        }
+    }
+
+    /// That a tool is near.
+    pub(crate) fn hold_tool(&mut self, tool: Tool)
+        ensures { self.new ≡ holding tool self.old }
+    {
+        self.tool = tool.code;
+        self.is_near = tool.is_near;
+    }
+
+    /// What it handed on, which is forgotten.
+    pub(crate) fn take_sent(&mut self, alloc: Global) -> Vec<InputEvent>
+        ensures sent { result.items ≡ self.old.sent }
+        ensures forgotten { self.new ≡ without_sent self.old }
+    {
+        mem::replace(&mut self.sent, Vec::new(alloc))
+    }
+
+    /// Takes an event, and hands it on where it says something new.
+    #[tactic(auto, unfolding(crate::specs::Senders::sends))]
+    pub(crate) fn send(&mut self, code: EventCode, value: i32) -> Result<(), AllocError>
+        ensures { OnOk result (self.new ≡ sends code value self.old) }
+    {
+        match code.event_type {
+            EventType::Key => self.send_key(code, value),
+            EventType::Relative => self.send_motion(code, value),
+            EventType::Absolute => self.send_axis(code, value),
+            EventType::Other => self.put(code, value),
+            EventType::Led => self.send_lamp(code, value),
+        }
+    }
+
+    /// A key: 2 is one that is held down, which changes nothing.
+    fn send_key(&mut self, code: EventCode, value: i32) -> Result<(), AllocError>
+        ensures { OnOk result (self.new ≡ behind_key code value self.old) }
+    {
+        if value == 2 {
+            return self.put(code, value);
+        }
+        let down = value != 0;
+        if self.is_down(code.number) == down {
+            return Ok(());
+        }
+        self.set_key(code.number, down);
+        self.put(code, value)
+    }
+
+    /// A movement, which is none where it is 0.
+    fn send_motion(&mut self, code: EventCode, value: i32) -> Result<(), AllocError>
+        ensures { OnOk result (self.new ≡ behind_motion code value self.old) }
+    {
+        if value == 0 {
+            return Ok(());
+        }
+        self.put(code, value)
+    }
+
+    /// A place, which is kept where it is close to the last one.
+    fn send_axis(&mut self, code: EventCode, value: i32) -> Result<(), AllocError>
+        ensures { OnOk result (self.new ≡ behind_axis code value self.old) }
+    {
+        let before = self.axis_at(code.number);
+        let value = steadied(value, before, self.fuzz_at(code.number));
+        if value == before {
+            return Ok(());
+        }
+        self.set_axis(code.number, value);
+        self.put(code, value)
+    }
+
+    /// A lamp.
+    fn send_lamp(&mut self, code: EventCode, value: i32) -> Result<(), AllocError>
+        ensures { OnOk result (self.new ≡ behind_lamp code value self.old) }
+    {
+        let lit = value != 0;
+        if self.is_lit(code.number) == lit {
+            return Ok(());
+        }
+        self.set_lamp(code.number, lit);
+        self.put(code, value)
+    }
+}
+
+/// A place behind the last one, by how much its axis may tremble: close to it, it is the last one.
+#[tactic(auto, unfolding(crate::specs::Senders::steadied))]
+fn steadied(value: i32, before: i32, fuzz: i32) -> i32
+    ensures { result ≡ steadied value before fuzz }
+{
+    if fuzz == 0 {
+        return value;
+    }
+    if is_near_by(value, before, fuzz / 2) {
+        return before;
+    }
+    drawn(value, before, fuzz)
+}
+
+/// A place that is drawn to the last one, the nearer the more.
+#[tactic(auto, unfolding(crate::specs::Senders::drawn))]
+fn drawn(value: i32, before: i32, fuzz: i32) -> i32
+    ensures { result ≡ drawn value before fuzz }
+{
+    if is_near_by(value, before, fuzz) {
+        return mostly(before, value);
+    }
+    if is_near_by(value, before, fuzz.wrapping_mul(2)) {
+        return middle(before, value);
+    }
+    value
+}
+
+/// Three parts of a place and one of another, in 32 bits.
+#[tactic(auto, unfolding(crate::specs::Senders::mostly))]
+fn mostly(one: i32, other: i32) -> i32
+    ensures { result ≡ mostly one other }
+{
+    one.wrapping_mul(3).wrapping_add(other) / 4
+}
+
+/// The middle of two places, in 32 bits.
+#[tactic(auto, unfolding(crate::specs::Senders::middle))]
+fn middle(one: i32, other: i32) -> i32
+    ensures { result ≡ middle one other }
+{
+    one.wrapping_add(other) / 2
+}
+
+/// Whether a place is nearer to another than this.
+#[tactic(auto, unfolding(crate::specs::Senders::is_near_by))]
+fn is_near_by(value: i32, other: i32, by: i32) -> bool
+    ensures { result ≡ is_near_by value other by }
+{
+    value > other.wrapping_sub(by) && value < other.wrapping_add(by)
+}
