@@ -18,75 +18,11 @@
  *
  * Where hid-core divides -2147483648 by -1, for which an x86 stops it: {"stopped": .., "item", ..}.
  * BYTES is the buffer of the transport: 16384 unless said; that of uhid has 4096. */
-#include "kernel.h"
+#include "asking.h"
 #include "said.h"
-#include <setjmp.h>
-#include <signal.h>
 #include <stdio.h>
 
-static sigjmp_buf stopped;
 static unsigned int events;
-
-static void stop(int signal)
-{
-    siglongjmp(stopped, signal);
-}
-
-static void print_text(const char *text)
-{
-    putchar('"');
-    for (; *text; text++)
-        if (*text == '"' || *text == '\\')
-            printf("\\%c", *text);
-        else
-            putchar(*text);
-    putchar('"');
-}
-
-static const char *group_name(unsigned int group)
-{
-    switch (group) {
-    case HID_GROUP_GENERIC: return "generic";
-    case HID_GROUP_MULTITOUCH: return "multitouch";
-    case HID_GROUP_SENSOR_HUB: return "sensor hub";
-    case HID_GROUP_MULTITOUCH_WIN_8: return "multitouch win 8";
-    case HID_GROUP_VIVALDI: return "vivaldi";
-    default: return "?";
-    }
-}
-
-static bool is_common(const char *text)
-{
-    return !strncmp(text, "item ", 5) && strstr(text, " parsing failed");
-}
-
-/* The message that says why it was refused, and that for debugging at the same item. */
-static void print_refusal(unsigned int size, const char *group)
-{
-    const char *reason = "", *debug = NULL;
-    unsigned int item = shim_items - 1, offset = shim_offset;
-    size_t i;
-
-    for (i = 0; i < said_count; i++) {
-        if (said[i].item != shim_items)
-            continue;
-        if (said[i].kind == SAID_DEBUG)
-            debug = said[i].text;
-        else if (said[i].kind == SAID_ERROR && (!is_common(said[i].text) || !*reason))
-            reason = said[i].text;
-    }
-    if (!strncmp(reason, "unbalanced ", 11)) {
-        item = shim_items;
-        offset = size;
-    }
-    printf("{\"refused\":");
-    print_text(reason);
-    if (debug && is_common(reason)) {
-        printf(",\"debug\":");
-        print_text(debug);
-    }
-    printf(",\"item\":%u,\"offset\":%u,\"group\":\"%s\"}\n", item, offset, group);
-}
 
 static void print_warnings(void)
 {
@@ -223,88 +159,47 @@ static void print_reading(struct hid_device *device, const u8 *bytes, unsigned i
     free(report);
 }
 
-static int digit(char c)
+/* How it is read, and what the reports behind it say. */
+static void print_answer(struct hid_device *device, char *rest, u8 *bytes, unsigned int size)
 {
-    return c >= '0' && c <= '9' ? c - '0' : c >= 'a' && c <= 'f' ? c - 'a' + 10 :
-        c >= 'A' && c <= 'F' ? c - 'A' + 10 : -1;
-}
+    const char *comma = "";
 
-/* The bytes of a word in hexadecimal digits, in its place; what stands behind them. */
-static char *take_bytes(char *word, u8 *bytes, unsigned int *size)
-{
-    *size = 0;
-    for (; digit(word[0]) >= 0 && digit(word[1]) >= 0; word += 2)
-        bytes[(*size)++] = (u8)(digit(word[0]) << 4 | digit(word[1]));
-    if (*word && *word != ' ' && *word != '\n') {
-        fprintf(stderr, "ask: no bytes in hexadecimal digits: %s", word);
-        exit(2);
+    if (hid_open_report(device)) {
+        print_refusal(size, group_name(device->group));
+        return;
     }
-    return word;
+    print_taken(device);
+    if (*rest == ' ')
+        printf(",\"read\":[");
+    for (; *rest == ' '; comma = ",") {
+        rest = take_bytes(rest + 1, bytes, &size);
+        printf("%s", comma);
+        print_reading(device, bytes, size);
+    }
+    printf("%s}\n", *comma ? "]" : "");
+    shim_close(device);
 }
 
-static void ask(char *line, unsigned int buffer)
+static void answer(char *line, unsigned int buffer)
 {
     static struct hid_driver driver;
     static struct hid_ll_driver transport;
     static struct hid_device device;
-    u8 *bytes = (u8 *)line;
     unsigned int size;
-    char *rest = take_bytes(line, bytes, &size);
-    const char *comma = "";
-    int i, answer;
+    char *rest;
 
-    memset(&device, 0, sizeof(device));
     transport.max_buffer_size = buffer;
     driver.event = print_event;
-    device.driver = &driver;
-    device.ll_driver = &transport;
-    for (i = 0; i < HID_REPORT_TYPES; i++)
-        INIT_LIST_HEAD(&device.report_enum[i].report_list);
-    INIT_LIST_HEAD(&device.debug_list);
-    hid_parse_report(&device, bytes, size);
-    shim_scan(&device);
-
-    /* From here on the device has a name, as in the kernel. */
-    device.dev.name = "hid";
-    said_count = 0;
-    shim_items = 0;
-    if (sigsetjmp(stopped, 1)) {
-        printf("{\"stopped\":\"a division of -2147483648 by -1\",\"item\":%u,\"offset\":%u,\"group\":\"%s\"}\n",
-               shim_items, size, group_name(device.group));
-        return;
+    rest = begin_device(&device, &driver, &transport, line, &size);
+    if (sigsetjmp(stopped, 1))
+        print_stop(size, group_name(device.group));
+    else {
+        print_answer(&device, rest, (u8 *)line, size);
+        kfree(device.dev_rdesc);
     }
-    answer = hid_open_report(&device);
-    if (!answer) {
-        print_taken(&device);
-        if (*rest == ' ')
-            printf(",\"read\":[");
-        for (; *rest == ' '; comma = ",") {
-            rest = take_bytes(rest + 1, bytes, &size);
-            printf("%s", comma);
-            print_reading(&device, bytes, size);
-        }
-        printf("%s}\n", *comma ? "]" : "");
-        shim_close(&device);
-    } else
-        print_refusal(size, group_name(device.group));
-    kfree(device.dev_rdesc);
 }
 
 int main(int count, char **words)
 {
-    char *line = NULL;
-    size_t room = 0;
-    unsigned int buffer = 0;
-
-    if (count == 3 && !strcmp(words[1], "--buffer"))
-        buffer = (unsigned int)strtoul(words[2], NULL, 10);
-    else if (count != 1) {
-        fputs("usage: ask [--buffer BYTES]\n", stderr);
-        return 2;
-    }
-    signal(SIGFPE, stop);
-    while (getline(&line, &room, stdin) >= 0)
-        ask(line, buffer);
-    free(line);
-    return 0;
+    return answer_lines(count, words, answer);
 }

@@ -26,7 +26,15 @@ struct mutex { int none; };
 struct kref { int none; };
 struct module;
 struct dentry;
-struct device { const char *name; };
+struct device {
+    const char *name;
+    /* For the input devices of hid_input. */
+    struct device *parent;
+    const void *type, *class;
+    void *data;
+    unsigned int number;
+    int kobj;
+};
 struct device_driver { const char *name; };
 struct hid_device_id;
 struct list_head { struct list_head *next, *prev; };
@@ -115,8 +123,8 @@ void shim_say(enum said_kind kind, const char *format, ...)
 
 #define hid_warn_once hid_warn
 
-/* What stands around a report that comes in: no lock is taken, no hid-bpf, hidraw, hiddev or hid-input is
- * there; the events go to the driver, which is ask.c. */
+/* What stands around a report that comes in: no lock is taken, no hid-bpf, hidraw or hiddev is there, and no
+ * hid-input either but with hid_input's shim; then the events go to the driver, which is ask.c. */
 struct shim_task { const char *comm; };
 #define current (&(struct shim_task){"ask"})
 #define HID_ANY_ID (~0U)
@@ -127,8 +135,10 @@ struct shim_task { const char *comm; };
 #define PTR_ERR(pointer) ((void)(pointer), 0)
 #define hid_dump_input(...) ((void)0)
 #define hid_dump_report(...) ((void)0)
+#ifndef SHIM_WITH_INPUT
 #define hidinput_hid_event(...) ((void)0)
 #define hidinput_report_event(...) ((void)0)
+#endif
 #define hidraw_report_event(...) 0
 
 /* fetch_item is called through a hook, which counts the items begun, and keeps the last one's offset
