@@ -35,6 +35,7 @@ answered() {
         python3 "$parts/questions.py" "$hid" "$cases"
         python3 "$parts/as_linux.py" "$hid"
         python3 "$top/compare/linux_readings.py" model
+        python3 "$top/compare/linux_input.py" compare "$hid"
         python3 "$top/compare/linux_events.py" "$hid"
         python3 "$top/compare/webhid.py" "$hid"
     else

@@ -218,11 +218,11 @@ for shape in $shapes; do
         run struct --to "$to" "$shape"
     done
     run --as standard struct "$shape"
-    for words in '' --json --down --times; do
+    for words in '' --json --down --times --linux '--linux --json'; do
         run values $words "$shape" report
         run values $words mouse "$shape"
     done
-    for words in '' --json --raw --changes; do
+    for words in '' --json --raw --changes --linux '--linux --json'; do
         run record $words "$shape" report
         # What a stream holds is shown however long it is.
         [ "${shape#long}" != "$shape" ] || run record $words mouse "$shape"
@@ -268,6 +268,15 @@ done
 again listed_items 60000 '\011\060\201\002'
 printf '\005\001\241\001\165\001\225\001' | cat - listed_items > listed
 says 'bytes of JSON' convert --to webhid --form bytes listed
+
+# A report that turns many volumes, none of them too far.
+printf '\005\014\011\001\241\001\026\000\200\046\377\177\165\020\226\360\037\011\340\201\006' > volumes
+printf '\025\000\045\001\165\001\225\001\011\342\201\002\165\007\201\003\300' >> volumes
+again turned 16353 '\000\020'
+for words in '' --json; do
+    says 'turned by more than' values --linux $words --form bytes --report-form bytes volumes turned
+    says 'turned by more than' record --linux $words --form bytes --report-form bytes volumes turned
+done
 
 # A line without an end, and an input without one.
 again endless $((2 * 1048576)) '01 05 fb '

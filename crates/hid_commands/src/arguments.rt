@@ -78,6 +78,12 @@ const TIMES: Argument = (
     "Show each report's number and its time in seconds",
 );
 
+const EVENTS: Argument = (
+    "linux",
+    Kind::Flag,
+    "Show the input events that Linux's hid-generic sends for each report, without quirks",
+);
+
 const VALUES: &[Argument] = &[
     FILE,
     REPORTS,
@@ -87,6 +93,7 @@ const VALUES: &[Argument] = &[
         Kind::Flag,
         "Show only the keys and buttons that are down, a name in each line",
     ),
+    EVENTS,
     TIMES,
 ];
 
@@ -107,6 +114,7 @@ const RECORD: &[Argument] = &[
         "Leave out what is as it was in the report before",
     ),
     ("raw", Kind::Flag, "Write hid-recorder's lines"),
+    EVENTS,
     TIMES,
 ];
 

@@ -17,6 +17,8 @@ use hid_write::{Compile, Convert, Set, Uhid, id_named};
 use hidreport::Direction;
 use std::alloc::{AllocError, Global};
 
+const NO_TIMES: &str = "--times is of lines of values: --raw and --json have times";
+
 /// A command with its words.
 #[derive(Drop)]
 pub enum Command<'a> {
@@ -73,6 +75,7 @@ impl<'a> Command<'a> {
                 inputs: inputs_of(alloc, file, matches)?,
                 is_down: matches.get_flag("down"),
                 has_times: matches.get_flag("times"),
+                shows_linux: matches.get_flag("linux"),
             }),
             "record" => Command::Record(record_of(matches)),
             "uhid" => Command::Uhid(Uhid { file }),
@@ -130,37 +133,32 @@ impl<'a> Command<'a> {
 
     /// Why these options can't be met together, where they can't.
     pub fn conflict(&self, settings: &Settings) -> Option<&'static str> {
+        if self.shows_linux() && !settings.reads_as_linux() {
+            return Some("--linux shows what Linux reads: without --as standard");
+        }
         match self {
-            Command::Fields(command) if command.shows_linux && !settings.reads_as_linux() => {
-                Some("--linux shows what Linux reads: without --as standard")
-            }
-            Command::Values(command) if command.is_down && settings.is_json => {
-                Some("--down and --json can't both be met")
-            }
-            Command::Values(command) if command.is_down && command.has_times => {
-                Some("--down and --times can't both be met")
-            }
+            Command::Values(command) => values_conflict(command, settings.is_json),
+            Command::Record(command) => record_conflict(command, settings.is_json),
             Command::Set(command) if command.shows_names && !command.words.is_empty() => {
                 Some("--names takes no NAME=NUMBER")
             }
             Command::Set(command) if command.shows_names && command.keys.is_some() => {
                 Some("--names and --press can't both be met")
             }
-            Command::Record(command) if command.is_raw && settings.is_json => {
-                Some("--raw and --json can't both be met")
-            }
-            Command::Record(command) if command.is_raw && command.only_changes => {
-                Some("--raw and --changes can't both be met")
-            }
-            Command::Record(command) if command.has_times && (command.is_raw || settings.is_json) =>
-                { Some("--times is of lines of values: --raw and --json have times") }
-            Command::Record(command) if command.only_changes && settings.is_json => {
-                Some("--changes and --json can't both be met")
-            }
             Command::Diff(command) if command.by_items && settings.is_json => {
                 Some("--items and --json can't both be met")
             }
             _ => None,
+        }
+    }
+
+    /// Whether it shows what Linux makes of a device.
+    fn shows_linux(&self) -> bool {
+        match self {
+            Command::Fields(command) => command.shows_linux,
+            Command::Values(command) => command.shows_linux,
+            Command::Record(command) => command.shows_linux,
+            _ => false,
         }
     }
 
@@ -184,6 +182,42 @@ impl<'a> Command<'a> {
             Command::List(command) => command.run(rt, settings),
         }
     }
+}
+
+/// Why the options of `values` can't be met together.
+fn values_conflict(command: &Values, json: bool) -> Option<&'static str> {
+    let (down, times, linux) = (command.is_down, command.has_times, command.shows_linux);
+    let is_other = command.inputs.direction != Direction::Input;
+    first_met(&[
+        (down && json, "--down and --json can't both be met"),
+        (down && times, "--down and --times can't both be met"),
+        (down && linux, "--down and --linux can't both be met"),
+        (linux && is_other, "--linux is of input reports alone"),
+    ])
+}
+
+/// Why the options of `record` can't be met together.
+fn record_conflict(command: &Record, json: bool) -> Option<&'static str> {
+    let (changes, raw) = (command.only_changes, command.is_raw);
+    let (times, linux) = (command.has_times, command.shows_linux);
+    first_met(&[
+        (raw && json, "--raw and --json can't both be met"),
+        (raw && changes, "--raw and --changes can't both be met"),
+        (raw && linux, "--raw and --linux can't both be met"),
+        (times && (raw || json), NO_TIMES),
+        (changes && json, "--changes and --json can't both be met"),
+        (changes && linux, "--changes and --linux can't both be met"),
+    ])
+}
+
+/// The words of the first row that is met.
+fn first_met(rows: &[(bool, &'static str)]) -> Option<&'static str> {
+    for (is_met, words) in rows {
+        if *is_met {
+            return Some(*words);
+        }
+    }
+    None
 }
 
 /// The inputs of a descriptor and of reports.
@@ -230,6 +264,7 @@ fn record_of<'a>(matches: &ArgMatches<'a>) -> Record<'a> {
         only_changes: matches.get_flag("changes"),
         is_raw: matches.get_flag("raw"),
         has_times: matches.get_flag("times"),
+        shows_linux: matches.get_flag("linux"),
     }
 }
 

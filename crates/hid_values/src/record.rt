@@ -1,40 +1,20 @@
 //! `hid record`: the reports of a stream, each in a line as it comes.
 use crate::choosing::chosen_node;
-use crate::report_time::{add_stamp, add_time};
+use crate::recording::{Asked, Recording, Shown};
 use anyhow::{Context, Result, bail, ensure};
-use hid_given::{Form, Given, GivenReport};
 use hid_input::input::{Stream, descriptors_named, is_node, node_named};
 use hid_input::parsing::all_read;
 use hid_input::settings::Settings;
 use hid_input::world::World;
-use hid_objects::value_object::{Sent, add_value_objects};
 use hid_output::ending::Ending;
-use hid_output::{add_bytes, escaped, flush};
-use hid_report::{Lines, tell_mixed, tell_size, tell_unknown};
-use hid_words::plural;
-use hidreport::{Direction, ReportDescriptor};
-use std::alloc::AllocError;
-use std::fmt::Write;
+use hidreport::ReportDescriptor;
 use std::fs;
 use std::io::Read;
 use std::rt::Clock;
-use std::time::{Duration, Instant};
+use std::time::Instant;
 
 /// How many bytes are read at once.
 const PIECE: usize = 65_536;
-
-/// How a report is written.
-#[derive(Clone, Copy, PartialEq)]
-pub enum Shown {
-    /// Its values in a line.
-    Line,
-
-    /// An object of JSON for each field.
-    Json,
-
-    /// A line of hid-recorder.
-    Raw,
-}
 
 /// Shows the reports of a stream.
 #[derive(Clone, Copy)]
@@ -49,21 +29,8 @@ pub struct Record<'a> {
     pub is_raw: bool,
     /// Whether each line has the report's number and its time before it.
     pub has_times: bool,
-}
-
-/// What is shown so far.
-#[derive(Drop)]
-struct Recording<'a> {
-    given: &'a Given,
-    lines: Vec<Lines<'a>>,
-    shown: Shown,
-    has_times: bool,
-    has_notes: bool,
-    known: u64,
-    unknown: u64,
-    /// The device of the last report.
-    device: usize,
-    text: String,
+    /// Whether the input events are shown that Linux sends.
+    pub shows_linux: bool,
 }
 
 impl<'a> Record<'a> {
@@ -82,7 +49,13 @@ impl<'a> Record<'a> {
     fn run_of<R: World>(&self, rt: &R, settings: &Settings, file: &str) -> Result<Ending> {
         let given = descriptors_named(rt, settings, file)?;
         let known = all_read(rt, settings, file, &given)?;
-        let mut recording = self.recording(rt, settings, &given, &known)?;
+        let mut recording = Recording::of(
+            rt.alloc(),
+            settings,
+            self.asked(settings),
+            &given,
+            &known,
+        )?;
         let name = self.stream.unwrap_or(file);
         let node = node_named(rt, settings, name)?;
         let is_node = is_node(node.as_str());
@@ -98,43 +71,18 @@ impl<'a> Record<'a> {
         }
     }
 
-    /// How reports are shown.
-    fn shown(&self, settings: &Settings) -> Shown {
-        match (self.is_raw, settings.is_json) {
-            (true, _) => Shown::Raw,
-            (false, true) => Shown::Json,
-            (false, false) => Shown::Line,
-        }
-    }
-
-    /// What is shown before the first report.
-    fn recording<'b, R: AllocGlobal>(
-        &self,
-        rt: &R,
-        settings: &Settings,
-        given: &'b Given,
-        known: &'b [ReportDescriptor],
-    ) -> Result<Recording<'b>> {
-        let mut lines = Vec::new(rt.alloc());
-        for descriptor in known {
-            lines.push(Lines::new(rt.alloc(), descriptor, self.only_changes)?)?;
-        }
-        let shown = self.shown(settings);
-        let mut text = String::new(rt.alloc());
-        if shown == Shown::Raw {
-            add_heads(&mut text, given)?;
-        }
-        Ok(Recording {
-            given,
-            lines,
-            shown,
+    /// What is asked for.
+    fn asked(&self, settings: &Settings) -> Asked {
+        Asked {
+            shown: match (self.shows_linux, self.is_raw, settings.is_json) {
+                (true, _, _) => Shown::Events,
+                (false, true, _) => Shown::Raw,
+                (false, false, true) => Shown::Json,
+                (false, false, false) => Shown::Line,
+            },
+            only_changes: self.only_changes,
             has_times: self.has_times,
-            has_notes: settings.has_notes(),
-            known: 0,
-            unknown: 0,
-            device: 0,
-            text,
-        })
+        }
     }
 }
 
@@ -154,32 +102,6 @@ fn follow_named<R: World>(
     follow(rt, file, name, known, stream, recording)
 }
 
-/// Appends hid-recorder's lines that stand before the reports, for each device.
-fn add_heads(text: &mut String, given: &Given) -> Result<(), AllocError> {
-    for device in given.devices.iter() {
-        let (number, count) = (device.number, device.descriptor.len());
-        write!(text, "D: {number}\nR: {count} ")?;
-        add_bytes(text, &device.descriptor)?;
-        add_line_of(text, "\nN: ", device.name.as_deref().unwrap_or("unknown"))?;
-        if let Some(place) = &device.place {
-            add_line_of(text, "\nP: ", place.as_str())?;
-        }
-        add_line_of(
-            text,
-            "\nI: ",
-            device.ids.as_deref().unwrap_or("3 0000 0000"),
-        )?;
-        text.push_str("\n")?;
-    }
-    Ok(())
-}
-
-/// Appends what an input says of a device, behind a mark.
-fn add_line_of(text: &mut String, mark: &str, said: &str) -> Result<(), AllocError> {
-    let said = escaped(*text.allocator(), said)?;
-    write!(text, "{mark}{said}")
-}
-
 /// Shows what a reader gives, up to its end.
 fn follow<R: AllocGlobal + Clock + Print + Eprint, I: Read + Drop>(
     rt: &R,
@@ -193,11 +115,7 @@ fn follow<R: AllocGlobal + Clock + Print + Eprint, I: Read + Drop>(
     let Some(descriptor) = known.first() else {
         bail!("has no descriptor");
     };
-    if recording.has_notes {
-        for descriptor in known {
-            tell_mixed(rt, descriptor, Direction::Input)?;
-        }
-    }
+    recording.begin(rt)?;
     let begun = Instant::now(rt)?;
     let mut piece = vec![in rt.alloc(); 0u8; PIECE]?;
     for _ in 0..u64::MAX {
@@ -218,106 +136,4 @@ fn follow<R: AllocGlobal + Clock + Print + Eprint, I: Read + Drop>(
     recording.show_all(rt, stream.form(), &reports, begun.elapsed(rt)?)?;
     stream.refused()?;
     recording.end(rt, stream.left())
-}
-
-impl<'a> Recording<'a> {
-    /// Shows reports that came at this time.
-    fn show_all<R: AllocGlobal + Print + Eprint>(
-        &mut self,
-        rt: &R,
-        form: Option<Form>,
-        reports: &[GivenReport],
-        time: Duration,
-    ) -> Result<()> {
-        let form = form.unwrap_or(Form::Bytes);
-        for report in reports {
-            if !self.show(rt, form, report, time)? {
-                self.unknown = self.unknown.saturating_add(1);
-            }
-        }
-        flush(rt, &mut self.text)
-    }
-
-    /// Shows a report, and answers whether a descriptor has it.
-    fn show<R: AllocGlobal + Print + Eprint>(
-        &mut self,
-        rt: &R,
-        form: Form,
-        report: &GivenReport,
-        time: Duration,
-    ) -> Result<bool> {
-        let place = self.given.place_of(form, report);
-        let Some(lines) = place.and_then(|place| self.lines.get_mut(place)) else {
-            return Ok(false);
-        };
-        if self.shown == Shown::Raw {
-            self.add_raw(report, time)?;
-            return Ok(true);
-        }
-        let Some(own) = lines.report_of(&report.bytes) else {
-            return Ok(false);
-        };
-        if self.has_notes {
-            tell_size(rt, own, &report.bytes)?;
-        }
-        self.known = self.known.saturating_add(1);
-        if self.shown == Shown::Line {
-            let mut line = String::new(*self.text.allocator());
-            lines.add(&mut line, &report.bytes)?;
-            self.add_line(report, time, &line)?;
-            return Ok(true);
-        }
-        let sent = Sent {
-            number: self.known,
-            time: report.time.as_deref(),
-        };
-        add_value_objects(&mut self.text, Direction::Input, own, &report.bytes, sent)?;
-        Ok(true)
-    }
-
-    /// Appends the line of a report, where something is shown of it.
-    fn add_line(
-        &mut self,
-        report: &GivenReport,
-        time: Duration,
-        line: &str,
-    ) -> Result<(), AllocError> {
-        if self.has_times && !line.is_empty() {
-            let number = self.known;
-            add_stamp(&mut self.text, number, report, Some(time))?;
-        }
-        self.text.push_str(line)
-    }
-
-    /// Appends a line of hid-recorder, behind one that names its device where that is another.
-    fn add_raw(&mut self, report: &GivenReport, time: Duration) -> Result<(), AllocError> {
-        let (text, device) = (&mut self.text, report.device);
-        if self.device != device {
-            self.device = device;
-            writeln!(text, "D: {device}")?;
-        }
-        text.push_str("E: ")?;
-        add_time(text, report, time)?;
-        let count = report.bytes.len();
-        write!(text, " {count} ")?;
-        add_bytes(text, &report.bytes)?;
-        text.push_str("\n")
-    }
-
-    /// Says what wasn't shown.
-    fn end<R: Eprint>(&self, rt: &R, left: usize) -> Result<Ending> {
-        let unknown = self.unknown;
-        if left != 0 && self.has_notes {
-            let (s, verb) = (plural(left), if left == 1 { "is" } else { "are" });
-            eprintln!(rt; "hid: the last {left} byte{s} {verb} no whole report")?;
-        }
-        if self.has_notes {
-            tell_unknown(rt, unknown)?;
-        }
-        Ok(if left == 0 && unknown == 0 {
-            Ending::Done
-        } else {
-            Ending::Refused
-        })
-    }
 }

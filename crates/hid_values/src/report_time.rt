@@ -1,6 +1,6 @@
 //! A report's number and its time, as `--times` shows them.
 use hid_given::GivenReport;
-use std::alloc::AllocError;
+use std::alloc::{AllocError, Global};
 use std::fmt::Write;
 use std::time::Duration;
 
@@ -13,6 +13,13 @@ pub fn add_time(text: &mut String, report: &GivenReport, time: Duration) -> Resu
             write!(text, "{seconds:06}.{micros:06}")
         }
     }
+}
+
+/// The same time, as a text.
+pub fn time_of(alloc: Global, report: &GivenReport, time: Duration) -> Result<String, AllocError> {
+    let mut text = String::new(alloc);
+    add_time(&mut text, report, time)?;
+    Ok(text)
 }
 
 /// Appends a report's number and its time, with a space behind each; of a report that no stream

@@ -1,6 +1,8 @@
 //! `hid values`: the values of reports, by name.
+use crate::device_events::{DeviceEvents, Left, events_of};
 use crate::report_time::add_stamp;
-use anyhow::{Context, Result, anyhow, bail, ensure};
+use crate::value_lines::{add_down, add_values};
+use anyhow::{Context, Result, bail, ensure};
 use hid_given::{Given, GivenReport};
 use hid_input::input::{descriptors_named, reports_named};
 use hid_input::inputs::Inputs;
@@ -9,17 +11,11 @@ use hid_input::settings::Settings;
 use hid_input::world::World;
 use hid_objects::value_object::{Sent, add_value_objects};
 use hid_output::ending::Ending;
-use hid_output::{flush, flush_piece, show};
-use hid_report::{
-    Amount, Choice, add_choice, add_choices, add_reports, add_title, amount_of, choice_of,
-    element_width, is_outside, readable, tell_mixed, tell_size,
-};
-use hid_words::{
-    add_array_name, add_measured, add_usage, add_usage_on_page, measured_value, word_of,
-};
-use hidreport::{ArrayField, Field, RDescReport, Report, ReportDescriptor, VariableField};
-use std::alloc::AllocError;
-use std::fmt::Write;
+use hid_output::{escaped, flush, flush_piece, show};
+use hid_report::{add_reports, add_title, tell_mixed, tell_size};
+use hid_words::word_of;
+use hidreport::{Direction, ReportDescriptor};
+use std::alloc::{AllocError, Global};
 
 /// Shows the values of reports.
 #[derive(Drop)]
@@ -30,6 +26,20 @@ pub struct Values<'a> {
     pub is_down: bool,
     /// Whether each report has its number and its time before it.
     pub has_times: bool,
+    /// Whether the input events are shown that Linux sends.
+    pub shows_linux: bool,
+}
+
+/// What reports are shown by.
+#[derive(Drop)]
+struct Known<'a> {
+    given: &'a Given,
+    descriptors: Vec<ReportDescriptor>,
+    /// The events of each device; none where values are shown.
+    events: Vec<DeviceEvents>,
+    /// What the reports are read from, as a refusal names it.
+    source: String,
+    has_refused: bool,
 }
 
 impl<'a> Values<'a> {
@@ -38,25 +48,53 @@ impl<'a> Values<'a> {
         let given = descriptors_named(rt, settings, self.inputs.file)?;
         let alone = self.inputs.reports.is_empty();
         ensure!(!alone || !given.reports.is_empty(), "no report");
-        let known = all_read(rt, settings, self.inputs.file, &given)?;
+        let mut known = self.known(rt, settings, &given)?;
+        if alone {
+            self.show_all(rt, settings, &mut known, &given)?;
+        } else {
+            self.show_inputs(rt, settings, &mut known)?;
+        }
+        Ok(if known.has_refused {
+            Ending::Refused
+        } else {
+            Ending::Done
+        })
+    }
+
+    /// What is known before the first report.
+    fn known<'b, R: AllocGlobal + Eprint>(
+        &self,
+        rt: &R,
+        settings: &Settings,
+        given: &'b Given,
+    ) -> Result<Known<'b>> {
+        let descriptors = all_read(rt, settings, self.inputs.file, given)?;
         if settings.has_notes() {
-            for descriptor in known.iter() {
+            for descriptor in descriptors.iter() {
                 tell_mixed(rt, descriptor, self.inputs.direction)?;
             }
         }
-        if alone {
-            self.show_all(rt, settings, (&given, &known), &given)?;
-            return Ok(Ending::Done);
-        }
+        Ok(Known {
+            given,
+            descriptors,
+            events: events_of(rt.alloc(), settings, given, self.shows_linux)?,
+            source: escaped(rt.alloc(), self.inputs.file)?,
+            has_refused: false,
+        })
+    }
+
+    /// Shows the reports of all inputs.
+    fn show_inputs<R: World>(&self, rt: &R, settings: &Settings, known: &mut Known) -> Result<()> {
         for (index, name) in self.inputs.reports.iter().enumerate() {
             if self.is_down && index != 0 {
                 show(rt, "\n")?;
             }
+            known.source = source_of(rt.alloc(), self.inputs.file, name)?;
             let reports = reports_named(rt, settings, name).context(format_args!("{name}"))?;
-            self.show_all(rt, settings, (&given, &known), &reports)
+            self.show_all(rt, settings, known, &reports)
                 .context(format_args!("{name}"))?;
         }
-        Ok(Ending::Done)
+        Ok(())
     }
 
     /// Shows the reports of an input, each by the descriptor of its device.
@@ -64,26 +102,58 @@ impl<'a> Values<'a> {
         &self,
         rt: &R,
         settings: &Settings,
-        devices: (&Given, &[ReportDescriptor]),
+        known: &mut Known,
         reports: &Given,
     ) -> Result<()> {
-        let (given, known) = devices;
         let mut text = String::new(rt.alloc());
         for (report, number) in reports.reports.iter().zip(1u64..) {
-            let place = given.place_of(reports.form, report);
-            let shown = match place.and_then(|place| known.get(place)) {
-                Some(descriptor) => {
-                    self.add_report(rt, settings, descriptor, report, &mut text, number)
-                }
-                None => Err(anyhow!("is of a device without a descriptor")),
-            };
-            if shown.is_err() {
+            let place = known.given.place_of(reports.form, report);
+            let shown = self.add_placed(rt, settings, known, (place, report), &mut text, number);
+            if !matches!(shown, Ok(None)) {
                 flush(rt, &mut text)?;
             }
-            shown.context(format_args!("report {number}"))?;
+            if let Some(why) = shown.context(format_args!("report {number}"))? {
+                known.refuse(rt, number, &why)?;
+            }
             flush_piece(rt, &mut text)?;
         }
         flush(rt, &mut text)
+    }
+
+    /// Appends what is shown of a report of the device at a place, or answers why its events aren't.
+    fn add_placed<R: AllocGlobal + Eprint>(
+        &self,
+        rt: &R,
+        settings: &Settings,
+        known: &mut Known,
+        placed: (Option<usize>, &GivenReport),
+        text: &mut String,
+        number: u64,
+    ) -> Result<Option<String>> {
+        let (place, report) = placed;
+        let Some(descriptor) = place.and_then(|place| known.descriptors.get(place)) else {
+            bail!("is of a device without a descriptor");
+        };
+        let Some(events) = place.and_then(|place| known.events.get_mut(place)) else {
+            self.add_report(rt, settings, descriptor, report, text, number)?;
+            return Ok(None);
+        };
+        let sent = self.sent(report, number);
+        let Some(left) = events.add(rt, text, descriptor, &report.bytes, sent)? else {
+            return Ok(None);
+        };
+        match left {
+            Left::Unknown => Ok(Some(no_report(rt.alloc(), descriptor, Direction::Input)?)),
+            Left::Refused(why) => Ok(Some(why)),
+        }
+    }
+
+    /// A report's number, and its time where that is wanted.
+    fn sent<'b>(&self, given: &'b GivenReport, number: u64) -> Sent<'b> {
+        Sent {
+            number,
+            time: given.time.as_deref().filter(|_time| self.has_times),
+        }
     }
 
     /// Appends what is shown of a report.
@@ -98,12 +168,7 @@ impl<'a> Values<'a> {
     ) -> Result<()> {
         let (direction, bytes) = (self.inputs.direction, given.bytes.as_slice());
         let Some(report) = descriptor.find_report(direction, bytes) else {
-            let mut known = String::new(*text.allocator());
-            add_reports(&mut known, descriptor, direction)?;
-            bail!(
-                "the bytes are of no {} report of this descriptor: it has {known}",
-                word_of(direction)
-            );
+            bail!("{}", no_report(*text.allocator(), descriptor, direction)?);
         };
         if settings.has_notes() {
             tell_size(rt, report, bytes)?;
@@ -115,7 +180,7 @@ impl<'a> Values<'a> {
             return Ok(add_down(text, report, bytes)?);
         }
         if settings.is_json {
-            return self.add_objects(text, report, given, number);
+            return add_value_objects(text, direction, report, bytes, self.sent(given, number));
         }
         if self.has_times {
             add_stamp(text, number, given, None)?;
@@ -124,127 +189,31 @@ impl<'a> Values<'a> {
         text.push_str("\n")?;
         Ok(add_values(text, report, bytes)?)
     }
+}
 
-    /// Appends a report's values as JSON, with its number, and its time where that is wanted.
-    fn add_objects(
-        &self,
-        text: &mut String,
-        report: &RDescReport,
-        given: &GivenReport,
-        number: u64,
-    ) -> Result<()> {
-        let sent = Sent {
-            number,
-            time: given.time.as_deref().filter(|_time| self.has_times),
-        };
-        add_value_objects(text, self.inputs.direction, report, &given.bytes, sent)
+impl Known<'_> {
+    /// Says on standard error why a report has no events.
+    fn refuse<R: Eprint>(&mut self, rt: &R, number: u64, why: &str) -> Result<()> {
+        self.has_refused = true;
+        let source = self.source.as_str();
+        Ok(eprintln!(rt; "hid: {source}: report {number}: {why}")?)
     }
 }
 
-/// Appends a line for each field of a report that has a value; bytes that are missing have none.
-fn add_values(text: &mut String, report: &RDescReport, bytes: &[u8]) -> Result<(), AllocError> {
-    for field in report.fields() {
-        if bytes.len() <= field.bits().start / 8 {
-            return Ok(());
-        }
-        match field {
-            Field::Variable(field) => add_variable(text, field, bytes)?,
-            Field::Array(field) => add_array(text, field, bytes)?,
-            Field::Constant(_) => {}
-        }
-    }
-    Ok(())
+/// What a refusal calls the reports of an input.
+fn source_of(alloc: Global, file: &str, name: &str) -> Result<String, AllocError> {
+    let named = format!(in alloc; "{file}: {name}")?;
+    escaped(alloc, named.as_str())
 }
 
-fn add_variable(text: &mut String, field: &VariableField, bytes: &[u8]) -> Result<(), AllocError> {
-    let amount = amount_of(field, bytes);
-    if amount == Amount::Missing {
-        return Ok(());
-    }
-    text.push_str("  ")?;
-    add_usage(text, field.usage)?;
-    match amount {
-        Amount::Number(value) => add_number(text, field, value)?,
-        _ => {
-            let width = field.bits.len();
-            write!(text, ": {width} bits, too many for a number")?;
-        }
-    }
-    text.push_str("\n")
-}
-
-/// Appends a value with its bounds, and what it stands for in its unit where it lies within them.
-fn add_number(text: &mut String, field: &VariableField, value: i64) -> Result<(), AllocError> {
-    let (low, high) = (field.logical_minimum, field.logical_maximum);
-    if is_outside(field, value) {
-        return write!(text, ": {value} (outside of {low} to {high})");
-    }
-    write!(text, ": {value} ({low} to {high})")?;
-    match measured_value(field, value) {
-        Some(fraction) => {
-            text.push_str(" = ")?;
-            add_measured(text, fraction, field.unit)
-        }
-        None => Ok(()),
-    }
-}
-
-/// Appends the usages that an array's values stand for, and values that stand for none, in one line.
-fn add_array(text: &mut String, field: &ArrayField, bytes: &[u8]) -> Result<(), AllocError> {
-    text.push_str("  ")?;
-    add_array_name(text, field)?;
-    let width = element_width(field);
-    if 32 < width {
-        return writeln!(text, ": elements of {width} bits, too many for a number");
-    }
-    text.push_str(":")?;
-    let is_any = add_choices(text, field, bytes, " ", true)?;
-    text.push_str(if is_any { "\n" } else { " none\n" })
-}
-
-/// Appends a line with the name of each button and key that is down in a report.
-fn add_down(text: &mut String, report: &RDescReport, bytes: &[u8]) -> Result<(), AllocError> {
-    for field in report.fields() {
-        if bytes.len() <= field.bits().start / 8 {
-            return Ok(());
-        }
-        match field {
-            Field::Variable(field) => {
-                if is_down(field, bytes) {
-                    add_usage_on_page(text, field.usage)?;
-                    text.push_str("\n")?;
-                }
-            }
-            Field::Array(field) => add_keys(text, field, bytes)?,
-            Field::Constant(_) => {}
-        }
-    }
-    Ok(())
-}
-
-/// Appends a line with the name of each key of an array that is down.
-fn add_keys(text: &mut String, field: &ArrayField, bytes: &[u8]) -> Result<(), AllocError> {
-    for index in 0..readable(field, bytes) {
-        if !means_none(field, bytes, index) && add_choice(text, field, bytes, index, "", true)? {
-            text.push_str("\n")?;
-        }
-    }
-    Ok(())
-}
-
-/// Whether an element's value is outside of the bounds.
-fn means_none(field: &ArrayField, bytes: &[u8], index: usize) -> bool {
-    matches!(
-        choice_of(field, bytes, index),
-        Some((_value, Choice::Outside))
-    )
-}
-
-/// Whether a field that is on or off is on.
-fn is_down(field: &VariableField, bytes: &[u8]) -> bool {
-    let is_switch = field.bits.len() == 1;
-    match amount_of(field, bytes) {
-        Amount::Number(value) => is_switch && value != 0,
-        _ => false,
-    }
+/// That bytes are of no report of a descriptor, and which it has.
+fn no_report(
+    alloc: Global,
+    descriptor: &ReportDescriptor,
+    direction: Direction,
+) -> Result<String, AllocError> {
+    let mut known = String::new(alloc);
+    add_reports(&mut known, descriptor, direction)?;
+    let word = word_of(direction);
+    format!(in alloc; "the bytes are of no {word} report of this descriptor: it has {known}")
 }
