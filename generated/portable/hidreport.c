@@ -1327,39 +1327,40 @@ static u32 w2c_f63(Z_hidreport_instance_t*, u64);
 static u32 w2c_f64(Z_hidreport_instance_t*, u64);
 static u32 w2c_f65(Z_hidreport_instance_t*, u64);
 static u32 w2c_f66(Z_hidreport_instance_t*, u64);
-static void w2c_f67(Z_hidreport_instance_t*, u64, u64, u64, u64);
-static u32 w2c_f68(Z_hidreport_instance_t*, u64);
-static void w2c_f69(Z_hidreport_instance_t*, u64, u32, u64);
-static u32 w2c_f70(Z_hidreport_instance_t*, u64);
-static void w2c_f71(Z_hidreport_instance_t*, u64, u64, u64);
-static void w2c_f72(Z_hidreport_instance_t*, u64);
-static u32 w2c_f73(Z_hidreport_instance_t*, u64, u64);
-static u32 w2c_f74(Z_hidreport_instance_t*, u64, u64, u64);
-static void w2c_f75(Z_hidreport_instance_t*, u64, u64, u64);
-static void w2c_f76(Z_hidreport_instance_t*, u64);
+static u32 w2c_f67(Z_hidreport_instance_t*, u64);
+static void w2c_f68(Z_hidreport_instance_t*, u64, u64, u64, u64);
+static u32 w2c_f69(Z_hidreport_instance_t*, u64);
+static void w2c_f70(Z_hidreport_instance_t*, u64, u32, u64);
+static u32 w2c_f71(Z_hidreport_instance_t*, u64);
+static void w2c_f72(Z_hidreport_instance_t*, u64, u64, u64);
+static void w2c_f73(Z_hidreport_instance_t*, u64);
+static u32 w2c_f74(Z_hidreport_instance_t*, u64, u64);
+static u32 w2c_f75(Z_hidreport_instance_t*, u64, u64, u64);
+static void w2c_f76(Z_hidreport_instance_t*, u64, u64, u64);
 static void w2c_f77(Z_hidreport_instance_t*, u64);
-static u32 w2c_f78(Z_hidreport_instance_t*, u64, u64, u64, u64);
-static u32 w2c_f79(Z_hidreport_instance_t*, u64, u64, u64);
-static void w2c_f80(Z_hidreport_instance_t*, u64);
-static void w2c_f81(Z_hidreport_instance_t*, u64, u64, u64, u64, u64);
+static void w2c_f78(Z_hidreport_instance_t*, u64);
+static u32 w2c_f79(Z_hidreport_instance_t*, u64, u64, u64, u64);
+static u32 w2c_f80(Z_hidreport_instance_t*, u64, u64, u64);
+static void w2c_f81(Z_hidreport_instance_t*, u64);
 static void w2c_f82(Z_hidreport_instance_t*, u64, u64, u64, u64, u64);
 static void w2c_f83(Z_hidreport_instance_t*, u64, u64, u64, u64, u64);
-static void w2c_f84(Z_hidreport_instance_t*, u64, u64, u32, u64, u64);
-static void w2c_f85(Z_hidreport_instance_t*, u64, u64, u64);
-static u32 w2c_f86(Z_hidreport_instance_t*, u64);
-static void w2c_f87(Z_hidreport_instance_t*, u64, u64, u32, u32, u32);
-static void w2c_f88(Z_hidreport_instance_t*, u64, u64, u64, u64, u64);
-static void w2c_f89(Z_hidreport_instance_t*, u64, u64, u64, u64);
-static u32 w2c_f90(Z_hidreport_instance_t*, u64);
-static void w2c_f91(Z_hidreport_instance_t*, u64, u64, u64);
+static void w2c_f84(Z_hidreport_instance_t*, u64, u64, u64, u64, u64);
+static void w2c_f85(Z_hidreport_instance_t*, u64, u64, u32, u64, u64);
+static void w2c_f86(Z_hidreport_instance_t*, u64, u64, u64);
+static u32 w2c_f87(Z_hidreport_instance_t*, u64);
+static void w2c_f88(Z_hidreport_instance_t*, u64, u64, u32, u32, u32);
+static void w2c_f89(Z_hidreport_instance_t*, u64, u64, u64, u64, u64);
+static void w2c_f90(Z_hidreport_instance_t*, u64, u64, u64, u64);
+static u32 w2c_f91(Z_hidreport_instance_t*, u64);
 static void w2c_f92(Z_hidreport_instance_t*, u64, u64, u64);
-static void w2c_f93(Z_hidreport_instance_t*, u64, u64, u64, u64);
-static u32 w2c_f94(Z_hidreport_instance_t*, u64, u32, u64, u64, u64, u64);
-static u32 w2c_f95(Z_hidreport_instance_t*, u64, u64);
-static u32 w2c_f96(Z_hidreport_instance_t*, u64, u64, u64);
+static void w2c_f93(Z_hidreport_instance_t*, u64, u64, u64);
+static void w2c_f94(Z_hidreport_instance_t*, u64, u64, u64, u64);
+static u32 w2c_f95(Z_hidreport_instance_t*, u64, u32, u64, u64, u64, u64);
+static u32 w2c_f96(Z_hidreport_instance_t*, u64, u64);
 static u32 w2c_f97(Z_hidreport_instance_t*, u64, u64, u64);
-static u32 w2c_f98(Z_hidreport_instance_t*, u64, u32);
-static u32 w2c_f99(Z_hidreport_instance_t*, u64, u64, u64, u32);
+static u32 w2c_f98(Z_hidreport_instance_t*, u64, u64, u64);
+static u32 w2c_f99(Z_hidreport_instance_t*, u64, u32);
+static u32 w2c_f100(Z_hidreport_instance_t*, u64, u64, u64, u32);
 static u32 w2c_hidreport_version(Z_hidreport_instance_t*);
 static void w2c_hidreport_null_value(Z_hidreport_instance_t*, u64, u64);
 static void w2c_hidreport_normalized(Z_hidreport_instance_t*, u64, u64, u64);
@@ -1409,8 +1410,8 @@ static void w2c_hidreport_values(Z_hidreport_instance_t*, u64, u64, u64, u64, u6
 static void w2c_hidreport_read(Z_hidreport_instance_t*, u64, u64, u64, u64, u64, u64, u64);
 static void w2c_rattle_alloc(Z_hidreport_instance_t*, u64, u64, u64);
 static void w2c_rattle_dealloc(Z_hidreport_instance_t*, u64);
-static void w2c_f149(Z_hidreport_instance_t*, u64, u64, u64, u64, u64);
 static void w2c_f150(Z_hidreport_instance_t*, u64, u64, u64, u64, u64);
+static void w2c_f151(Z_hidreport_instance_t*, u64, u64, u64, u64, u64);
 static u64 w2c_hidreport_answer_room(Z_hidreport_instance_t*);
 
 static void init_globals(Z_hidreport_instance_t* instance) {
@@ -21635,7 +21636,7 @@ static void w2c_f13(Z_hidreport_instance_t* instance, u64 w2c_p0, u64 w2c_p1) {
   w2c_j2 += w2c_j3;
   w2c_i2 = (u32)(w2c_j2);
   w2c_j2 = i64_load(&instance->w2c_memory, (u64)(w2c_i2));
-  w2c_f71(instance, w2c_j0, w2c_j1, w2c_j2);
+  w2c_f72(instance, w2c_j0, w2c_j1, w2c_j2);
   w2c_j0 = w2c_l2;
   w2c_i0 = (u32)(w2c_j0);
   w2c_i0 = i32_load8_u(&instance->w2c_memory, (u64)(w2c_i0) + 144u);
@@ -21653,7 +21654,7 @@ static void w2c_f13(Z_hidreport_instance_t* instance, u64 w2c_p0, u64 w2c_p1) {
   w2c_j2 += w2c_j3;
   w2c_i2 = (u32)(w2c_j2);
   w2c_j2 = i64_load(&instance->w2c_memory, (u64)(w2c_i2));
-  w2c_f71(instance, w2c_j0, w2c_j1, w2c_j2);
+  w2c_f72(instance, w2c_j0, w2c_j1, w2c_j2);
   w2c_j0 = w2c_l2;
   w2c_i0 = (u32)(w2c_j0);
   w2c_i0 = i32_load8_u(&instance->w2c_memory, (u64)(w2c_i0) + 112u);
@@ -21671,7 +21672,7 @@ static void w2c_f13(Z_hidreport_instance_t* instance, u64 w2c_p0, u64 w2c_p1) {
   w2c_j2 += w2c_j3;
   w2c_i2 = (u32)(w2c_j2);
   w2c_j2 = i64_load(&instance->w2c_memory, (u64)(w2c_i2));
-  w2c_f71(instance, w2c_j0, w2c_j1, w2c_j2);
+  w2c_f72(instance, w2c_j0, w2c_j1, w2c_j2);
   w2c_j0 = w2c_l2;
   w2c_j1 = 112ull;
   w2c_j0 += w2c_j1;
@@ -21684,14 +21685,14 @@ static void w2c_f13(Z_hidreport_instance_t* instance, u64 w2c_p0, u64 w2c_p1) {
   w2c_i0 = !(w2c_i0);
   if (w2c_i0) {goto w2c_B1;}
   w2c_j0 = w2c_p1;
-  w2c_f72(instance, w2c_j0);
+  w2c_f73(instance, w2c_j0);
   w2c_B3:;
   w2c_j0 = w2c_l2;
   w2c_j1 = 144ull;
   w2c_j0 += w2c_j1;
   w2c_j1 = 8ull;
   w2c_j0 += w2c_j1;
-  w2c_f72(instance, w2c_j0);
+  w2c_f73(instance, w2c_j0);
   w2c_B2:;
   w2c_j0 = w2c_p0;
   w2c_i0 = (u32)(w2c_j0);
@@ -21964,17 +21965,17 @@ static void w2c_f14(Z_hidreport_instance_t* instance, u64 w2c_p0) {
 }
 
 static void w2c_f15(Z_hidreport_instance_t* instance, u64 w2c_p0, u64 w2c_p1, u64 w2c_p2, u32 w2c_p3, u64 w2c_p4, u32 w2c_p5, u64 w2c_p6) {
-  u32 w2c_l30 = 0, w2c_l31 = 0, w2c_l32 = 0, w2c_l33 = 0, w2c_l34 = 0, w2c_l35 = 0, w2c_l36 = 0, w2c_l37 = 0, 
-      w2c_l38 = 0, w2c_l39 = 0, w2c_l40 = 0, w2c_l41 = 0, w2c_l42 = 0, w2c_l43 = 0, w2c_l44 = 0, w2c_l45 = 0, 
-      w2c_l46 = 0, w2c_l47 = 0;
+  u32 w2c_l31 = 0, w2c_l32 = 0, w2c_l33 = 0, w2c_l34 = 0, w2c_l35 = 0, w2c_l36 = 0, w2c_l37 = 0, w2c_l38 = 0, 
+      w2c_l39 = 0, w2c_l40 = 0, w2c_l41 = 0, w2c_l42 = 0, w2c_l43 = 0, w2c_l44 = 0, w2c_l45 = 0, w2c_l46 = 0, 
+      w2c_l47 = 0, w2c_l48 = 0, w2c_l49 = 0, w2c_l50 = 0, w2c_l51 = 0;
   u64 w2c_l7 = 0, w2c_l8 = 0, w2c_l9 = 0, w2c_l10 = 0, w2c_l11 = 0, w2c_l12 = 0, w2c_l13 = 0, w2c_l14 = 0, 
       w2c_l15 = 0, w2c_l16 = 0, w2c_l17 = 0, w2c_l18 = 0, w2c_l19 = 0, w2c_l20 = 0, w2c_l21 = 0, w2c_l22 = 0, 
-      w2c_l23 = 0, w2c_l24 = 0, w2c_l25 = 0, w2c_l26 = 0, w2c_l27 = 0, w2c_l28 = 0, w2c_l29 = 0;
+      w2c_l23 = 0, w2c_l24 = 0, w2c_l25 = 0, w2c_l26 = 0, w2c_l27 = 0, w2c_l28 = 0, w2c_l29 = 0, w2c_l30 = 0;
   FUNC_PROLOGUE;
   u32 w2c_i0, w2c_i1, w2c_i2, w2c_i3, w2c_i4, w2c_i5;
   u64 w2c_j0, w2c_j1, w2c_j2, w2c_j3, w2c_j4, w2c_j5;
   w2c_j0 = instance->w2c_g0;
-  w2c_j1 = 12896ull;
+  w2c_j1 = 12928ull;
   w2c_j0 -= w2c_j1;
   w2c_l7 = w2c_j0;
   instance->w2c_g0 = w2c_j0;
@@ -22177,13 +22178,13 @@ static void w2c_f15(Z_hidreport_instance_t* instance, u64 w2c_p0, u64 w2c_p1, u6
   w2c_j0 = w2c_l7;
   w2c_i0 = (u32)(w2c_j0);
   w2c_j1 = w2c_l7;
-  w2c_j2 = 12888ull;
+  w2c_j2 = 12920ull;
   w2c_j1 += w2c_j2;
   i64_store(&instance->w2c_memory, (u64)(w2c_i0) + 264, w2c_j1);
   w2c_j0 = w2c_l7;
   w2c_i0 = (u32)(w2c_j0);
   w2c_j1 = w2c_l7;
-  w2c_j2 = 12888ull;
+  w2c_j2 = 12920ull;
   w2c_j1 += w2c_j2;
   i64_store(&instance->w2c_memory, (u64)(w2c_i0) + 288, w2c_j1);
   w2c_j0 = w2c_l7;
@@ -22197,7 +22198,7 @@ static void w2c_f15(Z_hidreport_instance_t* instance, u64 w2c_p0, u64 w2c_p1, u6
   w2c_j0 = w2c_l7;
   w2c_i0 = (u32)(w2c_j0);
   w2c_j1 = w2c_l7;
-  w2c_j2 = 12888ull;
+  w2c_j2 = 12920ull;
   w2c_j1 += w2c_j2;
   i64_store(&instance->w2c_memory, (u64)(w2c_i0) + 12600, w2c_j1);
   w2c_j0 = w2c_l7;
@@ -22234,22 +22235,36 @@ static void w2c_f15(Z_hidreport_instance_t* instance, u64 w2c_p0, u64 w2c_p1, u6
   i64_store(&instance->w2c_memory, (u64)(w2c_i0) + 12832, w2c_j1);
   w2c_j0 = w2c_l7;
   w2c_i0 = (u32)(w2c_j0);
+  w2c_j1 = 0ull;
+  i64_store(&instance->w2c_memory, (u64)(w2c_i0) + 12848, w2c_j1);
+  w2c_j0 = w2c_l7;
+  w2c_i0 = (u32)(w2c_j0);
+  w2c_j1 = 0ull;
+  i64_store(&instance->w2c_memory, (u64)(w2c_i0) + 12856, w2c_j1);
+  w2c_j0 = w2c_l7;
+  w2c_i0 = (u32)(w2c_j0);
   w2c_j1 = w2c_l7;
-  w2c_j2 = 12888ull;
+  w2c_j2 = 12920ull;
   w2c_j1 += w2c_j2;
   i64_store(&instance->w2c_memory, (u64)(w2c_i0) + 12768, w2c_j1);
   w2c_j0 = w2c_l7;
   w2c_i0 = (u32)(w2c_j0);
   w2c_j1 = w2c_l7;
-  w2c_j2 = 12888ull;
+  w2c_j2 = 12920ull;
   w2c_j1 += w2c_j2;
   i64_store(&instance->w2c_memory, (u64)(w2c_i0) + 12792, w2c_j1);
   w2c_j0 = w2c_l7;
   w2c_i0 = (u32)(w2c_j0);
   w2c_j1 = w2c_l7;
-  w2c_j2 = 12888ull;
+  w2c_j2 = 12920ull;
   w2c_j1 += w2c_j2;
   i64_store(&instance->w2c_memory, (u64)(w2c_i0) + 12816, w2c_j1);
+  w2c_j0 = w2c_l7;
+  w2c_i0 = (u32)(w2c_j0);
+  w2c_j1 = w2c_l7;
+  w2c_j2 = 12920ull;
+  w2c_j1 += w2c_j2;
+  i64_store(&instance->w2c_memory, (u64)(w2c_i0) + 12840, w2c_j1);
   w2c_j0 = w2c_p2;
   w2c_j1 = 0ull;
   w2c_i0 = w2c_j0 != w2c_j1;
@@ -22259,34 +22274,38 @@ static void w2c_f15(Z_hidreport_instance_t* instance, u64 w2c_p0, u64 w2c_p1, u6
   w2c_j0 = 7ull;
   w2c_l9 = w2c_j0;
   w2c_i0 = 1u;
-  w2c_l30 = w2c_i0;
+  w2c_l31 = w2c_i0;
   w2c_j0 = 0ull;
   w2c_l10 = w2c_j0;
   w2c_j0 = w2c_l7;
-  w2c_j1 = 12888ull;
+  w2c_j1 = 12920ull;
   w2c_j0 += w2c_j1;
   w2c_l11 = w2c_j0;
   w2c_l12 = w2c_j0;
   w2c_i0 = 1u;
   w2c_p5 = w2c_i0;
   w2c_i0 = 1u;
-  w2c_l31 = w2c_i0;
+  w2c_l32 = w2c_i0;
   w2c_j0 = w2c_l11;
   w2c_l13 = w2c_j0;
   w2c_i0 = 1u;
-  w2c_l32 = w2c_i0;
+  w2c_l33 = w2c_i0;
   w2c_j0 = w2c_l11;
   w2c_l14 = w2c_j0;
   w2c_i0 = 1u;
-  w2c_l33 = w2c_i0;
+  w2c_l34 = w2c_i0;
   w2c_j0 = w2c_l11;
   w2c_l15 = w2c_j0;
   w2c_i0 = 1u;
-  w2c_l34 = w2c_i0;
+  w2c_l35 = w2c_i0;
   w2c_j0 = w2c_l11;
   w2c_l16 = w2c_j0;
   w2c_i0 = 1u;
-  w2c_l35 = w2c_i0;
+  w2c_l36 = w2c_i0;
+  w2c_j0 = w2c_l11;
+  w2c_l17 = w2c_j0;
+  w2c_i0 = 1u;
+  w2c_l37 = w2c_i0;
   goto w2c_B4;
   w2c_B5:;
   w2c_j0 = w2c_l7;
@@ -22308,11 +22327,11 @@ static void w2c_f15(Z_hidreport_instance_t* instance, u64 w2c_p0, u64 w2c_p1, u6
   w2c_j0 += w2c_j1;
   w2c_l18 = w2c_j0;
   w2c_j0 = w2c_l7;
-  w2c_j1 = 288ull;
+  w2c_j1 = 12768ull;
   w2c_j0 += w2c_j1;
   w2c_l19 = w2c_j0;
   w2c_j0 = w2c_l7;
-  w2c_j1 = 12792ull;
+  w2c_j1 = 288ull;
   w2c_j0 += w2c_j1;
   w2c_l20 = w2c_j0;
   w2c_j0 = w2c_l7;
@@ -22320,19 +22339,23 @@ static void w2c_f15(Z_hidreport_instance_t* instance, u64 w2c_p0, u64 w2c_p1, u6
   w2c_j0 += w2c_j1;
   w2c_l21 = w2c_j0;
   w2c_j0 = w2c_l7;
-  w2c_j1 = 12768ull;
+  w2c_j1 = 12840ull;
   w2c_j0 += w2c_j1;
   w2c_l22 = w2c_j0;
   w2c_j0 = w2c_l7;
-  w2c_j1 = 12600ull;
+  w2c_j1 = 12792ull;
   w2c_j0 += w2c_j1;
   w2c_l23 = w2c_j0;
+  w2c_j0 = w2c_l7;
+  w2c_j1 = 12600ull;
+  w2c_j0 += w2c_j1;
+  w2c_l24 = w2c_j0;
   w2c_j0 = w2c_p1;
   w2c_l8 = w2c_j0;
   w2c_j0 = w2c_p2;
   w2c_p6 = w2c_j0;
   w2c_j0 = w2c_p2;
-  w2c_l24 = w2c_j0;
+  w2c_l25 = w2c_j0;
   w2c_L8: 
     w2c_j0 = w2c_p6;
     w2c_i0 = !(w2c_j0);
@@ -22341,14 +22364,14 @@ static void w2c_f15(Z_hidreport_instance_t* instance, u64 w2c_p0, u64 w2c_p1, u6
     w2c_j1 = w2c_p2;
     w2c_j2 = w2c_p6;
     w2c_j1 -= w2c_j2;
-    w2c_l25 = w2c_j1;
-    w2c_j2 = w2c_l25;
+    w2c_l26 = w2c_j1;
+    w2c_j2 = w2c_l26;
     w2c_j3 = w2c_p2;
     w2c_i2 = w2c_j2 > w2c_j3;
     w2c_j0 = w2c_i2 ? w2c_j0 : w2c_j1;
     w2c_l10 = w2c_j0;
     w2c_i0 = 1u;
-    w2c_l36 = w2c_i0;
+    w2c_l38 = w2c_i0;
     w2c_j0 = w2c_p6;
     w2c_j1 = 18446744073709551615ull;
     w2c_j0 += w2c_j1;
@@ -22357,42 +22380,42 @@ static void w2c_f15(Z_hidreport_instance_t* instance, u64 w2c_p0, u64 w2c_p1, u6
     w2c_j2 = w2c_l8;
     w2c_i2 = (u32)(w2c_j2);
     w2c_i2 = i32_load8_u(&instance->w2c_memory, (u64)(w2c_i2));
-    w2c_l32 = w2c_i2;
+    w2c_l33 = w2c_i2;
     w2c_i3 = 3u;
     w2c_i2 &= w2c_i3;
     w2c_p5 = w2c_i2;
     w2c_i3 = w2c_p5;
     w2c_i4 = 3u;
     w2c_i3 = w2c_i3 == w2c_i4;
-    w2c_l37 = w2c_i3;
+    w2c_l39 = w2c_i3;
     w2c_i1 = w2c_i3 ? w2c_i1 : w2c_i2;
-    w2c_l38 = w2c_i1;
+    w2c_l40 = w2c_i1;
     w2c_j1 = (u64)(w2c_i1);
     w2c_l9 = w2c_j1;
     w2c_i0 = w2c_j0 >= w2c_j1;
     if (w2c_i0) {goto w2c_B9;}
     w2c_i0 = 1u;
-    w2c_l39 = w2c_i0;
+    w2c_l41 = w2c_i0;
     goto w2c_B6;
     w2c_B9:;
-    w2c_i0 = w2c_l32;
+    w2c_i0 = w2c_l33;
     w2c_i1 = 239u;
     w2c_i0 = w2c_i0 <= w2c_i1;
     if (w2c_i0) {goto w2c_B10;}
     w2c_i0 = 2u;
-    w2c_l39 = w2c_i0;
+    w2c_l41 = w2c_i0;
     goto w2c_B6;
     w2c_B10:;
     w2c_j0 = w2c_l8;
     w2c_j1 = 1ull;
     w2c_j0 += w2c_j1;
-    w2c_l26 = w2c_j0;
-    w2c_i0 = w2c_l32;
+    w2c_l27 = w2c_j0;
+    w2c_i0 = w2c_l33;
     w2c_i1 = 252u;
     w2c_i0 &= w2c_i1;
-    w2c_l35 = w2c_i0;
+    w2c_l36 = w2c_i0;
     w2c_i0 = w2c_p5;
-    w2c_l31 = w2c_i0;
+    w2c_l32 = w2c_i0;
     w2c_i0 = w2c_p5;
     switch (w2c_i0) {
       case 0: goto w2c_B11;
@@ -22400,38 +22423,38 @@ static void w2c_f15(Z_hidreport_instance_t* instance, u64 w2c_p0, u64 w2c_p1, u6
       default: goto w2c_B12;
     }
     w2c_B13:;
-    w2c_j0 = w2c_l26;
+    w2c_j0 = w2c_l27;
     w2c_i0 = (u32)(w2c_j0);
     w2c_i0 = i32_load8_u(&instance->w2c_memory, (u64)(w2c_i0));
-    w2c_l31 = w2c_i0;
+    w2c_l32 = w2c_i0;
     goto w2c_B11;
     w2c_B12:;
-    w2c_i0 = w2c_l38;
+    w2c_i0 = w2c_l40;
     w2c_i1 = 2u;
     w2c_i0 = w2c_i0 > w2c_i1;
     if (w2c_i0) {goto w2c_B14;}
-    w2c_j0 = w2c_l26;
+    w2c_j0 = w2c_l27;
     w2c_i0 = (u32)(w2c_j0);
     w2c_i0 = i32_load16_u(&instance->w2c_memory, (u64)(w2c_i0));
-    w2c_l31 = w2c_i0;
+    w2c_l32 = w2c_i0;
     goto w2c_B11;
     w2c_B14:;
-    w2c_j0 = w2c_l26;
+    w2c_j0 = w2c_l27;
     w2c_i0 = (u32)(w2c_j0);
     w2c_i0 = i32_load(&instance->w2c_memory, (u64)(w2c_i0));
-    w2c_l31 = w2c_i0;
+    w2c_l32 = w2c_i0;
     w2c_B11:;
     w2c_i0 = 9u;
-    w2c_l39 = w2c_i0;
+    w2c_l41 = w2c_i0;
     w2c_i0 = 6u;
+    w2c_l35 = w2c_i0;
+    w2c_i0 = 0u;
+    w2c_l37 = w2c_i0;
+    w2c_i0 = 0u;
+    w2c_l31 = w2c_i0;
+    w2c_i0 = w2c_l32;
     w2c_l34 = w2c_i0;
-    w2c_i0 = 0u;
-    w2c_l30 = w2c_i0;
-    w2c_i0 = 0u;
-    w2c_l40 = w2c_i0;
-    w2c_i0 = w2c_l31;
-    w2c_l33 = w2c_i0;
-    w2c_i0 = w2c_l35;
+    w2c_i0 = w2c_l36;
     w2c_i1 = 4294967292u;
     w2c_i0 += w2c_i1;
     switch (w2c_i0) {
@@ -22672,15 +22695,15 @@ static void w2c_f15(Z_hidreport_instance_t* instance, u64 w2c_p0, u64 w2c_p1, u6
     goto w2c_B15;
     w2c_B66:;
     w2c_i0 = 2u;
-    w2c_l30 = w2c_i0;
+    w2c_l37 = w2c_i0;
     goto w2c_B45;
     w2c_B65:;
     w2c_i0 = 4u;
+    w2c_l35 = w2c_i0;
+    w2c_i0 = w2c_p5;
+    w2c_l31 = w2c_i0;
+    w2c_i0 = w2c_p5;
     w2c_l34 = w2c_i0;
-    w2c_i0 = w2c_p5;
-    w2c_l40 = w2c_i0;
-    w2c_i0 = w2c_p5;
-    w2c_l33 = w2c_i0;
     w2c_i0 = w2c_p5;
     switch (w2c_i0) {
       case 0: goto w2c_B31;
@@ -22688,18 +22711,18 @@ static void w2c_f15(Z_hidreport_instance_t* instance, u64 w2c_p0, u64 w2c_p1, u6
       default: goto w2c_B68;
     }
     w2c_B68:;
-    w2c_i0 = w2c_l38;
+    w2c_i0 = w2c_l40;
     w2c_i1 = 2u;
     w2c_i0 = w2c_i0 > w2c_i1;
     if (w2c_i0) {goto w2c_B55;}
     goto w2c_B33;
     w2c_B64:;
     w2c_i0 = 5u;
-    w2c_l34 = w2c_i0;
-    w2c_i0 = w2c_l31;
-    w2c_l40 = w2c_i0;
+    w2c_l35 = w2c_i0;
+    w2c_i0 = w2c_l32;
+    w2c_l31 = w2c_i0;
     w2c_i0 = w2c_p5;
-    w2c_l33 = w2c_i0;
+    w2c_l34 = w2c_i0;
     w2c_i0 = w2c_p5;
     switch (w2c_i0) {
       case 0: goto w2c_B31;
@@ -22707,18 +22730,18 @@ static void w2c_f15(Z_hidreport_instance_t* instance, u64 w2c_p0, u64 w2c_p1, u6
       default: goto w2c_B69;
     }
     w2c_B69:;
-    w2c_i0 = w2c_l38;
+    w2c_i0 = w2c_l40;
     w2c_i1 = 2u;
     w2c_i0 = w2c_i0 > w2c_i1;
     if (w2c_i0) {goto w2c_B59;}
     goto w2c_B34;
     w2c_B63:;
     w2c_i0 = 7u;
+    w2c_l35 = w2c_i0;
+    w2c_i0 = w2c_p5;
+    w2c_l31 = w2c_i0;
+    w2c_i0 = w2c_p5;
     w2c_l34 = w2c_i0;
-    w2c_i0 = w2c_p5;
-    w2c_l40 = w2c_i0;
-    w2c_i0 = w2c_p5;
-    w2c_l33 = w2c_i0;
     w2c_i0 = w2c_p5;
     switch (w2c_i0) {
       case 0: goto w2c_B31;
@@ -22726,18 +22749,18 @@ static void w2c_f15(Z_hidreport_instance_t* instance, u64 w2c_p0, u64 w2c_p1, u6
       default: goto w2c_B70;
     }
     w2c_B70:;
-    w2c_i0 = w2c_l38;
+    w2c_i0 = w2c_l40;
     w2c_i1 = 2u;
     w2c_i0 = w2c_i0 <= w2c_i1;
     if (w2c_i0) {goto w2c_B33;}
     goto w2c_B55;
     w2c_B62:;
     w2c_i0 = 8u;
-    w2c_l34 = w2c_i0;
-    w2c_i0 = w2c_l31;
-    w2c_l40 = w2c_i0;
+    w2c_l35 = w2c_i0;
+    w2c_i0 = w2c_l32;
+    w2c_l31 = w2c_i0;
     w2c_i0 = w2c_p5;
-    w2c_l33 = w2c_i0;
+    w2c_l34 = w2c_i0;
     w2c_i0 = w2c_p5;
     switch (w2c_i0) {
       case 0: goto w2c_B31;
@@ -22745,33 +22768,33 @@ static void w2c_f15(Z_hidreport_instance_t* instance, u64 w2c_p0, u64 w2c_p1, u6
       default: goto w2c_B60;
     }
     w2c_B61:;
-    w2c_j0 = w2c_l26;
+    w2c_j0 = w2c_l27;
     w2c_i0 = (u32)(w2c_j0);
     w2c_i0 = i32_load8_s(&instance->w2c_memory, (u64)(w2c_i0));
-    w2c_l33 = w2c_i0;
-    w2c_i0 = w2c_l31;
-    w2c_l40 = w2c_i0;
+    w2c_l34 = w2c_i0;
+    w2c_i0 = w2c_l32;
+    w2c_l31 = w2c_i0;
     goto w2c_B31;
     w2c_B60:;
-    w2c_i0 = w2c_l38;
+    w2c_i0 = w2c_l40;
     w2c_i1 = 2u;
     w2c_i0 = w2c_i0 <= w2c_i1;
     if (w2c_i0) {goto w2c_B34;}
     w2c_B59:;
-    w2c_j0 = w2c_l26;
+    w2c_j0 = w2c_l27;
     w2c_i0 = (u32)(w2c_j0);
     w2c_i0 = i32_load(&instance->w2c_memory, (u64)(w2c_i0));
-    w2c_l33 = w2c_i0;
-    w2c_i0 = w2c_l31;
-    w2c_l40 = w2c_i0;
+    w2c_l34 = w2c_i0;
+    w2c_i0 = w2c_l32;
+    w2c_l31 = w2c_i0;
     goto w2c_B31;
     w2c_B58:;
     w2c_i0 = 9u;
+    w2c_l35 = w2c_i0;
+    w2c_i0 = w2c_p5;
+    w2c_l31 = w2c_i0;
+    w2c_i0 = w2c_p5;
     w2c_l34 = w2c_i0;
-    w2c_i0 = w2c_p5;
-    w2c_l40 = w2c_i0;
-    w2c_i0 = w2c_p5;
-    w2c_l33 = w2c_i0;
     w2c_i0 = w2c_p5;
     switch (w2c_i0) {
       case 0: goto w2c_B31;
@@ -22779,38 +22802,38 @@ static void w2c_f15(Z_hidreport_instance_t* instance, u64 w2c_p0, u64 w2c_p1, u6
       default: goto w2c_B56;
     }
     w2c_B57:;
-    w2c_j0 = w2c_l26;
+    w2c_j0 = w2c_l27;
     w2c_i0 = (u32)(w2c_j0);
     w2c_i0 = i32_load8_s(&instance->w2c_memory, (u64)(w2c_i0));
-    w2c_l33 = w2c_i0;
+    w2c_l34 = w2c_i0;
     goto w2c_B32;
     w2c_B56:;
-    w2c_i0 = w2c_l38;
+    w2c_i0 = w2c_l40;
     w2c_i1 = 2u;
     w2c_i0 = w2c_i0 <= w2c_i1;
     if (w2c_i0) {goto w2c_B33;}
     w2c_B55:;
-    w2c_j0 = w2c_l26;
+    w2c_j0 = w2c_l27;
     w2c_i0 = (u32)(w2c_j0);
     w2c_i0 = i32_load(&instance->w2c_memory, (u64)(w2c_i0));
-    w2c_l33 = w2c_i0;
+    w2c_l34 = w2c_i0;
     goto w2c_B32;
     w2c_B54:;
     w2c_i0 = 10u;
-    w2c_l34 = w2c_i0;
+    w2c_l35 = w2c_i0;
     goto w2c_B35;
     w2c_B53:;
     w2c_i0 = 0u;
-    w2c_l40 = w2c_i0;
+    w2c_l31 = w2c_i0;
     w2c_i0 = 0u;
     w2c_i1 = 18u;
-    w2c_i2 = w2c_l32;
+    w2c_i2 = w2c_l33;
     w2c_i3 = 12u;
     w2c_i2 &= w2c_i3;
     w2c_i0 = w2c_i2 ? w2c_i0 : w2c_i1;
-    w2c_l34 = w2c_i0;
+    w2c_l35 = w2c_i0;
     w2c_i0 = 0u;
-    w2c_l33 = w2c_i0;
+    w2c_l34 = w2c_i0;
     goto w2c_B31;
     w2c_B52:;
     w2c_j0 = w2c_l7;
@@ -22820,7 +22843,7 @@ static void w2c_f15(Z_hidreport_instance_t* instance, u64 w2c_p0, u64 w2c_p1, u6
     w2c_i0 = w2c_j0 > w2c_j1;
     if (w2c_i0) {goto w2c_B37;}
     w2c_i0 = 2u;
-    w2c_l34 = w2c_i0;
+    w2c_l35 = w2c_i0;
     goto w2c_B36;
     w2c_B51:;
     w2c_j0 = w2c_l7;
@@ -22829,11 +22852,11 @@ static void w2c_f15(Z_hidreport_instance_t* instance, u64 w2c_p0, u64 w2c_p1, u6
     w2c_i0 = !(w2c_j0);
     if (w2c_i0) {goto w2c_B71;}
     w2c_i0 = 3u;
-    w2c_l34 = w2c_i0;
+    w2c_l35 = w2c_i0;
     goto w2c_B36;
     w2c_B71:;
     w2c_i0 = 4u;
-    w2c_l39 = w2c_i0;
+    w2c_l41 = w2c_i0;
     goto w2c_B6;
     w2c_B50:;
     w2c_j0 = w2c_l7;
@@ -22842,64 +22865,64 @@ static void w2c_f15(Z_hidreport_instance_t* instance, u64 w2c_p0, u64 w2c_p1, u6
     w2c_i0 = !(w2c_j0);
     if (w2c_i0) {goto w2c_B72;}
     w2c_i0 = 16u;
-    w2c_l34 = w2c_i0;
+    w2c_l35 = w2c_i0;
     goto w2c_B36;
     w2c_B72:;
     w2c_i0 = 5u;
-    w2c_l39 = w2c_i0;
+    w2c_l41 = w2c_i0;
     goto w2c_B6;
     w2c_B49:;
-    w2c_i0 = w2c_l31;
+    w2c_i0 = w2c_l32;
     w2c_i1 = 256u;
     w2c_i0 = w2c_i0 > w2c_i1;
     if (w2c_i0) {goto w2c_B73;}
     w2c_i0 = 11u;
-    w2c_l34 = w2c_i0;
+    w2c_l35 = w2c_i0;
     goto w2c_B35;
     w2c_B73:;
     w2c_i0 = 6u;
-    w2c_l39 = w2c_i0;
+    w2c_l41 = w2c_i0;
     goto w2c_B6;
     w2c_B48:;
-    w2c_i0 = w2c_l31;
+    w2c_i0 = w2c_l32;
     w2c_i1 = 12288u;
     w2c_i0 = w2c_i0 > w2c_i1;
     if (w2c_i0) {goto w2c_B74;}
     w2c_i0 = 12u;
-    w2c_l34 = w2c_i0;
+    w2c_l35 = w2c_i0;
     goto w2c_B35;
     w2c_B74:;
     w2c_i0 = 7u;
-    w2c_l39 = w2c_i0;
+    w2c_l41 = w2c_i0;
     goto w2c_B6;
     w2c_B47:;
-    w2c_i0 = w2c_l31;
+    w2c_i0 = w2c_l32;
     w2c_i1 = 4294967040u;
     w2c_i0 += w2c_i1;
     w2c_i1 = 4294967041u;
     w2c_i0 = w2c_i0 < w2c_i1;
     if (w2c_i0) {goto w2c_B75;}
     w2c_i0 = 13u;
-    w2c_l34 = w2c_i0;
+    w2c_l35 = w2c_i0;
     goto w2c_B35;
     w2c_B75:;
     w2c_i0 = 8u;
-    w2c_l39 = w2c_i0;
+    w2c_l41 = w2c_i0;
     goto w2c_B6;
     w2c_B46:;
     w2c_i0 = 1u;
-    w2c_l30 = w2c_i0;
+    w2c_l37 = w2c_i0;
     w2c_B45:;
     w2c_j0 = w2c_l7;
     w2c_i0 = (u32)(w2c_j0);
     w2c_i0 = i32_load(&instance->w2c_memory, (u64)(w2c_i0) + 228u);
-    w2c_l32 = w2c_i0;
+    w2c_l33 = w2c_i0;
     w2c_j1 = w2c_l7;
     w2c_i1 = (u32)(w2c_j1);
     w2c_i1 = i32_load(&instance->w2c_memory, (u64)(w2c_i1) + 224u);
     w2c_p5 = w2c_i1;
     w2c_i0 = (u32)((s32)w2c_i0 < (s32)w2c_i1);
-    w2c_i1 = w2c_l32;
+    w2c_i1 = w2c_l33;
     w2c_i2 = w2c_p5;
     w2c_i1 = w2c_i1 < w2c_i2;
     w2c_i2 = w2c_p5;
@@ -22909,7 +22932,7 @@ static void w2c_f15(Z_hidreport_instance_t* instance, u64 w2c_p0, u64 w2c_p1, u6
     w2c_i0 = !(w2c_i0);
     if (w2c_i0) {goto w2c_B76;}
     w2c_i0 = 14u;
-    w2c_l39 = w2c_i0;
+    w2c_l41 = w2c_i0;
     goto w2c_B6;
     w2c_B76:;
     w2c_i0 = 4294967295u;
@@ -22921,13 +22944,13 @@ static void w2c_f15(Z_hidreport_instance_t* instance, u64 w2c_p0, u64 w2c_p1, u6
     w2c_j3 = w2c_l7;
     w2c_i3 = (u32)(w2c_j3);
     w2c_i3 = i32_load(&instance->w2c_memory, (u64)(w2c_i3) + 248u);
-    w2c_l32 = w2c_i3;
+    w2c_l33 = w2c_i3;
     w2c_i2 *= w2c_i3;
-    w2c_l33 = w2c_i2;
+    w2c_l34 = w2c_i2;
     w2c_j3 = w2c_l7;
     w2c_j4 = 224ull;
     w2c_j3 += w2c_j4;
-    w2c_i4 = w2c_l30;
+    w2c_i4 = w2c_l37;
     w2c_j4 = (u64)(w2c_i4);
     w2c_j5 = 12ull;
     w2c_j4 <<= (w2c_j5 & 63);
@@ -22935,7 +22958,7 @@ static void w2c_f15(Z_hidreport_instance_t* instance, u64 w2c_p0, u64 w2c_p1, u6
     w2c_j4 = w2c_l7;
     w2c_i4 = (u32)(w2c_j4);
     w2c_i4 = i32_load(&instance->w2c_memory, (u64)(w2c_i4) + 256u);
-    w2c_l40 = w2c_i4;
+    w2c_l31 = w2c_i4;
     w2c_i5 = 4u;
     w2c_i4 <<= (w2c_i5 & 31);
     w2c_i5 = 4080u;
@@ -22947,43 +22970,43 @@ static void w2c_f15(Z_hidreport_instance_t* instance, u64 w2c_p0, u64 w2c_p1, u6
     w2c_j3 += w2c_j4;
     w2c_i3 = (u32)(w2c_j3);
     w2c_i3 = i32_load(&instance->w2c_memory, (u64)(w2c_i3));
-    w2c_l34 = w2c_i3;
+    w2c_l35 = w2c_i3;
     w2c_i2 += w2c_i3;
-    w2c_l35 = w2c_i2;
-    w2c_i3 = w2c_l35;
-    w2c_i4 = w2c_l33;
+    w2c_l36 = w2c_i2;
+    w2c_i3 = w2c_l36;
+    w2c_i4 = w2c_l34;
     w2c_i3 = w2c_i3 < w2c_i4;
     w2c_i1 = w2c_i3 ? w2c_i1 : w2c_i2;
     w2c_i2 = w2c_p5;
     w2c_j2 = (u64)(w2c_i2);
-    w2c_i3 = w2c_l32;
+    w2c_i3 = w2c_l33;
     w2c_j3 = (u64)(w2c_i3);
     w2c_j2 *= w2c_j3;
     w2c_j3 = 32ull;
     w2c_j2 >>= (w2c_j3 & 63);
     w2c_i2 = (u32)(w2c_j2);
     w2c_i0 = w2c_i2 ? w2c_i0 : w2c_i1;
-    w2c_i1 = w2c_l34;
+    w2c_i1 = w2c_l35;
     w2c_i2 = w2c_p5;
     w2c_i0 = w2c_i2 ? w2c_i0 : w2c_i1;
     w2c_i1 = 131064u;
     w2c_i0 = w2c_i0 <= w2c_i1;
     if (w2c_i0) {goto w2c_B30;}
     w2c_i0 = 15u;
-    w2c_l39 = w2c_i0;
+    w2c_l41 = w2c_i0;
     goto w2c_B6;
     w2c_B44:;
     w2c_j0 = w2c_l7;
     w2c_i0 = (u32)(w2c_j0);
     w2c_i0 = i32_load8_u(&instance->w2c_memory, (u64)(w2c_i0) + 12636u);
-    w2c_i1 = w2c_l31;
+    w2c_i1 = w2c_l32;
     w2c_i2 = 0u;
     w2c_i1 = w2c_i1 != w2c_i2;
     w2c_p5 = w2c_i1;
     w2c_i0 = w2c_i0 != w2c_i1;
     if (w2c_i0) {goto w2c_B39;}
     w2c_i0 = 10u;
-    w2c_l39 = w2c_i0;
+    w2c_l41 = w2c_i0;
     goto w2c_B6;
     w2c_B43:;
     w2c_j0 = w2c_l7;
@@ -22999,7 +23022,7 @@ static void w2c_f15(Z_hidreport_instance_t* instance, u64 w2c_p0, u64 w2c_p1, u6
     w2c_i0 = w2c_i0 <= w2c_i1;
     if (w2c_i0) {goto w2c_B41;}
     w2c_i0 = 13u;
-    w2c_l39 = w2c_i0;
+    w2c_l41 = w2c_i0;
     goto w2c_B6;
     w2c_B42:;
     w2c_j0 = w2c_l7;
@@ -23015,71 +23038,71 @@ static void w2c_f15(Z_hidreport_instance_t* instance, u64 w2c_p0, u64 w2c_p1, u6
     w2c_j1 = w2c_l7;
     w2c_i1 = (u32)(w2c_j1);
     w2c_i1 = i32_load(&instance->w2c_memory, (u64)(w2c_i1) + 12624u);
-    w2c_l33 = w2c_i1;
+    w2c_l34 = w2c_i1;
     w2c_i0 -= w2c_i1;
     w2c_i1 = 12287u;
     w2c_i0 += w2c_i1;
-    w2c_l35 = w2c_i0;
-    w2c_i1 = w2c_l31;
-    w2c_i2 = w2c_l33;
-    w2c_i3 = w2c_l31;
+    w2c_l36 = w2c_i0;
+    w2c_i1 = w2c_l32;
+    w2c_i2 = w2c_l34;
+    w2c_i3 = w2c_l32;
     w2c_i2 += w2c_i3;
     w2c_i3 = w2c_p5;
     w2c_i2 -= w2c_i3;
-    w2c_l34 = w2c_i2;
+    w2c_l35 = w2c_i2;
     w2c_i3 = 12287u;
     w2c_i2 = w2c_i2 > w2c_i3;
     w2c_i0 = w2c_i2 ? w2c_i0 : w2c_i1;
-    w2c_l32 = w2c_i0;
-    w2c_i0 = w2c_l34;
+    w2c_l33 = w2c_i0;
+    w2c_i0 = w2c_l35;
     w2c_i1 = 12288u;
     w2c_i0 = w2c_i0 < w2c_i1;
-    w2c_l34 = w2c_i0;
+    w2c_l35 = w2c_i0;
     if (w2c_i0) {goto w2c_B77;}
-    w2c_i0 = w2c_l32;
+    w2c_i0 = w2c_l33;
     if (w2c_i0) {goto w2c_B77;}
     w2c_i0 = 11u;
-    w2c_l39 = w2c_i0;
+    w2c_l41 = w2c_i0;
     goto w2c_B6;
     w2c_B77:;
-    w2c_i0 = w2c_l32;
+    w2c_i0 = w2c_l33;
     w2c_i1 = 4294967295u;
     w2c_i0 = w2c_i0 != w2c_i1;
     if (w2c_i0) {goto w2c_B78;}
     w2c_i0 = 12u;
-    w2c_l39 = w2c_i0;
+    w2c_l41 = w2c_i0;
     goto w2c_B6;
     w2c_B78:;
     w2c_j0 = 0ull;
-    w2c_i1 = w2c_l32;
+    w2c_i1 = w2c_l33;
     w2c_i2 = w2c_p5;
     w2c_i1 -= w2c_i2;
     w2c_j1 = (u64)(w2c_i1);
     w2c_j2 = 1ull;
     w2c_j1 += w2c_j2;
-    w2c_i2 = w2c_l32;
+    w2c_i2 = w2c_l33;
     w2c_i3 = w2c_p5;
     w2c_i2 = w2c_i2 < w2c_i3;
     w2c_j0 = w2c_i2 ? w2c_j0 : w2c_j1;
-    w2c_i1 = w2c_l33;
+    w2c_i1 = w2c_l34;
     w2c_j1 = (u64)(w2c_i1);
     w2c_j0 += w2c_j1;
     w2c_j1 = 12288ull;
     w2c_i0 = w2c_j0 <= w2c_j1;
     if (w2c_i0) {goto w2c_B79;}
     w2c_i0 = 13u;
-    w2c_l39 = w2c_i0;
+    w2c_l41 = w2c_i0;
     goto w2c_B6;
     w2c_B79:;
-    w2c_i0 = w2c_l37;
-    w2c_i1 = w2c_l31;
+    w2c_i0 = w2c_l39;
+    w2c_i1 = w2c_l32;
     w2c_i2 = 65536u;
     w2c_i1 = w2c_i1 < w2c_i2;
     w2c_i0 &= w2c_i1;
-    w2c_l32 = w2c_i0;
+    w2c_l33 = w2c_i0;
     w2c_i1 = 4294967295u;
     w2c_i0 ^= w2c_i1;
-    w2c_i1 = w2c_l31;
+    w2c_i1 = w2c_l32;
     w2c_i2 = w2c_p5;
     w2c_i1 = w2c_i1 >= w2c_i2;
     w2c_i0 &= w2c_i1;
@@ -23113,19 +23136,19 @@ static void w2c_f15(Z_hidreport_instance_t* instance, u64 w2c_p0, u64 w2c_p1, u6
     w2c_i1 = 1u;
     w2c_i2 = 2u;
     w2c_i3 = 0u;
-    w2c_i4 = w2c_l32;
+    w2c_i4 = w2c_l33;
     w2c_i2 = w2c_i4 ? w2c_i2 : w2c_i3;
-    w2c_i3 = w2c_l31;
+    w2c_i3 = w2c_l32;
     w2c_i4 = w2c_p5;
     w2c_i3 = w2c_i3 < w2c_i4;
     w2c_i1 = w2c_i3 ? w2c_i1 : w2c_i2;
     i32_store8(&instance->w2c_memory, (u64)(w2c_i0) + 12688, w2c_i1);
     w2c_B80:;
-    w2c_i0 = w2c_l31;
+    w2c_i0 = w2c_l32;
     w2c_i1 = w2c_p5;
     w2c_i0 = w2c_i0 < w2c_i1;
     if (w2c_i0) {goto w2c_B81;}
-    w2c_i0 = w2c_l34;
+    w2c_i0 = w2c_l35;
     if (w2c_i0) {goto w2c_B81;}
     w2c_j0 = w2c_l7;
     w2c_i0 = (u32)(w2c_j0);
@@ -23148,50 +23171,50 @@ static void w2c_f15(Z_hidreport_instance_t* instance, u64 w2c_p0, u64 w2c_p1, u6
     w2c_j1 = 1ull;
     i64_store(&instance->w2c_memory, (u64)(w2c_i0) + 12720, w2c_j1);
     w2c_B81:;
-    w2c_i0 = w2c_l31;
-    w2c_i1 = w2c_l35;
-    w2c_i2 = w2c_l34;
+    w2c_i0 = w2c_l32;
+    w2c_i1 = w2c_l36;
+    w2c_i2 = w2c_l35;
     w2c_i0 = w2c_i2 ? w2c_i0 : w2c_i1;
-    w2c_l32 = w2c_i0;
+    w2c_l33 = w2c_i0;
     w2c_i1 = w2c_p5;
     w2c_i0 = w2c_i0 < w2c_i1;
     if (w2c_i0) {goto w2c_B15;}
     w2c_i0 = 1u;
-    w2c_l33 = w2c_i0;
-    w2c_i0 = w2c_p5;
     w2c_l34 = w2c_i0;
-    w2c_i0 = w2c_l32;
+    w2c_i0 = w2c_p5;
     w2c_l35 = w2c_i0;
-    w2c_i0 = w2c_l37;
+    w2c_i0 = w2c_l33;
+    w2c_l36 = w2c_i0;
+    w2c_i0 = w2c_l39;
     if (w2c_i0) {goto w2c_B82;}
     w2c_j0 = w2c_l7;
     w2c_i0 = (u32)(w2c_j0);
     w2c_i0 = i32_load(&instance->w2c_memory, (u64)(w2c_i0) + 260u);
     w2c_i1 = 16u;
     w2c_i0 <<= (w2c_i1 & 31);
-    w2c_l33 = w2c_i0;
-    w2c_i1 = w2c_l32;
+    w2c_l34 = w2c_i0;
+    w2c_i1 = w2c_l33;
     w2c_i2 = 65535u;
     w2c_i1 &= w2c_i2;
     w2c_i0 |= w2c_i1;
-    w2c_l35 = w2c_i0;
-    w2c_i0 = w2c_l33;
+    w2c_l36 = w2c_i0;
+    w2c_i0 = w2c_l34;
     w2c_i1 = w2c_p5;
     w2c_i2 = 65535u;
     w2c_i1 &= w2c_i2;
     w2c_i0 |= w2c_i1;
-    w2c_l34 = w2c_i0;
+    w2c_l35 = w2c_i0;
     w2c_i0 = 0u;
-    w2c_l33 = w2c_i0;
+    w2c_l34 = w2c_i0;
     w2c_B82:;
     w2c_j0 = w2c_l7;
     w2c_i0 = (u32)(w2c_j0);
     w2c_i1 = 0u;
-    i32_store8(&instance->w2c_memory, (u64)(w2c_i0) + 12886, w2c_i1);
+    i32_store8(&instance->w2c_memory, (u64)(w2c_i0) + 12918, w2c_i1);
     w2c_j0 = w2c_l7;
     w2c_i0 = (u32)(w2c_j0);
     w2c_i1 = 0u;
-    i32_store16(&instance->w2c_memory, (u64)(w2c_i0) + 12884, w2c_i1);
+    i32_store16(&instance->w2c_memory, (u64)(w2c_i0) + 12916, w2c_i1);
     w2c_j0 = w2c_l7;
     w2c_i0 = (u32)(w2c_j0);
     w2c_j0 = i64_load(&instance->w2c_memory, (u64)(w2c_i0) + 12616u);
@@ -23201,7 +23224,7 @@ static void w2c_f15(Z_hidreport_instance_t* instance, u64 w2c_p0, u64 w2c_p1, u6
     w2c_l8 = w2c_j1;
     w2c_i0 = w2c_j0 != w2c_j1;
     if (w2c_i0) {goto w2c_B83;}
-    w2c_j0 = w2c_l23;
+    w2c_j0 = w2c_l24;
     w2c_i0 = w2c_f62(instance, w2c_j0);
     w2c_i0 = !(w2c_i0);
     if (w2c_i0) {goto w2c_B18;}
@@ -23219,27 +23242,27 @@ static void w2c_f15(Z_hidreport_instance_t* instance, u64 w2c_p0, u64 w2c_p1, u6
     w2c_j0 += w2c_j1;
     w2c_p6 = w2c_j0;
     w2c_i0 = (u32)(w2c_j0);
-    w2c_i1 = w2c_l33;
+    w2c_i1 = w2c_l34;
     i32_store8(&instance->w2c_memory, (u64)(w2c_i0) + 8, w2c_i1);
     w2c_j0 = w2c_p6;
     w2c_i0 = (u32)(w2c_j0);
-    w2c_i1 = w2c_l35;
+    w2c_i1 = w2c_l36;
     i32_store(&instance->w2c_memory, (u64)(w2c_i0) + 4, w2c_i1);
     w2c_j0 = w2c_p6;
     w2c_i0 = (u32)(w2c_j0);
-    w2c_i1 = w2c_l34;
+    w2c_i1 = w2c_l35;
     i32_store(&instance->w2c_memory, (u64)(w2c_i0), w2c_i1);
     w2c_j0 = w2c_p6;
     w2c_i0 = (u32)(w2c_j0);
     w2c_j1 = w2c_l7;
     w2c_i1 = (u32)(w2c_j1);
-    w2c_i1 = i32_load16_u(&instance->w2c_memory, (u64)(w2c_i1) + 12884u);
+    w2c_i1 = i32_load16_u(&instance->w2c_memory, (u64)(w2c_i1) + 12916u);
     i32_store16(&instance->w2c_memory, (u64)(w2c_i0) + 9, w2c_i1);
     w2c_j0 = w2c_p6;
     w2c_i0 = (u32)(w2c_j0);
     w2c_j1 = w2c_l7;
     w2c_i1 = (u32)(w2c_j1);
-    w2c_i1 = i32_load8_u(&instance->w2c_memory, (u64)(w2c_i1) + 12886u);
+    w2c_i1 = i32_load8_u(&instance->w2c_memory, (u64)(w2c_i1) + 12918u);
     i32_store8(&instance->w2c_memory, (u64)(w2c_i0) + 11, w2c_i1);
     w2c_j0 = w2c_l7;
     w2c_i0 = (u32)(w2c_j0);
@@ -23250,19 +23273,19 @@ static void w2c_f15(Z_hidreport_instance_t* instance, u64 w2c_p0, u64 w2c_p1, u6
     w2c_j0 = w2c_l7;
     w2c_i0 = (u32)(w2c_j0);
     w2c_i1 = 0u;
-    w2c_i2 = w2c_l31;
-    w2c_i3 = w2c_l32;
-    w2c_i2 -= w2c_i3;
-    w2c_l33 = w2c_i2;
+    w2c_i2 = w2c_l32;
     w2c_i3 = w2c_l33;
-    w2c_i4 = w2c_l31;
+    w2c_i2 -= w2c_i3;
+    w2c_l34 = w2c_i2;
+    w2c_i3 = w2c_l34;
+    w2c_i4 = w2c_l32;
     w2c_i3 = w2c_i3 > w2c_i4;
     w2c_i1 = w2c_i3 ? w2c_i1 : w2c_i2;
     i32_store(&instance->w2c_memory, (u64)(w2c_i0) + 12644, w2c_i1);
     w2c_j0 = w2c_l7;
     w2c_i0 = (u32)(w2c_j0);
     w2c_i1 = 4294967295u;
-    w2c_i2 = w2c_l32;
+    w2c_i2 = w2c_l33;
     w2c_i3 = w2c_p5;
     w2c_i2 -= w2c_i3;
     w2c_i3 = 1u;
@@ -23276,8 +23299,8 @@ static void w2c_f15(Z_hidreport_instance_t* instance, u64 w2c_p0, u64 w2c_p1, u6
     w2c_i3 = (u32)(w2c_j3);
     w2c_i3 = i32_load(&instance->w2c_memory, (u64)(w2c_i3) + 12624u);
     w2c_i2 += w2c_i3;
-    w2c_l31 = w2c_i2;
-    w2c_i3 = w2c_l31;
+    w2c_l32 = w2c_i2;
+    w2c_i3 = w2c_l32;
     w2c_i4 = w2c_p5;
     w2c_i3 = w2c_i3 < w2c_i4;
     w2c_i1 = w2c_i3 ? w2c_i1 : w2c_i2;
@@ -23291,19 +23314,19 @@ static void w2c_f15(Z_hidreport_instance_t* instance, u64 w2c_p0, u64 w2c_p1, u6
     w2c_j0 = w2c_l7;
     w2c_i0 = (u32)(w2c_j0);
     w2c_i1 = 0u;
-    i32_store8(&instance->w2c_memory, (u64)(w2c_i0) + 12882, w2c_i1);
+    i32_store8(&instance->w2c_memory, (u64)(w2c_i0) + 12914, w2c_i1);
     w2c_j0 = w2c_l7;
     w2c_i0 = (u32)(w2c_j0);
     w2c_i1 = 0u;
-    i32_store16(&instance->w2c_memory, (u64)(w2c_i0) + 12880, w2c_i1);
+    i32_store16(&instance->w2c_memory, (u64)(w2c_i0) + 12912, w2c_i1);
     w2c_j0 = w2c_l7;
     w2c_i0 = (u32)(w2c_j0);
     w2c_i1 = 0u;
-    i32_store8(&instance->w2c_memory, (u64)(w2c_i0) + 12842, w2c_i1);
+    i32_store8(&instance->w2c_memory, (u64)(w2c_i0) + 12874, w2c_i1);
     w2c_j0 = w2c_l7;
     w2c_i0 = (u32)(w2c_j0);
     w2c_i1 = 0u;
-    i32_store16(&instance->w2c_memory, (u64)(w2c_i0) + 12840, w2c_i1);
+    i32_store16(&instance->w2c_memory, (u64)(w2c_i0) + 12872, w2c_i1);
     w2c_j0 = w2c_l7;
     w2c_i0 = (u32)(w2c_j0);
     w2c_j0 = i64_load(&instance->w2c_memory, (u64)(w2c_i0) + 12616u);
@@ -23313,7 +23336,7 @@ static void w2c_f15(Z_hidreport_instance_t* instance, u64 w2c_p0, u64 w2c_p1, u6
     w2c_l8 = w2c_j1;
     w2c_i0 = w2c_j0 != w2c_j1;
     if (w2c_i0) {goto w2c_B84;}
-    w2c_j0 = w2c_l23;
+    w2c_j0 = w2c_l24;
     w2c_i0 = w2c_f62(instance, w2c_j0);
     w2c_i0 = !(w2c_i0);
     if (w2c_i0) {goto w2c_B18;}
@@ -23331,19 +23354,19 @@ static void w2c_f15(Z_hidreport_instance_t* instance, u64 w2c_p0, u64 w2c_p1, u6
     w2c_j0 += w2c_j1;
     w2c_p6 = w2c_j0;
     w2c_i0 = (u32)(w2c_j0);
-    w2c_i1 = w2c_l37;
+    w2c_i1 = w2c_l39;
     i32_store8(&instance->w2c_memory, (u64)(w2c_i0) + 8, w2c_i1);
     w2c_j0 = w2c_p6;
     w2c_i0 = (u32)(w2c_j0);
-    w2c_i1 = w2c_l31;
+    w2c_i1 = w2c_l32;
     w2c_i2 = w2c_p5;
     w2c_i3 = 16u;
     w2c_i2 <<= (w2c_i3 & 31);
-    w2c_i3 = w2c_l31;
+    w2c_i3 = w2c_l32;
     w2c_i4 = 65535u;
     w2c_i3 &= w2c_i4;
     w2c_i2 |= w2c_i3;
-    w2c_i3 = w2c_l37;
+    w2c_i3 = w2c_l39;
     w2c_i1 = w2c_i3 ? w2c_i1 : w2c_i2;
     w2c_p5 = w2c_i1;
     i32_store(&instance->w2c_memory, (u64)(w2c_i0) + 4, w2c_i1);
@@ -23355,13 +23378,13 @@ static void w2c_f15(Z_hidreport_instance_t* instance, u64 w2c_p0, u64 w2c_p1, u6
     w2c_i0 = (u32)(w2c_j0);
     w2c_j1 = w2c_l7;
     w2c_i1 = (u32)(w2c_j1);
-    w2c_i1 = i32_load16_u(&instance->w2c_memory, (u64)(w2c_i1) + 12840u);
+    w2c_i1 = i32_load16_u(&instance->w2c_memory, (u64)(w2c_i1) + 12872u);
     i32_store16(&instance->w2c_memory, (u64)(w2c_i0) + 9, w2c_i1);
     w2c_j0 = w2c_p6;
     w2c_i0 = (u32)(w2c_j0);
     w2c_j1 = w2c_l7;
     w2c_i1 = (u32)(w2c_j1);
-    w2c_i1 = i32_load8_u(&instance->w2c_memory, (u64)(w2c_i1) + 12842u);
+    w2c_i1 = i32_load8_u(&instance->w2c_memory, (u64)(w2c_i1) + 12874u);
     i32_store8(&instance->w2c_memory, (u64)(w2c_i0) + 11, w2c_i1);
     w2c_j0 = w2c_l7;
     w2c_i0 = (u32)(w2c_j0);
@@ -23385,7 +23408,7 @@ static void w2c_f15(Z_hidreport_instance_t* instance, u64 w2c_p0, u64 w2c_p1, u6
     w2c_B40:;
     w2c_j0 = w2c_l7;
     w2c_i0 = (u32)(w2c_j0);
-    w2c_i1 = w2c_l31;
+    w2c_i1 = w2c_l32;
     i32_store(&instance->w2c_memory, (u64)(w2c_i0) + 12632, w2c_i1);
     goto w2c_B15;
     w2c_B39:;
@@ -23393,7 +23416,7 @@ static void w2c_f15(Z_hidreport_instance_t* instance, u64 w2c_p0, u64 w2c_p1, u6
     w2c_i0 = (u32)(w2c_j0);
     w2c_i1 = w2c_p5;
     i32_store8(&instance->w2c_memory, (u64)(w2c_i0) + 12636, w2c_i1);
-    w2c_i0 = w2c_l31;
+    w2c_i0 = w2c_l32;
     w2c_i0 = !(w2c_i0);
     if (w2c_i0) {goto w2c_B15;}
     w2c_j0 = w2c_l7;
@@ -23410,47 +23433,47 @@ static void w2c_f15(Z_hidreport_instance_t* instance, u64 w2c_p0, u64 w2c_p1, u6
     i32_store(&instance->w2c_memory, (u64)(w2c_i0) + 12640, w2c_i1);
     goto w2c_B15;
     w2c_B38:;
-    w2c_i0 = w2c_l31;
+    w2c_i0 = w2c_l32;
     w2c_i1 = 255u;
     w2c_i0 &= w2c_i1;
-    w2c_l33 = w2c_i0;
-    w2c_i0 = 15u;
     w2c_l34 = w2c_i0;
+    w2c_i0 = 15u;
+    w2c_l35 = w2c_i0;
     goto w2c_B32;
     w2c_B37:;
     w2c_i0 = 3u;
-    w2c_l39 = w2c_i0;
+    w2c_l41 = w2c_i0;
     goto w2c_B6;
     w2c_B36:;
     w2c_i0 = 0u;
-    w2c_l40 = w2c_i0;
+    w2c_l31 = w2c_i0;
     w2c_i0 = 0u;
-    w2c_l33 = w2c_i0;
+    w2c_l34 = w2c_i0;
     goto w2c_B31;
     w2c_B35:;
     w2c_i0 = 0u;
-    w2c_l40 = w2c_i0;
-    w2c_i0 = w2c_l31;
-    w2c_l33 = w2c_i0;
+    w2c_l31 = w2c_i0;
+    w2c_i0 = w2c_l32;
+    w2c_l34 = w2c_i0;
     goto w2c_B31;
     w2c_B34:;
-    w2c_j0 = w2c_l26;
+    w2c_j0 = w2c_l27;
     w2c_i0 = (u32)(w2c_j0);
     w2c_i0 = i32_load16_s(&instance->w2c_memory, (u64)(w2c_i0));
-    w2c_l33 = w2c_i0;
-    w2c_i0 = w2c_l31;
-    w2c_l40 = w2c_i0;
+    w2c_l34 = w2c_i0;
+    w2c_i0 = w2c_l32;
+    w2c_l31 = w2c_i0;
     goto w2c_B31;
     w2c_B33:;
-    w2c_j0 = w2c_l26;
+    w2c_j0 = w2c_l27;
     w2c_i0 = (u32)(w2c_j0);
     w2c_i0 = i32_load16_s(&instance->w2c_memory, (u64)(w2c_i0));
-    w2c_l33 = w2c_i0;
+    w2c_l34 = w2c_i0;
     w2c_B32:;
     w2c_i0 = 0u;
-    w2c_l40 = w2c_i0;
+    w2c_l31 = w2c_i0;
     w2c_B31:;
-    w2c_i0 = w2c_l34;
+    w2c_i0 = w2c_l35;
     switch (w2c_i0) {
       case 0: goto w2c_B15;
       case 1: goto w2c_B15;
@@ -23479,31 +23502,31 @@ static void w2c_f15(Z_hidreport_instance_t* instance, u64 w2c_p0, u64 w2c_p1, u6
     w2c_j1 = w2c_l7;
     w2c_i1 = (u32)(w2c_j1);
     w2c_j1 = i64_load(&instance->w2c_memory, (u64)(w2c_i1) + 256u);
-    i64_store(&instance->w2c_memory, (u64)(w2c_i0) + 12872, w2c_j1);
+    i64_store(&instance->w2c_memory, (u64)(w2c_i0) + 12904, w2c_j1);
     w2c_j0 = w2c_l7;
     w2c_i0 = (u32)(w2c_j0);
     w2c_j1 = w2c_l7;
     w2c_i1 = (u32)(w2c_j1);
     w2c_j1 = i64_load(&instance->w2c_memory, (u64)(w2c_i1) + 248u);
-    i64_store(&instance->w2c_memory, (u64)(w2c_i0) + 12864, w2c_j1);
+    i64_store(&instance->w2c_memory, (u64)(w2c_i0) + 12896, w2c_j1);
     w2c_j0 = w2c_l7;
     w2c_i0 = (u32)(w2c_j0);
     w2c_j1 = w2c_l7;
     w2c_i1 = (u32)(w2c_j1);
     w2c_j1 = i64_load(&instance->w2c_memory, (u64)(w2c_i1) + 240u);
-    i64_store(&instance->w2c_memory, (u64)(w2c_i0) + 12856, w2c_j1);
+    i64_store(&instance->w2c_memory, (u64)(w2c_i0) + 12888, w2c_j1);
     w2c_j0 = w2c_l7;
     w2c_i0 = (u32)(w2c_j0);
     w2c_j1 = w2c_l7;
     w2c_i1 = (u32)(w2c_j1);
     w2c_j1 = i64_load(&instance->w2c_memory, (u64)(w2c_i1) + 232u);
-    i64_store(&instance->w2c_memory, (u64)(w2c_i0) + 12848, w2c_j1);
+    i64_store(&instance->w2c_memory, (u64)(w2c_i0) + 12880, w2c_j1);
     w2c_j0 = w2c_l7;
     w2c_i0 = (u32)(w2c_j0);
     w2c_j1 = w2c_l7;
     w2c_i1 = (u32)(w2c_j1);
     w2c_j1 = i64_load(&instance->w2c_memory, (u64)(w2c_i1) + 224u);
-    i64_store(&instance->w2c_memory, (u64)(w2c_i0) + 12840, w2c_j1);
+    i64_store(&instance->w2c_memory, (u64)(w2c_i0) + 12872, w2c_j1);
     w2c_j0 = w2c_l7;
     w2c_i0 = (u32)(w2c_j0);
     w2c_j0 = i64_load(&instance->w2c_memory, (u64)(w2c_i0) + 280u);
@@ -23533,31 +23556,31 @@ static void w2c_f15(Z_hidreport_instance_t* instance, u64 w2c_p0, u64 w2c_p1, u6
     w2c_i0 = (u32)(w2c_j0);
     w2c_j1 = w2c_l7;
     w2c_i1 = (u32)(w2c_j1);
-    w2c_j1 = i64_load(&instance->w2c_memory, (u64)(w2c_i1) + 12872u);
+    w2c_j1 = i64_load(&instance->w2c_memory, (u64)(w2c_i1) + 12904u);
     i64_store(&instance->w2c_memory, (u64)(w2c_i0) + 32, w2c_j1);
     w2c_j0 = w2c_p6;
     w2c_i0 = (u32)(w2c_j0);
     w2c_j1 = w2c_l7;
     w2c_i1 = (u32)(w2c_j1);
-    w2c_j1 = i64_load(&instance->w2c_memory, (u64)(w2c_i1) + 12864u);
+    w2c_j1 = i64_load(&instance->w2c_memory, (u64)(w2c_i1) + 12896u);
     i64_store(&instance->w2c_memory, (u64)(w2c_i0) + 24, w2c_j1);
     w2c_j0 = w2c_p6;
     w2c_i0 = (u32)(w2c_j0);
     w2c_j1 = w2c_l7;
     w2c_i1 = (u32)(w2c_j1);
-    w2c_j1 = i64_load(&instance->w2c_memory, (u64)(w2c_i1) + 12856u);
+    w2c_j1 = i64_load(&instance->w2c_memory, (u64)(w2c_i1) + 12888u);
     i64_store(&instance->w2c_memory, (u64)(w2c_i0) + 16, w2c_j1);
     w2c_j0 = w2c_p6;
     w2c_i0 = (u32)(w2c_j0);
     w2c_j1 = w2c_l7;
     w2c_i1 = (u32)(w2c_j1);
-    w2c_j1 = i64_load(&instance->w2c_memory, (u64)(w2c_i1) + 12848u);
+    w2c_j1 = i64_load(&instance->w2c_memory, (u64)(w2c_i1) + 12880u);
     i64_store(&instance->w2c_memory, (u64)(w2c_i0) + 8, w2c_j1);
     w2c_j0 = w2c_p6;
     w2c_i0 = (u32)(w2c_j0);
     w2c_j1 = w2c_l7;
     w2c_i1 = (u32)(w2c_j1);
-    w2c_j1 = i64_load(&instance->w2c_memory, (u64)(w2c_i1) + 12840u);
+    w2c_j1 = i64_load(&instance->w2c_memory, (u64)(w2c_i1) + 12872u);
     i64_store(&instance->w2c_memory, (u64)(w2c_i0), w2c_j1);
     w2c_j0 = w2c_l7;
     w2c_i0 = (u32)(w2c_j0);
@@ -23594,15 +23617,15 @@ static void w2c_f15(Z_hidreport_instance_t* instance, u64 w2c_p0, u64 w2c_p1, u6
     w2c_j0 = w2c_p6;
     w2c_i0 = (u32)(w2c_j0);
     w2c_j0 = i64_load(&instance->w2c_memory, (u64)(w2c_i0) + 24u);
-    w2c_l25 = w2c_j0;
+    w2c_l26 = w2c_j0;
     w2c_j0 = w2c_p6;
     w2c_i0 = (u32)(w2c_j0);
     w2c_j0 = i64_load(&instance->w2c_memory, (u64)(w2c_i0) + 16u);
-    w2c_l27 = w2c_j0;
+    w2c_l28 = w2c_j0;
     w2c_j0 = w2c_p6;
     w2c_i0 = (u32)(w2c_j0);
     w2c_j0 = i64_load(&instance->w2c_memory, (u64)(w2c_i0) + 8u);
-    w2c_l28 = w2c_j0;
+    w2c_l29 = w2c_j0;
     w2c_j0 = w2c_l7;
     w2c_i0 = (u32)(w2c_j0);
     w2c_j1 = w2c_p6;
@@ -23611,15 +23634,15 @@ static void w2c_f15(Z_hidreport_instance_t* instance, u64 w2c_p0, u64 w2c_p1, u6
     i64_store(&instance->w2c_memory, (u64)(w2c_i0) + 224, w2c_j1);
     w2c_j0 = w2c_l7;
     w2c_i0 = (u32)(w2c_j0);
-    w2c_j1 = w2c_l28;
+    w2c_j1 = w2c_l29;
     i64_store(&instance->w2c_memory, (u64)(w2c_i0) + 232, w2c_j1);
     w2c_j0 = w2c_l7;
     w2c_i0 = (u32)(w2c_j0);
-    w2c_j1 = w2c_l27;
+    w2c_j1 = w2c_l28;
     i64_store(&instance->w2c_memory, (u64)(w2c_i0) + 240, w2c_j1);
     w2c_j0 = w2c_l7;
     w2c_i0 = (u32)(w2c_j0);
-    w2c_j1 = w2c_l25;
+    w2c_j1 = w2c_l26;
     i64_store(&instance->w2c_memory, (u64)(w2c_i0) + 248, w2c_j1);
     w2c_j0 = w2c_l7;
     w2c_i0 = (u32)(w2c_j0);
@@ -23627,51 +23650,52 @@ static void w2c_f15(Z_hidreport_instance_t* instance, u64 w2c_p0, u64 w2c_p1, u6
     i64_store(&instance->w2c_memory, (u64)(w2c_i0) + 256, w2c_j1);
     goto w2c_B15;
     w2c_B87:;
-    w2c_i0 = 0u;
-    w2c_l32 = w2c_i0;
-    w2c_i0 = 0u;
-    w2c_l31 = w2c_i0;
     w2c_j0 = w2c_l7;
     w2c_i0 = (u32)(w2c_j0);
     w2c_j0 = i64_load(&instance->w2c_memory, (u64)(w2c_i0) + 12608u);
     w2c_p6 = w2c_j0;
     w2c_i0 = !(w2c_j0);
-    if (w2c_i0) {goto w2c_B91;}
+    w2c_i0 = !(w2c_i0);
+    if (w2c_i0) {goto w2c_B92;}
+    w2c_i0 = 0u;
+    w2c_l32 = w2c_i0;
+    goto w2c_B91;
+    w2c_B92:;
     w2c_j0 = w2c_l7;
     w2c_i0 = (u32)(w2c_j0);
     w2c_j0 = i64_load(&instance->w2c_memory, (u64)(w2c_i0) + 12600u);
-    w2c_l28 = w2c_j0;
+    w2c_l29 = w2c_j0;
     w2c_j0 = w2c_l7;
     w2c_i0 = (u32)(w2c_j0);
     w2c_i0 = i32_load(&instance->w2c_memory, (u64)(w2c_i0) + 260u);
     w2c_p5 = w2c_i0;
     w2c_j0 = 0ull;
-    w2c_l25 = w2c_j0;
+    w2c_l26 = w2c_j0;
     w2c_j0 = 0ull;
     w2c_l8 = w2c_j0;
     w2c_j0 = w2c_p6;
     w2c_j1 = 1ull;
     w2c_i0 = w2c_j0 == w2c_j1;
-    if (w2c_i0) {goto w2c_B93;}
+    if (w2c_i0) {goto w2c_B94;}
     w2c_j0 = w2c_p6;
     w2c_j1 = 1ull;
     w2c_j0 &= w2c_j1;
     w2c_l11 = w2c_j0;
     w2c_j0 = 0ull;
-    w2c_l25 = w2c_j0;
+    w2c_l26 = w2c_j0;
     w2c_j0 = 0ull;
     w2c_j1 = w2c_p6;
     w2c_j2 = 18446744073709551614ull;
     w2c_j1 &= w2c_j2;
     w2c_j0 -= w2c_j1;
-    w2c_l27 = w2c_j0;
+    w2c_l28 = w2c_j0;
     w2c_j0 = 1ull;
     w2c_l8 = w2c_j0;
-    w2c_j0 = w2c_l28;
+    w2c_j0 = w2c_l29;
     w2c_p6 = w2c_j0;
-    w2c_L94: 
-      w2c_j0 = w2c_l25;
-      w2c_j1 = w2c_l25;
+    w2c_L95: 
+      w2c_j0 = w2c_l26;
+      w2c_j1 = w2c_l26;
       w2c_j2 = w2c_l8;
       w2c_j3 = w2c_p6;
       w2c_i3 = (u32)(w2c_j3);
@@ -23687,8 +23711,8 @@ static void w2c_f15(Z_hidreport_instance_t* instance, u64 w2c_p0, u64 w2c_p1, u6
       w2c_i3 = 1u;
       w2c_i2 &= w2c_i3;
       w2c_j0 = w2c_i2 ? w2c_j0 : w2c_j1;
-      w2c_l25 = w2c_j0;
-      w2c_j1 = w2c_l25;
+      w2c_l26 = w2c_j0;
+      w2c_j1 = w2c_l26;
       w2c_j2 = w2c_l8;
       w2c_j3 = 1ull;
       w2c_j2 += w2c_j3;
@@ -23708,12 +23732,12 @@ static void w2c_f15(Z_hidreport_instance_t* instance, u64 w2c_p0, u64 w2c_p1, u6
       w2c_i3 = 1u;
       w2c_i2 &= w2c_i3;
       w2c_j0 = w2c_i2 ? w2c_j0 : w2c_j1;
-      w2c_l25 = w2c_j0;
+      w2c_l26 = w2c_j0;
       w2c_j0 = w2c_p6;
       w2c_j1 = 24ull;
       w2c_j0 += w2c_j1;
       w2c_p6 = w2c_j0;
-      w2c_j0 = w2c_l27;
+      w2c_j0 = w2c_l28;
       w2c_j1 = w2c_l8;
       w2c_j2 = 2ull;
       w2c_j1 += w2c_j2;
@@ -23721,21 +23745,21 @@ static void w2c_f15(Z_hidreport_instance_t* instance, u64 w2c_p0, u64 w2c_p1, u6
       w2c_j0 += w2c_j1;
       w2c_j1 = 1ull;
       w2c_i0 = w2c_j0 != w2c_j1;
-      if (w2c_i0) {goto w2c_L94;}
+      if (w2c_i0) {goto w2c_L95;}
     w2c_j0 = w2c_l11;
     w2c_i0 = !(w2c_j0);
-    if (w2c_i0) {goto w2c_B92;}
+    if (w2c_i0) {goto w2c_B93;}
     w2c_j0 = w2c_l8;
     w2c_j1 = 18446744073709551615ull;
     w2c_j0 += w2c_j1;
     w2c_l8 = w2c_j0;
-    w2c_B93:;
-    w2c_j0 = w2c_l25;
-    w2c_j1 = w2c_l25;
+    w2c_B94:;
+    w2c_j0 = w2c_l26;
+    w2c_j1 = w2c_l26;
     w2c_j2 = w2c_l8;
     w2c_j3 = 1ull;
     w2c_j2 += w2c_j3;
-    w2c_j3 = w2c_l28;
+    w2c_j3 = w2c_l29;
     w2c_j4 = w2c_l8;
     w2c_j5 = 12ull;
     w2c_j4 *= w2c_j5;
@@ -23752,103 +23776,185 @@ static void w2c_f15(Z_hidreport_instance_t* instance, u64 w2c_p0, u64 w2c_p1, u6
     w2c_i3 = 1u;
     w2c_i2 &= w2c_i3;
     w2c_j0 = w2c_i2 ? w2c_j0 : w2c_j1;
-    w2c_l25 = w2c_j0;
-    w2c_B92:;
-    w2c_j0 = w2c_l28;
+    w2c_l26 = w2c_j0;
+    w2c_B93:;
+    w2c_j0 = w2c_l29;
     w2c_i0 = (u32)(w2c_j0);
     w2c_i0 = i32_load(&instance->w2c_memory, (u64)(w2c_i0));
-    w2c_l31 = w2c_i0;
-    w2c_j0 = w2c_l25;
+    w2c_l32 = w2c_i0;
+    w2c_j0 = w2c_l26;
     w2c_j1 = 0ull;
     w2c_i0 = w2c_j0 != w2c_j1;
     if (w2c_i0) {goto w2c_B91;}
-    w2c_j0 = w2c_l28;
+    w2c_j0 = w2c_l29;
     w2c_i0 = (u32)(w2c_j0);
     w2c_i0 = i32_load8_u(&instance->w2c_memory, (u64)(w2c_i0) + 8u);
     w2c_i1 = 1u;
     w2c_i0 &= w2c_i1;
     if (w2c_i0) {goto w2c_B91;}
-    w2c_i0 = w2c_l31;
+    w2c_i0 = w2c_l32;
     w2c_i1 = 65535u;
     w2c_i0 &= w2c_i1;
     w2c_i1 = w2c_p5;
     w2c_i2 = 16u;
     w2c_i1 <<= (w2c_i2 & 31);
     w2c_i0 |= w2c_i1;
-    w2c_l31 = w2c_i0;
+    w2c_l32 = w2c_i0;
     w2c_B91:;
     w2c_j0 = w2c_l7;
     w2c_i0 = (u32)(w2c_j0);
     w2c_j0 = i64_load(&instance->w2c_memory, (u64)(w2c_i0) + 296u);
-    w2c_l8 = w2c_j0;
+    w2c_p6 = w2c_j0;
     w2c_i0 = !(w2c_j0);
     w2c_i0 = !(w2c_i0);
-    if (w2c_i0) {goto w2c_B96;}
-    w2c_i0 = 0u;
-    w2c_p5 = w2c_i0;
-    w2c_i0 = 0u;
-    w2c_l34 = w2c_i0;
-    goto w2c_B95;
-    w2c_B96:;
+    if (w2c_i0) {goto w2c_B97;}
+    w2c_j0 = 0ull;
+    w2c_l28 = w2c_j0;
+    w2c_j0 = 0ull;
+    w2c_l29 = w2c_j0;
+    goto w2c_B96;
+    w2c_B97:;
     w2c_j0 = w2c_l7;
     w2c_i0 = (u32)(w2c_j0);
     w2c_j0 = i64_load(&instance->w2c_memory, (u64)(w2c_i0) + 288u);
-    w2c_j1 = w2c_l8;
-    w2c_j2 = 4ull;
-    w2c_j1 <<= (w2c_j2 & 63);
+    w2c_j1 = w2c_p6;
+    w2c_j2 = 24ull;
+    w2c_j1 *= w2c_j2;
     w2c_j0 += w2c_j1;
-    w2c_p6 = w2c_j0;
-    w2c_j1 = 18446744073709551600ull;
-    w2c_j0 += w2c_j1;
-    w2c_l25 = w2c_j0;
-    w2c_i0 = (u32)(w2c_j0);
-    w2c_i0 = i32_load(&instance->w2c_memory, (u64)(w2c_i0) + 4u);
-    w2c_l34 = w2c_i0;
-    w2c_j0 = w2c_l25;
-    w2c_i0 = (u32)(w2c_j0);
-    w2c_i0 = i32_load(&instance->w2c_memory, (u64)(w2c_i0));
-    w2c_p5 = w2c_i0;
-    w2c_j0 = w2c_p6;
     w2c_j1 = 18446744073709551608ull;
     w2c_j0 += w2c_j1;
     w2c_i0 = (u32)(w2c_j0);
-    w2c_i0 = i32_load(&instance->w2c_memory, (u64)(w2c_i0));
-    w2c_l32 = w2c_i0;
-    w2c_B95:;
+    w2c_j0 = i64_load(&instance->w2c_memory, (u64)(w2c_i0));
+    w2c_l29 = w2c_j0;
+    w2c_j0 = 1ull;
+    w2c_l28 = w2c_j0;
+    w2c_B96:;
     w2c_j0 = w2c_l7;
     w2c_i0 = (u32)(w2c_j0);
-    w2c_j0 = i64_load(&instance->w2c_memory, (u64)(w2c_i0) + 304u);
-    w2c_j1 = w2c_l8;
+    w2c_j0 = i64_load(&instance->w2c_memory, (u64)(w2c_i0) + 12776u);
+    w2c_l26 = w2c_j0;
+    w2c_p6 = w2c_j0;
+    w2c_j0 = w2c_l7;
+    w2c_i0 = (u32)(w2c_j0);
+    w2c_j0 = i64_load(&instance->w2c_memory, (u64)(w2c_i0) + 12784u);
+    w2c_j1 = w2c_l26;
     w2c_i0 = w2c_j0 != w2c_j1;
-    if (w2c_i0) {goto w2c_B97;}
+    if (w2c_i0) {goto w2c_B98;}
     w2c_j0 = w2c_l19;
     w2c_i0 = w2c_f64(instance, w2c_j0);
     w2c_i0 = !(w2c_i0);
     if (w2c_i0) {goto w2c_B18;}
     w2c_j0 = w2c_l7;
     w2c_i0 = (u32)(w2c_j0);
+    w2c_j0 = i64_load(&instance->w2c_memory, (u64)(w2c_i0) + 12776u);
+    w2c_p6 = w2c_j0;
+    w2c_B98:;
+    w2c_j0 = w2c_l7;
+    w2c_i0 = (u32)(w2c_j0);
+    w2c_j0 = i64_load(&instance->w2c_memory, (u64)(w2c_i0) + 12768u);
+    w2c_j1 = w2c_p6;
+    w2c_j2 = 24ull;
+    w2c_j1 *= w2c_j2;
+    w2c_j0 += w2c_j1;
+    w2c_l8 = w2c_j0;
+    w2c_i0 = (u32)(w2c_j0);
+    w2c_j1 = w2c_l28;
+    i64_store(&instance->w2c_memory, (u64)(w2c_i0), w2c_j1);
+    w2c_j0 = w2c_l8;
+    w2c_j1 = 16ull;
+    w2c_j0 += w2c_j1;
+    w2c_i0 = (u32)(w2c_j0);
+    w2c_i1 = w2c_l34;
+    w2c_i2 = 2u;
+    w2c_i1 = w2c_i1 == w2c_i2;
+    w2c_p5 = w2c_i1;
+    i32_store8(&instance->w2c_memory, (u64)(w2c_i0), w2c_i1);
+    w2c_j0 = w2c_l8;
+    w2c_j1 = 8ull;
+    w2c_j0 += w2c_j1;
+    w2c_i0 = (u32)(w2c_j0);
+    w2c_j1 = w2c_l29;
+    i64_store(&instance->w2c_memory, (u64)(w2c_i0), w2c_j1);
+    w2c_j0 = w2c_l7;
+    w2c_i0 = (u32)(w2c_j0);
+    w2c_j1 = w2c_p6;
+    w2c_j2 = 1ull;
+    w2c_j1 += w2c_j2;
+    i64_store(&instance->w2c_memory, (u64)(w2c_i0) + 12776, w2c_j1);
+    w2c_j0 = w2c_l7;
+    w2c_i0 = (u32)(w2c_j0);
     w2c_j0 = i64_load(&instance->w2c_memory, (u64)(w2c_i0) + 296u);
     w2c_l8 = w2c_j0;
-    w2c_B97:;
+    w2c_i0 = !(w2c_j0);
+    w2c_i0 = !(w2c_i0);
+    if (w2c_i0) {goto w2c_B100;}
+    w2c_i0 = 0u;
+    w2c_l33 = w2c_i0;
+    w2c_i0 = 0u;
+    w2c_l35 = w2c_i0;
+    w2c_i0 = 0u;
+    w2c_l36 = w2c_i0;
+    goto w2c_B99;
+    w2c_B100:;
     w2c_j0 = w2c_l7;
     w2c_i0 = (u32)(w2c_j0);
     w2c_j0 = i64_load(&instance->w2c_memory, (u64)(w2c_i0) + 288u);
     w2c_j1 = w2c_l8;
-    w2c_j2 = 4ull;
-    w2c_j1 <<= (w2c_j2 & 63);
+    w2c_j2 = 24ull;
+    w2c_j1 *= w2c_j2;
+    w2c_j0 += w2c_j1;
+    w2c_p6 = w2c_j0;
+    w2c_j1 = 18446744073709551592ull;
+    w2c_j0 += w2c_j1;
+    w2c_l28 = w2c_j0;
+    w2c_i0 = (u32)(w2c_j0);
+    w2c_i0 = i32_load(&instance->w2c_memory, (u64)(w2c_i0) + 4u);
+    w2c_l36 = w2c_i0;
+    w2c_j0 = w2c_l28;
+    w2c_i0 = (u32)(w2c_j0);
+    w2c_i0 = i32_load(&instance->w2c_memory, (u64)(w2c_i0));
+    w2c_l35 = w2c_i0;
+    w2c_j0 = w2c_p6;
+    w2c_j1 = 18446744073709551600ull;
+    w2c_j0 += w2c_j1;
+    w2c_i0 = (u32)(w2c_j0);
+    w2c_i0 = i32_load(&instance->w2c_memory, (u64)(w2c_i0));
+    w2c_l33 = w2c_i0;
+    w2c_B99:;
+    w2c_j0 = w2c_l7;
+    w2c_i0 = (u32)(w2c_j0);
+    w2c_j0 = i64_load(&instance->w2c_memory, (u64)(w2c_i0) + 304u);
+    w2c_j1 = w2c_l8;
+    w2c_i0 = w2c_j0 != w2c_j1;
+    if (w2c_i0) {goto w2c_B101;}
+    w2c_j0 = w2c_l20;
+    w2c_i0 = w2c_f65(instance, w2c_j0);
+    w2c_i0 = !(w2c_i0);
+    if (w2c_i0) {goto w2c_B18;}
+    w2c_j0 = w2c_l7;
+    w2c_i0 = (u32)(w2c_j0);
+    w2c_j0 = i64_load(&instance->w2c_memory, (u64)(w2c_i0) + 296u);
+    w2c_l8 = w2c_j0;
+    w2c_B101:;
+    w2c_j0 = w2c_l7;
+    w2c_i0 = (u32)(w2c_j0);
+    w2c_j0 = i64_load(&instance->w2c_memory, (u64)(w2c_i0) + 288u);
+    w2c_j1 = w2c_l8;
+    w2c_j2 = 24ull;
+    w2c_j1 *= w2c_j2;
     w2c_j0 += w2c_j1;
     w2c_p6 = w2c_j0;
     w2c_i0 = (u32)(w2c_j0);
-    w2c_i1 = w2c_l34;
-    w2c_i2 = w2c_l31;
-    w2c_i3 = w2c_l33;
+    w2c_i1 = w2c_l36;
+    w2c_i2 = w2c_l32;
+    w2c_i3 = w2c_l34;
     w2c_i1 = w2c_i3 ? w2c_i1 : w2c_i2;
     i32_store(&instance->w2c_memory, (u64)(w2c_i0) + 4, w2c_i1);
     w2c_j0 = w2c_p6;
     w2c_i0 = (u32)(w2c_j0);
-    w2c_i1 = w2c_l31;
-    w2c_i2 = w2c_p5;
-    w2c_i3 = w2c_l33;
+    w2c_i1 = w2c_l32;
+    w2c_i2 = w2c_l35;
+    w2c_i3 = w2c_l34;
     w2c_i4 = 1u;
     w2c_i3 = w2c_i3 == w2c_i4;
     w2c_i1 = w2c_i3 ? w2c_i1 : w2c_i2;
@@ -23859,91 +23965,93 @@ static void w2c_f15(Z_hidreport_instance_t* instance, u64 w2c_p0, u64 w2c_p1, u6
     i32_store16(&instance->w2c_memory, (u64)(w2c_i0) + 13, w2c_i1);
     w2c_j0 = w2c_p6;
     w2c_i0 = (u32)(w2c_j0);
-    w2c_i1 = w2c_l33;
+    w2c_i1 = w2c_l34;
     w2c_i2 = 4u;
     w2c_i1 = w2c_i1 == w2c_i2;
-    w2c_i2 = w2c_l31;
+    w2c_i2 = w2c_l32;
     w2c_i3 = 786435u;
     w2c_i2 = w2c_i2 == w2c_i3;
     w2c_i1 &= w2c_i2;
     i32_store8(&instance->w2c_memory, (u64)(w2c_i0) + 12, w2c_i1);
     w2c_j0 = w2c_p6;
     w2c_i0 = (u32)(w2c_j0);
-    w2c_i1 = w2c_l31;
-    w2c_i2 = w2c_l32;
-    w2c_i3 = w2c_l33;
-    w2c_i4 = 2u;
-    w2c_i3 = w2c_i3 == w2c_i4;
+    w2c_i1 = w2c_l32;
+    w2c_i2 = w2c_l33;
+    w2c_i3 = w2c_p5;
     w2c_i1 = w2c_i3 ? w2c_i1 : w2c_i2;
     i32_store(&instance->w2c_memory, (u64)(w2c_i0) + 8, w2c_i1);
     w2c_j0 = w2c_p6;
     w2c_i0 = (u32)(w2c_j0);
     w2c_i1 = 0u;
     i32_store8(&instance->w2c_memory, (u64)(w2c_i0) + 15, w2c_i1);
+    w2c_j0 = w2c_p6;
+    w2c_i0 = (u32)(w2c_j0);
+    w2c_j1 = w2c_l26;
+    i64_store(&instance->w2c_memory, (u64)(w2c_i0) + 16, w2c_j1);
     w2c_j0 = w2c_l7;
     w2c_i0 = (u32)(w2c_j0);
     w2c_j1 = w2c_l8;
     w2c_j2 = 1ull;
     w2c_j1 += w2c_j2;
     i64_store(&instance->w2c_memory, (u64)(w2c_i0) + 296, w2c_j1);
-    w2c_i0 = w2c_l33;
+    w2c_i0 = w2c_l34;
     w2c_i1 = 1u;
     w2c_i0 = w2c_i0 != w2c_i1;
-    if (w2c_i0) {goto w2c_B98;}
+    if (w2c_i0) {goto w2c_B102;}
     w2c_j0 = w2c_l7;
     w2c_i0 = (u32)(w2c_j0);
     w2c_j0 = i64_load(&instance->w2c_memory, (u64)(w2c_i0) + 12656u);
     w2c_p6 = w2c_j0;
     w2c_j1 = 1ull;
     w2c_i0 = w2c_j0 > w2c_j1;
-    if (w2c_i0) {goto w2c_B98;}
+    if (w2c_i0) {goto w2c_B102;}
     w2c_j0 = w2c_l7;
     w2c_i0 = (u32)(w2c_j0);
     w2c_j1 = w2c_p6;
     w2c_j2 = 1ull;
     w2c_j1 += w2c_j2;
     i64_store(&instance->w2c_memory, (u64)(w2c_i0) + 12656, w2c_j1);
-    w2c_B98:;
+    w2c_B102:;
     w2c_j0 = w2c_l7;
     w2c_i0 = (u32)(w2c_j0);
     w2c_i0 = i32_load8_u(&instance->w2c_memory, (u64)(w2c_i0) + 12664u);
-    if (w2c_i0) {goto w2c_B100;}
+    if (w2c_i0) {goto w2c_B104;}
     w2c_i0 = 0u;
     w2c_p5 = w2c_i0;
-    w2c_i0 = w2c_l33;
+    w2c_i0 = w2c_l34;
     w2c_i1 = 1u;
     w2c_i0 = w2c_i0 > w2c_i1;
-    if (w2c_i0) {goto w2c_B99;}
-    w2c_i0 = w2c_l31;
+    if (w2c_i0) {goto w2c_B103;}
+    w2c_i0 = w2c_l32;
     w2c_i1 = 65548u;
     w2c_i0 = w2c_i0 == w2c_i1;
-    if (w2c_i0) {goto w2c_B100;}
-    w2c_i0 = w2c_l31;
+    if (w2c_i0) {goto w2c_B104;}
+    w2c_i0 = w2c_l32;
     w2c_i1 = 65664u;
     w2c_i0 = w2c_i0 == w2c_i1;
-    if (w2c_i0) {goto w2c_B100;}
-    w2c_i0 = w2c_l31;
+    if (w2c_i0) {goto w2c_B104;}
+    w2c_i0 = w2c_l32;
     w2c_i1 = 786433u;
     w2c_i0 = w2c_i0 == w2c_i1;
-    if (w2c_i0) {goto w2c_B100;}
-    w2c_i0 = w2c_l31;
+    if (w2c_i0) {goto w2c_B104;}
+    w2c_i0 = w2c_l32;
     w2c_i1 = 65536u;
     w2c_i0 = w2c_i0 < w2c_i1;
-    if (w2c_i0) {goto w2c_B99;}
-    w2c_i0 = w2c_l31;
+    if (w2c_i0) {goto w2c_B103;}
+    w2c_i0 = w2c_l32;
     w2c_i1 = 65545u;
     w2c_i0 = w2c_i0 < w2c_i1;
-    if (w2c_i0) {goto w2c_B100;}
-    w2c_i0 = w2c_l31;
+    if (w2c_i0) {goto w2c_B104;}
+    w2c_i0 = w2c_l32;
     w2c_i1 = 4294115327u;
     w2c_i0 += w2c_i1;
     w2c_i1 = 5u;
     w2c_i0 = w2c_i0 > w2c_i1;
-    if (w2c_i0) {goto w2c_B99;}
-    w2c_B100:;
+    if (w2c_i0) {goto w2c_B103;}
+    w2c_B104:;
     w2c_i0 = 1u;
     w2c_p5 = w2c_i0;
-    w2c_B99:;
+    w2c_B103:;
     w2c_j0 = w2c_l7;
     w2c_i0 = (u32)(w2c_j0);
     w2c_i1 = w2c_p5;
@@ -23951,48 +24059,48 @@ static void w2c_f15(Z_hidreport_instance_t* instance, u64 w2c_p0, u64 w2c_p1, u6
     w2c_j0 = w2c_l7;
     w2c_i0 = (u32)(w2c_j0);
     w2c_i0 = i32_load(&instance->w2c_memory, (u64)(w2c_i0) + 260u);
-    w2c_l32 = w2c_i0;
+    w2c_l33 = w2c_i0;
     w2c_i1 = 65489u;
     w2c_i0 = w2c_i0 != w2c_i1;
-    if (w2c_i0) {goto w2c_B103;}
+    if (w2c_i0) {goto w2c_B107;}
     w2c_j0 = w2c_l7;
     w2c_i0 = (u32)(w2c_j0);
     w2c_j0 = i64_load(&instance->w2c_memory, (u64)(w2c_i0) + 12608u);
-    w2c_l28 = w2c_j0;
+    w2c_l29 = w2c_j0;
     w2c_i0 = !(w2c_j0);
-    if (w2c_i0) {goto w2c_B102;}
+    if (w2c_i0) {goto w2c_B106;}
     w2c_j0 = w2c_l7;
     w2c_i0 = (u32)(w2c_j0);
     w2c_j0 = i64_load(&instance->w2c_memory, (u64)(w2c_i0) + 12600u);
     w2c_l8 = w2c_j0;
     w2c_j0 = 0ull;
-    w2c_l25 = w2c_j0;
+    w2c_l26 = w2c_j0;
     w2c_j0 = 0ull;
     w2c_p6 = w2c_j0;
-    w2c_j0 = w2c_l28;
+    w2c_j0 = w2c_l29;
     w2c_j1 = 1ull;
     w2c_i0 = w2c_j0 == w2c_j1;
-    if (w2c_i0) {goto w2c_B105;}
-    w2c_j0 = w2c_l28;
+    if (w2c_i0) {goto w2c_B109;}
+    w2c_j0 = w2c_l29;
     w2c_j1 = 1ull;
     w2c_j0 &= w2c_j1;
     w2c_l10 = w2c_j0;
     w2c_j0 = 0ull;
-    w2c_l25 = w2c_j0;
+    w2c_l26 = w2c_j0;
     w2c_j0 = 0ull;
-    w2c_j1 = w2c_l28;
+    w2c_j1 = w2c_l29;
     w2c_j2 = 18446744073709551614ull;
     w2c_j1 &= w2c_j2;
     w2c_j0 -= w2c_j1;
     w2c_l11 = w2c_j0;
     w2c_j0 = 1ull;
-    w2c_l27 = w2c_j0;
+    w2c_l28 = w2c_j0;
     w2c_j0 = w2c_l8;
     w2c_p6 = w2c_j0;
-    w2c_L106: 
-      w2c_j0 = w2c_l25;
-      w2c_j1 = w2c_l25;
-      w2c_j2 = w2c_l27;
+    w2c_L110: 
+      w2c_j0 = w2c_l26;
+      w2c_j1 = w2c_l26;
+      w2c_j2 = w2c_l28;
       w2c_j3 = w2c_p6;
       w2c_i3 = (u32)(w2c_j3);
       w2c_i3 = i32_load(&instance->w2c_memory, (u64)(w2c_i3));
@@ -24009,9 +24117,9 @@ static void w2c_f15(Z_hidreport_instance_t* instance, u64 w2c_p0, u64 w2c_p1, u6
       w2c_i3 = 1u;
       w2c_i2 &= w2c_i3;
       w2c_j0 = w2c_i2 ? w2c_j0 : w2c_j1;
-      w2c_l25 = w2c_j0;
-      w2c_j1 = w2c_l25;
-      w2c_j2 = w2c_l27;
+      w2c_l26 = w2c_j0;
+      w2c_j1 = w2c_l26;
+      w2c_j2 = w2c_l28;
       w2c_j3 = 1ull;
       w2c_j2 += w2c_j3;
       w2c_j3 = w2c_p6;
@@ -24032,30 +24140,30 @@ static void w2c_f15(Z_hidreport_instance_t* instance, u64 w2c_p0, u64 w2c_p1, u6
       w2c_i3 = 1u;
       w2c_i2 &= w2c_i3;
       w2c_j0 = w2c_i2 ? w2c_j0 : w2c_j1;
-      w2c_l25 = w2c_j0;
+      w2c_l26 = w2c_j0;
       w2c_j0 = w2c_p6;
       w2c_j1 = 24ull;
       w2c_j0 += w2c_j1;
       w2c_p6 = w2c_j0;
       w2c_j0 = w2c_l11;
-      w2c_j1 = w2c_l27;
+      w2c_j1 = w2c_l28;
       w2c_j2 = 2ull;
       w2c_j1 += w2c_j2;
-      w2c_l27 = w2c_j1;
+      w2c_l28 = w2c_j1;
       w2c_j0 += w2c_j1;
       w2c_j1 = 1ull;
       w2c_i0 = w2c_j0 != w2c_j1;
-      if (w2c_i0) {goto w2c_L106;}
+      if (w2c_i0) {goto w2c_L110;}
     w2c_j0 = w2c_l10;
     w2c_i0 = !(w2c_j0);
-    if (w2c_i0) {goto w2c_B104;}
-    w2c_j0 = w2c_l27;
+    if (w2c_i0) {goto w2c_B108;}
+    w2c_j0 = w2c_l28;
     w2c_j1 = 18446744073709551615ull;
     w2c_j0 += w2c_j1;
     w2c_p6 = w2c_j0;
-    w2c_B105:;
-    w2c_j0 = w2c_l25;
-    w2c_j1 = w2c_l25;
+    w2c_B109:;
+    w2c_j0 = w2c_l26;
+    w2c_j1 = w2c_l26;
     w2c_j2 = w2c_p6;
     w2c_j3 = 1ull;
     w2c_j2 += w2c_j3;
@@ -24078,25 +24186,25 @@ static void w2c_f15(Z_hidreport_instance_t* instance, u64 w2c_p0, u64 w2c_p1, u6
     w2c_i3 = 1u;
     w2c_i2 &= w2c_i3;
     w2c_j0 = w2c_i2 ? w2c_j0 : w2c_j1;
-    w2c_l25 = w2c_j0;
-    w2c_B104:;
+    w2c_l26 = w2c_j0;
+    w2c_B108:;
     w2c_j0 = 0ull;
     w2c_p6 = w2c_j0;
-    w2c_L107: 
+    w2c_L111: 
       w2c_j0 = w2c_l8;
       w2c_j1 = 4ull;
       w2c_j0 += w2c_j1;
       w2c_i0 = (u32)(w2c_j0);
       w2c_i0 = i32_load(&instance->w2c_memory, (u64)(w2c_i0));
-      w2c_l31 = w2c_i0;
+      w2c_l32 = w2c_i0;
       w2c_j0 = w2c_l8;
       w2c_i0 = (u32)(w2c_j0);
       w2c_i0 = i32_load(&instance->w2c_memory, (u64)(w2c_i0));
       w2c_p5 = w2c_i0;
       w2c_j0 = w2c_p6;
-      w2c_j1 = w2c_l25;
+      w2c_j1 = w2c_l26;
       w2c_i0 = w2c_j0 < w2c_j1;
-      if (w2c_i0) {goto w2c_B108;}
+      if (w2c_i0) {goto w2c_B112;}
       w2c_j0 = w2c_l8;
       w2c_j1 = 8ull;
       w2c_j0 += w2c_j1;
@@ -24104,61 +24212,61 @@ static void w2c_f15(Z_hidreport_instance_t* instance, u64 w2c_p0, u64 w2c_p1, u6
       w2c_i0 = i32_load8_u(&instance->w2c_memory, (u64)(w2c_i0));
       w2c_i1 = 1u;
       w2c_i0 &= w2c_i1;
-      if (w2c_i0) {goto w2c_B108;}
-      w2c_i0 = w2c_l31;
+      if (w2c_i0) {goto w2c_B112;}
+      w2c_i0 = w2c_l32;
       w2c_i1 = 65535u;
       w2c_i0 &= w2c_i1;
       w2c_i1 = 4291887104u;
       w2c_i0 |= w2c_i1;
-      w2c_l31 = w2c_i0;
+      w2c_l32 = w2c_i0;
       w2c_i0 = w2c_p5;
       w2c_i1 = 65535u;
       w2c_i0 &= w2c_i1;
       w2c_i1 = 4291887104u;
       w2c_i0 |= w2c_i1;
       w2c_p5 = w2c_i0;
-      w2c_B108:;
+      w2c_B112:;
       w2c_i0 = w2c_p5;
       w2c_i1 = 4291887105u;
       w2c_i0 = w2c_i0 > w2c_i1;
-      if (w2c_i0) {goto w2c_B110;}
-      w2c_i0 = w2c_l31;
+      if (w2c_i0) {goto w2c_B114;}
+      w2c_i0 = w2c_l32;
       w2c_i1 = 4291887104u;
       w2c_i0 = w2c_i0 > w2c_i1;
-      if (w2c_i0) {goto w2c_B109;}
-      w2c_B110:;
+      if (w2c_i0) {goto w2c_B113;}
+      w2c_B114:;
       w2c_j0 = w2c_l8;
       w2c_j1 = 12ull;
       w2c_j0 += w2c_j1;
       w2c_l8 = w2c_j0;
-      w2c_j0 = w2c_l28;
+      w2c_j0 = w2c_l29;
       w2c_j1 = w2c_p6;
       w2c_j2 = 1ull;
       w2c_j1 += w2c_j2;
       w2c_p6 = w2c_j1;
       w2c_i0 = w2c_j0 == w2c_j1;
-      if (w2c_i0) {goto w2c_B103;}
-      goto w2c_L107;
-      w2c_B109:;
+      if (w2c_i0) {goto w2c_B107;}
+      goto w2c_L111;
+      w2c_B113:;
     w2c_i0 = 0u;
     w2c_p5 = w2c_i0;
     w2c_i0 = 0u;
-    w2c_l31 = w2c_i0;
-    goto w2c_B101;
-    w2c_B103:;
+    w2c_l32 = w2c_i0;
+    goto w2c_B105;
+    w2c_B107:;
     w2c_i0 = 1u;
     w2c_p5 = w2c_i0;
-    w2c_i0 = w2c_l33;
+    w2c_i0 = w2c_l34;
     w2c_i1 = 1u;
     w2c_i0 = w2c_i0 > w2c_i1;
-    if (w2c_i0) {goto w2c_B102;}
+    if (w2c_i0) {goto w2c_B106;}
     w2c_i0 = 1u;
-    w2c_l31 = w2c_i0;
-    w2c_i0 = w2c_l32;
+    w2c_l32 = w2c_i0;
+    w2c_i0 = w2c_l33;
     w2c_i1 = 32u;
     w2c_i0 = w2c_i0 == w2c_i1;
-    if (w2c_i0) {goto w2c_B101;}
-    w2c_B102:;
+    if (w2c_i0) {goto w2c_B105;}
+    w2c_B106:;
     w2c_j0 = w2c_l7;
     w2c_i0 = (u32)(w2c_j0);
     w2c_i0 = i32_load8_u(&instance->w2c_memory, (u64)(w2c_i0) + 12666u);
@@ -24166,15 +24274,15 @@ static void w2c_f15(Z_hidreport_instance_t* instance, u64 w2c_p0, u64 w2c_p1, u6
     w2c_j0 = w2c_l7;
     w2c_i0 = (u32)(w2c_j0);
     w2c_i0 = i32_load8_u(&instance->w2c_memory, (u64)(w2c_i0) + 12665u);
-    w2c_l31 = w2c_i0;
-    w2c_B101:;
+    w2c_l32 = w2c_i0;
+    w2c_B105:;
     w2c_j0 = w2c_l7;
     w2c_i0 = (u32)(w2c_j0);
     w2c_i1 = w2c_p5;
     i32_store8(&instance->w2c_memory, (u64)(w2c_i0) + 12666, w2c_i1);
     w2c_j0 = w2c_l7;
     w2c_i0 = (u32)(w2c_j0);
-    w2c_i1 = w2c_l31;
+    w2c_i1 = w2c_l32;
     i32_store8(&instance->w2c_memory, (u64)(w2c_i0) + 12665, w2c_i1);
     w2c_j0 = w2c_l7;
     w2c_i0 = (u32)(w2c_j0);
@@ -24188,14 +24296,14 @@ static void w2c_f15(Z_hidreport_instance_t* instance, u64 w2c_p0, u64 w2c_p1, u6
     w2c_j0 = i64_load(&instance->w2c_memory, (u64)(w2c_i0) + 296u);
     w2c_p6 = w2c_j0;
     w2c_i0 = !(w2c_j0);
-    if (w2c_i0) {goto w2c_B111;}
+    if (w2c_i0) {goto w2c_B115;}
     w2c_j0 = w2c_l7;
     w2c_i0 = (u32)(w2c_j0);
     w2c_j1 = w2c_p6;
     w2c_j2 = 18446744073709551615ull;
     w2c_j1 += w2c_j2;
     i64_store(&instance->w2c_memory, (u64)(w2c_i0) + 296, w2c_j1);
-    w2c_B111:;
+    w2c_B115:;
     w2c_j0 = w2c_l7;
     w2c_i0 = (u32)(w2c_j0);
     w2c_j0 = i64_load(&instance->w2c_memory, (u64)(w2c_i0) + 12608u);
@@ -24207,7 +24315,7 @@ static void w2c_f15(Z_hidreport_instance_t* instance, u64 w2c_p0, u64 w2c_p1, u6
     w2c_j0 = w2c_l7;
     w2c_i0 = (u32)(w2c_j0);
     w2c_i0 = i32_load(&instance->w2c_memory, (u64)(w2c_i0) + 256u);
-    w2c_l40 = w2c_i0;
+    w2c_l31 = w2c_i0;
     w2c_i1 = 4u;
     w2c_i0 <<= (w2c_i1 & 31);
     w2c_i1 = 4080u;
@@ -24215,16 +24323,16 @@ static void w2c_f15(Z_hidreport_instance_t* instance, u64 w2c_p0, u64 w2c_p1, u6
     w2c_j0 = (u64)(w2c_i0);
     w2c_p6 = w2c_j0;
     w2c_i0 = 0u;
-    w2c_l30 = w2c_i0;
-    w2c_i0 = w2c_l33;
-    w2c_l31 = w2c_i0;
+    w2c_l37 = w2c_i0;
+    w2c_i0 = w2c_l34;
+    w2c_l32 = w2c_i0;
     w2c_B30:;
     w2c_j0 = w2c_l7;
     w2c_i0 = (u32)(w2c_j0);
     w2c_j0 = i64_load(&instance->w2c_memory, (u64)(w2c_i0) + 296u);
     w2c_l14 = w2c_j0;
     w2c_j0 = w2c_l16;
-    w2c_i1 = w2c_l30;
+    w2c_i1 = w2c_l37;
     w2c_j1 = (u64)(w2c_i1);
     w2c_j2 = 12ull;
     w2c_j1 <<= (w2c_j2 & 63);
@@ -24236,50 +24344,50 @@ static void w2c_f15(Z_hidreport_instance_t* instance, u64 w2c_p0, u64 w2c_p1, u6
     w2c_i0 = i32_load8_u(&instance->w2c_memory, (u64)(w2c_i0));
     w2c_i1 = 1u;
     w2c_i0 &= w2c_i1;
-    if (w2c_i0) {goto w2c_B112;}
+    if (w2c_i0) {goto w2c_B116;}
     w2c_j0 = w2c_l14;
     w2c_i0 = !(w2c_j0);
     w2c_i0 = !(w2c_i0);
-    if (w2c_i0) {goto w2c_B114;}
+    if (w2c_i0) {goto w2c_B118;}
     w2c_i0 = 0u;
     w2c_p5 = w2c_i0;
-    goto w2c_B113;
-    w2c_B114:;
+    goto w2c_B117;
+    w2c_B118:;
     w2c_j0 = w2c_l7;
     w2c_i0 = (u32)(w2c_j0);
     w2c_j0 = i64_load(&instance->w2c_memory, (u64)(w2c_i0) + 288u);
     w2c_j1 = w2c_l14;
-    w2c_j2 = 4ull;
-    w2c_j1 <<= (w2c_j2 & 63);
+    w2c_j2 = 24ull;
+    w2c_j1 *= w2c_j2;
     w2c_j0 += w2c_j1;
-    w2c_j1 = 18446744073709551600ull;
+    w2c_j1 = 18446744073709551592ull;
     w2c_j0 += w2c_j1;
     w2c_i0 = (u32)(w2c_j0);
     w2c_i0 = i32_load(&instance->w2c_memory, (u64)(w2c_i0));
     w2c_p5 = w2c_i0;
-    w2c_B113:;
+    w2c_B117:;
     w2c_j0 = w2c_l7;
     w2c_i0 = (u32)(w2c_j0);
-    w2c_j0 = i64_load(&instance->w2c_memory, (u64)(w2c_i0) + 12784u);
+    w2c_j0 = i64_load(&instance->w2c_memory, (u64)(w2c_i0) + 12808u);
     w2c_j1 = w2c_l7;
     w2c_i1 = (u32)(w2c_j1);
-    w2c_j1 = i64_load(&instance->w2c_memory, (u64)(w2c_i1) + 12776u);
-    w2c_l25 = w2c_j1;
+    w2c_j1 = i64_load(&instance->w2c_memory, (u64)(w2c_i1) + 12800u);
+    w2c_l26 = w2c_j1;
     w2c_i0 = w2c_j0 != w2c_j1;
-    if (w2c_i0) {goto w2c_B115;}
-    w2c_j0 = w2c_l22;
-    w2c_i0 = w2c_f65(instance, w2c_j0);
+    if (w2c_i0) {goto w2c_B119;}
+    w2c_j0 = w2c_l23;
+    w2c_i0 = w2c_f66(instance, w2c_j0);
     w2c_i0 = !(w2c_i0);
     if (w2c_i0) {goto w2c_B18;}
     w2c_j0 = w2c_l7;
     w2c_i0 = (u32)(w2c_j0);
-    w2c_j0 = i64_load(&instance->w2c_memory, (u64)(w2c_i0) + 12776u);
-    w2c_l25 = w2c_j0;
-    w2c_B115:;
+    w2c_j0 = i64_load(&instance->w2c_memory, (u64)(w2c_i0) + 12800u);
+    w2c_l26 = w2c_j0;
+    w2c_B119:;
     w2c_j0 = w2c_l7;
     w2c_i0 = (u32)(w2c_j0);
-    w2c_j0 = i64_load(&instance->w2c_memory, (u64)(w2c_i0) + 12768u);
-    w2c_j1 = w2c_l25;
+    w2c_j0 = i64_load(&instance->w2c_memory, (u64)(w2c_i0) + 12792u);
+    w2c_j1 = w2c_l26;
     w2c_j2 = 12ull;
     w2c_j1 *= w2c_j2;
     w2c_j0 += w2c_j1;
@@ -24289,7 +24397,7 @@ static void w2c_f15(Z_hidreport_instance_t* instance, u64 w2c_p0, u64 w2c_p1, u6
     i32_store16(&instance->w2c_memory, (u64)(w2c_i0) + 1, w2c_i1);
     w2c_j0 = w2c_p6;
     w2c_i0 = (u32)(w2c_j0);
-    w2c_i1 = w2c_l30;
+    w2c_i1 = w2c_l37;
     i32_store8(&instance->w2c_memory, (u64)(w2c_i0), w2c_i1);
     w2c_j0 = w2c_p6;
     w2c_i0 = (u32)(w2c_j0);
@@ -24301,90 +24409,90 @@ static void w2c_f15(Z_hidreport_instance_t* instance, u64 w2c_p0, u64 w2c_p1, u6
     i32_store(&instance->w2c_memory, (u64)(w2c_i0) + 8, w2c_i1);
     w2c_j0 = w2c_p6;
     w2c_i0 = (u32)(w2c_j0);
-    w2c_i1 = w2c_l40;
+    w2c_i1 = w2c_l31;
     i32_store(&instance->w2c_memory, (u64)(w2c_i0) + 4, w2c_i1);
     w2c_j0 = w2c_l7;
     w2c_i0 = (u32)(w2c_j0);
-    w2c_j1 = w2c_l25;
+    w2c_j1 = w2c_l26;
     w2c_j2 = 1ull;
     w2c_j1 += w2c_j2;
-    i64_store(&instance->w2c_memory, (u64)(w2c_i0) + 12776, w2c_j1);
+    i64_store(&instance->w2c_memory, (u64)(w2c_i0) + 12800, w2c_j1);
     w2c_j0 = w2c_l7;
     w2c_i0 = (u32)(w2c_j0);
     w2c_j0 = i64_load(&instance->w2c_memory, (u64)(w2c_i0) + 296u);
     w2c_l14 = w2c_j0;
-    w2c_B112:;
+    w2c_B116:;
     w2c_j0 = w2c_l14;
     w2c_i0 = !(w2c_j0);
-    w2c_l36 = w2c_i0;
+    w2c_l38 = w2c_i0;
     w2c_i0 = !(w2c_i0);
-    if (w2c_i0) {goto w2c_B117;}
+    if (w2c_i0) {goto w2c_B121;}
     w2c_i0 = 0u;
     w2c_p5 = w2c_i0;
-    goto w2c_B116;
-    w2c_B117:;
+    goto w2c_B120;
+    w2c_B121:;
     w2c_j0 = w2c_l7;
     w2c_i0 = (u32)(w2c_j0);
     w2c_j0 = i64_load(&instance->w2c_memory, (u64)(w2c_i0) + 288u);
     w2c_j1 = w2c_l14;
-    w2c_j2 = 4ull;
-    w2c_j1 <<= (w2c_j2 & 63);
+    w2c_j2 = 24ull;
+    w2c_j1 *= w2c_j2;
     w2c_j0 += w2c_j1;
-    w2c_j1 = 18446744073709551600ull;
+    w2c_j1 = 18446744073709551592ull;
     w2c_j0 += w2c_j1;
     w2c_i0 = (u32)(w2c_j0);
     w2c_i0 = i32_load(&instance->w2c_memory, (u64)(w2c_i0));
     w2c_p5 = w2c_i0;
-    w2c_B116:;
+    w2c_B120:;
     w2c_j0 = w2c_l7;
     w2c_i0 = (u32)(w2c_j0);
     w2c_i0 = i32_load(&instance->w2c_memory, (u64)(w2c_i0) + 12624u);
-    w2c_l32 = w2c_i0;
+    w2c_l33 = w2c_i0;
     w2c_j0 = w2c_l8;
     w2c_j1 = w2c_l7;
     w2c_i1 = (u32)(w2c_j1);
     w2c_i1 = i32_load(&instance->w2c_memory, (u64)(w2c_i1) + 256u);
-    w2c_l34 = w2c_i1;
+    w2c_l35 = w2c_i1;
     w2c_i2 = 4u;
     w2c_i1 <<= (w2c_i2 & 31);
     w2c_i2 = 4080u;
     w2c_i1 &= w2c_i2;
     w2c_j1 = (u64)(w2c_i1);
     w2c_j0 += w2c_j1;
-    w2c_l28 = w2c_j0;
+    w2c_l29 = w2c_j0;
     w2c_i0 = (u32)(w2c_j0);
     w2c_i1 = 0u;
     i32_store16(&instance->w2c_memory, (u64)(w2c_i0) + 1, w2c_i1);
-    w2c_j0 = w2c_l28;
+    w2c_j0 = w2c_l29;
     w2c_i0 = (u32)(w2c_j0);
     w2c_i1 = 0u;
     i32_store8(&instance->w2c_memory, (u64)(w2c_i0) + 3, w2c_i1);
-    w2c_j0 = w2c_l28;
+    w2c_j0 = w2c_l29;
     w2c_i0 = (u32)(w2c_j0);
     w2c_i0 = i32_load8_u(&instance->w2c_memory, (u64)(w2c_i0));
-    w2c_l33 = w2c_i0;
-    w2c_j0 = w2c_l28;
+    w2c_l34 = w2c_i0;
+    w2c_j0 = w2c_l29;
     w2c_i0 = (u32)(w2c_j0);
     w2c_i1 = 1u;
     i32_store8(&instance->w2c_memory, (u64)(w2c_i0), w2c_i1);
-    w2c_j0 = w2c_l28;
+    w2c_j0 = w2c_l29;
     w2c_i0 = (u32)(w2c_j0);
-    w2c_j1 = w2c_l28;
+    w2c_j1 = w2c_l29;
     w2c_i1 = (u32)(w2c_j1);
     w2c_i1 = i32_load(&instance->w2c_memory, (u64)(w2c_i1) + 8u);
     w2c_i2 = w2c_p5;
-    w2c_i3 = w2c_l33;
+    w2c_i3 = w2c_l34;
     w2c_i4 = 1u;
     w2c_i3 &= w2c_i4;
     w2c_i1 = w2c_i3 ? w2c_i1 : w2c_i2;
     i32_store(&instance->w2c_memory, (u64)(w2c_i0) + 8, w2c_i1);
-    w2c_j0 = w2c_l28;
+    w2c_j0 = w2c_l29;
     w2c_i0 = (u32)(w2c_j0);
-    w2c_j1 = w2c_l28;
+    w2c_j1 = w2c_l29;
     w2c_i1 = (u32)(w2c_j1);
     w2c_i1 = i32_load(&instance->w2c_memory, (u64)(w2c_i1) + 4u);
     w2c_p5 = w2c_i1;
-    w2c_i2 = w2c_l32;
+    w2c_i2 = w2c_l33;
     w2c_i3 = 0u;
     w2c_i2 = w2c_i2 != w2c_i3;
     w2c_i3 = w2c_p5;
@@ -24394,47 +24502,48 @@ static void w2c_f15(Z_hidreport_instance_t* instance, u64 w2c_p0, u64 w2c_p1, u6
     w2c_i1 += w2c_i2;
     w2c_p5 = w2c_i1;
     i32_store(&instance->w2c_memory, (u64)(w2c_i0) + 4, w2c_i1);
-    w2c_j0 = w2c_l28;
+    w2c_j0 = w2c_l29;
     w2c_i0 = (u32)(w2c_j0);
     w2c_i1 = 4294967295u;
     w2c_i2 = 4294967295u;
     w2c_j3 = w2c_l7;
     w2c_i3 = (u32)(w2c_j3);
     w2c_i3 = i32_load(&instance->w2c_memory, (u64)(w2c_i3) + 252u);
-    w2c_l33 = w2c_i3;
+    w2c_l34 = w2c_i3;
     w2c_j4 = w2c_l7;
     w2c_i4 = (u32)(w2c_j4);
     w2c_i4 = i32_load(&instance->w2c_memory, (u64)(w2c_i4) + 248u);
-    w2c_l35 = w2c_i4;
+    w2c_l36 = w2c_i4;
     w2c_i3 *= w2c_i4;
-    w2c_l32 = w2c_i3;
-    w2c_j4 = w2c_l28;
+    w2c_l40 = w2c_i3;
+    w2c_j4 = w2c_l29;
     w2c_i4 = (u32)(w2c_j4);
     w2c_i4 = i32_load(&instance->w2c_memory, (u64)(w2c_i4) + 12u);
-    w2c_l40 = w2c_i4;
+    w2c_l33 = w2c_i4;
     w2c_i3 += w2c_i4;
-    w2c_l38 = w2c_i3;
-    w2c_i4 = w2c_l38;
-    w2c_i5 = w2c_l32;
+    w2c_l31 = w2c_i3;
+    w2c_i4 = w2c_l31;
+    w2c_i5 = w2c_l40;
     w2c_i4 = w2c_i4 < w2c_i5;
     w2c_i2 = w2c_i4 ? w2c_i2 : w2c_i3;
-    w2c_i3 = w2c_l33;
+    w2c_i3 = w2c_l34;
     w2c_j3 = (u64)(w2c_i3);
-    w2c_i4 = w2c_l35;
+    w2c_i4 = w2c_l36;
     w2c_j4 = (u64)(w2c_i4);
     w2c_j3 *= w2c_j4;
     w2c_j4 = 32ull;
     w2c_j3 >>= (w2c_j4 & 63);
     w2c_i3 = (u32)(w2c_j3);
+    w2c_l41 = w2c_i3;
     w2c_i1 = w2c_i3 ? w2c_i1 : w2c_i2;
-    w2c_i2 = w2c_l40;
-    w2c_i3 = w2c_l33;
+    w2c_i2 = w2c_l33;
+    w2c_i3 = w2c_l34;
     w2c_i1 = w2c_i3 ? w2c_i1 : w2c_i2;
     i32_store(&instance->w2c_memory, (u64)(w2c_i0) + 12, w2c_i1);
     w2c_i0 = w2c_p5;
     w2c_i1 = 257u;
     w2c_i0 = w2c_i0 < w2c_i1;
-    if (w2c_i0) {goto w2c_B118;}
+    if (w2c_i0) {goto w2c_B122;}
     w2c_j0 = w2c_l7;
     w2c_i0 = (u32)(w2c_j0);
     w2c_i0 = i32_load8_u(&instance->w2c_memory, (u64)(w2c_i0) + 12720u);
@@ -24442,7 +24551,7 @@ static void w2c_f15(Z_hidreport_instance_t* instance, u64 w2c_p0, u64 w2c_p1, u6
     w2c_i0 &= w2c_i1;
     w2c_i1 = 1u;
     w2c_i0 = w2c_i0 == w2c_i1;
-    if (w2c_i0) {goto w2c_B118;}
+    if (w2c_i0) {goto w2c_B122;}
     w2c_j0 = w2c_l17;
     w2c_i0 = (u32)(w2c_j0);
     w2c_i1 = 0u;
@@ -24463,19 +24572,19 @@ static void w2c_f15(Z_hidreport_instance_t* instance, u64 w2c_p0, u64 w2c_p1, u6
     w2c_i0 = (u32)(w2c_j0);
     w2c_j1 = 1ull;
     i64_store(&instance->w2c_memory, (u64)(w2c_i0) + 12720, w2c_j1);
-    w2c_B118:;
-    w2c_i0 = w2c_l30;
-    if (w2c_i0) {goto w2c_B119;}
-    w2c_i0 = w2c_l31;
+    w2c_B122:;
+    w2c_i0 = w2c_l37;
+    if (w2c_i0) {goto w2c_B123;}
+    w2c_i0 = w2c_l32;
     w2c_i1 = 1u;
     w2c_i0 &= w2c_i1;
-    if (w2c_i0) {goto w2c_B119;}
+    if (w2c_i0) {goto w2c_B123;}
     w2c_j0 = w2c_l7;
     w2c_i0 = (u32)(w2c_j0);
     w2c_j0 = i64_load(&instance->w2c_memory, (u64)(w2c_i0) + 12608u);
     w2c_l11 = w2c_j0;
     w2c_i0 = !(w2c_j0);
-    if (w2c_i0) {goto w2c_B119;}
+    if (w2c_i0) {goto w2c_B123;}
     w2c_j0 = w2c_l7;
     w2c_i0 = (u32)(w2c_j0);
     w2c_j0 = i64_load(&instance->w2c_memory, (u64)(w2c_i0) + 12600u);
@@ -24485,19 +24594,19 @@ static void w2c_f15(Z_hidreport_instance_t* instance, u64 w2c_p0, u64 w2c_p1, u6
     w2c_i0 = i32_load(&instance->w2c_memory, (u64)(w2c_i0) + 260u);
     w2c_p5 = w2c_i0;
     w2c_j0 = 0ull;
-    w2c_l25 = w2c_j0;
+    w2c_l26 = w2c_j0;
     w2c_j0 = 0ull;
     w2c_p6 = w2c_j0;
     w2c_j0 = w2c_l11;
     w2c_j1 = 1ull;
     w2c_i0 = w2c_j0 == w2c_j1;
-    if (w2c_i0) {goto w2c_B121;}
+    if (w2c_i0) {goto w2c_B125;}
     w2c_j0 = w2c_l11;
     w2c_j1 = 1ull;
     w2c_j0 &= w2c_j1;
-    w2c_l29 = w2c_j0;
+    w2c_l30 = w2c_j0;
     w2c_j0 = 0ull;
-    w2c_l25 = w2c_j0;
+    w2c_l26 = w2c_j0;
     w2c_j0 = 0ull;
     w2c_j1 = w2c_l11;
     w2c_j2 = 18446744073709551614ull;
@@ -24505,13 +24614,13 @@ static void w2c_f15(Z_hidreport_instance_t* instance, u64 w2c_p0, u64 w2c_p1, u6
     w2c_j0 -= w2c_j1;
     w2c_l13 = w2c_j0;
     w2c_j0 = 1ull;
-    w2c_l27 = w2c_j0;
+    w2c_l28 = w2c_j0;
     w2c_j0 = w2c_l8;
     w2c_p6 = w2c_j0;
-    w2c_L122: 
-      w2c_j0 = w2c_l25;
-      w2c_j1 = w2c_l25;
-      w2c_j2 = w2c_l27;
+    w2c_L126: 
+      w2c_j0 = w2c_l26;
+      w2c_j1 = w2c_l26;
+      w2c_j2 = w2c_l28;
       w2c_j3 = w2c_p6;
       w2c_i3 = (u32)(w2c_j3);
       w2c_i3 = i32_load16_u(&instance->w2c_memory, (u64)(w2c_i3) + 2u);
@@ -24526,9 +24635,9 @@ static void w2c_f15(Z_hidreport_instance_t* instance, u64 w2c_p0, u64 w2c_p1, u6
       w2c_i3 = 1u;
       w2c_i2 &= w2c_i3;
       w2c_j0 = w2c_i2 ? w2c_j0 : w2c_j1;
-      w2c_l25 = w2c_j0;
-      w2c_j1 = w2c_l25;
-      w2c_j2 = w2c_l27;
+      w2c_l26 = w2c_j0;
+      w2c_j1 = w2c_l26;
+      w2c_j2 = w2c_l28;
       w2c_j3 = 1ull;
       w2c_j2 += w2c_j3;
       w2c_j3 = w2c_p6;
@@ -24547,30 +24656,30 @@ static void w2c_f15(Z_hidreport_instance_t* instance, u64 w2c_p0, u64 w2c_p1, u6
       w2c_i3 = 1u;
       w2c_i2 &= w2c_i3;
       w2c_j0 = w2c_i2 ? w2c_j0 : w2c_j1;
-      w2c_l25 = w2c_j0;
+      w2c_l26 = w2c_j0;
       w2c_j0 = w2c_p6;
       w2c_j1 = 24ull;
       w2c_j0 += w2c_j1;
       w2c_p6 = w2c_j0;
       w2c_j0 = w2c_l13;
-      w2c_j1 = w2c_l27;
+      w2c_j1 = w2c_l28;
       w2c_j2 = 2ull;
       w2c_j1 += w2c_j2;
-      w2c_l27 = w2c_j1;
+      w2c_l28 = w2c_j1;
       w2c_j0 += w2c_j1;
       w2c_j1 = 1ull;
       w2c_i0 = w2c_j0 != w2c_j1;
-      if (w2c_i0) {goto w2c_L122;}
-    w2c_j0 = w2c_l29;
+      if (w2c_i0) {goto w2c_L126;}
+    w2c_j0 = w2c_l30;
     w2c_i0 = !(w2c_j0);
-    if (w2c_i0) {goto w2c_B120;}
-    w2c_j0 = w2c_l27;
+    if (w2c_i0) {goto w2c_B124;}
+    w2c_j0 = w2c_l28;
     w2c_j1 = 18446744073709551615ull;
     w2c_j0 += w2c_j1;
     w2c_p6 = w2c_j0;
-    w2c_B121:;
-    w2c_j0 = w2c_l25;
-    w2c_j1 = w2c_l25;
+    w2c_B125:;
+    w2c_j0 = w2c_l26;
+    w2c_j1 = w2c_l26;
     w2c_j2 = w2c_p6;
     w2c_j3 = 1ull;
     w2c_j2 += w2c_j3;
@@ -24591,29 +24700,29 @@ static void w2c_f15(Z_hidreport_instance_t* instance, u64 w2c_p0, u64 w2c_p1, u6
     w2c_i3 = 1u;
     w2c_i2 &= w2c_i3;
     w2c_j0 = w2c_i2 ? w2c_j0 : w2c_j1;
-    w2c_l25 = w2c_j0;
-    w2c_B120:;
+    w2c_l26 = w2c_j0;
+    w2c_B124:;
     w2c_i0 = w2c_p5;
     w2c_i1 = 16u;
     w2c_i0 <<= (w2c_i1 & 31);
-    w2c_l40 = w2c_i0;
+    w2c_l31 = w2c_i0;
     w2c_j0 = 0ull;
     w2c_p6 = w2c_j0;
-    w2c_L123: 
+    w2c_L127: 
       w2c_j0 = w2c_l8;
       w2c_j1 = 4ull;
       w2c_j0 += w2c_j1;
       w2c_i0 = (u32)(w2c_j0);
       w2c_i0 = i32_load(&instance->w2c_memory, (u64)(w2c_i0));
-      w2c_l32 = w2c_i0;
+      w2c_l33 = w2c_i0;
       w2c_j0 = w2c_l8;
       w2c_i0 = (u32)(w2c_j0);
       w2c_i0 = i32_load(&instance->w2c_memory, (u64)(w2c_i0));
       w2c_p5 = w2c_i0;
       w2c_j0 = w2c_p6;
-      w2c_j1 = w2c_l25;
+      w2c_j1 = w2c_l26;
       w2c_i0 = w2c_j0 < w2c_j1;
-      if (w2c_i0) {goto w2c_B124;}
+      if (w2c_i0) {goto w2c_B128;}
       w2c_j0 = w2c_l8;
       w2c_j1 = 8ull;
       w2c_j0 += w2c_j1;
@@ -24621,29 +24730,29 @@ static void w2c_f15(Z_hidreport_instance_t* instance, u64 w2c_p0, u64 w2c_p1, u6
       w2c_i0 = i32_load8_u(&instance->w2c_memory, (u64)(w2c_i0));
       w2c_i1 = 1u;
       w2c_i0 &= w2c_i1;
-      if (w2c_i0) {goto w2c_B124;}
-      w2c_i0 = w2c_l32;
+      if (w2c_i0) {goto w2c_B128;}
+      w2c_i0 = w2c_l33;
       w2c_i1 = 65535u;
       w2c_i0 &= w2c_i1;
-      w2c_i1 = w2c_l40;
+      w2c_i1 = w2c_l31;
       w2c_i0 |= w2c_i1;
-      w2c_l32 = w2c_i0;
+      w2c_l33 = w2c_i0;
       w2c_i0 = w2c_p5;
       w2c_i1 = 65535u;
       w2c_i0 &= w2c_i1;
-      w2c_i1 = w2c_l40;
+      w2c_i1 = w2c_l31;
       w2c_i0 |= w2c_i1;
       w2c_p5 = w2c_i0;
-      w2c_B124:;
+      w2c_B128:;
       w2c_i0 = w2c_p5;
       w2c_i1 = 852049u;
       w2c_i0 = w2c_i0 > w2c_i1;
-      if (w2c_i0) {goto w2c_B126;}
-      w2c_i0 = w2c_l32;
+      if (w2c_i0) {goto w2c_B130;}
+      w2c_i0 = w2c_l33;
       w2c_i1 = 852049u;
       w2c_i0 = w2c_i0 >= w2c_i1;
-      if (w2c_i0) {goto w2c_B125;}
-      w2c_B126:;
+      if (w2c_i0) {goto w2c_B129;}
+      w2c_B130:;
       w2c_j0 = w2c_l8;
       w2c_j1 = 12ull;
       w2c_j0 += w2c_j1;
@@ -24654,34 +24763,34 @@ static void w2c_f15(Z_hidreport_instance_t* instance, u64 w2c_p0, u64 w2c_p1, u6
       w2c_j1 += w2c_j2;
       w2c_p6 = w2c_j1;
       w2c_i0 = w2c_j0 == w2c_j1;
-      if (w2c_i0) {goto w2c_B119;}
-      goto w2c_L123;
-      w2c_B125:;
+      if (w2c_i0) {goto w2c_B123;}
+      goto w2c_L127;
+      w2c_B129:;
     w2c_j0 = w2c_l7;
     w2c_i0 = (u32)(w2c_j0);
     w2c_i1 = 1u;
     i32_store16(&instance->w2c_memory, (u64)(w2c_i0) + 12665, w2c_i1);
-    w2c_B119:;
+    w2c_B123:;
     w2c_j0 = w2c_l7;
     w2c_i0 = (u32)(w2c_j0);
     w2c_i0 = i32_load(&instance->w2c_memory, (u64)(w2c_i0) + 12624u);
-    w2c_l40 = w2c_i0;
+    w2c_l31 = w2c_i0;
     w2c_i0 = !(w2c_i0);
-    if (w2c_i0) {goto w2c_B127;}
-    w2c_i0 = w2c_l33;
+    if (w2c_i0) {goto w2c_B131;}
+    w2c_i0 = w2c_l34;
     w2c_i0 = !(w2c_i0);
-    if (w2c_i0) {goto w2c_B128;}
-    w2c_i0 = w2c_l35;
-    if (w2c_i0) {goto w2c_B129;}
+    if (w2c_i0) {goto w2c_B132;}
+    w2c_i0 = w2c_l36;
+    if (w2c_i0) {goto w2c_B133;}
     w2c_j0 = w2c_l7;
     w2c_i0 = (u32)(w2c_j0);
     w2c_i1 = 1u;
     i32_store8(&instance->w2c_memory, (u64)(w2c_i0) + 12744, w2c_i1);
-    w2c_B129:;
-    w2c_i0 = w2c_l30;
+    w2c_B133:;
+    w2c_i0 = w2c_l37;
     w2c_i1 = 2u;
     w2c_i0 = w2c_i0 != w2c_i1;
-    if (w2c_i0) {goto w2c_B128;}
+    if (w2c_i0) {goto w2c_B132;}
     w2c_j0 = w2c_l7;
     w2c_i0 = (u32)(w2c_j0);
     w2c_i0 = i32_load8_u(&instance->w2c_memory, (u64)(w2c_i0) + 12752u);
@@ -24689,25 +24798,25 @@ static void w2c_f15(Z_hidreport_instance_t* instance, u64 w2c_p0, u64 w2c_p1, u6
     w2c_i0 &= w2c_i1;
     w2c_i1 = 1u;
     w2c_i0 = w2c_i0 == w2c_i1;
-    if (w2c_i0) {goto w2c_B128;}
+    if (w2c_i0) {goto w2c_B132;}
     w2c_j0 = w2c_l7;
     w2c_i0 = (u32)(w2c_j0);
     w2c_i0 = i32_load(&instance->w2c_memory, (u64)(w2c_i0) + 224u);
     w2c_i1 = 2147483648u;
     w2c_i0 = w2c_i0 != w2c_i1;
-    if (w2c_i0) {goto w2c_B128;}
+    if (w2c_i0) {goto w2c_B132;}
     w2c_j0 = w2c_l7;
     w2c_i0 = (u32)(w2c_j0);
     w2c_i0 = i32_load(&instance->w2c_memory, (u64)(w2c_i0) + 228u);
     w2c_i1 = 2147483647u;
     w2c_i0 = w2c_i0 != w2c_i1;
-    if (w2c_i0) {goto w2c_B128;}
+    if (w2c_i0) {goto w2c_B132;}
     w2c_j0 = w2c_l7;
     w2c_i0 = (u32)(w2c_j0);
     w2c_j0 = i64_load(&instance->w2c_memory, (u64)(w2c_i0) + 12608u);
     w2c_l11 = w2c_j0;
     w2c_i0 = !(w2c_j0);
-    if (w2c_i0) {goto w2c_B128;}
+    if (w2c_i0) {goto w2c_B132;}
     w2c_j0 = w2c_l7;
     w2c_i0 = (u32)(w2c_j0);
     w2c_j0 = i64_load(&instance->w2c_memory, (u64)(w2c_i0) + 12600u);
@@ -24717,19 +24826,19 @@ static void w2c_f15(Z_hidreport_instance_t* instance, u64 w2c_p0, u64 w2c_p1, u6
     w2c_i0 = i32_load(&instance->w2c_memory, (u64)(w2c_i0) + 260u);
     w2c_p5 = w2c_i0;
     w2c_j0 = 0ull;
-    w2c_l25 = w2c_j0;
+    w2c_l26 = w2c_j0;
     w2c_j0 = 0ull;
     w2c_p6 = w2c_j0;
     w2c_j0 = w2c_l11;
     w2c_j1 = 1ull;
     w2c_i0 = w2c_j0 == w2c_j1;
-    if (w2c_i0) {goto w2c_B131;}
+    if (w2c_i0) {goto w2c_B135;}
     w2c_j0 = w2c_l11;
     w2c_j1 = 1ull;
     w2c_j0 &= w2c_j1;
-    w2c_l29 = w2c_j0;
+    w2c_l30 = w2c_j0;
     w2c_j0 = 0ull;
-    w2c_l25 = w2c_j0;
+    w2c_l26 = w2c_j0;
     w2c_j0 = 0ull;
     w2c_j1 = w2c_l11;
     w2c_j2 = 18446744073709551614ull;
@@ -24737,13 +24846,13 @@ static void w2c_f15(Z_hidreport_instance_t* instance, u64 w2c_p0, u64 w2c_p1, u6
     w2c_j0 -= w2c_j1;
     w2c_l13 = w2c_j0;
     w2c_j0 = 1ull;
-    w2c_l27 = w2c_j0;
+    w2c_l28 = w2c_j0;
     w2c_j0 = w2c_l8;
     w2c_p6 = w2c_j0;
-    w2c_L132: 
-      w2c_j0 = w2c_l25;
-      w2c_j1 = w2c_l25;
-      w2c_j2 = w2c_l27;
+    w2c_L136: 
+      w2c_j0 = w2c_l26;
+      w2c_j1 = w2c_l26;
+      w2c_j2 = w2c_l28;
       w2c_j3 = w2c_p6;
       w2c_i3 = (u32)(w2c_j3);
       w2c_i3 = i32_load16_u(&instance->w2c_memory, (u64)(w2c_i3) + 2u);
@@ -24758,9 +24867,9 @@ static void w2c_f15(Z_hidreport_instance_t* instance, u64 w2c_p0, u64 w2c_p1, u6
       w2c_i3 = 1u;
       w2c_i2 &= w2c_i3;
       w2c_j0 = w2c_i2 ? w2c_j0 : w2c_j1;
-      w2c_l25 = w2c_j0;
-      w2c_j1 = w2c_l25;
-      w2c_j2 = w2c_l27;
+      w2c_l26 = w2c_j0;
+      w2c_j1 = w2c_l26;
+      w2c_j2 = w2c_l28;
       w2c_j3 = 1ull;
       w2c_j2 += w2c_j3;
       w2c_j3 = w2c_p6;
@@ -24779,30 +24888,30 @@ static void w2c_f15(Z_hidreport_instance_t* instance, u64 w2c_p0, u64 w2c_p1, u6
       w2c_i3 = 1u;
       w2c_i2 &= w2c_i3;
       w2c_j0 = w2c_i2 ? w2c_j0 : w2c_j1;
-      w2c_l25 = w2c_j0;
+      w2c_l26 = w2c_j0;
       w2c_j0 = w2c_p6;
       w2c_j1 = 24ull;
       w2c_j0 += w2c_j1;
       w2c_p6 = w2c_j0;
       w2c_j0 = w2c_l13;
-      w2c_j1 = w2c_l27;
+      w2c_j1 = w2c_l28;
       w2c_j2 = 2ull;
       w2c_j1 += w2c_j2;
-      w2c_l27 = w2c_j1;
+      w2c_l28 = w2c_j1;
       w2c_j0 += w2c_j1;
       w2c_j1 = 1ull;
       w2c_i0 = w2c_j0 != w2c_j1;
-      if (w2c_i0) {goto w2c_L132;}
-    w2c_j0 = w2c_l29;
+      if (w2c_i0) {goto w2c_L136;}
+    w2c_j0 = w2c_l30;
     w2c_i0 = !(w2c_j0);
-    if (w2c_i0) {goto w2c_B130;}
-    w2c_j0 = w2c_l27;
+    if (w2c_i0) {goto w2c_B134;}
+    w2c_j0 = w2c_l28;
     w2c_j1 = 18446744073709551615ull;
     w2c_j0 += w2c_j1;
     w2c_p6 = w2c_j0;
-    w2c_B131:;
-    w2c_j0 = w2c_l25;
-    w2c_j1 = w2c_l25;
+    w2c_B135:;
+    w2c_j0 = w2c_l26;
+    w2c_j1 = w2c_l26;
     w2c_j2 = w2c_p6;
     w2c_j3 = 1ull;
     w2c_j2 += w2c_j3;
@@ -24823,29 +24932,29 @@ static void w2c_f15(Z_hidreport_instance_t* instance, u64 w2c_p0, u64 w2c_p1, u6
     w2c_i3 = 1u;
     w2c_i2 &= w2c_i3;
     w2c_j0 = w2c_i2 ? w2c_j0 : w2c_j1;
-    w2c_l25 = w2c_j0;
-    w2c_B130:;
+    w2c_l26 = w2c_j0;
+    w2c_B134:;
     w2c_i0 = w2c_p5;
     w2c_i1 = 16u;
     w2c_i0 <<= (w2c_i1 & 31);
-    w2c_l38 = w2c_i0;
+    w2c_l39 = w2c_i0;
     w2c_j0 = 0ull;
     w2c_p6 = w2c_j0;
-    w2c_L133: 
+    w2c_L137: 
       w2c_j0 = w2c_l8;
       w2c_j1 = 4ull;
       w2c_j0 += w2c_j1;
       w2c_i0 = (u32)(w2c_j0);
       w2c_i0 = i32_load(&instance->w2c_memory, (u64)(w2c_i0));
-      w2c_l32 = w2c_i0;
+      w2c_l33 = w2c_i0;
       w2c_j0 = w2c_l8;
       w2c_i0 = (u32)(w2c_j0);
       w2c_i0 = i32_load(&instance->w2c_memory, (u64)(w2c_i0));
       w2c_p5 = w2c_i0;
       w2c_j0 = w2c_p6;
-      w2c_j1 = w2c_l25;
+      w2c_j1 = w2c_l26;
       w2c_i0 = w2c_j0 < w2c_j1;
-      if (w2c_i0) {goto w2c_B134;}
+      if (w2c_i0) {goto w2c_B138;}
       w2c_j0 = w2c_l8;
       w2c_j1 = 8ull;
       w2c_j0 += w2c_j1;
@@ -24853,29 +24962,29 @@ static void w2c_f15(Z_hidreport_instance_t* instance, u64 w2c_p0, u64 w2c_p1, u6
       w2c_i0 = i32_load8_u(&instance->w2c_memory, (u64)(w2c_i0));
       w2c_i1 = 1u;
       w2c_i0 &= w2c_i1;
-      if (w2c_i0) {goto w2c_B134;}
-      w2c_i0 = w2c_l32;
+      if (w2c_i0) {goto w2c_B138;}
+      w2c_i0 = w2c_l33;
       w2c_i1 = 65535u;
       w2c_i0 &= w2c_i1;
-      w2c_i1 = w2c_l38;
+      w2c_i1 = w2c_l39;
       w2c_i0 |= w2c_i1;
-      w2c_l32 = w2c_i0;
+      w2c_l33 = w2c_i0;
       w2c_i0 = w2c_p5;
       w2c_i1 = 65535u;
       w2c_i0 &= w2c_i1;
-      w2c_i1 = w2c_l38;
+      w2c_i1 = w2c_l39;
       w2c_i0 |= w2c_i1;
       w2c_p5 = w2c_i0;
-      w2c_B134:;
+      w2c_B138:;
       w2c_i0 = w2c_p5;
       w2c_i1 = 65608u;
       w2c_i0 = w2c_i0 > w2c_i1;
-      if (w2c_i0) {goto w2c_B136;}
-      w2c_i0 = w2c_l32;
+      if (w2c_i0) {goto w2c_B140;}
+      w2c_i0 = w2c_l33;
       w2c_i1 = 65608u;
       w2c_i0 = w2c_i0 >= w2c_i1;
-      if (w2c_i0) {goto w2c_B135;}
-      w2c_B136:;
+      if (w2c_i0) {goto w2c_B139;}
+      w2c_B140:;
       w2c_j0 = w2c_l8;
       w2c_j1 = 12ull;
       w2c_j0 += w2c_j1;
@@ -24886,9 +24995,9 @@ static void w2c_f15(Z_hidreport_instance_t* instance, u64 w2c_p0, u64 w2c_p1, u6
       w2c_j1 += w2c_j2;
       w2c_p6 = w2c_j1;
       w2c_i0 = w2c_j0 == w2c_j1;
-      if (w2c_i0) {goto w2c_B128;}
-      goto w2c_L133;
-      w2c_B135:;
+      if (w2c_i0) {goto w2c_B132;}
+      goto w2c_L137;
+      w2c_B139:;
     w2c_j0 = w2c_l7;
     w2c_i0 = (u32)(w2c_j0);
     w2c_j1 = w2c_l10;
@@ -24897,183 +25006,163 @@ static void w2c_f15(Z_hidreport_instance_t* instance, u64 w2c_p0, u64 w2c_p1, u6
     w2c_i0 = (u32)(w2c_j0);
     w2c_j1 = 1ull;
     i64_store(&instance->w2c_memory, (u64)(w2c_i0) + 12752, w2c_j1);
-    w2c_B128:;
-    w2c_j0 = w2c_l28;
+    w2c_B132:;
+    w2c_j0 = w2c_l29;
+    w2c_i0 = (u32)(w2c_j0);
+    w2c_i0 = i32_load(&instance->w2c_memory, (u64)(w2c_i0) + 12u);
+    w2c_p5 = w2c_i0;
+    w2c_j0 = w2c_l29;
     w2c_i0 = (u32)(w2c_j0);
     w2c_i0 = i32_load(&instance->w2c_memory, (u64)(w2c_i0) + 8u);
-    w2c_l32 = w2c_i0;
-    w2c_j0 = w2c_l28;
+    w2c_l39 = w2c_i0;
+    w2c_j0 = w2c_l29;
     w2c_i0 = (u32)(w2c_j0);
     w2c_i0 = i32_load(&instance->w2c_memory, (u64)(w2c_i0) + 4u);
-    w2c_p5 = w2c_i0;
-    w2c_j0 = w2c_l7;
-    w2c_i0 = (u32)(w2c_j0);
-    w2c_i0 = i32_load(&instance->w2c_memory, (u64)(w2c_i0) + 12644u);
-    w2c_l38 = w2c_i0;
-    w2c_i0 = w2c_l36;
+    w2c_l33 = w2c_i0;
+    w2c_i0 = w2c_l38;
     w2c_i0 = !(w2c_i0);
-    if (w2c_i0) {goto w2c_B138;}
+    if (w2c_i0) {goto w2c_B142;}
     w2c_i0 = 0u;
-    w2c_l36 = w2c_i0;
+    w2c_l42 = w2c_i0;
+    w2c_j0 = 0ull;
+    w2c_l29 = w2c_j0;
     w2c_i0 = 0u;
-    w2c_l39 = w2c_i0;
+    w2c_l43 = w2c_i0;
     w2c_i0 = 0u;
-    w2c_l37 = w2c_i0;
+    w2c_l44 = w2c_i0;
     w2c_i0 = 0u;
-    w2c_l41 = w2c_i0;
-    goto w2c_B137;
-    w2c_B138:;
+    w2c_l45 = w2c_i0;
+    goto w2c_B141;
+    w2c_B142:;
     w2c_j0 = w2c_l7;
     w2c_i0 = (u32)(w2c_j0);
     w2c_j0 = i64_load(&instance->w2c_memory, (u64)(w2c_i0) + 288u);
     w2c_j1 = w2c_l14;
-    w2c_j2 = 4ull;
-    w2c_j1 <<= (w2c_j2 & 63);
+    w2c_j2 = 24ull;
+    w2c_j1 *= w2c_j2;
     w2c_j0 += w2c_j1;
     w2c_p6 = w2c_j0;
-    w2c_j1 = 18446744073709551600ull;
+    w2c_j1 = 18446744073709551592ull;
     w2c_j0 += w2c_j1;
     w2c_l8 = w2c_j0;
     w2c_i0 = (u32)(w2c_j0);
     w2c_i0 = i32_load(&instance->w2c_memory, (u64)(w2c_i0) + 4u);
-    w2c_l41 = w2c_i0;
+    w2c_l45 = w2c_i0;
     w2c_j0 = w2c_l8;
     w2c_i0 = (u32)(w2c_j0);
     w2c_i0 = i32_load(&instance->w2c_memory, (u64)(w2c_i0));
-    w2c_l37 = w2c_i0;
+    w2c_l44 = w2c_i0;
     w2c_j0 = w2c_p6;
-    w2c_j1 = 18446744073709551612ull;
+    w2c_j1 = 18446744073709551604ull;
     w2c_j0 += w2c_j1;
     w2c_i0 = (u32)(w2c_j0);
     w2c_i0 = i32_load8_u(&instance->w2c_memory, (u64)(w2c_i0));
-    w2c_l39 = w2c_i0;
+    w2c_l43 = w2c_i0;
+    w2c_j0 = w2c_p6;
+    w2c_j1 = 18446744073709551600ull;
+    w2c_j0 += w2c_j1;
+    w2c_i0 = (u32)(w2c_j0);
+    w2c_i0 = i32_load(&instance->w2c_memory, (u64)(w2c_i0));
+    w2c_l42 = w2c_i0;
     w2c_j0 = w2c_p6;
     w2c_j1 = 18446744073709551608ull;
     w2c_j0 += w2c_j1;
     w2c_i0 = (u32)(w2c_j0);
-    w2c_i0 = i32_load(&instance->w2c_memory, (u64)(w2c_i0));
-    w2c_l36 = w2c_i0;
-    w2c_B137:;
+    w2c_j0 = i64_load(&instance->w2c_memory, (u64)(w2c_i0));
+    w2c_l29 = w2c_j0;
+    w2c_B141:;
     w2c_j0 = w2c_l7;
     w2c_i0 = (u32)(w2c_j0);
     w2c_i0 = i32_load(&instance->w2c_memory, (u64)(w2c_i0) + 244u);
-    w2c_l42 = w2c_i0;
+    w2c_l38 = w2c_i0;
     w2c_j0 = w2c_l7;
     w2c_i0 = (u32)(w2c_j0);
     w2c_i0 = i32_load(&instance->w2c_memory, (u64)(w2c_i0) + 240u);
-    w2c_l43 = w2c_i0;
-    w2c_j0 = w2c_l7;
-    w2c_i0 = (u32)(w2c_j0);
-    w2c_i0 = i32_load(&instance->w2c_memory, (u64)(w2c_i0) + 236u);
-    w2c_l44 = w2c_i0;
-    w2c_j0 = w2c_l7;
-    w2c_i0 = (u32)(w2c_j0);
-    w2c_i0 = i32_load(&instance->w2c_memory, (u64)(w2c_i0) + 232u);
-    w2c_l45 = w2c_i0;
-    w2c_j0 = w2c_l7;
-    w2c_i0 = (u32)(w2c_j0);
-    w2c_i0 = i32_load(&instance->w2c_memory, (u64)(w2c_i0) + 228u);
     w2c_l46 = w2c_i0;
     w2c_j0 = w2c_l7;
     w2c_i0 = (u32)(w2c_j0);
-    w2c_i0 = i32_load(&instance->w2c_memory, (u64)(w2c_i0) + 224u);
+    w2c_i0 = i32_load(&instance->w2c_memory, (u64)(w2c_i0) + 236u);
     w2c_l47 = w2c_i0;
     w2c_j0 = w2c_l7;
     w2c_i0 = (u32)(w2c_j0);
+    w2c_i0 = i32_load(&instance->w2c_memory, (u64)(w2c_i0) + 232u);
+    w2c_l48 = w2c_i0;
+    w2c_j0 = w2c_l7;
+    w2c_i0 = (u32)(w2c_j0);
+    w2c_i0 = i32_load(&instance->w2c_memory, (u64)(w2c_i0) + 228u);
+    w2c_l49 = w2c_i0;
+    w2c_j0 = w2c_l7;
+    w2c_i0 = (u32)(w2c_j0);
+    w2c_i0 = i32_load(&instance->w2c_memory, (u64)(w2c_i0) + 224u);
+    w2c_l50 = w2c_i0;
+    w2c_j0 = w2c_l7;
+    w2c_i0 = (u32)(w2c_j0);
     w2c_j0 = i64_load(&instance->w2c_memory, (u64)(w2c_i0) + 12608u);
-    w2c_l25 = w2c_j0;
+    w2c_l26 = w2c_j0;
     w2c_j0 = w2c_l7;
     w2c_i0 = (u32)(w2c_j0);
-    w2c_j0 = i64_load(&instance->w2c_memory, (u64)(w2c_i0) + 12824u);
-    w2c_l27 = w2c_j0;
+    w2c_j0 = i64_load(&instance->w2c_memory, (u64)(w2c_i0) + 12848u);
+    w2c_l28 = w2c_j0;
     w2c_j0 = w2c_l7;
     w2c_i0 = (u32)(w2c_j0);
-    w2c_j0 = i64_load(&instance->w2c_memory, (u64)(w2c_i0) + 12808u);
+    w2c_i0 = i32_load(&instance->w2c_memory, (u64)(w2c_i0) + 12644u);
+    w2c_l51 = w2c_i0;
+    w2c_j0 = w2c_l7;
+    w2c_i0 = (u32)(w2c_j0);
+    w2c_j0 = i64_load(&instance->w2c_memory, (u64)(w2c_i0) + 12832u);
     w2c_j1 = w2c_l7;
     w2c_i1 = (u32)(w2c_j1);
-    w2c_j1 = i64_load(&instance->w2c_memory, (u64)(w2c_i1) + 12800u);
+    w2c_j1 = i64_load(&instance->w2c_memory, (u64)(w2c_i1) + 12824u);
     w2c_l8 = w2c_j1;
     w2c_i0 = w2c_j0 != w2c_j1;
-    if (w2c_i0) {goto w2c_B139;}
-    w2c_j0 = w2c_l20;
-    w2c_i0 = w2c_f66(instance, w2c_j0);
+    if (w2c_i0) {goto w2c_B143;}
+    w2c_j0 = w2c_l21;
+    w2c_i0 = w2c_f67(instance, w2c_j0);
     w2c_i0 = !(w2c_i0);
     if (w2c_i0) {goto w2c_B18;}
     w2c_j0 = w2c_l7;
     w2c_i0 = (u32)(w2c_j0);
-    w2c_j0 = i64_load(&instance->w2c_memory, (u64)(w2c_i0) + 12800u);
+    w2c_j0 = i64_load(&instance->w2c_memory, (u64)(w2c_i0) + 12824u);
     w2c_l8 = w2c_j0;
-    w2c_B139:;
+    w2c_B143:;
     w2c_j0 = w2c_l7;
     w2c_i0 = (u32)(w2c_j0);
-    w2c_j0 = i64_load(&instance->w2c_memory, (u64)(w2c_i0) + 12792u);
+    w2c_j0 = i64_load(&instance->w2c_memory, (u64)(w2c_i0) + 12816u);
     w2c_j1 = w2c_l8;
-    w2c_j2 = 104ull;
+    w2c_j2 = 120ull;
     w2c_j1 *= w2c_j2;
     w2c_j0 += w2c_j1;
     w2c_p6 = w2c_j0;
     w2c_i0 = (u32)(w2c_j0);
-    w2c_i1 = w2c_l41;
-    i32_store(&instance->w2c_memory, (u64)(w2c_i0) + 48, w2c_i1);
+    w2c_i1 = w2c_l45;
+    i32_store(&instance->w2c_memory, (u64)(w2c_i0) + 68, w2c_i1);
     w2c_j0 = w2c_p6;
     w2c_i0 = (u32)(w2c_j0);
-    w2c_i1 = w2c_l37;
-    i32_store(&instance->w2c_memory, (u64)(w2c_i0) + 44, w2c_i1);
-    w2c_j0 = w2c_p6;
-    w2c_i0 = (u32)(w2c_j0);
-    w2c_i1 = w2c_l39;
-    i32_store8(&instance->w2c_memory, (u64)(w2c_i0) + 56, w2c_i1);
-    w2c_j0 = w2c_p6;
-    w2c_i0 = (u32)(w2c_j0);
-    w2c_i1 = w2c_l36;
-    i32_store(&instance->w2c_memory, (u64)(w2c_i0) + 52, w2c_i1);
-    w2c_j0 = w2c_p6;
-    w2c_i0 = (u32)(w2c_j0);
-    w2c_i1 = w2c_l35;
-    w2c_i2 = 1u;
-    w2c_i1 = w2c_i1 == w2c_i2;
-    i32_store8(&instance->w2c_memory, (u64)(w2c_i0) + 43, w2c_i1);
-    w2c_j0 = w2c_p6;
-    w2c_i0 = (u32)(w2c_j0);
-    w2c_i1 = w2c_l31;
-    w2c_i2 = 2u;
-    w2c_i1 >>= (w2c_i2 & 31);
-    w2c_i2 = 1u;
-    w2c_i1 &= w2c_i2;
-    i32_store8(&instance->w2c_memory, (u64)(w2c_i0) + 42, w2c_i1);
-    w2c_j0 = w2c_p6;
-    w2c_i0 = (u32)(w2c_j0);
-    w2c_i1 = w2c_l31;
-    w2c_i2 = 1u;
-    w2c_i1 &= w2c_i2;
-    i32_store8(&instance->w2c_memory, (u64)(w2c_i0) + 41, w2c_i1);
-    w2c_j0 = w2c_p6;
-    w2c_i0 = (u32)(w2c_j0);
-    w2c_i1 = w2c_l30;
-    i32_store8(&instance->w2c_memory, (u64)(w2c_i0) + 40, w2c_i1);
-    w2c_j0 = w2c_p6;
-    w2c_i0 = (u32)(w2c_j0);
-    w2c_i1 = w2c_l38;
-    i32_store(&instance->w2c_memory, (u64)(w2c_i0) + 36, w2c_i1);
-    w2c_j0 = w2c_p6;
-    w2c_i0 = (u32)(w2c_j0);
-    w2c_i1 = w2c_l40;
-    i32_store(&instance->w2c_memory, (u64)(w2c_i0) + 32, w2c_i1);
-    w2c_j0 = w2c_p6;
-    w2c_i0 = (u32)(w2c_j0);
-    w2c_i1 = w2c_l33;
-    i32_store(&instance->w2c_memory, (u64)(w2c_i0) + 28, w2c_i1);
-    w2c_j0 = w2c_p6;
-    w2c_i0 = (u32)(w2c_j0);
-    w2c_i1 = w2c_l35;
-    i32_store(&instance->w2c_memory, (u64)(w2c_i0) + 24, w2c_i1);
+    w2c_i1 = w2c_l44;
+    i32_store(&instance->w2c_memory, (u64)(w2c_i0) + 64, w2c_i1);
     w2c_j0 = w2c_p6;
     w2c_i0 = (u32)(w2c_j0);
     w2c_i1 = 0u;
+    i32_store(&instance->w2c_memory, (u64)(w2c_i0) + 25, w2c_i1);
+    w2c_j0 = w2c_p6;
+    w2c_i0 = (u32)(w2c_j0);
+    w2c_i1 = w2c_l32;
+    w2c_i2 = 8u;
+    w2c_i1 >>= (w2c_i2 & 31);
+    w2c_i2 = 1u;
+    w2c_i1 &= w2c_i2;
+    i32_store8(&instance->w2c_memory, (u64)(w2c_i0) + 24, w2c_i1);
+    w2c_j0 = w2c_p6;
+    w2c_i0 = (u32)(w2c_j0);
+    w2c_i1 = w2c_l32;
+    w2c_i2 = 6u;
+    w2c_i1 >>= (w2c_i2 & 31);
+    w2c_i2 = 1u;
+    w2c_i1 &= w2c_i2;
     i32_store8(&instance->w2c_memory, (u64)(w2c_i0) + 23, w2c_i1);
     w2c_j0 = w2c_p6;
     w2c_i0 = (u32)(w2c_j0);
-    w2c_i1 = w2c_l31;
+    w2c_i1 = w2c_l32;
     w2c_i2 = 1u;
     w2c_i1 >>= (w2c_i2 & 31);
     w2c_i2 = 1u;
@@ -25081,27 +25170,27 @@ static void w2c_f15(Z_hidreport_instance_t* instance, u64 w2c_p0, u64 w2c_p1, u6
     i32_store8(&instance->w2c_memory, (u64)(w2c_i0) + 22, w2c_i1);
     w2c_j0 = w2c_p6;
     w2c_i0 = (u32)(w2c_j0);
-    w2c_i1 = w2c_p5;
+    w2c_i1 = w2c_l33;
     w2c_i2 = 256u;
     w2c_i1 = w2c_i1 > w2c_i2;
     i32_store8(&instance->w2c_memory, (u64)(w2c_i0) + 21, w2c_i1);
     w2c_j0 = w2c_p6;
     w2c_i0 = (u32)(w2c_j0);
-    w2c_i1 = w2c_p5;
+    w2c_i1 = w2c_l33;
     w2c_i2 = 1u;
     w2c_i1 = w2c_i1 == w2c_i2;
     i32_store8(&instance->w2c_memory, (u64)(w2c_i0) + 20, w2c_i1);
     w2c_j0 = w2c_p6;
     w2c_i0 = (u32)(w2c_j0);
-    w2c_i1 = w2c_l32;
+    w2c_i1 = w2c_l39;
     i32_store(&instance->w2c_memory, (u64)(w2c_i0) + 16, w2c_i1);
     w2c_j0 = w2c_p6;
     w2c_i0 = (u32)(w2c_j0);
-    w2c_i1 = w2c_l34;
+    w2c_i1 = w2c_l35;
     i32_store(&instance->w2c_memory, (u64)(w2c_i0) + 12, w2c_i1);
     w2c_j0 = w2c_p6;
     w2c_i0 = (u32)(w2c_j0);
-    w2c_i1 = w2c_l30;
+    w2c_i1 = w2c_l37;
     i32_store(&instance->w2c_memory, (u64)(w2c_i0) + 8, w2c_i1);
     w2c_j0 = w2c_p6;
     w2c_i0 = (u32)(w2c_j0);
@@ -25110,59 +25199,131 @@ static void w2c_f15(Z_hidreport_instance_t* instance, u64 w2c_p0, u64 w2c_p1, u6
     w2c_j0 = w2c_p6;
     w2c_i0 = (u32)(w2c_j0);
     w2c_i1 = 0u;
-    i32_store8(&instance->w2c_memory, (u64)(w2c_i0) + 59, w2c_i1);
-    w2c_j0 = w2c_p6;
-    w2c_i0 = (u32)(w2c_j0);
-    w2c_i1 = 0u;
-    i32_store16(&instance->w2c_memory, (u64)(w2c_i0) + 57, w2c_i1);
-    w2c_j0 = w2c_p6;
-    w2c_i0 = (u32)(w2c_j0);
-    w2c_i1 = 0u;
-    i32_store(&instance->w2c_memory, (u64)(w2c_i0) + 84, w2c_i1);
-    w2c_j0 = w2c_p6;
-    w2c_i0 = (u32)(w2c_j0);
-    w2c_j1 = w2c_l27;
-    i64_store(&instance->w2c_memory, (u64)(w2c_i0) + 88, w2c_j1);
-    w2c_j0 = w2c_p6;
-    w2c_i0 = (u32)(w2c_j0);
-    w2c_j1 = w2c_l25;
-    i64_store(&instance->w2c_memory, (u64)(w2c_i0) + 96, w2c_j1);
-    w2c_j0 = w2c_p6;
-    w2c_i0 = (u32)(w2c_j0);
-    w2c_i1 = w2c_l42;
-    i32_store(&instance->w2c_memory, (u64)(w2c_i0) + 80, w2c_i1);
+    i32_store(&instance->w2c_memory, (u64)(w2c_i0) + 28, w2c_i1);
     w2c_j0 = w2c_p6;
     w2c_i0 = (u32)(w2c_j0);
     w2c_i1 = w2c_l43;
-    i32_store(&instance->w2c_memory, (u64)(w2c_i0) + 76, w2c_i1);
+    i32_store8(&instance->w2c_memory, (u64)(w2c_i0) + 76, w2c_i1);
     w2c_j0 = w2c_p6;
     w2c_i0 = (u32)(w2c_j0);
-    w2c_i1 = w2c_l44;
+    w2c_i1 = w2c_l42;
     i32_store(&instance->w2c_memory, (u64)(w2c_i0) + 72, w2c_i1);
     w2c_j0 = w2c_p6;
     w2c_i0 = (u32)(w2c_j0);
-    w2c_i1 = w2c_l45;
-    i32_store(&instance->w2c_memory, (u64)(w2c_i0) + 68, w2c_i1);
+    w2c_i1 = w2c_l36;
+    w2c_i2 = 1u;
+    w2c_i1 = w2c_i1 == w2c_i2;
+    i32_store8(&instance->w2c_memory, (u64)(w2c_i0) + 63, w2c_i1);
+    w2c_j0 = w2c_p6;
+    w2c_i0 = (u32)(w2c_j0);
+    w2c_i1 = w2c_l32;
+    w2c_i2 = 2u;
+    w2c_i1 >>= (w2c_i2 & 31);
+    w2c_i2 = 1u;
+    w2c_i1 &= w2c_i2;
+    i32_store8(&instance->w2c_memory, (u64)(w2c_i0) + 62, w2c_i1);
+    w2c_j0 = w2c_p6;
+    w2c_i0 = (u32)(w2c_j0);
+    w2c_i1 = w2c_l32;
+    w2c_i2 = 1u;
+    w2c_i1 &= w2c_i2;
+    i32_store8(&instance->w2c_memory, (u64)(w2c_i0) + 61, w2c_i1);
+    w2c_j0 = w2c_p6;
+    w2c_i0 = (u32)(w2c_j0);
+    w2c_i1 = w2c_l37;
+    i32_store8(&instance->w2c_memory, (u64)(w2c_i0) + 60, w2c_i1);
+    w2c_j0 = w2c_p6;
+    w2c_i0 = (u32)(w2c_j0);
+    w2c_i1 = w2c_l51;
+    i32_store(&instance->w2c_memory, (u64)(w2c_i0) + 56, w2c_i1);
+    w2c_j0 = w2c_p6;
+    w2c_i0 = (u32)(w2c_j0);
+    w2c_i1 = w2c_l31;
+    i32_store(&instance->w2c_memory, (u64)(w2c_i0) + 52, w2c_i1);
+    w2c_j0 = w2c_p6;
+    w2c_i0 = (u32)(w2c_j0);
+    w2c_i1 = w2c_l34;
+    i32_store(&instance->w2c_memory, (u64)(w2c_i0) + 48, w2c_i1);
+    w2c_j0 = w2c_p6;
+    w2c_i0 = (u32)(w2c_j0);
+    w2c_i1 = w2c_l36;
+    i32_store(&instance->w2c_memory, (u64)(w2c_i0) + 44, w2c_i1);
+    w2c_j0 = w2c_p6;
+    w2c_i0 = (u32)(w2c_j0);
+    w2c_i1 = 0u;
+    w2c_i2 = 0u;
+    w2c_i3 = w2c_p5;
+    w2c_i4 = w2c_l40;
+    w2c_i3 -= w2c_i4;
+    w2c_l32 = w2c_i3;
+    w2c_i4 = w2c_l32;
+    w2c_i5 = w2c_p5;
+    w2c_i4 = w2c_i4 > w2c_i5;
+    w2c_i2 = w2c_i4 ? w2c_i2 : w2c_i3;
+    w2c_i3 = w2c_l41;
+    w2c_i4 = 0u;
+    w2c_i3 = w2c_i3 != w2c_i4;
+    w2c_i1 = w2c_i3 ? w2c_i1 : w2c_i2;
+    w2c_i2 = w2c_p5;
+    w2c_i3 = w2c_l34;
+    w2c_i1 = w2c_i3 ? w2c_i1 : w2c_i2;
+    i32_store(&instance->w2c_memory, (u64)(w2c_i0) + 40, w2c_i1);
+    w2c_j0 = w2c_p6;
+    w2c_i0 = (u32)(w2c_j0);
+    w2c_j1 = w2c_l29;
+    i64_store(&instance->w2c_memory, (u64)(w2c_i0) + 32, w2c_j1);
+    w2c_j0 = w2c_p6;
+    w2c_i0 = (u32)(w2c_j0);
+    w2c_i1 = 0u;
+    i32_store8(&instance->w2c_memory, (u64)(w2c_i0) + 79, w2c_i1);
+    w2c_j0 = w2c_p6;
+    w2c_i0 = (u32)(w2c_j0);
+    w2c_i1 = 0u;
+    i32_store16(&instance->w2c_memory, (u64)(w2c_i0) + 77, w2c_i1);
+    w2c_j0 = w2c_p6;
+    w2c_i0 = (u32)(w2c_j0);
+    w2c_j1 = w2c_l28;
+    i64_store(&instance->w2c_memory, (u64)(w2c_i0) + 104, w2c_j1);
+    w2c_j0 = w2c_p6;
+    w2c_i0 = (u32)(w2c_j0);
+    w2c_j1 = w2c_l26;
+    i64_store(&instance->w2c_memory, (u64)(w2c_i0) + 112, w2c_j1);
+    w2c_j0 = w2c_p6;
+    w2c_i0 = (u32)(w2c_j0);
+    w2c_i1 = w2c_l38;
+    i32_store(&instance->w2c_memory, (u64)(w2c_i0) + 100, w2c_i1);
     w2c_j0 = w2c_p6;
     w2c_i0 = (u32)(w2c_j0);
     w2c_i1 = w2c_l46;
-    i32_store(&instance->w2c_memory, (u64)(w2c_i0) + 64, w2c_i1);
+    i32_store(&instance->w2c_memory, (u64)(w2c_i0) + 96, w2c_i1);
     w2c_j0 = w2c_p6;
     w2c_i0 = (u32)(w2c_j0);
     w2c_i1 = w2c_l47;
-    i32_store(&instance->w2c_memory, (u64)(w2c_i0) + 60, w2c_i1);
+    i32_store(&instance->w2c_memory, (u64)(w2c_i0) + 92, w2c_i1);
+    w2c_j0 = w2c_p6;
+    w2c_i0 = (u32)(w2c_j0);
+    w2c_i1 = w2c_l48;
+    i32_store(&instance->w2c_memory, (u64)(w2c_i0) + 88, w2c_i1);
+    w2c_j0 = w2c_p6;
+    w2c_i0 = (u32)(w2c_j0);
+    w2c_i1 = w2c_l49;
+    i32_store(&instance->w2c_memory, (u64)(w2c_i0) + 84, w2c_i1);
+    w2c_j0 = w2c_p6;
+    w2c_i0 = (u32)(w2c_j0);
+    w2c_i1 = w2c_l50;
+    i32_store(&instance->w2c_memory, (u64)(w2c_i0) + 80, w2c_i1);
     w2c_j0 = w2c_l7;
     w2c_i0 = (u32)(w2c_j0);
     w2c_j1 = w2c_l8;
     w2c_j2 = 1ull;
     w2c_j1 += w2c_j2;
-    i64_store(&instance->w2c_memory, (u64)(w2c_i0) + 12800, w2c_j1);
+    i64_store(&instance->w2c_memory, (u64)(w2c_i0) + 12824, w2c_j1);
     w2c_j0 = w2c_l7;
     w2c_i0 = (u32)(w2c_j0);
     w2c_j0 = i64_load(&instance->w2c_memory, (u64)(w2c_i0) + 12608u);
     w2c_l11 = w2c_j0;
     w2c_i0 = !(w2c_j0);
-    if (w2c_i0) {goto w2c_B140;}
+    if (w2c_i0) {goto w2c_B144;}
     w2c_j0 = w2c_l7;
     w2c_i0 = (u32)(w2c_j0);
     w2c_j0 = i64_load(&instance->w2c_memory, (u64)(w2c_i0) + 12600u);
@@ -25172,19 +25333,19 @@ static void w2c_f15(Z_hidreport_instance_t* instance, u64 w2c_p0, u64 w2c_p1, u6
     w2c_i0 = i32_load(&instance->w2c_memory, (u64)(w2c_i0) + 260u);
     w2c_p5 = w2c_i0;
     w2c_j0 = 0ull;
-    w2c_l28 = w2c_j0;
+    w2c_l29 = w2c_j0;
     w2c_j0 = 0ull;
     w2c_l8 = w2c_j0;
     w2c_j0 = w2c_l11;
     w2c_j1 = 1ull;
     w2c_i0 = w2c_j0 == w2c_j1;
-    if (w2c_i0) {goto w2c_B142;}
+    if (w2c_i0) {goto w2c_B146;}
     w2c_j0 = w2c_l11;
     w2c_j1 = 1ull;
     w2c_j0 &= w2c_j1;
     w2c_l14 = w2c_j0;
     w2c_j0 = 0ull;
-    w2c_l28 = w2c_j0;
+    w2c_l29 = w2c_j0;
     w2c_j0 = 0ull;
     w2c_j1 = w2c_l11;
     w2c_j2 = 18446744073709551614ull;
@@ -25192,13 +25353,13 @@ static void w2c_f15(Z_hidreport_instance_t* instance, u64 w2c_p0, u64 w2c_p1, u6
     w2c_j0 -= w2c_j1;
     w2c_l13 = w2c_j0;
     w2c_j0 = 1ull;
-    w2c_l25 = w2c_j0;
+    w2c_l26 = w2c_j0;
     w2c_j0 = w2c_p6;
     w2c_l8 = w2c_j0;
-    w2c_L143: 
-      w2c_j0 = w2c_l28;
-      w2c_j1 = w2c_l28;
-      w2c_j2 = w2c_l25;
+    w2c_L147: 
+      w2c_j0 = w2c_l29;
+      w2c_j1 = w2c_l29;
+      w2c_j2 = w2c_l26;
       w2c_j3 = w2c_l8;
       w2c_i3 = (u32)(w2c_j3);
       w2c_i3 = i32_load16_u(&instance->w2c_memory, (u64)(w2c_i3) + 2u);
@@ -25213,9 +25374,9 @@ static void w2c_f15(Z_hidreport_instance_t* instance, u64 w2c_p0, u64 w2c_p1, u6
       w2c_i3 = 1u;
       w2c_i2 &= w2c_i3;
       w2c_j0 = w2c_i2 ? w2c_j0 : w2c_j1;
-      w2c_l27 = w2c_j0;
-      w2c_j1 = w2c_l27;
-      w2c_j2 = w2c_l25;
+      w2c_l28 = w2c_j0;
+      w2c_j1 = w2c_l28;
+      w2c_j2 = w2c_l26;
       w2c_j3 = 1ull;
       w2c_j2 += w2c_j3;
       w2c_j3 = w2c_l8;
@@ -25234,30 +25395,30 @@ static void w2c_f15(Z_hidreport_instance_t* instance, u64 w2c_p0, u64 w2c_p1, u6
       w2c_i3 = 1u;
       w2c_i2 &= w2c_i3;
       w2c_j0 = w2c_i2 ? w2c_j0 : w2c_j1;
-      w2c_l28 = w2c_j0;
+      w2c_l29 = w2c_j0;
       w2c_j0 = w2c_l8;
       w2c_j1 = 24ull;
       w2c_j0 += w2c_j1;
       w2c_l8 = w2c_j0;
       w2c_j0 = w2c_l13;
-      w2c_j1 = w2c_l25;
+      w2c_j1 = w2c_l26;
       w2c_j2 = 2ull;
       w2c_j1 += w2c_j2;
-      w2c_l25 = w2c_j1;
+      w2c_l26 = w2c_j1;
       w2c_j0 += w2c_j1;
       w2c_j1 = 1ull;
       w2c_i0 = w2c_j0 != w2c_j1;
-      if (w2c_i0) {goto w2c_L143;}
+      if (w2c_i0) {goto w2c_L147;}
     w2c_j0 = w2c_l14;
     w2c_i0 = !(w2c_j0);
-    if (w2c_i0) {goto w2c_B141;}
-    w2c_j0 = w2c_l25;
+    if (w2c_i0) {goto w2c_B145;}
+    w2c_j0 = w2c_l26;
     w2c_j1 = 18446744073709551615ull;
     w2c_j0 += w2c_j1;
     w2c_l8 = w2c_j0;
-    w2c_B142:;
-    w2c_j0 = w2c_l28;
-    w2c_j1 = w2c_l28;
+    w2c_B146:;
+    w2c_j0 = w2c_l29;
+    w2c_j1 = w2c_l29;
     w2c_j2 = w2c_l8;
     w2c_j3 = 1ull;
     w2c_j2 += w2c_j3;
@@ -25278,15 +25439,15 @@ static void w2c_f15(Z_hidreport_instance_t* instance, u64 w2c_p0, u64 w2c_p1, u6
     w2c_i3 = 1u;
     w2c_i2 &= w2c_i3;
     w2c_j0 = w2c_i2 ? w2c_j0 : w2c_j1;
-    w2c_l28 = w2c_j0;
-    w2c_B141:;
+    w2c_l29 = w2c_j0;
+    w2c_B145:;
     w2c_i0 = w2c_p5;
     w2c_i1 = 16u;
     w2c_i0 <<= (w2c_i1 & 31);
-    w2c_l33 = w2c_i0;
+    w2c_l34 = w2c_i0;
     w2c_j0 = 0ull;
-    w2c_l27 = w2c_j0;
-    w2c_L144: 
+    w2c_l28 = w2c_j0;
+    w2c_L148: 
       w2c_j0 = w2c_p6;
       w2c_j1 = 9ull;
       w2c_j0 += w2c_j1;
@@ -25300,115 +25461,115 @@ static void w2c_f15(Z_hidreport_instance_t* instance, u64 w2c_p0, u64 w2c_p1, u6
       w2c_j0 = w2c_p6;
       w2c_i0 = (u32)(w2c_j0);
       w2c_i0 = i32_load(&instance->w2c_memory, (u64)(w2c_i0) + 4u);
-      w2c_l31 = w2c_i0;
+      w2c_l32 = w2c_i0;
       w2c_j0 = w2c_p6;
       w2c_i0 = (u32)(w2c_j0);
       w2c_i0 = i32_load(&instance->w2c_memory, (u64)(w2c_i0));
-      w2c_l32 = w2c_i0;
-      w2c_j0 = w2c_l27;
-      w2c_j1 = w2c_l28;
+      w2c_l33 = w2c_i0;
+      w2c_j0 = w2c_l28;
+      w2c_j1 = w2c_l29;
       w2c_i0 = w2c_j0 >= w2c_j1;
-      if (w2c_i0) {goto w2c_B146;}
+      if (w2c_i0) {goto w2c_B150;}
       w2c_j0 = w2c_l7;
       w2c_i0 = (u32)(w2c_j0);
       w2c_j1 = w2c_l8;
       w2c_i1 = (u32)(w2c_j1);
       w2c_i1 = i32_load8_u(&instance->w2c_memory, (u64)(w2c_i1) + 2u);
-      i32_store8(&instance->w2c_memory, (u64)(w2c_i0) + 12842, w2c_i1);
+      i32_store8(&instance->w2c_memory, (u64)(w2c_i0) + 12874, w2c_i1);
       w2c_j0 = w2c_l7;
       w2c_i0 = (u32)(w2c_j0);
       w2c_j1 = w2c_l8;
       w2c_i1 = (u32)(w2c_j1);
       w2c_i1 = i32_load16_u(&instance->w2c_memory, (u64)(w2c_i1));
-      i32_store16(&instance->w2c_memory, (u64)(w2c_i0) + 12840, w2c_i1);
-      goto w2c_B145;
-      w2c_B146:;
+      i32_store16(&instance->w2c_memory, (u64)(w2c_i0) + 12872, w2c_i1);
+      goto w2c_B149;
+      w2c_B150:;
       w2c_i0 = w2c_p5;
       w2c_i1 = 1u;
       w2c_i0 &= w2c_i1;
       w2c_i0 = !(w2c_i0);
-      if (w2c_i0) {goto w2c_B147;}
+      if (w2c_i0) {goto w2c_B151;}
       w2c_j0 = w2c_l7;
       w2c_i0 = (u32)(w2c_j0);
       w2c_j1 = w2c_l8;
       w2c_i1 = (u32)(w2c_j1);
       w2c_i1 = i32_load8_u(&instance->w2c_memory, (u64)(w2c_i1) + 2u);
-      i32_store8(&instance->w2c_memory, (u64)(w2c_i0) + 12842, w2c_i1);
+      i32_store8(&instance->w2c_memory, (u64)(w2c_i0) + 12874, w2c_i1);
       w2c_j0 = w2c_l7;
       w2c_i0 = (u32)(w2c_j0);
       w2c_j1 = w2c_l8;
       w2c_i1 = (u32)(w2c_j1);
       w2c_i1 = i32_load16_u(&instance->w2c_memory, (u64)(w2c_i1));
-      i32_store16(&instance->w2c_memory, (u64)(w2c_i0) + 12840, w2c_i1);
-      goto w2c_B145;
-      w2c_B147:;
+      i32_store16(&instance->w2c_memory, (u64)(w2c_i0) + 12872, w2c_i1);
+      goto w2c_B149;
+      w2c_B151:;
       w2c_i0 = 0u;
       w2c_p5 = w2c_i0;
       w2c_j0 = w2c_l7;
       w2c_i0 = (u32)(w2c_j0);
       w2c_i1 = 0u;
-      i32_store8(&instance->w2c_memory, (u64)(w2c_i0) + 12842, w2c_i1);
+      i32_store8(&instance->w2c_memory, (u64)(w2c_i0) + 12874, w2c_i1);
       w2c_j0 = w2c_l7;
       w2c_i0 = (u32)(w2c_j0);
       w2c_i1 = 0u;
-      i32_store16(&instance->w2c_memory, (u64)(w2c_i0) + 12840, w2c_i1);
+      i32_store16(&instance->w2c_memory, (u64)(w2c_i0) + 12872, w2c_i1);
+      w2c_i0 = w2c_l33;
+      w2c_i1 = 65535u;
+      w2c_i0 &= w2c_i1;
+      w2c_i1 = w2c_l34;
+      w2c_i0 |= w2c_i1;
+      w2c_l33 = w2c_i0;
       w2c_i0 = w2c_l32;
       w2c_i1 = 65535u;
       w2c_i0 &= w2c_i1;
-      w2c_i1 = w2c_l33;
+      w2c_i1 = w2c_l34;
       w2c_i0 |= w2c_i1;
       w2c_l32 = w2c_i0;
-      w2c_i0 = w2c_l31;
-      w2c_i1 = 65535u;
-      w2c_i0 &= w2c_i1;
-      w2c_i1 = w2c_l33;
-      w2c_i0 |= w2c_i1;
-      w2c_l31 = w2c_i0;
-      w2c_B145:;
+      w2c_B149:;
       w2c_j0 = w2c_l7;
       w2c_i0 = (u32)(w2c_j0);
       w2c_j1 = w2c_l7;
       w2c_i1 = (u32)(w2c_j1);
-      w2c_i1 = i32_load8_u(&instance->w2c_memory, (u64)(w2c_i1) + 12842u);
-      i32_store8(&instance->w2c_memory, (u64)(w2c_i0) + 12882, w2c_i1);
+      w2c_i1 = i32_load8_u(&instance->w2c_memory, (u64)(w2c_i1) + 12874u);
+      i32_store8(&instance->w2c_memory, (u64)(w2c_i0) + 12914, w2c_i1);
       w2c_j0 = w2c_l7;
       w2c_i0 = (u32)(w2c_j0);
       w2c_j1 = w2c_l7;
       w2c_i1 = (u32)(w2c_j1);
-      w2c_i1 = i32_load16_u(&instance->w2c_memory, (u64)(w2c_i1) + 12840u);
-      i32_store16(&instance->w2c_memory, (u64)(w2c_i0) + 12880, w2c_i1);
+      w2c_i1 = i32_load16_u(&instance->w2c_memory, (u64)(w2c_i1) + 12872u);
+      i32_store16(&instance->w2c_memory, (u64)(w2c_i0) + 12912, w2c_i1);
       w2c_j0 = w2c_l7;
       w2c_i0 = (u32)(w2c_j0);
-      w2c_j0 = i64_load(&instance->w2c_memory, (u64)(w2c_i0) + 12832u);
+      w2c_j0 = i64_load(&instance->w2c_memory, (u64)(w2c_i0) + 12856u);
       w2c_j1 = w2c_l7;
       w2c_i1 = (u32)(w2c_j1);
-      w2c_j1 = i64_load(&instance->w2c_memory, (u64)(w2c_i1) + 12824u);
-      w2c_l25 = w2c_j1;
+      w2c_j1 = i64_load(&instance->w2c_memory, (u64)(w2c_i1) + 12848u);
+      w2c_l26 = w2c_j1;
       w2c_i0 = w2c_j0 != w2c_j1;
-      if (w2c_i0) {goto w2c_B148;}
-      w2c_j0 = w2c_l21;
+      if (w2c_i0) {goto w2c_B152;}
+      w2c_j0 = w2c_l22;
       w2c_i0 = w2c_f62(instance, w2c_j0);
       w2c_i0 = !(w2c_i0);
       if (w2c_i0) {goto w2c_B18;}
       w2c_j0 = w2c_l7;
       w2c_i0 = (u32)(w2c_j0);
-      w2c_j0 = i64_load(&instance->w2c_memory, (u64)(w2c_i0) + 12824u);
-      w2c_l25 = w2c_j0;
-      w2c_B148:;
+      w2c_j0 = i64_load(&instance->w2c_memory, (u64)(w2c_i0) + 12848u);
+      w2c_l26 = w2c_j0;
+      w2c_B152:;
       w2c_j0 = w2c_l7;
       w2c_i0 = (u32)(w2c_j0);
-      w2c_j0 = i64_load(&instance->w2c_memory, (u64)(w2c_i0) + 12816u);
-      w2c_j1 = w2c_l25;
+      w2c_j0 = i64_load(&instance->w2c_memory, (u64)(w2c_i0) + 12840u);
+      w2c_j1 = w2c_l26;
       w2c_j2 = 12ull;
       w2c_j1 *= w2c_j2;
       w2c_j0 += w2c_j1;
       w2c_l8 = w2c_j0;
       w2c_i0 = (u32)(w2c_j0);
-      w2c_i1 = w2c_l31;
+      w2c_i1 = w2c_l32;
       i32_store(&instance->w2c_memory, (u64)(w2c_i0) + 4, w2c_i1);
       w2c_j0 = w2c_l8;
       w2c_i0 = (u32)(w2c_j0);
-      w2c_i1 = w2c_l32;
+      w2c_i1 = w2c_l33;
       i32_store(&instance->w2c_memory, (u64)(w2c_i0), w2c_i1);
       w2c_j0 = w2c_l8;
       w2c_i0 = (u32)(w2c_j0);
@@ -25418,50 +25579,50 @@ static void w2c_f15(Z_hidreport_instance_t* instance, u64 w2c_p0, u64 w2c_p1, u6
       w2c_i0 = (u32)(w2c_j0);
       w2c_j1 = w2c_l7;
       w2c_i1 = (u32)(w2c_j1);
-      w2c_i1 = i32_load16_u(&instance->w2c_memory, (u64)(w2c_i1) + 12880u);
+      w2c_i1 = i32_load16_u(&instance->w2c_memory, (u64)(w2c_i1) + 12912u);
       i32_store16(&instance->w2c_memory, (u64)(w2c_i0) + 9, w2c_i1);
       w2c_j0 = w2c_l8;
       w2c_i0 = (u32)(w2c_j0);
       w2c_j1 = w2c_l7;
       w2c_i1 = (u32)(w2c_j1);
-      w2c_i1 = i32_load8_u(&instance->w2c_memory, (u64)(w2c_i1) + 12882u);
+      w2c_i1 = i32_load8_u(&instance->w2c_memory, (u64)(w2c_i1) + 12914u);
       i32_store8(&instance->w2c_memory, (u64)(w2c_i0) + 11, w2c_i1);
       w2c_j0 = w2c_l7;
       w2c_i0 = (u32)(w2c_j0);
-      w2c_j1 = w2c_l25;
+      w2c_j1 = w2c_l26;
       w2c_j2 = 1ull;
       w2c_j1 += w2c_j2;
-      i64_store(&instance->w2c_memory, (u64)(w2c_i0) + 12824, w2c_j1);
+      i64_store(&instance->w2c_memory, (u64)(w2c_i0) + 12848, w2c_j1);
       w2c_j0 = w2c_p6;
       w2c_j1 = 12ull;
       w2c_j0 += w2c_j1;
       w2c_p6 = w2c_j0;
       w2c_j0 = w2c_l11;
-      w2c_j1 = w2c_l27;
+      w2c_j1 = w2c_l28;
       w2c_j2 = 1ull;
       w2c_j1 += w2c_j2;
-      w2c_l27 = w2c_j1;
+      w2c_l28 = w2c_j1;
       w2c_i0 = w2c_j0 != w2c_j1;
-      if (w2c_i0) {goto w2c_L144;}
-    w2c_B140:;
+      if (w2c_i0) {goto w2c_L148;}
+    w2c_B144:;
     w2c_j0 = w2c_l7;
     w2c_i0 = (u32)(w2c_j0);
     w2c_i0 = i32_load(&instance->w2c_memory, (u64)(w2c_i0) + 256u);
-    w2c_l34 = w2c_i0;
-    w2c_B127:;
+    w2c_l35 = w2c_i0;
+    w2c_B131:;
     w2c_j0 = w2c_l7;
     w2c_i0 = (u32)(w2c_j0);
-    w2c_i1 = w2c_l34;
+    w2c_i1 = w2c_l35;
     w2c_i1 = !(w2c_i1);
     w2c_j2 = w2c_l7;
     w2c_i2 = (u32)(w2c_j2);
     w2c_i2 = i32_load8_u(&instance->w2c_memory, (u64)(w2c_i2) + 12649u);
     w2c_i1 |= w2c_i2;
-    w2c_l31 = w2c_i1;
+    w2c_l32 = w2c_i1;
     i32_store8(&instance->w2c_memory, (u64)(w2c_i0) + 12649, w2c_i1);
     w2c_j0 = w2c_l7;
     w2c_i0 = (u32)(w2c_j0);
-    w2c_i1 = w2c_l34;
+    w2c_i1 = w2c_l35;
     w2c_i2 = 0u;
     w2c_i1 = w2c_i1 != w2c_i2;
     w2c_j2 = w2c_l7;
@@ -25474,12 +25635,12 @@ static void w2c_f15(Z_hidreport_instance_t* instance, u64 w2c_p0, u64 w2c_p1, u6
     w2c_i1 = 1u;
     w2c_i0 &= w2c_i1;
     w2c_i0 = !(w2c_i0);
-    if (w2c_i0) {goto w2c_B149;}
-    w2c_i0 = w2c_l31;
+    if (w2c_i0) {goto w2c_B153;}
+    w2c_i0 = w2c_l32;
     w2c_i1 = 1u;
     w2c_i0 &= w2c_i1;
     w2c_i0 = !(w2c_i0);
-    if (w2c_i0) {goto w2c_B149;}
+    if (w2c_i0) {goto w2c_B153;}
     w2c_j0 = w2c_l7;
     w2c_i0 = (u32)(w2c_j0);
     w2c_i0 = i32_load8_u(&instance->w2c_memory, (u64)(w2c_i0) + 12672u);
@@ -25487,7 +25648,7 @@ static void w2c_f15(Z_hidreport_instance_t* instance, u64 w2c_p0, u64 w2c_p1, u6
     w2c_i0 &= w2c_i1;
     w2c_i1 = 1u;
     w2c_i0 = w2c_i0 == w2c_i1;
-    if (w2c_i0) {goto w2c_B149;}
+    if (w2c_i0) {goto w2c_B153;}
     w2c_j0 = w2c_l15;
     w2c_i0 = (u32)(w2c_j0);
     w2c_i1 = 0u;
@@ -25508,7 +25669,7 @@ static void w2c_f15(Z_hidreport_instance_t* instance, u64 w2c_p0, u64 w2c_p1, u6
     w2c_i0 = (u32)(w2c_j0);
     w2c_j1 = 1ull;
     i64_store(&instance->w2c_memory, (u64)(w2c_i0) + 12672, w2c_j1);
-    w2c_B149:;
+    w2c_B153:;
     w2c_j0 = w2c_l7;
     w2c_i0 = (u32)(w2c_j0);
     w2c_j0 = i64_load(&instance->w2c_memory, (u64)(w2c_i0) + 12608u);
@@ -25527,14 +25688,14 @@ static void w2c_f15(Z_hidreport_instance_t* instance, u64 w2c_p0, u64 w2c_p1, u6
     w2c_B28:;
     w2c_j0 = w2c_l7;
     w2c_i0 = (u32)(w2c_j0);
-    w2c_i1 = w2c_l33;
+    w2c_i1 = w2c_l34;
     i32_store(&instance->w2c_memory, (u64)(w2c_i0) + 224, w2c_i1);
     goto w2c_B15;
     w2c_B27:;
     w2c_j0 = w2c_l7;
     w2c_i0 = (u32)(w2c_j0);
-    w2c_i1 = w2c_l33;
-    w2c_i2 = w2c_l40;
+    w2c_i1 = w2c_l34;
+    w2c_i2 = w2c_l31;
     w2c_j3 = w2c_l7;
     w2c_i3 = (u32)(w2c_j3);
     w2c_i3 = i32_load(&instance->w2c_memory, (u64)(w2c_i3) + 224u);
@@ -25546,14 +25707,14 @@ static void w2c_f15(Z_hidreport_instance_t* instance, u64 w2c_p0, u64 w2c_p1, u6
     w2c_B26:;
     w2c_j0 = w2c_l7;
     w2c_i0 = (u32)(w2c_j0);
-    w2c_i1 = w2c_l33;
+    w2c_i1 = w2c_l34;
     i32_store(&instance->w2c_memory, (u64)(w2c_i0) + 232, w2c_i1);
     goto w2c_B15;
     w2c_B25:;
     w2c_j0 = w2c_l7;
     w2c_i0 = (u32)(w2c_j0);
-    w2c_i1 = w2c_l33;
-    w2c_i2 = w2c_l40;
+    w2c_i1 = w2c_l34;
+    w2c_i2 = w2c_l31;
     w2c_j3 = w2c_l7;
     w2c_i3 = (u32)(w2c_j3);
     w2c_i3 = i32_load(&instance->w2c_memory, (u64)(w2c_i3) + 232u);
@@ -25565,11 +25726,11 @@ static void w2c_f15(Z_hidreport_instance_t* instance, u64 w2c_p0, u64 w2c_p1, u6
     w2c_B24:;
     w2c_j0 = w2c_l7;
     w2c_i0 = (u32)(w2c_j0);
-    w2c_i1 = w2c_l33;
+    w2c_i1 = w2c_l34;
     w2c_i2 = 4294967280u;
     w2c_i1 += w2c_i2;
-    w2c_i2 = w2c_l33;
-    w2c_i3 = w2c_l33;
+    w2c_i2 = w2c_l34;
+    w2c_i3 = w2c_l34;
     w2c_i4 = 4294967288u;
     w2c_i3 &= w2c_i4;
     w2c_i4 = 8u;
@@ -25580,32 +25741,32 @@ static void w2c_f15(Z_hidreport_instance_t* instance, u64 w2c_p0, u64 w2c_p1, u6
     w2c_B23:;
     w2c_j0 = w2c_l7;
     w2c_i0 = (u32)(w2c_j0);
-    w2c_i1 = w2c_l33;
+    w2c_i1 = w2c_l34;
     i32_store(&instance->w2c_memory, (u64)(w2c_i0) + 240, w2c_i1);
     goto w2c_B15;
     w2c_B22:;
     w2c_j0 = w2c_l7;
     w2c_i0 = (u32)(w2c_j0);
-    w2c_i1 = w2c_l33;
+    w2c_i1 = w2c_l34;
     i32_store(&instance->w2c_memory, (u64)(w2c_i0) + 248, w2c_i1);
     goto w2c_B15;
     w2c_B21:;
     w2c_j0 = w2c_l7;
     w2c_i0 = (u32)(w2c_j0);
-    w2c_i1 = w2c_l33;
+    w2c_i1 = w2c_l34;
     i32_store(&instance->w2c_memory, (u64)(w2c_i0) + 252, w2c_i1);
     goto w2c_B15;
     w2c_B20:;
     w2c_j0 = w2c_l7;
     w2c_i0 = (u32)(w2c_j0);
-    w2c_i1 = w2c_l33;
+    w2c_i1 = w2c_l34;
     i32_store(&instance->w2c_memory, (u64)(w2c_i0) + 256, w2c_i1);
     goto w2c_B15;
     w2c_B19:;
-    w2c_i0 = w2c_l33;
+    w2c_i0 = w2c_l34;
     w2c_i1 = 65536u;
     w2c_i0 = w2c_i0 < w2c_i1;
-    if (w2c_i0) {goto w2c_B150;}
+    if (w2c_i0) {goto w2c_B154;}
     w2c_j0 = w2c_l7;
     w2c_i0 = (u32)(w2c_j0);
     w2c_i0 = i32_load8_u(&instance->w2c_memory, (u64)(w2c_i0) + 12672u);
@@ -25625,10 +25786,10 @@ static void w2c_f15(Z_hidreport_instance_t* instance, u64 w2c_p0, u64 w2c_p1, u6
     w2c_j1 = 1ull;
     i64_store(&instance->w2c_memory, (u64)(w2c_i0) + 12672, w2c_j1);
     goto w2c_B15;
-    w2c_B150:;
+    w2c_B154:;
     w2c_j0 = w2c_l7;
     w2c_i0 = (u32)(w2c_j0);
-    w2c_i1 = w2c_l33;
+    w2c_i1 = w2c_l34;
     i32_store(&instance->w2c_memory, (u64)(w2c_i0) + 260, w2c_i1);
     goto w2c_B15;
     w2c_B18:;
@@ -25636,62 +25797,72 @@ static void w2c_f15(Z_hidreport_instance_t* instance, u64 w2c_p0, u64 w2c_p1, u6
     w2c_i0 = (u32)(w2c_j0);
     w2c_j0 = i64_load(&instance->w2c_memory, (u64)(w2c_i0) + 280u);
     w2c_i0 = !(w2c_j0);
-    if (w2c_i0) {goto w2c_B151;}
+    if (w2c_i0) {goto w2c_B155;}
     w2c_j0 = w2c_l7;
     w2c_i0 = (u32)(w2c_j0);
     w2c_j0 = i64_load(&instance->w2c_memory, (u64)(w2c_i0) + 264u);
     w2c_rattle_dealloc(instance, w2c_j0);
-    w2c_B151:;
+    w2c_B155:;
     w2c_j0 = w2c_l7;
     w2c_i0 = (u32)(w2c_j0);
     w2c_j0 = i64_load(&instance->w2c_memory, (u64)(w2c_i0) + 304u);
     w2c_i0 = !(w2c_j0);
-    if (w2c_i0) {goto w2c_B152;}
+    if (w2c_i0) {goto w2c_B156;}
     w2c_j0 = w2c_l7;
     w2c_i0 = (u32)(w2c_j0);
     w2c_j0 = i64_load(&instance->w2c_memory, (u64)(w2c_i0) + 288u);
     w2c_rattle_dealloc(instance, w2c_j0);
-    w2c_B152:;
+    w2c_B156:;
     w2c_j0 = w2c_l7;
     w2c_i0 = (u32)(w2c_j0);
     w2c_j0 = i64_load(&instance->w2c_memory, (u64)(w2c_i0) + 12616u);
     w2c_i0 = !(w2c_j0);
-    if (w2c_i0) {goto w2c_B153;}
+    if (w2c_i0) {goto w2c_B157;}
     w2c_j0 = w2c_l7;
     w2c_i0 = (u32)(w2c_j0);
     w2c_j0 = i64_load(&instance->w2c_memory, (u64)(w2c_i0) + 12600u);
     w2c_rattle_dealloc(instance, w2c_j0);
-    w2c_B153:;
+    w2c_B157:;
     w2c_j0 = w2c_l7;
     w2c_i0 = (u32)(w2c_j0);
     w2c_j0 = i64_load(&instance->w2c_memory, (u64)(w2c_i0) + 12784u);
     w2c_i0 = !(w2c_j0);
-    if (w2c_i0) {goto w2c_B154;}
+    if (w2c_i0) {goto w2c_B158;}
     w2c_j0 = w2c_l7;
     w2c_i0 = (u32)(w2c_j0);
     w2c_j0 = i64_load(&instance->w2c_memory, (u64)(w2c_i0) + 12768u);
     w2c_rattle_dealloc(instance, w2c_j0);
-    w2c_B154:;
+    w2c_B158:;
     w2c_j0 = w2c_l7;
     w2c_i0 = (u32)(w2c_j0);
     w2c_j0 = i64_load(&instance->w2c_memory, (u64)(w2c_i0) + 12808u);
     w2c_i0 = !(w2c_j0);
-    if (w2c_i0) {goto w2c_B155;}
+    if (w2c_i0) {goto w2c_B159;}
     w2c_j0 = w2c_l7;
     w2c_i0 = (u32)(w2c_j0);
     w2c_j0 = i64_load(&instance->w2c_memory, (u64)(w2c_i0) + 12792u);
     w2c_rattle_dealloc(instance, w2c_j0);
-    w2c_B155:;
+    w2c_B159:;
     w2c_j0 = w2c_l7;
     w2c_i0 = (u32)(w2c_j0);
     w2c_j0 = i64_load(&instance->w2c_memory, (u64)(w2c_i0) + 12832u);
     w2c_i0 = !(w2c_j0);
-    if (w2c_i0) {goto w2c_B156;}
+    if (w2c_i0) {goto w2c_B160;}
     w2c_j0 = w2c_l7;
     w2c_i0 = (u32)(w2c_j0);
     w2c_j0 = i64_load(&instance->w2c_memory, (u64)(w2c_i0) + 12816u);
     w2c_rattle_dealloc(instance, w2c_j0);
-    w2c_B156:;
+    w2c_B160:;
+    w2c_j0 = w2c_l7;
+    w2c_i0 = (u32)(w2c_j0);
+    w2c_j0 = i64_load(&instance->w2c_memory, (u64)(w2c_i0) + 12856u);
+    w2c_i0 = !(w2c_j0);
+    if (w2c_i0) {goto w2c_B161;}
+    w2c_j0 = w2c_l7;
+    w2c_i0 = (u32)(w2c_j0);
+    w2c_j0 = i64_load(&instance->w2c_memory, (u64)(w2c_i0) + 12840u);
+    w2c_rattle_dealloc(instance, w2c_j0);
+    w2c_B161:;
     w2c_j0 = 0ull;
     w2c_l10 = w2c_j0;
     w2c_j0 = w2c_l7;
@@ -25713,9 +25884,9 @@ static void w2c_f15(Z_hidreport_instance_t* instance, u64 w2c_p0, u64 w2c_p1, u6
     w2c_j0 = 1ull;
     w2c_p6 = w2c_j0;
     w2c_j0 = 3ull;
-    w2c_l24 = w2c_j0;
+    w2c_l25 = w2c_j0;
     w2c_j0 = 0ull;
-    w2c_l27 = w2c_j0;
+    w2c_l28 = w2c_j0;
     w2c_j0 = 0ull;
     w2c_l9 = w2c_j0;
     w2c_j0 = 0ull;
@@ -25748,58 +25919,62 @@ static void w2c_f15(Z_hidreport_instance_t* instance, u64 w2c_p0, u64 w2c_p1, u6
     w2c_j1 = w2c_l9;
     w2c_j0 -= w2c_j1;
     w2c_p6 = w2c_j0;
-    w2c_j0 = w2c_l26;
+    w2c_j0 = w2c_l27;
     w2c_j1 = w2c_l9;
     w2c_j0 += w2c_j1;
     w2c_l8 = w2c_j0;
-    w2c_j0 = w2c_l24;
+    w2c_j0 = w2c_l25;
     w2c_j1 = 18446744073709551615ull;
     w2c_j0 += w2c_j1;
-    w2c_l24 = w2c_j0;
+    w2c_l25 = w2c_j0;
     w2c_i0 = !(w2c_j0);
     w2c_i0 = !(w2c_i0);
     if (w2c_i0) {goto w2c_L8;}
   w2c_B7:;
   w2c_i0 = 1u;
-  w2c_l36 = w2c_i0;
+  w2c_l38 = w2c_i0;
   w2c_j0 = w2c_l7;
   w2c_i0 = (u32)(w2c_j0);
   w2c_j0 = i64_load(&instance->w2c_memory, (u64)(w2c_i0) + 296u);
   w2c_j1 = 0ull;
   w2c_i0 = w2c_j0 == w2c_j1;
-  if (w2c_i0) {goto w2c_B157;}
+  if (w2c_i0) {goto w2c_B162;}
   w2c_i0 = 16u;
-  w2c_l39 = w2c_i0;
+  w2c_l41 = w2c_i0;
   w2c_j0 = w2c_p2;
   w2c_l10 = w2c_j0;
   goto w2c_B6;
-  w2c_B157:;
+  w2c_B162:;
   w2c_j0 = w2c_l7;
   w2c_i0 = (u32)(w2c_j0);
   w2c_i0 = i32_load8_u(&instance->w2c_memory, (u64)(w2c_i0) + 12636u);
   w2c_i0 = !(w2c_i0);
-  if (w2c_i0) {goto w2c_B158;}
+  if (w2c_i0) {goto w2c_B163;}
   w2c_i0 = 17u;
-  w2c_l39 = w2c_i0;
+  w2c_l41 = w2c_i0;
   w2c_j0 = w2c_p2;
   w2c_l10 = w2c_j0;
   goto w2c_B6;
-  w2c_B158:;
+  w2c_B163:;
   w2c_j0 = w2c_l7;
   w2c_i0 = (u32)(w2c_j0);
   w2c_i0 = i32_load8_u(&instance->w2c_memory, (u64)(w2c_i0) + 12696u);
   w2c_i1 = 1u;
   w2c_i0 = w2c_i0 == w2c_i1;
-  w2c_l36 = w2c_i0;
+  w2c_l38 = w2c_i0;
   w2c_j0 = w2c_l7;
   w2c_i0 = (u32)(w2c_j0);
   w2c_i0 = i32_load8_u(&instance->w2c_memory, (u64)(w2c_i0) + 12712u);
-  w2c_l39 = w2c_i0;
+  w2c_l41 = w2c_i0;
   w2c_j0 = w2c_l7;
   w2c_i0 = (u32)(w2c_j0);
   w2c_j0 = i64_load(&instance->w2c_memory, (u64)(w2c_i0) + 12704u);
   w2c_l10 = w2c_j0;
   w2c_B6:;
+  w2c_j0 = w2c_l7;
+  w2c_i0 = (u32)(w2c_j0);
+  w2c_j0 = i64_load(&instance->w2c_memory, (u64)(w2c_i0) + 12840u);
+  w2c_l17 = w2c_j0;
   w2c_j0 = w2c_l7;
   w2c_i0 = (u32)(w2c_j0);
   w2c_j0 = i64_load(&instance->w2c_memory, (u64)(w2c_i0) + 12816u);
@@ -25827,11 +26002,11 @@ static void w2c_f15(Z_hidreport_instance_t* instance, u64 w2c_p0, u64 w2c_p1, u6
   w2c_j0 = w2c_l7;
   w2c_i0 = (u32)(w2c_j0);
   w2c_j0 = i64_load(&instance->w2c_memory, (u64)(w2c_i0) + 280u);
-  w2c_l26 = w2c_j0;
+  w2c_l27 = w2c_j0;
   w2c_j0 = w2c_l7;
   w2c_i0 = (u32)(w2c_j0);
   w2c_j0 = i64_load(&instance->w2c_memory, (u64)(w2c_i0) + 304u);
-  w2c_l17 = w2c_j0;
+  w2c_l22 = w2c_j0;
   w2c_j0 = w2c_l7;
   w2c_i0 = (u32)(w2c_j0);
   w2c_j0 = i64_load(&instance->w2c_memory, (u64)(w2c_i0) + 12616u);
@@ -25839,34 +26014,41 @@ static void w2c_f15(Z_hidreport_instance_t* instance, u64 w2c_p0, u64 w2c_p1, u6
   w2c_j0 = w2c_l7;
   w2c_i0 = (u32)(w2c_j0);
   w2c_j0 = i64_load(&instance->w2c_memory, (u64)(w2c_i0) + 12784u);
-  w2c_l20 = w2c_j0;
+  w2c_l23 = w2c_j0;
   w2c_j0 = w2c_l7;
   w2c_i0 = (u32)(w2c_j0);
   w2c_j0 = i64_load(&instance->w2c_memory, (u64)(w2c_i0) + 12808u);
-  w2c_l22 = w2c_j0;
+  w2c_l18 = w2c_j0;
   w2c_j0 = w2c_l7;
   w2c_i0 = (u32)(w2c_j0);
   w2c_j0 = i64_load(&instance->w2c_memory, (u64)(w2c_i0) + 12832u);
-  w2c_l18 = w2c_j0;
-  w2c_i0 = w2c_l36;
+  w2c_l19 = w2c_j0;
+  w2c_j0 = w2c_l7;
+  w2c_i0 = (u32)(w2c_j0);
+  w2c_j0 = i64_load(&instance->w2c_memory, (u64)(w2c_i0) + 12856u);
+  w2c_l20 = w2c_j0;
+  w2c_i0 = w2c_l38;
   w2c_i0 = !(w2c_i0);
   if (w2c_i0) {goto w2c_B3;}
+  w2c_j0 = w2c_l20;
+  w2c_i0 = !(w2c_j0);
+  w2c_l37 = w2c_i0;
+  w2c_j0 = w2c_l19;
+  w2c_i0 = !(w2c_j0);
+  w2c_l36 = w2c_i0;
   w2c_j0 = w2c_l18;
   w2c_i0 = !(w2c_j0);
   w2c_l35 = w2c_i0;
-  w2c_j0 = w2c_l22;
+  w2c_j0 = w2c_l23;
   w2c_i0 = !(w2c_j0);
   w2c_l34 = w2c_i0;
-  w2c_j0 = w2c_l20;
-  w2c_i0 = !(w2c_j0);
-  w2c_l33 = w2c_i0;
   w2c_j0 = w2c_l21;
   w2c_i0 = !(w2c_j0);
-  w2c_l32 = w2c_i0;
-  w2c_j0 = w2c_l17;
+  w2c_l33 = w2c_i0;
+  w2c_j0 = w2c_l22;
   w2c_i0 = !(w2c_j0);
-  w2c_l31 = w2c_i0;
-  w2c_j0 = w2c_l26;
+  w2c_l32 = w2c_i0;
+  w2c_j0 = w2c_l27;
   w2c_i0 = !(w2c_j0);
   w2c_p5 = w2c_i0;
   w2c_j0 = 1122455ull;
@@ -25874,136 +26056,136 @@ static void w2c_f15(Z_hidreport_instance_t* instance, u64 w2c_p0, u64 w2c_p1, u6
   w2c_j0 = 7ull;
   w2c_l9 = w2c_j0;
   w2c_i0 = 1u;
-  w2c_l30 = w2c_i0;
-  w2c_i0 = w2c_l39;
+  w2c_l31 = w2c_i0;
+  w2c_i0 = w2c_l41;
   w2c_j0 = (u64)(w2c_i0);
   w2c_j1 = 255ull;
   w2c_j0 &= w2c_j1;
   w2c_i0 = (u32)(w2c_j0);
   switch (w2c_i0) {
     case 0: goto w2c_B4;
-    case 1: goto w2c_B177;
-    case 2: goto w2c_B176;
-    case 3: goto w2c_B175;
-    case 4: goto w2c_B174;
-    case 5: goto w2c_B173;
-    case 6: goto w2c_B172;
-    case 7: goto w2c_B171;
-    case 8: goto w2c_B170;
-    case 9: goto w2c_B169;
-    case 10: goto w2c_B168;
-    case 11: goto w2c_B167;
-    case 12: goto w2c_B166;
-    case 13: goto w2c_B165;
-    case 14: goto w2c_B164;
-    case 15: goto w2c_B163;
-    case 16: goto w2c_B162;
-    case 17: goto w2c_B161;
+    case 1: goto w2c_B182;
+    case 2: goto w2c_B181;
+    case 3: goto w2c_B180;
+    case 4: goto w2c_B179;
+    case 5: goto w2c_B178;
+    case 6: goto w2c_B177;
+    case 7: goto w2c_B176;
+    case 8: goto w2c_B175;
+    case 9: goto w2c_B174;
+    case 10: goto w2c_B173;
+    case 11: goto w2c_B172;
+    case 12: goto w2c_B171;
+    case 13: goto w2c_B170;
+    case 14: goto w2c_B169;
+    case 15: goto w2c_B168;
+    case 16: goto w2c_B167;
+    case 17: goto w2c_B166;
     default: goto w2c_B4;
   }
-  w2c_B177:;
+  w2c_B182:;
   w2c_j0 = 1122462ull;
   w2c_l8 = w2c_j0;
   w2c_j0 = 25ull;
   w2c_l9 = w2c_j0;
-  goto w2c_B159;
-  w2c_B176:;
+  goto w2c_B164;
+  w2c_B181:;
   w2c_j0 = 1122487ull;
   w2c_l8 = w2c_j0;
   w2c_j0 = 11ull;
   w2c_l9 = w2c_j0;
   goto w2c_B4;
-  w2c_B175:;
+  w2c_B180:;
   w2c_j0 = 1122498ull;
   w2c_l8 = w2c_j0;
   w2c_j0 = 36ull;
   w2c_l9 = w2c_j0;
-  goto w2c_B159;
-  w2c_B174:;
+  goto w2c_B164;
+  w2c_B179:;
   w2c_j0 = 1122534ull;
   w2c_l8 = w2c_j0;
   w2c_j0 = 20ull;
   w2c_l9 = w2c_j0;
-  goto w2c_B159;
-  w2c_B173:;
+  goto w2c_B164;
+  w2c_B178:;
   w2c_j0 = 1122554ull;
   w2c_l8 = w2c_j0;
   w2c_j0 = 38ull;
   w2c_l9 = w2c_j0;
-  goto w2c_B159;
-  w2c_B172:;
+  goto w2c_B164;
+  w2c_B177:;
   w2c_j0 = 1122592ull;
   w2c_l8 = w2c_j0;
   w2c_j0 = 28ull;
   w2c_l9 = w2c_j0;
-  goto w2c_B159;
-  w2c_B171:;
+  goto w2c_B164;
+  w2c_B176:;
   w2c_j0 = 1122620ull;
   w2c_l8 = w2c_j0;
   w2c_j0 = 26ull;
   w2c_l9 = w2c_j0;
-  goto w2c_B159;
-  w2c_B170:;
+  goto w2c_B164;
+  w2c_B175:;
   w2c_j0 = 1122646ull;
   w2c_l8 = w2c_j0;
   w2c_j0 = 24ull;
   w2c_l9 = w2c_j0;
-  goto w2c_B159;
-  w2c_B169:;
+  goto w2c_B164;
+  w2c_B174:;
   w2c_j0 = 1122670ull;
   w2c_l8 = w2c_j0;
   w2c_j0 = 26ull;
   w2c_l9 = w2c_j0;
-  goto w2c_B159;
-  w2c_B168:;
+  goto w2c_B164;
+  w2c_B173:;
   w2c_j0 = 1122696ull;
   w2c_l8 = w2c_j0;
   w2c_j0 = 43ull;
   w2c_l9 = w2c_j0;
-  goto w2c_B159;
-  w2c_B167:;
+  goto w2c_B164;
+  w2c_B172:;
   w2c_j0 = 1122739ull;
   w2c_l8 = w2c_j0;
   w2c_j0 = 43ull;
   w2c_l9 = w2c_j0;
-  goto w2c_B159;
-  w2c_B166:;
+  goto w2c_B164;
+  w2c_B171:;
   w2c_j0 = 1122782ull;
   w2c_l8 = w2c_j0;
   w2c_j0 = 43ull;
   w2c_l9 = w2c_j0;
-  goto w2c_B159;
-  w2c_B165:;
+  goto w2c_B164;
+  w2c_B170:;
   w2c_j0 = 1122825ull;
   w2c_l8 = w2c_j0;
   w2c_j0 = 22ull;
   w2c_l9 = w2c_j0;
-  goto w2c_B159;
-  w2c_B164:;
+  goto w2c_B164;
+  w2c_B169:;
   w2c_j0 = 1122847ull;
   w2c_l8 = w2c_j0;
   w2c_j0 = 35ull;
   w2c_l9 = w2c_j0;
-  goto w2c_B159;
-  w2c_B163:;
+  goto w2c_B164;
+  w2c_B168:;
   w2c_j0 = 1122882ull;
   w2c_l8 = w2c_j0;
-  goto w2c_B160;
-  w2c_B162:;
+  goto w2c_B165;
+  w2c_B167:;
   w2c_j0 = 1122915ull;
   w2c_l8 = w2c_j0;
   w2c_j0 = 30ull;
   w2c_l9 = w2c_j0;
-  goto w2c_B159;
-  w2c_B161:;
+  goto w2c_B164;
+  w2c_B166:;
   w2c_j0 = 1122945ull;
   w2c_l8 = w2c_j0;
-  w2c_B160:;
+  w2c_B165:;
   w2c_j0 = 33ull;
   w2c_l9 = w2c_j0;
-  w2c_B159:;
+  w2c_B164:;
   w2c_i0 = 0u;
-  w2c_l30 = w2c_i0;
+  w2c_l31 = w2c_i0;
   w2c_B4:;
   w2c_j0 = w2c_l7;
   w2c_j1 = 8ull;
@@ -26017,127 +26199,127 @@ static void w2c_f15(Z_hidreport_instance_t* instance, u64 w2c_p0, u64 w2c_p1, u6
   w2c_i0 = (u32)(w2c_j0);
   w2c_i1 = 1u;
   w2c_i0 &= w2c_i1;
-  if (w2c_i0) {goto w2c_B179;}
+  if (w2c_i0) {goto w2c_B184;}
   w2c_j0 = 3ull;
-  w2c_l24 = w2c_j0;
+  w2c_l25 = w2c_j0;
   w2c_j0 = 0ull;
-  w2c_l27 = w2c_j0;
+  w2c_l28 = w2c_j0;
   w2c_j0 = 0ull;
   w2c_l9 = w2c_j0;
   w2c_j0 = 0ull;
   w2c_l10 = w2c_j0;
-  goto w2c_B178;
-  w2c_B179:;
+  goto w2c_B183;
+  w2c_B184:;
   w2c_j0 = w2c_l7;
   w2c_i0 = (u32)(w2c_j0);
   w2c_j0 = i64_load(&instance->w2c_memory, (u64)(w2c_i0) + 16u);
-  w2c_l27 = w2c_j0;
+  w2c_l28 = w2c_j0;
   w2c_j1 = w2c_l8;
   w2c_j0 -= w2c_j1;
   w2c_j1 = w2c_l9;
   w2c_i0 = w2c_j0 >= w2c_j1;
-  if (w2c_i0) {goto w2c_B181;}
+  if (w2c_i0) {goto w2c_B186;}
   w2c_j0 = 0ull;
-  w2c_l25 = w2c_j0;
-  w2c_j0 = w2c_l27;
+  w2c_l26 = w2c_j0;
+  w2c_j0 = w2c_l28;
   w2c_j1 = w2c_l8;
   w2c_j0 -= w2c_j1;
   w2c_j1 = 16ull;
   w2c_i0 = w2c_j0 < w2c_j1;
-  if (w2c_i0) {goto w2c_B182;}
+  if (w2c_i0) {goto w2c_B187;}
   w2c_j0 = 0ull;
-  w2c_l25 = w2c_j0;
-  w2c_i0 = w2c_l30;
-  if (w2c_i0) {goto w2c_B183;}
+  w2c_l26 = w2c_j0;
+  w2c_i0 = w2c_l31;
+  if (w2c_i0) {goto w2c_B188;}
   w2c_j0 = w2c_l9;
   w2c_j1 = 48ull;
   w2c_j0 &= w2c_j1;
-  w2c_l25 = w2c_j0;
+  w2c_l26 = w2c_j0;
   w2c_j0 = 0ull;
   w2c_p6 = w2c_j0;
-  w2c_L184: 
+  w2c_L189: 
     w2c_j0 = w2c_l8;
     w2c_j1 = w2c_p6;
     w2c_j0 += w2c_j1;
-    w2c_l28 = w2c_j0;
+    w2c_l29 = w2c_j0;
     w2c_i0 = (u32)(w2c_j0);
     w2c_j0 = i64_load(&instance->w2c_memory, (u64)(w2c_i0));
     w2c_p2 = w2c_j0;
-    w2c_j0 = w2c_l27;
+    w2c_j0 = w2c_l28;
     w2c_j1 = w2c_p6;
     w2c_j0 += w2c_j1;
-    w2c_l26 = w2c_j0;
+    w2c_l27 = w2c_j0;
     w2c_j1 = 8ull;
     w2c_j0 += w2c_j1;
     w2c_i0 = (u32)(w2c_j0);
-    w2c_j1 = w2c_l28;
+    w2c_j1 = w2c_l29;
     w2c_j2 = 8ull;
     w2c_j1 += w2c_j2;
     w2c_i1 = (u32)(w2c_j1);
     w2c_j1 = i64_load(&instance->w2c_memory, (u64)(w2c_i1));
     i64_store(&instance->w2c_memory, (u64)(w2c_i0), w2c_j1);
-    w2c_j0 = w2c_l26;
+    w2c_j0 = w2c_l27;
     w2c_i0 = (u32)(w2c_j0);
     w2c_j1 = w2c_p2;
     i64_store(&instance->w2c_memory, (u64)(w2c_i0), w2c_j1);
-    w2c_j0 = w2c_l25;
+    w2c_j0 = w2c_l26;
     w2c_j1 = w2c_p6;
     w2c_j2 = 16ull;
     w2c_j1 += w2c_j2;
     w2c_p6 = w2c_j1;
     w2c_i0 = w2c_j0 != w2c_j1;
-    if (w2c_i0) {goto w2c_L184;}
+    if (w2c_i0) {goto w2c_L189;}
   w2c_j0 = w2c_l9;
-  w2c_j1 = w2c_l25;
+  w2c_j1 = w2c_l26;
   w2c_i0 = w2c_j0 == w2c_j1;
-  if (w2c_i0) {goto w2c_B180;}
+  if (w2c_i0) {goto w2c_B185;}
   w2c_j0 = w2c_l9;
   w2c_j1 = 12ull;
   w2c_j0 &= w2c_j1;
   w2c_i0 = !(w2c_j0);
-  if (w2c_i0) {goto w2c_B182;}
-  w2c_B183:;
+  if (w2c_i0) {goto w2c_B187;}
+  w2c_B188:;
   w2c_j0 = w2c_l9;
   w2c_j1 = 60ull;
   w2c_j0 &= w2c_j1;
   w2c_p6 = w2c_j0;
-  w2c_L185: 
-    w2c_j0 = w2c_l27;
-    w2c_j1 = w2c_l25;
+  w2c_L190: 
+    w2c_j0 = w2c_l28;
+    w2c_j1 = w2c_l26;
     w2c_j0 += w2c_j1;
     w2c_i0 = (u32)(w2c_j0);
     w2c_j1 = w2c_l8;
-    w2c_j2 = w2c_l25;
+    w2c_j2 = w2c_l26;
     w2c_j1 += w2c_j2;
     w2c_i1 = (u32)(w2c_j1);
     w2c_i1 = i32_load(&instance->w2c_memory, (u64)(w2c_i1));
     i32_store(&instance->w2c_memory, (u64)(w2c_i0), w2c_i1);
     w2c_j0 = w2c_p6;
-    w2c_j1 = w2c_l25;
+    w2c_j1 = w2c_l26;
     w2c_j2 = 4ull;
     w2c_j1 += w2c_j2;
-    w2c_l25 = w2c_j1;
+    w2c_l26 = w2c_j1;
     w2c_i0 = w2c_j0 != w2c_j1;
-    if (w2c_i0) {goto w2c_L185;}
+    if (w2c_i0) {goto w2c_L190;}
   w2c_j0 = w2c_p6;
-  w2c_l25 = w2c_j0;
+  w2c_l26 = w2c_j0;
   w2c_j0 = w2c_l9;
   w2c_j1 = w2c_p6;
   w2c_i0 = w2c_j0 == w2c_j1;
-  if (w2c_i0) {goto w2c_B180;}
-  w2c_B182:;
-  w2c_j0 = w2c_l25;
+  if (w2c_i0) {goto w2c_B185;}
+  w2c_B187:;
+  w2c_j0 = w2c_l26;
   w2c_p6 = w2c_j0;
   w2c_j0 = w2c_l9;
   w2c_j1 = 3ull;
   w2c_j0 &= w2c_j1;
-  w2c_l28 = w2c_j0;
+  w2c_l29 = w2c_j0;
   w2c_i0 = !(w2c_j0);
-  if (w2c_i0) {goto w2c_B186;}
-  w2c_j0 = w2c_l25;
+  if (w2c_i0) {goto w2c_B191;}
+  w2c_j0 = w2c_l26;
   w2c_p6 = w2c_j0;
-  w2c_L187: 
-    w2c_j0 = w2c_l27;
+  w2c_L192: 
+    w2c_j0 = w2c_l28;
     w2c_j1 = w2c_p6;
     w2c_j0 += w2c_j1;
     w2c_i0 = (u32)(w2c_j0);
@@ -26151,64 +26333,64 @@ static void w2c_f15(Z_hidreport_instance_t* instance, u64 w2c_p0, u64 w2c_p1, u6
     w2c_j1 = 1ull;
     w2c_j0 += w2c_j1;
     w2c_p6 = w2c_j0;
-    w2c_j0 = w2c_l28;
+    w2c_j0 = w2c_l29;
     w2c_j1 = 18446744073709551615ull;
     w2c_j0 += w2c_j1;
-    w2c_l28 = w2c_j0;
+    w2c_l29 = w2c_j0;
     w2c_j1 = 0ull;
     w2c_i0 = w2c_j0 != w2c_j1;
-    if (w2c_i0) {goto w2c_L187;}
-  w2c_B186:;
+    if (w2c_i0) {goto w2c_L192;}
+  w2c_B191:;
   w2c_j0 = 0ull;
-  w2c_l24 = w2c_j0;
-  w2c_j0 = w2c_l25;
+  w2c_l25 = w2c_j0;
+  w2c_j0 = w2c_l26;
   w2c_j1 = w2c_l9;
   w2c_j0 -= w2c_j1;
   w2c_j1 = 18446744073709551612ull;
   w2c_i0 = w2c_j0 > w2c_j1;
-  if (w2c_i0) {goto w2c_B178;}
-  w2c_j0 = w2c_l27;
+  if (w2c_i0) {goto w2c_B183;}
+  w2c_j0 = w2c_l28;
   w2c_p2 = w2c_j0;
   w2c_j0 = w2c_l9;
-  w2c_l26 = w2c_j0;
-  w2c_L188: 
+  w2c_l27 = w2c_j0;
+  w2c_L193: 
     w2c_j0 = w2c_p2;
     w2c_j1 = w2c_p6;
     w2c_j0 += w2c_j1;
-    w2c_l25 = w2c_j0;
+    w2c_l26 = w2c_j0;
     w2c_i0 = (u32)(w2c_j0);
     w2c_j1 = w2c_l8;
     w2c_j2 = w2c_p6;
     w2c_j1 += w2c_j2;
-    w2c_l28 = w2c_j1;
+    w2c_l29 = w2c_j1;
     w2c_i1 = (u32)(w2c_j1);
     w2c_i1 = i32_load8_u(&instance->w2c_memory, (u64)(w2c_i1));
     i32_store8(&instance->w2c_memory, (u64)(w2c_i0), w2c_i1);
-    w2c_j0 = w2c_l25;
+    w2c_j0 = w2c_l26;
     w2c_j1 = 1ull;
     w2c_j0 += w2c_j1;
     w2c_i0 = (u32)(w2c_j0);
-    w2c_j1 = w2c_l28;
+    w2c_j1 = w2c_l29;
     w2c_j2 = 1ull;
     w2c_j1 += w2c_j2;
     w2c_i1 = (u32)(w2c_j1);
     w2c_i1 = i32_load8_u(&instance->w2c_memory, (u64)(w2c_i1));
     i32_store8(&instance->w2c_memory, (u64)(w2c_i0), w2c_i1);
-    w2c_j0 = w2c_l25;
+    w2c_j0 = w2c_l26;
     w2c_j1 = 2ull;
     w2c_j0 += w2c_j1;
     w2c_i0 = (u32)(w2c_j0);
-    w2c_j1 = w2c_l28;
+    w2c_j1 = w2c_l29;
     w2c_j2 = 2ull;
     w2c_j1 += w2c_j2;
     w2c_i1 = (u32)(w2c_j1);
     w2c_i1 = i32_load8_u(&instance->w2c_memory, (u64)(w2c_i1));
     i32_store8(&instance->w2c_memory, (u64)(w2c_i0), w2c_i1);
-    w2c_j0 = w2c_l25;
+    w2c_j0 = w2c_l26;
     w2c_j1 = 3ull;
     w2c_j0 += w2c_j1;
     w2c_i0 = (u32)(w2c_j0);
-    w2c_j1 = w2c_l28;
+    w2c_j1 = w2c_l29;
     w2c_j2 = 3ull;
     w2c_j1 += w2c_j2;
     w2c_i1 = (u32)(w2c_j1);
@@ -26223,59 +26405,64 @@ static void w2c_f15(Z_hidreport_instance_t* instance, u64 w2c_p0, u64 w2c_p1, u6
     w2c_j0 += w2c_j1;
     w2c_l8 = w2c_j0;
     w2c_j0 = w2c_p6;
-    w2c_j1 = w2c_l26;
+    w2c_j1 = w2c_l27;
     w2c_j2 = 18446744073709551612ull;
     w2c_j1 += w2c_j2;
-    w2c_l26 = w2c_j1;
+    w2c_l27 = w2c_j1;
     w2c_i0 = w2c_j0 != w2c_j1;
-    if (w2c_i0) {goto w2c_L188;}
-    goto w2c_B178;
+    if (w2c_i0) {goto w2c_L193;}
+    goto w2c_B183;
   UNREACHABLE;
-  w2c_B181:;
+  w2c_B186:;
   w2c_j0 = w2c_l9;
   w2c_i0 = !(w2c_j0);
-  if (w2c_i0) {goto w2c_B180;}
-  w2c_j0 = w2c_l27;
+  if (w2c_i0) {goto w2c_B185;}
+  w2c_j0 = w2c_l28;
   w2c_i0 = (u32)(w2c_j0);
   w2c_j1 = w2c_l8;
   w2c_i1 = (u32)(w2c_j1);
   w2c_j2 = w2c_l9;
   w2c_i2 = (u32)(w2c_j2);
   memory_copy(&instance->w2c_memory, &instance->w2c_memory, w2c_i0, w2c_i1, w2c_i2);
-  w2c_B180:;
+  w2c_B185:;
   w2c_j0 = 0ull;
-  w2c_l24 = w2c_j0;
-  w2c_B178:;
+  w2c_l25 = w2c_j0;
+  w2c_B183:;
   w2c_i0 = w2c_p5;
-  if (w2c_i0) {goto w2c_B189;}
+  if (w2c_i0) {goto w2c_B194;}
   w2c_j0 = w2c_l12;
   w2c_rattle_dealloc(instance, w2c_j0);
-  w2c_B189:;
-  w2c_i0 = w2c_l31;
-  if (w2c_i0) {goto w2c_B190;}
+  w2c_B194:;
+  w2c_i0 = w2c_l32;
+  if (w2c_i0) {goto w2c_B195;}
   w2c_j0 = w2c_l11;
   w2c_rattle_dealloc(instance, w2c_j0);
-  w2c_B190:;
-  w2c_i0 = w2c_l32;
-  if (w2c_i0) {goto w2c_B191;}
+  w2c_B195:;
+  w2c_i0 = w2c_l33;
+  if (w2c_i0) {goto w2c_B196;}
   w2c_j0 = w2c_l13;
   w2c_rattle_dealloc(instance, w2c_j0);
-  w2c_B191:;
-  w2c_i0 = w2c_l33;
-  if (w2c_i0) {goto w2c_B192;}
+  w2c_B196:;
+  w2c_i0 = w2c_l34;
+  if (w2c_i0) {goto w2c_B197;}
   w2c_j0 = w2c_l14;
   w2c_rattle_dealloc(instance, w2c_j0);
-  w2c_B192:;
-  w2c_i0 = w2c_l34;
-  if (w2c_i0) {goto w2c_B193;}
+  w2c_B197:;
+  w2c_i0 = w2c_l35;
+  if (w2c_i0) {goto w2c_B198;}
   w2c_j0 = w2c_l15;
   w2c_rattle_dealloc(instance, w2c_j0);
-  w2c_B193:;
-  w2c_i0 = w2c_l35;
-  if (w2c_i0) {goto w2c_B194;}
+  w2c_B198:;
+  w2c_i0 = w2c_l36;
+  if (w2c_i0) {goto w2c_B199;}
   w2c_j0 = w2c_l16;
   w2c_rattle_dealloc(instance, w2c_j0);
-  w2c_B194:;
+  w2c_B199:;
+  w2c_i0 = w2c_l37;
+  if (w2c_i0) {goto w2c_B200;}
+  w2c_j0 = w2c_l17;
+  w2c_rattle_dealloc(instance, w2c_j0);
+  w2c_B200:;
   w2c_j0 = w2c_l7;
   w2c_i0 = (u32)(w2c_j0);
   w2c_j1 = w2c_l7;
@@ -26349,7 +26536,7 @@ static void w2c_f15(Z_hidreport_instance_t* instance, u64 w2c_p0, u64 w2c_p1, u6
   w2c_j3 = w2c_l7;
   w2c_j4 = 144ull;
   w2c_j3 += w2c_j4;
-  w2c_f67(instance, w2c_j0, w2c_j1, w2c_j2, w2c_j3);
+  w2c_f68(instance, w2c_j0, w2c_j1, w2c_j2, w2c_j3);
   w2c_j0 = w2c_l7;
   w2c_i0 = (u32)(w2c_j0);
   w2c_j0 = i64_load(&instance->w2c_memory, (u64)(w2c_i0) + 104u);
@@ -26361,7 +26548,7 @@ static void w2c_f15(Z_hidreport_instance_t* instance, u64 w2c_p0, u64 w2c_p1, u6
   w2c_j0 = w2c_l7;
   w2c_i0 = (u32)(w2c_j0);
   w2c_i0 = i32_load8_u(&instance->w2c_memory, (u64)(w2c_i0) + 88u);
-  if (w2c_i0) {goto w2c_B197;}
+  if (w2c_i0) {goto w2c_B203;}
   w2c_j0 = w2c_l7;
   w2c_i0 = (u32)(w2c_j0);
   w2c_j0 = i64_load(&instance->w2c_memory, (u64)(w2c_i0) + 128u);
@@ -26373,7 +26560,7 @@ static void w2c_f15(Z_hidreport_instance_t* instance, u64 w2c_p0, u64 w2c_p1, u6
   w2c_j0 = w2c_l7;
   w2c_i0 = (u32)(w2c_j0);
   w2c_j0 = i64_load(&instance->w2c_memory, (u64)(w2c_i0) + 112u);
-  w2c_l25 = w2c_j0;
+  w2c_l26 = w2c_j0;
   w2c_j0 = w2c_l7;
   w2c_i0 = (u32)(w2c_j0);
   w2c_j0 = i64_load(&instance->w2c_memory, (u64)(w2c_i0) + 136u);
@@ -26431,7 +26618,7 @@ static void w2c_f15(Z_hidreport_instance_t* instance, u64 w2c_p0, u64 w2c_p1, u6
   w2c_j0 = w2c_l7;
   w2c_i0 = (u32)(w2c_j0);
   w2c_j0 = i64_load(&instance->w2c_memory, (u64)(w2c_i0) + 248u);
-  w2c_l27 = w2c_j0;
+  w2c_l28 = w2c_j0;
   w2c_j0 = w2c_l7;
   w2c_i0 = (u32)(w2c_j0);
   w2c_j0 = i64_load(&instance->w2c_memory, (u64)(w2c_i0) + 240u);
@@ -26439,55 +26626,55 @@ static void w2c_f15(Z_hidreport_instance_t* instance, u64 w2c_p0, u64 w2c_p1, u6
   w2c_j0 = w2c_l7;
   w2c_i0 = (u32)(w2c_j0);
   w2c_j0 = i64_load(&instance->w2c_memory, (u64)(w2c_i0) + 232u);
-  w2c_l24 = w2c_j0;
+  w2c_l25 = w2c_j0;
   w2c_j0 = w2c_l7;
   w2c_i0 = (u32)(w2c_j0);
   w2c_i0 = i32_load8_u(&instance->w2c_memory, (u64)(w2c_i0) + 224u);
-  if (w2c_i0) {goto w2c_B196;}
-  w2c_j0 = w2c_l25;
+  if (w2c_i0) {goto w2c_B202;}
+  w2c_j0 = w2c_l26;
   w2c_i0 = !(w2c_j0);
-  if (w2c_i0) {goto w2c_B198;}
+  if (w2c_i0) {goto w2c_B204;}
   w2c_j0 = w2c_p6;
   w2c_rattle_dealloc(instance, w2c_j0);
-  w2c_B198:;
+  w2c_B204:;
   w2c_j0 = w2c_l8;
   w2c_i0 = !(w2c_j0);
-  if (w2c_i0) {goto w2c_B199;}
+  if (w2c_i0) {goto w2c_B205;}
   w2c_j0 = w2c_p1;
   w2c_j1 = 48ull;
   w2c_j0 += w2c_j1;
   w2c_p6 = w2c_j0;
-  w2c_L200: 
+  w2c_L206: 
     w2c_j0 = w2c_p6;
     w2c_j1 = 18446744073709551600ull;
     w2c_j0 += w2c_j1;
     w2c_i0 = (u32)(w2c_j0);
     w2c_j0 = i64_load(&instance->w2c_memory, (u64)(w2c_i0));
-    w2c_l28 = w2c_j0;
+    w2c_l29 = w2c_j0;
     w2c_j0 = w2c_p6;
     w2c_i0 = (u32)(w2c_j0);
     w2c_j0 = i64_load(&instance->w2c_memory, (u64)(w2c_i0));
-    w2c_l25 = w2c_j0;
+    w2c_l26 = w2c_j0;
     w2c_j0 = w2c_p6;
     w2c_j1 = 18446744073709551592ull;
     w2c_j0 += w2c_j1;
     w2c_i0 = (u32)(w2c_j0);
     w2c_j0 = i64_load(&instance->w2c_memory, (u64)(w2c_i0));
     w2c_i0 = !(w2c_j0);
-    if (w2c_i0) {goto w2c_B201;}
+    if (w2c_i0) {goto w2c_B207;}
     w2c_j0 = w2c_p6;
     w2c_j1 = 18446744073709551576ull;
     w2c_j0 += w2c_j1;
     w2c_i0 = (u32)(w2c_j0);
     w2c_j0 = i64_load(&instance->w2c_memory, (u64)(w2c_i0));
     w2c_rattle_dealloc(instance, w2c_j0);
-    w2c_B201:;
-    w2c_j0 = w2c_l25;
+    w2c_B207:;
+    w2c_j0 = w2c_l26;
     w2c_i0 = !(w2c_j0);
-    if (w2c_i0) {goto w2c_B202;}
-    w2c_j0 = w2c_l28;
+    if (w2c_i0) {goto w2c_B208;}
+    w2c_j0 = w2c_l29;
     w2c_rattle_dealloc(instance, w2c_j0);
-    w2c_B202:;
+    w2c_B208:;
     w2c_j0 = w2c_p6;
     w2c_j1 = 64ull;
     w2c_j0 += w2c_j1;
@@ -26498,50 +26685,56 @@ static void w2c_f15(Z_hidreport_instance_t* instance, u64 w2c_p0, u64 w2c_p1, u6
     w2c_l8 = w2c_j0;
     w2c_j1 = 0ull;
     w2c_i0 = w2c_j0 != w2c_j1;
-    if (w2c_i0) {goto w2c_L200;}
-  w2c_B199:;
+    if (w2c_i0) {goto w2c_L206;}
+  w2c_B205:;
   w2c_j0 = w2c_p4;
   w2c_i0 = !(w2c_j0);
-  if (w2c_i0) {goto w2c_B203;}
+  if (w2c_i0) {goto w2c_B209;}
   w2c_j0 = w2c_p1;
   w2c_rattle_dealloc(instance, w2c_j0);
-  w2c_B203:;
-  w2c_j0 = w2c_l26;
+  w2c_B209:;
+  w2c_j0 = w2c_l27;
   w2c_i0 = !(w2c_j0);
-  if (w2c_i0) {goto w2c_B204;}
+  if (w2c_i0) {goto w2c_B210;}
   w2c_j0 = w2c_l12;
   w2c_rattle_dealloc(instance, w2c_j0);
-  w2c_B204:;
-  w2c_j0 = w2c_l17;
-  w2c_i0 = !(w2c_j0);
-  if (w2c_i0) {goto w2c_B205;}
-  w2c_j0 = w2c_l11;
-  w2c_rattle_dealloc(instance, w2c_j0);
-  w2c_B205:;
-  w2c_j0 = w2c_l21;
-  w2c_i0 = !(w2c_j0);
-  if (w2c_i0) {goto w2c_B206;}
-  w2c_j0 = w2c_l13;
-  w2c_rattle_dealloc(instance, w2c_j0);
-  w2c_B206:;
-  w2c_j0 = w2c_l20;
-  w2c_i0 = !(w2c_j0);
-  if (w2c_i0) {goto w2c_B207;}
-  w2c_j0 = w2c_l14;
-  w2c_rattle_dealloc(instance, w2c_j0);
-  w2c_B207:;
+  w2c_B210:;
   w2c_j0 = w2c_l22;
   w2c_i0 = !(w2c_j0);
-  if (w2c_i0) {goto w2c_B208;}
-  w2c_j0 = w2c_l15;
+  if (w2c_i0) {goto w2c_B211;}
+  w2c_j0 = w2c_l11;
   w2c_rattle_dealloc(instance, w2c_j0);
-  w2c_B208:;
+  w2c_B211:;
+  w2c_j0 = w2c_l21;
+  w2c_i0 = !(w2c_j0);
+  if (w2c_i0) {goto w2c_B212;}
+  w2c_j0 = w2c_l13;
+  w2c_rattle_dealloc(instance, w2c_j0);
+  w2c_B212:;
+  w2c_j0 = w2c_l23;
+  w2c_i0 = !(w2c_j0);
+  if (w2c_i0) {goto w2c_B213;}
+  w2c_j0 = w2c_l14;
+  w2c_rattle_dealloc(instance, w2c_j0);
+  w2c_B213:;
   w2c_j0 = w2c_l18;
   w2c_i0 = !(w2c_j0);
-  if (w2c_i0) {goto w2c_B209;}
+  if (w2c_i0) {goto w2c_B214;}
+  w2c_j0 = w2c_l15;
+  w2c_rattle_dealloc(instance, w2c_j0);
+  w2c_B214:;
+  w2c_j0 = w2c_l19;
+  w2c_i0 = !(w2c_j0);
+  if (w2c_i0) {goto w2c_B215;}
   w2c_j0 = w2c_l16;
   w2c_rattle_dealloc(instance, w2c_j0);
-  w2c_B209:;
+  w2c_B215:;
+  w2c_j0 = w2c_l20;
+  w2c_i0 = !(w2c_j0);
+  if (w2c_i0) {goto w2c_B216;}
+  w2c_j0 = w2c_l17;
+  w2c_rattle_dealloc(instance, w2c_j0);
+  w2c_B216:;
   w2c_j0 = w2c_l7;
   w2c_i0 = (u32)(w2c_j0);
   w2c_j1 = w2c_l7;
@@ -26569,7 +26762,7 @@ static void w2c_f15(Z_hidreport_instance_t* instance, u64 w2c_p0, u64 w2c_p1, u6
   w2c_j0 = 0ull;
   w2c_p6 = w2c_j0;
   goto w2c_B2;
-  w2c_B197:;
+  w2c_B203:;
   w2c_j0 = w2c_l7;
   w2c_i0 = (u32)(w2c_j0);
   w2c_j0 = i64_load(&instance->w2c_memory, (u64)(w2c_i0) + 128u);
@@ -26581,47 +26774,53 @@ static void w2c_f15(Z_hidreport_instance_t* instance, u64 w2c_p0, u64 w2c_p1, u6
   w2c_j0 = w2c_l7;
   w2c_i0 = (u32)(w2c_j0);
   w2c_j0 = i64_load(&instance->w2c_memory, (u64)(w2c_i0) + 112u);
-  w2c_l27 = w2c_j0;
-  w2c_j0 = w2c_l26;
+  w2c_l28 = w2c_j0;
+  w2c_j0 = w2c_l27;
   w2c_i0 = !(w2c_j0);
-  if (w2c_i0) {goto w2c_B210;}
+  if (w2c_i0) {goto w2c_B217;}
   w2c_j0 = w2c_l12;
   w2c_rattle_dealloc(instance, w2c_j0);
-  w2c_B210:;
-  w2c_j0 = w2c_l17;
-  w2c_i0 = !(w2c_j0);
-  if (w2c_i0) {goto w2c_B211;}
-  w2c_j0 = w2c_l11;
-  w2c_rattle_dealloc(instance, w2c_j0);
-  w2c_B211:;
-  w2c_j0 = w2c_l21;
-  w2c_i0 = !(w2c_j0);
-  if (w2c_i0) {goto w2c_B212;}
-  w2c_j0 = w2c_l13;
-  w2c_rattle_dealloc(instance, w2c_j0);
-  w2c_B212:;
-  w2c_j0 = w2c_l20;
-  w2c_i0 = !(w2c_j0);
-  if (w2c_i0) {goto w2c_B213;}
-  w2c_j0 = w2c_l14;
-  w2c_rattle_dealloc(instance, w2c_j0);
-  w2c_B213:;
+  w2c_B217:;
   w2c_j0 = w2c_l22;
   w2c_i0 = !(w2c_j0);
-  if (w2c_i0) {goto w2c_B214;}
-  w2c_j0 = w2c_l15;
+  if (w2c_i0) {goto w2c_B218;}
+  w2c_j0 = w2c_l11;
   w2c_rattle_dealloc(instance, w2c_j0);
-  w2c_B214:;
+  w2c_B218:;
+  w2c_j0 = w2c_l21;
+  w2c_i0 = !(w2c_j0);
+  if (w2c_i0) {goto w2c_B219;}
+  w2c_j0 = w2c_l13;
+  w2c_rattle_dealloc(instance, w2c_j0);
+  w2c_B219:;
+  w2c_j0 = w2c_l23;
+  w2c_i0 = !(w2c_j0);
+  if (w2c_i0) {goto w2c_B220;}
+  w2c_j0 = w2c_l14;
+  w2c_rattle_dealloc(instance, w2c_j0);
+  w2c_B220:;
   w2c_j0 = w2c_l18;
   w2c_i0 = !(w2c_j0);
-  if (w2c_i0) {goto w2c_B215;}
+  if (w2c_i0) {goto w2c_B221;}
+  w2c_j0 = w2c_l15;
+  w2c_rattle_dealloc(instance, w2c_j0);
+  w2c_B221:;
+  w2c_j0 = w2c_l19;
+  w2c_i0 = !(w2c_j0);
+  if (w2c_i0) {goto w2c_B222;}
   w2c_j0 = w2c_l16;
   w2c_rattle_dealloc(instance, w2c_j0);
-  w2c_B215:;
+  w2c_B222:;
+  w2c_j0 = w2c_l20;
+  w2c_i0 = !(w2c_j0);
+  if (w2c_i0) {goto w2c_B223;}
+  w2c_j0 = w2c_l17;
+  w2c_rattle_dealloc(instance, w2c_j0);
+  w2c_B223:;
   w2c_j0 = w2c_p6;
   w2c_j1 = 255ull;
   w2c_j0 &= w2c_j1;
-  w2c_l24 = w2c_j0;
+  w2c_l25 = w2c_j0;
   w2c_j0 = w2c_l7;
   w2c_i0 = (u32)(w2c_j0);
   w2c_j1 = 0ull;
@@ -26638,52 +26837,52 @@ static void w2c_f15(Z_hidreport_instance_t* instance, u64 w2c_p0, u64 w2c_p1, u6
   w2c_i0 = (u32)(w2c_j0);
   w2c_j1 = 0ull;
   i64_store(&instance->w2c_memory, (u64)(w2c_i0) + 24, w2c_j1);
-  goto w2c_B195;
-  w2c_B196:;
-  w2c_j0 = w2c_l25;
+  goto w2c_B201;
+  w2c_B202:;
+  w2c_j0 = w2c_l26;
   w2c_i0 = !(w2c_j0);
-  if (w2c_i0) {goto w2c_B216;}
+  if (w2c_i0) {goto w2c_B224;}
   w2c_j0 = w2c_p6;
   w2c_rattle_dealloc(instance, w2c_j0);
-  w2c_B216:;
+  w2c_B224:;
   w2c_j0 = w2c_l8;
   w2c_i0 = !(w2c_j0);
-  if (w2c_i0) {goto w2c_B217;}
+  if (w2c_i0) {goto w2c_B225;}
   w2c_j0 = w2c_p1;
   w2c_j1 = 48ull;
   w2c_j0 += w2c_j1;
   w2c_p6 = w2c_j0;
-  w2c_L218: 
+  w2c_L226: 
     w2c_j0 = w2c_p6;
     w2c_j1 = 18446744073709551600ull;
     w2c_j0 += w2c_j1;
     w2c_i0 = (u32)(w2c_j0);
     w2c_j0 = i64_load(&instance->w2c_memory, (u64)(w2c_i0));
-    w2c_l28 = w2c_j0;
+    w2c_l29 = w2c_j0;
     w2c_j0 = w2c_p6;
     w2c_i0 = (u32)(w2c_j0);
     w2c_j0 = i64_load(&instance->w2c_memory, (u64)(w2c_i0));
-    w2c_l25 = w2c_j0;
+    w2c_l26 = w2c_j0;
     w2c_j0 = w2c_p6;
     w2c_j1 = 18446744073709551592ull;
     w2c_j0 += w2c_j1;
     w2c_i0 = (u32)(w2c_j0);
     w2c_j0 = i64_load(&instance->w2c_memory, (u64)(w2c_i0));
     w2c_i0 = !(w2c_j0);
-    if (w2c_i0) {goto w2c_B219;}
+    if (w2c_i0) {goto w2c_B227;}
     w2c_j0 = w2c_p6;
     w2c_j1 = 18446744073709551576ull;
     w2c_j0 += w2c_j1;
     w2c_i0 = (u32)(w2c_j0);
     w2c_j0 = i64_load(&instance->w2c_memory, (u64)(w2c_i0));
     w2c_rattle_dealloc(instance, w2c_j0);
-    w2c_B219:;
-    w2c_j0 = w2c_l25;
+    w2c_B227:;
+    w2c_j0 = w2c_l26;
     w2c_i0 = !(w2c_j0);
-    if (w2c_i0) {goto w2c_B220;}
-    w2c_j0 = w2c_l28;
+    if (w2c_i0) {goto w2c_B228;}
+    w2c_j0 = w2c_l29;
     w2c_rattle_dealloc(instance, w2c_j0);
-    w2c_B220:;
+    w2c_B228:;
     w2c_j0 = w2c_p6;
     w2c_j1 = 64ull;
     w2c_j0 += w2c_j1;
@@ -26694,54 +26893,60 @@ static void w2c_f15(Z_hidreport_instance_t* instance, u64 w2c_p0, u64 w2c_p1, u6
     w2c_l8 = w2c_j0;
     w2c_j1 = 0ull;
     w2c_i0 = w2c_j0 != w2c_j1;
-    if (w2c_i0) {goto w2c_L218;}
-  w2c_B217:;
+    if (w2c_i0) {goto w2c_L226;}
+  w2c_B225:;
   w2c_j0 = w2c_p4;
   w2c_i0 = !(w2c_j0);
-  if (w2c_i0) {goto w2c_B221;}
+  if (w2c_i0) {goto w2c_B229;}
   w2c_j0 = w2c_p1;
   w2c_rattle_dealloc(instance, w2c_j0);
-  w2c_B221:;
-  w2c_j0 = w2c_l26;
+  w2c_B229:;
+  w2c_j0 = w2c_l27;
   w2c_i0 = !(w2c_j0);
-  if (w2c_i0) {goto w2c_B222;}
+  if (w2c_i0) {goto w2c_B230;}
   w2c_j0 = w2c_l12;
   w2c_rattle_dealloc(instance, w2c_j0);
-  w2c_B222:;
-  w2c_j0 = w2c_l17;
-  w2c_i0 = !(w2c_j0);
-  if (w2c_i0) {goto w2c_B223;}
-  w2c_j0 = w2c_l11;
-  w2c_rattle_dealloc(instance, w2c_j0);
-  w2c_B223:;
-  w2c_j0 = w2c_l21;
-  w2c_i0 = !(w2c_j0);
-  if (w2c_i0) {goto w2c_B224;}
-  w2c_j0 = w2c_l13;
-  w2c_rattle_dealloc(instance, w2c_j0);
-  w2c_B224:;
-  w2c_j0 = w2c_l20;
-  w2c_i0 = !(w2c_j0);
-  if (w2c_i0) {goto w2c_B225;}
-  w2c_j0 = w2c_l14;
-  w2c_rattle_dealloc(instance, w2c_j0);
-  w2c_B225:;
+  w2c_B230:;
   w2c_j0 = w2c_l22;
   w2c_i0 = !(w2c_j0);
-  if (w2c_i0) {goto w2c_B226;}
-  w2c_j0 = w2c_l15;
+  if (w2c_i0) {goto w2c_B231;}
+  w2c_j0 = w2c_l11;
   w2c_rattle_dealloc(instance, w2c_j0);
-  w2c_B226:;
+  w2c_B231:;
+  w2c_j0 = w2c_l21;
+  w2c_i0 = !(w2c_j0);
+  if (w2c_i0) {goto w2c_B232;}
+  w2c_j0 = w2c_l13;
+  w2c_rattle_dealloc(instance, w2c_j0);
+  w2c_B232:;
+  w2c_j0 = w2c_l23;
+  w2c_i0 = !(w2c_j0);
+  if (w2c_i0) {goto w2c_B233;}
+  w2c_j0 = w2c_l14;
+  w2c_rattle_dealloc(instance, w2c_j0);
+  w2c_B233:;
   w2c_j0 = w2c_l18;
   w2c_i0 = !(w2c_j0);
-  if (w2c_i0) {goto w2c_B227;}
+  if (w2c_i0) {goto w2c_B234;}
+  w2c_j0 = w2c_l15;
+  w2c_rattle_dealloc(instance, w2c_j0);
+  w2c_B234:;
+  w2c_j0 = w2c_l19;
+  w2c_i0 = !(w2c_j0);
+  if (w2c_i0) {goto w2c_B235;}
   w2c_j0 = w2c_l16;
   w2c_rattle_dealloc(instance, w2c_j0);
-  w2c_B227:;
-  w2c_j0 = w2c_l24;
+  w2c_B235:;
+  w2c_j0 = w2c_l20;
+  w2c_i0 = !(w2c_j0);
+  if (w2c_i0) {goto w2c_B236;}
+  w2c_j0 = w2c_l17;
+  w2c_rattle_dealloc(instance, w2c_j0);
+  w2c_B236:;
+  w2c_j0 = w2c_l25;
   w2c_j1 = 255ull;
   w2c_j0 &= w2c_j1;
-  w2c_l24 = w2c_j0;
+  w2c_l25 = w2c_j0;
   w2c_j0 = w2c_l7;
   w2c_i0 = (u32)(w2c_j0);
   w2c_j1 = 0ull;
@@ -26758,7 +26963,7 @@ static void w2c_f15(Z_hidreport_instance_t* instance, u64 w2c_p0, u64 w2c_p1, u6
   w2c_i0 = (u32)(w2c_j0);
   w2c_j1 = 0ull;
   i64_store(&instance->w2c_memory, (u64)(w2c_i0) + 24, w2c_j1);
-  w2c_B195:;
+  w2c_B201:;
   w2c_j0 = 1ull;
   w2c_p6 = w2c_j0;
   w2c_B2:;
@@ -26778,7 +26983,7 @@ static void w2c_f15(Z_hidreport_instance_t* instance, u64 w2c_p0, u64 w2c_p1, u6
   w2c_j1 = 24ull;
   w2c_j0 += w2c_j1;
   w2c_i0 = (u32)(w2c_j0);
-  w2c_j1 = w2c_l27;
+  w2c_j1 = w2c_l28;
   i64_store(&instance->w2c_memory, (u64)(w2c_i0), w2c_j1);
   w2c_j0 = w2c_p0;
   w2c_j1 = 16ull;
@@ -26790,7 +26995,7 @@ static void w2c_f15(Z_hidreport_instance_t* instance, u64 w2c_p0, u64 w2c_p1, u6
   w2c_j1 = 8ull;
   w2c_j0 += w2c_j1;
   w2c_i0 = (u32)(w2c_j0);
-  w2c_j1 = w2c_l24;
+  w2c_j1 = w2c_l25;
   i64_store(&instance->w2c_memory, (u64)(w2c_i0), w2c_j1);
   w2c_j0 = w2c_p0;
   w2c_i0 = (u32)(w2c_j0);
@@ -26830,7 +27035,7 @@ static void w2c_f15(Z_hidreport_instance_t* instance, u64 w2c_p0, u64 w2c_p1, u6
   i64_store(&instance->w2c_memory, (u64)(w2c_i0), w2c_j1);
   w2c_B0:;
   w2c_j0 = w2c_l7;
-  w2c_j1 = 12896ull;
+  w2c_j1 = 12928ull;
   w2c_j0 += w2c_j1;
   instance->w2c_g0 = w2c_j0;
   FUNC_EPILOGUE;
@@ -27289,7 +27494,7 @@ static u32 w2c_f17(Z_hidreport_instance_t* instance, u64 w2c_p0) {
   w2c_j4 = 12ull;
   w2c_j3 *= w2c_j4;
   w2c_j4 = 4ull;
-  w2c_f149(instance, w2c_j0, w2c_j1, w2c_j2, w2c_j3, w2c_j4);
+  w2c_f150(instance, w2c_j0, w2c_j1, w2c_j2, w2c_j3, w2c_j4);
   w2c_j0 = w2c_l1;
   w2c_i0 = (u32)(w2c_j0);
   w2c_j0 = i64_load(&instance->w2c_memory, (u64)(w2c_i0) + 16u);
@@ -27415,7 +27620,7 @@ static u32 w2c_f18(Z_hidreport_instance_t* instance, u64 w2c_p0) {
   w2c_j4 = 6ull;
   w2c_j3 *= w2c_j4;
   w2c_j4 = 2ull;
-  w2c_f149(instance, w2c_j0, w2c_j1, w2c_j2, w2c_j3, w2c_j4);
+  w2c_f150(instance, w2c_j0, w2c_j1, w2c_j2, w2c_j3, w2c_j4);
   w2c_j0 = w2c_l1;
   w2c_i0 = (u32)(w2c_j0);
   w2c_j0 = i64_load(&instance->w2c_memory, (u64)(w2c_i0) + 16u);
@@ -27541,7 +27746,7 @@ static u32 w2c_f19(Z_hidreport_instance_t* instance, u64 w2c_p0) {
   w2c_j4 = 2ull;
   w2c_j3 <<= (w2c_j4 & 63);
   w2c_j4 = 4ull;
-  w2c_f149(instance, w2c_j0, w2c_j1, w2c_j2, w2c_j3, w2c_j4);
+  w2c_f150(instance, w2c_j0, w2c_j1, w2c_j2, w2c_j3, w2c_j4);
   w2c_j0 = w2c_l1;
   w2c_i0 = (u32)(w2c_j0);
   w2c_j0 = i64_load(&instance->w2c_memory, (u64)(w2c_i0) + 16u);
@@ -27667,7 +27872,7 @@ static u32 w2c_f20(Z_hidreport_instance_t* instance, u64 w2c_p0) {
   w2c_j4 = 2ull;
   w2c_j3 <<= (w2c_j4 & 63);
   w2c_j4 = 4ull;
-  w2c_f149(instance, w2c_j0, w2c_j1, w2c_j2, w2c_j3, w2c_j4);
+  w2c_f150(instance, w2c_j0, w2c_j1, w2c_j2, w2c_j3, w2c_j4);
   w2c_j0 = w2c_l1;
   w2c_i0 = (u32)(w2c_j0);
   w2c_j0 = i64_load(&instance->w2c_memory, (u64)(w2c_i0) + 16u);
@@ -33906,7 +34111,7 @@ static u32 w2c_f27(Z_hidreport_instance_t* instance, u64 w2c_p0, u64 w2c_p1) {
   w2c_j2 = w2c_l3;
   w2c_j3 = w2c_p1;
   w2c_j4 = 1ull;
-  w2c_f149(instance, w2c_j0, w2c_j1, w2c_j2, w2c_j3, w2c_j4);
+  w2c_f150(instance, w2c_j0, w2c_j1, w2c_j2, w2c_j3, w2c_j4);
   w2c_j0 = w2c_l2;
   w2c_i0 = (u32)(w2c_j0);
   w2c_j0 = i64_load(&instance->w2c_memory, (u64)(w2c_i0) + 16u);
@@ -34138,7 +34343,7 @@ static u32 w2c_f30(Z_hidreport_instance_t* instance, u64 w2c_p0) {
   w2c_j4 = 112ull;
   w2c_j3 *= w2c_j4;
   w2c_j4 = 8ull;
-  w2c_f149(instance, w2c_j0, w2c_j1, w2c_j2, w2c_j3, w2c_j4);
+  w2c_f150(instance, w2c_j0, w2c_j1, w2c_j2, w2c_j3, w2c_j4);
   w2c_j0 = w2c_l1;
   w2c_i0 = (u32)(w2c_j0);
   w2c_j0 = i64_load(&instance->w2c_memory, (u64)(w2c_i0) + 16u);
@@ -35100,7 +35305,7 @@ static u32 w2c_f35(Z_hidreport_instance_t* instance, u64 w2c_p0, u64 w2c_p1) {
   w2c_j2 = w2c_l3;
   w2c_j3 = w2c_p1;
   w2c_j4 = 1ull;
-  w2c_f149(instance, w2c_j0, w2c_j1, w2c_j2, w2c_j3, w2c_j4);
+  w2c_f150(instance, w2c_j0, w2c_j1, w2c_j2, w2c_j3, w2c_j4);
   w2c_j0 = w2c_l2;
   w2c_i0 = (u32)(w2c_j0);
   w2c_j0 = i64_load(&instance->w2c_memory, (u64)(w2c_i0) + 16u);
@@ -37104,7 +37309,7 @@ static u32 w2c_f40(Z_hidreport_instance_t* instance, u64 w2c_p0, u64 w2c_p1) {
   w2c_j2 = w2c_l3;
   w2c_j3 = w2c_p1;
   w2c_j4 = 1ull;
-  w2c_f149(instance, w2c_j0, w2c_j1, w2c_j2, w2c_j3, w2c_j4);
+  w2c_f150(instance, w2c_j0, w2c_j1, w2c_j2, w2c_j3, w2c_j4);
   w2c_j0 = w2c_l2;
   w2c_i0 = (u32)(w2c_j0);
   w2c_j0 = i64_load(&instance->w2c_memory, (u64)(w2c_i0) + 16u);
@@ -39363,7 +39568,7 @@ static void w2c_f43(Z_hidreport_instance_t* instance, u64 w2c_p0, u64 w2c_p1, u6
   w2c_j2 = 0ull;
   w2c_j3 = w2c_l16;
   w2c_j4 = 0ull;
-  w2c_f150(instance, w2c_j0, w2c_j1, w2c_j2, w2c_j3, w2c_j4);
+  w2c_f151(instance, w2c_j0, w2c_j1, w2c_j2, w2c_j3, w2c_j4);
   w2c_j0 = w2c_l4;
   w2c_i0 = (u32)(w2c_j0);
   w2c_j0 = i64_load(&instance->w2c_memory, (u64)(w2c_i0) + 40u);
@@ -42601,7 +42806,7 @@ static u32 w2c_f46(Z_hidreport_instance_t* instance, u64 w2c_p0) {
   w2c_j4 = 5ull;
   w2c_j3 <<= (w2c_j4 & 63);
   w2c_j4 = 8ull;
-  w2c_f149(instance, w2c_j0, w2c_j1, w2c_j2, w2c_j3, w2c_j4);
+  w2c_f150(instance, w2c_j0, w2c_j1, w2c_j2, w2c_j3, w2c_j4);
   w2c_j0 = w2c_l1;
   w2c_i0 = (u32)(w2c_j0);
   w2c_j0 = i64_load(&instance->w2c_memory, (u64)(w2c_i0) + 16u);
@@ -43017,13 +43222,13 @@ static void w2c_f48(Z_hidreport_instance_t* instance, u64 w2c_p0, u64 w2c_p1, u6
   w2c_j2 = 0ull;
   w2c_j3 = w2c_p2;
   w2c_j4 = 0ull;
-  w2c_f150(instance, w2c_j0, w2c_j1, w2c_j2, w2c_j3, w2c_j4);
+  w2c_f151(instance, w2c_j0, w2c_j1, w2c_j2, w2c_j3, w2c_j4);
   w2c_j0 = w2c_l5;
   w2c_j1 = w2c_p4;
   w2c_j2 = 0ull;
   w2c_j3 = w2c_p2;
   w2c_j4 = 0ull;
-  w2c_f150(instance, w2c_j0, w2c_j1, w2c_j2, w2c_j3, w2c_j4);
+  w2c_f151(instance, w2c_j0, w2c_j1, w2c_j2, w2c_j3, w2c_j4);
   w2c_j0 = w2c_p0;
   w2c_i0 = (u32)(w2c_j0);
   w2c_j1 = w2c_l5;
@@ -47131,7 +47336,7 @@ static u32 w2c_f52(Z_hidreport_instance_t* instance, u64 w2c_p0) {
   w2c_j4 = 4ull;
   w2c_j3 <<= (w2c_j4 & 63);
   w2c_j4 = 4ull;
-  w2c_f149(instance, w2c_j0, w2c_j1, w2c_j2, w2c_j3, w2c_j4);
+  w2c_f150(instance, w2c_j0, w2c_j1, w2c_j2, w2c_j3, w2c_j4);
   w2c_j0 = w2c_l1;
   w2c_i0 = (u32)(w2c_j0);
   w2c_j0 = i64_load(&instance->w2c_memory, (u64)(w2c_i0) + 16u);
@@ -48680,7 +48885,7 @@ static u32 w2c_f56(Z_hidreport_instance_t* instance, u64 w2c_p0, u64 w2c_p1) {
   w2c_j4 = 2ull;
   w2c_j3 <<= (w2c_j4 & 63);
   w2c_j4 = 2ull;
-  w2c_f149(instance, w2c_j0, w2c_j1, w2c_j2, w2c_j3, w2c_j4);
+  w2c_f150(instance, w2c_j0, w2c_j1, w2c_j2, w2c_j3, w2c_j4);
   w2c_j0 = w2c_l2;
   w2c_i0 = (u32)(w2c_j0);
   w2c_j0 = i64_load(&instance->w2c_memory, (u64)(w2c_i0) + 16u);
@@ -50400,7 +50605,7 @@ static u32 w2c_f60(Z_hidreport_instance_t* instance, u64 w2c_p0) {
   w2c_j4 = 192ull;
   w2c_j3 *= w2c_j4;
   w2c_j4 = 16ull;
-  w2c_f149(instance, w2c_j0, w2c_j1, w2c_j2, w2c_j3, w2c_j4);
+  w2c_f150(instance, w2c_j0, w2c_j1, w2c_j2, w2c_j3, w2c_j4);
   w2c_j0 = w2c_l1;
   w2c_i0 = (u32)(w2c_j0);
   w2c_j0 = i64_load(&instance->w2c_memory, (u64)(w2c_i0) + 16u);
@@ -50526,7 +50731,7 @@ static u32 w2c_f61(Z_hidreport_instance_t* instance, u64 w2c_p0) {
   w2c_j4 = 40ull;
   w2c_j3 *= w2c_j4;
   w2c_j4 = 8ull;
-  w2c_f149(instance, w2c_j0, w2c_j1, w2c_j2, w2c_j3, w2c_j4);
+  w2c_f150(instance, w2c_j0, w2c_j1, w2c_j2, w2c_j3, w2c_j4);
   w2c_j0 = w2c_l1;
   w2c_i0 = (u32)(w2c_j0);
   w2c_j0 = i64_load(&instance->w2c_memory, (u64)(w2c_i0) + 16u);
@@ -50652,7 +50857,7 @@ static u32 w2c_f62(Z_hidreport_instance_t* instance, u64 w2c_p0) {
   w2c_j4 = 12ull;
   w2c_j3 *= w2c_j4;
   w2c_j4 = 4ull;
-  w2c_f149(instance, w2c_j0, w2c_j1, w2c_j2, w2c_j3, w2c_j4);
+  w2c_f150(instance, w2c_j0, w2c_j1, w2c_j2, w2c_j3, w2c_j4);
   w2c_j0 = w2c_l1;
   w2c_i0 = (u32)(w2c_j0);
   w2c_j0 = i64_load(&instance->w2c_memory, (u64)(w2c_i0) + 16u);
@@ -50778,7 +50983,7 @@ static u32 w2c_f63(Z_hidreport_instance_t* instance, u64 w2c_p0) {
   w2c_j4 = 40ull;
   w2c_j3 *= w2c_j4;
   w2c_j4 = 4ull;
-  w2c_f149(instance, w2c_j0, w2c_j1, w2c_j2, w2c_j3, w2c_j4);
+  w2c_f150(instance, w2c_j0, w2c_j1, w2c_j2, w2c_j3, w2c_j4);
   w2c_j0 = w2c_l1;
   w2c_i0 = (u32)(w2c_j0);
   w2c_j0 = i64_load(&instance->w2c_memory, (u64)(w2c_i0) + 16u);
@@ -50885,7 +51090,7 @@ static u32 w2c_f64(Z_hidreport_instance_t* instance, u64 w2c_p0) {
   w2c_i2 = w2c_j2 < w2c_j3;
   w2c_j0 = w2c_i2 ? w2c_j0 : w2c_j1;
   w2c_l3 = w2c_j0;
-  w2c_j1 = 576460752303423487ull;
+  w2c_j1 = 384307168202282325ull;
   w2c_i0 = w2c_j0 > w2c_j1;
   if (w2c_i0) {goto w2c_B0;}
   w2c_j0 = w2c_l4;
@@ -50898,13 +51103,13 @@ static u32 w2c_f64(Z_hidreport_instance_t* instance, u64 w2c_p0) {
   w2c_i1 = (u32)(w2c_j1);
   w2c_j1 = i64_load(&instance->w2c_memory, (u64)(w2c_i1));
   w2c_j2 = w2c_l2;
-  w2c_j3 = 4ull;
-  w2c_j2 <<= (w2c_j3 & 63);
+  w2c_j3 = 24ull;
+  w2c_j2 *= w2c_j3;
   w2c_j3 = w2c_l3;
-  w2c_j4 = 4ull;
-  w2c_j3 <<= (w2c_j4 & 63);
-  w2c_j4 = 4ull;
-  w2c_f149(instance, w2c_j0, w2c_j1, w2c_j2, w2c_j3, w2c_j4);
+  w2c_j4 = 24ull;
+  w2c_j3 *= w2c_j4;
+  w2c_j4 = 8ull;
+  w2c_f150(instance, w2c_j0, w2c_j1, w2c_j2, w2c_j3, w2c_j4);
   w2c_j0 = w2c_l1;
   w2c_i0 = (u32)(w2c_j0);
   w2c_j0 = i64_load(&instance->w2c_memory, (u64)(w2c_i0) + 16u);
@@ -50921,9 +51126,9 @@ static u32 w2c_f64(Z_hidreport_instance_t* instance, u64 w2c_p0) {
   w2c_B2:;
   w2c_j0 = w2c_l1;
   w2c_j1 = w2c_l5;
-  w2c_j2 = 4ull;
-  w2c_j1 <<= (w2c_j2 & 63);
-  w2c_j2 = 4ull;
+  w2c_j2 = 24ull;
+  w2c_j1 *= w2c_j2;
+  w2c_j2 = 8ull;
   w2c_rattle_alloc(instance, w2c_j0, w2c_j1, w2c_j2);
   w2c_j0 = w2c_l1;
   w2c_i0 = (u32)(w2c_j0);
@@ -51011,7 +51216,7 @@ static u32 w2c_f65(Z_hidreport_instance_t* instance, u64 w2c_p0) {
   w2c_i2 = w2c_j2 < w2c_j3;
   w2c_j0 = w2c_i2 ? w2c_j0 : w2c_j1;
   w2c_l3 = w2c_j0;
-  w2c_j1 = 768614336404564650ull;
+  w2c_j1 = 384307168202282325ull;
   w2c_i0 = w2c_j0 > w2c_j1;
   if (w2c_i0) {goto w2c_B0;}
   w2c_j0 = w2c_l4;
@@ -51024,13 +51229,13 @@ static u32 w2c_f65(Z_hidreport_instance_t* instance, u64 w2c_p0) {
   w2c_i1 = (u32)(w2c_j1);
   w2c_j1 = i64_load(&instance->w2c_memory, (u64)(w2c_i1));
   w2c_j2 = w2c_l2;
-  w2c_j3 = 12ull;
+  w2c_j3 = 24ull;
   w2c_j2 *= w2c_j3;
   w2c_j3 = w2c_l3;
-  w2c_j4 = 12ull;
+  w2c_j4 = 24ull;
   w2c_j3 *= w2c_j4;
-  w2c_j4 = 4ull;
-  w2c_f149(instance, w2c_j0, w2c_j1, w2c_j2, w2c_j3, w2c_j4);
+  w2c_j4 = 8ull;
+  w2c_f150(instance, w2c_j0, w2c_j1, w2c_j2, w2c_j3, w2c_j4);
   w2c_j0 = w2c_l1;
   w2c_i0 = (u32)(w2c_j0);
   w2c_j0 = i64_load(&instance->w2c_memory, (u64)(w2c_i0) + 16u);
@@ -51047,9 +51252,9 @@ static u32 w2c_f65(Z_hidreport_instance_t* instance, u64 w2c_p0) {
   w2c_B2:;
   w2c_j0 = w2c_l1;
   w2c_j1 = w2c_l5;
-  w2c_j2 = 12ull;
+  w2c_j2 = 24ull;
   w2c_j1 *= w2c_j2;
-  w2c_j2 = 4ull;
+  w2c_j2 = 8ull;
   w2c_rattle_alloc(instance, w2c_j0, w2c_j1, w2c_j2);
   w2c_j0 = w2c_l1;
   w2c_i0 = (u32)(w2c_j0);
@@ -51137,7 +51342,7 @@ static u32 w2c_f66(Z_hidreport_instance_t* instance, u64 w2c_p0) {
   w2c_i2 = w2c_j2 < w2c_j3;
   w2c_j0 = w2c_i2 ? w2c_j0 : w2c_j1;
   w2c_l3 = w2c_j0;
-  w2c_j1 = 88686269585142075ull;
+  w2c_j1 = 768614336404564650ull;
   w2c_i0 = w2c_j0 > w2c_j1;
   if (w2c_i0) {goto w2c_B0;}
   w2c_j0 = w2c_l4;
@@ -51150,13 +51355,13 @@ static u32 w2c_f66(Z_hidreport_instance_t* instance, u64 w2c_p0) {
   w2c_i1 = (u32)(w2c_j1);
   w2c_j1 = i64_load(&instance->w2c_memory, (u64)(w2c_i1));
   w2c_j2 = w2c_l2;
-  w2c_j3 = 104ull;
+  w2c_j3 = 12ull;
   w2c_j2 *= w2c_j3;
   w2c_j3 = w2c_l3;
-  w2c_j4 = 104ull;
+  w2c_j4 = 12ull;
   w2c_j3 *= w2c_j4;
-  w2c_j4 = 8ull;
-  w2c_f149(instance, w2c_j0, w2c_j1, w2c_j2, w2c_j3, w2c_j4);
+  w2c_j4 = 4ull;
+  w2c_f150(instance, w2c_j0, w2c_j1, w2c_j2, w2c_j3, w2c_j4);
   w2c_j0 = w2c_l1;
   w2c_i0 = (u32)(w2c_j0);
   w2c_j0 = i64_load(&instance->w2c_memory, (u64)(w2c_i0) + 16u);
@@ -51173,7 +51378,133 @@ static u32 w2c_f66(Z_hidreport_instance_t* instance, u64 w2c_p0) {
   w2c_B2:;
   w2c_j0 = w2c_l1;
   w2c_j1 = w2c_l5;
-  w2c_j2 = 104ull;
+  w2c_j2 = 12ull;
+  w2c_j1 *= w2c_j2;
+  w2c_j2 = 4ull;
+  w2c_rattle_alloc(instance, w2c_j0, w2c_j1, w2c_j2);
+  w2c_j0 = w2c_l1;
+  w2c_i0 = (u32)(w2c_j0);
+  w2c_j0 = i64_load(&instance->w2c_memory, (u64)(w2c_i0));
+  w2c_i0 = (u32)(w2c_j0);
+  w2c_i1 = 1u;
+  w2c_i0 &= w2c_i1;
+  w2c_i0 = !(w2c_i0);
+  if (w2c_i0) {goto w2c_B0;}
+  w2c_j0 = w2c_l1;
+  w2c_i0 = (u32)(w2c_j0);
+  w2c_j0 = i64_load(&instance->w2c_memory, (u64)(w2c_i0) + 8u);
+  w2c_l2 = w2c_j0;
+  w2c_B1:;
+  w2c_j0 = w2c_p0;
+  w2c_j1 = 16ull;
+  w2c_j0 += w2c_j1;
+  w2c_i0 = (u32)(w2c_j0);
+  w2c_j1 = w2c_l3;
+  i64_store(&instance->w2c_memory, (u64)(w2c_i0), w2c_j1);
+  w2c_j0 = w2c_p0;
+  w2c_i0 = (u32)(w2c_j0);
+  w2c_j1 = w2c_l2;
+  i64_store(&instance->w2c_memory, (u64)(w2c_i0), w2c_j1);
+  w2c_i0 = 1u;
+  w2c_l6 = w2c_i0;
+  w2c_B0:;
+  w2c_j0 = w2c_l1;
+  w2c_j1 = 32ull;
+  w2c_j0 += w2c_j1;
+  instance->w2c_g0 = w2c_j0;
+  w2c_i0 = w2c_l6;
+  FUNC_EPILOGUE;
+  return w2c_i0;
+}
+
+static u32 w2c_f67(Z_hidreport_instance_t* instance, u64 w2c_p0) {
+  u32 w2c_l6 = 0;
+  u64 w2c_l1 = 0, w2c_l2 = 0, w2c_l3 = 0, w2c_l4 = 0, w2c_l5 = 0;
+  FUNC_PROLOGUE;
+  u32 w2c_i0, w2c_i1, w2c_i2;
+  u64 w2c_j0, w2c_j1, w2c_j2, w2c_j3, w2c_j4;
+  w2c_j0 = instance->w2c_g0;
+  w2c_j1 = 32ull;
+  w2c_j0 -= w2c_j1;
+  w2c_l1 = w2c_j0;
+  instance->w2c_g0 = w2c_j0;
+  w2c_i0 = 0u;
+  w2c_l6 = w2c_i0;
+  w2c_j0 = w2c_p0;
+  w2c_j1 = 8ull;
+  w2c_j0 += w2c_j1;
+  w2c_i0 = (u32)(w2c_j0);
+  w2c_j0 = i64_load(&instance->w2c_memory, (u64)(w2c_i0));
+  w2c_l2 = w2c_j0;
+  w2c_j1 = 18446744073709551615ull;
+  w2c_i0 = w2c_j0 == w2c_j1;
+  if (w2c_i0) {goto w2c_B0;}
+  w2c_j0 = w2c_l2;
+  w2c_j1 = 3ull;
+  w2c_j2 = w2c_l2;
+  w2c_j3 = 3ull;
+  w2c_i2 = w2c_j2 > w2c_j3;
+  w2c_j0 = w2c_i2 ? w2c_j0 : w2c_j1;
+  w2c_j1 = 1ull;
+  w2c_j0 += w2c_j1;
+  w2c_l3 = w2c_j0;
+  w2c_j1 = w2c_p0;
+  w2c_j2 = 16ull;
+  w2c_j1 += w2c_j2;
+  w2c_i1 = (u32)(w2c_j1);
+  w2c_j1 = i64_load(&instance->w2c_memory, (u64)(w2c_i1));
+  w2c_l4 = w2c_j1;
+  w2c_j2 = 1ull;
+  w2c_j1 <<= (w2c_j2 & 63);
+  w2c_l5 = w2c_j1;
+  w2c_j2 = w2c_l3;
+  w2c_j3 = w2c_l5;
+  w2c_i2 = w2c_j2 > w2c_j3;
+  w2c_j0 = w2c_i2 ? w2c_j0 : w2c_j1;
+  w2c_l5 = w2c_j0;
+  w2c_j1 = w2c_l3;
+  w2c_j2 = w2c_l4;
+  w2c_j3 = 4611686018427387904ull;
+  w2c_i2 = w2c_j2 < w2c_j3;
+  w2c_j0 = w2c_i2 ? w2c_j0 : w2c_j1;
+  w2c_l3 = w2c_j0;
+  w2c_j1 = 76861433640456465ull;
+  w2c_i0 = w2c_j0 > w2c_j1;
+  if (w2c_i0) {goto w2c_B0;}
+  w2c_j0 = w2c_l4;
+  w2c_i0 = !(w2c_j0);
+  if (w2c_i0) {goto w2c_B2;}
+  w2c_j0 = w2c_l1;
+  w2c_j1 = 16ull;
+  w2c_j0 += w2c_j1;
+  w2c_j1 = w2c_p0;
+  w2c_i1 = (u32)(w2c_j1);
+  w2c_j1 = i64_load(&instance->w2c_memory, (u64)(w2c_i1));
+  w2c_j2 = w2c_l2;
+  w2c_j3 = 120ull;
+  w2c_j2 *= w2c_j3;
+  w2c_j3 = w2c_l3;
+  w2c_j4 = 120ull;
+  w2c_j3 *= w2c_j4;
+  w2c_j4 = 8ull;
+  w2c_f150(instance, w2c_j0, w2c_j1, w2c_j2, w2c_j3, w2c_j4);
+  w2c_j0 = w2c_l1;
+  w2c_i0 = (u32)(w2c_j0);
+  w2c_j0 = i64_load(&instance->w2c_memory, (u64)(w2c_i0) + 16u);
+  w2c_i0 = (u32)(w2c_j0);
+  w2c_i1 = 1u;
+  w2c_i0 &= w2c_i1;
+  w2c_i0 = !(w2c_i0);
+  if (w2c_i0) {goto w2c_B0;}
+  w2c_j0 = w2c_l1;
+  w2c_i0 = (u32)(w2c_j0);
+  w2c_j0 = i64_load(&instance->w2c_memory, (u64)(w2c_i0) + 24u);
+  w2c_l2 = w2c_j0;
+  goto w2c_B1;
+  w2c_B2:;
+  w2c_j0 = w2c_l1;
+  w2c_j1 = w2c_l5;
+  w2c_j2 = 120ull;
   w2c_j1 *= w2c_j2;
   w2c_j2 = 8ull;
   w2c_rattle_alloc(instance, w2c_j0, w2c_j1, w2c_j2);
@@ -51212,7 +51543,7 @@ static u32 w2c_f66(Z_hidreport_instance_t* instance, u64 w2c_p0) {
   return w2c_i0;
 }
 
-static void w2c_f67(Z_hidreport_instance_t* instance, u64 w2c_p0, u64 w2c_p1, u64 w2c_p2, u64 w2c_p3) {
+static void w2c_f68(Z_hidreport_instance_t* instance, u64 w2c_p0, u64 w2c_p1, u64 w2c_p2, u64 w2c_p3) {
   u32 w2c_l29 = 0, w2c_l30 = 0, w2c_l31 = 0, w2c_l32 = 0, w2c_l33 = 0, w2c_l34 = 0, w2c_l35 = 0, w2c_l36 = 0, 
       w2c_l37 = 0, w2c_l38 = 0, w2c_l39 = 0, w2c_l40 = 0, w2c_l41 = 0, w2c_l42 = 0, w2c_l43 = 0, w2c_l44 = 0, 
       w2c_l45 = 0, w2c_l46 = 0, w2c_l47 = 0, w2c_l48 = 0, w2c_l49 = 0, w2c_l50 = 0;
@@ -53740,7 +54071,7 @@ static void w2c_f67(Z_hidreport_instance_t* instance, u64 w2c_p0, u64 w2c_p1, u6
     w2c_j0 = w2c_l4;
     w2c_j1 = 184ull;
     w2c_j0 += w2c_j1;
-    w2c_i0 = w2c_f68(instance, w2c_j0);
+    w2c_i0 = w2c_f69(instance, w2c_j0);
     w2c_i0 = !(w2c_i0);
     if (w2c_i0) {goto w2c_B44;}
     w2c_j0 = w2c_l4;
@@ -54644,7 +54975,7 @@ static void w2c_f67(Z_hidreport_instance_t* instance, u64 w2c_p0, u64 w2c_p1, u6
     w2c_j2 = w2c_l4;
     w2c_j3 = 768ull;
     w2c_j2 += w2c_j3;
-    w2c_f69(instance, w2c_j0, w2c_i1, w2c_j2);
+    w2c_f70(instance, w2c_j0, w2c_i1, w2c_j2);
     w2c_B178:;
     w2c_j0 = w2c_l4;
     w2c_i0 = (u32)(w2c_j0);
@@ -55782,7 +56113,7 @@ static void w2c_f67(Z_hidreport_instance_t* instance, u64 w2c_p0, u64 w2c_p1, u6
     w2c_j2 = w2c_l4;
     w2c_j3 = 752ull;
     w2c_j2 += w2c_j3;
-    w2c_f69(instance, w2c_j0, w2c_i1, w2c_j2);
+    w2c_f70(instance, w2c_j0, w2c_i1, w2c_j2);
     w2c_B191:;
     w2c_j0 = 32ull;
     w2c_l8 = w2c_j0;
@@ -57985,7 +58316,7 @@ static void w2c_f67(Z_hidreport_instance_t* instance, u64 w2c_p0, u64 w2c_p1, u6
     w2c_j0 = w2c_l4;
     w2c_j1 = 224ull;
     w2c_j0 += w2c_j1;
-    w2c_i0 = w2c_f70(instance, w2c_j0);
+    w2c_i0 = w2c_f71(instance, w2c_j0);
     w2c_i0 = !(w2c_i0);
     if (w2c_i0) {goto w2c_B285;}
     w2c_j0 = w2c_l4;
@@ -58681,7 +59012,7 @@ static void w2c_f67(Z_hidreport_instance_t* instance, u64 w2c_p0, u64 w2c_p1, u6
   FUNC_EPILOGUE;
 }
 
-static u32 w2c_f68(Z_hidreport_instance_t* instance, u64 w2c_p0) {
+static u32 w2c_f69(Z_hidreport_instance_t* instance, u64 w2c_p0) {
   u32 w2c_l6 = 0;
   u64 w2c_l1 = 0, w2c_l2 = 0, w2c_l3 = 0, w2c_l4 = 0, w2c_l5 = 0;
   FUNC_PROLOGUE;
@@ -58751,7 +59082,7 @@ static u32 w2c_f68(Z_hidreport_instance_t* instance, u64 w2c_p0) {
   w2c_j4 = 80ull;
   w2c_j3 *= w2c_j4;
   w2c_j4 = 8ull;
-  w2c_f149(instance, w2c_j0, w2c_j1, w2c_j2, w2c_j3, w2c_j4);
+  w2c_f150(instance, w2c_j0, w2c_j1, w2c_j2, w2c_j3, w2c_j4);
   w2c_j0 = w2c_l1;
   w2c_i0 = (u32)(w2c_j0);
   w2c_j0 = i64_load(&instance->w2c_memory, (u64)(w2c_i0) + 16u);
@@ -58807,7 +59138,7 @@ static u32 w2c_f68(Z_hidreport_instance_t* instance, u64 w2c_p0) {
   return w2c_i0;
 }
 
-static void w2c_f69(Z_hidreport_instance_t* instance, u64 w2c_p0, u32 w2c_p1, u64 w2c_p2) {
+static void w2c_f70(Z_hidreport_instance_t* instance, u64 w2c_p0, u32 w2c_p1, u64 w2c_p2) {
   u32 w2c_l7 = 0, w2c_l8 = 0, w2c_l9 = 0, w2c_l10 = 0, w2c_l11 = 0, w2c_l12 = 0, w2c_l13 = 0, w2c_l14 = 0, 
       w2c_l15 = 0, w2c_l16 = 0, w2c_l17 = 0, w2c_l18 = 0, w2c_l19 = 0;
   u64 w2c_l3 = 0, w2c_l4 = 0, w2c_l5 = 0, w2c_l6 = 0;
@@ -59935,7 +60266,7 @@ static void w2c_f69(Z_hidreport_instance_t* instance, u64 w2c_p0, u32 w2c_p1, u6
   FUNC_EPILOGUE;
 }
 
-static u32 w2c_f70(Z_hidreport_instance_t* instance, u64 w2c_p0) {
+static u32 w2c_f71(Z_hidreport_instance_t* instance, u64 w2c_p0) {
   u32 w2c_l6 = 0;
   u64 w2c_l1 = 0, w2c_l2 = 0, w2c_l3 = 0, w2c_l4 = 0, w2c_l5 = 0;
   FUNC_PROLOGUE;
@@ -60005,7 +60336,7 @@ static u32 w2c_f70(Z_hidreport_instance_t* instance, u64 w2c_p0) {
   w2c_j4 = 6ull;
   w2c_j3 <<= (w2c_j4 & 63);
   w2c_j4 = 8ull;
-  w2c_f149(instance, w2c_j0, w2c_j1, w2c_j2, w2c_j3, w2c_j4);
+  w2c_f150(instance, w2c_j0, w2c_j1, w2c_j2, w2c_j3, w2c_j4);
   w2c_j0 = w2c_l1;
   w2c_i0 = (u32)(w2c_j0);
   w2c_j0 = i64_load(&instance->w2c_memory, (u64)(w2c_i0) + 16u);
@@ -60061,7 +60392,7 @@ static u32 w2c_f70(Z_hidreport_instance_t* instance, u64 w2c_p0) {
   return w2c_i0;
 }
 
-static void w2c_f71(Z_hidreport_instance_t* instance, u64 w2c_p0, u64 w2c_p1, u64 w2c_p2) {
+static void w2c_f72(Z_hidreport_instance_t* instance, u64 w2c_p0, u64 w2c_p1, u64 w2c_p2) {
   u32 w2c_l20 = 0, w2c_l21 = 0, w2c_l22 = 0, w2c_l23 = 0, w2c_l24 = 0;
   u64 w2c_l3 = 0, w2c_l4 = 0, w2c_l5 = 0, w2c_l6 = 0, w2c_l7 = 0, w2c_l8 = 0, w2c_l9 = 0, w2c_l10 = 0, 
       w2c_l11 = 0, w2c_l12 = 0, w2c_l13 = 0, w2c_l14 = 0, w2c_l15 = 0, w2c_l16 = 0, w2c_l17 = 0, w2c_l18 = 0, 
@@ -60533,7 +60864,7 @@ static void w2c_f71(Z_hidreport_instance_t* instance, u64 w2c_p0, u64 w2c_p1, u6
       w2c_j1 = 112ull;
       w2c_j0 += w2c_j1;
       w2c_j1 = 1ull;
-      w2c_i0 = w2c_f73(instance, w2c_j0, w2c_j1);
+      w2c_i0 = w2c_f74(instance, w2c_j0, w2c_j1);
       w2c_i0 = !(w2c_i0);
       if (w2c_i0) {goto w2c_B19;}
       w2c_j0 = w2c_l3;
@@ -60616,7 +60947,7 @@ static void w2c_f71(Z_hidreport_instance_t* instance, u64 w2c_p0, u64 w2c_p1, u6
       w2c_j2 = w2c_l3;
       w2c_j3 = 112ull;
       w2c_j2 += w2c_j3;
-      w2c_i0 = w2c_f74(instance, w2c_j0, w2c_j1, w2c_j2);
+      w2c_i0 = w2c_f75(instance, w2c_j0, w2c_j1, w2c_j2);
       w2c_i1 = 255u;
       w2c_i0 &= w2c_i1;
       if (w2c_i0) {goto w2c_B19;}
@@ -60629,7 +60960,7 @@ static void w2c_f71(Z_hidreport_instance_t* instance, u64 w2c_p0, u64 w2c_p1, u6
       w2c_j2 = w2c_l3;
       w2c_j3 = 184ull;
       w2c_j2 += w2c_j3;
-      w2c_f75(instance, w2c_j0, w2c_j1, w2c_j2);
+      w2c_f76(instance, w2c_j0, w2c_j1, w2c_j2);
       w2c_j0 = w2c_l3;
       w2c_i0 = (u32)(w2c_j0);
       w2c_i0 = i32_load8_u(&instance->w2c_memory, (u64)(w2c_i0) + 336u);
@@ -60651,7 +60982,7 @@ static void w2c_f71(Z_hidreport_instance_t* instance, u64 w2c_p0, u64 w2c_p1, u6
       w2c_j1 = 112ull;
       w2c_j0 += w2c_j1;
       w2c_j1 = 1ull;
-      w2c_i0 = w2c_f73(instance, w2c_j0, w2c_j1);
+      w2c_i0 = w2c_f74(instance, w2c_j0, w2c_j1);
       w2c_i0 = !(w2c_i0);
       if (w2c_i0) {goto w2c_B27;}
       w2c_j0 = w2c_l3;
@@ -60704,7 +61035,7 @@ static void w2c_f71(Z_hidreport_instance_t* instance, u64 w2c_p0, u64 w2c_p1, u6
       w2c_j0 = w2c_l3;
       w2c_j1 = 208ull;
       w2c_j0 += w2c_j1;
-      w2c_f76(instance, w2c_j0);
+      w2c_f77(instance, w2c_j0);
       goto w2c_B19;
       w2c_B25:;
       w2c_j0 = w2c_l3;
@@ -60794,7 +61125,7 @@ static void w2c_f71(Z_hidreport_instance_t* instance, u64 w2c_p0, u64 w2c_p1, u6
       w2c_j1 = 112ull;
       w2c_j0 += w2c_j1;
       w2c_j1 = 1ull;
-      w2c_i0 = w2c_f73(instance, w2c_j0, w2c_j1);
+      w2c_i0 = w2c_f74(instance, w2c_j0, w2c_j1);
       w2c_i0 = !(w2c_i0);
       if (w2c_i0) {goto w2c_B19;}
       w2c_j0 = w2c_l3;
@@ -60876,7 +61207,7 @@ static void w2c_f71(Z_hidreport_instance_t* instance, u64 w2c_p0, u64 w2c_p1, u6
       w2c_j2 = w2c_l3;
       w2c_j3 = 160ull;
       w2c_j2 += w2c_j3;
-      w2c_f75(instance, w2c_j0, w2c_j1, w2c_j2);
+      w2c_f76(instance, w2c_j0, w2c_j1, w2c_j2);
       w2c_j0 = w2c_l3;
       w2c_i0 = (u32)(w2c_j0);
       w2c_i0 = i32_load8_u(&instance->w2c_memory, (u64)(w2c_i0) + 336u);
@@ -60898,7 +61229,7 @@ static void w2c_f71(Z_hidreport_instance_t* instance, u64 w2c_p0, u64 w2c_p1, u6
       w2c_j1 = 112ull;
       w2c_j0 += w2c_j1;
       w2c_j1 = 1ull;
-      w2c_i0 = w2c_f73(instance, w2c_j0, w2c_j1);
+      w2c_i0 = w2c_f74(instance, w2c_j0, w2c_j1);
       w2c_i0 = !(w2c_i0);
       if (w2c_i0) {goto w2c_B23;}
       w2c_j0 = w2c_l3;
@@ -61014,7 +61345,7 @@ static void w2c_f71(Z_hidreport_instance_t* instance, u64 w2c_p0, u64 w2c_p1, u6
       w2c_j1 = 112ull;
       w2c_j0 += w2c_j1;
       w2c_j1 = 1ull;
-      w2c_i0 = w2c_f73(instance, w2c_j0, w2c_j1);
+      w2c_i0 = w2c_f74(instance, w2c_j0, w2c_j1);
       w2c_i0 = !(w2c_i0);
       if (w2c_i0) {goto w2c_B19;}
       w2c_j0 = w2c_l3;
@@ -61096,7 +61427,7 @@ static void w2c_f71(Z_hidreport_instance_t* instance, u64 w2c_p0, u64 w2c_p1, u6
       w2c_j2 = w2c_l3;
       w2c_j3 = 136ull;
       w2c_j2 += w2c_j3;
-      w2c_f75(instance, w2c_j0, w2c_j1, w2c_j2);
+      w2c_f76(instance, w2c_j0, w2c_j1, w2c_j2);
       w2c_j0 = w2c_l3;
       w2c_i0 = (u32)(w2c_j0);
       w2c_i0 = i32_load8_u(&instance->w2c_memory, (u64)(w2c_i0) + 336u);
@@ -61118,7 +61449,7 @@ static void w2c_f71(Z_hidreport_instance_t* instance, u64 w2c_p0, u64 w2c_p1, u6
       w2c_j1 = 112ull;
       w2c_j0 += w2c_j1;
       w2c_j1 = 1ull;
-      w2c_i0 = w2c_f73(instance, w2c_j0, w2c_j1);
+      w2c_i0 = w2c_f74(instance, w2c_j0, w2c_j1);
       w2c_i0 = !(w2c_i0);
       if (w2c_i0) {goto w2c_B38;}
       w2c_j0 = w2c_l3;
@@ -61171,7 +61502,7 @@ static void w2c_f71(Z_hidreport_instance_t* instance, u64 w2c_p0, u64 w2c_p1, u6
       w2c_j0 = w2c_l3;
       w2c_j1 = 208ull;
       w2c_j0 += w2c_j1;
-      w2c_f76(instance, w2c_j0);
+      w2c_f77(instance, w2c_j0);
       goto w2c_B19;
       w2c_B37:;
       w2c_j0 = w2c_l13;
@@ -61181,7 +61512,7 @@ static void w2c_f71(Z_hidreport_instance_t* instance, u64 w2c_p0, u64 w2c_p1, u6
       w2c_j2 = w2c_l3;
       w2c_j3 = 112ull;
       w2c_j2 += w2c_j3;
-      w2c_i0 = w2c_f74(instance, w2c_j0, w2c_j1, w2c_j2);
+      w2c_i0 = w2c_f75(instance, w2c_j0, w2c_j1, w2c_j2);
       w2c_i1 = 255u;
       w2c_i0 &= w2c_i1;
       w2c_i0 = !(w2c_i0);
@@ -61204,7 +61535,7 @@ static void w2c_f71(Z_hidreport_instance_t* instance, u64 w2c_p0, u64 w2c_p1, u6
       w2c_j0 = w2c_l3;
       w2c_j1 = 208ull;
       w2c_j0 += w2c_j1;
-      w2c_f76(instance, w2c_j0);
+      w2c_f77(instance, w2c_j0);
       goto w2c_B19;
       w2c_B22:;
       w2c_j0 = w2c_l13;
@@ -61214,7 +61545,7 @@ static void w2c_f71(Z_hidreport_instance_t* instance, u64 w2c_p0, u64 w2c_p1, u6
       w2c_j2 = w2c_l3;
       w2c_j3 = 112ull;
       w2c_j2 += w2c_j3;
-      w2c_i0 = w2c_f74(instance, w2c_j0, w2c_j1, w2c_j2);
+      w2c_i0 = w2c_f75(instance, w2c_j0, w2c_j1, w2c_j2);
       w2c_i1 = 255u;
       w2c_i0 &= w2c_i1;
       if (w2c_i0) {goto w2c_B19;}
@@ -61324,7 +61655,7 @@ static void w2c_f71(Z_hidreport_instance_t* instance, u64 w2c_p0, u64 w2c_p1, u6
     w2c_j0 = w2c_l3;
     w2c_j1 = 32ull;
     w2c_j0 += w2c_j1;
-    w2c_f72(instance, w2c_j0);
+    w2c_f73(instance, w2c_j0);
     w2c_j0 = w2c_p0;
     w2c_j1 = 8ull;
     w2c_j0 += w2c_j1;
@@ -61503,7 +61834,7 @@ static void w2c_f71(Z_hidreport_instance_t* instance, u64 w2c_p0, u64 w2c_p1, u6
   FUNC_EPILOGUE;
 }
 
-static void w2c_f72(Z_hidreport_instance_t* instance, u64 w2c_p0) {
+static void w2c_f73(Z_hidreport_instance_t* instance, u64 w2c_p0) {
   u64 w2c_l1 = 0, w2c_l2 = 0, w2c_l3 = 0, w2c_l4 = 0, w2c_l5 = 0, w2c_l6 = 0, w2c_l7 = 0, w2c_l8 = 0, 
       w2c_l9 = 0, w2c_l10 = 0, w2c_l11 = 0, w2c_l12 = 0, w2c_l13 = 0, w2c_l14 = 0;
   FUNC_PROLOGUE;
@@ -61830,7 +62161,7 @@ static void w2c_f72(Z_hidreport_instance_t* instance, u64 w2c_p0) {
   FUNC_EPILOGUE;
 }
 
-static u32 w2c_f73(Z_hidreport_instance_t* instance, u64 w2c_p0, u64 w2c_p1) {
+static u32 w2c_f74(Z_hidreport_instance_t* instance, u64 w2c_p0, u64 w2c_p1) {
   u32 w2c_l6 = 0;
   u64 w2c_l2 = 0, w2c_l3 = 0, w2c_l4 = 0, w2c_l5 = 0;
   FUNC_PROLOGUE;
@@ -61903,7 +62234,7 @@ static u32 w2c_f73(Z_hidreport_instance_t* instance, u64 w2c_p0, u64 w2c_p1) {
   w2c_j4 = 7ull;
   w2c_j3 <<= (w2c_j4 & 63);
   w2c_j4 = 8ull;
-  w2c_f149(instance, w2c_j0, w2c_j1, w2c_j2, w2c_j3, w2c_j4);
+  w2c_f150(instance, w2c_j0, w2c_j1, w2c_j2, w2c_j3, w2c_j4);
   w2c_j0 = w2c_l2;
   w2c_i0 = (u32)(w2c_j0);
   w2c_j0 = i64_load(&instance->w2c_memory, (u64)(w2c_i0) + 16u);
@@ -61959,7 +62290,7 @@ static u32 w2c_f73(Z_hidreport_instance_t* instance, u64 w2c_p0, u64 w2c_p1) {
   return w2c_i0;
 }
 
-static u32 w2c_f74(Z_hidreport_instance_t* instance, u64 w2c_p0, u64 w2c_p1, u64 w2c_p2) {
+static u32 w2c_f75(Z_hidreport_instance_t* instance, u64 w2c_p0, u64 w2c_p1, u64 w2c_p2) {
   u32 w2c_l23 = 0, w2c_l24 = 0, w2c_l25 = 0, w2c_l26 = 0, w2c_l27 = 0, w2c_l28 = 0, w2c_l29 = 0, w2c_l30 = 0, 
       w2c_l31 = 0, w2c_l32 = 0, w2c_l33 = 0, w2c_l34 = 0, w2c_l35 = 0, w2c_l36 = 0;
   u64 w2c_l3 = 0, w2c_l4 = 0, w2c_l5 = 0, w2c_l6 = 0, w2c_l7 = 0, w2c_l8 = 0, w2c_l9 = 0, w2c_l10 = 0, 
@@ -62211,7 +62542,7 @@ static u32 w2c_f74(Z_hidreport_instance_t* instance, u64 w2c_p0, u64 w2c_p1, u64
   if (w2c_i0) {goto w2c_B12;}
   w2c_j0 = w2c_p2;
   w2c_j1 = w2c_l9;
-  w2c_i0 = w2c_f73(instance, w2c_j0, w2c_j1);
+  w2c_i0 = w2c_f74(instance, w2c_j0, w2c_j1);
   w2c_i0 = !(w2c_i0);
   if (w2c_i0) {goto w2c_B3;}
   w2c_j0 = w2c_p0;
@@ -62830,7 +63161,7 @@ static u32 w2c_f74(Z_hidreport_instance_t* instance, u64 w2c_p0, u64 w2c_p1, u64
   return w2c_i0;
 }
 
-static void w2c_f75(Z_hidreport_instance_t* instance, u64 w2c_p0, u64 w2c_p1, u64 w2c_p2) {
+static void w2c_f76(Z_hidreport_instance_t* instance, u64 w2c_p0, u64 w2c_p1, u64 w2c_p2) {
   u32 w2c_l12 = 0, w2c_l13 = 0, w2c_l14 = 0, w2c_l15 = 0, w2c_l16 = 0, w2c_l17 = 0, w2c_l18 = 0, w2c_l19 = 0, 
       w2c_l20 = 0, w2c_l21 = 0, w2c_l22 = 0;
   u64 w2c_l3 = 0, w2c_l4 = 0, w2c_l5 = 0, w2c_l6 = 0, w2c_l7 = 0, w2c_l8 = 0, w2c_l9 = 0, w2c_l10 = 0, 
@@ -63337,7 +63668,7 @@ static void w2c_f75(Z_hidreport_instance_t* instance, u64 w2c_p0, u64 w2c_p1, u6
   FUNC_EPILOGUE;
 }
 
-static void w2c_f76(Z_hidreport_instance_t* instance, u64 w2c_p0) {
+static void w2c_f77(Z_hidreport_instance_t* instance, u64 w2c_p0) {
   u64 w2c_l1 = 0;
   FUNC_PROLOGUE;
   u32 w2c_i0;
@@ -63387,7 +63718,7 @@ static void w2c_f76(Z_hidreport_instance_t* instance, u64 w2c_p0) {
   FUNC_EPILOGUE;
 }
 
-static void w2c_f77(Z_hidreport_instance_t* instance, u64 w2c_p0) {
+static void w2c_f78(Z_hidreport_instance_t* instance, u64 w2c_p0) {
   u64 w2c_l1 = 0, w2c_l2 = 0, w2c_l3 = 0, w2c_l4 = 0, w2c_l5 = 0, w2c_l6 = 0;
   FUNC_PROLOGUE;
   u32 w2c_i0, w2c_i1;
@@ -63496,7 +63827,7 @@ static void w2c_f77(Z_hidreport_instance_t* instance, u64 w2c_p0) {
   FUNC_EPILOGUE;
 }
 
-static u32 w2c_f78(Z_hidreport_instance_t* instance, u64 w2c_p0, u64 w2c_p1, u64 w2c_p2, u64 w2c_p3) {
+static u32 w2c_f79(Z_hidreport_instance_t* instance, u64 w2c_p0, u64 w2c_p1, u64 w2c_p2, u64 w2c_p3) {
   u32 w2c_l4 = 0, w2c_l5 = 0, w2c_l6 = 0, w2c_l7 = 0, w2c_l8 = 0, w2c_l9 = 0, w2c_l10 = 0, w2c_l11 = 0, 
       w2c_l12 = 0, w2c_l13 = 0, w2c_l14 = 0, w2c_l15 = 0, w2c_l16 = 0;
   u64 w2c_l17 = 0, w2c_l18 = 0, w2c_l19 = 0, w2c_l20 = 0, w2c_l21 = 0, w2c_l22 = 0, w2c_l23 = 0, w2c_l24 = 0, 
@@ -64404,7 +64735,7 @@ static u32 w2c_f78(Z_hidreport_instance_t* instance, u64 w2c_p0, u64 w2c_p1, u64
         w2c_j0 = w2c_l27;
         w2c_j1 = w2c_l29;
         w2c_j2 = w2c_p3;
-        w2c_i0 = w2c_f79(instance, w2c_j0, w2c_j1, w2c_j2);
+        w2c_i0 = w2c_f80(instance, w2c_j0, w2c_j1, w2c_j2);
         if (w2c_i0) {goto w2c_B60;}
         w2c_i0 = 0u;
         goto w2c_Bfunc;
@@ -64683,7 +65014,7 @@ static u32 w2c_f78(Z_hidreport_instance_t* instance, u64 w2c_p0, u64 w2c_p1, u64
       w2c_j0 = w2c_l27;
       w2c_j1 = w2c_l26;
       w2c_j2 = w2c_l29;
-      w2c_i0 = w2c_f79(instance, w2c_j0, w2c_j1, w2c_j2);
+      w2c_i0 = w2c_f80(instance, w2c_j0, w2c_j1, w2c_j2);
       if (w2c_i0) {goto w2c_B77;}
       w2c_i0 = 0u;
       goto w2c_Bfunc;
@@ -65345,7 +65676,7 @@ static u32 w2c_f78(Z_hidreport_instance_t* instance, u64 w2c_p0, u64 w2c_p1, u64
         w2c_j0 = w2c_l27;
         w2c_j1 = w2c_l29;
         w2c_j2 = w2c_p3;
-        w2c_i0 = w2c_f79(instance, w2c_j0, w2c_j1, w2c_j2);
+        w2c_i0 = w2c_f80(instance, w2c_j0, w2c_j1, w2c_j2);
         if (w2c_i0) {goto w2c_B118;}
         w2c_i0 = 0u;
         goto w2c_Bfunc;
@@ -65386,7 +65717,7 @@ static u32 w2c_f78(Z_hidreport_instance_t* instance, u64 w2c_p0, u64 w2c_p1, u64
   return w2c_i0;
 }
 
-static u32 w2c_f79(Z_hidreport_instance_t* instance, u64 w2c_p0, u64 w2c_p1, u64 w2c_p2) {
+static u32 w2c_f80(Z_hidreport_instance_t* instance, u64 w2c_p0, u64 w2c_p1, u64 w2c_p2) {
   u32 w2c_l3 = 0, w2c_l4 = 0, w2c_l5 = 0, w2c_l6 = 0, w2c_l7 = 0, w2c_l8 = 0, w2c_l9 = 0, w2c_l10 = 0, 
       w2c_l11 = 0, w2c_l12 = 0, w2c_l13 = 0, w2c_l14 = 0, w2c_l15 = 0, w2c_l16 = 0, w2c_l17 = 0;
   u64 w2c_l18 = 0, w2c_l19 = 0, w2c_l20 = 0, w2c_l21 = 0, w2c_l22 = 0, w2c_l23 = 0;
@@ -67335,7 +67666,7 @@ static u32 w2c_f79(Z_hidreport_instance_t* instance, u64 w2c_p0, u64 w2c_p1, u64
   return w2c_i0;
 }
 
-static void w2c_f80(Z_hidreport_instance_t* instance, u64 w2c_p0) {
+static void w2c_f81(Z_hidreport_instance_t* instance, u64 w2c_p0) {
   u64 w2c_l1 = 0, w2c_l2 = 0, w2c_l3 = 0, w2c_l4 = 0, w2c_l5 = 0, w2c_l6 = 0, w2c_l7 = 0, w2c_l8 = 0, 
       w2c_l9 = 0, w2c_l10 = 0, w2c_l11 = 0, w2c_l12 = 0, w2c_l13 = 0, w2c_l14 = 0;
   FUNC_PROLOGUE;
@@ -67662,7 +67993,7 @@ static void w2c_f80(Z_hidreport_instance_t* instance, u64 w2c_p0) {
   FUNC_EPILOGUE;
 }
 
-static void w2c_f81(Z_hidreport_instance_t* instance, u64 w2c_p0, u64 w2c_p1, u64 w2c_p2, u64 w2c_p3, u64 w2c_p4) {
+static void w2c_f82(Z_hidreport_instance_t* instance, u64 w2c_p0, u64 w2c_p1, u64 w2c_p2, u64 w2c_p3, u64 w2c_p4) {
   u32 w2c_l5 = 0;
   u64 w2c_l6 = 0, w2c_l7 = 0, w2c_l8 = 0, w2c_l9 = 0, w2c_l10 = 0, w2c_l11 = 0, w2c_l12 = 0, w2c_l13 = 0, 
       w2c_l14 = 0, w2c_l15 = 0, w2c_l16 = 0, w2c_l17 = 0, w2c_l18 = 0, w2c_l19 = 0, w2c_l20 = 0, w2c_l21 = 0, 
@@ -68031,7 +68362,7 @@ static void w2c_f81(Z_hidreport_instance_t* instance, u64 w2c_p0, u64 w2c_p1, u6
   FUNC_EPILOGUE;
 }
 
-static void w2c_f82(Z_hidreport_instance_t* instance, u64 w2c_p0, u64 w2c_p1, u64 w2c_p2, u64 w2c_p3, u64 w2c_p4) {
+static void w2c_f83(Z_hidreport_instance_t* instance, u64 w2c_p0, u64 w2c_p1, u64 w2c_p2, u64 w2c_p3, u64 w2c_p4) {
   u32 w2c_l5 = 0, w2c_l6 = 0, w2c_l7 = 0, w2c_l8 = 0;
   u64 w2c_l9 = 0, w2c_l10 = 0, w2c_l11 = 0, w2c_l12 = 0, w2c_l13 = 0, w2c_l14 = 0, w2c_l15 = 0, w2c_l16 = 0, 
       w2c_l17 = 0, w2c_l18 = 0, w2c_l19 = 0, w2c_l20 = 0, w2c_l21 = 0, w2c_l22 = 0, w2c_l23 = 0;
@@ -68363,7 +68694,7 @@ static void w2c_f82(Z_hidreport_instance_t* instance, u64 w2c_p0, u64 w2c_p1, u6
   FUNC_EPILOGUE;
 }
 
-static void w2c_f83(Z_hidreport_instance_t* instance, u64 w2c_p0, u64 w2c_p1, u64 w2c_p2, u64 w2c_p3, u64 w2c_p4) {
+static void w2c_f84(Z_hidreport_instance_t* instance, u64 w2c_p0, u64 w2c_p1, u64 w2c_p2, u64 w2c_p3, u64 w2c_p4) {
   u32 w2c_l23 = 0;
   u64 w2c_l5 = 0, w2c_l6 = 0, w2c_l7 = 0, w2c_l8 = 0, w2c_l9 = 0, w2c_l10 = 0, w2c_l11 = 0, w2c_l12 = 0, 
       w2c_l13 = 0, w2c_l14 = 0, w2c_l15 = 0, w2c_l16 = 0, w2c_l17 = 0, w2c_l18 = 0, w2c_l19 = 0, w2c_l20 = 0, 
@@ -68779,7 +69110,7 @@ static void w2c_f83(Z_hidreport_instance_t* instance, u64 w2c_p0, u64 w2c_p1, u6
   FUNC_EPILOGUE;
 }
 
-static void w2c_f84(Z_hidreport_instance_t* instance, u64 w2c_p0, u64 w2c_p1, u32 w2c_p2, u64 w2c_p3, u64 w2c_p4) {
+static void w2c_f85(Z_hidreport_instance_t* instance, u64 w2c_p0, u64 w2c_p1, u32 w2c_p2, u64 w2c_p3, u64 w2c_p4) {
   u32 w2c_l5 = 0;
   u64 w2c_l6 = 0;
   FUNC_PROLOGUE;
@@ -69168,7 +69499,7 @@ static void w2c_f84(Z_hidreport_instance_t* instance, u64 w2c_p0, u64 w2c_p1, u3
   FUNC_EPILOGUE;
 }
 
-static void w2c_f85(Z_hidreport_instance_t* instance, u64 w2c_p0, u64 w2c_p1, u64 w2c_p2) {
+static void w2c_f86(Z_hidreport_instance_t* instance, u64 w2c_p0, u64 w2c_p1, u64 w2c_p2) {
   u32 w2c_l17 = 0, w2c_l18 = 0, w2c_l19 = 0, w2c_l20 = 0, w2c_l21 = 0, w2c_l22 = 0, w2c_l23 = 0, w2c_l24 = 0, 
       w2c_l25 = 0, w2c_l26 = 0, w2c_l27 = 0, w2c_l28 = 0, w2c_l29 = 0;
   u64 w2c_l3 = 0, w2c_l4 = 0, w2c_l5 = 0, w2c_l6 = 0, w2c_l7 = 0, w2c_l8 = 0, w2c_l9 = 0, w2c_l10 = 0, 
@@ -71532,7 +71863,7 @@ static void w2c_f85(Z_hidreport_instance_t* instance, u64 w2c_p0, u64 w2c_p1, u6
     w2c_j0 = w2c_l3;
     w2c_j1 = 176ull;
     w2c_j0 += w2c_j1;
-    w2c_i0 = w2c_f86(instance, w2c_j0);
+    w2c_i0 = w2c_f87(instance, w2c_j0);
     w2c_i0 = !(w2c_i0);
     if (w2c_i0) {goto w2c_B8;}
     w2c_j0 = w2c_l3;
@@ -71853,7 +72184,7 @@ static void w2c_f85(Z_hidreport_instance_t* instance, u64 w2c_p0, u64 w2c_p1, u6
   FUNC_EPILOGUE;
 }
 
-static u32 w2c_f86(Z_hidreport_instance_t* instance, u64 w2c_p0) {
+static u32 w2c_f87(Z_hidreport_instance_t* instance, u64 w2c_p0) {
   u32 w2c_l6 = 0;
   u64 w2c_l1 = 0, w2c_l2 = 0, w2c_l3 = 0, w2c_l4 = 0, w2c_l5 = 0;
   FUNC_PROLOGUE;
@@ -71923,7 +72254,7 @@ static u32 w2c_f86(Z_hidreport_instance_t* instance, u64 w2c_p0) {
   w2c_j4 = 56ull;
   w2c_j3 *= w2c_j4;
   w2c_j4 = 8ull;
-  w2c_f149(instance, w2c_j0, w2c_j1, w2c_j2, w2c_j3, w2c_j4);
+  w2c_f150(instance, w2c_j0, w2c_j1, w2c_j2, w2c_j3, w2c_j4);
   w2c_j0 = w2c_l1;
   w2c_i0 = (u32)(w2c_j0);
   w2c_j0 = i64_load(&instance->w2c_memory, (u64)(w2c_i0) + 16u);
@@ -71979,7 +72310,7 @@ static u32 w2c_f86(Z_hidreport_instance_t* instance, u64 w2c_p0) {
   return w2c_i0;
 }
 
-static void w2c_f87(Z_hidreport_instance_t* instance, u64 w2c_p0, u64 w2c_p1, u32 w2c_p2, u32 w2c_p3, u32 w2c_p4) {
+static void w2c_f88(Z_hidreport_instance_t* instance, u64 w2c_p0, u64 w2c_p1, u32 w2c_p2, u32 w2c_p3, u32 w2c_p4) {
   u32 w2c_l5 = 0;
   u64 w2c_l6 = 0, w2c_l7 = 0, w2c_l8 = 0;
   FUNC_PROLOGUE;
@@ -72434,7 +72765,7 @@ static void w2c_f87(Z_hidreport_instance_t* instance, u64 w2c_p0, u64 w2c_p1, u3
   FUNC_EPILOGUE;
 }
 
-static void w2c_f88(Z_hidreport_instance_t* instance, u64 w2c_p0, u64 w2c_p1, u64 w2c_p2, u64 w2c_p3, u64 w2c_p4) {
+static void w2c_f89(Z_hidreport_instance_t* instance, u64 w2c_p0, u64 w2c_p1, u64 w2c_p2, u64 w2c_p3, u64 w2c_p4) {
   u32 w2c_l23 = 0, w2c_l24 = 0, w2c_l25 = 0, w2c_l26 = 0, w2c_l27 = 0, w2c_l28 = 0, w2c_l29 = 0, w2c_l30 = 0, 
       w2c_l31 = 0, w2c_l32 = 0, w2c_l33 = 0, w2c_l34 = 0, w2c_l35 = 0, w2c_l36 = 0, w2c_l37 = 0, w2c_l38 = 0, 
       w2c_l39 = 0, w2c_l40 = 0, w2c_l41 = 0, w2c_l42 = 0, w2c_l43 = 0, w2c_l44 = 0, w2c_l45 = 0, w2c_l46 = 0, 
@@ -73276,7 +73607,7 @@ static void w2c_f88(Z_hidreport_instance_t* instance, u64 w2c_p0, u64 w2c_p1, u6
   FUNC_EPILOGUE;
 }
 
-static void w2c_f89(Z_hidreport_instance_t* instance, u64 w2c_p0, u64 w2c_p1, u64 w2c_p2, u64 w2c_p3) {
+static void w2c_f90(Z_hidreport_instance_t* instance, u64 w2c_p0, u64 w2c_p1, u64 w2c_p2, u64 w2c_p3) {
   u32 w2c_l11 = 0, w2c_l12 = 0;
   u64 w2c_l4 = 0, w2c_l5 = 0, w2c_l6 = 0, w2c_l7 = 0, w2c_l8 = 0, w2c_l9 = 0, w2c_l10 = 0;
   FUNC_PROLOGUE;
@@ -73767,7 +74098,7 @@ static void w2c_f89(Z_hidreport_instance_t* instance, u64 w2c_p0, u64 w2c_p1, u6
   FUNC_EPILOGUE;
 }
 
-static u32 w2c_f90(Z_hidreport_instance_t* instance, u64 w2c_p0) {
+static u32 w2c_f91(Z_hidreport_instance_t* instance, u64 w2c_p0) {
   u32 w2c_l6 = 0;
   u64 w2c_l1 = 0, w2c_l2 = 0, w2c_l3 = 0, w2c_l4 = 0, w2c_l5 = 0;
   FUNC_PROLOGUE;
@@ -73837,7 +74168,7 @@ static u32 w2c_f90(Z_hidreport_instance_t* instance, u64 w2c_p0) {
   w2c_j4 = 3ull;
   w2c_j3 <<= (w2c_j4 & 63);
   w2c_j4 = 8ull;
-  w2c_f149(instance, w2c_j0, w2c_j1, w2c_j2, w2c_j3, w2c_j4);
+  w2c_f150(instance, w2c_j0, w2c_j1, w2c_j2, w2c_j3, w2c_j4);
   w2c_j0 = w2c_l1;
   w2c_i0 = (u32)(w2c_j0);
   w2c_j0 = i64_load(&instance->w2c_memory, (u64)(w2c_i0) + 16u);
@@ -73893,7 +74224,7 @@ static u32 w2c_f90(Z_hidreport_instance_t* instance, u64 w2c_p0) {
   return w2c_i0;
 }
 
-static void w2c_f91(Z_hidreport_instance_t* instance, u64 w2c_p0, u64 w2c_p1, u64 w2c_p2) {
+static void w2c_f92(Z_hidreport_instance_t* instance, u64 w2c_p0, u64 w2c_p1, u64 w2c_p2) {
   u64 w2c_l3 = 0, w2c_l4 = 0;
   FUNC_PROLOGUE;
   u32 w2c_i0, w2c_i1;
@@ -74016,7 +74347,7 @@ static void w2c_f91(Z_hidreport_instance_t* instance, u64 w2c_p0, u64 w2c_p1, u6
   w2c_j0 += w2c_j1;
   w2c_j1 = w2c_p1;
   w2c_j2 = w2c_p2;
-  w2c_f92(instance, w2c_j0, w2c_j1, w2c_j2);
+  w2c_f93(instance, w2c_j0, w2c_j1, w2c_j2);
   w2c_j0 = w2c_p0;
   w2c_j1 = 2ull;
   w2c_j0 += w2c_j1;
@@ -74038,7 +74369,7 @@ static void w2c_f91(Z_hidreport_instance_t* instance, u64 w2c_p0, u64 w2c_p1, u6
   FUNC_EPILOGUE;
 }
 
-static void w2c_f92(Z_hidreport_instance_t* instance, u64 w2c_p0, u64 w2c_p1, u64 w2c_p2) {
+static void w2c_f93(Z_hidreport_instance_t* instance, u64 w2c_p0, u64 w2c_p1, u64 w2c_p2) {
   u32 w2c_l3 = 0, w2c_l4 = 0, w2c_l5 = 0, w2c_l6 = 0;
   u64 w2c_l7 = 0, w2c_l8 = 0, w2c_l9 = 0, w2c_l10 = 0, w2c_l11 = 0, w2c_l12 = 0, w2c_l13 = 0, w2c_l14 = 0, 
       w2c_l15 = 0, w2c_l16 = 0, w2c_l17 = 0;
@@ -74613,7 +74944,7 @@ static void w2c_f92(Z_hidreport_instance_t* instance, u64 w2c_p0, u64 w2c_p1, u6
   FUNC_EPILOGUE;
 }
 
-static void w2c_f93(Z_hidreport_instance_t* instance, u64 w2c_p0, u64 w2c_p1, u64 w2c_p2, u64 w2c_p3) {
+static void w2c_f94(Z_hidreport_instance_t* instance, u64 w2c_p0, u64 w2c_p1, u64 w2c_p2, u64 w2c_p3) {
   u32 w2c_l11 = 0, w2c_l12 = 0, w2c_l13 = 0, w2c_l14 = 0, w2c_l15 = 0, w2c_l16 = 0, w2c_l17 = 0, w2c_l18 = 0, 
       w2c_l19 = 0, w2c_l20 = 0, w2c_l21 = 0, w2c_l22 = 0;
   u64 w2c_l4 = 0, w2c_l5 = 0, w2c_l6 = 0, w2c_l7 = 0, w2c_l8 = 0, w2c_l9 = 0, w2c_l10 = 0;
@@ -74785,7 +75116,7 @@ static void w2c_f93(Z_hidreport_instance_t* instance, u64 w2c_p0, u64 w2c_p1, u6
   w2c_j0 += w2c_j1;
   w2c_j1 = w2c_p1;
   w2c_j2 = w2c_p2;
-  w2c_f75(instance, w2c_j0, w2c_j1, w2c_j2);
+  w2c_f76(instance, w2c_j0, w2c_j1, w2c_j2);
   w2c_j0 = w2c_l4;
   w2c_i0 = (u32)(w2c_j0);
   w2c_i0 = i32_load8_u(&instance->w2c_memory, (u64)(w2c_i0) + 40u);
@@ -75581,7 +75912,7 @@ static void w2c_f93(Z_hidreport_instance_t* instance, u64 w2c_p0, u64 w2c_p1, u6
   FUNC_EPILOGUE;
 }
 
-static u32 w2c_f94(Z_hidreport_instance_t* instance, u64 w2c_p0, u32 w2c_p1, u64 w2c_p2, u64 w2c_p3, u64 w2c_p4, u64 w2c_p5) {
+static u32 w2c_f95(Z_hidreport_instance_t* instance, u64 w2c_p0, u32 w2c_p1, u64 w2c_p2, u64 w2c_p3, u64 w2c_p4, u64 w2c_p5) {
   u64 w2c_l6 = 0, w2c_l7 = 0;
   FUNC_PROLOGUE;
   u32 w2c_i0, w2c_i1, w2c_i2;
@@ -75620,7 +75951,7 @@ static u32 w2c_f94(Z_hidreport_instance_t* instance, u64 w2c_p0, u32 w2c_p1, u64
   w2c_p1 = w2c_i0;
   w2c_j0 = w2c_p0;
   w2c_j1 = w2c_p3;
-  w2c_i0 = w2c_f95(instance, w2c_j0, w2c_j1);
+  w2c_i0 = w2c_f96(instance, w2c_j0, w2c_j1);
   w2c_i0 = !(w2c_i0);
   if (w2c_i0) {goto w2c_B0;}
   w2c_j0 = w2c_p0;
@@ -75749,7 +76080,7 @@ static u32 w2c_f94(Z_hidreport_instance_t* instance, u64 w2c_p0, u32 w2c_p1, u64
   w2c_j0 = w2c_p0;
   w2c_j1 = w2c_p2;
   w2c_j2 = w2c_p3;
-  w2c_i0 = w2c_f96(instance, w2c_j0, w2c_j1, w2c_j2);
+  w2c_i0 = w2c_f97(instance, w2c_j0, w2c_j1, w2c_j2);
   w2c_i1 = 255u;
   w2c_i0 &= w2c_i1;
   goto w2c_Bfunc;
@@ -75779,7 +76110,7 @@ static u32 w2c_f94(Z_hidreport_instance_t* instance, u64 w2c_p0, u32 w2c_p1, u64
   w2c_p1 = w2c_i0;
   w2c_j0 = w2c_p0;
   w2c_j1 = w2c_p5;
-  w2c_i0 = w2c_f95(instance, w2c_j0, w2c_j1);
+  w2c_i0 = w2c_f96(instance, w2c_j0, w2c_j1);
   w2c_i0 = !(w2c_i0);
   if (w2c_i0) {goto w2c_B0;}
   w2c_j0 = w2c_p0;
@@ -75920,7 +76251,7 @@ static u32 w2c_f94(Z_hidreport_instance_t* instance, u64 w2c_p0, u32 w2c_p1, u64
   w2c_j0 = w2c_p0;
   w2c_j1 = w2c_p4;
   w2c_j2 = w2c_p5;
-  w2c_i0 = w2c_f96(instance, w2c_j0, w2c_j1, w2c_j2);
+  w2c_i0 = w2c_f97(instance, w2c_j0, w2c_j1, w2c_j2);
   w2c_i1 = 255u;
   w2c_i0 &= w2c_i1;
   w2c_p1 = w2c_i0;
@@ -75931,7 +76262,7 @@ static u32 w2c_f94(Z_hidreport_instance_t* instance, u64 w2c_p0, u32 w2c_p1, u64
   return w2c_i0;
 }
 
-static u32 w2c_f95(Z_hidreport_instance_t* instance, u64 w2c_p0, u64 w2c_p1) {
+static u32 w2c_f96(Z_hidreport_instance_t* instance, u64 w2c_p0, u64 w2c_p1) {
   u32 w2c_l6 = 0;
   u64 w2c_l2 = 0, w2c_l3 = 0, w2c_l4 = 0, w2c_l5 = 0;
   FUNC_PROLOGUE;
@@ -76000,7 +76331,7 @@ static u32 w2c_f95(Z_hidreport_instance_t* instance, u64 w2c_p0, u64 w2c_p1) {
   w2c_j2 = w2c_l3;
   w2c_j3 = w2c_p1;
   w2c_j4 = 1ull;
-  w2c_f149(instance, w2c_j0, w2c_j1, w2c_j2, w2c_j3, w2c_j4);
+  w2c_f150(instance, w2c_j0, w2c_j1, w2c_j2, w2c_j3, w2c_j4);
   w2c_j0 = w2c_l2;
   w2c_i0 = (u32)(w2c_j0);
   w2c_j0 = i64_load(&instance->w2c_memory, (u64)(w2c_i0) + 16u);
@@ -76054,7 +76385,7 @@ static u32 w2c_f95(Z_hidreport_instance_t* instance, u64 w2c_p0, u64 w2c_p1) {
   return w2c_i0;
 }
 
-static u32 w2c_f96(Z_hidreport_instance_t* instance, u64 w2c_p0, u64 w2c_p1, u64 w2c_p2) {
+static u32 w2c_f97(Z_hidreport_instance_t* instance, u64 w2c_p0, u64 w2c_p1, u64 w2c_p2) {
   u32 w2c_l3 = 0;
   u64 w2c_l4 = 0, w2c_l5 = 0, w2c_l6 = 0, w2c_l7 = 0, w2c_l8 = 0, w2c_l9 = 0;
   FUNC_PROLOGUE;
@@ -76119,7 +76450,7 @@ static u32 w2c_f96(Z_hidreport_instance_t* instance, u64 w2c_p0, u64 w2c_p1, u64
       w2c_j0 = w2c_p0;
       w2c_j1 = 1122219ull;
       w2c_j2 = 4ull;
-      w2c_i0 = w2c_f97(instance, w2c_j0, w2c_j1, w2c_j2);
+      w2c_i0 = w2c_f98(instance, w2c_j0, w2c_j1, w2c_j2);
       w2c_i1 = 255u;
       w2c_i0 &= w2c_i1;
       if (w2c_i0) {goto w2c_B5;}
@@ -76155,7 +76486,7 @@ static u32 w2c_f96(Z_hidreport_instance_t* instance, u64 w2c_p0, u64 w2c_p1, u64
     w2c_j2 = w2c_l7;
     w2c_j3 = w2c_l8;
     w2c_j2 -= w2c_j3;
-    w2c_i0 = w2c_f97(instance, w2c_j0, w2c_j1, w2c_j2);
+    w2c_i0 = w2c_f98(instance, w2c_j0, w2c_j1, w2c_j2);
     w2c_i1 = 255u;
     w2c_i0 &= w2c_i1;
     if (w2c_i0) {goto w2c_B0;}
@@ -76191,7 +76522,7 @@ static u32 w2c_f96(Z_hidreport_instance_t* instance, u64 w2c_p0, u64 w2c_p1, u64
     w2c_j0 = w2c_p0;
     w2c_j1 = 1122219ull;
     w2c_j2 = 4ull;
-    w2c_i0 = w2c_f97(instance, w2c_j0, w2c_j1, w2c_j2);
+    w2c_i0 = w2c_f98(instance, w2c_j0, w2c_j1, w2c_j2);
     w2c_i1 = 255u;
     w2c_i0 &= w2c_i1;
     if (w2c_i0) {goto w2c_B8;}
@@ -76229,7 +76560,7 @@ static u32 w2c_f96(Z_hidreport_instance_t* instance, u64 w2c_p0, u64 w2c_p1, u64
   w2c_j5 = w2c_p2;
   w2c_i4 = w2c_j4 > w2c_j5;
   w2c_j2 = w2c_i4 ? w2c_j2 : w2c_j3;
-  w2c_i0 = w2c_f97(instance, w2c_j0, w2c_j1, w2c_j2);
+  w2c_i0 = w2c_f98(instance, w2c_j0, w2c_j1, w2c_j2);
   w2c_i1 = 255u;
   w2c_i0 &= w2c_i1;
   w2c_l3 = w2c_i0;
@@ -76240,7 +76571,7 @@ static u32 w2c_f96(Z_hidreport_instance_t* instance, u64 w2c_p0, u64 w2c_p1, u64
   return w2c_i0;
 }
 
-static u32 w2c_f97(Z_hidreport_instance_t* instance, u64 w2c_p0, u64 w2c_p1, u64 w2c_p2) {
+static u32 w2c_f98(Z_hidreport_instance_t* instance, u64 w2c_p0, u64 w2c_p1, u64 w2c_p2) {
   u32 w2c_l3 = 0, w2c_l4 = 0, w2c_l5 = 0, w2c_l6 = 0, w2c_l7 = 0;
   u64 w2c_l8 = 0, w2c_l9 = 0, w2c_l10 = 0, w2c_l11 = 0, w2c_l12 = 0, w2c_l13 = 0, w2c_l14 = 0, w2c_l15 = 0, 
       w2c_l16 = 0, w2c_l17 = 0, w2c_l18 = 0, w2c_l19 = 0;
@@ -76414,7 +76745,7 @@ static u32 w2c_f97(Z_hidreport_instance_t* instance, u64 w2c_p0, u64 w2c_p1, u64
   w2c_l5 = w2c_i0;
   w2c_j0 = w2c_p0;
   w2c_j1 = w2c_p2;
-  w2c_i0 = w2c_f95(instance, w2c_j0, w2c_j1);
+  w2c_i0 = w2c_f96(instance, w2c_j0, w2c_j1);
   w2c_i0 = !(w2c_i0);
   if (w2c_i0) {goto w2c_B0;}
   w2c_j0 = w2c_p0;
@@ -76727,7 +77058,7 @@ static u32 w2c_f97(Z_hidreport_instance_t* instance, u64 w2c_p0, u64 w2c_p1, u64
   return w2c_i0;
 }
 
-static u32 w2c_f98(Z_hidreport_instance_t* instance, u64 w2c_p0, u32 w2c_p1) {
+static u32 w2c_f99(Z_hidreport_instance_t* instance, u64 w2c_p0, u32 w2c_p1) {
   u64 w2c_l2 = 0, w2c_l3 = 0, w2c_l4 = 0, w2c_l5 = 0, w2c_l6 = 0, w2c_l7 = 0;
   FUNC_PROLOGUE;
   u32 w2c_i0, w2c_i1;
@@ -76769,7 +77100,7 @@ static u32 w2c_f98(Z_hidreport_instance_t* instance, u64 w2c_p0, u32 w2c_p1) {
   if (w2c_i0) {goto w2c_B2;}
   w2c_j0 = w2c_p0;
   w2c_j1 = 1ull;
-  w2c_i0 = w2c_f95(instance, w2c_j0, w2c_j1);
+  w2c_i0 = w2c_f96(instance, w2c_j0, w2c_j1);
   if (w2c_i0) {goto w2c_B3;}
   w2c_i0 = 1u;
   goto w2c_Bfunc;
@@ -76817,7 +77148,7 @@ static u32 w2c_f98(Z_hidreport_instance_t* instance, u64 w2c_p0, u32 w2c_p1) {
   w2c_j0 = w2c_p0;
   w2c_j1 = w2c_l2;
   w2c_j2 = 1ull;
-  w2c_i0 = w2c_f96(instance, w2c_j0, w2c_j1, w2c_j2);
+  w2c_i0 = w2c_f97(instance, w2c_j0, w2c_j1, w2c_j2);
   w2c_i1 = 255u;
   w2c_i0 &= w2c_i1;
   w2c_i0 = !(w2c_i0);
@@ -76862,7 +77193,7 @@ static u32 w2c_f98(Z_hidreport_instance_t* instance, u64 w2c_p0, u32 w2c_p1) {
   if (w2c_i0) {goto w2c_B6;}
   w2c_j0 = w2c_p0;
   w2c_j1 = 1ull;
-  w2c_i0 = w2c_f95(instance, w2c_j0, w2c_j1);
+  w2c_i0 = w2c_f96(instance, w2c_j0, w2c_j1);
   if (w2c_i0) {goto w2c_B7;}
   w2c_i0 = 1u;
   goto w2c_Bfunc;
@@ -76910,7 +77241,7 @@ static u32 w2c_f98(Z_hidreport_instance_t* instance, u64 w2c_p0, u32 w2c_p1) {
   w2c_j0 = w2c_p0;
   w2c_j1 = w2c_l2;
   w2c_j2 = 1ull;
-  w2c_i0 = w2c_f96(instance, w2c_j0, w2c_j1, w2c_j2);
+  w2c_i0 = w2c_f97(instance, w2c_j0, w2c_j1, w2c_j2);
   w2c_i1 = 255u;
   w2c_i0 &= w2c_i1;
   w2c_i0 = !(w2c_i0);
@@ -76955,7 +77286,7 @@ static u32 w2c_f98(Z_hidreport_instance_t* instance, u64 w2c_p0, u32 w2c_p1) {
   if (w2c_i0) {goto w2c_B10;}
   w2c_j0 = w2c_p0;
   w2c_j1 = 1ull;
-  w2c_i0 = w2c_f95(instance, w2c_j0, w2c_j1);
+  w2c_i0 = w2c_f96(instance, w2c_j0, w2c_j1);
   if (w2c_i0) {goto w2c_B11;}
   w2c_i0 = 1u;
   goto w2c_Bfunc;
@@ -77003,7 +77334,7 @@ static u32 w2c_f98(Z_hidreport_instance_t* instance, u64 w2c_p0, u32 w2c_p1) {
   w2c_j0 = w2c_p0;
   w2c_j1 = w2c_l2;
   w2c_j2 = 1ull;
-  w2c_i0 = w2c_f96(instance, w2c_j0, w2c_j1, w2c_j2);
+  w2c_i0 = w2c_f97(instance, w2c_j0, w2c_j1, w2c_j2);
   w2c_i1 = 255u;
   w2c_i0 &= w2c_i1;
   w2c_i0 = !(w2c_i0);
@@ -77048,7 +77379,7 @@ static u32 w2c_f98(Z_hidreport_instance_t* instance, u64 w2c_p0, u32 w2c_p1) {
   w2c_p1 = w2c_i0;
   w2c_j0 = w2c_p0;
   w2c_j1 = 1ull;
-  w2c_i0 = w2c_f95(instance, w2c_j0, w2c_j1);
+  w2c_i0 = w2c_f96(instance, w2c_j0, w2c_j1);
   w2c_i0 = !(w2c_i0);
   if (w2c_i0) {goto w2c_B12;}
   w2c_j0 = w2c_p0;
@@ -77095,7 +77426,7 @@ static u32 w2c_f98(Z_hidreport_instance_t* instance, u64 w2c_p0, u32 w2c_p1) {
   w2c_j0 = w2c_p0;
   w2c_j1 = w2c_l2;
   w2c_j2 = 1ull;
-  w2c_i0 = w2c_f96(instance, w2c_j0, w2c_j1, w2c_j2);
+  w2c_i0 = w2c_f97(instance, w2c_j0, w2c_j1, w2c_j2);
   w2c_i1 = 255u;
   w2c_i0 &= w2c_i1;
   w2c_p1 = w2c_i0;
@@ -77106,7 +77437,7 @@ static u32 w2c_f98(Z_hidreport_instance_t* instance, u64 w2c_p0, u32 w2c_p1) {
   return w2c_i0;
 }
 
-static u32 w2c_f99(Z_hidreport_instance_t* instance, u64 w2c_p0, u64 w2c_p1, u64 w2c_p2, u32 w2c_p3) {
+static u32 w2c_f100(Z_hidreport_instance_t* instance, u64 w2c_p0, u64 w2c_p1, u64 w2c_p2, u32 w2c_p3) {
   u32 w2c_l13 = 0, w2c_l14 = 0;
   u64 w2c_l4 = 0, w2c_l5 = 0, w2c_l6 = 0, w2c_l7 = 0, w2c_l8 = 0, w2c_l9 = 0, w2c_l10 = 0, w2c_l11 = 0, 
       w2c_l12 = 0;
@@ -77145,7 +77476,7 @@ static u32 w2c_f99(Z_hidreport_instance_t* instance, u64 w2c_p0, u64 w2c_p1, u64
   if (w2c_i0) {goto w2c_B3;}
   w2c_j0 = w2c_p0;
   w2c_j1 = w2c_p2;
-  w2c_i0 = w2c_f95(instance, w2c_j0, w2c_j1);
+  w2c_i0 = w2c_f96(instance, w2c_j0, w2c_j1);
   if (w2c_i0) {goto w2c_B4;}
   w2c_i0 = 1u;
   w2c_p3 = w2c_i0;
@@ -77316,7 +77647,7 @@ static u32 w2c_f99(Z_hidreport_instance_t* instance, u64 w2c_p0, u64 w2c_p1, u64
   w2c_j0 = w2c_p0;
   w2c_j1 = w2c_p1;
   w2c_j2 = w2c_p2;
-  w2c_i0 = w2c_f96(instance, w2c_j0, w2c_j1, w2c_j2);
+  w2c_i0 = w2c_f97(instance, w2c_j0, w2c_j1, w2c_j2);
   w2c_i1 = 255u;
   w2c_i0 &= w2c_i1;
   w2c_i0 = !(w2c_i0);
@@ -77520,7 +77851,7 @@ static u32 w2c_f99(Z_hidreport_instance_t* instance, u64 w2c_p0, u64 w2c_p1, u64
   w2c_p3 = w2c_i0;
   w2c_j0 = w2c_p0;
   w2c_j1 = w2c_l8;
-  w2c_i0 = w2c_f95(instance, w2c_j0, w2c_j1);
+  w2c_i0 = w2c_f96(instance, w2c_j0, w2c_j1);
   w2c_i0 = !(w2c_i0);
   if (w2c_i0) {goto w2c_B0;}
   w2c_j0 = w2c_p0;
@@ -77578,7 +77909,7 @@ static u32 w2c_f99(Z_hidreport_instance_t* instance, u64 w2c_p0, u64 w2c_p1, u64
   w2c_j0 = w2c_p0;
   w2c_j1 = w2c_p1;
   w2c_j2 = w2c_l8;
-  w2c_i0 = w2c_f96(instance, w2c_j0, w2c_j1, w2c_j2);
+  w2c_i0 = w2c_f97(instance, w2c_j0, w2c_j1, w2c_j2);
   w2c_i1 = 255u;
   w2c_i0 &= w2c_i1;
   w2c_p3 = w2c_i0;
@@ -78028,7 +78359,7 @@ static void w2c_hidreport_physical(Z_hidreport_instance_t* instance, u64 w2c_p0,
   w2c_j4 = w2c_p2;
   w2c_j5 = 63ull;
   w2c_j4 = (u64)((s64)w2c_j4 >> (w2c_j5 & 63));
-  w2c_f150(instance, w2c_j0, w2c_j1, w2c_j2, w2c_j3, w2c_j4);
+  w2c_f151(instance, w2c_j0, w2c_j1, w2c_j2, w2c_j3, w2c_j4);
   w2c_j0 = w2c_l5;
   w2c_j1 = 0ull;
   w2c_j2 = w2c_l3;
@@ -78100,7 +78431,7 @@ static void w2c_hidreport_physical(Z_hidreport_instance_t* instance, u64 w2c_p0,
   w2c_i5 = w2c_j5 < w2c_j6;
   w2c_j5 = (u64)(w2c_i5);
   w2c_j4 -= w2c_j5;
-  w2c_f150(instance, w2c_j0, w2c_j1, w2c_j2, w2c_j3, w2c_j4);
+  w2c_f151(instance, w2c_j0, w2c_j1, w2c_j2, w2c_j3, w2c_j4);
   w2c_j0 = w2c_l3;
   w2c_j1 = 16ull;
   w2c_j0 += w2c_j1;
@@ -78122,7 +78453,7 @@ static void w2c_hidreport_physical(Z_hidreport_instance_t* instance, u64 w2c_p0,
   w2c_j2 -= w2c_j3;
   w2c_j3 = w2c_l4;
   w2c_j4 = w2c_l5;
-  w2c_f150(instance, w2c_j0, w2c_j1, w2c_j2, w2c_j3, w2c_j4);
+  w2c_f151(instance, w2c_j0, w2c_j1, w2c_j2, w2c_j3, w2c_j4);
   w2c_j0 = w2c_l7;
   w2c_j1 = 0ull;
   w2c_j2 = w2c_l3;
@@ -79913,14 +80244,14 @@ static void w2c_hidreport_is_alike(Z_hidreport_instance_t* instance, u64 w2c_p0,
   w2c_i3 = (u32)(w2c_j3);
   w2c_j3 = i64_load(&instance->w2c_memory, (u64)(w2c_i3) + 160u);
   w2c_l20 = w2c_j3;
-  w2c_i0 = w2c_f78(instance, w2c_j0, w2c_j1, w2c_j2, w2c_j3);
+  w2c_i0 = w2c_f79(instance, w2c_j0, w2c_j1, w2c_j2, w2c_j3);
   w2c_i0 = !(w2c_i0);
   if (w2c_i0) {goto w2c_B3;}
   w2c_j0 = w2c_l12;
   w2c_j1 = w2c_p2;
   w2c_j2 = w2c_p4;
   w2c_j3 = w2c_p3;
-  w2c_i0 = w2c_f78(instance, w2c_j0, w2c_j1, w2c_j2, w2c_j3);
+  w2c_i0 = w2c_f79(instance, w2c_j0, w2c_j1, w2c_j2, w2c_j3);
   w2c_i0 = !(w2c_i0);
   if (w2c_i0) {goto w2c_B3;}
   w2c_j0 = 1099511627776ull;
@@ -79929,7 +80260,7 @@ static void w2c_hidreport_is_alike(Z_hidreport_instance_t* instance, u64 w2c_p0,
   w2c_j3 = w2c_l9;
   w2c_j4 = w2c_l16;
   w2c_j5 = w2c_l15;
-  w2c_i2 = w2c_f78(instance, w2c_j2, w2c_j3, w2c_j4, w2c_j5);
+  w2c_i2 = w2c_f79(instance, w2c_j2, w2c_j3, w2c_j4, w2c_j5);
   w2c_j0 = w2c_i2 ? w2c_j0 : w2c_j1;
   w2c_p6 = w2c_j0;
   w2c_B3:;
@@ -79948,7 +80279,7 @@ static void w2c_hidreport_is_alike(Z_hidreport_instance_t* instance, u64 w2c_p0,
   w2c_j0 = w2c_l7;
   w2c_j1 = 120ull;
   w2c_j0 += w2c_j1;
-  w2c_f80(instance, w2c_j0);
+  w2c_f81(instance, w2c_j0);
   w2c_j0 = w2c_l7;
   w2c_i0 = (u32)(w2c_j0);
   w2c_j1 = w2c_l17;
@@ -79964,7 +80295,7 @@ static void w2c_hidreport_is_alike(Z_hidreport_instance_t* instance, u64 w2c_p0,
   w2c_j0 = w2c_l7;
   w2c_j1 = 96ull;
   w2c_j0 += w2c_j1;
-  w2c_f80(instance, w2c_j0);
+  w2c_f81(instance, w2c_j0);
   w2c_j0 = w2c_l7;
   w2c_i0 = (u32)(w2c_j0);
   w2c_j1 = w2c_l14;
@@ -79980,7 +80311,7 @@ static void w2c_hidreport_is_alike(Z_hidreport_instance_t* instance, u64 w2c_p0,
   w2c_j0 = w2c_l7;
   w2c_j1 = 72ull;
   w2c_j0 += w2c_j1;
-  w2c_f80(instance, w2c_j0);
+  w2c_f81(instance, w2c_j0);
   w2c_j0 = w2c_l7;
   w2c_i0 = (u32)(w2c_j0);
   w2c_j1 = w2c_l13;
@@ -79996,7 +80327,7 @@ static void w2c_hidreport_is_alike(Z_hidreport_instance_t* instance, u64 w2c_p0,
   w2c_j0 = w2c_l7;
   w2c_j1 = 48ull;
   w2c_j0 += w2c_j1;
-  w2c_f80(instance, w2c_j0);
+  w2c_f81(instance, w2c_j0);
   w2c_j0 = w2c_l7;
   w2c_i0 = (u32)(w2c_j0);
   w2c_j1 = w2c_l11;
@@ -80012,7 +80343,7 @@ static void w2c_hidreport_is_alike(Z_hidreport_instance_t* instance, u64 w2c_p0,
   w2c_j0 = w2c_l7;
   w2c_j1 = 24ull;
   w2c_j0 += w2c_j1;
-  w2c_f80(instance, w2c_j0);
+  w2c_f81(instance, w2c_j0);
   w2c_j0 = w2c_l7;
   w2c_i0 = (u32)(w2c_j0);
   w2c_j1 = w2c_l8;
@@ -80026,7 +80357,7 @@ static void w2c_hidreport_is_alike(Z_hidreport_instance_t* instance, u64 w2c_p0,
   w2c_j1 = w2c_l10;
   i64_store(&instance->w2c_memory, (u64)(w2c_i0), w2c_j1);
   w2c_j0 = w2c_l7;
-  w2c_f80(instance, w2c_j0);
+  w2c_f81(instance, w2c_j0);
   w2c_j0 = 0ull;
   w2c_p1 = w2c_j0;
   w2c_i0 = 0u;
@@ -80056,7 +80387,7 @@ static void w2c_hidreport_is_alike(Z_hidreport_instance_t* instance, u64 w2c_p0,
   w2c_j0 = w2c_l7;
   w2c_j1 = 120ull;
   w2c_j0 += w2c_j1;
-  w2c_f80(instance, w2c_j0);
+  w2c_f81(instance, w2c_j0);
   w2c_j0 = w2c_l7;
   w2c_i0 = (u32)(w2c_j0);
   w2c_j1 = w2c_l11;
@@ -80072,7 +80403,7 @@ static void w2c_hidreport_is_alike(Z_hidreport_instance_t* instance, u64 w2c_p0,
   w2c_j0 = w2c_l7;
   w2c_j1 = 96ull;
   w2c_j0 += w2c_j1;
-  w2c_f80(instance, w2c_j0);
+  w2c_f81(instance, w2c_j0);
   w2c_j0 = w2c_l7;
   w2c_i0 = (u32)(w2c_j0);
   w2c_j1 = w2c_l8;
@@ -80088,7 +80419,7 @@ static void w2c_hidreport_is_alike(Z_hidreport_instance_t* instance, u64 w2c_p0,
   w2c_j0 = w2c_l7;
   w2c_j1 = 72ull;
   w2c_j0 += w2c_j1;
-  w2c_f80(instance, w2c_j0);
+  w2c_f81(instance, w2c_j0);
   w2c_j0 = 4294967296ull;
   w2c_p6 = w2c_j0;
   goto w2c_B0;
@@ -80505,7 +80836,7 @@ static void w2c_hidreport_describe_collection_usages(Z_hidreport_instance_t* ins
   w2c_j4 = 200ull;
   w2c_j3 += w2c_j4;
   w2c_j4 = 0ull;
-  w2c_f81(instance, w2c_j0, w2c_j1, w2c_j2, w2c_j3, w2c_j4);
+  w2c_f82(instance, w2c_j0, w2c_j1, w2c_j2, w2c_j3, w2c_j4);
   w2c_i0 = 4u;
   w2c_p5 = w2c_i0;
   w2c_j0 = 0ull;
@@ -80527,7 +80858,7 @@ static void w2c_hidreport_describe_collection_usages(Z_hidreport_instance_t* ins
   w2c_j4 = w2c_i6 ? w2c_j4 : w2c_j5;
   w2c_j3 += w2c_j4;
   w2c_j4 = w2c_p7;
-  w2c_f81(instance, w2c_j0, w2c_j1, w2c_j2, w2c_j3, w2c_j4);
+  w2c_f82(instance, w2c_j0, w2c_j1, w2c_j2, w2c_j3, w2c_j4);
   w2c_i0 = 0u;
   w2c_i1 = 4u;
   w2c_j2 = w2c_l8;
@@ -80561,7 +80892,7 @@ static void w2c_hidreport_describe_collection_usages(Z_hidreport_instance_t* ins
   w2c_j0 = w2c_l8;
   w2c_j1 = 80ull;
   w2c_j0 += w2c_j1;
-  w2c_f80(instance, w2c_j0);
+  w2c_f81(instance, w2c_j0);
   w2c_j0 = w2c_l8;
   w2c_i0 = (u32)(w2c_j0);
   w2c_j1 = w2c_l16;
@@ -80577,7 +80908,7 @@ static void w2c_hidreport_describe_collection_usages(Z_hidreport_instance_t* ins
   w2c_j0 = w2c_l8;
   w2c_j1 = 56ull;
   w2c_j0 += w2c_j1;
-  w2c_f80(instance, w2c_j0);
+  w2c_f81(instance, w2c_j0);
   w2c_j0 = w2c_l8;
   w2c_i0 = (u32)(w2c_j0);
   w2c_j1 = w2c_l15;
@@ -80593,7 +80924,7 @@ static void w2c_hidreport_describe_collection_usages(Z_hidreport_instance_t* ins
   w2c_j0 = w2c_l8;
   w2c_j1 = 32ull;
   w2c_j0 += w2c_j1;
-  w2c_f80(instance, w2c_j0);
+  w2c_f81(instance, w2c_j0);
   w2c_i0 = 0u;
   w2c_l18 = w2c_i0;
   goto w2c_B0;
@@ -80761,7 +81092,7 @@ static void w2c_hidreport_describe_collections(Z_hidreport_instance_t* instance,
   w2c_j4 = 200ull;
   w2c_j3 += w2c_j4;
   w2c_j4 = 0ull;
-  w2c_f82(instance, w2c_j0, w2c_j1, w2c_j2, w2c_j3, w2c_j4);
+  w2c_f83(instance, w2c_j0, w2c_j1, w2c_j2, w2c_j3, w2c_j4);
   w2c_i0 = 4u;
   w2c_p5 = w2c_i0;
   w2c_j0 = 0ull;
@@ -80783,7 +81114,7 @@ static void w2c_hidreport_describe_collections(Z_hidreport_instance_t* instance,
   w2c_j4 = w2c_i6 ? w2c_j4 : w2c_j5;
   w2c_j3 += w2c_j4;
   w2c_j4 = w2c_p7;
-  w2c_f82(instance, w2c_j0, w2c_j1, w2c_j2, w2c_j3, w2c_j4);
+  w2c_f83(instance, w2c_j0, w2c_j1, w2c_j2, w2c_j3, w2c_j4);
   w2c_i0 = 0u;
   w2c_i1 = 4u;
   w2c_j2 = w2c_l8;
@@ -80817,7 +81148,7 @@ static void w2c_hidreport_describe_collections(Z_hidreport_instance_t* instance,
   w2c_j0 = w2c_l8;
   w2c_j1 = 80ull;
   w2c_j0 += w2c_j1;
-  w2c_f80(instance, w2c_j0);
+  w2c_f81(instance, w2c_j0);
   w2c_j0 = w2c_l8;
   w2c_i0 = (u32)(w2c_j0);
   w2c_j1 = w2c_l16;
@@ -80833,7 +81164,7 @@ static void w2c_hidreport_describe_collections(Z_hidreport_instance_t* instance,
   w2c_j0 = w2c_l8;
   w2c_j1 = 56ull;
   w2c_j0 += w2c_j1;
-  w2c_f80(instance, w2c_j0);
+  w2c_f81(instance, w2c_j0);
   w2c_j0 = w2c_l8;
   w2c_i0 = (u32)(w2c_j0);
   w2c_j1 = w2c_l15;
@@ -80849,7 +81180,7 @@ static void w2c_hidreport_describe_collections(Z_hidreport_instance_t* instance,
   w2c_j0 = w2c_l8;
   w2c_j1 = 32ull;
   w2c_j0 += w2c_j1;
-  w2c_f80(instance, w2c_j0);
+  w2c_f81(instance, w2c_j0);
   w2c_i0 = 0u;
   w2c_l18 = w2c_i0;
   goto w2c_B0;
@@ -81031,7 +81362,7 @@ static void w2c_hidreport_describe_usages(Z_hidreport_instance_t* instance, u64 
   w2c_j2 = w2c_p4;
   w2c_j3 = w2c_l9;
   w2c_j4 = w2c_p7;
-  w2c_f83(instance, w2c_j0, w2c_j1, w2c_j2, w2c_j3, w2c_j4);
+  w2c_f84(instance, w2c_j0, w2c_j1, w2c_j2, w2c_j3, w2c_j4);
   w2c_j0 = w2c_l8;
   w2c_i0 = (u32)(w2c_j0);
   w2c_j1 = w2c_l13;
@@ -81047,7 +81378,7 @@ static void w2c_hidreport_describe_usages(Z_hidreport_instance_t* instance, u64 
   w2c_j0 = w2c_l8;
   w2c_j1 = 56ull;
   w2c_j0 += w2c_j1;
-  w2c_f80(instance, w2c_j0);
+  w2c_f81(instance, w2c_j0);
   w2c_j0 = w2c_l8;
   w2c_i0 = (u32)(w2c_j0);
   w2c_j1 = w2c_l11;
@@ -81063,7 +81394,7 @@ static void w2c_hidreport_describe_usages(Z_hidreport_instance_t* instance, u64 
   w2c_j0 = w2c_l8;
   w2c_j1 = 32ull;
   w2c_j0 += w2c_j1;
-  w2c_f80(instance, w2c_j0);
+  w2c_f81(instance, w2c_j0);
   w2c_j0 = w2c_l8;
   w2c_i0 = (u32)(w2c_j0);
   w2c_j1 = w2c_l10;
@@ -81079,7 +81410,7 @@ static void w2c_hidreport_describe_usages(Z_hidreport_instance_t* instance, u64 
   w2c_j0 = w2c_l8;
   w2c_j1 = 8ull;
   w2c_j0 += w2c_j1;
-  w2c_f80(instance, w2c_j0);
+  w2c_f81(instance, w2c_j0);
   goto w2c_B0;
   w2c_B1:;
   w2c_j0 = w2c_l8;
@@ -81202,7 +81533,7 @@ static void w2c_hidreport_find_usages(Z_hidreport_instance_t* instance, u64 w2c_
   w2c_j4 = w2c_i6 ? w2c_j4 : w2c_j5;
   w2c_j3 += w2c_j4;
   w2c_j4 = w2c_p7;
-  w2c_f84(instance, w2c_j0, w2c_j1, w2c_i2, w2c_j3, w2c_j4);
+  w2c_f85(instance, w2c_j0, w2c_j1, w2c_i2, w2c_j3, w2c_j4);
   w2c_j0 = w2c_l10;
   w2c_j1 = 16ull;
   w2c_j0 += w2c_j1;
@@ -81229,17 +81560,17 @@ static void w2c_hidreport_find_usages(Z_hidreport_instance_t* instance, u64 w2c_
   w2c_j4 = w2c_i6 ? w2c_j4 : w2c_j5;
   w2c_j3 += w2c_j4;
   w2c_j4 = w2c_p9;
-  w2c_f83(instance, w2c_j0, w2c_j1, w2c_j2, w2c_j3, w2c_j4);
+  w2c_f84(instance, w2c_j0, w2c_j1, w2c_j2, w2c_j3, w2c_j4);
   w2c_j0 = w2c_p1;
-  w2c_f80(instance, w2c_j0);
+  w2c_f81(instance, w2c_j0);
   w2c_j0 = w2c_l10;
   w2c_j1 = 72ull;
   w2c_j0 += w2c_j1;
-  w2c_f80(instance, w2c_j0);
+  w2c_f81(instance, w2c_j0);
   w2c_j0 = w2c_l10;
   w2c_j1 = 96ull;
   w2c_j0 += w2c_j1;
-  w2c_f80(instance, w2c_j0);
+  w2c_f81(instance, w2c_j0);
   goto w2c_B0;
   w2c_B1:;
   w2c_j0 = w2c_l10;
@@ -82329,7 +82660,7 @@ static void w2c_hidreport_changes(Z_hidreport_instance_t* instance, u64 w2c_p0, 
   w2c_j3 = w2c_l8;
   w2c_j4 = 64ull;
   w2c_j3 += w2c_j4;
-  w2c_f67(instance, w2c_j0, w2c_j1, w2c_j2, w2c_j3);
+  w2c_f68(instance, w2c_j0, w2c_j1, w2c_j2, w2c_j3);
   w2c_j0 = w2c_l8;
   w2c_i0 = (u32)(w2c_j0);
   w2c_i0 = i32_load8_u(&instance->w2c_memory, (u64)(w2c_i0) + 8u);
@@ -83092,7 +83423,7 @@ static void w2c_hidreport_collection_usages(Z_hidreport_instance_t* instance, u6
   w2c_j0 = w2c_l9;
   w2c_j1 = 56ull;
   w2c_j0 += w2c_j1;
-  w2c_f80(instance, w2c_j0);
+  w2c_f81(instance, w2c_j0);
   w2c_j0 = w2c_l9;
   w2c_i0 = (u32)(w2c_j0);
   w2c_j1 = w2c_l14;
@@ -83108,7 +83439,7 @@ static void w2c_hidreport_collection_usages(Z_hidreport_instance_t* instance, u6
   w2c_j0 = w2c_l9;
   w2c_j1 = 32ull;
   w2c_j0 += w2c_j1;
-  w2c_f80(instance, w2c_j0);
+  w2c_f81(instance, w2c_j0);
   w2c_j0 = w2c_l9;
   w2c_i0 = (u32)(w2c_j0);
   w2c_j1 = w2c_l11;
@@ -83124,7 +83455,7 @@ static void w2c_hidreport_collection_usages(Z_hidreport_instance_t* instance, u6
   w2c_j0 = w2c_l9;
   w2c_j1 = 8ull;
   w2c_j0 += w2c_j1;
-  w2c_f80(instance, w2c_j0);
+  w2c_f81(instance, w2c_j0);
   w2c_B0:;
   w2c_j0 = w2c_p0;
   w2c_i0 = (u32)(w2c_j0);
@@ -83650,7 +83981,7 @@ static void w2c_hidreport_collections(Z_hidreport_instance_t* instance, u64 w2c_
   w2c_j0 = w2c_l8;
   w2c_j1 = 56ull;
   w2c_j0 += w2c_j1;
-  w2c_f80(instance, w2c_j0);
+  w2c_f81(instance, w2c_j0);
   w2c_j0 = w2c_l8;
   w2c_i0 = (u32)(w2c_j0);
   w2c_j1 = w2c_l13;
@@ -83666,7 +83997,7 @@ static void w2c_hidreport_collections(Z_hidreport_instance_t* instance, u64 w2c_
   w2c_j0 = w2c_l8;
   w2c_j1 = 32ull;
   w2c_j0 += w2c_j1;
-  w2c_f80(instance, w2c_j0);
+  w2c_f81(instance, w2c_j0);
   w2c_j0 = w2c_l8;
   w2c_i0 = (u32)(w2c_j0);
   w2c_j1 = w2c_l10;
@@ -83682,7 +84013,7 @@ static void w2c_hidreport_collections(Z_hidreport_instance_t* instance, u64 w2c_
   w2c_j0 = w2c_l8;
   w2c_j1 = 8ull;
   w2c_j0 += w2c_j1;
-  w2c_f80(instance, w2c_j0);
+  w2c_f81(instance, w2c_j0);
   w2c_B0:;
   w2c_j0 = w2c_p0;
   w2c_i0 = (u32)(w2c_j0);
@@ -83754,7 +84085,7 @@ static void w2c_hidreport_items(Z_hidreport_instance_t* instance, u64 w2c_p0, u6
   w2c_j2 = w2c_i4 ? w2c_j2 : w2c_j3;
   w2c_j1 += w2c_j2;
   w2c_j2 = w2c_p2;
-  w2c_f85(instance, w2c_j0, w2c_j1, w2c_j2);
+  w2c_f86(instance, w2c_j0, w2c_j1, w2c_j2);
   w2c_j0 = w2c_l5;
   w2c_i0 = (u32)(w2c_j0);
   w2c_j0 = i64_load(&instance->w2c_memory, (u64)(w2c_i0) + 16u);
@@ -84281,7 +84612,7 @@ static void w2c_hidreport_reports(Z_hidreport_instance_t* instance, u64 w2c_p0, 
   w2c_j0 = w2c_l8;
   w2c_j1 = 56ull;
   w2c_j0 += w2c_j1;
-  w2c_f80(instance, w2c_j0);
+  w2c_f81(instance, w2c_j0);
   w2c_j0 = w2c_l8;
   w2c_i0 = (u32)(w2c_j0);
   w2c_j1 = w2c_l13;
@@ -84297,7 +84628,7 @@ static void w2c_hidreport_reports(Z_hidreport_instance_t* instance, u64 w2c_p0, 
   w2c_j0 = w2c_l8;
   w2c_j1 = 32ull;
   w2c_j0 += w2c_j1;
-  w2c_f80(instance, w2c_j0);
+  w2c_f81(instance, w2c_j0);
   w2c_j0 = w2c_l8;
   w2c_i0 = (u32)(w2c_j0);
   w2c_j1 = w2c_l10;
@@ -84313,7 +84644,7 @@ static void w2c_hidreport_reports(Z_hidreport_instance_t* instance, u64 w2c_p0, 
   w2c_j0 = w2c_l8;
   w2c_j1 = 8ull;
   w2c_j0 += w2c_j1;
-  w2c_f80(instance, w2c_j0);
+  w2c_f81(instance, w2c_j0);
   goto w2c_B0;
   w2c_B1:;
   w2c_j0 = w2c_l8;
@@ -85276,7 +85607,7 @@ static void w2c_hidreport_rebuild(Z_hidreport_instance_t* instance, u64 w2c_p0, 
   w2c_j2 = w2c_i4 ? w2c_j2 : w2c_j3;
   w2c_j1 += w2c_j2;
   w2c_j2 = w2c_p2;
-  w2c_f85(instance, w2c_j0, w2c_j1, w2c_j2);
+  w2c_f86(instance, w2c_j0, w2c_j1, w2c_j2);
   w2c_j0 = w2c_l5;
   w2c_i0 = (u32)(w2c_j0);
   w2c_j0 = i64_load(&instance->w2c_memory, (u64)(w2c_i0) + 40u);
@@ -87672,7 +88003,7 @@ static void w2c_hidreport_repair(Z_hidreport_instance_t* instance, u64 w2c_p0, u
   w2c_j3 = w2c_l8;
   w2c_j4 = 64ull;
   w2c_j3 += w2c_j4;
-  w2c_f67(instance, w2c_j0, w2c_j1, w2c_j2, w2c_j3);
+  w2c_f68(instance, w2c_j0, w2c_j1, w2c_j2, w2c_j3);
   w2c_j0 = w2c_l8;
   w2c_i0 = (u32)(w2c_j0);
   w2c_j0 = i64_load(&instance->w2c_memory, (u64)(w2c_i0) + 24u);
@@ -88200,7 +88531,7 @@ static void w2c_hidreport_field_for(Z_hidreport_instance_t* instance, u64 w2c_p0
   w2c_i5 = 0u;
   w2c_i6 = w2c_p6;
   w2c_i4 = w2c_i6 ? w2c_i4 : w2c_i5;
-  w2c_f87(instance, w2c_j0, w2c_j1, w2c_i2, w2c_i3, w2c_i4);
+  w2c_f88(instance, w2c_j0, w2c_j1, w2c_i2, w2c_i3, w2c_i4);
   w2c_j0 = w2c_l11;
   w2c_i0 = (u32)(w2c_j0);
   w2c_i0 = i32_load8_u(&instance->w2c_memory, (u64)(w2c_i0));
@@ -88345,7 +88676,7 @@ static void w2c_hidreport_field_for(Z_hidreport_instance_t* instance, u64 w2c_p0
   w2c_j2 = 0ull;
   w2c_j3 = w2c_p9;
   w2c_j4 = w2c_p10;
-  w2c_f88(instance, w2c_j0, w2c_j1, w2c_j2, w2c_j3, w2c_j4);
+  w2c_f89(instance, w2c_j0, w2c_j1, w2c_j2, w2c_j3, w2c_j4);
   w2c_B1:;
   w2c_j0 = w2c_l11;
   w2c_i0 = (u32)(w2c_j0);
@@ -88356,15 +88687,15 @@ static void w2c_hidreport_field_for(Z_hidreport_instance_t* instance, u64 w2c_p0
   w2c_j1 = 0ull;
   i64_store(&instance->w2c_memory, (u64)(w2c_i0) + 24, w2c_j1);
   w2c_j0 = w2c_l12;
-  w2c_f80(instance, w2c_j0);
+  w2c_f81(instance, w2c_j0);
   w2c_j0 = w2c_l11;
   w2c_j1 = 64ull;
   w2c_j0 += w2c_j1;
-  w2c_f80(instance, w2c_j0);
+  w2c_f81(instance, w2c_j0);
   w2c_j0 = w2c_l11;
   w2c_j1 = 88ull;
   w2c_j0 += w2c_j1;
-  w2c_f80(instance, w2c_j0);
+  w2c_f81(instance, w2c_j0);
   w2c_B0:;
   w2c_j0 = w2c_p0;
   w2c_i0 = (u32)(w2c_j0);
@@ -88675,7 +89006,7 @@ static void w2c_hidreport_field_numbered(Z_hidreport_instance_t* instance, u64 w
   w2c_j4 = w2c_i6 ? w2c_j4 : w2c_j5;
   w2c_j3 += w2c_j4;
   w2c_j4 = w2c_p7;
-  w2c_f88(instance, w2c_j0, w2c_j1, w2c_j2, w2c_j3, w2c_j4);
+  w2c_f89(instance, w2c_j0, w2c_j1, w2c_j2, w2c_j3, w2c_j4);
   w2c_B1:;
   w2c_j0 = w2c_l8;
   w2c_i0 = (u32)(w2c_j0);
@@ -88700,7 +89031,7 @@ static void w2c_hidreport_field_numbered(Z_hidreport_instance_t* instance, u64 w
   w2c_j0 = w2c_l8;
   w2c_j1 = 56ull;
   w2c_j0 += w2c_j1;
-  w2c_f80(instance, w2c_j0);
+  w2c_f81(instance, w2c_j0);
   w2c_j0 = w2c_l8;
   w2c_i0 = (u32)(w2c_j0);
   w2c_j1 = w2c_l12;
@@ -88716,7 +89047,7 @@ static void w2c_hidreport_field_numbered(Z_hidreport_instance_t* instance, u64 w
   w2c_j0 = w2c_l8;
   w2c_j1 = 32ull;
   w2c_j0 += w2c_j1;
-  w2c_f80(instance, w2c_j0);
+  w2c_f81(instance, w2c_j0);
   w2c_j0 = w2c_l8;
   w2c_i0 = (u32)(w2c_j0);
   w2c_j1 = w2c_l9;
@@ -88732,7 +89063,7 @@ static void w2c_hidreport_field_numbered(Z_hidreport_instance_t* instance, u64 w
   w2c_j0 = w2c_l8;
   w2c_j1 = 8ull;
   w2c_j0 += w2c_j1;
-  w2c_f80(instance, w2c_j0);
+  w2c_f81(instance, w2c_j0);
   w2c_B0:;
   w2c_j0 = w2c_p0;
   w2c_i0 = (u32)(w2c_j0);
@@ -88934,7 +89265,7 @@ static void w2c_hidreport_describe(Z_hidreport_instance_t* instance, u64 w2c_p0,
     w2c_j2 = w2c_p3;
     w2c_j3 = w2c_l20;
     w2c_j4 = w2c_p7;
-    w2c_f88(instance, w2c_j0, w2c_j1, w2c_j2, w2c_j3, w2c_j4);
+    w2c_f89(instance, w2c_j0, w2c_j1, w2c_j2, w2c_j3, w2c_j4);
     w2c_j0 = w2c_p1;
     w2c_i0 = (u32)(w2c_j0);
     w2c_j0 = i64_load(&instance->w2c_memory, (u64)(w2c_i0));
@@ -88970,7 +89301,7 @@ static void w2c_hidreport_describe(Z_hidreport_instance_t* instance, u64 w2c_p0,
   w2c_j0 = w2c_l8;
   w2c_j1 = 56ull;
   w2c_j0 += w2c_j1;
-  w2c_f80(instance, w2c_j0);
+  w2c_f81(instance, w2c_j0);
   w2c_j0 = w2c_l8;
   w2c_i0 = (u32)(w2c_j0);
   w2c_j1 = w2c_l14;
@@ -88986,7 +89317,7 @@ static void w2c_hidreport_describe(Z_hidreport_instance_t* instance, u64 w2c_p0,
   w2c_j0 = w2c_l8;
   w2c_j1 = 32ull;
   w2c_j0 += w2c_j1;
-  w2c_f80(instance, w2c_j0);
+  w2c_f81(instance, w2c_j0);
   w2c_j0 = w2c_l8;
   w2c_i0 = (u32)(w2c_j0);
   w2c_j1 = w2c_l11;
@@ -89002,7 +89333,7 @@ static void w2c_hidreport_describe(Z_hidreport_instance_t* instance, u64 w2c_p0,
   w2c_j0 = w2c_l8;
   w2c_j1 = 8ull;
   w2c_j0 += w2c_j1;
-  w2c_f80(instance, w2c_j0);
+  w2c_f81(instance, w2c_j0);
   w2c_i0 = 0u;
   w2c_p5 = w2c_i0;
   w2c_j0 = 0ull;
@@ -89107,7 +89438,7 @@ static void w2c_hidreport_find(Z_hidreport_instance_t* instance, u64 w2c_p0, u64
   w2c_j4 = w2c_i6 ? w2c_j4 : w2c_j5;
   w2c_j3 += w2c_j4;
   w2c_j4 = w2c_p7;
-  w2c_f84(instance, w2c_j0, w2c_j1, w2c_i2, w2c_j3, w2c_j4);
+  w2c_f85(instance, w2c_j0, w2c_j1, w2c_i2, w2c_j3, w2c_j4);
   w2c_j0 = w2c_l10;
   w2c_i0 = (u32)(w2c_j0);
   w2c_i0 = i32_load8_u(&instance->w2c_memory, (u64)(w2c_i0));
@@ -89140,7 +89471,7 @@ static void w2c_hidreport_find(Z_hidreport_instance_t* instance, u64 w2c_p0, u64
   w2c_j4 = w2c_p3;
   w2c_j3 += w2c_j4;
   w2c_j4 = w2c_p9;
-  w2c_f88(instance, w2c_j0, w2c_j1, w2c_j2, w2c_j3, w2c_j4);
+  w2c_f89(instance, w2c_j0, w2c_j1, w2c_j2, w2c_j3, w2c_j4);
   w2c_B2:;
   w2c_j0 = w2c_l10;
   w2c_i0 = (u32)(w2c_j0);
@@ -89151,15 +89482,15 @@ static void w2c_hidreport_find(Z_hidreport_instance_t* instance, u64 w2c_p0, u64
   w2c_j1 = 0ull;
   i64_store(&instance->w2c_memory, (u64)(w2c_i0) + 112, w2c_j1);
   w2c_j0 = w2c_p1;
-  w2c_f80(instance, w2c_j0);
+  w2c_f81(instance, w2c_j0);
   w2c_j0 = w2c_l10;
   w2c_j1 = 48ull;
   w2c_j0 += w2c_j1;
-  w2c_f80(instance, w2c_j0);
+  w2c_f81(instance, w2c_j0);
   w2c_j0 = w2c_l10;
   w2c_j1 = 72ull;
   w2c_j0 += w2c_j1;
-  w2c_f80(instance, w2c_j0);
+  w2c_f81(instance, w2c_j0);
   goto w2c_B0;
   w2c_B1:;
   w2c_j0 = w2c_l10;
@@ -89247,7 +89578,7 @@ static void w2c_hidreport_groups(Z_hidreport_instance_t* instance, u64 w2c_p0, u
   w2c_j3 = w2c_l8;
   w2c_j4 = 104ull;
   w2c_j3 += w2c_j4;
-  w2c_f89(instance, w2c_j0, w2c_j1, w2c_j2, w2c_j3);
+  w2c_f90(instance, w2c_j0, w2c_j1, w2c_j2, w2c_j3);
   w2c_j0 = w2c_l8;
   w2c_i0 = (u32)(w2c_j0);
   w2c_j0 = i64_load(&instance->w2c_memory, (u64)(w2c_i0) + 40u);
@@ -89381,7 +89712,7 @@ static void w2c_hidreport_groups(Z_hidreport_instance_t* instance, u64 w2c_p0, u
       w2c_j0 = w2c_l8;
       w2c_j1 = 144ull;
       w2c_j0 += w2c_j1;
-      w2c_i0 = w2c_f90(instance, w2c_j0);
+      w2c_i0 = w2c_f91(instance, w2c_j0);
       w2c_i0 = !(w2c_i0);
       if (w2c_i0) {goto w2c_B2;}
       w2c_j0 = w2c_l8;
@@ -89673,7 +90004,7 @@ static void w2c_hidreport_groups(Z_hidreport_instance_t* instance, u64 w2c_p0, u
     w2c_j0 = w2c_l8;
     w2c_j1 = w2c_l20;
     w2c_j2 = 0ull;
-    w2c_f92(instance, w2c_j0, w2c_j1, w2c_j2);
+    w2c_f93(instance, w2c_j0, w2c_j1, w2c_j2);
     w2c_j0 = w2c_l8;
     w2c_i0 = (u32)(w2c_j0);
     w2c_i0 = i32_load(&instance->w2c_memory, (u64)(w2c_i0) + 2u);
@@ -89801,7 +90132,7 @@ static void w2c_hidreport_groups(Z_hidreport_instance_t* instance, u64 w2c_p0, u
     w2c_j0 = w2c_l8;
     w2c_j1 = w2c_l20;
     w2c_j2 = 0ull;
-    w2c_f92(instance, w2c_j0, w2c_j1, w2c_j2);
+    w2c_f93(instance, w2c_j0, w2c_j1, w2c_j2);
     w2c_j0 = w2c_l8;
     w2c_i0 = (u32)(w2c_j0);
     w2c_i0 = i32_load(&instance->w2c_memory, (u64)(w2c_i0) + 2u);
@@ -90460,7 +90791,7 @@ static void w2c_hidreport_group_field(Z_hidreport_instance_t* instance, u64 w2c_
   w2c_j3 = w2c_l10;
   w2c_j4 = 152ull;
   w2c_j3 += w2c_j4;
-  w2c_f89(instance, w2c_j0, w2c_j1, w2c_j2, w2c_j3);
+  w2c_f90(instance, w2c_j0, w2c_j1, w2c_j2, w2c_j3);
   w2c_j0 = w2c_l10;
   w2c_i0 = (u32)(w2c_j0);
   w2c_j0 = i64_load(&instance->w2c_memory, (u64)(w2c_i0) + 88u);
@@ -90602,7 +90933,7 @@ static void w2c_hidreport_group_field(Z_hidreport_instance_t* instance, u64 w2c_
       w2c_j0 = w2c_l10;
       w2c_j1 = 312ull;
       w2c_j0 += w2c_j1;
-      w2c_i0 = w2c_f90(instance, w2c_j0);
+      w2c_i0 = w2c_f91(instance, w2c_j0);
       w2c_i0 = !(w2c_i0);
       if (w2c_i0) {goto w2c_B14;}
       w2c_j0 = w2c_l10;
@@ -90802,7 +91133,7 @@ static void w2c_hidreport_group_field(Z_hidreport_instance_t* instance, u64 w2c_
   w2c_j1 = w2c_p1;
   w2c_j2 = w2c_p2;
   w2c_j3 = w2c_p7;
-  w2c_f93(instance, w2c_j0, w2c_j1, w2c_j2, w2c_j3);
+  w2c_f94(instance, w2c_j0, w2c_j1, w2c_j2, w2c_j3);
   w2c_j0 = w2c_l10;
   w2c_i0 = (u32)(w2c_j0);
   w2c_i0 = i32_load8_u(&instance->w2c_memory, (u64)(w2c_i0) + 312u);
@@ -90872,7 +91203,7 @@ static void w2c_hidreport_group_field(Z_hidreport_instance_t* instance, u64 w2c_
   w2c_j2 = 0ull;
   w2c_j3 = w2c_l22;
   w2c_j4 = w2c_p9;
-  w2c_f88(instance, w2c_j0, w2c_j1, w2c_j2, w2c_j3, w2c_j4);
+  w2c_f89(instance, w2c_j0, w2c_j1, w2c_j2, w2c_j3, w2c_j4);
   w2c_i0 = w2c_l24;
   switch (w2c_i0) {
     case 0: goto w2c_B23;
@@ -90902,7 +91233,7 @@ static void w2c_hidreport_group_field(Z_hidreport_instance_t* instance, u64 w2c_
   w2c_rattle_dealloc(instance, w2c_j0);
   w2c_B21:;
   w2c_j0 = w2c_p2;
-  w2c_f77(instance, w2c_j0);
+  w2c_f78(instance, w2c_j0);
   w2c_B20:;
   w2c_j0 = w2c_p3;
   w2c_i0 = !(w2c_j0);
@@ -91056,7 +91387,7 @@ static void w2c_hidreport_items_message(Z_hidreport_instance_t* instance, u64 w2
   w2c_j2 = w2c_i4 ? w2c_j2 : w2c_j3;
   w2c_j1 += w2c_j2;
   w2c_j2 = w2c_p2;
-  w2c_f85(instance, w2c_j0, w2c_j1, w2c_j2);
+  w2c_f86(instance, w2c_j0, w2c_j1, w2c_j2);
   w2c_j0 = w2c_l5;
   w2c_i0 = (u32)(w2c_j0);
   w2c_i0 = i32_load8_u(&instance->w2c_memory, (u64)(w2c_i0));
@@ -91942,15 +92273,15 @@ static void w2c_hidreport_message(Z_hidreport_instance_t* instance, u64 w2c_p0, 
   w2c_j0 = w2c_l7;
   w2c_j1 = 8ull;
   w2c_j0 += w2c_j1;
-  w2c_f80(instance, w2c_j0);
+  w2c_f81(instance, w2c_j0);
   w2c_j0 = w2c_l7;
   w2c_j1 = 32ull;
   w2c_j0 += w2c_j1;
-  w2c_f80(instance, w2c_j0);
+  w2c_f81(instance, w2c_j0);
   w2c_j0 = w2c_l7;
   w2c_j1 = 56ull;
   w2c_j0 += w2c_j1;
-  w2c_f80(instance, w2c_j0);
+  w2c_f81(instance, w2c_j0);
   w2c_j0 = w2c_p0;
   w2c_i0 = (u32)(w2c_j0);
   w2c_j1 = 0ull;
@@ -92789,7 +93120,7 @@ static void w2c_hidreport_repair_message(Z_hidreport_instance_t* instance, u64 w
   w2c_j3 = w2c_l8;
   w2c_j4 = 64ull;
   w2c_j3 += w2c_j4;
-  w2c_f67(instance, w2c_j0, w2c_j1, w2c_j2, w2c_j3);
+  w2c_f68(instance, w2c_j0, w2c_j1, w2c_j2, w2c_j3);
   w2c_j0 = w2c_l8;
   w2c_i0 = (u32)(w2c_j0);
   w2c_i0 = i32_load8_u(&instance->w2c_memory, (u64)(w2c_i0) + 8u);
@@ -93627,7 +93958,7 @@ static void w2c_hidreport_report_with(Z_hidreport_instance_t* instance, u64 w2c_
   w2c_i5 = 0u;
   w2c_i6 = w2c_p6;
   w2c_i4 = w2c_i6 ? w2c_i4 : w2c_i5;
-  w2c_f87(instance, w2c_j0, w2c_j1, w2c_i2, w2c_i3, w2c_i4);
+  w2c_f88(instance, w2c_j0, w2c_j1, w2c_i2, w2c_i3, w2c_i4);
   w2c_j0 = w2c_l10;
   w2c_i0 = (u32)(w2c_j0);
   w2c_i0 = i32_load8_u(&instance->w2c_memory, (u64)(w2c_i0));
@@ -93732,15 +94063,15 @@ static void w2c_hidreport_report_with(Z_hidreport_instance_t* instance, u64 w2c_
   w2c_j1 = 0ull;
   i64_store(&instance->w2c_memory, (u64)(w2c_i0) + 112, w2c_j1);
   w2c_j0 = w2c_p3;
-  w2c_f80(instance, w2c_j0);
+  w2c_f81(instance, w2c_j0);
   w2c_j0 = w2c_l10;
   w2c_j1 = 48ull;
   w2c_j0 += w2c_j1;
-  w2c_f80(instance, w2c_j0);
+  w2c_f81(instance, w2c_j0);
   w2c_j0 = w2c_l10;
   w2c_j1 = 72ull;
   w2c_j0 += w2c_j1;
-  w2c_f80(instance, w2c_j0);
+  w2c_f81(instance, w2c_j0);
   goto w2c_B0;
   w2c_B1:;
   w2c_j0 = w2c_l10;
@@ -94195,7 +94526,7 @@ static void w2c_hidreport_flag_words(Z_hidreport_instance_t* instance, u64 w2c_p
   w2c_j3 = 5ull;
   w2c_j4 = 1123444ull;
   w2c_j5 = 4ull;
-  w2c_i0 = w2c_f94(instance, w2c_j0, w2c_i1, w2c_j2, w2c_j3, w2c_j4, w2c_j5);
+  w2c_i0 = w2c_f95(instance, w2c_j0, w2c_i1, w2c_j2, w2c_j3, w2c_j4, w2c_j5);
   w2c_i1 = 255u;
   w2c_i0 &= w2c_i1;
   if (w2c_i0) {goto w2c_B24;}
@@ -94211,7 +94542,7 @@ static void w2c_hidreport_flag_words(Z_hidreport_instance_t* instance, u64 w2c_p
   w2c_j3 = 4ull;
   w2c_j4 = 1123452ull;
   w2c_j5 = 4ull;
-  w2c_i0 = w2c_f94(instance, w2c_j0, w2c_i1, w2c_j2, w2c_j3, w2c_j4, w2c_j5);
+  w2c_i0 = w2c_f95(instance, w2c_j0, w2c_i1, w2c_j2, w2c_j3, w2c_j4, w2c_j5);
   w2c_i1 = 255u;
   w2c_i0 &= w2c_i1;
   if (w2c_i0) {goto w2c_B24;}
@@ -94225,7 +94556,7 @@ static void w2c_hidreport_flag_words(Z_hidreport_instance_t* instance, u64 w2c_p
   w2c_j3 = 4ull;
   w2c_j4 = 1123460ull;
   w2c_j5 = 4ull;
-  w2c_i0 = w2c_f94(instance, w2c_j0, w2c_i1, w2c_j2, w2c_j3, w2c_j4, w2c_j5);
+  w2c_i0 = w2c_f95(instance, w2c_j0, w2c_i1, w2c_j2, w2c_j3, w2c_j4, w2c_j5);
   w2c_i1 = 255u;
   w2c_i0 &= w2c_i1;
   if (w2c_i0) {goto w2c_B24;}
@@ -94239,7 +94570,7 @@ static void w2c_hidreport_flag_words(Z_hidreport_instance_t* instance, u64 w2c_p
   w2c_j3 = 5ull;
   w2c_j4 = 1122223ull;
   w2c_j5 = 0ull;
-  w2c_i0 = w2c_f94(instance, w2c_j0, w2c_i1, w2c_j2, w2c_j3, w2c_j4, w2c_j5);
+  w2c_i0 = w2c_f95(instance, w2c_j0, w2c_i1, w2c_j2, w2c_j3, w2c_j4, w2c_j5);
   w2c_i1 = 255u;
   w2c_i0 &= w2c_i1;
   if (w2c_i0) {goto w2c_B24;}
@@ -94253,7 +94584,7 @@ static void w2c_hidreport_flag_words(Z_hidreport_instance_t* instance, u64 w2c_p
   w2c_j3 = 7ull;
   w2c_j4 = 1122223ull;
   w2c_j5 = 0ull;
-  w2c_i0 = w2c_f94(instance, w2c_j0, w2c_i1, w2c_j2, w2c_j3, w2c_j4, w2c_j5);
+  w2c_i0 = w2c_f95(instance, w2c_j0, w2c_i1, w2c_j2, w2c_j3, w2c_j4, w2c_j5);
   w2c_i1 = 255u;
   w2c_i0 &= w2c_i1;
   if (w2c_i0) {goto w2c_B24;}
@@ -94267,7 +94598,7 @@ static void w2c_hidreport_flag_words(Z_hidreport_instance_t* instance, u64 w2c_p
   w2c_j3 = 7ull;
   w2c_j4 = 1122223ull;
   w2c_j5 = 0ull;
-  w2c_i0 = w2c_f94(instance, w2c_j0, w2c_i1, w2c_j2, w2c_j3, w2c_j4, w2c_j5);
+  w2c_i0 = w2c_f95(instance, w2c_j0, w2c_i1, w2c_j2, w2c_j3, w2c_j4, w2c_j5);
   w2c_i1 = 255u;
   w2c_i0 &= w2c_i1;
   if (w2c_i0) {goto w2c_B24;}
@@ -94283,7 +94614,7 @@ static void w2c_hidreport_flag_words(Z_hidreport_instance_t* instance, u64 w2c_p
   w2c_j3 = 5ull;
   w2c_j4 = 1123488ull;
   w2c_j5 = 7ull;
-  w2c_i0 = w2c_f94(instance, w2c_j0, w2c_i1, w2c_j2, w2c_j3, w2c_j4, w2c_j5);
+  w2c_i0 = w2c_f95(instance, w2c_j0, w2c_i1, w2c_j2, w2c_j3, w2c_j4, w2c_j5);
   w2c_i1 = 255u;
   w2c_i0 &= w2c_i1;
   if (w2c_i0) {goto w2c_B24;}
@@ -94295,7 +94626,7 @@ static void w2c_hidreport_flag_words(Z_hidreport_instance_t* instance, u64 w2c_p
   w2c_j3 = 4ull;
   w2c_j4 = 1122223ull;
   w2c_j5 = 0ull;
-  w2c_i0 = w2c_f94(instance, w2c_j0, w2c_i1, w2c_j2, w2c_j3, w2c_j4, w2c_j5);
+  w2c_i0 = w2c_f95(instance, w2c_j0, w2c_i1, w2c_j2, w2c_j3, w2c_j4, w2c_j5);
   w2c_i1 = 255u;
   w2c_i0 &= w2c_i1;
   if (w2c_i0) {goto w2c_B24;}
@@ -94311,7 +94642,7 @@ static void w2c_hidreport_flag_words(Z_hidreport_instance_t* instance, u64 w2c_p
   w2c_j3 = 4ull;
   w2c_j4 = 1122223ull;
   w2c_j5 = 0ull;
-  w2c_i0 = w2c_f94(instance, w2c_j0, w2c_i1, w2c_j2, w2c_j3, w2c_j4, w2c_j5);
+  w2c_i0 = w2c_f95(instance, w2c_j0, w2c_i1, w2c_j2, w2c_j3, w2c_j4, w2c_j5);
   w2c_i1 = 255u;
   w2c_i0 &= w2c_i1;
   w2c_i0 = !(w2c_i0);
@@ -94846,7 +95177,7 @@ static void w2c_hidreport_page_name(Z_hidreport_instance_t* instance, u64 w2c_p0
   w2c_j1 = 8ull;
   w2c_j0 += w2c_j1;
   w2c_j1 = w2c_l5;
-  w2c_i0 = w2c_f95(instance, w2c_j0, w2c_j1);
+  w2c_i0 = w2c_f96(instance, w2c_j0, w2c_j1);
   w2c_i0 = !(w2c_i0);
   if (w2c_i0) {goto w2c_B4;}
   w2c_j0 = w2c_l4;
@@ -95119,7 +95450,7 @@ static void w2c_hidreport_page_name(Z_hidreport_instance_t* instance, u64 w2c_p0
   w2c_j1 = 8ull;
   w2c_j0 += w2c_j1;
   w2c_j1 = 15ull;
-  w2c_i0 = w2c_f95(instance, w2c_j0, w2c_j1);
+  w2c_i0 = w2c_f96(instance, w2c_j0, w2c_j1);
   w2c_i0 = !(w2c_i0);
   if (w2c_i0) {goto w2c_B4;}
   w2c_j0 = w2c_l4;
@@ -95179,7 +95510,7 @@ static void w2c_hidreport_page_name(Z_hidreport_instance_t* instance, u64 w2c_p0
   w2c_j1 = 8ull;
   w2c_j0 += w2c_j1;
   w2c_i1 = w2c_p1;
-  w2c_i0 = w2c_f98(instance, w2c_j0, w2c_i1);
+  w2c_i0 = w2c_f99(instance, w2c_j0, w2c_i1);
   w2c_i1 = 255u;
   w2c_i0 &= w2c_i1;
   if (w2c_i0) {goto w2c_B4;}
@@ -95609,7 +95940,7 @@ static void w2c_hidreport_usage_name(Z_hidreport_instance_t* instance, u64 w2c_p
   w2c_j1 = 8ull;
   w2c_j0 += w2c_j1;
   w2c_j1 = 13ull;
-  w2c_i0 = w2c_f95(instance, w2c_j0, w2c_j1);
+  w2c_i0 = w2c_f96(instance, w2c_j0, w2c_j1);
   w2c_i0 = !(w2c_i0);
   if (w2c_i0) {goto w2c_B2;}
   w2c_j0 = w2c_l4;
@@ -95696,7 +96027,7 @@ static void w2c_hidreport_usage_name(Z_hidreport_instance_t* instance, u64 w2c_p
   w2c_j1 = 1121924ull;
   w2c_j2 = 9ull;
   w2c_i3 = w2c_p1;
-  w2c_i0 = w2c_f99(instance, w2c_j0, w2c_j1, w2c_j2, w2c_i3);
+  w2c_i0 = w2c_f100(instance, w2c_j0, w2c_j1, w2c_j2, w2c_i3);
   w2c_i1 = 255u;
   w2c_i0 &= w2c_i1;
   w2c_p1 = w2c_i0;
@@ -95941,7 +96272,7 @@ static void w2c_hidreport_usage_name(Z_hidreport_instance_t* instance, u64 w2c_p
   w2c_j1 = 1121935ull;
   w2c_j2 = 5ull;
   w2c_i3 = w2c_p1;
-  w2c_i0 = w2c_f99(instance, w2c_j0, w2c_j1, w2c_j2, w2c_i3);
+  w2c_i0 = w2c_f100(instance, w2c_j0, w2c_j1, w2c_j2, w2c_i3);
   w2c_i1 = 255u;
   w2c_i0 &= w2c_i1;
   w2c_p1 = w2c_i0;
@@ -96072,7 +96403,7 @@ static void w2c_hidreport_usage_name(Z_hidreport_instance_t* instance, u64 w2c_p
   w2c_j1 = 8ull;
   w2c_j0 += w2c_j1;
   w2c_j1 = w2c_l8;
-  w2c_i0 = w2c_f95(instance, w2c_j0, w2c_j1);
+  w2c_i0 = w2c_f96(instance, w2c_j0, w2c_j1);
   w2c_i0 = !(w2c_i0);
   if (w2c_i0) {goto w2c_B3;}
   w2c_j0 = w2c_l4;
@@ -96330,7 +96661,7 @@ static void w2c_hidreport_usage_name(Z_hidreport_instance_t* instance, u64 w2c_p
   w2c_j1 = 1121970ull;
   w2c_j2 = 7ull;
   w2c_i3 = w2c_p1;
-  w2c_i0 = w2c_f99(instance, w2c_j0, w2c_j1, w2c_j2, w2c_i3);
+  w2c_i0 = w2c_f100(instance, w2c_j0, w2c_j1, w2c_j2, w2c_i3);
   w2c_i1 = 255u;
   w2c_i0 &= w2c_i1;
   w2c_p1 = w2c_i0;
@@ -96378,7 +96709,7 @@ static void w2c_hidreport_usage_name(Z_hidreport_instance_t* instance, u64 w2c_p
   w2c_j1 = 8ull;
   w2c_j0 += w2c_j1;
   w2c_j1 = 2ull;
-  w2c_i0 = w2c_f95(instance, w2c_j0, w2c_j1);
+  w2c_i0 = w2c_f96(instance, w2c_j0, w2c_j1);
   w2c_i0 = !(w2c_i0);
   if (w2c_i0) {goto w2c_B2;}
   w2c_j0 = w2c_l4;
@@ -96418,7 +96749,7 @@ static void w2c_hidreport_usage_name(Z_hidreport_instance_t* instance, u64 w2c_p
   w2c_j1 = 8ull;
   w2c_j0 += w2c_j1;
   w2c_i1 = w2c_p1;
-  w2c_i0 = w2c_f98(instance, w2c_j0, w2c_i1);
+  w2c_i0 = w2c_f99(instance, w2c_j0, w2c_i1);
   w2c_i1 = 255u;
   w2c_i0 &= w2c_i1;
   w2c_p1 = w2c_i0;
@@ -96445,7 +96776,7 @@ static void w2c_hidreport_usage_name(Z_hidreport_instance_t* instance, u64 w2c_p
   w2c_j1 = 8ull;
   w2c_j0 += w2c_j1;
   w2c_i1 = w2c_p1;
-  w2c_i0 = w2c_f98(instance, w2c_j0, w2c_i1);
+  w2c_i0 = w2c_f99(instance, w2c_j0, w2c_i1);
   w2c_i1 = 255u;
   w2c_i0 &= w2c_i1;
   w2c_p1 = w2c_i0;
@@ -96824,7 +97155,7 @@ static void w2c_hidreport_group_usage(Z_hidreport_instance_t* instance, u64 w2c_
   w2c_j3 = w2c_l10;
   w2c_j4 = 128ull;
   w2c_j3 += w2c_j4;
-  w2c_f89(instance, w2c_j0, w2c_j1, w2c_j2, w2c_j3);
+  w2c_f90(instance, w2c_j0, w2c_j1, w2c_j2, w2c_j3);
   w2c_j0 = w2c_l10;
   w2c_i0 = (u32)(w2c_j0);
   w2c_j0 = i64_load(&instance->w2c_memory, (u64)(w2c_i0) + 64u);
@@ -96958,7 +97289,7 @@ static void w2c_hidreport_group_usage(Z_hidreport_instance_t* instance, u64 w2c_
       w2c_j0 = w2c_l10;
       w2c_j1 = 144ull;
       w2c_j0 += w2c_j1;
-      w2c_i0 = w2c_f90(instance, w2c_j0);
+      w2c_i0 = w2c_f91(instance, w2c_j0);
       w2c_i0 = !(w2c_i0);
       if (w2c_i0) {goto w2c_B10;}
       w2c_j0 = w2c_l10;
@@ -97065,7 +97396,7 @@ static void w2c_hidreport_group_usage(Z_hidreport_instance_t* instance, u64 w2c_
   w2c_j2 = 136ull;
   w2c_j1 += w2c_j2;
   w2c_j2 = w2c_p7;
-  w2c_f91(instance, w2c_j0, w2c_j1, w2c_j2);
+  w2c_f92(instance, w2c_j0, w2c_j1, w2c_j2);
   w2c_j0 = w2c_l10;
   w2c_i0 = (u32)(w2c_j0);
   w2c_i0 = i32_load8_u(&instance->w2c_memory, (u64)(w2c_i0) + 144u);
@@ -97683,7 +98014,7 @@ static void w2c_hidreport_usages(Z_hidreport_instance_t* instance, u64 w2c_p0, u
   w2c_j0 = w2c_l8;
   w2c_j1 = 56ull;
   w2c_j0 += w2c_j1;
-  w2c_f80(instance, w2c_j0);
+  w2c_f81(instance, w2c_j0);
   w2c_j0 = w2c_l8;
   w2c_i0 = (u32)(w2c_j0);
   w2c_j1 = w2c_l13;
@@ -97699,7 +98030,7 @@ static void w2c_hidreport_usages(Z_hidreport_instance_t* instance, u64 w2c_p0, u
   w2c_j0 = w2c_l8;
   w2c_j1 = 32ull;
   w2c_j0 += w2c_j1;
-  w2c_f80(instance, w2c_j0);
+  w2c_f81(instance, w2c_j0);
   w2c_j0 = w2c_l8;
   w2c_i0 = (u32)(w2c_j0);
   w2c_j1 = w2c_l10;
@@ -97715,7 +98046,7 @@ static void w2c_hidreport_usages(Z_hidreport_instance_t* instance, u64 w2c_p0, u
   w2c_j0 = w2c_l8;
   w2c_j1 = 8ull;
   w2c_j0 += w2c_j1;
-  w2c_f80(instance, w2c_j0);
+  w2c_f81(instance, w2c_j0);
   w2c_B0:;
   w2c_j0 = w2c_p0;
   w2c_i0 = (u32)(w2c_j0);
@@ -98893,7 +99224,7 @@ static void w2c_rattle_dealloc(Z_hidreport_instance_t* instance, u64 w2c_p0) {
   FUNC_EPILOGUE;
 }
 
-static void w2c_f149(Z_hidreport_instance_t* instance, u64 w2c_p0, u64 w2c_p1, u64 w2c_p2, u64 w2c_p3, u64 w2c_p4) {
+static void w2c_f150(Z_hidreport_instance_t* instance, u64 w2c_p0, u64 w2c_p1, u64 w2c_p2, u64 w2c_p3, u64 w2c_p4) {
   u64 w2c_l5 = 0, w2c_l6 = 0, w2c_l7 = 0, w2c_l8 = 0, w2c_l9 = 0, w2c_l10 = 0, w2c_l11 = 0;
   FUNC_PROLOGUE;
   u32 w2c_i0, w2c_i1, w2c_i2;
@@ -99344,7 +99675,7 @@ static void w2c_f149(Z_hidreport_instance_t* instance, u64 w2c_p0, u64 w2c_p1, u
   FUNC_EPILOGUE;
 }
 
-static void w2c_f150(Z_hidreport_instance_t* instance, u64 w2c_p0, u64 w2c_p1, u64 w2c_p2, u64 w2c_p3, u64 w2c_p4) {
+static void w2c_f151(Z_hidreport_instance_t* instance, u64 w2c_p0, u64 w2c_p1, u64 w2c_p2, u64 w2c_p3, u64 w2c_p4) {
   u64 w2c_l5 = 0;
   FUNC_PROLOGUE;
   u32 w2c_i0;
