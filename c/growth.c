@@ -6,12 +6,16 @@
 #include <stdlib.h>
 #include <string.h>
 #include <time.h>
+#ifdef __GLIBC__
+#include <malloc.h>
+#endif
 
 #include "hidreport.h"
 
 #define SHORT 1024
 #define LONG 65536
 #define MOST 1.3
+#define LOOKS 12
 
 /* What stands in front, what is repeated, and what stands behind. */
 struct shape {
@@ -145,12 +149,13 @@ static double time_of(void (*ask)(void), const uint8_t *bytes, size_t length)
     return least;
 }
 
-/* How fast a call grows over these two; a second look where it seems fast. */
+/* How fast a call grows over these two; more looks where it seems fast, since what else the machine does
+ * costs a long call more than a short one. */
 static double growth_of(void (*ask)(void), const uint8_t *small, size_t small_length,
                         const uint8_t *large, size_t large_length)
 {
     double growth = 0;
-    for (int look = 0; look < 3; look++) {
+    for (int look = 0; look < LOOKS; look++) {
         double few = time_of(ask, small, small_length), many = time_of(ask, large, large_length);
         double own = log((many + 1e-7) / (few + 1e-7))
                      / log((double)large_length / (double)small_length);
@@ -162,6 +167,16 @@ static double growth_of(void (*ask)(void), const uint8_t *small, size_t small_le
     return growth;
 }
 
+/* Lets malloc keep what it was given back: pages that the system hands out anew for each long call take
+ * time that isn't the library's. */
+static void keep_memory(void)
+{
+#ifdef __GLIBC__
+    mallopt(M_MMAP_MAX, 0);
+    mallopt(M_TRIM_THRESHOLD, 1 << 30);
+#endif
+}
+
 /* With a word it looks at the spoilt call alone, of one shape. */
 int main(int argc, char **argv)
 {
@@ -169,6 +184,7 @@ int main(int argc, char **argv)
     unsigned looked_at = 0, wrong = 0;
 
     (void)argv;
+    keep_memory();
     for (size_t s = argc > 1 ? SHAPES - 1 : 0; s < SHAPES; s++) {
         size_t few = make(&shapes[s], small, SHORT), many = make(&shapes[s], large, LONG);
         for (unsigned way = 0; way < 2; way++) {
