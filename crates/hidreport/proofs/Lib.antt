@@ -65,3 +65,8 @@ pub mod PushReadings
 pub mod SegmentLemmas
 pub mod SpelledPieceLemmas
 pub mod FrontStepLemmas
+pub mod TakenLemmas
+pub mod TakenPieceLemmas
+pub mod TakenAnswerLemmas
+pub mod PaddingLemmas
+pub mod MendLemmas

@@ -103,7 +103,7 @@ widens-by true f p (Some s) is meant stands =
     (rewritten reason.UnsignedMaximum p (wider_bytes (standing_bytes t)))) (sym is)
     (mends-wider p s.bytes s.item known.0 is (subst IsSpelled is stands) known.1 stands)
 
-widens : (asked : Bool) (f : ItemState) (p : PieceRecord) → Stands p
+pub widens : (asked : Bool) (f : ItemState) (p : PieceRecord) → Stands p
     → Mends p (widened_in asked f p)
 widens true f p stands = widens-by (is_meant_unsigned f (item_in p)) f p p.stands refl refl stands
 widens false f p stands = mends-itself p stands
@@ -132,7 +132,7 @@ pads options before left h p reached stands =
     (sym (ap is_missing_usages (fault-stop options before left h p reached)
     ∙ missing-stop left h (item_in p))) stands
 
-mends : (options : RepairOptions) (before : List ItemType) (left : Option ℕ) (h : StateRecord)
+pub mends : (options : RepairOptions) (before : List ItemType) (left : Option ℕ) (h : StateRecord)
     (p : PieceRecord) → Reached options.parse before left h → Stands p
     → Mends p (mended options before p)
 mends options before left h p reached stands =
@@ -144,12 +144,12 @@ mends options before left h p reached stands =
 
 -- the walk over the mended pieces goes on
 
-record Goes (options : ParseOptions) (before : List ItemType) : Type 0 where
-  left : Option ℕ
-  state : StateRecord
-  reached : Reached options before left state
+pub record Goes (options : ParseOptions) (before : List ItemType) : Type 0 where
+  pub left : Option ℕ
+  pub state : StateRecord
+  pub reached : Reached options before left state
 
-goes-by : (options : ParseOptions) (before : List ItemType) (left : Option ℕ) (h : StateRecord)
+pub goes-by : (options : ParseOptions) (before : List ItemType) (left : Option ℕ) (h : StateRecord)
     (o : Option ItemType) → Reached options before left h → stop_held left h o ≡ None
     → Goes options (before ++ option_to_list o)
 goes-by options before left h None reached passes = record {

@@ -18,7 +18,8 @@ use Rattle.hidreport.specs.Options.{reading_of, unless_too_long}
 use Rattle.hidreport_fields.specs.Records.{DescriptorRecord}
 use Rattle.hidreport.specs.Repair.{RepairedRecord, all_mended, behind, fault_at, if_read, joined}
 use Rattle.hidreport.specs.Repair.{mended, named_fault, repaired, repaired_of, repaired_pieces, repaired_view}
-use Rattle.hidreport.specs.Repair.{then_mended, then_read, if_faultless, with_mended}
+use Rattle.hidreport.specs.Repair.{mending, then_joined, then_mended, then_read, if_faultless}
+use Rattle.hidreport.specs.Repair.{with_mended}
 use Rattle.hidreport.specs.declared.parse_options.ParseOptions.{ParseOptions}
 use Rattle.hidreport.specs.declared.repairing.change.Repaired.{Repaired}
 use Rattle.hidreport.specs.declared.repairing.repair_options.RepairOptions.{RepairOptions}
@@ -197,4 +198,22 @@ repair-unlimited options bytes answer a none any offset =
     (past-unlimited options.parse.longest (length bytes)
     (then_read options.parse (repaired_pieces options bytes)) offset any
     (then-unlimited options.parse (repaired_pieces options bytes) offset none any
+    (pieces-unlimited options (pieces options.leave_out_cut_short bytes) offset none)))
+
+-- nor has what is mended alone
+joined-unlimited : (r : Result (List PieceRecord) Refusal) (offset : ℕ)
+    → r ≢ Err (BudgetExceeded offset) → then_joined r ≢ Err (BudgetExceeded offset)
+joined-unlimited (Ok ps) offset never is = cc
+joined-unlimited (Err refusal) offset never is =
+    let same : refusal ≡ BudgetExceeded offset = cc in never (ap Err same)
+
+pub mend-unlimited : (options : RepairOptions) (bytes : List ℕ)
+    (answer : Result Repaired ParserError) → AnswersBy repaired_view answer (mending options bytes)
+    → options.parse.limit ≡ None → options.parse.longest ≡ None
+    → (offset : ℕ) → answer ≢ Err (errors.BudgetExceeded offset)
+mend-unlimited options bytes answer a none any offset =
+    no-budget-by repaired_view answer (mending options bytes) offset a
+    (past-unlimited options.parse.longest (length bytes)
+    (then_joined (repaired_pieces options bytes)) offset any
+    (joined-unlimited (repaired_pieces options bytes) offset
     (pieces-unlimited options (pieces options.leave_out_cut_short bytes) offset none)))

@@ -70,7 +70,7 @@ pub usages-never : (g : MeaningFault) → MissingUsageMaximum ≢ g → MissingU
     → (f : ItemState) → usages_of f ≢ Err g
 usages-never g maximum other f = by-never g maximum other f.usages_by f
 
-limit-other : (b : Bool) → is_missing_usages (limit_fault b) ≡ false
+pub limit-other : (b : Bool) → is_missing_usages (limit_fault b) ≡ false
 limit-other true = refl
 limit-other false = refl
 

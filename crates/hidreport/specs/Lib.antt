@@ -25,6 +25,7 @@ pub mod ReportWriting
 pub mod Runs
 pub mod SameRuns
 pub mod Segments
+pub mod Taken
 pub mod Usages
 pub mod Visibility
 pub mod Weight

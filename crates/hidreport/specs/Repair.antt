@@ -171,6 +171,16 @@ joined ps = flat_map (λ p. standing_bytes p.stands) ps
 abbrev pub repaired_of : List PieceRecord → RepairedRecord
 repaired_of ps = record { bytes = joined ps; changes = filter_map change_in ps }
 
+-- the mended pieces, joined
+abbrev pub then_joined : Result (List PieceRecord) Refusal → Result RepairedRecord Refusal
+then_joined (Ok ps) = Ok (repaired_of ps)
+then_joined (Err refusal) = Err refusal
+
+-- the mended descriptor, of which nothing may be left, or the first fault that stays
+abbrev pub mending : RepairOptions → List ℕ → Result RepairedRecord Refusal
+mending options bytes = unless_too_long (past_longest options.parse.longest (length bytes))
+    (then_joined (repaired_pieces options bytes))
+
 -- it is the answer where its bytes are read
 abbrev pub if_read : RepairedRecord → Result DescriptorRecord Refusal
     → Result RepairedRecord Refusal

@@ -16,7 +16,7 @@
 //!   reads its values, `insert` writes them, [`FieldAttributes`] has its flags.
 //! - [`Reader`]: reads or writes all values of a report in one pass, where reports are many.
 //! - [`Usage`], [`UsageRange`], [`Collection`]: what a field is for, and where it belongs.
-//! - [`repair`]: makes a descriptor that hosts accept one that is read.
+//! - [`repair`], [`mend`]: make a descriptor that hosts accept one that is read.
 //! - [`hid`]: items, lists of items, builders of items and descriptors, and `rebuild`.
 //! - [`types`]: the numbers that items carry.
 //! - [`ParserError`], [`InsertError`]: why bytes can't be read or written.
@@ -119,7 +119,7 @@ pub use parse_options::ParseOptions;
 pub use parser::push_keeps::PushKeeps;
 pub use parser::usages_by::UsagesBy;
 pub use placed_outline::PlacedOutline;
-pub use repairing::{Change, RepairOptions, Repaired, repair};
+pub use repairing::{Change, RepairOptions, Repaired, mend, repair};
 pub use report::group::Group;
 pub use report::group_collection::GroupCollection;
 pub use report::item_place::ItemPlace;

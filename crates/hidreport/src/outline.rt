@@ -1,5 +1,5 @@
 //! Report descriptors, their fields in groups.
-ghost use Rattle.std.specs.Prelude.{◌≡◌, ◌≢◌, ◌≤◌, ℕ, None, Err, Ok, IfOk, IfSome, option_copied};
+ghost use Rattle.std.specs.Prelude.{◌≡◌, ◌≢◌, ◌≤◌, ℕ, [], None, Err, Ok, IfOk, IfSome, option_copied};
 ghost use Rattle.hidreport_lists.specs.Answer.{Answers, AnswersBy};
 ghost use Rattle.hidreport.specs.Laws.{KeptItemsMean, RebuiltBytesMean, SegmentsAreIdle, parse_any};
 ghost use Rattle.hidreport_fields.specs.Lookup.{find_report, report_with, reports_of};
@@ -44,6 +44,16 @@ impl Model for Outline {
 }
 
 impl Outline {
+    /// An outline without reports; takes no memory.
+    pub fn empty(alloc: Global) -> Outline
+        ensures none { result ≡ record { input = []; output = []; feature = [] } }
+        ensures tiled { IsTiled (listed result) }
+    {
+        Outline {
+            reports: OutlineReports::new(alloc),
+        }
+    }
+
     /// Parses the bytes of a report descriptor by options, without a list of its fields
     /// (Section 6.2.2).
     ///

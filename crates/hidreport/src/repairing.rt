@@ -1,9 +1,10 @@
 //! Descriptors that hosts accept, made such as are read.
-ghost use Rattle.std.specs.Prelude.{◌≡◌, ◌≢◌, ℕ, [], false, Err, IfOk, IsOk, IsTrue, None, Ok};
+ghost use Rattle.std.specs.Prelude.{◌≡◌, ◌≢◌, ◌⊎◌, ℕ, [], false, Err, IfErr, IfOk, IsOk, IsTrue, None, Ok};
 ghost use Rattle.hidreport_lists.specs.Answer.{AnswersBy};
 ghost use Rattle.hidreport.specs.Options.{parse_as};
-ghost use Rattle.hidreport.specs.Repair.{repaired, repaired_view};
+ghost use Rattle.hidreport.specs.Repair.{mending, repaired, repaired_view};
 ghost use Rattle.hidreport.specs.RepairLaws.{IsRepairOf, KeepsBits, RebuildsAlike, StaysRepaired};
+ghost use Rattle.hidreport.specs.Taken.{IsOfLimits, IsReadIfAny, IsTakenByHosts, LeavesNothing};
 
 mod change;
 mod mending;
@@ -66,11 +67,50 @@ pub fn repair(alloc: Global, bytes: &[u8], options: RepairOptions) -> Result<Rep
     ensures accepted { IfOk result (λ repaired. IsOk (parse_as options.parse repaired.bytes.items)) }
     ensures again { IfOk result (λ repaired. StaysRepaired options (repaired_view repaired)) }
     ensures rebuilt { IfOk result (λ repaired. RebuildsAlike options (repaired_view repaired)) }
+    ensures taken { IsTakenByHosts options bytes.now → IfErr result
+        (λ e. IsOfLimits e ⊎ LeavesNothing (mending options bytes.now)) }
     ensures own_bytes { result ≢ Err ParserError.MismatchingReportId }
     ensures unlimited { options.parse.limit ≡ None → options.parse.longest ≡ None
         → (offset : ℕ) → result ≢ Err (ParserError.BudgetExceeded offset) }
 {
     mended(alloc, bytes, options)
+}
+
+/// Mends a descriptor as `repair` does, and doesn't ask whether what is written is read.
+///
+/// What hosts take is mended, and what is written of it is read by the same options, unless a limit
+/// refuses it, or nothing of it is left, as of `00` (`taken`, `read`).
+///
+/// # Errors
+///
+/// - `BudgetExceeded` with the number `longest`: there are more bytes than that.
+/// - `InvalidData` at the item's offset, `Insufficient data`: an item is cut short, and it isn't
+///   left out.
+/// - The first fault of meaning that stays, as `repair` says it; without `limit` and `longest` it is
+///   no `BudgetExceeded` (`unlimited`).
+/// - `OutOfMemory`: memory is refused; this says nothing of the bytes.
+pub fn mend(alloc: Global, bytes: &[u8], options: RepairOptions) -> Result<Repaired, ParserError>
+    ensures exact { AnswersBy repaired_view result (mending options bytes.now) }
+    ensures taken { IsTakenByHosts options bytes.now → IfErr result IsOfLimits }
+    ensures read { IsTakenByHosts options bytes.now
+        → IfOk result (λ mended. IsReadIfAny options.parse mended.bytes.items) }
+    ensures unlimited { options.parse.limit ≡ None → options.parse.longest ≡ None
+        → (offset : ℕ) → result ≢ Err (ParserError.BudgetExceeded offset) }
+{
+    mend_whole(alloc, bytes, options)
+}
+
+/// What `mend` answers, by the definition alone.
+fn mend_whole(alloc: Global, bytes: &[u8], options: RepairOptions) -> Result<Repaired, ParserError>
+    ensures { AnswersBy repaired_view result (mending options bytes.now) }
+{
+    if let Some(offset) = options.parse.past_longest(bytes.len()) {
+        return Err(ParserError::BudgetExceeded { offset });
+    }
+    let mut pieces = pieces(alloc, bytes, options.leave_out_cut_short)?;
+    mend_all(alloc, pieces.as_mut_slice(), options)?;
+    let mended = Repaired::of(alloc, pieces.as_slice())?;
+    Ok(mended)
 }
 
 /// What `repair` answers, by the definition alone: what is read needs no repair; of all else each
@@ -82,12 +122,7 @@ fn mended(alloc: Global, bytes: &[u8], options: RepairOptions) -> Result<Repaire
         let unchanged = Repaired::unchanged(alloc, bytes)?;
         return Ok(unchanged);
     }
-    if let Some(offset) = options.parse.past_longest(bytes.len()) {
-        return Err(ParserError::BudgetExceeded { offset });
-    }
-    let mut pieces = pieces(alloc, bytes, options.leave_out_cut_short)?;
-    mend_all(alloc, pieces.as_mut_slice(), options)?;
-    let repaired = Repaired::of(alloc, pieces.as_slice())?;
+    let repaired = mend_whole(alloc, bytes, options)?;
     Outline::try_from_with(alloc, repaired.bytes.as_slice(), options.parse)?;
     Ok(repaired)
 }

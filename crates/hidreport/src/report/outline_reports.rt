@@ -31,9 +31,20 @@ impl Model for OutlineReports {
 }
 
 impl OutlineReports {
-    ghost use Rattle.std.specs.Prelude.{◌≡◌, IfOk, option_copied};
+    ghost use Rattle.std.specs.Prelude.{◌≡◌, [], IfOk, option_copied};
     ghost use Rattle.hidreport.specs.Groups.{listed};
     ghost use Rattle.hidreport_fields.specs.Lookup.{find_report, reports_of};
+
+    /// There are none.
+    pub(crate) fn new(alloc: Global) -> OutlineReports
+        ensures { result ≡ record { input = []; output = []; feature = [] } }
+    {
+        OutlineReports {
+            input: Vec::new(alloc),
+            output: Vec::new(alloc),
+            feature: Vec::new(alloc),
+        }
+    }
 
     /// Those of a direction.
     pub(crate) fn of(&self, direction: Direction) -> &[OutlineReport]

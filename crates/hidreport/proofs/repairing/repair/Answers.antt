@@ -7,6 +7,7 @@ use Rattle.hidreport.proofs.RepairAgainLemmas.{answer-rebuilds, answer-stays}
 use Rattle.hidreport.proofs.RepairBitsLemmas.{repair-keeps-bits}
 use Rattle.hidreport.proofs.RepairLawLemmas.{repair-so}
 use Rattle.hidreport.proofs.RepairRefusalLemmas.{repair-no-mismatch, repair-unlimited}
+use Rattle.hidreport.proofs.TakenAnswerLemmas.{mended-well, repaired-refused}
 use Rattle.hidreport.proofs.UntouchedLemmas.{accepts-answer, untouched-ok}
 use Rattle.hidreport.proofs.repairing.repair.Goals as goal
 
@@ -45,3 +46,8 @@ returns-clause-rebuilt c = answer-rebuilds c.args.options c.mended.result
 pub returns-clause-unlimited : goal.returns-clause-unlimited
 returns-clause-unlimited c = λ none any offset. repair-unlimited c.args.options c.args.bytes.now
     c.mended.result c.mended.ensures none any offset
+
+pub returns-clause-taken : goal.returns-clause-taken
+returns-clause-taken c = λ taken. repaired-refused c.args.options c.args.bytes.now
+    c.mended.result c.mended.ensures (mended-well c.args.options c.args.bytes.now
+    (are_bytes c.args.bytes.now (λ i. omega (arith, c.type_inv.bytes i))) taken)
