@@ -4,8 +4,8 @@ functions answered to some two thousand.
 
     as_linux.py HID: asks `hid check --for linux` and `hid fields` of each.
 
-Of a descriptor that hid-core refuses the item's offset is the same. Of one that it takes each field that
-has usages is the same: its direction, report, bits, kind, bounds and usages. Where `hid` says that Linux
+Of a descriptor that hid-core refuses the item's offset is the same. One that it takes is read, and each
+field that has usages is the same: its direction, report, bits, kind, bounds and usages. Where `hid` says that Linux
 may read it otherwise, that counts apart. Of each kind of number one answer is spoilt, which is noticed.
 """
 
@@ -105,12 +105,14 @@ def wanted_of(parts):
     return sorted(rows, key=lambda row: row[:4])
 
 
-def ask(words, given):
+def ask(words, given, limit="4000000"):
+    """What `hid` says, what else it says, and its status."""
     ran = subprocess.run(
-        [program, *words, "--form", "bytes", "--json", "--limit", "4000000", "-"],
+        [program, *words, "--form", "bytes", "--json", "--limit", limit, "-"],
         input=given, capture_output=True, check=False, close_fds=False,
     )
-    return [json.loads(line) for line in ran.stdout.decode().splitlines()], ran.stderr.decode()
+    objects = [json.loads(line) for line in ran.stdout.decode().splitlines()]
+    return objects, ran.stderr.decode(), ran.returncode
 
 
 def own_usages(field):
@@ -157,9 +159,11 @@ def spoilt(row, index):
     return tuple(row)
 
 
-def compare_fields(about, given, parts):
+def compare_fields(about, given, parts, limit="4000000"):
     """What is wrong, and how it counts."""
-    objects, said = ask(["fields"], given)
+    objects, said, status = ask(["fields"], given, limit)
+    if status != 0:
+        return "fields", [f"{about}: hid ends with {status}, hid-core takes it: {said.strip()}"]
     if "may read it otherwise" in said:
         return "told", []
     is_cut = any("too many fields" in part or "exceeding usage max" in part for part in parts)
@@ -182,7 +186,7 @@ def compare_fields(about, given, parts):
 def compare(line):
     word, kind, *rest = line.rstrip("\n").split(" ", 2)
     given, rest = bytes_of(word), rest[0]
-    objects, _said = ask(["check", "--for", "linux"], given)
+    objects, _said, _status = ask(["check", "--for", "linux"], given)
     verdict = next((it for it in objects if "is_taken" in it), {"is_taken": None})
     if kind == "refused":
         offset = int(rest.split()[1])
@@ -215,6 +219,9 @@ def main():
     for line in SPOILT:
         if not compare(line)[1]:
             sys.exit(f"as_linux: what is spoilt is not noticed: {line}")
+    # Of what the limit refuses no field is shown, and none is wanted.
+    if not compare_fields("refused", bytes.fromhex("05010930750895018102"), [], "0")[1]:
+        sys.exit("as_linux: a refusal is not noticed")
     counts, faults = Counter(), []
     with multiprocessing.Pool() as pool:
         for kind, found in pool.imap(compare, lines, 16):

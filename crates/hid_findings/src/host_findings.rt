@@ -7,7 +7,7 @@ use hid_input::settings::Settings;
 use hid_output::add_bytes;
 use hid_report::add_title;
 use hidreport::{
-    Change, Direction, ParserError, RDescReport, Reason, Report, ReportDescriptor, repair,
+    Change, Direction, ParserError, RDescReport, Reason, Report, ReportDescriptor, mend,
 };
 use hidreport_linux::LinuxReading;
 use std::alloc::AllocError;
@@ -102,12 +102,12 @@ fn tell_linux(
     if let Some(offset) = reading.overflow() {
         tell(findings, Some(offset), OVERFLOW, Rule::LinuxOverflow)?;
     }
-    match repair(alloc, bytes, settings.repair()) {
-        Ok(repaired) => {
-            for change in repaired.changes.iter() {
+    match mend(alloc, bytes, settings.repair()) {
+        Ok(mended) => {
+            for change in mended.changes.iter() {
                 tell_change(findings, change)?;
             }
-            Ok(Verdict::Taken(repaired.changes.len()))
+            Ok(Verdict::Taken(mended.changes.len()))
         }
         Err(ParserError::OutOfMemory) => Err(AllocError),
         Err(_past_limit) => Ok(Verdict::Taken(0)),

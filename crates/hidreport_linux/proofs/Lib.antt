@@ -6,3 +6,6 @@ pub mod GivenLemmas
 pub mod PlaceLemmas
 pub mod ReadingLemmas
 pub mod ResolutionLemmas
+pub mod AgreeLemmas
+pub mod KeptLemmas
+pub mod TakenLemmas

@@ -16,7 +16,7 @@ pub read-refused : (n total h : ℕ) (bs : List ℕ) (reason : RefusalReason) (r
 read-refused n total h bs reason r enough is = rw enough (rw is refl)
 
 -- an item that is cut short is the last
-read-cut : (n total h : ℕ) (bs : List ℕ) (r : ReadingRecord)
+pub read-cut : (n total h : ℕ) (bs : List ℕ) (r : ReadingRecord)
     → nat_lt (length bs) (data_length h) ≡ true
     → read_all (suc n) total (h ∷ bs) r ≡ refused (total - length (h ∷ bs)) CutShort r
 read-cut n total h bs r short = rw short refl

@@ -1,5 +1,5 @@
 -- The items with data that Linux's hid-core keeps as fields (hid_add_field of Linux 6.12).
-use Rattle.std.specs.Prelude.{ℕ, ◌+◌, ◌-◌, ◌*◌, ◌/◌, ◌%◌, ◌^◌, ◌==◌, min, nat_lt, Bool, if◌then◌else◌, [], ◌∷◌, ◌++◌, length}
+use Rattle.std.specs.Prelude.{ℕ, ◌-◌, ◌*◌, ◌/◌, ◌%◌, ◌^◌, ◌==◌, min, nat_lt, if◌then◌else◌, [], ◌∷◌, ◌++◌, length}
 use Rattle.hidreport_fields.specs.declared.field.data_item.Direction.{Direction}
 use Rattle.hidreport_linux.specs.CoreKept.{ReadingRecord, application_in_force, around_in_force}
 use Rattle.hidreport_linux.specs.CoreReports.{report_at}

@@ -1,6 +1,6 @@
 -- What Linux's hid-core keeps while it reads a descriptor, item by item.
 use Rattle.std.specs.Prelude.{ℕ, ℤ, pos, neg_ℤ, ◌-◌, ◌^◌, ◌==◌, int_le, int_lt, nat_lt, Bool, false}
-use Rattle.std.specs.Prelude.{◌&&◌, not, if◌then◌else◌, List, [], length, Option, None, Some}
+use Rattle.std.specs.Prelude.{◌&&◌, if◌then◌else◌, List, [], length, Option, None, Some}
 use Rattle.std.specs.Int.{w32, cast_signed, cast_unsigned}
 use Rattle.std.specs.List.{slice_index_or}
 use Rattle.hidreport_linux.specs.CoreLocals.{LocalsRecord, no_locals}

@@ -1,9 +1,9 @@
 //! A device as Linux reads its descriptor.
-ghost use Rattle.std.specs.Prelude.{◌≡◌};
+ghost use Rattle.std.specs.Prelude.{◌≡◌, ◌≢◌, ℕ, Err, None};
 ghost use Rattle.hidreport.specs.Groups.{listed};
 ghost use Rattle.hidreport_lists.specs.Answer.{Answers, AnswersBy};
 ghost use Rattle.hidreport_lists.specs.declared.error.ParserError.TheVariants.{OutOfMemory};
-ghost use Rattle.hidreport_linux.specs.LinuxDevice.{linux_options, linux_outline, linux_parse};
+ghost use Rattle.hidreport_linux.specs.LinuxDevice.{linux_options, linux_outline, linux_parse, outline_mended, parse_mended};
 ghost use Rattle.hidreport_linux.specs.declared.linux_device.LinuxRefusal.TheVariants.{Unread};
 
 use crate::input_devices::InputDevices;
@@ -11,8 +11,7 @@ use crate::reading::LinuxReading;
 use crate::reading::placed::Refusal;
 use crate::reading::reasons::RefusalReason;
 use hidreport::{
-    Change, Outline, ParseOptions, ParserError, PushKeeps, RepairOptions, Repaired, UsagesBy,
-    repair,
+    Change, Outline, ParseOptions, ParserError, PushKeeps, RepairOptions, Repaired, UsagesBy, mend,
 };
 use std::alloc::{AllocError, Global};
 use std::marker::Model;
@@ -77,14 +76,17 @@ impl Model for LinuxDevice {
 }
 
 impl LinuxDevice {
-    ghost use Rattle.std.specs.Prelude.{◌≡◌, map};
+    ghost use Rattle.std.specs.Prelude.{◌≡◌, ◌≤◌, IfErr, length, map};
     ghost use Rattle.hidreport.specs.Repair.{change_view};
     ghost use Rattle.hidreport_linux.specs.CoreReading.{unmapped_in};
     ghost use Rattle.hidreport_linux.specs.Devices.{no_devices};
-    ghost use Rattle.hidreport_linux.specs.LinuxDevice.{LinuxAnswers};
+    ghost use Rattle.hidreport_linux.specs.LinuxDevice.{IsOfLinux, LinuxAnswers};
 
     /// Reads a descriptor as Linux does, where listing it weighs no more than a limit, if there is
     /// one (see `ParseOptions::limit`).
+    ///
+    /// Each descriptor of at most 65,536 bytes that Linux takes is read, unless the limit or memory
+    /// refuses it (`read`); Linux itself takes at most 4,096.
     ///
     /// # Errors
     ///
@@ -109,14 +111,15 @@ impl LinuxDevice {
         limit: Option<usize>,
     ) -> Result<LinuxDevice, LinuxRefusal>
         ensures exact { LinuxAnswers limit bytes.now result }
+        ensures read { length bytes.now ≤ 65536 → IfErr result (IsOfLinux limit) }
     {
         let reading = LinuxReading::of(alloc, bytes)?;
         if let Some(Refusal { offset, reason }) = reading.refusal() {
             return Err(LinuxRefusal::Refused { offset, reason });
         }
         let options = linux_options(limit);
-        let repaired = repair(alloc, bytes, options)?;
-        let outline = Outline::try_from_with(alloc, repaired.bytes.as_slice(), options.parse)?;
+        let repaired = mend(alloc, bytes, options)?;
+        let outline = outline_of(alloc, repaired.bytes.as_slice(), options.parse)?;
         Ok(LinuxDevice {
             reading,
             repaired,
@@ -196,9 +199,22 @@ pub fn outline_as_linux(
         return Err(refusal.error(alloc));
     }
     let options = linux_options(limit);
-    let repaired = repair(alloc, bytes, options)?;
-    let outline = Outline::try_from_with(alloc, repaired.bytes.as_slice(), options.parse)?;
+    let repaired = mend(alloc, bytes, options)?;
+    let outline = outline_of(alloc, repaired.bytes.as_slice(), options.parse)?;
     Ok(outline)
+}
+
+/// The reports of a mended descriptor; of one of which nothing is left there are none.
+fn outline_of(alloc: Global, bytes: &[u8], options: ParseOptions) -> Result<Outline, ParserError>
+    ensures exact { Answers result (outline_mended options bytes.now) }
+    ensures listed { AnswersBy listed result (parse_mended options bytes.now) }
+    ensures unlimited { options.limit ≡ None → options.longest ≡ None
+        → (offset : ℕ) → result ≢ Err (ParserError.BudgetExceeded offset) }
+{
+    if bytes.is_empty() {
+        return Ok(Outline::empty(alloc));
+    }
+    Outline::try_from_with(alloc, bytes, options)
 }
 
 /// The options by which Linux's reading is put together: maxima without a sign, a Push of global

@@ -1,4 +1,4 @@
-use Rattle.std.proofs.Common.{subst, sym}
+use Rattle.std.proofs.Common.{subst}
 use Rattle.hidreport_linux.specs.FieldDevices.{GoesOver}
 use Rattle.hidreport_linux.specs.FieldOrder.{usages_left}
 use Rattle.hidreport_linux.specs.declared.reading.field_usages.FieldUsages.{FieldUsages}
