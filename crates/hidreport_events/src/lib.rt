@@ -24,6 +24,7 @@ mod sending;
 mod source;
 mod tool;
 mod turning;
+mod volume_steps;
 
 pub use errors::EventsError;
 pub use event_reader::{EventReader, ReportEvents};

@@ -1,6 +1,6 @@
 //! What an input device holds, and what it hands on.
-ghost use Rattle.std.specs.Prelude.{◌≡◌};
-ghost use Rattle.hidreport_events.specs.Senders.{drawn, is_near_by, middle, mostly, steadied};
+mod filtering;
+mod steady;
 
 use crate::input_event::InputEvent;
 use hidreport_linux::{EventCode, EventType};
@@ -119,7 +119,7 @@ impl Model for Sender {
 
 impl Sender {
     ghost use Rattle.std.specs.Prelude.{◌≡◌, OnOk};
-    ghost use Rattle.hidreport_events.specs.Senders.{axis_at, behind_axis, behind_key, behind_lamp, behind_motion, ended, fuzz_at, holding, is_down, new_sender, is_lit, put, sends, synced, tool_in, with_axis, with_axis_code, with_code, with_fuzz, with_key, with_lamp, with_motion_code, without_sent};
+    ghost use Rattle.hidreport_events.specs.Senders.{axis_at, ended, fuzz_at, holding, is_down, new_sender, is_lit, put, synced, tool_in, with_axis, with_axis_code, with_code, with_fuzz, with_key, with_lamp, with_motion_code, without_sent};
 
     /// One without codes, with all keys up and all axes at 0.
     pub(crate) fn new(alloc: Global) -> Sender
@@ -313,120 +313,4 @@ impl Sender {
     {
         mem::replace(&mut self.sent, Vec::new(alloc))
     }
-
-    /// Takes an event, and hands it on where it says something new.
-    #[tactic(auto, unfolding(crate::specs::Senders::sends))]
-    pub(crate) fn send(&mut self, code: EventCode, value: i32) -> Result<(), AllocError>
-        ensures { OnOk result (self.new ≡ sends code value self.old) }
-    {
-        match code.event_type {
-            EventType::Key => self.send_key(code, value),
-            EventType::Relative => self.send_motion(code, value),
-            EventType::Absolute => self.send_axis(code, value),
-            EventType::Other => self.put(code, value),
-            EventType::Led => self.send_lamp(code, value),
-        }
-    }
-
-    /// A key: 2 is one that is held down, which changes nothing.
-    fn send_key(&mut self, code: EventCode, value: i32) -> Result<(), AllocError>
-        ensures { OnOk result (self.new ≡ behind_key code value self.old) }
-    {
-        if value == 2 {
-            return self.put(code, value);
-        }
-        let down = value != 0;
-        if self.is_down(code.number) == down {
-            return Ok(());
-        }
-        self.set_key(code.number, down);
-        self.put(code, value)
-    }
-
-    /// A movement, which is none where it is 0.
-    fn send_motion(&mut self, code: EventCode, value: i32) -> Result<(), AllocError>
-        ensures { OnOk result (self.new ≡ behind_motion code value self.old) }
-    {
-        if value == 0 {
-            return Ok(());
-        }
-        self.put(code, value)
-    }
-
-    /// A place, which is kept where it is close to the last one.
-    fn send_axis(&mut self, code: EventCode, value: i32) -> Result<(), AllocError>
-        ensures { OnOk result (self.new ≡ behind_axis code value self.old) }
-    {
-        let before = self.axis_at(code.number);
-        let value = steadied(value, before, self.fuzz_at(code.number));
-        if value == before {
-            return Ok(());
-        }
-        self.set_axis(code.number, value);
-        self.put(code, value)
-    }
-
-    /// A lamp.
-    fn send_lamp(&mut self, code: EventCode, value: i32) -> Result<(), AllocError>
-        ensures { OnOk result (self.new ≡ behind_lamp code value self.old) }
-    {
-        let lit = value != 0;
-        if self.is_lit(code.number) == lit {
-            return Ok(());
-        }
-        self.set_lamp(code.number, lit);
-        self.put(code, value)
-    }
-}
-
-/// A place behind the last one, by how much its axis may tremble: close to it, it is the last one.
-#[tactic(auto, unfolding(crate::specs::Senders::steadied))]
-fn steadied(value: i32, before: i32, fuzz: i32) -> i32
-    ensures { result ≡ steadied value before fuzz }
-{
-    if fuzz == 0 {
-        return value;
-    }
-    if is_near_by(value, before, fuzz / 2) {
-        return before;
-    }
-    drawn(value, before, fuzz)
-}
-
-/// A place that is drawn to the last one, the nearer the more.
-#[tactic(auto, unfolding(crate::specs::Senders::drawn))]
-fn drawn(value: i32, before: i32, fuzz: i32) -> i32
-    ensures { result ≡ drawn value before fuzz }
-{
-    if is_near_by(value, before, fuzz) {
-        return mostly(before, value);
-    }
-    if is_near_by(value, before, fuzz.wrapping_mul(2)) {
-        return middle(before, value);
-    }
-    value
-}
-
-/// Three parts of a place and one of another, in 32 bits.
-#[tactic(auto, unfolding(crate::specs::Senders::mostly))]
-fn mostly(one: i32, other: i32) -> i32
-    ensures { result ≡ mostly one other }
-{
-    one.wrapping_mul(3).wrapping_add(other) / 4
-}
-
-/// The middle of two places, in 32 bits.
-#[tactic(auto, unfolding(crate::specs::Senders::middle))]
-fn middle(one: i32, other: i32) -> i32
-    ensures { result ≡ middle one other }
-{
-    one.wrapping_add(other) / 2
-}
-
-/// Whether a place is nearer to another than this.
-#[tactic(auto, unfolding(crate::specs::Senders::is_near_by))]
-fn is_near_by(value: i32, other: i32, by: i32) -> bool
-    ensures { result ≡ is_near_by value other by }
-{
-    value > other.wrapping_sub(by) && value < other.wrapping_add(by)
 }

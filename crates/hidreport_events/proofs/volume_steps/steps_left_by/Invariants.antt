@@ -1,6 +1,6 @@
 use Rattle.std.proofs.Common.{◌≡◌, drop}
 use Rattle.hidreport_events.specs.Readers.{steps_left_by}
-use Rattle.hidreport_events.proofs.event_reader.steps_left_by.Given as goal
+use Rattle.hidreport_events.proofs.volume_steps.steps_left_by.Given as goal
 
 -- what is left behind the fields so far is left for those behind them
 abbrev pub invariant-loop-field : goal.invariant-loop-field

@@ -1,7 +1,7 @@
 use Rattle.std.proofs.Common.{◌≡◌, drop}
 use Rattle.hidreport_events.specs.Readers.{steps_from, steps_left}
 use Rattle.hidreport_events.specs.Reports.{own_sources, own_values}
-use Rattle.hidreport_events.proofs.event_reader.steps_left.Given as goal
+use Rattle.hidreport_events.proofs.volume_steps.steps_left.Given as goal
 
 -- what is left behind those so far is left for those behind them
 abbrev pub invariant-loop-index : goal.invariant-loop-index
