@@ -9,3 +9,4 @@ pub mod PieceLemmas
 pub mod RelationLemmas
 pub mod ScaleLemmas
 pub mod StandingLemmas
+pub mod TakenLemmas

@@ -8,6 +8,7 @@ use Rattle.hidreport.specs.ItemType.TheVariants as item
 use Rattle.hidreport.specs.MainItem.TheVariants as main
 use Rattle.hidreport.specs.Options.{default_options, globals_only_options}
 use Rattle.hidreport.specs.Repair.{ChangeRecord, RepairedRecord}
+use Rattle.hidreport.specs.declared.parser.usages_by.UsagesBy.TheVariants as usages_by
 use Rattle.hidreport.specs.declared.repairing.repair_options.RepairOptions.{RepairOptions}
 use Rattle.hidreport_definitions.specs.Hex.{hex}
 
@@ -36,6 +37,12 @@ as_hid_core = record {
 -- the same where a Push keeps globals alone
 abbrev pub by_globals : RepairOptions
 by_globals = record as_hid_core { parse = globals_only_options }
+
+-- and usages are as hosts find them
+abbrev pub by_hosts : RepairOptions
+by_hosts = record as_hid_core {
+  parse = record globals_only_options { usages = usages_by.Hosts };
+}
 
 -- an Input and an Output with the flags of a number
 abbrev pub input : ℕ → ItemType

@@ -38,6 +38,7 @@ pub mod scaling;
 pub mod segments;
 pub mod spelling;
 pub mod standing;
+pub mod taken;
 pub mod tiling;
 pub mod units;
 pub mod untiled;
