@@ -73,11 +73,19 @@ pub fn show_made_bits<R: AllocGlobal + Print>(
     sheet: &mut Sheet,
 ) -> Result<()> {
     sheet.begin("made")?;
-    let placed = PlacedOutline::try_from_with(rt.alloc(), bytes, settings.parse)?;
+    let placed = placed_outline(rt.alloc(), settings, bytes)?;
     let made = made_bits(rt.alloc(), &placed, sheet.left_out.most.items)?;
     for object in &made {
         add_json(&mut sheet.lines, object)?;
         sheet.take(rt)?;
     }
     Ok(sheet.end()?)
+}
+
+/// The outline of a descriptor that is read; of one of which nothing was left there is nothing.
+fn placed_outline(alloc: Global, settings: &Settings, bytes: &[u8]) -> Result<PlacedOutline> {
+    if bytes.is_empty() {
+        return Ok(PlacedOutline::empty(alloc));
+    }
+    Ok(PlacedOutline::try_from_with(alloc, bytes, settings.parse)?)
 }

@@ -43,6 +43,10 @@ impl<'a> Page<'a> {
                 Err(Unread::Fault(fault)) => return self.show_fault(rt, settings, &given, fault),
             }
         }
+        if settings.reads_as_linux() && given.descriptor().is_empty() {
+            let none = ReportDescriptor::empty(rt.alloc());
+            return self.show_read(rt, settings, &given, &none);
+        }
         match ReportDescriptor::try_from_with(rt.alloc(), given.descriptor(), settings.parse) {
             Ok(descriptor) => self.show_read(rt, settings, &given, &descriptor),
             Err(fault) => self.show_fault(rt, settings, &given, fault),

@@ -13,13 +13,17 @@ pub(crate) struct ItemOffsets<'a> {
 }
 
 impl<'a> ItemOffsets<'a> {
-    /// Those of a descriptor in which these changes were made.
+    /// Those of a descriptor in which these changes were made, which may have left nothing.
     pub(crate) fn of(
         alloc: Global,
         settings: &Settings,
         bytes: &[u8],
         changes: &'a [Change],
     ) -> Result<ItemOffsets<'a>> {
+        if bytes.is_empty() && !changes.is_empty() {
+            let placed = PlacedOutline::empty(alloc);
+            return Ok(ItemOffsets { placed, changes });
+        }
         match PlacedOutline::try_from_with(alloc, bytes, settings.parse) {
             Ok(placed) => Ok(ItemOffsets { placed, changes }),
             Err(fault) => Err(with_advice(alloc, settings, bytes, fault)),

@@ -1,5 +1,5 @@
 //! Report descriptors, their fields in groups, each with the place of its item.
-ghost use Rattle.std.specs.Prelude.{◌≡◌, IfOk};
+ghost use Rattle.std.specs.Prelude.{◌≡◌, [], IfOk};
 ghost use Rattle.hidreport_lists.specs.Answer.{AnswersBy};
 ghost use Rattle.hidreport.specs.ItemPlaces.{place_of, places_in};
 ghost use Rattle.hidreport.specs.Outline.{outline_as};
@@ -31,6 +31,19 @@ impl Model for PlacedOutline {
 }
 
 impl PlacedOutline {
+    /// One without reports; takes no memory.
+    pub fn empty(alloc: Global) -> PlacedOutline
+        ensures { result ≡ record {
+          outline = record { input = []; output = []; feature = [] };
+          places = [];
+        } }
+    {
+        PlacedOutline {
+            outline: Outline::empty(alloc),
+            places: Vec::new(alloc),
+        }
+    }
+
     /// Parses the bytes of a report descriptor by options, as `Outline::try_from_with` does, and keeps
     /// where the item of each group stands.
     ///

@@ -1,6 +1,6 @@
 -- What hosts take isn't refused for what its items are.
-use Rattle.std.proofs.Common.{◌≡◌, ℕ, false, true, List, filter_map, Result, Ok, Err, ap, sym, ◌∙◌}
-use Rattle.hidreport_items.specs.Answer.{GrammarFault}
+use Rattle.std.proofs.Common.{◌≡◌, ℕ, false, List, filter_map, Ok, Err, ap, sym, ◌∙◌}
+use Rattle.hidreport.specs.ItemAnswer.{GrammarFault}
 use Rattle.hidreport_lists.specs.Mending.{PieceRecord, item_in, pieces}
 use Rattle.hidreport.specs.Taken.{IsTakenByHosts, are_taken}
 use Rattle.hidreport.specs.declared.parser.usages_by.UsagesBy.TheVariants as usages_by
