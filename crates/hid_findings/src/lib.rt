@@ -17,6 +17,7 @@ mod rule;
 mod rule_row;
 mod severity;
 mod source;
+mod windows_items;
 mod windows_reading;
 mod windows_refusal;
 

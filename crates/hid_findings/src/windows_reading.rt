@@ -2,8 +2,9 @@
 //! Others of its rules aren't known.
 use crate::finding::{Finding, tell};
 use crate::local_usages::LocalUsages;
+use crate::windows_items::WindowsItems;
 use crate::windows_refusal::WindowsRefusal;
-use hid_items::items::{ItemCursor, ItemState, PlacedItem};
+use hid_items::items::{ItemState, PlacedItem};
 use hidreport::hid::{GlobalItem, ItemFlags, ItemType, LocalItem, MainItem};
 use std::alloc::{AllocError, Global};
 use std::fmt::Write;
@@ -65,13 +66,13 @@ impl WindowsReading {
     }
 
     fn pass_all(&mut self, bytes: &[u8]) -> Result<(), AllocError> {
-        let mut cursor = ItemCursor::new(bytes);
-        for entry in cursor.by_ref() {
+        let mut items = WindowsItems::new(bytes);
+        for entry in items.by_ref() {
             self.pass(&entry)?;
             self.state.pass(&entry)?;
         }
         if self.collections == 0 {
-            self.refuse(cursor.offset(), WindowsRefusal::NoData)?;
+            self.refuse(items.offset(), WindowsRefusal::NoData)?;
         }
         Ok(())
     }
