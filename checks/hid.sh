@@ -3,10 +3,11 @@
 # The program `hid` from outside: its stored runs, by both compilers' programs; its options and those of
 # HIDREPORT in all texts that have them; devices; the samples of the documents (of HIDREPORT, too); the
 # names that shells complete; that what it writes is read back, also by programs of four languages; the
-# pages of `hid page`; bounds of memory and time; the same answers as the library's (CASES is the program that `checks/library/tests.sh --keep
-# CASES` builds), the same event codes as a model of Linux's and the same collections as one of WebHID's;
-# and what it says beside TShark and lsusb. The parts lie in hid/; they go side by side in lanes, and what
-# each lane says is shown once it has ended.
+# pages of `hid page`; bounds of memory and time; the same answers as the library's (CASES is the program
+# that `checks/library/tests.sh --keep CASES` builds), the same event codes as a model of Linux's and the
+# same collections as one of WebHID's; what Windows refuses, beside Wine; and what it says beside TShark and
+# lsusb. The parts lie in hid/; they go side by side in lanes, and what each lane says is shown once it has
+# ended.
 set -eu
 export LC_ALL=C
 hid=$1 other=$2 hidreport=$3 cases=$4
@@ -36,6 +37,7 @@ answered() {
         python3 "$parts/as_linux.py" "$hid"
         python3 "$top/compare/linux_readings.py" model
         python3 "$top/compare/linux_input.py" compare "$hid"
+        python3 "$top/compare/windows_readings.py" compare "$hid"
         python3 "$top/compare/linux_events.py" "$hid"
         python3 "$top/compare/webhid.py" "$hid"
     else

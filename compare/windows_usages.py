@@ -90,4 +90,5 @@ def main():
     sys.exit(differing != 0 or count == 0)
 
 
-main()
+if __name__ == "__main__":
+    main()
