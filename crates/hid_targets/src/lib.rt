@@ -15,10 +15,10 @@ use crate::source::Source;
 use crate::webhid::collections_of;
 use anyhow::Result;
 use hid_input::parsing::parsed;
-use hid_input::settings::Settings;
+use hid_input::settings::{ReadAs, Settings};
 use hid_output::{add_bytes, flush, flush_piece, show_bytes};
 pub use report_target::{ReportTarget, report_targets};
-use std::alloc::AllocError;
+use std::alloc::{AllocError, Global};
 use std::fmt::Write;
 
 /// The names of the targets; a report may be written as the first `OF_REPORTS`.
@@ -104,13 +104,18 @@ impl Target {
             Target::Source(source) => source.write(rt, bytes)?,
             Target::HidBpf => write_bpf(rt, bytes)?,
             Target::Libinput => add_libinput(rt, &mut text, bytes)?,
-            Target::WebHid => {
-                parsed(rt.alloc(), settings, bytes)?;
-                text = collections_of(rt.alloc(), bytes)?;
-            }
+            Target::WebHid => text = read_collections(rt.alloc(), settings, bytes)?,
         }
         flush(rt, &mut text)
     }
+}
+
+/// The collections of a descriptor that is read; where mending left nothing of it, it has none.
+fn read_collections(alloc: Global, settings: &Settings, bytes: &[u8]) -> Result<String> {
+    if settings.read_as != Some(ReadAs::Linux) || !bytes.is_empty() {
+        parsed(alloc, settings, bytes)?;
+    }
+    collections_of(alloc, bytes)
 }
 
 /// Writes bytes as they are.
