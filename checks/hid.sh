@@ -37,12 +37,17 @@ answered() {
         python3 "$parts/as_linux.py" "$hid"
         python3 "$top/compare/linux_readings.py" model
         python3 "$top/compare/linux_input.py" compare "$hid"
+        python3 "$top/compare/linux_lamps.py" compare "$hid"
         python3 "$top/compare/windows_readings.py" compare "$hid"
         python3 "$top/compare/linux_events.py" "$hid"
         python3 "$top/compare/webhid.py" "$hid"
     else
         echo 'hid: no `python3` on the path, so `hid`, the library and the models are not asked the same'
     fi
+}
+
+kernel() {
+    bash "$parts/kernel.sh" "$hid"
 }
 
 structs() {
@@ -61,6 +66,7 @@ beside() {
 lane shown shown
 lane written written
 lane answered answered
+lane kernel kernel
 lane structs structs
 lane beside beside
 end_lanes

@@ -2,7 +2,8 @@
 """`hid` takes and reads descriptors as Linux's hid-core does: compare/linux_readings.txt has what its own
 functions answered to some two thousand.
 
-    as_linux.py HID: asks `hid check --for linux` and `hid fields` of each.
+    as_linux.py HID [ANSWERS]: asks `hid check --for linux` and `hid fields` of each, or of those in another
+    file, as `compare/linux_readings.py SOURCES made` prints it.
 
 Of a descriptor that hid-core refuses the item's offset is the same. One that it takes is read, and each
 field that has usages is the same: its direction, report, bits, kind, bounds and usages. Where `hid` says that Linux
@@ -215,7 +216,8 @@ SPOILT = (
 def main():
     global program
     program = str(pathlib.Path(sys.argv[1]).resolve())
-    lines = [it for it in READINGS.read_text().splitlines() if it and not it.startswith("#")]
+    answers = pathlib.Path(sys.argv[2]) if len(sys.argv) > 2 else READINGS
+    lines = [it for it in answers.read_text().splitlines() if it and not it.startswith("#")]
     for line in SPOILT:
         if not compare(line)[1]:
             sys.exit(f"as_linux: what is spoilt is not noticed: {line}")

@@ -20,7 +20,7 @@ typedef uint64_t u64, __u64;
 typedef unsigned int gfp_t;
 typedef int spinlock_t, wait_queue_head_t, pm_message_t;
 
-struct work_struct { int none; };
+struct work_struct { void (*call)(struct work_struct *); };
 struct semaphore { int none; };
 struct mutex { int none; };
 struct kref { int none; };

@@ -1,6 +1,7 @@
 /* ask_input [--buffer BYTES] < LINES: says the input events that Linux sends for reports of a device which
  * hid-generic drives. A line is a report descriptor in hexadecimal digits, and input reports, each behind a
- * space, with the id's byte first where reports have ids. The answer is a line of JSON.
+ * space, with the id's byte first where reports have ids. In the place of a report may stand a lamp that a
+ * program sets, as `led:DEVICE:CODE:VALUE` in decimal digits. The answer is a line of JSON.
  *
  * Refused: {"refused": the message, "item", "offset", "group"}, as `ask` has it.
  *
@@ -20,6 +21,17 @@
 struct event { unsigned int device, type, code; int value; };
 static struct event *events;
 static size_t event_count, event_room;
+
+/* The last output report, and how many bytes it has; -1 where there is none. */
+static u8 written[16 * 1024 + 8];
+static int written_size;
+
+int shim_write(const u8 *bytes, unsigned int size)
+{
+    memcpy(written, bytes, size);
+    written_size = size;
+    return size;
+}
 
 void input_pass_values(struct input_dev *device, struct input_value *values, unsigned int count)
 {
@@ -48,37 +60,108 @@ static void print_devices(const struct hid_device *device)
     putchar(']');
 }
 
-/* The events of a report; whether the kernel goes on behind it. */
-static bool print_events(struct hid_device *device, const u8 *bytes, unsigned int size)
+/* Has the kernel take the bytes of a report; whether it is taken. */
+static bool take_report(struct hid_device *device, const u8 *bytes, unsigned int size)
 {
     /* Behind a report's bytes there is room as in the kernel, where buffers hold all that is looked at. */
     static u8 *report;
-    size_t i;
 
     free(report);
     report = memcpy(shim_zeros(size + 8, 1), bytes, size);
-    event_count = said_count = 0;
-    if (sigsetjmp(stopped, 1)) {
-        printf("\"stopped\"");
-        return false;
+    return hid_input_report(device, HID_INPUT_REPORT, report, size, 1) >= 0;
+}
+
+/* Has it take a lamp that a program sets: DEVICE:CODE:VALUE; whether there is such an input device. */
+static bool take_lamp(struct hid_device *device, const char *word)
+{
+    const struct hid_input *input;
+    unsigned int number, code;
+    int value;
+
+    if (sscanf(word, "%u:%u:%d", &number, &code, &value) != 3)
+        exit(2);
+    list_for_each_entry(input, &device->inputs, list) {
+        if (input->input->dev.number == number) {
+            input_event(input->input, EV_LED, code, value);
+            input_event(input->input, EV_SYN, SYN_REPORT, 0);
+            return true;
+        }
     }
-    if (hid_input_report(device, HID_INPUT_REPORT, report, size, 1) < 0) {
+    return false;
+}
+
+/* What waits to be done. */
+static void work(void)
+{
+    struct work_struct *waiting = shim_work;
+
+    shim_work = NULL;
+    if (waiting)
+        waiting->call(waiting);
+}
+
+static void print_events(bool is_taken)
+{
+    size_t i;
+
+    if (!is_taken) {
         printf("null");
-        return true;
+        return;
     }
     putchar('[');
     for (i = 0; i < event_count; i++)
         printf("%s[%u,%u,%u,%d]", i ? "," : "", events[i].device, events[i].type, events[i].code,
                events[i].value);
     putchar(']');
-    return true;
 }
 
-/* How it is taken, and the events of the reports behind it. */
+/* What is asked is a report or a lamp: what stands behind it. Prints its events; whether the kernel goes on
+ * behind them. */
+static char *print_answers_to(struct hid_device *device, char *asked, u8 *bytes, bool *goes_on)
+{
+    bool is_lamp = !strncmp(asked, "led:", 4), is_taken;
+    unsigned int size = 0;
+    char *rest = is_lamp ? asked + strcspn(asked, " \n") : take_bytes(asked, bytes, &size);
+
+    event_count = said_count = 0;
+    written_size = -1;
+    if (*goes_on && sigsetjmp(stopped, 1))
+        *goes_on = false;
+    else if (*goes_on) {
+        is_taken = is_lamp ? take_lamp(device, asked + 4) : take_report(device, bytes, size);
+        work();
+        print_events(is_taken);
+    }
+    if (!*goes_on)
+        printf("\"stopped\"");
+    return rest;
+}
+
+/* The written report behind the last question is kept as text for the end. */
+static char *add_written(char *text)
+{
+    size_t length = text ? strlen(text) : 0, i, more = written_size < 0 ? 4 : 2 * (size_t)written_size + 2;
+
+    text = shim_memory(text, length + more + 2);
+    if (length)
+        text[length++] = ',';
+    if (written_size < 0)
+        strcpy(text + length, "null");
+    else {
+        text[length++] = '"';
+        for (i = 0; i < (size_t)written_size; i++)
+            length += sprintf(text + length, "%02x", written[i]);
+        strcpy(text + length, "\"");
+    }
+    return text;
+}
+
+/* How it is taken, and the events of what stands behind it. */
 static void print_answer(struct hid_device *device, char *rest, u8 *bytes, unsigned int size)
 {
     const char *comma = "";
     bool goes_on = true;
+    char *texts = NULL;
 
     if (shim_probe(device)) {
         print_refusal(size, group_name(device->group));
@@ -89,14 +172,12 @@ static void print_answer(struct hid_device *device, char *rest, u8 *bytes, unsig
     print_devices(device);
     printf(",\"events\":[");
     for (; *rest == ' '; comma = ",") {
-        rest = take_bytes(rest + 1, bytes, &size);
         printf("%s", comma);
-        if (goes_on)
-            goes_on = print_events(device, bytes, size);
-        else
-            printf("\"stopped\"");
+        rest = print_answers_to(device, rest + 1, bytes, &goes_on);
+        texts = add_written(texts);
     }
-    printf("]}\n");
+    printf("],\"written\":[%s]}\n", texts ? texts : "");
+    free(texts);
     hid_disconnect(device);
     shim_close(device);
 }

@@ -3,6 +3,7 @@
 #include <stdarg.h>
 
 unsigned int shim_inputs;
+struct work_struct *shim_work;
 struct hidraw shim_hidraw;
 
 void shim_free_input(struct input_dev *device)

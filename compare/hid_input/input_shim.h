@@ -94,7 +94,8 @@ static inline void list_del(struct list_head *entry)
     entry->prev->next = entry->next;
 }
 
-/* Locks, time, chance and work do nothing. A key never repeats by itself. */
+/* Locks, time and chance do nothing. A key never repeats by itself. Work that is scheduled waits. */
+extern struct work_struct *shim_work;
 typedef int64_t ktime_t;
 typedef int atomic_t;
 struct timer_list { int none; };
@@ -112,8 +113,8 @@ struct timer_list { int none; };
 #define add_input_randomness(type, code, value) ((void)0)
 #define timer_setup(timer, call, flags) ((void)(timer))
 #define input_enable_softrepeat(device, delay, period) ((void)(device))
-#define INIT_WORK(work, call) ((void)(call))
-#define schedule_work(work) ((void)(work))
+#define INIT_WORK(work, function) ((work)->call = (function))
+#define schedule_work(work) (shim_work = (work))
 #define cancel_work_sync(work) ((void)(work))
 #define input_ff_event(device, type, code, value) 0
 
@@ -160,7 +161,8 @@ extern struct hidraw shim_hidraw;
 /* The device takes what is set, and answers nothing that is asked of it. */
 #define hid_hw_raw_request(device, id, bytes, size, type, request) \
     ((void)(bytes), (request) == HID_REQ_SET_REPORT ? (int)(size) : -EIO)
-#define hid_hw_output_report(device, bytes, size) ((void)(bytes), (int)(size))
+int shim_write(const unsigned char *bytes, unsigned int size);
+#define hid_hw_output_report(device, bytes, size) shim_write(bytes, size)
 #define hid_hw_open(device) 0
 #define hid_hw_close(device) ((void)(device))
 

@@ -153,6 +153,11 @@ const SET: &[Argument] = &[
         Kind::Flag,
         "Show the names that it takes, one in each line, and write no report",
     ),
+    (
+        "linux",
+        Kind::Flag,
+        "Write what Linux does where a program sets lamps, as LED_CAPSL=1; ID is -",
+    ),
 ];
 
 const CONVERT: &[Argument] = &[FILE, TARGET];

@@ -139,12 +139,7 @@ impl<'a> Command<'a> {
         match self {
             Command::Values(command) => values_conflict(command, settings.is_json),
             Command::Record(command) => record_conflict(command, settings.is_json),
-            Command::Set(command) if command.shows_names && !command.words.is_empty() => {
-                Some("--names takes no NAME=NUMBER")
-            }
-            Command::Set(command) if command.shows_names && command.keys.is_some() => {
-                Some("--names and --press can't both be met")
-            }
+            Command::Set(command) => command.conflict(),
             Command::Diff(command) if command.by_items && settings.is_json => {
                 Some("--items and --json can't both be met")
             }
@@ -158,6 +153,7 @@ impl<'a> Command<'a> {
             Command::Fields(command) => command.shows_linux,
             Command::Values(command) => command.shows_linux,
             Command::Record(command) => command.shows_linux,
+            Command::Set(command) => command.is_linux,
             _ => false,
         }
     }
@@ -278,6 +274,7 @@ fn set_of<'a>(alloc: Global, file: &'a str, matches: &ArgMatches<'a>) -> Result<
         target: ReportTarget::named(matches.get_str("to")),
         is_zero: matches.get_flag("zero"),
         shows_names: matches.get_flag("names"),
+        is_linux: matches.get_flag("linux"),
     })
 }
 

@@ -20,7 +20,7 @@ pub struct DeviceEvents {
     has_ids: bool,
     /// Whether several of its input devices send events.
     has_several: bool,
-    /// How many usages its input reports have.
+    /// How many usages its input and output reports have.
     usages: usize,
     is_json: bool,
     has_notes: bool,
@@ -146,28 +146,27 @@ fn events_within(
             is_json: settings.is_json,
             has_notes: settings.has_notes(),
         }),
-        Err(error) => Err(with_advice(error, usages, listed)),
+        Err(error) => Err(with_advice(error, listed)),
     }
 }
 
-/// Why the events of a device with so many usages aren't known, and what helps, where so much is
-/// listed before it.
-fn with_advice(error: EventsError, usages: usize, listed: usize) -> anyhow::Error {
+/// Why the events of a device aren't known, and what helps, where so much is listed before it.
+fn with_advice(error: EventsError, listed: usize) -> anyhow::Error {
     match error {
-        EventsError::PastLimit { .. } => {
+        EventsError::PastLimit { usages, .. } => {
             let enough = listed.saturating_add(usages);
-            anyhow!("its input reports have {usages} usages: --limit {enough} is enough")
+            anyhow!("its input and output reports have {usages} usages: --limit {enough} is enough")
         }
         EventsError::NotKnown => anyhow!("{error}: hid check --for linux shows where"),
         _ => error.into(),
     }
 }
 
-/// How many usages the input reports have that Linux reads, at least one for each element.
+/// How many usages the input and output reports have, at least one for each element.
 fn usages_in(alloc: Global, reading: &LinuxReading) -> Result<usize, AllocError> {
     let mut count = 0usize;
     for field in reading.fields(alloc)?.iter() {
-        if is_read(field) {
+        if field.report.direction != Direction::Feature && !field.is_past {
             let usages = usize::try_from(field.usages.max(field.count)).unwrap_or(usize::MAX);
             count = count.saturating_add(usages);
         }

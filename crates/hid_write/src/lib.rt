@@ -6,6 +6,7 @@ mod assignment;
 mod compile;
 mod convert;
 mod field_names;
+mod lamps;
 mod nearest;
 mod nearest_words;
 mod press;

@@ -32,6 +32,8 @@ pub struct Set<'a> {
     pub is_zero: bool,
     /// Whether the names that it takes are shown in place of a report.
     pub shows_names: bool,
+    /// Whether the words are lamps of Linux, and the reports those that it writes then.
+    pub is_linux: bool,
 }
 
 /// The report's id that a word says; none where reports have none.
@@ -46,8 +48,31 @@ pub fn id_named(word: &str) -> Result<Option<ReportId>> {
 }
 
 impl<'a> Set<'a> {
+    /// Why the options and words can't be met together, where they can't.
+    pub fn conflict(&self) -> Option<&'static str> {
+        if self.shows_names && !self.words.is_empty() {
+            return Some("--names takes no NAME=NUMBER");
+        }
+        if self.shows_names && self.keys.is_some() {
+            return Some("--names and --press can't both be met");
+        }
+        if self.is_linux && (self.shows_names || self.keys.is_some() || self.is_zero) {
+            return Some("--linux takes lamps alone: without --names, --press and --zero");
+        }
+        if self.is_linux && (self.id.is_some() || self.direction != Direction::Input) {
+            return Some(
+                "--linux writes the report that Linux chooses: ID is -, without --direction",
+            );
+        }
+        None
+    }
+
     /// Writes the report.
     pub fn run<R: World>(&self, rt: &R, settings: &Settings) -> Result<Ending> {
+        if self.is_linux {
+            self.write_lamps(rt, settings)?;
+            return Ok(Ending::Done);
+        }
         let descriptor = descriptor_by(rt, settings, self.file)?;
         let Some(report) = descriptor.report(self.direction, self.id) else {
             return Err(no_report(rt.alloc(), &descriptor, self.direction));

@@ -1,8 +1,10 @@
 pub mod Choices
 pub mod Fields
+pub mod Lamps
 pub mod Readers
 pub mod Reports
 pub mod Senders
 pub mod Sending
+pub mod Setting
 pub mod Tools
 pub mod Turning

@@ -6,6 +6,7 @@ use Rattle.std.specs.Int.{div_ceil}
 use Rattle.std.specs.List.{slice_index_or, slice_set}
 use Rattle.std.specs.Option.{option_and_then}
 use Rattle.hidreport_events.specs.Fields.{kept_value}
+use Rattle.hidreport_events.specs.Lamps.{behind_events}
 use Rattle.hidreport_events.specs.Reports.{behind_all, own_sources, own_values, part, values_behind}
 use Rattle.hidreport_events.specs.Reports.{values_in}
 use Rattle.hidreport_events.specs.Senders.{SenderRecord, new_sender, no_tool_near, tool_in}
@@ -17,6 +18,7 @@ use Rattle.hidreport_events.specs.declared.event_reader.ReportEvents.{ReportEven
 use Rattle.hidreport_events.specs.declared.event_report.EventReport.{EventReport}
 use Rattle.hidreport_events.specs.declared.input_event.InputEvent.{InputEvent}
 use Rattle.hidreport_events.specs.declared.sender.Tool.{Tool}
+use Rattle.hidreport_events.specs.declared.lamp.Lamp.{Lamp}
 use Rattle.hidreport_events.specs.declared.source.Source.{Source}
 use Rattle.hidreport_linux.specs.CoreKept.{ReadingRecord}
 use Rattle.hidreport_linux.specs.declared.driver.Driver.{Driver}
@@ -25,7 +27,8 @@ use Rattle.hidreport_linux.specs.declared.wanted.Role.{Role}
 use Rattle.hidreport_linux.specs.declared.wanted.Role.TheVariants as role
 
 -- Whether reports have ids; the input reports, their fields, and what these send; the input devices;
--- of each report the tool that is near; all values that are held; whether memory was refused.
+-- of each report the tool that is near; all values that are held; the lamps of output reports;
+-- whether memory was refused.
 pub record ReaderRecord : Type 0 where
   pub has_ids : Bool
   pub reports : List EventReport
@@ -34,6 +37,7 @@ pub record ReaderRecord : Type 0 where
   pub senders : List SenderRecord
   pub tools : List Tool
   pub values : List ℤ
+  pub lamps : List Lamp
   pub is_lost : Bool
 
 -- it isn't known how Linux reads a descriptor: it refuses it, may read it otherwise, or stops at it
@@ -202,10 +206,15 @@ lost r = record r { is_lost = true }
 unfoldable pub sent_by : EventReport → List ℤ → ReaderRecord → List InputEvent
 sent_by report values r = sent_in report (behind_sending report values (lost r))
 
+-- the lamps behind what was handed on
+abbrev pub with_lamps_behind : List InputEvent → ReaderRecord → ReaderRecord
+with_lamps_behind events r = record r { lamps = behind_events events r.lamps }
+
 -- behind a report with these values
 unfoldable pub behind_taken : EventReport → List ℤ → ReaderRecord → ReaderRecord
 behind_taken report values r = holding_values report (kept_of report values (lost r))
-    (behind_sent report (behind_sending report values (lost r)))
+    (with_lamps_behind (sent_by report values r)
+    (behind_sent report (behind_sending report values (lost r))))
 
 -- The answer
 

@@ -13,10 +13,9 @@ use Rattle.hidreport_linux.specs.declared.event_code.EventType.TheVariants.{Othe
 
 -- Which keys are down and which lamps are lit, where each axis is, and by how much it may tremble;
 -- whether there are keys, whether pressures say BTN_TOUCH, and whether an eraser alone says that
--- the pen is turned; whether it has the code of a turned pen, which axes and which movements; how
--- many events go together, and how many wait; the tool that is near, and
--- whether a part of the report says so; how far the wheels are behind their last clicks; what was
--- handed on.
+-- the pen is turned; whether it has the code of a turned pen, and which axes, movements and lamps;
+-- how many events go together, and how many wait; the tool that is near, and whether a part of the
+-- report says so; how far the wheels are behind their last clicks; what was handed on.
 pub record SenderRecord : Type 0 where
   pub keys : List Bool
   pub lamps : List Bool
@@ -28,6 +27,7 @@ pub record SenderRecord : Type 0 where
   pub has_rubber : Bool
   pub has_axes : List Bool
   pub has_motions : List Bool
+  pub has_lamps : List Bool
   pub room : ℕ
   pub waiting : ℕ
   pub tool : ℕ
@@ -49,6 +49,7 @@ new_sender = record {
   has_rubber = false;
   has_axes = replicate 0x40 false;
   has_motions = replicate 0x10 false;
+  has_lamps = replicate 0x10 false;
   room = 8;
   waiting = 0;
   tool = 0;
@@ -76,12 +77,20 @@ with_motion_code number s =
       room = one_more s.room;
     } else s
 
+abbrev pub with_lamp_code : ℕ → SenderRecord → SenderRecord
+with_lamp_code number s =
+    if nat_lt number 0x10 then record s { has_lamps = slice_set s.has_lamps number true } else s
+
+abbrev pub has_lamp : ℕ → SenderRecord → Bool
+has_lamp number s = nat_lt number 0x10 && slice_index_or s.has_lamps number false
+
 -- one code more, by its type
 abbrev pub with_code_of : EventType → ℕ → SenderRecord → SenderRecord
 with_code_of Absolute number s = with_axis_code number s
 with_code_of Relative number s = with_motion_code number s
 with_code_of Key number s = record s { has_keys = true }
-with_code_of _ number s = s
+with_code_of Led number s = with_lamp_code number s
+with_code_of Other number s = s
 
 abbrev pub with_code : EventCode → SenderRecord → SenderRecord
 with_code code s = with_code_of code.event_type code.number s

@@ -1,7 +1,10 @@
 //! The fields, reports and input devices of a descriptor, as they are gone over.
+mod lamps;
+
 use crate::errors::EventsError;
 use crate::event_field::EventField;
 use crate::event_report::EventReport;
+use crate::lamp::Lamp;
 use crate::multipliers::Multipliers;
 use crate::sender::Sender;
 use crate::source::Source;
@@ -19,6 +22,7 @@ pub(crate) struct Building {
     pub(crate) fields: Vec<EventField>,
     pub(crate) sources: Vec<Source>,
     pub(crate) senders: Vec<Sender>,
+    pub(crate) lamps: Vec<Lamp>,
     multipliers: Multipliers,
     devices: InputDevices,
 
@@ -27,17 +31,21 @@ pub(crate) struct Building {
 }
 
 impl Building {
-    /// All that a reading says of input reports, if they have no more usages than a limit.
+    /// All that a reading says of input reports, and the lamps of output reports, if they have no
+    /// more usages than a limit.
     pub(crate) fn of(
         alloc: Global,
         reading: &LinuxReading,
         limit: Option<usize>,
     ) -> Result<Building, EventsError> {
         let fields = reading.fields(alloc)?;
+        check_usages(&fields, limit)?;
         let mut building = Building::new(alloc, reading, &fields)?;
         for field in &fields {
             if is_read(field) {
-                building.add(reading, field, limit)?;
+                building.add(reading, field)?;
+            } else if is_written(field) {
+                building.add_lamps(reading, field)?;
             }
         }
         building.end();
@@ -58,6 +66,7 @@ impl Building {
             fields: Vec::new(alloc),
             sources: Vec::new(alloc),
             senders: Vec::new(alloc),
+            lamps: Vec::new(alloc),
             multipliers,
             devices: reading.input_devices(alloc),
             lacks_invert: false,
@@ -65,18 +74,7 @@ impl Building {
     }
 
     /// Adds a field of an input report.
-    fn add(
-        &mut self,
-        reading: &LinuxReading,
-        field: &LinuxField,
-        limit: Option<usize>,
-    ) -> Result<(), EventsError> {
-        let count = field.usages.max(field.count) as usize;
-        if let Some(limit) = limit {
-            if self.sources.len().saturating_add(count) > limit {
-                return Err(EventsError::PastLimit { limit });
-            }
-        }
+    fn add(&mut self, reading: &LinuxReading, field: &LinuxField) -> Result<(), AllocError> {
         let item = self.devices.begin_field(field)?;
         self.add_sender()?;
         if field.is_first {
@@ -289,9 +287,28 @@ impl Building {
     }
 }
 
+/// Refuses fields that have more usages together than a limit.
+fn check_usages(fields: &[LinuxField], limit: Option<usize>) -> Result<(), EventsError> {
+    let mut usages = 0usize;
+    for field in fields {
+        if is_read(field) || is_written(field) {
+            usages = usages.saturating_add(field.usages.max(field.count) as usize);
+        }
+    }
+    match limit {
+        Some(limit) if usages > limit => Err(EventsError::PastLimit { limit, usages }),
+        _ => Ok(()),
+    }
+}
+
 /// Whether hid-core reads a field of a report that comes in.
 fn is_read(field: &LinuxField) -> bool {
     is_input(field.report.direction) && !field.is_past
+}
+
+/// Whether hid-core writes a field of a report that goes out.
+fn is_written(field: &LinuxField) -> bool {
+    matches!(field.report.direction, Direction::Output) && !field.is_past
 }
 
 fn is_input(direction: Direction) -> bool {

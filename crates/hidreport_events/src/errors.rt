@@ -20,11 +20,14 @@ pub enum EventsError {
         driver: Driver,
     },
 
-    /// The device has more usages than the limit.
-    #[error("its input reports have more than {limit} usages")]
+    /// The input and output reports have more usages together than the limit, at least one for each
+    /// element.
+    #[error("its input and output reports have {usages} usages, more than {limit}")]
     PastLimit {
         /// The limit.
         limit: usize,
+        /// How many usages they have.
+        usages: usize,
     },
 
     /// Linux leaves the report: it has no bytes, or no input report of the device has its id.
@@ -46,6 +49,10 @@ pub enum EventsError {
         /// How many steps there may be.
         most: u32,
     },
+
+    /// There is no such input device, or it has no lamp with this number.
+    #[error("no such input device has this lamp")]
+    NoLamp,
 
     /// Memory was refused at a report before, so that it isn't known what the device holds.
     #[error("memory was refused at a report before")]

@@ -1,13 +1,14 @@
 //! The reports of a device, one after the other.
 ghost use Rattle.std.specs.Prelude.{◌≡◌};
-ghost use Rattle.hidreport_events.specs.Readers.{held_from, is_doubtful, put_at};
-ghost use Rattle.hidreport_events.specs.Reports.{part};
+ghost use Rattle.hidreport_events.specs.Readers.{is_doubtful};
 
 use crate::building::Building;
 use crate::errors::EventsError;
 use crate::event_field::EventField;
 use crate::event_report::{EventReport, values_behind, values_in};
+use crate::held::{hold, own_fields, own_values};
 use crate::input_event::InputEvent;
+use crate::lamp::{Lamp, take_events};
 use crate::sender::{Sender, Tool};
 use crate::source::Source;
 use crate::volume_steps::{MOST_STEPS, steps_left_by};
@@ -35,10 +36,11 @@ pub struct EventReader {
     reports: Vec<EventReport>,
     fields: Vec<EventField>,
     sources: Vec<Source>,
-    senders: Vec<Sender>,
+    pub(crate) senders: Vec<Sender>,
     tools: Vec<Tool>,
     values: Vec<i32>,
-    is_lost: bool,
+    pub(crate) lamps: Vec<Lamp>,
+    pub(crate) is_lost: bool,
 }
 
 impl Model for EventReader {
@@ -54,6 +56,7 @@ impl Model for EventReader {
       senders = r.senders.items;
       tools = r.tools.items;
       values = r.values.items;
+      lamps = r.lamps.items;
       is_lost = r.is_lost;
     } };
 }
@@ -63,14 +66,14 @@ impl EventReader {
     ghost use Rattle.hidreport_events.specs.declared.errors.EventsError.TheVariants.{NotKnown};
     ghost use Rattle.hidreport_events.specs.Readers.{behind_sending, behind_sent, behind_taken, id_size, is_doubtful, IsDrivenBy, IsRefused, IsSent, reads, reads_of, report_in, report_with, sent_by, sent_in, tool_of, turns_too_far, whole};
 
-    /// That of a device before its first report, whose input reports have no more usages than a
-    /// limit, if there is one.
+    /// That of a device before its first report, whose input and output reports have no more usages
+    /// together than a limit, if there is one.
     ///
     /// # Errors
     ///
     /// - `NotKnown`: Linux refuses the descriptor, or may read it otherwise.
     /// - `OtherDriver`: Linux doesn't drive it by hid-generic.
-    /// - `PastLimit`: its input reports have more usages than the limit.
+    /// - `PastLimit`: its input and output reports have more usages than the limit.
     /// - `OutOfMemory`: memory is refused; this says nothing of the device.
     pub fn of(
         alloc: Global,
@@ -110,6 +113,7 @@ impl EventReader {
             senders: building.senders,
             tools,
             values,
+            lamps: building.lamps,
             is_lost: false,
         })
     }
@@ -227,6 +231,7 @@ impl EventReader {
         let kept = values_behind(alloc, fields, &self.sources, before, values)?;
         self.send(report, values)?;
         let events = self.take_sent(alloc, report);
+        take_events(&mut self.lamps, &events);
         hold(&mut self.values, report.first_value, &kept);
         self.is_lost = false;
         Ok(ReportEvents {
@@ -311,41 +316,4 @@ fn first_values(alloc: Global, reports: &[EventReport]) -> Result<Vec<i32>, Allo
         }
     }
     Ok(values)
-}
-
-/// The fields of a report, among those of all.
-fn own_fields<'a>(report: &EventReport, fields: &'a [EventField]) -> &'a [EventField]
-    ensures { result.now ≡ part report.now.first_field report.now.fields fields.now }
-{
-    let behind = fields.get(report.first_field..).unwrap_or(&[]);
-    behind.get(..report.fields).unwrap_or(behind)
-}
-
-/// The values of a report, among those of all.
-fn own_values<'a>(report: &EventReport, values: &'a [i32]) -> &'a [i32]
-    ensures { result.now ≡ part report.now.first_value report.now.values values.now }
-{
-    let behind = values.get(report.first_value..).unwrap_or(&[]);
-    behind.get(..report.values).unwrap_or(behind)
-}
-
-/// Puts values in the place of those from one on.
-fn hold(values: &mut Vec<i32>, first: usize, kept: &[i32])
-    ensures { values.new.items ≡ held_from first kept.now values.old.items }
-{
-    let mut index = first;
-    for value in kept {
-        put_at(values, index, *value);
-        index = index.saturating_add(1);
-    }
-}
-
-/// Puts a value at an index, if there is one.
-#[tactic(auto, unfolding(crate::specs::Readers::put_at))]
-fn put_at(values: &mut Vec<i32>, index: usize, value: i32)
-    ensures { values.new.items ≡ put_at index value values.old.items }
-{
-    if index < values.len() {
-        values[index] = value;
-    }
 }

@@ -72,6 +72,9 @@ pub(crate) struct Sender {
     has_axes: [bool; AXES],
     has_motions: [bool; MOTIONS],
 
+    /// Which lamps it has.
+    has_lamps: [bool; LAMPS],
+
     /// How many events go together, at most.
     room: usize,
 
@@ -107,6 +110,7 @@ impl Model for Sender {
       has_rubber = s.has_rubber;
       has_axes = s.has_axes;
       has_motions = s.has_motions;
+      has_lamps = s.has_lamps;
       room = s.room;
       waiting = s.waiting;
       tool = s.tool;
@@ -119,7 +123,7 @@ impl Model for Sender {
 
 impl Sender {
     ghost use Rattle.std.specs.Prelude.{◌≡◌, OnOk};
-    ghost use Rattle.hidreport_events.specs.Senders.{axis_at, ended, fuzz_at, holding, is_down, new_sender, is_lit, put, synced, tool_in, with_axis, with_axis_code, with_code, with_fuzz, with_key, with_lamp, with_motion_code, without_sent};
+    ghost use Rattle.hidreport_events.specs.Senders.{axis_at, ended, fuzz_at, has_lamp, holding, is_down, new_sender, is_lit, put, synced, tool_in, with_axis, with_axis_code, with_code, with_fuzz, with_key, with_lamp, with_lamp_code, with_motion_code, without_sent};
 
     /// One without codes, with all keys up and all axes at 0.
     pub(crate) fn new(alloc: Global) -> Sender
@@ -136,6 +140,7 @@ impl Sender {
             has_rubber: false,
             has_axes: [false; AXES],
             has_motions: [false; MOTIONS],
+            has_lamps: [false; LAMPS],
             room: OTHER_EVENTS,
             waiting: 0,
             tool: 0,
@@ -154,7 +159,8 @@ impl Sender {
             EventType::Absolute => self.claim_axis(code.number),
             EventType::Relative => self.claim_motion(code.number),
             EventType::Key => self.has_keys = true,
-            EventType::Other | EventType::Led => {}
+            EventType::Led => self.claim_lamp(code.number),
+            EventType::Other => {}
         }
     }
 
@@ -178,6 +184,24 @@ impl Sender {
             self.has_motions[number] = true;
             self.room = self.room.saturating_add(1);
         }
+    }
+
+    /// That it has a lamp.
+    fn claim_lamp(&mut self, number: u16)
+        ensures { self.new ≡ with_lamp_code number self.old }
+    {
+        let number = usize::from(number);
+        if number < LAMPS {
+            self.has_lamps[number] = true;
+        }
+    }
+
+    /// Whether it has a lamp.
+    pub(crate) fn has_lamp(&self, number: u16) -> bool
+        ensures { result ≡ has_lamp number self.now }
+    {
+        let number = usize::from(number);
+        number < LAMPS && self.has_lamps[number]
     }
 
     /// By how much an axis may tremble.

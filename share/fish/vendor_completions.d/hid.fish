@@ -55,6 +55,7 @@ complete -c hid -n "__fish_seen_subcommand_from set" -l to -x -a "hex c rust byt
 complete -c hid -n "__fish_seen_subcommand_from set" -l press -x -d "Press keys of a keyboard, too, with + between them, as Ctrl+A"
 complete -c hid -n "__fish_seen_subcommand_from set" -l zero -d "Set all bits to 0 that no name sets, and not to what stands for no value"
 complete -c hid -n "__fish_seen_subcommand_from set" -l names -d "Show the names that it takes, one in each line, and write no report"
+complete -c hid -n "__fish_seen_subcommand_from set" -l linux -d "Write what Linux does where a program sets lamps, as LED_CAPSL=1; ID is -"
 complete -c hid -n "__fish_seen_subcommand_from convert" -l to -x -a "hex c rust bytes recording python kernel zephyr tinyusb lufa hid-bpf libinput webhid" -d "What the bytes are written as"
 complete -c hid -n "__fish_seen_subcommand_from compile" -l to -x -a "hex c rust bytes recording python kernel zephyr tinyusb lufa hid-bpf libinput webhid" -d "What the bytes are written as"
 complete -c hid -n "__fish_seen_subcommand_from struct" -l to -x -a "c rust python javascript" -d "The language of the source"
