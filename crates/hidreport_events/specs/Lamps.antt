@@ -2,10 +2,11 @@
 -- values (hidinput_input_event, hidinput_led_worker and hid_output_report of Linux 6.12; Sections 5.6
 -- and 5.8).
 use Rattle.std.specs.Prelude.{◌≡◌, ℕ, ℤ, Bool, true, false, ◌+◌, ◌*◌, ◌%◌, ◌==◌, ◌&&◌, ◌||◌, not, min, nat_le}
-use Rattle.std.specs.Prelude.{if◌then◌else◌, List, [], ◌∷◌, ◌++◌, length, replicate}
-use Rattle.std.specs.Prelude.{Option, Some, None, Vec}
+use Rattle.std.specs.Prelude.{if◌then◌else◌, List, [], ◌∷◌, ◌++◌, length, replicate, slice_get}
+use Rattle.std.specs.Prelude.{Option, Some, None, is_some, Vec}
 use Rattle.std.specs.Global.{Global}
 use Rattle.std.specs.Int.{div_ceil}
+use Rattle.std.specs.List.{position_from, slice_set}
 use Rattle.hidreport_fields.specs.WritingValues.{fits, put}
 use Rattle.hidreport_events.specs.Senders.{is_zero}
 use Rattle.hidreport_events.specs.declared.input_event.InputEvent.{InputEvent}
@@ -29,11 +30,24 @@ takes l value = l.has_place && (not l.is_signed || holds l.size value)
 unfoldable pub with_value : ℤ → Lamp → Lamp
 with_value value l = if takes l value then record l { value = value } else l
 
+abbrev pub has_number : ℕ → Lamp → Bool
+has_number number l = l.number == number
+
+-- where the first lamp with a number stands
+abbrev pub place_of : ℕ → List Lamp → Option ℕ
+place_of number ls = position_from (has_number number) 0 ls
+
+abbrev pub with_set_in : ℕ → Option Lamp → ℤ → List Lamp → List Lamp
+with_set_in place None value ls = ls
+with_set_in place (Some l) value ls = slice_set ls place (with_value value l)
+
+abbrev pub with_set_at : Option ℕ → ℤ → List Lamp → List Lamp
+with_set_at None value ls = ls
+with_set_at (Some place) value ls = with_set_in place (slice_get ls place) value ls
+
 -- the first lamp with a number is the one that is set
 abbrev pub with_set : ℕ → ℤ → List Lamp → List Lamp
-with_set number value [] = []
-with_set number value (l ∷ ls) =
-    if l.number == number then with_value value l ∷ ls else l ∷ with_set number value ls
+with_set number value ls = with_set_at (place_of number ls) value ls
 
 -- the number of the lamp that an event of a type lights or puts out, if it does
 abbrev pub lamp_by : EventType → ℕ → Option ℕ
@@ -91,18 +105,15 @@ abbrev pub report_for : List Lamp → Option (List ℕ)
 report_for [] = None
 report_for (l ∷ ls) = Some (bytes_with l.id l.bits (l ∷ ls))
 
-abbrev pub has_number : ℕ → List Lamp → Bool
-has_number number [] = false
-has_number number (l ∷ ls) = l.number == number || has_number number ls
-
-abbrev pub has_number_of : Option ℕ → List Lamp → Bool
-has_number_of None ls = false
-has_number_of (Some number) ls = has_number number ls
+-- there is a lamp with this number
+abbrev pub is_found : Option ℕ → List Lamp → Bool
+is_found None ls = false
+is_found (Some number) ls = is_some (place_of number ls)
 
 -- one of the events lights one of the lamps or puts it out
 abbrev pub sets_one : List InputEvent → List Lamp → Bool
 sets_one [] ls = false
-sets_one (event ∷ events) ls = has_number_of (lamp_of event.code) ls || sets_one events ls
+sets_one (event ∷ events) ls = is_found (lamp_of event.code) ls || sets_one events ls
 
 -- what is written behind events that were handed on: the report of the first lamp, whichever was set
 abbrev pub written_behind : List InputEvent → List Lamp → Option (List ℕ)

@@ -1,3 +1,4 @@
+pub mod Built
 pub mod Choices
 pub mod Fields
 pub mod Lamps

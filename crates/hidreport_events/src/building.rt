@@ -1,4 +1,8 @@
 //! The fields, reports and input devices of a descriptor, as they are gone over.
+ghost use Rattle.std.specs.Prelude.{◌≡◌, IfOk, map};
+ghost use Rattle.hidreport_events.specs.Built.{is_input, is_read, numbers_in, numbers_of, read_numbers};
+ghost use Rattle.hidreport_linux.specs.FieldOrder.{fields_in_order};
+
 mod lamps;
 
 use crate::errors::EventsError;
@@ -26,6 +30,9 @@ pub(crate) struct Building {
     multipliers: Multipliers,
     devices: InputDevices,
 
+    /// How many fields of input reports there are so far.
+    field_count: usize,
+
     /// Whether an eraser alone says that the pen is turned.
     lacks_invert: bool,
 }
@@ -37,20 +44,38 @@ impl Building {
         alloc: Global,
         reading: &LinuxReading,
         limit: Option<usize>,
-    ) -> Result<Building, EventsError> {
+    ) -> Result<Building, EventsError>
+        ensures { IfOk result (λ building. map numbers_in building.fields.items
+            ≡ read_numbers (fields_in_order reading.now)) }
+    {
         let fields = reading.fields(alloc)?;
         check_usages(&fields, limit)?;
         let mut building = Building::new(alloc, reading, &fields)?;
-        for field in &fields {
-            if is_read(field) {
-                building.add(reading, field)?;
-            } else if is_written(field) {
-                building.add_lamps(reading, field)?;
-            }
-        }
+        let kept = building.add_fields(reading, &fields)?;
         building.end();
         building.add_padding(reading)?;
+        building.fields = kept;
         Ok(building)
+    }
+
+    /// Goes over all fields: answers those of input reports.
+    fn add_fields(
+        &mut self,
+        reading: &LinuxReading,
+        fields: &[LinuxField],
+    ) -> Result<Vec<EventField>, AllocError>
+        ensures { IfOk result (λ kept. map numbers_in kept.items ≡ read_numbers fields.now) }
+    {
+        let mut kept = Vec::new(self.alloc);
+        for field in fields {
+            if is_read(field) {
+                let own = self.add(reading, field)?;
+                kept.push(own)?;
+            } else if is_written(field) {
+                self.add_lamps(reading, field)?;
+            }
+        }
+        Ok(kept)
     }
 
     /// Before the first field.
@@ -69,12 +94,15 @@ impl Building {
             lamps: Vec::new(alloc),
             multipliers,
             devices: reading.input_devices(alloc),
+            field_count: 0,
             lacks_invert: false,
         })
     }
 
-    /// Adds a field of an input report.
-    fn add(&mut self, reading: &LinuxReading, field: &LinuxField) -> Result<(), AllocError> {
+    /// Adds a field of an input report: answers it.
+    fn add(&mut self, reading: &LinuxReading, field: &LinuxField) -> Result<EventField, AllocError>
+        ensures { IfOk result (λ own. numbers_in own ≡ numbers_of field.now) }
+    {
         let item = self.devices.begin_field(field)?;
         self.add_sender()?;
         if field.is_first {
@@ -82,8 +110,7 @@ impl Building {
         }
         let first_source = self.sources.len();
         let is_relative = self.add_sources(reading, field, item)?;
-        self.add_field(field, first_source, is_relative)?;
-        Ok(())
+        Ok(self.counted(field, first_source, is_relative))
     }
 
     /// Adds the input device that a report goes to, if it is a new one.
@@ -110,7 +137,7 @@ impl Building {
             bits: reading.bits_of(&field.report),
             index,
             device: self.devices.current(),
-            first_field: self.fields.len(),
+            first_field: self.field_count,
             fields: 0,
             first_value,
             values: 0,
@@ -204,20 +231,12 @@ impl Building {
         }
     }
 
-    /// Adds a field with the sources from one on.
-    fn add_field(
-        &mut self,
-        field: &LinuxField,
-        first_source: usize,
-        is_relative: bool,
-    ) -> Result<(), AllocError> {
-        let Some(report) = self.reports.last_mut() else {
-            return Ok(());
-        };
-        let first_value = report.values;
-        report.values = report.values.saturating_add(field.count as usize);
-        report.fields = report.fields.saturating_add(1);
-        self.fields.push(EventField {
+    /// A field with the sources from one on, which its report counts.
+    fn counted(&mut self, field: &LinuxField, first_source: usize, is_relative: bool) -> EventField
+        ensures { numbers_in result ≡ numbers_of field.now }
+    {
+        self.field_count = self.field_count.saturating_add(1);
+        EventField {
             first_bit: field.first_bit,
             size: field.size,
             count: field.count,
@@ -229,9 +248,19 @@ impl Building {
             maximum: field.measures.maximum,
             first_source,
             sources: self.sources.len().saturating_sub(first_source),
-            first_value,
-        })?;
-        Ok(())
+            first_value: self.first_value(field.count as usize),
+        }
+    }
+
+    /// Where so many values of the next field begin, among those of its report, which counts them.
+    fn first_value(&mut self, count: usize) -> usize {
+        let Some(report) = self.reports.last_mut() else {
+            return 0;
+        };
+        let first = report.values;
+        report.values = report.values.saturating_add(count);
+        report.fields = report.fields.saturating_add(1);
+        first
     }
 
     /// What is known behind the last field alone: by how much axes tremble, and how a pen's tool is
@@ -302,7 +331,9 @@ fn check_usages(fields: &[LinuxField], limit: Option<usize>) -> Result<(), Event
 }
 
 /// Whether hid-core reads a field of a report that comes in.
-fn is_read(field: &LinuxField) -> bool {
+fn is_read(field: &LinuxField) -> bool
+    ensures { result ≡ is_read field.now }
+{
     is_input(field.report.direction) && !field.is_past
 }
 
@@ -311,6 +342,8 @@ fn is_written(field: &LinuxField) -> bool {
     matches!(field.report.direction, Direction::Output) && !field.is_past
 }
 
-fn is_input(direction: Direction) -> bool {
+fn is_input(direction: Direction) -> bool
+    ensures { result ≡ is_input direction }
+{
     matches!(direction, Direction::Input)
 }

@@ -62,7 +62,9 @@ impl Model for EventReader {
 }
 
 impl EventReader {
-    ghost use Rattle.std.specs.Prelude.{◌≡◌, Err, IfErr, IfOk, IfSome, IsFalse, IsTrue, OnOk};
+    ghost use Rattle.std.specs.Prelude.{◌≡◌, Err, IfErr, IfOk, IfSome, IsFalse, IsTrue, OnOk, map};
+    ghost use Rattle.hidreport_events.specs.Built.{numbers_in, read_numbers};
+    ghost use Rattle.hidreport_linux.specs.FieldOrder.{fields_in_order};
     ghost use Rattle.hidreport_events.specs.declared.errors.EventsError.TheVariants.{NotKnown};
     ghost use Rattle.hidreport_events.specs.Readers.{behind_sending, behind_sent, behind_taken, id_size, is_doubtful, IsDrivenBy, IsRefused, IsSent, reads, reads_of, report_in, report_with, sent_by, sent_in, tool_of, turns_too_far, whole};
 
@@ -83,6 +85,8 @@ impl EventReader {
         ensures not_known { IsTrue (is_doubtful reading.now) → result ≡ Err NotKnown }
         ensures other_driver { IsFalse (is_doubtful reading.now)
             → IfSome reading.now.driver (IsDrivenBy result) }
+        ensures fields { IfOk result (λ reader. map numbers_in reader.fields
+            ≡ read_numbers (fields_in_order reading.now)) }
         ensures first { IfOk result (λ reader. IsFalse reader.is_lost) }
     {
         if is_doubtful(reading) {
@@ -100,7 +104,9 @@ impl EventReader {
         reading: &LinuxReading,
         limit: Option<usize>,
     ) -> Result<EventReader, EventsError>
-        ensures { IfOk result (λ reader. IsFalse reader.is_lost) }
+        ensures fields { IfOk result (λ reader. map numbers_in reader.fields
+            ≡ read_numbers (fields_in_order reading.now)) }
+        ensures first { IfOk result (λ reader. IsFalse reader.is_lost) }
     {
         let building = Building::of(alloc, reading, limit)?;
         let tools = first_tools(alloc, &building.reports)?;

@@ -1,6 +1,6 @@
 //! The lamps of a device, and the output report that has their values.
-ghost use Rattle.std.specs.Prelude.{◌≡◌, IfOk};
-ghost use Rattle.hidreport_events.specs.Lamps.{behind_event, behind_events, bytes_with, holds, has_number, has_number_of, IsWritten, lamp_of, report_for, sets_one, with_lamp_if, with_lamps, with_set, with_set_if, written_behind};
+ghost use Rattle.std.specs.Prelude.{◌≡◌, IfOk, Some};
+ghost use Rattle.hidreport_events.specs.Lamps.{behind_event, behind_events, bytes_with, holds, is_found, IsWritten, lamp_of, place_of, report_for, sets_one, with_lamp_if, with_lamps, with_set, with_set_at, written_behind};
 
 use crate::input_event::InputEvent;
 use hidreport_fields::{fits, put_values};
@@ -130,12 +130,30 @@ fn take_event(lamps: &mut [Lamp], event: &InputEvent)
 fn set(lamps: &mut [Lamp], number: u16, value: i32)
     ensures { lamps.new ≡ with_set number value lamps.old }
 {
-    for index in 0..lamps.len() {
-        if lamps[index].number == number {
-            lamps[index] = lamps[index].with_value(value);
-            return;
+    if let Some(place) = place_of(number, lamps) {
+        set_at(lamps, place, value);
+    }
+}
+
+/// Sets the lamp at a place, if there is one.
+fn set_at(lamps: &mut [Lamp], place: usize, value: i32)
+    ensures { lamps.new ≡ with_set_at (Some place) value lamps.old }
+{
+    if place < lamps.len() {
+        lamps[place] = lamps[place].with_value(value);
+    }
+}
+
+/// Where the first lamp with a number stands.
+fn place_of(number: u16, lamps: &[Lamp]) -> Option<usize>
+    ensures { result ≡ place_of number lamps.now }
+{
+    for (place, lamp) in lamps.iter().enumerate() {
+        if lamp.number == number {
+            return Some(place);
         }
     }
+    None
 }
 
 /// What is written to the device behind events that were handed on: the report of the first lamp,
@@ -167,24 +185,12 @@ fn sets_one(events: &[InputEvent], lamps: &[Lamp]) -> bool
 
 /// Whether an event lights one of the lamps or puts it out.
 fn sets(event: &InputEvent, lamps: &[Lamp]) -> bool
-    ensures { result ≡ has_number_of (lamp_of event.now.code) lamps.now }
+    ensures { result ≡ is_found (lamp_of event.now.code) lamps.now }
 {
     match lamp_of(event) {
-        Some(number) => has_number(number, lamps),
+        Some(number) => place_of(number, lamps).is_some(),
         None => false,
     }
-}
-
-/// Whether one of the lamps has a number.
-fn has_number(number: u16, lamps: &[Lamp]) -> bool
-    ensures { result ≡ has_number number lamps.now }
-{
-    for lamp in lamps {
-        if lamp.number == number {
-            return true;
-        }
-    }
-    false
 }
 
 /// The report of the first lamp, with the values of all that it has.
