@@ -5,9 +5,9 @@
 # names that shells complete; that what it writes is read back, also by programs of four languages; the
 # pages of `hid page`; bounds of memory and time; the same answers as the library's (CASES is the program
 # that `checks/library/tests.sh --keep CASES` builds), the same event codes as a model of Linux's and the
-# same collections as one of WebHID's; what Windows refuses, beside Wine; and what it says beside TShark and
-# lsusb. The parts lie in hid/; they go side by side in lanes, and what each lane says is shown once it has
-# ended.
+# same collections as one of WebHID's; what Windows refuses, beside Wine; and what it says beside TShark,
+# lsusb and Linux's own functions. The parts lie in hid/; they go side by side in lanes, and what each lane
+# says is shown once it has ended.
 set -eu
 export LC_ALL=C
 hid=$1 other=$2 hidreport=$3 cases=$4
@@ -46,10 +46,6 @@ answered() {
     fi
 }
 
-kernel() {
-    bash "$parts/kernel.sh" "$hid"
-}
-
 structs() {
     if command -v python3 > /dev/null; then
         bash "$parts/descriptors.sh" | cut -d ' ' -f 1 | python3 "$parts/structs.py" "$hid"
@@ -61,12 +57,12 @@ structs() {
 beside() {
     bash "$parts/beside.sh" tshark "$hid"
     bash "$parts/beside.sh" lsusb "$hid"
+    bash "$parts/kernel.sh" "$hid"
 }
 
 lane shown shown
 lane written written
 lane answered answered
-lane kernel kernel
 lane structs structs
 lane beside beside
 end_lanes
