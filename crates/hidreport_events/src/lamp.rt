@@ -60,7 +60,7 @@ impl Lamp {
     }
 
     /// Puts its value in its place.
-    #[tactic(auto, unfolding(crate::specs::Lamps::with_lamp))]
+    #[tactic(auto, unfolding(crate::specs::Lamps::with_lamp, crate::specs::Lamps::lies_in))]
     fn put(self, bytes: &mut [u8])
         ensures { bytes.new ≡ with_lamp self bytes.old }
     {

@@ -3,16 +3,17 @@ ghost use Rattle.std.specs.Prelude.{◌≡◌};
 
 use crate::errors::EventsError;
 use crate::event_reader::{EventReader, ReportEvents};
+use crate::input_event::InputEvent;
 use crate::lamp::{take_events, written_behind};
 use crate::sender::Sender;
 use hidreport_linux::{EventCode, EventType};
 use std::alloc::{AllocError, Global};
 
 impl EventReader {
-    ghost use Rattle.std.specs.Prelude.{◌≡◌, ◌<◌, length, IfErr, IfOk, OnOk};
+    ghost use Rattle.std.specs.Prelude.{◌≡◌, length, IfErr, IfOk, OnOk};
     ghost use Rattle.hidreport_events.specs.Lamps.{IsWritten, written_behind};
     ghost use Rattle.hidreport_events.specs.Readers.{IsRefused, IsSent};
-    ghost use Rattle.hidreport_events.specs.Setting.{behind_set_by, behind_setting, has_lamp_at, sender_at, sets};
+    ghost use Rattle.hidreport_events.specs.Setting.{behind_handing, handed_on, has_lamp_at, sets, with_setting};
 
     /// The events behind a program that sets a lamp: that writes `EV_LED` with its number and a
     /// value, 0 for a lamp that is put out, and `SYN_REPORT` to the input device at an index. None
@@ -44,8 +45,9 @@ impl EventReader {
         if !self.has_lamp(device, lamp) {
             return Err(EventsError::NoLamp);
         }
-        let events = self.take_lamp(alloc, device, lamp, value)?;
-        Ok(events)
+        self.take_setting(device, lamp, value)?;
+        let events = self.hand_on(alloc, device);
+        Ok(ReportEvents { device, events })
     }
 
     /// How many input devices there are, which are counted from 0.
@@ -67,26 +69,30 @@ impl EventReader {
     }
 
     /// Has an input device take a lamp's value, if it is there.
-    fn take_lamp(
-        &mut self,
-        alloc: Global,
-        device: usize,
-        lamp: u16,
-        value: i32,
-    ) -> Result<ReportEvents, AllocError>
-        requires { device < length self.now.senders }
-        ensures device { IfOk result (λ events. events.device ≡ device) }
-        ensures sent { IfOk result (λ events. events.events.items
-            ≡ (behind_setting lamp value (sender_at device self.old)).sent) }
-        ensures next { OnOk result (self.new ≡ behind_set_by device
-            (behind_setting lamp value (sender_at device self.old)) self.old) }
+    #[tactic(auto, unfolding(crate::specs::Setting::with_setting))]
+    fn take_setting(&mut self, device: usize, lamp: u16, value: i32) -> Result<(), AllocError>
+        ensures { OnOk result (self.new ≡ with_setting device lamp value self.old) }
     {
         self.is_lost = true;
-        self.senders[device].take_setting(lamp, value)?;
+        if device < self.senders.len() {
+            self.senders[device].take_setting(lamp, value)?;
+        }
+        Ok(())
+    }
+
+    /// What an input device handed on, which is forgotten; the lamps are as it says.
+    #[tactic(auto, unfolding(crate::specs::Setting::behind_handing))]
+    fn hand_on(&mut self, alloc: Global, device: usize) -> Vec<InputEvent>
+        ensures sent { result.items ≡ handed_on device self.old }
+        ensures next { self.new ≡ behind_handing device self.old }
+    {
+        self.is_lost = false;
+        if device >= self.senders.len() {
+            return Vec::new(alloc);
+        }
         let events = self.senders[device].take_sent(alloc);
         take_events(&mut self.lamps, &events);
-        self.is_lost = false;
-        Ok(ReportEvents { device, events })
+        events
     }
 
     /// The bytes of the output report that Linux writes to the device behind these events, which

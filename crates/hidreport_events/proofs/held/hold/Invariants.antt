@@ -1,6 +1,6 @@
 use Rattle.std.proofs.Common.{◌≡◌, drop}
 use Rattle.hidreport_events.specs.Readers.{held_from}
-use Rattle.hidreport_events.proofs.event_reader.hold.Given as goal
+use Rattle.hidreport_events.proofs.held.hold.Given as goal
 
 -- those so far are in their places
 abbrev pub invariant-loop-value : goal.invariant-loop-value
