@@ -66,7 +66,7 @@ def said(words, columns, exported):
 def wanted(words, columns, exported, answer):
     """Asks a program for COLUMNS."""
     got = said(words, columns, exported)
-    text = f"-1  other\n" if answer is None else f"{len(answer)} {answer} other\n"
+    text = "-1  other\n" if answer is None else f"{len(answer)} {answer} other\n"
     if got != text:
         sys.exit(f"terminal: of {columns} columns, COLUMNS={exported}: {got!r} in place of {text!r}")
 
