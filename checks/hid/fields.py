@@ -215,8 +215,9 @@ def ask(digits):
 
 def devices():
     """The digits of each device."""
-    rows = [line for line in DEVICES.read_text().splitlines() if line.strip() and not line.startswith('#')]
-    return list(dict.fromkeys(line.split(':')[-1].replace(' ', '').strip() for line in rows))
+    rows = [line.strip() for line in DEVICES.read_text().splitlines()]
+    rows = [line.split(':')[-1] for line in rows if line and not line.startswith('#')]
+    return list(dict.fromkeys(line.replace(' ', '') for line in rows))
 
 
 def columns(line):
@@ -227,9 +228,13 @@ def columns(line):
 
 def are_wide(digits, *options):
     """Whether a line of a device's fields, and one of its map, has more columns than a terminal."""
-    said = [subprocess.run([program, command, '--form', 'hex', *options, '-'], input=digits.encode(),
-                           capture_output=True, check=False).stdout.decode() for command in ('fields', 'map')]
-    return [any(columns(line) > WIDTH for line in text.splitlines()) for text in said]
+    answers = []
+    for command in ('fields', 'map'):
+        words = [program, command, '--form', 'hex', *options, '-']
+        got = subprocess.run(words, input=digits.encode(), capture_output=True, check=False)
+        lines = got.stdout.decode().splitlines()
+        answers.append(any(columns(line) > WIDTH for line in lines))
+    return answers
 
 
 def ask_width(digits):
@@ -247,8 +252,8 @@ def check_widths(pool):
     wide = [sum(whole[at] for _, whole in answers) for at in (0, 1)]
     if min(wide) < FEWEST_WIDE:
         sys.exit(f'hid_fields: lines that are too wide are not noticed: {wide}')
-    print(f'hid_fields: {len(digits)} devices in {WIDTH} columns; without a bound the fields of {wide[0]} and the '
-          f'maps of {wide[1]} are wider')
+    print(f'hid_fields: {len(digits)} devices in {WIDTH} columns; without a bound the fields of '
+          f'{wide[0]} and the maps of {wide[1]} are wider')
 
 
 def main():

@@ -31,8 +31,9 @@ int main(void)
 }
 """
 # The terminal's columns, what is exported as COLUMNS, and what a program is told.
-ROWS = [(60, None, "60"), (60, "", "60"), (60, "x", "60"), (60, "7x", "60"), (60, "-1", "60"), (60, "72", "72"),
-        (65535, None, "65535"), (0, None, None), (0, "72", "72"), (None, None, None), (None, "72", None)]
+ROWS = [(60, None, "60"), (60, "", "60"), (60, "x", "60"), (60, "7x", "60"), (60, "-1", "60"),
+        (60, "72", "72"), (65535, None, "65535"), (0, None, None), (0, "72", "72"),
+        (None, None, None), (None, "72", None)]
 FILES = ["mouse.hex", "keyboard.hex", "touchpad.hex", "gamepad.hex"]
 
 
