@@ -310,7 +310,10 @@ ask_program() {
         wrong "./$program isn't linked from generated/"
     ends_quietly "$linked" "$@" || wrong "$program ends otherwise where its output is closed"
     case $program in
-        hid) python3 "$tree/checks/hid/runs.py" "$linked" ;;
+        hid)
+            python3 "$tree/checks/hid/runs.py" "$linked" &&
+                python3 "$tree/checks/launchers/terminal.py" "$linked"
+            ;;
         *) sh "$tree/checks/hidreport/statuses.sh" "$linked" ;;
     esac > "$scratch/said" 2>&1 || {
         tail -n 20 "$scratch/said" >&2

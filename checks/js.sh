@@ -132,7 +132,8 @@ by_node() {
     printf '#!/bin/sh\nexec node --liftoff-only "%s/bin/hid.js" "$@"\n' "$scratch/package" > "$scratch/hid"
     chmod +x "$scratch/hid"
     python3 "$top/checks/hid/runs.py" "$scratch/package/hid.wasm.gz" > "$scratch/all" 2>&1 &&
-        python3 "$top/checks/hid/runs.py" --every 80 "$scratch/hid" > "$scratch/said" 2>&1
+        python3 "$top/checks/hid/runs.py" --every 80 "$scratch/hid" > "$scratch/said" 2>&1 &&
+        python3 "$top/checks/launchers/terminal.py" "$scratch/hid" > "$scratch/terminal" 2>&1
 }
 if [ ! -e "$scratch/package/hid.wasm.gz" ] || ! command -v python3 > /dev/null; then
     echo 'js: no `python3` on the path, or no module of hid, so its runs are not tried'

@@ -2,8 +2,10 @@
 """Compares `HID convert --to webhid` with a model of WebHID's `HIDDevice.collections` (the W3C community
 group's draft "WebHID API", read as Chromium's services/device/public/cpp/hid does), which knows nothing
 of this library's code, over all descriptors that checks/hid/descriptors.sh and compare/devices.txt
-have: what is read has the model's answer, what is refused none. Then each value of an answer, spoilt,
-has to be noticed.
+have: what is read has the model's answer, what is refused none. An answer that is read back as a
+descriptor has to give itself again, to the byte, but for one that is refused: without a collection, or
+with data without a usage. Then each value of an answer, spoilt, and each byte of what is read back have
+to be noticed.
 
     webhid.py HID [WORDS ..]   compares, with these words before `convert`
     webhid.py --model HEX      says the model's answer
@@ -26,6 +28,7 @@ GLOBALS = {0x04: "page", 0x14: "logicalMinimum", 0x24: "logicalMaximum", 0x34: "
            0x44: "physicalMaximum", 0x54: "exponent", 0x64: "unit", 0x74: "reportSize", 0x84: "id",
            0x94: "reportCount"}
 SIGNED = {0x14, 0x24, 0x34, 0x44}
+END = 0xc0
 
 
 def items_of(data):
@@ -134,15 +137,60 @@ def run(words, data):
     return said.returncode, said.stdout.decode()
 
 
+def read_back(words, text):
+    """The descriptor of a text of collections, or why it is refused."""
+    said = subprocess.run([*words, "convert", "--form", "webhid", "-"], input=text.encode(),
+                          capture_output=True)
+    if said.returncode:
+        return None, said.stderr.decode()
+    return bytes.fromhex(said.stdout.decode()), ""
+
+
+def lacks_usages(collections):
+    """Whether an item of data has no usage."""
+    return any(not item["isConstant"] and not item["isRange"] and not item["usages"]
+               for own in collections for name in LISTS.values()
+               for report in own[name] for item in report["items"])
+
+
+def stays(words, text):
+    """What becomes of collections that are read back: `same` again, `none` or `bare` if they are refused
+    without a collection or with data without a usage, else `other`."""
+    data, why = read_back(words, text)
+    if data is None:
+        return "none" if not json.loads(text) and why.endswith(": has no collection\n") else "other"
+    status, said = run([*words, "convert", "--to", "webhid"], data)
+    if status and not said and lacks_usages(json.loads(text)):
+        return "bare"
+    return "same" if said == text else "other"
+
+
 def asked(words, data):
-    """Whether a descriptor is answered as the model does, and the answer; none of one that is refused."""
+    """Whether a descriptor is answered as the model does, and the answer with what becomes of it read
+    back; none of one that is refused."""
     refused = any(json.loads(line).get("odd", "").startswith("refused: ")
                   for line in run([*words, "check", "--json"], data)[1].splitlines())
     status, said = run([*words, "convert", "--to", "webhid"], data)
     if refused or status:
-        return refused and status == 1 and not said, None
-    answer = json.loads(said)
-    return answer == model(data), answer
+        return refused and status == 1 and not said, None, "refused"
+    answer, again = json.loads(said), stays(words, said)
+    return answer == model(data) and again != "other", answer, again
+
+
+def noticed(words, data):
+    """How many spoilt texts of a descriptor's collections give themselves again or are refused, and how
+    many bytes of the descriptor read back, spoilt, give others, but for ends of collections, which end
+    by themselves; whether all do."""
+    text = run([*words, "convert", "--to", "webhid"], data)[1]
+    own, _ = read_back(words, text)
+    texts, given = list(spoilt(json.loads(text))), 0
+    for other in texts:
+        back, _ = read_back(words, json.dumps(other))
+        given += back is None or model(back) == other
+    others = [own[:at] + bytes([own[at] ^ 1]) + own[at + 1:] for at in range(len(own))
+              if own[at] != END]
+    seen = sum(run([*words, "convert", "--to", "webhid"], other)[1] != text for other in others)
+    return given, seen, given == len(texts) and seen == len(others)
 
 
 def items_in(collections):
@@ -179,10 +227,10 @@ def main(words):
     all_of_them = descriptors()
     with multiprocessing.pool.ThreadPool() as pool:
         answers = pool.map(lambda data: asked(words, data), all_of_them)
-    differing = [data.hex() for data, (agrees, _) in zip(all_of_them, answers) if not agrees]
+    differing = [data.hex() for data, (agrees, *_) in zip(all_of_them, answers) if not agrees]
     for digits in differing[:20]:
         print(f"webhid: answered otherwise than the model does: {digits[:200]}")
-    count = sum(items_in(answer) for _, answer in answers if answer is not None)
+    count = sum(items_in(answer) for _, answer, _ in answers if answer is not None)
     mouse = bytes.fromhex("05010902a1010901a10085010509190129031500250195037501810255fd6613d1"
                           "050109300931158125761681ff8106c0c0")
     wanted, changed = asked(words, mouse)[1], 0
@@ -191,12 +239,20 @@ def main(words):
         if other == model(mouse):
             differing.append("")
             print("webhid: a spoilt answer isn't noticed")
+    given, seen, are_all = noticed(words, mouse)
+    if not are_all:
+        differing.append("")
+        print(f"webhid: of spoilt texts {given} are as they should be, of spoilt bytes {seen} noticed")
     if differing or count < LEAST or changed < 100:
         print(f"webhid: {len(differing)} descriptors differ, of {len(all_of_them)}; {count} items")
         return 1
-    read = sum(answer is not None for _, answer in answers)
+    read = sum(answer is not None for _, answer, _ in answers)
     print(f"webhid: {read} descriptors with {count} items of reports as the model has them, "
           f"{len(answers) - read} refused; {changed} spoilt answers are noticed")
+    became = [again for _, _, again in answers]
+    print(f"webhid: {became.count('same')} answers that are read back give themselves again, "
+          f"{became.count('none')} without a collection and {became.count('bare')} with data without a "
+          f"usage are refused; {given} spoilt texts and {seen} spoilt bytes are noticed")
     return 0
 
 

@@ -1,5 +1,6 @@
 /* What the programs ask of the system besides the C library: their words, the environment and the
  * number of an error, and a folder, as the contracts ask for them that the toolchain's pages state;
+ * how many columns a terminal has, as a variable of the environment;
  * and a signal that they would ignore, and don't, so that a closed pipe ends them quietly.
  * Licence: MIT (LICENSE). */
 #define _GNU_SOURCE
@@ -8,8 +9,10 @@
 #include <fcntl.h>
 #include <signal.h>
 #include <stddef.h>
+#include <stdio.h>
 #include <stdlib.h>
 #include <string.h>
+#include <sys/ioctl.h>
 #include <sys/syscall.h>
 #include <unistd.h>
 #ifdef __x86_64__
@@ -70,9 +73,29 @@ ptrdiff_t rattle_arg(size_t index, char *start, size_t room)
     return put(index < count ? words[index] : NULL, start, room);
 }
 
+/* How many columns standard output has, if it is a terminal: COLUMNS where that is a number, else as
+ * the terminal says. */
+static ptrdiff_t put_columns(char *start, size_t room)
+{
+    const char *said = getenv("COLUMNS");
+    struct winsize size;
+    char number[8];
+
+    if (!isatty(STDOUT_FILENO))
+        return -1;
+    if (said != NULL && *said != '\0' && said[strspn(said, "0123456789")] == '\0')
+        return put(said, start, room);
+    if (ioctl(STDOUT_FILENO, TIOCGWINSZ, &size) != 0 || size.ws_col == 0)
+        return -1;
+    snprintf(number, sizeof number, "%u", (unsigned)size.ws_col);
+    return put(number, start, room);
+}
+
 /* A variable of the environment. */
 ptrdiff_t rattle_env(const char *name, char *start, size_t room)
 {
+    if (strcmp(name, "COLUMNS") == 0)
+        return put_columns(start, room);
     return put(getenv(name), start, room);
 }
 

@@ -5,15 +5,21 @@ hid_fields.py PROGRAM: the descriptors are on standard input, the digits of one 
 the lines of `hid fields` are unfolded here (reports with the same fields, blocks that stand again,
 fields side by side) and compared with those of `--all`, and these with the fields of `--json`, each of which
 has to have the offset of an item that makes such fields by its header alone. No descriptor may take more than 200 lines for fewer than 100 different fields; that some would without
-folding is asked, too.
+folding is asked, too. Then `hid fields` and `hid map` of each device of compare/devices.txt keep to 80
+columns with --width 80, and without it many don't, which has to be noticed.
 """
 import collections
 import json
 import multiprocessing
+import pathlib
 import re
 import subprocess
 import sys
+import unicodedata
 
+DEVICES = pathlib.Path(__file__).resolve().parent.parent.parent / 'compare/devices.txt'
+WIDTH = 80
+FEWEST_WIDE = 100
 MOST_LINES = 200
 FEWEST_FIELDS = 100
 HEAD = re.compile(r'(Input|Output|Feature) report(?:s)?(?: ([0-9, to]+))?: (\d+ bits?, \d+ bytes?)(?: each)?$')
@@ -207,6 +213,49 @@ def ask(digits):
     return '', *counts
 
 
+def devices():
+    """The digits of each device."""
+    rows = [line.strip() for line in DEVICES.read_text().splitlines()]
+    rows = [line.split(':')[-1] for line in rows if line and not line.startswith('#')]
+    return list(dict.fromkeys(line.replace(' ', '') for line in rows))
+
+
+def columns(line):
+    """How many columns a terminal takes for a line."""
+    return sum(0 if unicodedata.combining(it) else 2 if unicodedata.east_asian_width(it) in 'WF' else 1
+               for it in line)
+
+
+def are_wide(digits, *options):
+    """Whether a line of a device's fields, and one of its map, has more columns than a terminal."""
+    answers = []
+    for command in ('fields', 'map'):
+        words = [program, command, '--form', 'hex', *options, '-']
+        got = subprocess.run(words, input=digits.encode(), capture_output=True, check=False)
+        lines = got.stdout.decode().splitlines()
+        answers.append(any(columns(line) > WIDTH for line in lines))
+    return answers
+
+
+def ask_width(digits):
+    """Whether lines are too wide where they are bounded, and where they aren't."""
+    return are_wide(digits, '--width', str(WIDTH)), are_wide(digits)
+
+
+def check_widths(pool):
+    """Asks each device."""
+    digits = devices()
+    answers = pool.map(ask_width, digits, 4)
+    for device, (narrow, _) in zip(digits, answers):
+        if any(narrow):
+            sys.exit(f'hid_fields: lines of more than {WIDTH} columns: {device}')
+    wide = [sum(whole[at] for _, whole in answers) for at in (0, 1)]
+    if min(wide) < FEWEST_WIDE:
+        sys.exit(f'hid_fields: lines that are too wide are not noticed: {wide}')
+    print(f'hid_fields: {len(digits)} devices in {WIDTH} columns; without a bound the fields of '
+          f'{wide[0]} and the maps of {wide[1]} are wider')
+
+
 def main():
     global program
     program = sys.argv[1]
@@ -218,6 +267,7 @@ def main():
         sys.exit('hid_fields: a field at another offset is not noticed')
     with multiprocessing.Pool() as pool:
         answers = pool.map(ask, digits, 16)
+        check_widths(pool)
     faults = [it[0] for it in answers if it[0]]
     for fault in faults[:20]:
         print(f'hid_fields: {fault[:300]}')

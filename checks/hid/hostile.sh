@@ -195,6 +195,8 @@ for shape in $shapes; do
     run fields --linux "$shape"
     run fields --json --linux "$shape"
     run fields --all "$shape"
+    run fields --width 40 "$shape"
+    run map --width 40 "$shape"
     for command in decode fields check diff; do
         run "$command" --json "$shape" $([ "$command" != diff ] || echo mouse)
     done
@@ -229,6 +231,27 @@ for shape in $shapes; do
     done
     run compile "$shape"
     run uhid "$shape"
+done
+
+# Collections of WebHID as JSON: many, deep ones, and one with many usages.
+listed='"inputReports":[],"outputReports":[],"featureReports":[]}'
+{
+    printf '[{"usagePage":1,"usage":2,"type":1,"children":['
+    for ((n = 0; n < 580; n++)); do printf '{"usagePage":1,"usage":2,"type":1,"children":[],%s,' "$listed"; done
+    printf '{"usagePage":1,"usage":2,"type":1,"children":[],%s],%s]' "$listed" "$listed"
+} > many_collections
+{
+    printf '['
+    for ((n = 0; n < 60; n++)); do printf '{"usagePage":1,"usage":2,"type":1,"children":['; done
+    for ((n = 0; n < 60; n++)); do printf '],%s' "$listed"; done
+    printf ']'
+} > deep_collections
+sed "s/\"usages\": \[\]/\"usages\": [$(yes 1, | head -n 15000 | tr -d '\n')1]/" \
+    "$top/crates/hid/data/mouse.collections" > many_usages
+for shape in many_collections deep_collections many_usages; do
+    for command in decode fields check convert 'convert --to webhid'; do
+        run $command --form webhid "$shape"
+    done
 done
 
 # As many items as are paired, and more.

@@ -41,6 +41,15 @@ E: TIME 1 05' ] || {
     exit 1
 }
 
+# Into a pipe lines are whole, whatever is exported.
+for command in fields map; do
+    [ "$(COLUMNS=60 "$program" "$command" "$top/crates/hid/data/keyboard.hex")" = \
+        "$("$program" "$command" "$top/crates/hid/data/keyboard.hex")" ] || {
+        echo "hid_texts: COLUMNS bounds the lines of $command in a pipe" >&2
+        exit 1
+    }
+done
+
 # A map of 4,101 rows: the first 4,096, and all where that is asked for. Of 4,097 one is left out.
 rows='05 01 09 30 75 08 96 04 10 81 02 75 08 95 01 81 01'
 row='05 01 09 30 75 08 96 00 10 81 02 75 08 95 01 81 01'

@@ -82,7 +82,7 @@ OF_TREE = {
          "PATH=/usr/bin:/bin bash checks/c/cases.sh \"$PWD/prefix\"",
     "programs": "make -s build/hid build/hidreport && python3 checks/hid/runs.py build/hid && "
                 "sh checks/hidreport/statuses.sh \"$PWD/build/hidreport\" && "
-                "bash checks/hid/devices.sh build/hid",
+                "bash checks/hid/devices.sh build/hid && python3 checks/launchers/terminal.py build/hid",
     "texts": "make -s build/hid && bash checks/hid/texts.sh build/hid",
     "hostile": "make -s build/hid && bash checks/hid/hostile.sh build/hid",
     "pipes": "make -s build/hid && { { sleep 0.2 && build/hid fields crates/hid/data/mouse.hex; echo $? >&3; } | :; } "
@@ -102,6 +102,7 @@ LOOK = [
     ("crates/hid_output/", "runs page devices texts"),
     ("crates/hid_captures/", "runs texts"),
     ("crates/hid_given/", "runs texts"),
+    ("crates/hid_webhid/", "runs webhid texts"),
     ("crates/hid_input/", "runs devices texts"),
     ("crates/hid_words/", "runs beside texts"),
     ("crates/hid_items/", "runs texts page"),

@@ -21,7 +21,13 @@ function pause() {
 /** The files that are open: what Node calls them, their paths, and of a folder what is left to list. */
 export class NodeFiles {
   #open = new Map([[0, { number: 0 }], [1, { number: 1 }], [2, { number: 2 }]]);
-  environment = process.env;
+
+  /** The environment, with COLUMNS only where standard output is a terminal: a number, else its own. */
+  get environment() {
+    const { COLUMNS: said, ...others } = process.env;
+    const columns = /^[0-9]+$/.test(said ?? "") ? said : process.stdout.columns;
+    return tty.isatty(1) && columns ? { ...others, COLUMNS: String(columns) } : others;
+  }
 
   #add(file) {
     let own = 3;

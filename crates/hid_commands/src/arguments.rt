@@ -1,6 +1,6 @@
 //! The commands of `hid` and their arguments, as tables.
 use crate::kind::{Argument, Kind};
-use crate::shared_options::{COLOR, INPUT, JSON, REPORT_FORM, SYSFS};
+use crate::shared_options::{COLOR, INPUT, JSON, REPORT_FORM, SYSFS, WIDTH};
 
 /// The option of a rule that is explained.
 pub const EXPLAIN: &str = "explain";
@@ -212,7 +212,7 @@ pub type Row = (
 pub static COMMANDS: [Row; 14] = [
     ("decode", "Shows the items of a descriptor in words", DECODE, &[INPUT, JSON, COLOR]),
     ("fields", "Shows the reports of a descriptor and their fields", FIELDS,
-        &[INPUT, JSON, COLOR]),
+        &[INPUT, JSON, COLOR, WIDTH]),
     ("values", "Shows the values of reports", VALUES, &[INPUT, REPORT_FORM, JSON]),
     ("record", "Shows each report of a stream in a line, as it comes", RECORD,
         &[INPUT, REPORT_FORM, JSON]),
@@ -223,7 +223,7 @@ pub static COMMANDS: [Row; 14] = [
     ("compile", "Writes the descriptor that a text of hid decode says", COMPILE, &[]),
     ("struct", "Writes source with a struct, a decoder and an encoder for each report", STRUCT,
         &[INPUT]),
-    ("map", "Draws the bits of each report", MAP, &[INPUT]),
+    ("map", "Draws the bits of each report", MAP, &[INPUT, WIDTH]),
     ("page", "Writes a page of HTML that shows a descriptor and reports", PAGE,
         &[INPUT, REPORT_FORM]),
     ("diff", "Shows what differs between two descriptors", DIFF, &[INPUT, JSON, COLOR]),

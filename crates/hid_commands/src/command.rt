@@ -1,4 +1,5 @@
 //! What the words of a command line ask for.
+use crate::settings::{LEAST_WIDTH, MOST_WIDTH};
 use anyhow::{Result, bail};
 use clap::ArgMatches;
 use hid_compare::Diff;
@@ -133,6 +134,12 @@ impl<'a> Command<'a> {
 
     /// Why these options can't be met together, where they can't.
     pub fn conflict(&self, settings: &Settings) -> Option<&'static str> {
+        if settings
+            .width
+            .is_some_and(|width| !(LEAST_WIDTH..=MOST_WIDTH).contains(&width))
+        {
+            return Some("--width is 40 to 999");
+        }
         if self.shows_linux() && !settings.reads_as_linux() {
             return Some("--linux shows what Linux reads: without --as standard");
         }

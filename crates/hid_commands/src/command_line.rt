@@ -17,7 +17,8 @@ static DIRECTIONS: [&str; 3] = ["input", "output", "feature"];
 /// What stands below the help.
 const AFTER: &str = "FILE is a report descriptor: a file, - for the standard input, or a node such \
 as /dev/hidraw0.\nIt holds bytes, hex text, a dump with offsets, C, Rust or Python source, or what \
-hid-recorder,\nusbhid-dump, libinput record, debugfs or lsusb -v write, or a capture of USB traffic.\n\
+hid-recorder,\nusbhid-dump, libinput record, debugfs or lsusb -v write, WebHID's collections, or a \
+capture\nof USB traffic.\n\
 The status is 0, 1 where something is refused or can't be read, and 2 where the words are wrong.";
 
 /// `hid` with its commands.

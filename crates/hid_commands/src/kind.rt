@@ -21,7 +21,7 @@ pub enum Kind {
     /// The same, but not beside `QUIET`.
     Louder,
 
-    /// The most that a descriptor may list, or a device's number.
+    /// The most that a descriptor may list, a device's number, or how many columns there are.
     Number,
 
     /// A name that a source is to have, with its number or without.

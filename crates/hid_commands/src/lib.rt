@@ -13,7 +13,7 @@ mod shared_options;
 use crate::arguments::REPLACED;
 use crate::command::{Command, words_in};
 use crate::command_line::command_line;
-use crate::settings::settings_of;
+use crate::settings::{LEAST_WIDTH, MOST_WIDTH, settings_of};
 use anyhow::{Context, Result, bail};
 use clap::ArgMatches;
 use hid_input::world::World;
@@ -103,7 +103,8 @@ fn carry_out<R: World>(
     matches: &ArgMatches,
 ) -> Result<Ending> {
     let names = words_in(rt.alloc(), "define", matches)?;
-    let settings = settings_of(matches, is_coloured(rt, is_terminal), &names);
+    let columns = columns_of(rt, is_terminal);
+    let settings = settings_of(matches, is_coloured(rt, is_terminal), columns, &names);
     let command = match Command::of(rt.alloc(), name, matches) {
         Ok(command) => command,
         Err(error) => {
@@ -127,6 +128,23 @@ fn is_coloured<R: AllocGlobal + Env>(rt: &R, is_terminal: bool) -> bool {
         return false;
     }
     is_terminal || is_set(rt, "CLICOLOR_FORCE", "0")
+}
+
+/// How many columns a terminal has by `COLUMNS`; one past the bounds is taken for the next.
+fn columns_of<R: AllocGlobal + Env>(rt: &R, is_terminal: bool) -> Option<usize> {
+    if !is_terminal {
+        return None;
+    }
+    match env::var(rt, "COLUMNS") {
+        Ok(value) => Some(
+            value
+                .as_str()
+                .parse::<usize>()
+                .ok()?
+                .clamp(LEAST_WIDTH, MOST_WIDTH),
+        ),
+        Err(_unset) => None,
+    }
 }
 
 /// Whether a variable of the environment is set to something else than this.

@@ -5,11 +5,17 @@ use hid_given::Form;
 use hid_input::settings::{LIMIT, Notes, ReadAs, Settings};
 use hidreport::ParseOptions;
 
-/// What the words of a command line say; whether `auto` means colour is told, and the names of
-/// `--define`.
+/// The least and the most columns of a line.
+pub const LEAST_WIDTH: usize = 40;
+
+pub const MOST_WIDTH: usize = 999;
+
+/// What the words of a command line say; whether `auto` means colour is told, how many columns a
+/// terminal has, and the names of `--define`.
 pub fn settings_of<'a: 'b, 'b>(
     matches: &ArgMatches<'a>,
     is_terminal: bool,
+    columns: Option<usize>,
     names: &'b [&'b str],
 ) -> Settings<'b> {
     let limit = matches.get_one::<usize>("limit").unwrap_or(LIMIT);
@@ -28,6 +34,7 @@ pub fn settings_of<'a: 'b, 'b>(
             Some("never") => false,
             _ => is_terminal,
         },
+        width: matches.get_one::<usize>("width").or(columns),
         sysfs,
         notes: notes_of(matches),
         names,

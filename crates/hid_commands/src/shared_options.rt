@@ -72,3 +72,10 @@ pub const JSON: &[Argument] = &[("json", Kind::Flag, "Write an object of JSON in
 
 /// Whether names are in colour.
 pub const COLOR: &[Argument] = &[("color", Kind::Colour, "Show names in colour")];
+
+/// In how many columns lines are.
+pub const WIDTH: &[Argument] = &[(
+    "width",
+    Kind::Number,
+    "The most columns of a line, 40 to 999; those of the terminal where it isn't said",
+)];

@@ -46,6 +46,7 @@ use crate::source::{SourceLines, is_source_line};
 use anyhow::{Result, ensure};
 pub use hex_text::{bytes_of_hex, is_blank};
 use hid_given::{Form, Found, Wanted};
+use hid_webhid::WebHidLines;
 pub use markdown::without_markdown;
 pub use remarks::Remarks;
 use std::alloc::Global;
@@ -98,6 +99,7 @@ pub enum FormLines {
     Libinput(LibinputLines),
     Debugfs(DebugfsLines),
     Lsusb(LsusbLines),
+    WebHid(WebHidLines),
 }
 
 impl FormLines {
@@ -114,6 +116,7 @@ impl FormLines {
             Form::Libinput => Some(FormLines::Libinput(LibinputLines::new(alloc))),
             Form::Debugfs => Some(FormLines::Debugfs(DebugfsLines::new())),
             Form::Lsusb => Some(FormLines::Lsusb(LsusbLines::new(alloc))),
+            Form::WebHid => Some(FormLines::WebHid(WebHidLines::new(alloc))),
         }
     }
 
@@ -137,6 +140,7 @@ impl FormLines {
             FormLines::Libinput(lines) => lines.take(found, line),
             FormLines::Debugfs(lines) => lines.take(found, line),
             FormLines::Lsusb(lines) => lines.take(found, line),
+            FormLines::WebHid(lines) => Ok(lines.take(line)?),
         }
     }
 
@@ -151,6 +155,7 @@ impl FormLines {
             FormLines::Offsets(lines) => lines.end(found),
             FormLines::Libinput(lines) => lines.end(),
             FormLines::Lsusb(lines) => lines.end(found),
+            FormLines::WebHid(lines) => lines.end(found),
         }
     }
 }

@@ -36,12 +36,15 @@ pub enum Form {
 
     /// As a capture of USB traffic, by usbmon or USBPcap.
     Usbmon,
+
+    /// As the collections of WebHID, in JSON.
+    WebHid,
 }
 
 /// The words for the forms on a command line.
-pub static FORM_WORDS: [&str; 11] = [
+pub static FORM_WORDS: [&str; 12] = [
     "bytes", "hex", "recorder", "dump", "source", "python", "offsets", "libinput", "debugfs",
-    "lsusb", "usbmon",
+    "lsusb", "usbmon", "webhid",
 ];
 
 impl Form {
@@ -59,6 +62,7 @@ impl Form {
             "debugfs" => Some(Form::Debugfs),
             "lsusb" => Some(Form::Lsusb),
             "usbmon" => Some(Form::Usbmon),
+            "webhid" => Some(Form::WebHid),
             _ => None,
         }
     }
@@ -77,6 +81,7 @@ impl Form {
             Form::Debugfs => "debugfs's rdesc",
             Form::Lsusb => "lsusb's text",
             Form::Usbmon => "a capture of USB traffic",
+            Form::WebHid => "WebHID's collections",
         }
     }
 
@@ -84,7 +89,7 @@ impl Form {
     pub fn has_one_device(self) -> bool {
         matches!(
             self,
-            Form::Bytes | Form::Hex | Form::Offsets | Form::Debugfs
+            Form::Bytes | Form::Hex | Form::Offsets | Form::Debugfs | Form::WebHid
         )
     }
 

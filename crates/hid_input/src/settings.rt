@@ -73,6 +73,8 @@ pub struct Settings<'a> {
     pub is_json: bool,
     /// Whether names are shown in colour.
     pub is_coloured: bool,
+    /// How many columns a line of fields or of a map may have, where that is bounded.
+    pub width: Option<usize>,
     /// The folder in which Linux tells of devices.
     pub sysfs: &'a str,
     /// What is said on standard error beside refusals.

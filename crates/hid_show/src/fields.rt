@@ -1,5 +1,6 @@
 //! `hid fields`: the reports of a descriptor with their fields, inside their collections.
 use crate::field_objects::show_objects;
+use crate::fitting::add_fitted;
 use crate::linux_fields::show_linux;
 use anyhow::Result;
 use hid_input::parsing::descriptor_by;
@@ -70,7 +71,9 @@ impl<'a> Fields<'a> {
         let same = SameReports::of(rt.alloc(), reports, self.shows_each)?;
         for (place, report) in reports.iter().enumerate() {
             if same.is_first(place) {
-                same.add_head(text, direction, reports, place)?;
+                let mut head = String::new(rt.alloc());
+                same.add_head(&mut head, direction, reports, place)?;
+                add_fitted(text, head.as_str(), settings.width)?;
                 self.show_fields(rt, settings, text, report)?;
             }
         }
@@ -98,7 +101,9 @@ impl<'a> Fields<'a> {
             } else {
                 Block::at(rest)
             };
-            block.add(text, rest, settings.is_coloured)?;
+            let mut shown = String::new(rt.alloc());
+            block.add(&mut shown, rest, settings.is_coloured)?;
+            add_fitted(text, shown.as_str(), settings.width)?;
             flush_piece(rt, text)?;
             next = place.saturating_add(block.len());
         }

@@ -5,6 +5,7 @@
 mod decode;
 mod field_objects;
 mod fields;
+mod fitting;
 mod item_offsets;
 mod linux_fields;
 mod linux_usages;

@@ -1,4 +1,5 @@
 //! `hid fields --linux`: each field with the event codes that Linux gives its usages.
+use crate::fitting::add_fitted;
 use crate::item_offsets::{ItemOffsets, unmended};
 use crate::linux_usages::{check_usages, fields_of, left_of};
 use anyhow::Result;
@@ -76,6 +77,7 @@ struct Shown<'c> {
     offsets: ItemOffsets<'c>,
     is_json: bool,
     is_coloured: bool,
+    width: Option<usize>,
 }
 
 impl<'c> Shown<'c> {
@@ -88,6 +90,7 @@ impl<'c> Shown<'c> {
             offsets: ItemOffsets::of(alloc, settings, read.bytes(), read.changes())?,
             is_json: settings.is_json,
             is_coloured: settings.is_coloured,
+            width: settings.width,
         })
     }
 
@@ -123,7 +126,9 @@ impl<'c> Shown<'c> {
             return Ok(self.pass_fields(read, fields)?);
         };
         if !self.is_json {
-            add_head(&mut self.text, direction, report)?;
+            let mut head = String::new(*self.text.allocator());
+            add_head(&mut head, direction, report)?;
+            add_fitted(&mut self.text, head.as_str(), self.width)?;
         }
         let rest = self.show_groups(rt, read, outline, (direction, report), fields)?;
         Ok(self.pass_fields(read, rest)?)
@@ -253,8 +258,10 @@ impl<'c> Shown<'c> {
                 add_json(&mut self.text, &object)?;
             } else {
                 let around = around(open, field);
-                add_opened(&mut self.text, open, around, self.is_coloured)?;
-                add_answered(&mut self.text, field, &answers, around.len())?;
+                let mut lines = String::new(alloc);
+                add_opened(&mut lines, open, around, self.is_coloured)?;
+                add_answered(&mut lines, field, &answers, around.len())?;
+                add_fitted(&mut self.text, lines.as_str(), self.width)?;
                 open = around;
             }
             flush_piece(rt, &mut self.text)?;
@@ -281,10 +288,12 @@ impl<'c> Shown<'c> {
             return add_json(&mut self.text, &object);
         }
         let indent = indent_of(depth.saturating_add(1));
-        add_spaces(&mut self.text, indent)?;
-        self.text.push_str("usages without a field:")?;
-        add_lines(&mut self.text, answers, indent.saturating_add(DEEPER))?;
-        Ok(self.text.push_str("\n")?)
+        let mut lines = String::new(*self.text.allocator());
+        add_spaces(&mut lines, indent)?;
+        lines.push_str("usages without a field:")?;
+        add_lines(&mut lines, answers, indent.saturating_add(DEEPER))?;
+        lines.push_str("\n")?;
+        Ok(add_fitted(&mut self.text, lines.as_str(), self.width)?)
     }
 }
 

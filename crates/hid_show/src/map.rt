@@ -8,12 +8,15 @@ use hid_output::{flush, flush_piece, show};
 use hid_report::{Cell, Picture, Row, add_title, height_of, more_rows, rows_of};
 use hid_words::{add_spaces, shortened};
 use hidreport::{Direction, RDescReport, ReportDescriptor};
-use std::alloc::AllocError;
+use std::alloc::{AllocError, Global};
 use std::fmt::Write;
 use unicode_width::UnicodeWidthStr;
 
-/// How many letters a bit has.
+/// How many columns a bit has where there is room.
 const WIDTH: usize = 10;
+
+/// How many columns stand before the bits at least.
+const FRONT: usize = 9;
 
 /// The rows that are shown where not all are asked for.
 const MOST_ROWS: usize = 4_096;
@@ -41,7 +44,7 @@ impl<'a> Map<'a> {
         if self.is_svg {
             show_svg(rt, &descriptor, most)?;
         } else {
-            show_rows(rt, &descriptor, most)?;
+            show_rows(rt, settings, &descriptor, most)?;
         }
         Ok(Ending::Done)
     }
@@ -69,6 +72,7 @@ fn show_svg<R: AllocGlobal + Print>(
 
 fn show_rows<R: AllocGlobal + Print>(
     rt: &R,
+    settings: &Settings,
     descriptor: &ReportDescriptor,
     most: usize,
 ) -> Result<()> {
@@ -76,51 +80,86 @@ fn show_rows<R: AllocGlobal + Print>(
     let mut most = most;
     for direction in Direction::ALL {
         for report in descriptor.reports(direction) {
-            most = add_report(&mut text, direction, report, most)?;
+            add_title(&mut text, direction, report)?;
+            most = add_report(&mut text, settings.width, report, most)?;
             flush_piece(rt, &mut text)?;
         }
     }
     flush(rt, &mut text)
 }
 
-/// Appends the picture of a report, and answers how many rows may follow.
+/// Appends the picture of a report in no more columns than these, and answers how many rows may
+/// follow.
 fn add_report(
     text: &mut String,
-    direction: Direction,
+    columns: Option<usize>,
     report: &RDescReport,
     most: usize,
 ) -> Result<usize, AllocError> {
-    add_title(text, direction, report)?;
-    text.push_str("\n      ")?;
+    let alloc = *text.allocator();
+    let (rows, left_out) = rows_of(alloc, report, most)?;
+    let front = front_of(alloc, columns, &rows)?;
+    let width = width_of(columns, front);
+    text.push_str("\n")?;
+    add_spaces(
+        text,
+        front.saturating_add(2).saturating_sub(width - width / 2),
+    )?;
     for bit in 0..8u8 {
         let bit = 7 - bit;
-        write!(text, "          {bit}")?;
+        add_spaces(text, width)?;
+        write!(text, "{bit}")?;
     }
     text.push_str("\n")?;
-    let (rows, left_out) = rows_of(*text.allocator(), report, most)?;
     for row in rows.iter() {
-        add_row(text, row)?;
+        add_row(text, row, front, width)?;
     }
     if left_out != 0 {
-        let said = more_rows(*text.allocator(), left_out)?;
+        let said = more_rows(alloc, left_out)?;
         writeln!(text, "{said}")?;
     }
     Ok(most.saturating_sub(rows.len()))
 }
 
+/// How many columns the numbers of bytes have, where lines are bounded those of the widest.
+fn front_of(alloc: Global, columns: Option<usize>, rows: &[Row]) -> Result<usize, AllocError> {
+    let mut front = FRONT;
+    if columns.is_some() {
+        for row in rows {
+            front = front.max(row.bytes(alloc)?.len());
+        }
+    }
+    Ok(front)
+}
+
+/// How many columns a bit has, behind so many before all bits and a line before each.
+fn width_of(columns: Option<usize>, front: usize) -> usize {
+    match columns {
+        Some(columns) => {
+            let each = columns.saturating_sub(front).saturating_sub(2) / 8;
+            each.saturating_sub(1).clamp(1, WIDTH)
+        }
+        None => WIDTH,
+    }
+}
+
 /// Appends a row, its bytes before it.
-fn add_row(text: &mut String, row: &Row) -> Result<(), AllocError> {
+fn add_row(text: &mut String, row: &Row, front: usize, width: usize) -> Result<(), AllocError> {
     let bytes = row.bytes(*text.allocator())?;
-    write!(text, "{bytes:>9} |")?;
+    add_spaces(text, front.saturating_sub(bytes.len()))?;
+    write!(text, "{bytes} |")?;
     for cell in row.cells.iter() {
-        add_cell(text, cell)?;
+        add_cell(text, cell, width)?;
     }
     text.push_str("\n")
 }
 
 /// Appends a cell, its text in the middle.
-fn add_cell(text: &mut String, cell: &Cell) -> Result<(), AllocError> {
-    let width = cell.bits.saturating_mul(WIDTH + 1).saturating_sub(1);
+fn add_cell(text: &mut String, cell: &Cell, width: usize) -> Result<(), AllocError> {
+    let width = cell
+        .bits
+        .saturating_mul(width.saturating_add(1))
+        .saturating_sub(1);
     let shown = shortened(*text.allocator(), &cell.name, width)?;
     let gap = width.saturating_sub(shown.as_str().width());
     add_spaces(text, gap / 2)?;

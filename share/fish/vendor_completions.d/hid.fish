@@ -31,13 +31,14 @@ complete -c hid -s h -l help -d "Print help"
 complete -c hid -n "$none" -s V -l version -d "Print version"
 
 # Those of several.
-complete -c hid -n "__fish_seen_subcommand_from decode fields values record uhid set convert struct map page diff check" -l form -x -a "bytes hex recorder dump source python offsets libinput debugfs lsusb usbmon" -d "What the descriptor's input holds, where it isn't to be guessed"
+complete -c hid -n "__fish_seen_subcommand_from decode fields values record uhid set convert struct map page diff check" -l form -x -a "bytes hex recorder dump source python offsets libinput debugfs lsusb usbmon webhid" -d "What the descriptor's input holds, where it isn't to be guessed"
 complete -c hid -n "__fish_seen_subcommand_from decode fields values record uhid set convert struct map page diff check" -s D -l define -x -d "A name that source asks for by #if, or NAME=NUMBER; each by an option"
 complete -c hid -n "__fish_seen_subcommand_from decode fields values record uhid set convert struct map page diff check" -l device -x -d "The device that is meant, of an input that has several"
 complete -c hid -n "__fish_seen_subcommand_from decode fields values record uhid set convert struct map page diff check list" -l sysfs -x -a "(__fish_complete_directories)" -d "The folder in which Linux tells of devices"
-complete -c hid -n "__fish_seen_subcommand_from values record page" -l report-form -x -a "bytes hex recorder dump source python offsets libinput debugfs lsusb usbmon" -d "What the reports' input holds, where it isn't to be guessed"
+complete -c hid -n "__fish_seen_subcommand_from values record page" -l report-form -x -a "bytes hex recorder dump source python offsets libinput debugfs lsusb usbmon webhid" -d "What the reports' input holds, where it isn't to be guessed"
 complete -c hid -n "__fish_seen_subcommand_from decode fields values record diff check list" -l json -d "Write an object of JSON in each line"
 complete -c hid -n "__fish_seen_subcommand_from decode fields diff" -l color -x -a "auto always never" -d "Show names in colour"
+complete -c hid -n "__fish_seen_subcommand_from fields map" -l width -x -d "The most columns of a line, 40 to 999; those of the terminal where it isn't said"
 
 # Those of one.
 complete -c hid -n "__fish_seen_subcommand_from fields" -l all -d "Show each field and each report by itself, also those that are alike"

@@ -3,6 +3,7 @@ use anyhow::{Context, Error, Result, anyhow, ensure};
 use hid_captures::{is_capture, read_capture};
 use hid_forms::{FormLines, Remarks, form_of, is_blank, likest, without_markdown};
 use hid_given::{Form, Found, Given, GivenReport, Wanted};
+use hid_webhid::is_webhid;
 use std::alloc::Global;
 
 /// What the bytes of an input say, in a source with these names. Bytes that are all text are read
@@ -41,6 +42,7 @@ fn read(
 ) -> Result<Given> {
     let form = match form {
         Some(form) => form,
+        None if is_webhid(text) => Form::WebHid,
         None => guessed(alloc, text)?,
     };
     said(alloc, text, form, wanted, names)
