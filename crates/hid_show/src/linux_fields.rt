@@ -16,7 +16,8 @@ use hidreport::{
     Collection, Direction, Field, Group, OutlineReport, RDescReport, Report, ReportDescriptor,
     Usage,
 };
-use hidreport_linux::{Doubt, Driver, InputDevices, Item, LinuxDevice, LinuxField, LinuxReport};
+use hidreport_linux::{Doubt, Driver, LinuxDevice, LinuxField, LinuxReport};
+use hidreport_multitouch::{DrivenDevices, DrivenItem};
 use std::alloc::{AllocError, Global};
 
 /// How much deeper than its array's the usages of an array stand.
@@ -71,8 +72,8 @@ fn tell<R: Eprint>(rt: &R, doubt: Option<Doubt>, driver: Option<Driver>) -> Resu
 #[derive(Drop)]
 struct Shown<'c> {
     text: String,
-    devices: InputDevices,
-    all: InputDevices,
+    devices: DrivenDevices,
+    all: DrivenDevices,
     offsets: ItemOffsets<'c>,
     is_json: bool,
     is_coloured: bool,
@@ -83,8 +84,8 @@ impl<'c> Shown<'c> {
     fn of(alloc: Global, settings: &Settings, read: &'c LinuxDevice) -> Result<Shown<'c>> {
         Ok(Shown {
             text: String::new(alloc),
-            devices: read.reading().input_devices(alloc),
-            all: read.reading().input_devices_behind(alloc)?,
+            devices: DrivenDevices::new(alloc, read.reading())?,
+            all: DrivenDevices::behind(alloc, read.reading())?,
             offsets: ItemOffsets::of(alloc, settings, read.bytes(), read.changes())?,
             is_json: settings.is_json,
             is_coloured: settings.is_coloured,
@@ -132,7 +133,7 @@ impl<'c> Shown<'c> {
     /// Goes over the usages of fields that aren't shown.
     fn pass_fields(&mut self, read: &LinuxDevice, fields: &[LinuxField]) -> Result<(), AllocError> {
         for field in fields {
-            read.reading().pass_field(field, &mut self.devices)?;
+            self.devices.pass_field(read.reading(), field)?;
         }
         Ok(())
     }
@@ -185,7 +186,7 @@ impl<'c> Shown<'c> {
             if !field.place.is_constant && field.size > 0 && field.count > 0 {
                 break;
             }
-            read.reading().pass_field(field, &mut self.devices)?;
+            self.devices.pass_field(read.reading(), field)?;
             count = count.saturating_add(1);
         }
         Ok(count)
@@ -199,7 +200,7 @@ impl<'c> Shown<'c> {
         direction: Direction,
         group: &Group,
         field: Option<&LinuxField>,
-    ) -> Result<Item, AllocError> {
+    ) -> Result<DrivenItem, AllocError> {
         match field {
             Some(field) if read.reading().doubt().is_none() => self.devices.begin_field(field),
             _ => Ok(self.devices.begin(direction, group)),
@@ -213,7 +214,7 @@ impl<'c> Shown<'c> {
         read: &LinuxDevice,
         field: &LinuxField,
         group: &Group,
-        item: &mut Item,
+        item: &mut DrivenItem,
     ) -> Result<Vec<Answered>, AllocError> {
         let alloc = *self.text.allocator();
         let usages = read.reading().usages(field);
@@ -227,7 +228,7 @@ impl<'c> Shown<'c> {
     }
 
     /// What Linux gives usages of an item.
-    fn answers(&mut self, item: &mut Item, usages: &[Usage]) -> Result<Vec<Answered>, AllocError> {
+    fn answers(&mut self, item: &mut DrivenItem, usages: &[Usage]) -> Result<Vec<Answered>, AllocError> {
         let alloc = *self.text.allocator();
         answers_of(alloc, &mut self.devices, &self.all, item, usages)
     }
@@ -238,7 +239,7 @@ impl<'c> Shown<'c> {
         rt: &R,
         place: (Direction, &RDescReport),
         offset: Option<usize>,
-        item: &mut Item,
+        item: &mut DrivenItem,
         fields: &'a [Field],
         before: &'a [Collection],
     ) -> Result<&'a [Collection]> {

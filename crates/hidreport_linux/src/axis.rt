@@ -100,7 +100,7 @@ impl Axis {
 
     /// That of a code that is an absolute axis: a hat goes from -1 to 1.
     #[tactic(auto, unfolding(crate::specs::AxisNumbers::axis_by))]
-    pub(crate) fn of(code: EventCode, role: Role, place: &Place, measures: &Measures) -> Axis
+    pub fn of(code: EventCode, role: Role, place: &Place, measures: &Measures) -> Axis
         ensures { result ≡ axis_by code role place.now measures.now }
     {
         if role.is_hat() {
