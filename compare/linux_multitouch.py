@@ -87,6 +87,11 @@ def is_turned(fields, index):
     return any(one[2] == [[EV_ABS, ORIENTATION]] and one[3] == index for some in fields for one in some["usages"])
 
 
+def is_pointer(device, number):
+    """Whether the device also stands for a pointer (INPUT_MT_POINTER, _DIRECT) with such an axis."""
+    return device["flags"] & 3 and axis_of(device, POINTER[number])
+
+
 def codes_of(answer, devices, some, usage):
     """The codes that a usage has: those that hid-multitouch gave it, with what stands for them beside in the
     end; a slot for a contact; or the one that hid-input gave it, where the device has it."""
@@ -96,6 +101,8 @@ def codes_of(answer, devices, some, usage):
         return ()
     if said and not noted and number == CONTACT_ID:
         noted = [[EV_ABS, SLOT]]
+    if noted == [[EV_ABS, MINOR], [EV_ABS, ORIENTATION]] and is_turned(answer["fields"], index):
+        noted = noted[:1]
     if said and noted:
         first = noted[0][1] if noted[0][0] == EV_ABS else None
         found = [code_of(device, *one) for one in noted]
@@ -103,10 +110,7 @@ def codes_of(answer, devices, some, usage):
             found.append((EV_ABS, TRACKING_ID, None))
         elif first == MINOR and len(found) == 1 and not is_turned(answer["fields"], index):
             found.append((EV_ABS, ORIENTATION, None))
-        elif first in POINTER and len(found) == 1 and axis_of(device, POINTER[first]):
-            # Its pointer has the same bounds, but for a report that isn't hid-multitouch's.
-            if axis_of(device, POINTER[first]) != axis_of(device, first):
-                raise ValueError(f"the pointer of {device['index']} differs")
+        elif first in POINTER and len(found) == 1 and is_pointer(device, first):
             found.append((EV_ABS, POINTER[first], None))
         return tuple(one if k == 0 else one[:2] + (None,) for k, one in enumerate(found))
     if kind and has(device, kind, code):
@@ -291,7 +295,7 @@ def compare_one(question):
 def spoilt(said):
     """The answers with one spoilt, of each kind of number."""
     for at, (direction, number, bit, usages) in enumerate(said):
-        place = next((k for k, (_, codes) in enumerate(usages) if codes and codes[0][2]), None)
+        place = next((k for k, (_, codes) in enumerate(usages) if codes and codes[0][2] and codes[0][1] >= SLOT), None)
         if place is None:
             continue
         usage, codes = usages[place]
@@ -376,7 +380,7 @@ class Made:
 
     def contact(self):
         """The fields of a contact."""
-        bits = [0xD0042, 0xD0032, 0xD0047, 0xD0033, 0xD0044, 0xD0037]
+        bits = [0xD0042, 0xD0032, 0xD0047, 0xD0033, 0xD0037]
         switches = [0xD0042] * (not self.rarely(9)) + [one for one in bits[1:] if self.rarely(3)]
         self.random.shuffle(switches)
         parts = [field([one], 1, 1, 0, 1) for one in switches]

@@ -6,7 +6,7 @@
  *
  * Taken: {"driver": the group that the scan finds, "connected": whether hid-input took it, "devices": [..],
  * "fields": [..]}. A device has "index", "application", "name" (what stands behind the name of the device),
- * "slots" (0 where it has none), "props", "ev", "key", "rel", "msc", "led": the numbers of the bits that are
+ * "slots" (0 where it has none) with the "flags" by which they were made, "props", "ev", "key", "rel", "msc", "led": the numbers of the bits that are
  * set, and "abs": [[code, minimum, maximum, fuzz, flat, resolution], ..]; those without codes are left out.
  * "fields" are those of input reports, then of output reports: {"type", "id", "offset", "size", "flags",
  * "count", "usages"}, each usage [usage, answer of the driver, [[type, code], ..] that it gave meanwhile, the
@@ -82,7 +82,8 @@ static void print_device(const struct hid_input *one)
 
     printf("{\"index\":%u,\"application\":\"%08x\",\"name\":", input->dev.number, one->application);
     print_text(input->name + (strlen(input->name) > 3 ? 4 : 3));
-    printf(",\"slots\":%u", input->mt ? (unsigned int)input->mt->num_slots : 0);
+    printf(",\"slots\":%u,\"flags\":%u", input->mt ? (unsigned int)input->mt->num_slots : 0,
+           input->mt ? input->mt->flags : 0);
     print_bits("props", input->propbit, INPUT_PROP_CNT);
     print_bits("ev", input->evbit, EV_CNT);
     print_bits("key", input->keybit, KEY_CNT);

@@ -10,9 +10,15 @@ use crate::touch_facts::TouchFacts;
 use crate::touched::{TouchApplication, Touched};
 use hidreport::{Direction, Group, Usage};
 use hidreport_linux::{
-    Driver, Event, InputDevices, Item, LinuxField, LinuxReading, Unmapped, Wanted,
+    Driver, InputDevices, Item, LinuxField, LinuxReading, Unmapped, Wanted,
 };
 use std::alloc::{AllocError, Global};
+
+/// The usage of a stylus.
+const STYLUS: u32 = 0x000d_0020;
+
+/// The application by which hid-input knows the first device of a device that hid-multitouch takes.
+const FIRST_NAME: u32 = 0xffff_0000;
 
 /// The input devices that Linux makes of a descriptor by the driver that takes it, while its fields
 /// are gone over in order.
@@ -29,10 +35,13 @@ pub struct DrivenDevices {
     /// The report ids that have an input device each.
     ids: Vec<u32>,
 
+    /// The application of each input device where each has its own, as hid-multitouch names it.
+    names: Vec<u32>,
+
     /// The input device of the current report.
     current: usize,
 
-    /// What hid-multitouch registers for each input device.
+    /// What is registered for each input device, where hid-multitouch takes the device.
     touched: Vec<Touched>,
 
     applications: Vec<TouchApplication>,
@@ -58,6 +67,7 @@ impl DrivenDevices {
             facts,
             inputs,
             ids: Vec::new(alloc),
+            names: Vec::new(alloc),
             current: 0,
             touched: Vec::new(alloc),
             applications: Vec::new(alloc),
@@ -113,13 +123,18 @@ impl DrivenDevices {
         if field.is_first && is_of_input {
             self.find_inputs(field.report.id)?;
         }
-        let (index, is_by_id) = (self.current_inputs(), self.is_by_id());
+        let index = self.current_inputs();
+        let named = self.named(field);
         let Some(inputs) = self.inputs.get_mut(index) else {
             return Err(AllocError);
         };
-        let item = inputs.begin_field(field)?;
-        if field.is_first && is_of_input && !is_by_id {
-            self.current = inputs.current();
+        let item = inputs.begin_field(&named)?;
+        let current = inputs.current();
+        if field.is_first && is_of_input && !self.is_by_id() {
+            self.current = current;
+            if current == self.names.len() {
+                self.names.push(field.report.application)?;
+            }
         }
         let touch = self.touch_item(field)?;
         Ok(DrivenItem { item, touch })
@@ -172,13 +187,18 @@ impl DrivenDevices {
     }
 
     /// The same in a report that isn't a touch report: where hid-multitouch has registered the code
-    /// for the same device, only a shared one.
+    /// for the same device, only a shared one. The device of a stylus is named by it.
     fn other_event(
         &mut self,
         item: &mut Item,
         touch: &TouchItem,
         usage: Usage,
     ) -> Result<DrivenEvent, Silent> {
+        if touch.place.physical == STYLUS {
+            if let Some(name) = self.names.get_mut(self.current) {
+                *name = STYLUS;
+            }
+        }
         let event = self.hid_input_event(item, usage)?;
         let is_there = match self.touched.get(event.device) {
             Some(touched) => touched.has(event.code),
@@ -187,7 +207,22 @@ impl DrivenDevices {
         if is_there && !is_shared(u32::from(usage), touch) {
             return Err(Silent::Unmapped(Unmapped::Taken));
         }
+        self.note_claims(&event);
         Ok(event)
+    }
+
+    /// Keeps the codes of a usage that hid-input gives its code.
+    fn note_claims(&mut self, event: &DrivenEvent) {
+        let axis = self.axis(event);
+        let Some(touched) = self.touched.get_mut(event.device) else {
+            return;
+        };
+        touched.register(event.code, axis);
+        if let Giver::HidInput(role) = event.giver {
+            for code in role.beside() {
+                touched.register(*code, axis);
+            }
+        }
     }
 
     /// How hid-multitouch takes the device.
@@ -206,6 +241,25 @@ impl DrivenDevices {
     /// Where the input devices of hid-input are that the report goes to.
     fn current_inputs(&self) -> usize {
         if self.is_by_id() { self.current } else { 0 }
+    }
+
+    /// A field whose report has the application by which hid-input knows its device, where
+    /// hid-multitouch may name devices anew: a number for each.
+    fn named(&self, field: &LinuxField) -> LinuxField {
+        let mut named = *field;
+        if self.facts.is_some() {
+            let index = self.device_of(field.report.application);
+            named.report.application = FIRST_NAME.saturating_add(index as u32);
+        }
+        named
+    }
+
+    /// The input device of an application where each has its own: the first of this name, or of a
+    /// Keyboard for System Control and Consumer Control; behind all where there is none yet.
+    fn device_of(&self, application: u32) -> usize {
+        let is_of_keys = application == 0x0001_0080 || application == 0x000c_0001;
+        let takes = |name: &u32| *name == application || is_of_keys && *name == 0x0001_0006;
+        self.names.iter().position(takes).unwrap_or(self.names.len())
     }
 
     /// Goes on to the input device of a report id, where each has its own.

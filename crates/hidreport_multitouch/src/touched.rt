@@ -1,16 +1,21 @@
 //! What hid-multitouch registers.
 use hidreport_linux::{Axis, EventCode, EventType};
 
-/// How many keys and axes there are.
+/// How many keys and axes there are, and how many other codes.
 const KEYS: usize = 0x300;
 
 const AXES: usize = 0x40;
 
-/// What hid-multitouch registers for an input device so far.
+const OTHERS: usize = 40;
+
+/// The codes that are registered for an input device so far.
 #[derive(Drop)]
 pub(crate) struct Touched {
     keys: [bool; KEYS],
     axes: [Option<Axis>; AXES],
+
+    /// Of movements, of `EV_MSC` and of lamps.
+    others: [bool; OTHERS],
 }
 
 impl Touched {
@@ -19,34 +24,35 @@ impl Touched {
         Touched {
             keys: [false; KEYS],
             axes: [None; AXES],
+            others: [false; OTHERS],
         }
     }
 
-    /// Registers a code, whose axis says so of itself.
-    pub(crate) fn register(&mut self, code: EventCode, axis: Axis) {
+    /// Registers a code, whose axis says so of itself, if it is one.
+    pub(crate) fn register(&mut self, code: EventCode, axis: Option<Axis>) {
         let place = usize::from(code.number);
         match code.event_type {
-            EventType::Key => {
-                if let Some(key) = self.keys.get_mut(place) {
-                    *key = true;
-                }
-            }
+            EventType::Key => set(&mut self.keys, place),
             EventType::Absolute => {
                 if let Some(before) = self.axes.get_mut(place) {
-                    *before = Some(axis);
+                    *before = axis;
                 }
             }
-            _ => {}
+            EventType::Relative | EventType::Other | EventType::Led => {
+                set(&mut self.others, place_of_other(code));
+            }
         }
     }
 
-    /// Whether a code is registered, other than a time.
+    /// Whether a code is registered.
     pub(crate) fn has(&self, code: EventCode) -> bool {
         let place = usize::from(code.number);
         match code.event_type {
-            EventType::Key => self.keys.get(place).copied().unwrap_or(false),
+            EventType::Key => is_set(&self.keys, place),
             EventType::Absolute => self.axis(code.number).is_some(),
-            _ => false,
+            EventType::Relative | EventType::Other | EventType::Led => {
+                is_set(&self.others, place_of_other(code))
+            }
         }
     }
 
@@ -54,6 +60,27 @@ impl Touched {
     pub(crate) fn axis(&self, number: u16) -> Option<Axis> {
         self.axes.get(usize::from(number)).copied().flatten()
     }
+}
+
+/// Where a code stands that is neither a key nor an axis; past all others where there is none.
+fn place_of_other(code: EventCode) -> usize {
+    let place = usize::from(code.number);
+    match code.event_type {
+        EventType::Relative if place < 16 => place,
+        EventType::Other if place < 8 => place + 16,
+        EventType::Led if place < 16 => place + 24,
+        _ => OTHERS,
+    }
+}
+
+fn set(codes: &mut [bool], place: usize) {
+    if let Some(code) = codes.get_mut(place) {
+        *code = true;
+    }
+}
+
+fn is_set(codes: &[bool], place: usize) -> bool {
+    codes.get(place).copied().unwrap_or(false)
 }
 
 /// An application with touch reports.

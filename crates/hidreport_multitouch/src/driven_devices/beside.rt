@@ -4,11 +4,13 @@ use crate::driven_event::{DrivenEvent, Giver};
 use crate::silent::Silent;
 use hidreport_linux::{Axis, EventCode, EventType};
 
-/// The numbers of `ABS_MT_POSITION_X` and `Y`, `ABS_MT_PRESSURE`, `ORIENTATION`, `TOUCH_MINOR` and
-/// `SLOT`.
+/// The numbers of `ABS_MT_POSITION_X` and `Y`, `ABS_MT_TOOL_X`, `PRESSURE`, `ORIENTATION`,
+/// `TOUCH_MINOR` and `SLOT`.
 const POSITION_X: u16 = 0x35;
 
 const POSITION_Y: u16 = 0x36;
+
+const MIDDLE_X: u16 = 0x3c;
 
 const PRESSURE: u16 = 0x3a;
 
@@ -136,7 +138,7 @@ impl DrivenDevices {
         let points = self.points(event.device);
         match event.code.number {
             SLOT => &TRACKING,
-            POSITION_X if is_dial => &TOOL,
+            POSITION_X | MIDDLE_X if is_dial => &TOOL,
             POSITION_X if points => &X,
             POSITION_Y if points => &Y,
             PRESSURE if points => &SINGLE_PRESSURE,

@@ -30,11 +30,11 @@ impl DrivenDevices {
             Some(facts) => facts.is_touch_report(&field.report),
             None => return Ok(None),
         };
-        if !is_touch_report || matches!(field.report.direction, Direction::Feature) {
-            return Ok(Some(TouchItem::at(field, None)));
-        }
         while self.touched.len() <= self.current {
             self.touched.push(Touched::new())?;
+        }
+        if !is_touch_report || matches!(field.report.direction, Direction::Feature) {
+            return Ok(Some(TouchItem::at(field, None)));
         }
         let index = self.application_at(field.report.application)?;
         Ok(Some(TouchItem::at(field, Some(index))))
@@ -100,7 +100,7 @@ impl DrivenDevices {
         let slots = self.slots();
         let axis = touch_axis(code, slots, &item.place, &item.measures);
         if let Some(touched) = self.touched.get_mut(self.current) {
-            touched.register(code, axis);
+            touched.register(code, Some(axis));
         }
         DrivenEvent {
             code,
