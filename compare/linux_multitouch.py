@@ -27,7 +27,9 @@ from linux_readings import bytes_of_line, short_hex
 
 HERE = os.path.dirname(os.path.abspath(__file__))
 FILE = os.path.join(HERE, "linux_multitouch.txt")
-SEED, COUNT, RECORDED, MOST = 1, 3_000, 600, 300_000
+SEED, COUNT = 1, 3_000
+# What linux_multitouch.txt may have: lines by chance, characters, and characters of a line by chance.
+RECORDED, MOST, LONGEST = 600, 300_000, 900
 DRIVERS = {"multitouch": "hid-multitouch", "multitouch win 8": "hid-multitouch", "sensor hub": "hid-sensor-hub"}
 
 HEAD = """\
@@ -515,9 +517,9 @@ def recorded(judge):
     lines = [checked(row) for row in known]
     room = MOST - len(HEAD) - sum(len(line) + 1 for line in lines)
     taken = 0
-    for row in rows(judge, made(SEED, 4 * RECORDED)):
+    for row in rows(judge, made(SEED, 8 * RECORDED)):
         line = checked(row)
-        if row.group in DRIVERS and taken < RECORDED and len(line) < room:
+        if row.group in DRIVERS and len(line) <= LONGEST and taken < RECORDED and len(line) < room:
             lines.append(line)
             room -= len(line) + 1
             taken += 1

@@ -53,17 +53,23 @@ fn show_read<R: AllocGlobal + Print>(
     flush(rt, &mut shown.text)
 }
 
-/// Says why no codes are known, and which driver takes the device.
+/// Says why no codes are known, and of a driver that takes the device what isn't known of it.
 fn tell<R: Eprint>(rt: &R, doubt: Option<Doubt>, driver: Option<Driver>) -> Result<()> {
     if let Some(doubt) = doubt {
         let (offset, reason) = (doubt.offset, doubt.reason.text());
         eprintln!(rt; "hid: the codes aren't known for offset {offset}: {reason}")?;
     }
-    if let Some(driver) = driver {
-        let name = driver.name();
-        eprintln!(rt;
-            "hid: {name} takes such a device, with other codes than these of hid-generic"
-        )?;
+    match driver {
+        Some(Driver::Multitouch) => eprintln!(rt;
+            "hid: hid-multitouch takes such a device: its ids, and the contacts it says it has, may \
+             change the codes"
+        )?,
+        Some(Driver::SensorHub) => {
+            eprintln!(rt;
+                "hid: hid-sensor-hub takes such a device, and leaves codes to hid-input"
+            )?;
+        }
+        None => {}
     }
     Ok(())
 }
@@ -228,7 +234,11 @@ impl<'c> Shown<'c> {
     }
 
     /// What Linux gives usages of an item.
-    fn answers(&mut self, item: &mut DrivenItem, usages: &[Usage]) -> Result<Vec<Answered>, AllocError> {
+    fn answers(
+        &mut self,
+        item: &mut DrivenItem,
+        usages: &[Usage],
+    ) -> Result<Vec<Answered>, AllocError> {
         let alloc = *self.text.allocator();
         answers_of(alloc, &mut self.devices, &self.all, item, usages)
     }

@@ -9,9 +9,7 @@ use crate::touch_class::TouchClass;
 use crate::touch_facts::TouchFacts;
 use crate::touched::{TouchApplication, Touched};
 use hidreport::{Direction, Group, Usage};
-use hidreport_linux::{
-    Driver, InputDevices, Item, LinuxField, LinuxReading, Unmapped, Wanted,
-};
+use hidreport_linux::{Driver, InputDevices, Item, LinuxField, LinuxReading, Unmapped, Wanted};
 use std::alloc::{AllocError, Global};
 
 /// The usage of a stylus.
@@ -259,7 +257,10 @@ impl DrivenDevices {
     fn device_of(&self, application: u32) -> usize {
         let is_of_keys = application == 0x0001_0080 || application == 0x000c_0001;
         let takes = |name: &u32| *name == application || is_of_keys && *name == 0x0001_0006;
-        self.names.iter().position(takes).unwrap_or(self.names.len())
+        self.names
+            .iter()
+            .position(takes)
+            .unwrap_or(self.names.len())
     }
 
     /// Goes on to the input device of a report id, where each has its own.

@@ -70,7 +70,11 @@ impl DrivenDevices {
             application: item.place.application,
             tells_palms: self.note_usage(item, application, usage),
         };
-        let before = if item.before == 0 { None } else { Some(item.before) };
+        let before = if item.before == 0 {
+            None
+        } else {
+            Some(item.before)
+        };
         match touch_code(&place, before, usage) {
             TouchAnswer::Code(code) => Ok(self.registered(item, code)),
             TouchAnswer::Read => Err(Silent::Read),
