@@ -38,6 +38,7 @@ answered() {
         python3 "$top/compare/linux_readings.py" model
         python3 "$top/compare/linux_input.py" compare "$hid"
         python3 "$top/compare/linux_lamps.py" compare "$hid"
+        python3 "$top/compare/linux_multitouch.py" compare "$hid"
         python3 "$top/compare/windows_readings.py" compare "$hid"
         python3 "$top/compare/linux_events.py" "$hid"
         python3 "$top/compare/webhid.py" "$hid"

@@ -663,6 +663,8 @@ def compare_one(question):
     driver = parser.driver
     if ("takes such a device" in said) != bool(driver) or driver not in said:
         return "compared", count, f"{said}, and not {driver}"
+    if driver:
+        return "driven otherwise", 0, ""
     for own, theirs in itertools.zip_longest(rows, wanted):
         if own != theirs:
             return "compared", count, f"hid {own}, the model {theirs}"

@@ -1,6 +1,6 @@
 #!/bin/bash
 # kernel.sh HID [SOURCES]: asks Linux's own functions and `hid` the same: how a descriptor is read, which events
-# reports send, and what is written for lamps, of every descriptor of the tree and of thousands that are made
+# reports send, what is written for lamps, and the codes of contacts, of every descriptor of the tree and of thousands that are made
 # (compare/README.md). SOURCES is a folder of a kernel's sources; without it they are those of Debian's package
 # linux-source-6.12, where apt-get has it; where it hasn't, that is said, and the recorded answers are all.
 set -euo pipefail
@@ -34,3 +34,4 @@ python3 "$compare/linux_readings.py" "$sources" made > "$folder/readings"
 python3 "$(dirname "$0")/as_linux.py" "$hid" "$folder/readings" | sed 's/^as_linux:/kernel: readings:/'
 python3 "$compare/linux_input.py" compare "$hid" "$sources" | sed 's/^linux_input:/kernel: events:/'
 python3 "$compare/linux_lamps.py" compare "$hid" "$sources" | sed 's/^linux_lamps:/kernel: lamps:/'
+python3 "$compare/linux_multitouch.py" compare "$hid" "$sources" | sed 's/^linux_multitouch:/kernel: contacts:/'

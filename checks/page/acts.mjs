@@ -171,7 +171,7 @@ const FINDING = [
     } },
   { act: "another driver is named", does: (page) => drop(page, sample("touchpad.hex")),
     sees: content("codes-said"),
-    wanted: "hid-multitouch takes such a device, with other codes than these of hid-generic" },
+    wanted: "hid-multitouch takes such a device: its ids, and the contacts it says it has, may change the codes" },
   { act: "a refused descriptor says where", does: (page) => drop(page, sample("odd.hex")),
     sees: "document.querySelector('.refusal').textContent",
     wanted: "Refused at offset 21: Linux refuses it: a report id that is none" },

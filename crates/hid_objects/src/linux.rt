@@ -1,7 +1,8 @@
 //! What Linux makes of a field: event codes in words and as JSON.
 use hid_words::{add_spaces, add_usage};
 use hidreport::{Field, Usage};
-use hidreport_linux::{Axis, Event, EventCode, InputDevices, Item, Role, Unmapped};
+use hidreport_linux::{Axis, EventCode};
+use hidreport_multitouch::{DrivenDevices, DrivenEvent, DrivenItem, Silent};
 use serde::Serialize;
 use std::alloc::{AllocError, Global};
 use std::fmt::Write;
@@ -12,15 +13,15 @@ use std::fmt::Write;
 pub struct Answered {
     first: Usage,
     last: Usage,
-    answer: Result<GivenCode, Unmapped>,
+    answer: Result<GivenCode, Silent>,
 }
 
 /// An event with what the other usages of the descriptor leave it.
 #[derive(Clone, Copy, Drop)]
 struct GivenCode {
     code: EventCode,
-    /// What else it does, if the codes beside it are its own.
-    role: Role,
+    /// The codes that its usage also has.
+    beside: &'static [EventCode],
     axis: Option<Axis>,
 }
 
@@ -28,9 +29,9 @@ struct GivenCode {
 /// usages.
 pub fn answers_of(
     alloc: Global,
-    devices: &mut InputDevices,
-    all: &InputDevices,
-    item: &mut Item,
+    devices: &mut DrivenDevices,
+    all: &DrivenDevices,
+    item: &mut DrivenItem,
     usages: &[Usage],
 ) -> Result<Vec<Answered>, AllocError> {
     let mut answers: Vec<Answered> = Vec::new(alloc);
@@ -49,23 +50,14 @@ pub fn answers_of(
 }
 
 /// What an event has behind all usages.
-fn given(all: &InputDevices, answer: Result<Event, Unmapped>) -> Result<GivenCode, Unmapped> {
-    match answer {
+fn given(all: &DrivenDevices, answer: Result<DrivenEvent, Silent>) -> Result<GivenCode, Silent> {
+    match all.settled(answer) {
         Ok(event) => Ok(GivenCode {
             code: event.code,
-            role: role_in(all, &event),
+            beside: all.beside(&event),
             axis: all.axis(&event),
         }),
         Err(reason) => Err(reason),
-    }
-}
-
-/// The role of an event, if it has the codes beside it.
-fn role_in(all: &InputDevices, event: &Event) -> Role {
-    if all.beside(event).is_empty() {
-        Role::Plain
-    } else {
-        event.role
     }
 }
 
@@ -127,7 +119,7 @@ pub fn add_lines(text: &mut String, answers: &[Answered], indent: usize) -> Resu
 }
 
 /// Appends a code with all that is known of it, or why there is none.
-fn add_answer(text: &mut String, answer: Result<GivenCode, Unmapped>) -> Result<(), AllocError> {
+fn add_answer(text: &mut String, answer: Result<GivenCode, Silent>) -> Result<(), AllocError> {
     match answer {
         Ok(given) => add_given(text, &given),
         Err(reason) => write!(text, " -> none: {reason}"),
@@ -137,7 +129,7 @@ fn add_answer(text: &mut String, answer: Result<GivenCode, Unmapped>) -> Result<
 fn add_given(text: &mut String, given: &GivenCode) -> Result<(), AllocError> {
     let code = given.code;
     write!(text, " -> {code}")?;
-    for beside in given.role.beside() {
+    for beside in given.beside {
         write!(text, " {beside}")?;
     }
     match given.axis {
@@ -223,7 +215,7 @@ impl AnswerObject {
         self.event_type = Some(given.code.event_type.name());
         self.code = Some(given.code.number);
         self.name = given.code.name();
-        for beside in given.role.beside() {
+        for beside in given.beside {
             if let Some(name) = beside.name() {
                 self.beside.push(name)?;
             }

@@ -17,7 +17,8 @@ use hidreport::{
     Collection, Direction, Field, Group, OutlineReport, RDescReport, Report, ReportDescriptor,
     Usage,
 };
-use hidreport_linux::{Doubt, Driver, InputDevices, Item, LinuxDevice, LinuxField, LinuxReport};
+use hidreport_linux::{Doubt, Driver, LinuxDevice, LinuxField, LinuxReport};
+use hidreport_multitouch::{DrivenDevices, DrivenItem};
 use std::alloc::{AllocError, Global};
 
 /// How much deeper than its array's the usages of an array stand.
@@ -53,17 +54,23 @@ fn show_read<R: AllocGlobal + Print>(
     flush(rt, &mut shown.text)
 }
 
-/// Says why no codes are known, and which driver takes the device.
+/// Says why no codes are known, and of a driver that takes the device what isn't known of it.
 fn tell<R: Eprint>(rt: &R, doubt: Option<Doubt>, driver: Option<Driver>) -> Result<()> {
     if let Some(doubt) = doubt {
         let (offset, reason) = (doubt.offset, doubt.reason.text());
         eprintln!(rt; "hid: the codes aren't known for offset {offset}: {reason}")?;
     }
-    if let Some(driver) = driver {
-        let name = driver.name();
-        eprintln!(rt;
-            "hid: {name} takes such a device, with other codes than these of hid-generic"
-        )?;
+    match driver {
+        Some(Driver::Multitouch) => eprintln!(rt;
+            "hid: hid-multitouch takes such a device: its ids, and the contacts it says it has, may \
+             change the codes"
+        )?,
+        Some(Driver::SensorHub) => {
+            eprintln!(rt;
+                "hid: hid-sensor-hub takes such a device, and leaves codes to hid-input"
+            )?;
+        }
+        None => {}
     }
     Ok(())
 }
@@ -72,8 +79,8 @@ fn tell<R: Eprint>(rt: &R, doubt: Option<Doubt>, driver: Option<Driver>) -> Resu
 #[derive(Drop)]
 struct Shown<'c> {
     text: String,
-    devices: InputDevices,
-    all: InputDevices,
+    devices: DrivenDevices,
+    all: DrivenDevices,
     offsets: ItemOffsets<'c>,
     is_json: bool,
     is_coloured: bool,
@@ -85,8 +92,8 @@ impl<'c> Shown<'c> {
     fn of(alloc: Global, settings: &Settings, read: &'c LinuxDevice) -> Result<Shown<'c>> {
         Ok(Shown {
             text: String::new(alloc),
-            devices: read.reading().input_devices(alloc),
-            all: read.reading().input_devices_behind(alloc)?,
+            devices: DrivenDevices::new(alloc, read.reading())?,
+            all: DrivenDevices::behind(alloc, read.reading())?,
             offsets: ItemOffsets::of(alloc, settings, read.bytes(), read.changes())?,
             is_json: settings.is_json,
             is_coloured: settings.is_coloured,
@@ -137,7 +144,7 @@ impl<'c> Shown<'c> {
     /// Goes over the usages of fields that aren't shown.
     fn pass_fields(&mut self, read: &LinuxDevice, fields: &[LinuxField]) -> Result<(), AllocError> {
         for field in fields {
-            read.reading().pass_field(field, &mut self.devices)?;
+            self.devices.pass_field(read.reading(), field)?;
         }
         Ok(())
     }
@@ -190,7 +197,7 @@ impl<'c> Shown<'c> {
             if !field.place.is_constant && field.size > 0 && field.count > 0 {
                 break;
             }
-            read.reading().pass_field(field, &mut self.devices)?;
+            self.devices.pass_field(read.reading(), field)?;
             count = count.saturating_add(1);
         }
         Ok(count)
@@ -204,7 +211,7 @@ impl<'c> Shown<'c> {
         direction: Direction,
         group: &Group,
         field: Option<&LinuxField>,
-    ) -> Result<Item, AllocError> {
+    ) -> Result<DrivenItem, AllocError> {
         match field {
             Some(field) if read.reading().doubt().is_none() => self.devices.begin_field(field),
             _ => Ok(self.devices.begin(direction, group)),
@@ -218,7 +225,7 @@ impl<'c> Shown<'c> {
         read: &LinuxDevice,
         field: &LinuxField,
         group: &Group,
-        item: &mut Item,
+        item: &mut DrivenItem,
     ) -> Result<Vec<Answered>, AllocError> {
         let alloc = *self.text.allocator();
         let usages = read.reading().usages(field);
@@ -232,7 +239,11 @@ impl<'c> Shown<'c> {
     }
 
     /// What Linux gives usages of an item.
-    fn answers(&mut self, item: &mut Item, usages: &[Usage]) -> Result<Vec<Answered>, AllocError> {
+    fn answers(
+        &mut self,
+        item: &mut DrivenItem,
+        usages: &[Usage],
+    ) -> Result<Vec<Answered>, AllocError> {
         let alloc = *self.text.allocator();
         answers_of(alloc, &mut self.devices, &self.all, item, usages)
     }
@@ -243,7 +254,7 @@ impl<'c> Shown<'c> {
         rt: &R,
         place: (Direction, &RDescReport),
         offset: Option<usize>,
-        item: &mut Item,
+        item: &mut DrivenItem,
         fields: &'a [Field],
         before: &'a [Collection],
     ) -> Result<&'a [Collection]> {

@@ -1,0 +1,4 @@
+pub mod Facts
+pub mod Reasons
+pub mod TouchAxes
+pub mod Touching

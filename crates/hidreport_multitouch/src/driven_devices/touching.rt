@@ -1,0 +1,137 @@
+//! The usages of touch reports.
+use super::DrivenDevices;
+use crate::driven_event::{DrivenEvent, Giver};
+use crate::driven_item::TouchItem;
+use crate::silent::Silent;
+use crate::touch_axis::touch_axis;
+use crate::touch_code::{TouchAnswer, TouchPlace, touch_code};
+use crate::touched::{TouchApplication, Touched};
+use hidreport::Direction;
+use hidreport_linux::{EventCode, LinuxField, Unmapped, Wanted};
+use std::alloc::AllocError;
+
+const CONFIDENCE: u32 = 0x000d_0047;
+
+/// The usages of applications.
+const MULTI_AXIS: u32 = 0x0001_000e;
+
+const TOUCH_SCREEN: u32 = 0x000d_0004;
+
+const TOUCH_PAD: u32 = 0x000d_0005;
+
+impl DrivenDevices {
+    /// A field as hid-multitouch takes it, before its first usage; `None` where it doesn't take the
+    /// device.
+    pub(super) fn touch_item(
+        &mut self,
+        field: &LinuxField,
+    ) -> Result<Option<TouchItem>, AllocError> {
+        let is_touch_report = match &self.facts {
+            Some(facts) => facts.is_touch_report(&field.report),
+            None => return Ok(None),
+        };
+        while self.touched.len() <= self.current {
+            self.touched.push(Touched::new())?;
+        }
+        if !is_touch_report || matches!(field.report.direction, Direction::Feature) {
+            return Ok(Some(TouchItem::at(field, None)));
+        }
+        let index = self.application_at(field.report.application)?;
+        Ok(Some(TouchItem::at(field, Some(index))))
+    }
+
+    /// Which of the applications with touch reports it is, of those so far or a new one.
+    fn application_at(&mut self, usage: u32) -> Result<usize, AllocError> {
+        let device = self.current;
+        if let Some(index) = self.applications.iter().position(|one| one.usage == usage) {
+            if let Some(application) = self.applications.get_mut(index) {
+                application.device = application.device.min(device);
+            }
+            return Ok(index);
+        }
+        self.applications.push(TouchApplication {
+            usage,
+            device,
+            points: usage == TOUCH_SCREEN || usage == TOUCH_PAD,
+            tells_palms: false,
+        })?;
+        Ok(self.applications.len().saturating_sub(1))
+    }
+
+    /// The event of a usage of a touch report.
+    pub(super) fn touch_event(
+        &mut self,
+        item: &TouchItem,
+        application: usize,
+        usage: u32,
+    ) -> Result<DrivenEvent, Silent> {
+        let place = TouchPlace {
+            class: self.class(),
+            application: item.place.application,
+            tells_palms: self.note_usage(item, application, usage),
+        };
+        let before = if item.before == 0 {
+            None
+        } else {
+            Some(item.before)
+        };
+        match touch_code(&place, before, usage) {
+            TouchAnswer::Code(code) => Ok(self.registered(item, code)),
+            TouchAnswer::Read => Err(Silent::Read),
+            TouchAnswer::Ignored => Err(Silent::Ignored),
+            TouchAnswer::PastCodes => Err(Silent::Unmapped(Unmapped::PastCodes)),
+            TouchAnswer::Left => self.left(item, usage),
+        }
+    }
+
+    /// What a usage says of its report's application; whether Confidence tells palms there.
+    fn note_usage(&mut self, item: &TouchItem, application: usize, usage: u32) -> bool {
+        let is_screen = item.place.application == TOUCH_SCREEN;
+        let is_touch = is_screen || item.place.application == TOUCH_PAD;
+        let tells = self.class().is_windows_8() && is_touch && usage == CONFIDENCE;
+        match self.applications.get_mut(application) {
+            Some(one) => {
+                one.points = one.points || is_screen && usage / 0x1_0000 == 0x09;
+                one.tells_palms = one.tells_palms || tells;
+                one.tells_palms
+            }
+            None => false,
+        }
+    }
+
+    /// Registers a code for a usage.
+    fn registered(&mut self, item: &TouchItem, code: EventCode) -> DrivenEvent {
+        let slots = self.slots();
+        let axis = touch_axis(code, slots, &item.place, &item.measures);
+        if let Some(touched) = self.touched.get_mut(self.current) {
+            touched.register(code, Some(axis));
+        }
+        DrivenEvent {
+            code,
+            device: self.current,
+            giver: Giver::Multitouch {
+                is_dial: item.place.application == MULTI_AXIS,
+            },
+        }
+    }
+
+    /// How many contacts an input device tells apart.
+    fn slots(&self) -> u8 {
+        match &self.facts {
+            Some(facts) => facts.slots(),
+            None => 1,
+        }
+    }
+
+    /// What hid-input would give a usage, which isn't registered for it.
+    fn left(&self, item: &TouchItem, usage: u32) -> Result<DrivenEvent, Silent> {
+        match Wanted::of(usage, &item.place) {
+            Ok(wanted) => Ok(DrivenEvent {
+                code: wanted.code,
+                device: self.current,
+                giver: Giver::Nobody,
+            }),
+            Err(reason) => Err(Silent::Unmapped(reason)),
+        }
+    }
+}
