@@ -6,9 +6,9 @@ use Rattle.hidreport_linux.specs.declared.event_code.EventCode.{EventCode}
 use Rattle.hidreport_linux.specs.declared.event_code.EventType.TheVariants.{Key, Absolute, Other}
 use Rattle.hidreport_multitouch.specs.declared.touch_class.TouchClass.{TouchClass}
 use Rattle.hidreport_multitouch.specs.declared.touch_class.TouchClass.TheVariants.{Plain, Windows8}
-use Rattle.hidreport_multitouch.specs.declared.touch_code.TouchAnswer.{TouchAnswer}
-use Rattle.hidreport_multitouch.specs.declared.touch_code.TouchAnswer.TheVariants as touch
-use Rattle.hidreport_multitouch.specs.declared.touch_code.TouchPlace.{TouchPlace}
+use Rattle.hidreport_multitouch.specs.declared.contact_code.TouchAnswer.{TouchAnswer}
+use Rattle.hidreport_multitouch.specs.declared.contact_code.TouchAnswer.TheVariants as touch
+use Rattle.hidreport_multitouch.specs.declared.contact_code.TouchPlace.{TouchPlace}
 
 abbrev pub is_windows_8 : TouchClass → Bool
 is_windows_8 Plain = false

@@ -247,7 +247,7 @@ impl DrivenDevices {
         let mut named = *field;
         if self.facts.is_some() {
             let index = self.device_of(field.report.application);
-            named.report.application = FIRST_NAME.saturating_add(index as u32);
+            named.report.application = FIRST_NAME.saturating_add((index % 0x1_0000) as u32);
         }
         named
     }

@@ -12,21 +12,21 @@
 //! Licence: MIT (LICENSE).
 #![tactic(auto)]
 
+mod contact_axis;
+mod contact_code;
 mod driven_devices;
 mod driven_event;
 mod driven_item;
 mod silent;
-mod touch_axis;
 mod touch_class;
-mod touch_code;
 mod touch_facts;
 mod touched;
 
+pub use contact_axis::touch_axis;
+pub use contact_code::{TouchAnswer, TouchPlace, touch_code};
 pub use driven_devices::DrivenDevices;
 pub use driven_event::DrivenEvent;
 pub use driven_item::DrivenItem;
 pub use silent::Silent;
-pub use touch_axis::touch_axis;
 pub use touch_class::TouchClass;
-pub use touch_code::{TouchAnswer, TouchPlace, touch_code};
 pub use touch_facts::TouchFacts;

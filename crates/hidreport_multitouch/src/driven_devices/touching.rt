@@ -1,10 +1,10 @@
 //! The usages of touch reports.
 use super::DrivenDevices;
+use crate::contact_axis::touch_axis;
+use crate::contact_code::{TouchAnswer, TouchPlace, touch_code};
 use crate::driven_event::{DrivenEvent, Giver};
 use crate::driven_item::TouchItem;
 use crate::silent::Silent;
-use crate::touch_axis::touch_axis;
-use crate::touch_code::{TouchAnswer, TouchPlace, touch_code};
 use crate::touched::{TouchApplication, Touched};
 use hidreport::Direction;
 use hidreport_linux::{EventCode, LinuxField, Unmapped, Wanted};
@@ -30,7 +30,7 @@ impl DrivenDevices {
             Some(facts) => facts.is_touch_report(&field.report),
             None => return Ok(None),
         };
-        while self.touched.len() <= self.current {
+        for _device in self.touched.len()..self.current.saturating_add(1) {
             self.touched.push(Touched::new())?;
         }
         if !is_touch_report || matches!(field.report.direction, Direction::Feature) {
