@@ -1,7 +1,7 @@
 #!/bin/bash
 # kernel.sh HID [SOURCES]: asks Linux's own functions and `hid` the same: how a descriptor is read, which events
-# reports send, what is written for lamps, and the codes of contacts, of every descriptor of the tree and of thousands that are made
-# (compare/README.md). SOURCES is a folder of a kernel's sources; without it they are those of Debian's package
+# reports send, what is written for lamps, and the codes of contacts, of every descriptor of the tree and of
+# thousands that are made (compare/README.md). SOURCES is a folder of a kernel's sources; without it they are those of Debian's package
 # linux-source-6.12, where apt-get has it; where it hasn't, that is said, and the recorded answers are all.
 set -euo pipefail
 export LC_ALL=C
