@@ -101,11 +101,11 @@ impl DrivenDevices {
         let mut last = 0;
         for usage in reading.usages(field) {
             last = u32::from(usage);
-            let _answer = self.event(&mut item, usage);
+            let _answer = self.event_of(&mut item, last);
         }
         if self.facts.is_some() {
             for _element in field.usages..field.count {
-                let _answer = self.event(&mut item, Usage::from(last));
+                let _answer = self.event_of(&mut item, last);
             }
         }
         Ok(())
@@ -155,29 +155,34 @@ impl DrivenDevices {
     /// - `Unmapped`: what hid-input says of it, or the descriptor.
     /// - `Application`, `Ignored`, `Read`: what hid-multitouch says.
     pub fn event(&mut self, item: &mut DrivenItem, usage: Usage) -> Result<DrivenEvent, Silent> {
+        self.event_of(item, u32::from(usage))
+    }
+
+    /// The same of a usage by its number.
+    fn event_of(&mut self, item: &mut DrivenItem, usage: u32) -> Result<DrivenEvent, Silent> {
         let Some(touch) = item.touch else {
             return self.hid_input_event(&mut item.item, usage);
         };
-        item.touch = Some(touch.behind(u32::from(usage)));
-        if let Some(reason) = touch.unasked(u32::from(usage)) {
+        item.touch = Some(touch.behind(usage));
+        if let Some(reason) = touch.unasked(usage) {
             return Err(Silent::Unmapped(reason));
         }
         if !self.class().takes_application(touch.place.application) {
             return Err(Silent::Application);
         }
         match touch.application {
-            Some(application) => self.touch_event(&touch, application, u32::from(usage)),
+            Some(application) => self.touch_event(&touch, application, usage),
             None => self.other_event(&mut item.item, &touch, usage),
         }
     }
 
     /// What hid-input gives a usage.
-    fn hid_input_event(&mut self, item: &mut Item, usage: Usage) -> Result<DrivenEvent, Silent> {
+    fn hid_input_event(&mut self, item: &mut Item, usage: u32) -> Result<DrivenEvent, Silent> {
         let (index, is_by_id, current) = (self.current_inputs(), self.is_by_id(), self.current);
         let Some(inputs) = self.inputs.get_mut(index) else {
             return Err(Silent::Unmapped(Unmapped::NoInput));
         };
-        match inputs.event(item, usage) {
+        match inputs.event(item, Usage::from(usage)) {
             Ok(event) if is_by_id => Ok(DrivenEvent::of(event, current)),
             Ok(event) => Ok(DrivenEvent::of(event, event.device)),
             Err(reason) => Err(Silent::Unmapped(reason)),
@@ -190,7 +195,7 @@ impl DrivenDevices {
         &mut self,
         item: &mut Item,
         touch: &TouchItem,
-        usage: Usage,
+        usage: u32,
     ) -> Result<DrivenEvent, Silent> {
         if touch.place.physical == STYLUS {
             if let Some(name) = self.names.get_mut(self.current) {
@@ -202,7 +207,7 @@ impl DrivenDevices {
             Some(touched) => touched.has(event.code),
             None => false,
         };
-        if is_there && !is_shared(u32::from(usage), touch) {
+        if is_there && !is_shared(usage, touch) {
             return Err(Silent::Unmapped(Unmapped::Taken));
         }
         self.note_claims(&event);
