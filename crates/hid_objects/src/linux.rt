@@ -20,9 +20,26 @@ pub struct Answered {
 #[derive(Clone, Copy, Drop)]
 struct GivenCode {
     code: EventCode,
-    /// The codes that its usage also has.
-    beside: &'static [EventCode],
+    /// The codes that its usage also has, of which there are no more than two.
+    beside: Beside,
     axis: Option<Axis>,
+}
+
+/// Codes that a usage also has.
+#[derive(Clone, Copy)]
+struct Beside {
+    first: Option<EventCode>,
+    second: Option<EventCode>,
+}
+
+impl Beside {
+    /// The codes of a list.
+    fn of(codes: &[EventCode]) -> Beside {
+        Beside {
+            first: codes.first().copied(),
+            second: codes.get(1).copied(),
+        }
+    }
 }
 
 /// What Linux gives usages of an item, in their order; `all` are the same input devices behind all
@@ -41,12 +58,21 @@ pub fn answers_of(
             last: *usage,
             answer: given(all, devices.event(item, *usage)),
         };
-        match answers.last_mut() {
-            Some(before) if before.goes_on(&next) => before.last = *usage,
-            _ => answers.push(next)?,
+        if goes_on(&answers, &next) {
+            stretch(&mut answers, 1);
+        } else {
+            answers.push(next)?;
         }
     }
     Ok(answers)
+}
+
+/// Whether the next usage has no event for the same reason as the last one.
+fn goes_on(answers: &[Answered], next: &Answered) -> bool {
+    match answers.last() {
+        Some(before) => before.goes_on(next),
+        None => false,
+    }
 }
 
 /// What an event has behind all usages.
@@ -54,7 +80,7 @@ fn given(all: &DrivenDevices, answer: Result<DrivenEvent, Silent>) -> Result<Giv
     match all.settled(answer) {
         Ok(event) => Ok(GivenCode {
             code: event.code,
-            beside: all.beside(&event),
+            beside: Beside::of(all.beside(&event)),
             axis: all.axis(&event),
         }),
         Err(reason) => Err(reason),
@@ -129,7 +155,10 @@ fn add_answer(text: &mut String, answer: Result<GivenCode, Silent>) -> Result<()
 fn add_given(text: &mut String, given: &GivenCode) -> Result<(), AllocError> {
     let code = given.code;
     write!(text, " -> {code}")?;
-    for beside in given.beside {
+    if let Some(beside) = given.beside.first {
+        write!(text, " {beside}")?;
+    }
+    if let Some(beside) = given.beside.second {
         write!(text, " {beside}")?;
     }
     match given.axis {
@@ -215,12 +244,19 @@ impl AnswerObject {
         self.event_type = Some(given.code.event_type.name());
         self.code = Some(given.code.number);
         self.name = given.code.name();
-        for beside in given.beside {
-            if let Some(name) = beside.name() {
-                self.beside.push(name)?;
-            }
-        }
+        self.add_beside(given.beside.first)?;
+        self.add_beside(given.beside.second)?;
         self.axis = given.axis.map(axis_object);
+        Ok(())
+    }
+
+    /// Adds the name of a code that the usage also has, if there is one.
+    fn add_beside(&mut self, code: Option<EventCode>) -> Result<(), AllocError> {
+        if let Some(code) = code
+            && let Some(name) = code.name()
+        {
+            self.beside.push(name)?;
+        }
         Ok(())
     }
 }
