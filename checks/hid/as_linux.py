@@ -7,7 +7,7 @@ functions answered to some two thousand.
 
 Of a descriptor that hid-core refuses the item's offset is the same. One that it takes is read, and each
 field that has usages is the same: its direction, report, bits, kind, bounds and usages. Where `hid` says that Linux
-may read it otherwise, that counts apart. Of each kind of number one answer is spoilt, which is noticed.
+may read it otherwise, or where no limit is enough for its usages, that counts apart. Of each kind of number one answer is spoilt, which is noticed.
 """
 
 import json
@@ -163,6 +163,8 @@ def spoilt(row, index):
 def compare_fields(about, given, parts, limit="4000000"):
     """What is wrong, and how it counts."""
     objects, said, status = ask(["fields"], given, limit)
+    if status == 1 and said.rstrip().endswith("isn't enough either"):
+        return "past each limit", []
     if status != 0:
         return "fields", [f"{about}: hid ends with {status}, hid-core takes it: {said.strip()}"]
     if "may read it otherwise" in said:

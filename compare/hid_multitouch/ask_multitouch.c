@@ -56,6 +56,13 @@ static int noted_mapping(struct hid_device *device, struct hid_input *input, str
     return answer;
 }
 
+/* What is written to the device isn't looked at. */
+int shim_write(const u8 *bytes, unsigned int size)
+{
+    (void)bytes;
+    return size;
+}
+
 void input_pass_values(struct input_dev *device, struct input_value *values, unsigned int count)
 {
     (void)device, (void)values, (void)count;
