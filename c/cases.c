@@ -231,12 +231,6 @@ static void normalized(const char *field, const char *number)
     print_fraction(hidreport_normalized(field_of(field), strtoll(number, NULL, 10)));
 }
 
-static void print_inserted(uint32_t status)
-{
-    printf("  %s\n", words_of(status));
-    print_first(report_length, report, "%02x");
-}
-
 static void insert(const char *field, const char *index_and_value)
 {
     const char *equals = strchr(index_and_value, '=');
@@ -252,15 +246,6 @@ static void insert_all(const char *field, const char *values)
     size_t count = numbers_of(values, numbers);
     print_inserted(
         hidreport_insert_all(field_of(field), report, report_length, numbers, count));
-}
-
-static void write_all(const char *values, const char *none)
-{
-    static int64_t numbers[ROOM];
-    size_t count = numbers_of(values, numbers);
-    (void)none;
-    print_inserted(
-        hidreport_write(fields, field_count, report, report_length, numbers, count));
 }
 
 /* Each kind of question, and how many words it has before its bytes. */

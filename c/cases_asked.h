@@ -44,3 +44,9 @@ static void print_collections(struct hidreport_answer answer)
         printf("  #%" PRIu32 " %s usages %zu %08" PRIx32 "\n", around[i].number,
                collection_of(around[i].kind), around[i].usage_count, around[i].usage);
 }
+
+static void print_inserted(uint32_t status)
+{
+    printf("  %s\n", words_of(status));
+    print_first(report_length, report, "%02x");
+}

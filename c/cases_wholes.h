@@ -66,12 +66,54 @@ static void print_read(struct hidreport_answer answer, size_t room, const int64_
         printf("  %" PRId64 "\n", numbers[i]);
 }
 
+/* The runs of the fields that the last question gave. */
+static struct hidreport_run runs[ROOM];
+
+static size_t prepared_runs(void)
+{
+    struct hidreport_answer answer = hidreport_prepare(fields, field_count, runs, ROOM);
+    if (answer.status != HIDREPORT_ACCEPTED || answer.count > field_count)
+        printf("  not prepared\n");
+    return answer.count;
+}
+
+/* Says so where the runs of the fields don't give what the fields give. */
+static void compare_read(struct hidreport_answer by_fields, const int64_t *numbers, size_t room)
+{
+    static int64_t by_runs[ROOM];
+    struct hidreport_answer answer =
+        hidreport_read_prepared(runs, prepared_runs(), report, report_length, by_runs, room);
+    size_t written = answer.count < room ? answer.count : room;
+
+    if (answer.status != by_fields.status || answer.count != by_fields.count ||
+        memcmp(by_runs, numbers, written * sizeof numbers[0]) != 0)
+        printf("  otherwise by runs\n");
+}
+
 static void read_all(const char *room, const char *none)
 {
     static int64_t numbers[ROOM];
+    struct hidreport_answer answer =
+        hidreport_read(fields, field_count, report, report_length, numbers, room_of(room));
     (void)none;
-    print_read(hidreport_read(fields, field_count, report, report_length, numbers, room_of(room)),
-               room_of(room), numbers);
+    print_read(answer, room_of(room), numbers);
+    compare_read(answer, numbers, room_of(room));
+}
+
+static void write_all(const char *values, const char *none)
+{
+    static int64_t numbers[ROOM];
+    static uint8_t by_runs[LENGTH];
+    size_t count = numbers_of(values, numbers);
+    (void)none;
+    memcpy(by_runs, report, report_length);
+    uint32_t status = hidreport_write_prepared(runs, prepared_runs(), by_runs, report_length,
+                                               numbers, count);
+    uint32_t by_fields =
+        hidreport_write(fields, field_count, report, report_length, numbers, count);
+    print_inserted(by_fields);
+    if (status != by_fields || memcmp(by_runs, report, report_length) != 0)
+        printf("  otherwise by runs\n");
 }
 
 static void read_available(const char *room, const char *none)

@@ -312,6 +312,8 @@ int main(void)
     ask_to_read(say);
     ask_to_read_with_little_room(say);
     ask_to_write_more_than_counted(say);
+    ask_by_no_runs(say);
+    ask_to_prepare(say);
     ask_for_numbers(say);
     ask_for_texts(say);
 #ifdef PORTABLE

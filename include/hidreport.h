@@ -217,6 +217,16 @@ struct hidreport_group {
     uint8_t report_id;
 };
 
+/* Values side by side in a report, all of one width and sign. */
+struct hidreport_run {
+    size_t first_bit;     /* in its report, the byte of the id counted */
+    size_t element_width; /* in bits */
+    size_t value_count;
+    bool is_signed;
+    bool has_report_id; /* only a report that begins with `report_id` is read */
+    uint8_t report_id;
+};
+
 struct hidreport_report {
     size_t size_in_bits;  /* the byte of the id counted */
     size_t size_in_bytes; /* rounded up */
@@ -471,6 +481,18 @@ struct hidreport_answer hidreport_read_available(const struct hidreport_field *f
                                                  size_t report_length, int64_t *values,
                                                  size_t room);
 
+/* What these fields' values are read by, for many reports of theirs: values of one width and sign
+ * that lie side by side are one run, and padding is none. Room for as many runs as fields is enough.
+ * It takes no memory. */
+struct hidreport_answer hidreport_prepare(const struct hidreport_field *fields, size_t field_count,
+                                          struct hidreport_run *runs, size_t room);
+
+/* What hidreport_read gives of the fields that these runs were prepared of, sooner. It takes no
+ * memory, and reads nothing but the report's bytes, whatever numbers the runs have. */
+struct hidreport_answer hidreport_read_prepared(const struct hidreport_run *runs, size_t run_count,
+                                                const uint8_t *report, size_t report_length,
+                                                int64_t *values, size_t room);
+
 /* The usage that a value of an array stands for, of the usages that hidreport_usages lists for the
  * field: none outside the logical bounds, as where no key is held. It takes no memory. */
 struct hidreport_usage hidreport_usage_of(const struct hidreport_field *field, int64_t value,
@@ -517,6 +539,12 @@ uint32_t hidreport_insert_all(const struct hidreport_field *field, uint8_t *repo
  * in the byte of its report's id, then with HIDREPORT_DOES_NOT_FIT. It takes no memory. */
 uint32_t hidreport_write(const struct hidreport_field *fields, size_t field_count, uint8_t *report,
                          size_t report_length, const int64_t *values, size_t count);
+
+/* What hidreport_write writes by the fields that these runs were prepared of, sooner. It takes no
+ * memory, and reads and writes nothing but the report's bytes, whatever numbers the runs have. */
+uint32_t hidreport_write_prepared(const struct hidreport_run *runs, size_t run_count,
+                                  uint8_t *report, size_t report_length, const int64_t *values,
+                                  size_t count);
 
 /* The bytes of a report without values, which hidreport_insert may fill: its id, where it has one,
  * and zeros. It takes no memory. */

@@ -1,6 +1,6 @@
 /* How long the library for C takes for all values of a report, each report by itself: by hidreport_read,
- * value by value, and as C does it by hand, with a place, a width and a sign for each value, which is
- * the limit. Standard input has a line NAME=HEX for each descriptor. Prints a table by how many values
+ * by runs that hidreport_prepare made, value by value, and as C does it by hand, with a place, a width
+ * and a sign for each value, which is the limit. Standard input has a line NAME=HEX for each descriptor. Prints a table by how many values
  * reports have. Status 1: two ways don't read the same; 2: a line is no descriptor. */
 #include "hidreport.h"
 #include <ctype.h>
@@ -10,8 +10,8 @@
 #include <string.h>
 #include <time.h>
 
-enum { WAYS = 3, CLASSES = 5, ROUNDS = 15, MOST = 4096, SAMPLE_NS = 20000 };
-enum { READ, BY_VALUE, BY_HAND };
+enum { WAYS = 4, CLASSES = 5, ROUNDS = 15, MOST = 4096, SAMPLE_NS = 20000 };
+enum { READ, PREPARED, BY_VALUE, BY_HAND };
 
 /* Where a value lies, for reading by hand. */
 struct place {
@@ -24,6 +24,8 @@ struct place {
 struct report {
     const struct hidreport_field *fields;
     size_t field_count;
+    const struct hidreport_run *runs;
+    size_t run_count;
     const struct place *places;
     size_t value_count;
     const uint8_t *bytes;
@@ -38,6 +40,8 @@ struct class {
     double to_value;
     double to_hand;
     double nanoseconds;
+    double prepared;
+    double prepared_to_hand;
     double largest;
 };
 
@@ -54,6 +58,13 @@ static size_t read_at_once(const struct report *report, int64_t *into)
 {
     return hidreport_read(report->fields, report->field_count, report->bytes, report->length, into,
                           MOST)
+        .count;
+}
+
+static size_t read_prepared(const struct report *report, int64_t *into)
+{
+    return hidreport_read_prepared(report->runs, report->run_count, report->bytes, report->length,
+                                   into, MOST)
         .count;
 }
 
@@ -85,6 +96,7 @@ static size_t read_by_hand(const struct report *report, int64_t *into)
 
 static size_t (*const ways[WAYS])(const struct report *, int64_t *) = {
     [READ] = read_at_once,
+    [PREPARED] = read_prepared,
     [BY_VALUE] = read_by_value,
     [BY_HAND] = read_by_hand,
 };
@@ -154,11 +166,15 @@ static void note(const char *name, const struct report *report)
     class->to_value += log(ratio);
     class->to_hand += log(medians[READ] / medians[BY_HAND]);
     class->nanoseconds += log(medians[READ] / (double)count);
+    class->prepared += log(medians[PREPARED] / (double)count);
+    class->prepared_to_hand += log(medians[PREPARED] / medians[BY_HAND]);
     if (ratio > class->largest)
         class->largest = ratio;
     if (strcmp(name, "plain_mouse") == 0 || strcmp(name, "touch_screen") == 0)
-        printf("%s, %zu values: %.0f ns by hidreport_read, %.0f value by value, %.0f by hand\n",
-               name, count, medians[READ], medians[BY_VALUE], medians[BY_HAND]);
+        printf("%s, %zu values: %.0f ns by hidreport_read, %.0f prepared, %.0f value by value, "
+               "%.0f by hand\n",
+               name, count, medians[READ], medians[PREPARED], medians[BY_VALUE],
+               medians[BY_HAND]);
 }
 
 /* The places of all values; 0 where a value has other bits than 1 to 32, or they are too many. */
@@ -185,6 +201,7 @@ static void note_reports(const char *name, const uint8_t *bytes, size_t length, 
 {
     static struct hidreport_report reports[256];
     static struct hidreport_field fields[MOST];
+    static struct hidreport_run runs[MOST];
     static struct place places[MOST];
     static uint8_t buffer[65536 + 8];
     size_t count =
@@ -202,7 +219,9 @@ static void note_reports(const char *name, const uint8_t *bytes, size_t length, 
         size_t total = found > MOST ? 0 : places_of(fields, found, places);
         if (total == 0)
             continue;
-        note(name, &(struct report){fields, found, places, total, buffer, reports[i].size_in_bytes});
+        size_t made = hidreport_prepare(fields, found, runs, MOST).count;
+        note(name, &(struct report){fields, found, runs, made, places, total, buffer,
+                                    reports[i].size_in_bytes});
     }
 }
 
@@ -221,15 +240,16 @@ static size_t bytes_of(const char *digits, uint8_t *bytes, size_t room)
 
 static void print_classes(void)
 {
-    printf("\n| values of a report | reports | ns a value | to value by value | largest | to C by hand |\n"
-           "|---|--:|--:|--:|--:|--:|\n");
+    printf("\n| values of a report | reports | ns a value | to value by value | largest | to C by hand |"
+           " prepared: ns a value | to C by hand |\n|---|--:|--:|--:|--:|--:|--:|--:|\n");
     for (struct class *class = classes; class < classes + CLASSES; class++) {
         double number = (double)class->count;
         if (class->count == 0)
             continue;
-        printf("| %s | %zu | %.1f | %.2f | %.2f | %.2f |\n", class->name, class->count,
-               exp(class->nanoseconds / number), exp(class->to_value / number), class->largest,
-               exp(class->to_hand / number));
+        printf("| %s | %zu | %.1f | %.2f | %.2f | %.2f | %.1f | %.2f |\n", class->name,
+               class->count, exp(class->nanoseconds / number), exp(class->to_value / number),
+               class->largest, exp(class->to_hand / number), exp(class->prepared / number),
+               exp(class->prepared_to_hand / number));
     }
 }
 

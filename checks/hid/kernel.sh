@@ -30,8 +30,27 @@ if [ -z "$sources" ]; then
         "$package/drivers/hid" "$package/drivers/input" "$package/include"
     rm -r "$folder/package"
 fi
-python3 "$compare/linux_readings.py" "$sources" made > "$folder/readings"
-python3 "$(dirname "$0")/as_linux.py" "$hid" "$folder/readings" | sed 's/^as_linux:/kernel: readings:/'
-python3 "$compare/linux_input.py" compare "$hid" "$sources" | sed 's/^linux_input:/kernel: events:/'
-python3 "$compare/linux_lamps.py" compare "$hid" "$sources" | sed 's/^linux_lamps:/kernel: lamps:/'
-python3 "$compare/linux_multitouch.py" compare "$hid" "$sources" | sed 's/^linux_multitouch:/kernel: contacts:/'
+said=$folder/said
+{
+    python3 "$compare/linux_readings.py" "$sources" made > "$folder/readings"
+    python3 "$(dirname "$0")/as_linux.py" "$hid" "$folder/readings" | sed 's/^as_linux:/kernel: readings:/'
+    python3 "$compare/linux_input.py" compare "$hid" "$sources" | sed 's/^linux_input:/kernel: events:/'
+    python3 "$compare/linux_lamps.py" compare "$hid" "$sources" | sed 's/^linux_lamps:/kernel: lamps:/'
+    python3 "$compare/linux_multitouch.py" compare "$hid" "$sources" | sed 's/^linux_multitouch:/kernel: contacts:/'
+} > "$said"
+cat "$said"
+
+# How many were asked isn't stored, since a later kernel may take others: that they are about as many is
+# wanted of each. enough LINE WORDS LEAST
+enough() {
+    local count
+    count=$(grep "^kernel: $1:" "$said" | grep -oE "$2" | grep -oE '[0-9]+') || true
+    [ "${count:-0}" -ge "$3" ] || {
+        echo "kernel: of $1 only ${count:-none} were asked, in place of $3" >&2
+        exit 1
+    }
+}
+enough readings '[0-9]+ descriptors' 13000
+enough events 'reports: [0-9]+' 35000
+enough lamps 'reports: [0-9]+' 2300
+enough contacts 'usages: [0-9]+' 110000

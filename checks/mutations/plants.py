@@ -45,8 +45,8 @@ from sources import CLANG, LINKER, make_kit, switch
 HERE = os.path.dirname(os.path.abspath(__file__))
 TOP = os.path.dirname(os.path.dirname(HERE))
 # So many plants are there, and so many of them are noticed.
-ALL = 443
-NOTICED = 442
+ALL = 444
+NOTICED = 443
 SECONDS = 900
 SWITCH = switch("HID_PLANT")
 KEYS = ("name", "file", "old", "new", "put", "table", "by", "why")
@@ -79,7 +79,8 @@ OF_TREE = {
     "wasm": "python3 checks/hid/runs.py generated/wasm/hid.wasm.gz",
     "python": "cd python && python3 -m unittest tests/test_hidreport.py",
     "c": "rm -rf prefix && make -s install-library PREFIX=\"$PWD/prefix\" && "
-         "PATH=/usr/bin:/bin bash checks/c/cases.sh \"$PWD/prefix\"",
+         "PATH=\"$(dirname \"$(command -v cargo || echo /usr/bin/cargo)\"):/usr/bin:/bin\" "
+         "bash checks/c/cases.sh \"$PWD/prefix\"",
     "programs": "make -s build/hid build/hidreport && python3 checks/hid/runs.py build/hid && "
                 "sh checks/hidreport/statuses.sh \"$PWD/build/hidreport\" && "
                 "bash checks/hid/devices.sh build/hid && python3 checks/launchers/terminal.py build/hid",

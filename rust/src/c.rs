@@ -22,11 +22,12 @@ pub use numbers::{
 pub use repairing::{changes, repair, repair_message};
 pub use scaling::{normalized, physical, Fraction};
 pub use sys::{
-    Change, Collection, Collections, Field, Flags, Group, Item, Measures, Options, Report, Usages,
+    Change, Collection, Collections, Field, Flags, Group, Item, Measures, Options, Report, Run,
+    Usages,
 };
 pub use wholes::{
     describe_collection_usages, describe_collections, describe_usages, find_usages, group_field,
-    group_usage, groups, read, read_available, write,
+    group_usage, groups, prepare, read, read_available, read_prepared, write, write_prepared,
 };
 pub use writing::{blank, insert, insert_all, null_value, value_of};
 

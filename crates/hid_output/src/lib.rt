@@ -76,7 +76,7 @@ pub fn digits_of(alloc: Global, bytes: &[u8]) -> Result<String, AllocError> {
 /// Appends a value of JSON as a line; what a terminal may not be given is written as `\u....`.
 pub fn add_json<T: Serialize>(text: &mut String, value: &T) -> Result<()> {
     let line = serde_json::to_string(*text.allocator(), value)?;
-    if line.chars().all(is_plain) {
+    if is_ascii(line.as_str()) || line.chars().all(is_plain) {
         text.push_str(line.as_str())?;
     } else {
         add_escaped_json(text, line.as_str())?;
@@ -123,6 +123,13 @@ pub fn escaped_lines(alloc: Global, text: &str) -> Result<String, AllocError> {
         }
     }
     Ok(shown)
+}
+
+/// Whether a text has no characters but letters, digits and signs of ASCII, as most lines do.
+fn is_ascii(text: &str) -> bool {
+    text.as_bytes()
+        .iter()
+        .all(|byte| matches!(*byte, b' '..=b'~'))
 }
 
 /// Whether a terminal shows a character where it stands.

@@ -80,6 +80,15 @@ put-next run bytes index place values =
     ∙ ap (λ k. slice_set (set_from place (numbers_from run bytes 0 index) values) (place + index)
     (number_at run bytes k)) none
 
+-- the only number of a run
+pub put-one : (run : RunRecord) (bytes : List ℕ) (place : ℕ) (n : ℤ) (values : List ℤ) → run.count ≡ 1
+    → n ≡ value bytes run.first run.width run.is_signed
+    → slice_set values place n ≡ set_from place (numbers_from run bytes 0 run.count) values
+put-one run bytes place n values one is =
+    let from : run.first ≡ run.first + run.width * 0 = omega arith in
+    ap (slice_set values place) (is ∙ ap (λ k. value bytes k run.width run.is_signed) from)
+    ∙ ap (λ k. set_from place (numbers_from run bytes 0 k) values) (sym one)
+
 -- as many values as before
 length-set-from : (place : ℕ) (numbers values : List ℤ)
     → length (set_from place numbers values) ≡ length values

@@ -7,7 +7,6 @@ pub mod BlankLemmas
 pub mod WholeLemmas
 pub mod WholeReadLemmas
 pub mod ReportWriteLemmas
-pub mod WindowLemmas
 pub mod ItemPlaceLemmas
 pub mod ItemStateLemmas
 pub mod ReportLemmas

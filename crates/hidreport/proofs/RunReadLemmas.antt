@@ -19,7 +19,7 @@ use Rattle.hidreport_fields.proofs.ReadBackLemmas.{ReadsAs, id-passes, number-be
 use Rattle.hidreport_fields.proofs.ValueBitsLemmas.{number-read}
 
 -- a value whose bits are there
-readable : (p w : ℕ) (s : Bool) (bytes : List ℕ) → 0 < w → w ≤ 32 → p + w ≤ 8 * length bytes
+pub readable : (p w : ℕ) (s : Bool) (bytes : List ℕ) → 0 < w → w ≤ 32 → p + w ≤ 8 * length bytes
     → ReadsAs (read_bits p (p + w) s bytes) (value bytes p w s)
 readable p w s bytes some narrow within =
     let width : p + w - p ≡ w = omega arith in

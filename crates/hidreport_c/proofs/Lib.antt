@@ -6,10 +6,13 @@ pub mod GroupLemmas
 pub mod InsertLemmas
 pub mod ListingLemmas
 pub mod ListsLemmas
+pub mod NumberLemmas
+pub mod PreparedLemmas
 pub mod ReadDescribedLemmas
 pub mod ReadingLemmas
 pub mod WritingLemmas
 pub mod RepairLemmas
+pub mod RunsLemmas
 pub mod UsagesLemmas
 pub mod ValueLemmas
 pub mod ValuesLemmas

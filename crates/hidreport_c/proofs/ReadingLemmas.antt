@@ -292,12 +292,12 @@ below n h = grind (arith, nat_tests)
 past : (n : ℕ) → 2 ^ 64 ≤ n → nat_lt n (2 ^ 64) ≡ false
 past n h = grind (arith, nat_tests)
 
-countable-by : (r : Result (List ℤ) Refusal) → IsOk r → length (list_or_nothing r) < 2 ^ 64
+pub countable-by : (r : Result (List ℤ) Refusal) → IsOk r → length (list_or_nothing r) < 2 ^ 64
     → if_countable r ≡ r
 countable-by (Ok all) ok h = ap (λ b. cond b (Ok all) (Err OutOfBounds)) (below (length all) h)
 countable-by (Err e) ok h = cc
 
-uncountable-by : (r : Result (List ℤ) Refusal) → IsOk r → 2 ^ 64 ≤ length (list_or_nothing r)
+pub uncountable-by : (r : Result (List ℤ) Refusal) → IsOk r → 2 ^ 64 ≤ length (list_or_nothing r)
     → if_countable r ≡ Err OutOfBounds
 uncountable-by (Ok all) ok h = ap (λ b. cond b (Ok all) (Err OutOfBounds)) (past (length all) h)
 uncountable-by (Err e) ok h = cc
@@ -313,7 +313,7 @@ pub uncountable : (fields : List HidreportField) (bytes : List ℕ) → IsOk (nu
 uncountable fields bytes ok h =
     uncountable-by (numbers_in fields bytes) ok (omega (arith, count-listed fields bytes ok, h))
 
-counted-by : (r : Result (List ℤ) Refusal) → IsOk r
+pub counted-by : (r : Result (List ℤ) Refusal) → IsOk r
     → as_answer r ≡ counted (length (list_or_nothing r))
 counted-by (Ok all) ok = refl
 counted-by (Err e) ok = cc

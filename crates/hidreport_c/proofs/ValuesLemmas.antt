@@ -69,7 +69,7 @@ elements-length first end count s bytes index (suc more) all h =
     ap length (sym parts.4)
     ∙ ap suc (elements-length first end count s bytes (index + 1) more parts.1 parts.3)
 
-refused-where : (b : Bool) (x : ValueRecord) → b ≡ true
+pub refused-where : (b : Bool) (x : ValueRecord) → b ≡ true
     → cond b (Err OutOfBounds) (Ok x) ≡ Err OutOfBounds
 refused-where true x h = refl
 refused-where false x h = cc

@@ -14,6 +14,7 @@ pub mod Message
 pub mod Name
 pub mod Numbered
 pub mod Options
+pub mod Prepared
 pub mod Reading
 pub mod Repair
 pub mod Report

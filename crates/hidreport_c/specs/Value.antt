@@ -1,5 +1,5 @@
 -- A value of a field, read by the field as C has it (Sections 5.6 and 5.8).
-use Rattle.std.specs.Prelude.{ℕ, pos, int_lt, nat_lt, zero, suc, if◌then◌else◌, List, [], ◌∷◌, map}
+use Rattle.std.specs.Prelude.{◌≡◌, ℕ, pos, int_lt, nat_lt, zero, suc, if◌then◌else◌, List, [], ◌∷◌, map}
 use Rattle.std.specs.Prelude.{ℤ, Option, None, Some, Result, Ok, Err}
 use Rattle.hidreport.specs.Answer.{Refusal, OutOfBounds}
 use Rattle.hidreport.specs.Choosing.{value_number}
@@ -30,6 +30,11 @@ value_at f bytes index =
 abbrev pub as_value : Result ValueRecord Refusal → HidreportValue
 as_value (Ok v) = record { number = value_number v; status = 0 }
 as_value (Err refusal) = record { number = pos 0; status = status_of refusal }
+
+-- a value is read, and this is its number
+abbrev pub IsNumberOf : Result ValueRecord Refusal → ℤ → Type 0
+IsNumberOf (Ok v) number = number ≡ value_number v
+IsNumberOf (Err refusal) number = ⊥
 
 -- the value of a list that has one
 abbrev pub only : Result (List ValueRecord) Refusal → Result ValueRecord Refusal

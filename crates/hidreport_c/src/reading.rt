@@ -13,6 +13,7 @@ ghost use Rattle.hidreport_c.specs.declared.structs.HidreportField.{HidreportFie
 
 use crate::status::{MISMATCHING_REPORT_ID, OUT_OF_BOUNDS};
 use crate::structs::{HidreportAnswer, HidreportField};
+use hidreport_fields::short_word;
 
 /// The values of these fields, in order, in a report that has these bytes (Sections 5.6 and 5.8):
 /// those of each field behind those of the field before; padding has none. As many as there is room
@@ -108,10 +109,11 @@ fn put_all(fields: &[HidreportField], report: &[u8], values: &mut [i64])
     ensures { values.new
         ≡ array_after (list_or_nothing (numbers_in fields.now report.now)) values.old }
 {
+    let short = short_word(report);
     let mut count: usize = 0;
     for field in fields {
         let begun = count.min(values.len());
-        field.write_values(report, &mut values[begun..]);
+        field.write_values(report, short, &mut values[begun..]);
         count += field.value_count;
     }
 }

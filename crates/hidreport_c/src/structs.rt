@@ -155,6 +155,24 @@ pub struct HidreportGroup {
     pub report_id: u8,
 }
 
+/// Values of fields side by side in a report, all of one width and sign (`struct hidreport_run`).
+#[repr(C)]
+#[derive(Clone, Copy)]
+pub struct HidreportRun {
+    /// The first of their bits in their report.
+    pub first_bit: usize,
+    /// How many bits a value has.
+    pub element_width: usize,
+    /// How many values there are.
+    pub value_count: usize,
+    /// Whether values can be below 0.
+    pub is_signed: bool,
+    /// Whether only a report that begins with `report_id` is read.
+    pub has_report_id: bool,
+    /// That id, 0 where there is none.
+    pub report_id: u8,
+}
+
 /// A report of a direction as C has it (`struct hidreport_report`).
 #[repr(C)]
 #[derive(Clone, Copy)]

@@ -1,4 +1,5 @@
-ghost use Rattle.std.specs.Prelude.{◌≡◌, ◌+◌, ◌*◌, ◌<◌, ◌≤◌, ◌^◌, false, Err, Ok, IfSome, IsNone, IsOk, IsTrue};
+ghost use Rattle.std.specs.Prelude.{◌≡◌, ◌+◌, ◌*◌, ◌<◌, ◌≤◌, ◌^◌, if◌then◌else◌, false, Err, None, Ok, Some, IfSome, IsNone, IsOk, IsTrue, length, slice_set};
+ghost use Rattle.hidreport_items.specs.Numbers.{word};
 ghost use Rattle.hidreport.specs.Answer.{OutOfBounds};
 ghost use Rattle.hidreport.specs.Spelling.{AreBytes};
 ghost use Rattle.hidreport.specs.Reading.{element_width, reads, with_id};
@@ -6,11 +7,12 @@ ghost use Rattle.hidreport.specs.Records.{FieldRecord};
 ghost use Rattle.hidreport_c.specs.Answer.{as_answer, list_or_nothing, array_after};
 ghost use Rattle.hidreport_c.specs.Field.{as_c};
 ghost use Rattle.hidreport_c.specs.Status.{by_status};
-ghost use Rattle.hidreport_c.specs.Value.{acceptance, as_value, element_at, elements_at, extracted_value, id_of, value_numbers, value_at, values_at};
+ghost use Rattle.hidreport_c.specs.Value.{IsNumberOf, acceptance, as_value, element_at, elements_at, extracted_value, id_of, value_numbers, value_at, values_at};
 
 use crate::status::{ACCEPTED, MISMATCHING_REPORT_ID, OUT_OF_BOUNDS};
 use crate::structs::{HidreportAnswer, HidreportField, HidreportValue};
 use hidreport::FieldValue;
+use hidreport_fields::{number_at, short_word};
 
 /// The value `index` of a field, counted from 0, in a report that has these bytes (Sections 5.6
 /// and 5.8). It takes no memory.
@@ -52,7 +54,7 @@ pub extern "C" fn hidreport_values(
         → values_at field.now report.now ≡ reads read report.now }
 {
     match field.check_values(report) {
-        Ok(()) => field.write_values(report, values),
+        Ok(()) => field.write_values(report, short_word(report), values),
         Err(status) => HidreportAnswer::refused(status),
     }
 }
@@ -88,14 +90,7 @@ impl HidreportField {
     fn check_id(&self, report: &[u8]) -> Result<(), u32>
         ensures { result ≡ by_status (with_id (id_of self.now) report.now (Ok tt)) }
     {
-        if !self.has_report_id {
-            return Ok(());
-        }
-        match report.first() {
-            None => Err(OUT_OF_BOUNDS),
-            Some(first) if *first != self.report_id => Err(MISMATCHING_REPORT_ID),
-            Some(_) => Ok(()),
-        }
+        check_id(self.has_report_id, self.report_id, report)
     }
 
     /// Whether all values can be read.
@@ -123,21 +118,71 @@ impl HidreportField {
         }
     }
 
-    /// Writes as many values as there is room for.
-    pub(crate) fn write_values(&self, report: &[u8], values: &mut [i64]) -> HidreportAnswer
-        requires { IsOk (elements_at self.now report.now) }
+    /// Writes as many values as there is room for, by the bytes and what `short_word` gives of them.
+    #[inline(always)]
+    pub(crate) fn write_values(
+        &self,
+        report: &[u8],
+        short: u64,
+        values: &mut [i64],
+    ) -> HidreportAnswer
+        requires read { IsOk (elements_at self.now report.now) }
+        requires short { length report.now < 8 → short ≡ word report.now }
         ensures answer { result ≡ as_answer (value_numbers (elements_at self.now report.now)) }
         ensures written { values.new
             ≡ array_after (list_or_nothing (value_numbers (elements_at self.now report.now)))
             values.old }
     {
-        let width = self.element_width();
-        for index in 0..self.value_count.min(values.len()) {
-            if let Some(value) = self.element(report, width, index) {
-                values[index] = i64::from(value);
-            }
+        if self.value_count == 1 {
+            self.write_only(report, short, values);
+        } else {
+            self.write_each(report, short, values);
         }
         HidreportAnswer::counted(self.value_count)
+    }
+
+    /// Writes the only value, if there is room for it.
+    #[inline(always)]
+    fn write_only(&self, report: &[u8], short: u64, values: &mut [i64])
+        requires one { self.now.value_count ≡ 1 }
+        requires read { IsOk (elements_at self.now report.now) }
+        requires short { length report.now < 8 → short ≡ word report.now }
+        ensures { values.new
+            ≡ array_after (list_or_nothing (value_numbers (elements_at self.now report.now)))
+            values.old }
+    {
+        let number = self.number(report, short, self.element_width(), 0);
+        put_first(values, number);
+    }
+
+    /// Writes as many of several values as there is room for.
+    fn write_each(&self, report: &[u8], short: u64, values: &mut [i64])
+        requires read { IsOk (elements_at self.now report.now) }
+        requires short { length report.now < 8 → short ≡ word report.now }
+        ensures { values.new
+            ≡ array_after (list_or_nothing (value_numbers (elements_at self.now report.now)))
+            values.old }
+    {
+        let width = self.element_width();
+        for index in 0..self.value_count.min(values.len()) {
+            values[index] = self.number(report, short, width, index);
+        }
+    }
+
+    /// The number of a value of so many bits, where all can be read, whatever the report's id.
+    #[inline(always)]
+    fn number(&self, report: &[u8], short: u64, width: usize, index: usize) -> i64
+        requires there { index < self.now.value_count }
+        requires width { width
+            ≡ element_width self.now.first_bit self.now.end_bit self.now.value_count }
+        requires counted { self.now.first_bit + width * self.now.value_count < 2 ^ 64 }
+        requires read { IsOk (elements_at self.now report.now) }
+        requires short { length report.now < 8 → short ≡ word report.now }
+        ensures { IsNumberOf (element_at self.now report.now index) result }
+    {
+        let first = self.first_bit + width * index;
+        let is_signed = self.measures.logical_minimum < 0;
+        number_at(report, short, first, width, is_signed)
     }
 
     /// How many bits a value has: the field's bits divided by the number of values, if it isn't 0.
@@ -168,10 +213,35 @@ impl HidreportField {
     }
 }
 
+/// Bytes are read by an id, if there is one, only where they begin with it.
+pub(crate) fn check_id(has_id: bool, id: u8, report: &[u8]) -> Result<(), u32>
+    ensures { result
+        ≡ by_status (with_id (if has_id then Some id else None) report.now (Ok tt)) }
+{
+    if !has_id {
+        return Ok(());
+    }
+    match report.first() {
+        None => Err(OUT_OF_BOUNDS),
+        Some(first) if *first != id => Err(MISMATCHING_REPORT_ID),
+        Some(_) => Ok(()),
+    }
+}
+
 /// Whether values of so many bits, of which the last ends at a bit, can be read from so many bytes.
 fn are_readable(width: usize, end: usize, bytes: usize) -> bool
     ensures readable { IsTrue result → (0 < width) × (width ≤ 32) × (end ≤ 8 * bytes) }
     ensures outside { result ≡ false → 0 < width → width ≤ 32 → 8 * bytes < end }
 {
     width > 0 && width <= 32 && end.div_ceil(8) <= bytes
+}
+
+/// Puts a number in place of the first value, if there is one.
+#[inline(always)]
+fn put_first(values: &mut [i64], number: i64)
+    ensures { values.new ≡ slice_set values.old 0 number }
+{
+    if !values.is_empty() {
+        values[0] = number;
+    }
 }

@@ -20,6 +20,7 @@ pub mod SignLemmas
 pub mod StandingLemmas
 pub mod UnchosenLemmas
 pub mod ValueBitsLemmas
+pub mod WindowLemmas
 pub mod WordLemmas
 pub mod WrittenBitsLemmas
 pub mod WrittenLemmas

@@ -1,11 +1,10 @@
 -- The bits of a few bytes, read as one word.
 use Rattle.std.proofs.Common.{◌≡◌, ℕ, zero, suc, ◌+◌, ◌*◌, ◌/◌, ◌%◌, ◌^◌, ◌-◌, ◌<◌, ◌≤◌, List, []}
-use Rattle.std.proofs.Common.{◌∷◌, length, take, drop, length-drop, bit_and, refl, sym, ap, subst}
+use Rattle.std.proofs.Common.{◌∷◌, length, take, drop, bit_and, refl, sym, ap, subst}
 use Rattle.std.proofs.Common.{◌∙◌, arith}
 use Rattle.std.specs.Prelude.{slice_index}
 use Rattle.std.proofs.Math.Nat.{div-div-eq-div-mul}
-use Rattle.std.proofs.lemmas.List.{get_or-drop, get_or-take, length-take-le}
-use Rattle.std.proofs.lemmas.List.Elements.{All-take, All-drop}
+use Rattle.std.proofs.lemmas.List.{get_or-drop, get_or-take}
 use Rattle.std.proofs.lemmas.Nat.{and_mask, mod-pow-add, pow-add}
 use Rattle.hidreport_items.specs.Numbers.{word}
 use Rattle.hidreport_items.specs.Spelling.{AreBytes}
@@ -83,27 +82,6 @@ sum-from bytes q m r (suc w) within =
     let top = ap (λ n. bit bytes n) sum ∙ bit-from bytes q m (r + w) (omega (arith, within)) in
     ap (λ n. n + bit bytes (8 * q + r + w) * 2 ^ w) below
     ∙ ap (λ n. sum_of_bits (take m (drop q bytes)) r w + n * 2 ^ w) top
-
--- the bytes that bits from `first` on touch, read as a word, without the bits below and behind
-pub touched-bits : (bytes : List ℕ) → AreBytes bytes → (first width end : ℕ)
-    → first + width ≤ 8 * end → end ≤ length bytes → first / 8 ≤ end
-    → word (take (end - first / 8) (drop (first / 8) bytes)) / 2 ^ (first % 8) % 2 ^ width
-    ≡ sum_of_bits bytes first width
-touched-bits bytes are first width end within short after =
-    let q = first / 8 in
-    let m = end - q in
-    let touched = take m (drop q bytes) in
-    let left : length (drop q bytes) ≡ length bytes - q = length-drop q bytes in
-    let size : length touched ≡ m =
-    length-take-le m (drop q bytes) (omega (arith, left, short, after)) in
-    let touched-are : AreBytes touched =
-    All-take (λ b. b < 256) m (drop q bytes) (All-drop (λ b. b < 256) q bytes are) in
-    let room : first % 8 + width ≤ 8 * m = omega (arith, within, after) in
-    let here : first % 8 + width ≤ 8 * length touched = omega (arith, room, size) in
-    let place : 8 * q + first % 8 ≡ first = omega arith in
-    sym (sum-word touched touched-are (first % 8) width here)
-    ∙ sym (sum-from bytes q m (first % 8) width room)
-    ∙ ap (λ n. sum_of_bits bytes n width) place
 
 -- the low bits by a mask
 pub masked : (n width : ℕ) → width ≤ 32

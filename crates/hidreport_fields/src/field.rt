@@ -6,6 +6,7 @@ ghost use Rattle.hidreport_fields.specs.Views.{field_bits, field_collections, fi
 
 mod alike;
 pub(crate) mod array_field;
+pub(crate) mod bit_number;
 pub(crate) mod collection;
 pub(crate) mod constant_field;
 pub(crate) mod data_item;

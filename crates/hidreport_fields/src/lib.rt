@@ -11,6 +11,7 @@
 mod field;
 
 pub use field::array_field::{ArrayField, width_of_elements};
+pub use field::bit_number::{number_at, short_word};
 pub use field::collection::{
     Collection, CollectionId, CollectionUsages, make_collection, numbered_collection,
 };

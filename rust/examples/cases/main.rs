@@ -193,9 +193,15 @@ impl Asked {
 
     /// What is written into a report by all fields that were listed.
     fn ask_write(&self, numbers: &str, mut report: Vec<u8>) {
-        let done = hidreport::c::write(&self.fields, &mut report, &numbers_of(numbers));
+        let (numbers, mut by_runs) = (numbers_of(numbers), report.clone());
+        let done = hidreport::c::write(&self.fields, &mut report, &numbers);
+        let runs = hidreport::c::prepare(&self.fields).unwrap_or_default();
+        let prepared = hidreport::c::write_prepared(&runs, &mut by_runs, &numbers);
         println!("  {}", done.map_or_else(words_of, |()| "accepted"));
         print_bytes(&report);
+        if (prepared, by_runs) != (done, report) {
+            println!("  otherwise by runs");
+        }
     }
 
     /// What is written into a report by a field that was listed.

@@ -37,12 +37,17 @@ fn ask_values(asked: &Asked, kind: &str, room: &str, report: &[u8]) {
         "read" => c::read(&asked.fields, report),
         _ => c::read_available(&asked.fields, report),
     };
+    let runs = c::prepare(&asked.fields).unwrap_or_default();
+    let is_otherwise = kind == "read" && c::read_prepared(&runs, report) != read;
     match read {
         Ok(values) => {
             println!("  count {} offset 0 accepted", values.len());
             values.iter().take(room_of(room)).for_each(|value| println!("  {value}"));
         }
         Err(status) => println!("  count 0 offset 0 {}", words_of(status)),
+    }
+    if is_otherwise {
+        println!("  otherwise by runs");
     }
 }
 

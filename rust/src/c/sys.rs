@@ -90,6 +90,17 @@ pub struct Group {
 
 #[repr(C)]
 #[derive(Clone, Copy, Debug, Default, PartialEq)]
+pub struct Run {
+    pub first_bit: usize,
+    pub element_width: usize,
+    pub value_count: usize,
+    pub is_signed: bool,
+    pub has_report_id: bool,
+    pub report_id: u8,
+}
+
+#[repr(C)]
+#[derive(Clone, Copy, Debug, Default, PartialEq)]
 pub struct Report {
     pub size_in_bits: usize,
     pub size_in_bytes: usize,

@@ -1,6 +1,6 @@
 //! Groups of fields, and all usages and all values at once.
 use crate::c::numbers::{Direction, Status};
-use crate::c::sys::{self, Collection, Field, Group, Options};
+use crate::c::sys::{self, Collection, Field, Group, Options, Run};
 use crate::c::{listed, listed_in, Refusal, FEW};
 
 // SAFETY of all calls below: as of those in lib.rs.
@@ -123,4 +123,32 @@ pub fn write(fields: &[Field], report: &mut [u8], values: &[i64]) -> Result<(), 
     let (bytes, length) = (report.as_mut_ptr(), report.len());
     let (numbers, room) = (values.as_ptr(), values.len());
     Status::of_answer(unsafe { sys::hidreport_write(first, count, bytes, length, numbers, room) })
+}
+
+/// What the values of these fields are read and written by, of many reports.
+pub fn prepare(fields: &[Field]) -> Result<Vec<Run>, Status> {
+    let (first, count) = (fields.as_ptr(), fields.len());
+    listed(count, Run::default(), |runs, room| unsafe {
+        sys::hidreport_prepare(first, count, runs, room)
+    })
+    .map_err(|unlisted| unlisted.status)
+}
+
+/// What `read` answers by the fields that these runs were prepared of, sooner.
+pub fn read_prepared(runs: &[Run], report: &[u8]) -> Result<Vec<i64>, Status> {
+    let (first, count) = (runs.as_ptr(), runs.len());
+    listed(FEW, 0, |values, room| unsafe {
+        sys::hidreport_read_prepared(first, count, report.as_ptr(), report.len(), values, room)
+    })
+    .map_err(|unlisted| unlisted.status)
+}
+
+/// What `write` does by the fields that these runs were prepared of, sooner.
+pub fn write_prepared(runs: &[Run], report: &mut [u8], values: &[i64]) -> Result<(), Status> {
+    let (first, count) = (runs.as_ptr(), runs.len());
+    let (bytes, length) = (report.as_mut_ptr(), report.len());
+    let (numbers, room) = (values.as_ptr(), values.len());
+    Status::of_answer(unsafe {
+        sys::hidreport_write_prepared(first, count, bytes, length, numbers, room)
+    })
 }

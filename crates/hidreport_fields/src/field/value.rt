@@ -1,5 +1,5 @@
 //! Values that are read from reports.
-ghost use Rattle.std.specs.Prelude.{◌≡◌, ◌≢◌, true, Err, Ok, ◌+◌, ◌*◌, ◌<◌, ◌≤◌, ◌/◌, ◌%◌, ◌^◌, length, IfErr, IfSome, IsNone};
+ghost use Rattle.std.specs.Prelude.{◌≡◌, ◌≢◌, true, Err, Ok, ◌+◌, ◌*◌, ◌<◌, ◌≤◌, ◌%◌, ◌^◌, length, IfErr, IfSome, IsNone};
 ghost use Rattle.std.specs.Int.{w8, w16, w32, cast_signed};
 ghost use Rattle.hidreport_items.specs.Numbers.{word};
 ghost use Rattle.hidreport_lists.specs.Answer.{Answers, OutOfBounds, IsOfReading};
@@ -8,6 +8,7 @@ ghost use Rattle.hidreport_fields.specs.Choosing.{value_number};
 ghost use Rattle.hidreport_fields.specs.Reading.{read_bits, with_id};
 ghost use Rattle.hidreport_fields.specs.WritingValues.{are_readable};
 
+use crate::field::bit_number::{bits_at, short_word};
 use hidreport_lists::ParserError;
 use hidreport_types::ReportId;
 use std::marker::Model;
@@ -200,17 +201,19 @@ pub(crate) fn word(bytes: &[u8]) -> u64
     }
 }
 
-/// The bits from `first` on as one number, the first as the lowest: the few bytes that they
-/// touch, without the bits below and behind.
+/// The bits from `first` on as one number, the first as the lowest.
+#[inline(always)]
 fn sum_of_bits(bytes: &[u8], first: usize, width: usize) -> u64
+    requires some { 0 < width }
     requires narrow { width ≤ 32 }
     requires within { first + width ≤ 8 * length bytes.now }
-    requires counted { first + width < 2 ^ 64 }
     ensures value { result ≡ sum_of_bits bytes.now first width }
     ensures small { result < 2 ^ width }
 {
-    let touched = &bytes[first / 8..(first + width).div_ceil(8)];
-    word(touched) >> (first % 8) & ((1 << width) - 1)
+    if bytes.len() < 8 {
+        return bits_at(bytes, short_word(bytes), first, width);
+    }
+    bits_at(bytes, 0, first, width)
 }
 
 /// The same with the sign of its top bit, as 32 bits.
@@ -218,7 +221,6 @@ fn signed_bits(bytes: &[u8], first: usize, width: usize) -> u32
     requires some { 0 < width }
     requires narrow { width ≤ 32 }
     requires within { first + width ≤ 8 * length bytes.now }
-    requires counted { first + width < 2 ^ 64 }
     ensures { result ≡ as_word (value bytes.now first width true) }
 {
     let sum = sum_of_bits(bytes, first, width);

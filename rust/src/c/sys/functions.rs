@@ -1,7 +1,7 @@
 //! The functions of `include/hidreport.h`.
 use crate::c::sys::{
     Answer, Change, Choice, Collection, Field, Group, Item, Likeness, MaybeFraction, Options, Page,
-    Report, Usage, Value,
+    Report, Run, Usage, Value,
 };
 
 extern "C" {
@@ -272,6 +272,31 @@ extern "C" {
     pub fn hidreport_write(
         fields: *const Field,
         field_count: usize,
+        report: *mut u8,
+        report_length: usize,
+        values: *const i64,
+        count: usize,
+    ) -> u32;
+
+    pub fn hidreport_prepare(
+        fields: *const Field,
+        field_count: usize,
+        runs: *mut Run,
+        room: usize,
+    ) -> Answer;
+
+    pub fn hidreport_read_prepared(
+        runs: *const Run,
+        run_count: usize,
+        report: *const u8,
+        report_length: usize,
+        values: *mut i64,
+        room: usize,
+    ) -> Answer;
+
+    pub fn hidreport_write_prepared(
+        runs: *const Run,
+        run_count: usize,
         report: *mut u8,
         report_length: usize,
         values: *const i64,

@@ -1,23 +1,20 @@
 //! The runs of a report, and when bytes have all of them (Sections 5.6 and 5.8).
-ghost use Rattle.std.specs.Prelude.{◌≡◌, ◌≢◌, ◌<◌, ◌^◌, ℕ, List, [], ◌∷◌, ◌++◌, Err, Ok, IfErr, IfOk, IfSome, IsTrue, OnOk, Result, length, map};
+ghost use Rattle.std.specs.Prelude.{◌≡◌, ◌≢◌, ◌<◌, ◌^◌, ℕ, List, [], Err, Ok, IfErr, IfSome, IsTrue, OnOk, Result, length};
 ghost use Rattle.std.specs.List.{list_any};
 ghost use Rattle.hidreport_items.specs.Numbers.{word};
 ghost use Rattle.hidreport_items.specs.Spelling.{AreBytes};
 ghost use Rattle.hidreport_lists.specs.Answer.{IsOfReading, Refuses};
 ghost use Rattle.hidreport.specs.Reader.{begins_otherwise, filled, numbers_before};
 ghost use Rattle.hidreport_fields.specs.Reading.{with_id};
-ghost use Rattle.hidreport.specs.Runs.{HasNarrowValues, HasAllValues, IsPlain, RunRecord, StandFor, all_numbers, count_in, run_in_id, runs_alone, runs_fit, runs_of, runs_placed, runs_put, runs_read};
-ghost use Rattle.hidreport.specs.SameRuns.{SameRuns};
+ghost use Rattle.hidreport.specs.Runs.{HasNarrowValues, HasAllValues, IsPlain, RunRecord, all_numbers, count_in, run_in_id, runs_alone, runs_fit, runs_placed, runs_put, runs_read};
 ghost use Rattle.hidreport_fields.specs.Tiling.{Each};
-ghost use Rattle.hidreport_fields.specs.Views.{field_record};
 ghost use Rattle.hidreport_fields.specs.WritingValues.{where_read};
 ghost use Rattle.hidreport_fields.specs.declared.field.insert_error.InsertError.{InsertError};
 
-use crate::report::reader::run::{Run, short_word};
-use hidreport_fields::{Field, InsertError};
+use crate::report::reader::run::Run;
+use hidreport_fields::{InsertError, short_word};
 use hidreport_lists::ParserError;
 use hidreport_types::ReportId;
-use std::alloc::{AllocError, Global};
 use std::marker::Model;
 
 /// Runs in the order of their fields.

@@ -8,8 +8,8 @@ use Rattle.hidreport_c.specs.Reading.{numbers_in}
 use Rattle.hidreport_c.specs.Value.{value_numbers}
 use Rattle.hidreport_c.proofs.reading.put_all.Goals as goal
 
-pub write_values-requires : goal.write_values-requires
-write_values-requires c =
+pub write_values-requires-clause-read : goal.write_values-requires-clause-read
+write_values-requires-clause-read c =
     let inv = c.loop-field.invariant in
     let one = among-at c.args.fields.now c.loop-field.field-index c.args.report.now inv.0
     c.requires.read c.loop-field-test.true inv.1 in

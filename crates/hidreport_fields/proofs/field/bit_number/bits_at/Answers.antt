@@ -1,7 +1,7 @@
 use Rattle.std.proofs.Common.{◌+◌, ◌*◌, ◌≤◌, arith, length}
 use Rattle.hidreport_lists.proofs.CutLemmas.{are_bytes}
-use Rattle.hidreport.proofs.WindowLemmas.{short-masked, window-masked}
-use Rattle.hidreport.proofs.report.reader.run.bits_at.Goals as goal
+use Rattle.hidreport_fields.proofs.WindowLemmas.{short-masked, window-masked}
+use Rattle.hidreport_fields.proofs.field.bit_number.bits_at.Goals as goal
 
 pub returns-then-bytes-lt8-clause-value : goal.returns-then-bytes-lt8-clause-value
 returns-then-bytes-lt8-clause-value c =

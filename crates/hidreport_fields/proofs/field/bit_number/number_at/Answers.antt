@@ -1,7 +1,7 @@
 use Rattle.std.proofs.Common.{◌≡◌, ◌∙◌, true, false, ap, sym, rules}
 use Rattle.hidreport_fields.specs.BitValue.{value}
 use Rattle.hidreport_fields.proofs.SignLemmas.{plain-number, signed-number}
-use Rattle.hidreport.proofs.report.reader.run.number_at.Goals as goal
+use Rattle.hidreport_fields.proofs.field.bit_number.number_at.Goals as goal
 
 pub returns-then-not-is_signed : goal.returns-then-not-is_signed
 returns-then-not-is_signed c =

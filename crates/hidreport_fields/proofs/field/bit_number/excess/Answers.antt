@@ -1,5 +1,5 @@
 use Rattle.hidreport_fields.proofs.SignLemmas.{excess-most, excess-set}
-use Rattle.hidreport.proofs.report.reader.run.excess.Goals as goal
+use Rattle.hidreport_fields.proofs.field.bit_number.excess.Goals as goal
 
 pub returns-clause-set : goal.returns-clause-set
 returns-clause-set c =

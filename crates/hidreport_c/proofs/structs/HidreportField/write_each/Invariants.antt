@@ -3,7 +3,7 @@ use Rattle.hidreport.specs.Choosing.{value_number}
 use Rattle.hidreport.specs.Reading.{ValueRecord}
 use Rattle.hidreport_c.specs.Answer.{array_after}
 use Rattle.hidreport_c.specs.Value.{elements_at}
-use Rattle.hidreport_c.proofs.structs.HidreportField.write_values.Given as goal
+use Rattle.hidreport_c.proofs.structs.HidreportField.write_each.Given as goal
 
 -- all values can be read, and those so far are written
 abbrev pub invariant-loop-index : goal.invariant-loop-index
