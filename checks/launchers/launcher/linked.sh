@@ -1,15 +1,10 @@
 # A program that generated/ has of these sources is linked by the first call, and run: read by launcher.sh.
 
 for called in hid hidreport; do
-    # (Where all processors are at work, within two seconds in one of three times.)
-    for round in 1 2 3; do
-        rm -rf "$copy/build/$called"* "$copy/build/run/$called"*
-        begun=$(date +%s%N)
-        call 0 x
-        took=$((($(date +%s%N) - begun) / 1000000))
-        [ "$took" -ge 2000 ] || break
-    done
-    [ "$took" -lt 2000 ] || wrong "the first output comes late: in $took ms"
+    rm -rf "$copy/build/$called"* "$copy/build/run/$called"*
+    { TIMEFORMAT='%3U %3S' && time call 0 x; } 2> "$scratch/took"
+    # (In processor time, for other work may stand beside.)
+    awk '{ exit $1 + $2 >= 2 }' "$scratch/took" || wrong "the first output comes late: $(cat "$scratch/took")"
     shows 'the first call' 0 'linked: <0> <x>' 0 1
     says 'the first call' \
         "$called: linked from generated/, which a-kit made of these sources once they were proved"
@@ -57,7 +52,8 @@ for round in 1 2 3 4 5 6 7 8; do
         wait "$pid" || wrong "round $round: one of two first calls is refused: $(cat "$scratch"/errors[12])"
     done
     [ "$(cat "$scratch"/out[12])" = 'linked: <0>linked: <0>' ] || wrong "round $round: another output"
-    [ "$(cat "$scratch"/errors[12] | wc -l)" -eq 1 ] || wrong "round $round: both link"
+    # (Where linking takes more than two seconds, the other says besides that it waits.)
+    [ "$(cat "$scratch"/errors[12] | grep -c 'linked from')" -eq 1 ] || wrong "round $round: both link"
     answers=$((answers + 1))
 done
 # While one runs another may be made.
