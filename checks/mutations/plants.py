@@ -104,6 +104,7 @@ LOOK = [
     ("crates/hid_captures/", "runs texts"),
     ("crates/hid_given/", "runs texts"),
     ("crates/hid_webhid/", "runs webhid texts"),
+    ("crates/hid_sources/", "runs devices texts"),
     ("crates/hid_input/", "runs devices texts"),
     ("crates/hid_words/", "runs beside texts"),
     ("crates/hid_items/", "runs texts page"),

@@ -1,13 +1,12 @@
 //! `hid list`: the HID devices of the machine.
 use anyhow::{Context, Result};
-use hid_input::input::{
-    MOST_NODES, MachineDevice, bytes_named, folder_of, input_nodes, machine_device,
-};
+use hid_input::input::bytes_named;
 use hid_input::parsing::read_silently;
 use hid_input::settings::Settings;
 use hid_input::world::World;
 use hid_output::ending::Ending;
 use hid_output::{add_json, escaped, flush};
+use hid_sources::{MOST_NODES, MachineDevice, folder_of, input_nodes, machine_device};
 use hid_words::{add_usage, add_usage_on_page, plural, word_of};
 use hidreport::{Direction, RDescReport, Report, ReportDescriptor, Usage};
 use serde::Serialize;

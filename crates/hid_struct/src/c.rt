@@ -1,5 +1,5 @@
 //! Structs of C.
-use crate::part::{MemberPart, ReportPart, Shape};
+use crate::part::{MemberPart, ReportPart};
 
 /// What stands before all reports.
 pub const HEAD: &str = "\
@@ -116,16 +116,8 @@ static inline bool $report_encode(const $report *report, uint8_t *bytes, size_t 
         return false;
 ";
 
-/// The text of a member's part.
-pub fn member_text(part: MemberPart, shape: Shape) -> &'static str {
-    match shape {
-        Shape::Number => number_text(part),
-        Shape::Numbers => numbers_text(part),
-        Shape::Bytes => bytes_text(part),
-    }
-}
-
-fn number_text(part: MemberPart) -> &'static str {
+/// The text of a part of a member that holds a number.
+pub fn number_text(part: MemberPart) -> &'static str {
     match part {
         MemberPart::Declared => "    $type $name;\n",
         MemberPart::Places => PLACE,
@@ -152,7 +144,8 @@ const WRITE_NUMBER: &str = "    hid_put(bytes, $REPORT_$NAME_SHIFT, $REPORT_$NAM
 (uint64_t)report->$name);
 ";
 
-fn numbers_text(part: MemberPart) -> &'static str {
+/// The text of a part of a member that holds several numbers.
+pub fn numbers_text(part: MemberPart) -> &'static str {
     match part {
         MemberPart::Declared => "    $type $name[$count];\n",
         MemberPart::Places => PLACES,
@@ -184,7 +177,8 @@ const WRITE_NUMBERS: &str = "    for (size_t i = 0; i < $REPORT_$NAME_COUNT; i++
             (uint64_t)report->$name[i]);
 ";
 
-fn bytes_text(part: MemberPart) -> &'static str {
+/// The text of a part of a member that holds bytes.
+pub fn bytes_text(part: MemberPart) -> &'static str {
     match part {
         MemberPart::Declared => "    uint8_t $name[$bytes];\n",
         MemberPart::Places => "\

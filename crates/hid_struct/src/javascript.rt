@@ -1,5 +1,5 @@
 //! Classes of JavaScript.
-use crate::part::{MemberPart, ReportPart, Shape};
+use crate::part::{MemberPart, ReportPart};
 
 /// What stands before all reports.
 pub const HEAD: &str = "\
@@ -130,16 +130,8 @@ const ENCODE: &str = "        return report;
     encode() {
 ";
 
-/// The text of a member's part.
-pub fn member_text(part: MemberPart, shape: Shape) -> &'static str {
-    match shape {
-        Shape::Number => number_text(part),
-        Shape::Numbers => numbers_text(part),
-        Shape::Bytes => bytes_text(part),
-    }
-}
-
-fn number_text(part: MemberPart) -> &'static str {
+/// The text of a part of a member that holds a number.
+pub fn number_text(part: MemberPart) -> &'static str {
     match part {
         MemberPart::Declared => "    $name = 0$n;\n",
         MemberPart::Places => PLACE,
@@ -165,7 +157,8 @@ const WRITE_NUMBER: &str = "        \
 put$Big(bytes, $Report.$NAME_SHIFT, $Report.$NAME_MASK, this.$name);
 ";
 
-fn numbers_text(part: MemberPart) -> &'static str {
+/// The text of a part of a member that holds several numbers.
+pub fn numbers_text(part: MemberPart) -> &'static str {
     match part {
         MemberPart::Declared => "    $name = new Array($count).fill(0$n);\n",
         MemberPart::Places => PLACES,
@@ -197,7 +190,8 @@ const WRITE_NUMBERS: &str = "        for (let i = 0; i < $Report.$NAME_COUNT; i+
         }
 ";
 
-fn bytes_text(part: MemberPart) -> &'static str {
+/// The text of a part of a member that holds bytes.
+pub fn bytes_text(part: MemberPart) -> &'static str {
     match part {
         MemberPart::Declared => "    $name = new Uint8Array($bytes);\n",
         MemberPart::Places => BYTES_PLACE,

@@ -56,11 +56,19 @@ impl Language {
 
     /// The text of a member's part.
     pub fn member_text(self, part: MemberPart, shape: Shape) -> &'static str {
-        match self {
-            Language::C => c::member_text(part, shape),
-            Language::Rust => rust::member_text(part, shape),
-            Language::Python => python::member_text(part, shape),
-            Language::JavaScript => javascript::member_text(part, shape),
+        match (self, shape) {
+            (Language::C, Shape::Number) => c::number_text(part),
+            (Language::C, Shape::Numbers) => c::numbers_text(part),
+            (Language::C, Shape::Bytes) => c::bytes_text(part),
+            (Language::Rust, Shape::Number) => rust::number_text(part),
+            (Language::Rust, Shape::Numbers) => rust::numbers_text(part),
+            (Language::Rust, Shape::Bytes) => rust::bytes_text(part),
+            (Language::Python, Shape::Number) => python::number_text(part),
+            (Language::Python, Shape::Numbers) => python::numbers_text(part),
+            (Language::Python, Shape::Bytes) => python::bytes_text(part),
+            (Language::JavaScript, Shape::Number) => javascript::number_text(part),
+            (Language::JavaScript, Shape::Numbers) => javascript::numbers_text(part),
+            (Language::JavaScript, Shape::Bytes) => javascript::bytes_text(part),
         }
     }
 

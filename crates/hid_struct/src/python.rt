@@ -1,5 +1,5 @@
 //! Classes of Python.
-use crate::part::{MemberPart, ReportPart, Shape};
+use crate::part::{MemberPart, ReportPart};
 
 /// What stands before all reports.
 pub const HEAD: &str = "\
@@ -88,16 +88,8 @@ const ENCODE: &str = "        )
         '''The bytes of a report; a value that does not fit is refused.'''
 ";
 
-/// The text of a member's part.
-pub fn member_text(part: MemberPart, shape: Shape) -> &'static str {
-    match shape {
-        Shape::Number => number_text(part),
-        Shape::Numbers => numbers_text(part),
-        Shape::Bytes => bytes_text(part),
-    }
-}
-
-fn number_text(part: MemberPart) -> &'static str {
+/// The text of a part of a member that holds a number.
+pub fn number_text(part: MemberPart) -> &'static str {
     match part {
         MemberPart::Declared => "    $name: int = 0\n",
         MemberPart::Places => "    $NAME_SHIFT = $shift\n    $NAME_MASK = $mask\n",
@@ -111,7 +103,8 @@ fn number_text(part: MemberPart) -> &'static str {
     }
 }
 
-fn numbers_text(part: MemberPart) -> &'static str {
+/// The text of a part of a member that holds several numbers.
+pub fn numbers_text(part: MemberPart) -> &'static str {
     match part {
         MemberPart::Declared => {
             "    $name: list = dataclasses.field(default_factory=lambda: [0] * $count)\n"
@@ -144,7 +137,8 @@ const WRITE_NUMBERS: &str = "        for i, value in enumerate(self.$name):
             _put(data, self.$NAME_SHIFT + i * self.$NAME_STEP, self.$NAME_MASK, value)
 ";
 
-fn bytes_text(part: MemberPart) -> &'static str {
+/// The text of a part of a member that holds bytes.
+pub fn bytes_text(part: MemberPart) -> &'static str {
     match part {
         MemberPart::Declared => "    $name: bytes = bytes($bytes)\n",
         MemberPart::Places => "    $NAME_SHIFT = $shift\n    $NAME_BITS = $bits\n",

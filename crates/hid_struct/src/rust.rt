@@ -1,5 +1,5 @@
 //! Structs of Rust.
-use crate::part::{MemberPart, ReportPart, Shape};
+use crate::part::{MemberPart, ReportPart};
 
 /// What stands before all reports.
 pub const HEAD: &str = "\
@@ -107,16 +107,8 @@ const ENCODE: &str = "        })
     pub fn encode(&self) -> Option<[u8; Self::SIZE]> {
 ";
 
-/// The text of a member's part.
-pub fn member_text(part: MemberPart, shape: Shape) -> &'static str {
-    match shape {
-        Shape::Number => number_text(part),
-        Shape::Numbers => numbers_text(part),
-        Shape::Bytes => bytes_text(part),
-    }
-}
-
-fn number_text(part: MemberPart) -> &'static str {
+/// The text of a part of a member that holds a number.
+pub fn number_text(part: MemberPart) -> &'static str {
     match part {
         MemberPart::Declared => "    pub $name: $type,\n",
         MemberPart::Places => PLACE,
@@ -143,7 +135,8 @@ const WRITE_NUMBER: &str = "        \
 put(&mut bytes, Self::$NAME_SHIFT, Self::$NAME_MASK, self.$name as u64);
 ";
 
-fn numbers_text(part: MemberPart) -> &'static str {
+/// The text of a part of a member that holds several numbers.
+pub fn numbers_text(part: MemberPart) -> &'static str {
     match part {
         MemberPart::Declared => "    pub $name: [$type; $count],\n",
         MemberPart::Places => PLACES,
@@ -177,7 +170,8 @@ const WRITE_NUMBERS: &str = "        for (i, &value) in self.$name.iter().enumer
         }
 ";
 
-fn bytes_text(part: MemberPart) -> &'static str {
+/// The text of a part of a member that holds bytes.
+pub fn bytes_text(part: MemberPart) -> &'static str {
     match part {
         MemberPart::Declared => "    pub $name: [u8; $bytes],\n",
         MemberPart::Places => BYTES_PLACE,

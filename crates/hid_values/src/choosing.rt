@@ -1,9 +1,9 @@
 //! The device of the machine that a person chooses.
 use anyhow::{Result, bail};
-use hid_input::input::{MOST_NODES, machine_device};
 use hid_input::settings::Settings;
 use hid_input::world::World;
 use hid_output::escaped;
+use hid_sources::{MOST_NODES, machine_device};
 use std::alloc::AllocError;
 use std::io::Read;
 

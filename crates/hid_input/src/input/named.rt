@@ -1,12 +1,11 @@
 //! Inputs by the names that a command's words say.
-use crate::input::machine::{machine_device, node_meant};
-use crate::input::whole::{given_of, text_of};
 use crate::linux_read::mended;
 use crate::reads::Reads;
 use crate::settings::{LONGEST_INPUT, ReadAs, Settings};
 use anyhow::{Result, bail, ensure};
 use hid_given::{Form, Given, Wanted};
 use hid_output::escaped;
+use hid_sources::{given_of, machine_device, node_meant, text_of};
 use std::alloc::{AllocError, Global};
 use std::fmt::Write;
 use std::fs;

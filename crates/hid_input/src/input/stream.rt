@@ -1,11 +1,11 @@
 //! The reports of a stream, of which pieces come one after the other.
 use crate::input::named::tell_form;
-use crate::input::whole::{form_of_lines, text_of};
 use crate::settings::{LONGEST_LINE, Settings};
 use anyhow::{Context, Error, Result, bail, ensure};
 use hid_captures::is_capture;
 use hid_forms::{FormLines, is_blank};
 use hid_given::{Form, Found, GivenReport, Wanted};
+use hid_sources::{form_of_lines, text_of};
 use hidreport::{Report, ReportDescriptor};
 use std::alloc::Global;
 use std::mem;

@@ -1,5 +1,5 @@
 //! The HID devices of the machine, as Linux tells of their nodes in sysfs.
-use crate::input::nodes::input_nodes;
+use crate::nodes::input_nodes;
 use anyhow::{Context, Result, bail, ensure};
 use std::alloc::{AllocError, Global};
 use std::fmt::Write;
@@ -166,7 +166,7 @@ fn is_hex(digits: &str, number: u32) -> bool {
 ///
 /// - those of `machine_devices`;
 /// - several devices are meant.
-pub(crate) fn node_meant<R: AllocGlobal + Files + Clone + Drop>(
+pub fn node_meant<R: AllocGlobal + Files + Clone + Drop>(
     rt: &R,
     sysfs: &str,
     word: &str,

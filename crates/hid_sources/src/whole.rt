@@ -8,7 +8,7 @@ use std::alloc::Global;
 
 /// What the bytes of an input say, in a source with these names. Bytes that are all text are read
 /// as text unless `form` says bytes.
-pub(crate) fn given_of(
+pub fn given_of(
     alloc: Global,
     bytes: Vec<u8>,
     form: Option<Form>,
@@ -171,7 +171,7 @@ fn is_remark(alloc: Global, remarks: &mut Remarks, line: &str) -> Result<bool> {
 }
 
 /// The form of a text whose first lines that say something are these; the second may be empty.
-pub(crate) fn form_of_lines(number: u64, line: &str, next: &str) -> Result<Form> {
+pub fn form_of_lines(number: u64, line: &str, next: &str) -> Result<Form> {
     match form_of(line, next).context(format_args!("line {number}"))? {
         Some(form) => Ok(form),
         None => Err(unread(number, line.trim())),
