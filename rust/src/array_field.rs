@@ -4,6 +4,7 @@ use crate::collection::Collection;
 use crate::error::{InsertError, ParserError};
 use crate::field::FieldId;
 use crate::field_attributes::{field_attributes, Attributes, FieldAttributes};
+use crate::reading::with_room;
 use crate::types::{
     LogicalMaximum, LogicalMinimum, PhysicalMaximum, PhysicalMinimum, ReportCount, ReportId, Unit,
     UnitExponent, UsageMaximum, UsageMinimum,
@@ -11,7 +12,6 @@ use crate::types::{
 use crate::usage::{Usage, UsageRange};
 use crate::value::FieldValue;
 use std::ops::Range;
-use std::sync::Arc;
 
 /// A field with several values, each of which chooses one of the field's usages, or none (Section
 /// 6.2.2.5): the keys of a keyboard that are held.
@@ -37,8 +37,8 @@ pub struct ArrayField {
     pub unit_exponent: Option<UnitExponent>,
     /// The collections that the field lies in, outermost first.
     pub collections: Vec<Collection>,
-    pub(crate) usages: Arc<[Usage]>,
-    pub(crate) numbers: Arc<[u32]>,
+    pub(crate) usages: Vec<Usage>,
+    pub(crate) numbers: Vec<u32>,
     pub(crate) is_usage_range: bool,
     pub(crate) attributes: Attributes,
 }
@@ -93,8 +93,10 @@ impl ArrayField {
     ///   than 32.
     pub fn extract(&self, bytes: &[u8]) -> Result<Vec<FieldValue>, ParserError> {
         let is_signed = self.is_signed();
-        let numbers = c::values(&self.as_c(), bytes)?;
-        Ok(numbers.into_iter().map(|number| FieldValue { number, is_signed }).collect())
+        let numbers = c::values(&self.of_values(), bytes)?;
+        let mut values = with_room(numbers.len())?;
+        values.extend(numbers.iter().map(|number| FieldValue { number: *number, is_signed }));
+        Ok(values)
     }
 
     /// Value `index` of the field, counted from 0.
@@ -104,7 +106,7 @@ impl ArrayField {
     /// As of [`extract`](ArrayField::extract), of this value alone; and
     /// [`ParserError::OutOfBounds`] where there is no such value.
     pub fn extract_one(&self, bytes: &[u8], index: usize) -> Result<FieldValue, ParserError> {
-        let number = c::value(&self.as_c(), bytes, index)?;
+        let number = c::value(&self.of_values(), bytes, index)?;
         Ok(FieldValue { number, is_signed: self.is_signed() })
     }
 
@@ -121,7 +123,7 @@ impl ArrayField {
     /// - [`InsertError::DoesNotFit`]: a value's bits don't hold it.
     /// - [`InsertError::WrongCount`]: there are more or fewer values than the field has.
     pub fn insert(&self, bytes: &mut [u8], values: &[i64]) -> Result<(), InsertError> {
-        Ok(c::insert_all(&self.as_c(), bytes, values)?)
+        Ok(c::insert_all(&self.of_values(), bytes, values)?)
     }
 
     /// Writes value `index` of the field, counted from 0.
@@ -136,7 +138,11 @@ impl ArrayField {
         index: usize,
         value: i64,
     ) -> Result<(), InsertError> {
-        Ok(c::insert(&self.as_c(), bytes, index, value)?)
+        Ok(c::insert(&self.of_values(), bytes, index, value)?)
+    }
+
+    fn of_values(&self) -> c::Field {
+        c::Field::of_values(&self.bits, self.report_count.0, self.logical_minimum, self.report_id)
     }
 
     fn as_c(&self) -> c::Field {

@@ -3,6 +3,7 @@ use crate::c::{Field, Measures, Usages};
 use crate::types::{
     LogicalMaximum, LogicalMinimum, PhysicalMaximum, PhysicalMinimum, ReportId, Unit, UnitExponent,
 };
+use std::ops::Range;
 
 impl Measures {
     pub(crate) fn of(
@@ -44,6 +45,21 @@ impl Measures {
 }
 
 impl Field {
+    /// A field as its values are read and written: where they lie, whether they are signed, and the
+    /// id that they are read by.
+    pub(crate) fn of_values(
+        bits: &Range<usize>,
+        value_count: usize,
+        minimum: LogicalMinimum,
+        report_id: Option<ReportId>,
+    ) -> Field {
+        let mut field =
+            Field { first_bit: bits.start, end_bit: bits.end, value_count, ..Field::default() };
+        field.measures.logical_minimum = minimum.0;
+        field.set_report_id(report_id);
+        field
+    }
+
     pub(crate) fn set_report_id(&mut self, report_id: Option<ReportId>) {
         self.has_report_id = report_id.is_some();
         self.report_id = report_id.map_or(0, u8::from);

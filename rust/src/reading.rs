@@ -10,34 +10,43 @@ use crate::report::RDescReport;
 use crate::types::{ReportCount, ReportId};
 use crate::usage::Usage;
 use crate::variable_field::VariableField;
-use std::collections::HashMap;
 use std::sync::Arc;
 
 /// The reports of a direction with their fields.
 ///
 /// The descriptor is read once for the reports; where there are any, once for their fields, once for
 /// the collections around these, if there are any, and at most twice more: for usages that aren't
-/// told with these.
+/// told with these. How many there are of each is known before.
 pub(crate) fn reports(
     bytes: &[u8],
     options: c::Options,
     direction: Direction,
 ) -> Result<Vec<RDescReport>, ParserError> {
+    if !may_have_reports(bytes, direction) {
+        return Ok(Vec::new());
+    }
     let reports = c::reports(bytes, options, direction)?;
     if reports.is_empty() {
         return Ok(Vec::new());
     }
-    let fields = c::describe(bytes, options, direction)?;
+    let count = sum(reports.iter().map(|report| report.field_count));
+    let fields = c::fields_of(bytes, options, direction, count)?;
     let usages = match fields.iter().any(|field| is_array(field) && !counts_up(&field.usages)) {
-        true => c::describe_usages(bytes, options, direction)?,
+        true => {
+            let count = sum(fields.iter().map(|field| field.usages.count));
+            c::usages_of(bytes, options, direction, count)?
+        }
         false => Vec::new(),
     };
-    let around = match fields.iter().any(|field| field.collections.count > 0) {
-        true => c::describe_collections(bytes, options, direction)?,
-        false => Vec::new(),
+    let around = match sum(fields.iter().map(|field| field.collections.count)) {
+        0 => Vec::new(),
+        count => c::collections_of(bytes, options, direction, count)?,
     };
     let numbers = match around.iter().any(|collection| collection.usage_count > 1) {
-        true => c::describe_collection_usages(bytes, options, direction)?,
+        true => {
+            let count = sum(around.iter().map(|collection| collection.usage_count));
+            c::collection_usages_of(bytes, options, direction, count)?
+        }
         false => Vec::new(),
     };
     let reading = Reading {
@@ -45,9 +54,26 @@ pub(crate) fn reports(
         usages: Taken::of(&usages),
         around: Taken::of(&around),
         numbers: Taken::of(&numbers),
-        known: HashMap::new(),
+        known: Vec::new(),
     };
     reading.reports(&reports, &fields)
+}
+
+/// Whether a direction may have reports: a byte may be the header of an Output or a Feature (Section
+/// 6.2.2.4), whose lowest bits say how many bytes follow. Input is always asked for, as one direction
+/// has to be whose answer tells a refusal.
+fn may_have_reports(bytes: &[u8], direction: Direction) -> bool {
+    let header = match direction {
+        Direction::Input => return true,
+        Direction::Output => 0x90,
+        Direction::Feature => 0xb0,
+    };
+    bytes.iter().any(|byte| byte & 0xfc == header)
+}
+
+/// The library has counted these together before.
+fn sum(counts: impl Iterator<Item = usize>) -> usize {
+    counts.fold(0, usize::saturating_add)
 }
 
 fn is_array(field: &c::Field) -> bool {
@@ -87,8 +113,8 @@ struct Reading<'a> {
     around: Taken<'a, c::Collection>,
     /// The usages of these collections.
     numbers: Taken<'a, u32>,
-    /// Each collection that was seen, by its number.
-    known: HashMap<u32, Collection>,
+    /// Each collection that was seen, at its number.
+    known: Vec<Option<Collection>>,
 }
 
 impl Reading<'_> {
@@ -162,8 +188,8 @@ impl Reading<'_> {
                 unit,
                 unit_exponent,
                 collections,
-                usages: usages_of(&numbers)?.into(),
-                numbers: numbers.into(),
+                usages: usages_of(&numbers)?,
+                numbers,
                 is_usage_range: field.usages.is_range,
                 attributes,
             })
@@ -175,9 +201,9 @@ impl Reading<'_> {
         let mut read = with_room(count)?;
         for of in self.around.take(count) {
             let numbers = self.numbers.take(of.usage_count);
-            let collection = match self.known.get(&of.number) {
-                Some(known) => known.clone(),
-                None => self.first_seen(of, numbers)?,
+            let collection = match self.known.get(of.number as usize) {
+                Some(Some(known)) => known.clone(),
+                _ => self.first_seen(of, numbers)?,
             };
             read.push(collection);
         }
@@ -202,8 +228,13 @@ impl Reading<'_> {
                 .expect("the library of this version has no other"),
             usages,
         };
-        self.known.try_reserve(1).map_err(|_| ParserError::OutOfMemory)?;
-        self.known.insert(of.number, collection.clone());
+        let place = of.number as usize;
+        if self.known.len() <= place {
+            let lacking = place + 1 - self.known.len();
+            self.known.try_reserve(lacking).map_err(|_| ParserError::OutOfMemory)?;
+            self.known.resize(place + 1, None);
+        }
+        self.known[place] = Some(collection.clone());
         Ok(collection)
     }
 }
@@ -225,7 +256,7 @@ fn usages_of(numbers: &[u32]) -> Result<Vec<Usage>, ParserError> {
 }
 
 /// An empty list with room for so many.
-fn with_room<T>(count: usize) -> Result<Vec<T>, ParserError> {
+pub(crate) fn with_room<T>(count: usize) -> Result<Vec<T>, ParserError> {
     let mut list = Vec::new();
     list.try_reserve_exact(count).map_err(|_| ParserError::OutOfMemory)?;
     Ok(list)

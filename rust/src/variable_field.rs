@@ -51,7 +51,7 @@ impl VariableField {
     /// - [`ParserError::OutOfBounds`]: the bits don't lie in the bytes, or are none or more than
     ///   32.
     pub fn extract(&self, bytes: &[u8]) -> Result<FieldValue, ParserError> {
-        let number = c::value(&self.as_c(), bytes, 0)?;
+        let number = c::value(&self.of_values(), bytes, 0)?;
         Ok(FieldValue { number, is_signed: self.is_signed() })
     }
 
@@ -68,7 +68,7 @@ impl VariableField {
     ///   is one, or are none or more than 32.
     /// - [`InsertError::DoesNotFit`]: the bits don't hold the value.
     pub fn insert(&self, bytes: &mut [u8], value: i64) -> Result<(), InsertError> {
-        Ok(c::insert(&self.as_c(), bytes, 0, value)?)
+        Ok(c::insert(&self.of_values(), bytes, 0, value)?)
     }
 
     /// What a value stands for, in the field's unit times ten to its exponent (Section 6.2.2.7):
@@ -83,6 +83,10 @@ impl VariableField {
     /// [`physical_value`](VariableField::physical_value).
     pub fn normalized(&self, value: i64) -> Option<Fraction> {
         c::normalized(&self.as_c(), value)
+    }
+
+    fn of_values(&self) -> c::Field {
+        c::Field::of_values(&self.bits, 1, self.logical_minimum, self.report_id)
     }
 
     fn as_c(&self) -> c::Field {

@@ -104,6 +104,26 @@ fn reports_are_found_by_their_ids() {
     assert_eq!(read(MEASURED).input_reports()[0].blank(), Ok(vec![0]));
 }
 
+/// An item of one, two and four bytes of data, of each direction (Section 6.2.2.4); without data an
+/// Output or a Feature is refused as an Input is.
+#[test]
+fn a_direction_has_its_reports_however_long_its_items_are() {
+    const FRONT: [u8; 8] = [0x05, 1, 0x75, 8, 0x95, 1, 0x09, 0x30];
+    let reports = |item: &[u8]| ReportDescriptor::try_from(&[&FRONT, item].concat());
+    for (direction, header) in
+        [(Direction::Input, 0x80), (Direction::Output, 0x90), (Direction::Feature, 0xb0)]
+    {
+        let items: [&[u8]; 3] = [&[header | 1, 2], &[header | 2, 2, 0], &[header | 3, 2, 0, 0, 0]];
+        for item in items {
+            let read = reports(item).unwrap();
+            for other in [Direction::Input, Direction::Output, Direction::Feature] {
+                assert_eq!(read.reports(other).len(), usize::from(other == direction));
+            }
+        }
+        assert!(reports(&[header]).is_err());
+    }
+}
+
 #[test]
 fn a_repair_tells_what_it_changed() {
     // An Input of a byte without a usage, with flags in four bytes: it becomes padding.

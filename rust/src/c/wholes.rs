@@ -55,7 +55,17 @@ pub fn describe_usages(
     options: Options,
     direction: Direction,
 ) -> Result<Vec<u32>, Refusal> {
-    listed_in(descriptor, options, FEW, 0, |bytes, length, list, room| unsafe {
+    usages_of(descriptor, options, direction, FEW)
+}
+
+/// What `describe_usages` answers, asked for once where there are so many.
+pub(crate) fn usages_of(
+    descriptor: &[u8],
+    options: Options,
+    direction: Direction,
+    count: usize,
+) -> Result<Vec<u32>, Refusal> {
+    listed_in(descriptor, options, count, 0, |bytes, length, list, room| unsafe {
         sys::hidreport_describe_usages(bytes, length, options, direction.into(), list, room)
     })
 }
@@ -67,8 +77,18 @@ pub fn describe_collections(
     options: Options,
     direction: Direction,
 ) -> Result<Vec<Collection>, Refusal> {
+    collections_of(descriptor, options, direction, FEW)
+}
+
+/// What `describe_collections` answers, asked for once where there are so many.
+pub(crate) fn collections_of(
+    descriptor: &[u8],
+    options: Options,
+    direction: Direction,
+    count: usize,
+) -> Result<Vec<Collection>, Refusal> {
     let empty = Collection::default();
-    listed_in(descriptor, options, FEW, empty, |bytes, length, list, room| unsafe {
+    listed_in(descriptor, options, count, empty, |bytes, length, list, room| unsafe {
         sys::hidreport_describe_collections(bytes, length, options, direction.into(), list, room)
     })
 }
@@ -79,8 +99,18 @@ pub fn describe_collection_usages(
     options: Options,
     direction: Direction,
 ) -> Result<Vec<u32>, Refusal> {
+    collection_usages_of(descriptor, options, direction, FEW)
+}
+
+/// What `describe_collection_usages` answers, asked for once where there are so many.
+pub(crate) fn collection_usages_of(
+    descriptor: &[u8],
+    options: Options,
+    direction: Direction,
+    count: usize,
+) -> Result<Vec<u32>, Refusal> {
     let way = direction.into();
-    listed_in(descriptor, options, FEW, 0, |bytes, length, list, room| unsafe {
+    listed_in(descriptor, options, count, 0, |bytes, length, list, room| unsafe {
         sys::hidreport_describe_collection_usages(bytes, length, options, way, list, room)
     })
 }
