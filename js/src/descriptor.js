@@ -99,11 +99,13 @@ export class ReportDescriptor {
   }
 
   #read(direction) {
+    const reports = this.#listed("reports", 32, direction);
+    if (reports.length === 0) return Object.freeze([]);
     const fields = this.#listed("describe", 120, direction);
     const usages = this.#listed("describe_usages", 4, direction).map((it) => it.getUint32(0, true));
     let field = 0;
     let usage = 0;
-    return Object.freeze(this.#listed("reports", 32, direction).map((report) => {
+    return Object.freeze(reports.map((report) => {
       const own = fields.slice(field, field + Number(report.getBigUint64(16, true)));
       field += own.length;
       return new Report(report, direction, own.map((view) => {

@@ -86,20 +86,23 @@ class ReportDescriptor:
         self._asked = (self.bytes, len(self.bytes), options._as_c())
         self._reports = {way: self._read(way) for way in Direction}
 
-    def _listed(self, name: str, *more: object) -> list:
-        answer, found = _c.listed(name, *self._asked, *more)
+    def _listed(self, name: str, *more: object, room: int = -1) -> list:
+        answer, found = _c.listed(name, *self._asked, *more, room=room)
         if answer.status != 0:
             check(answer.status, answer.offset, _c.text("message", *self._asked))
         return found
 
     def _read(self, direction: Direction) -> Tuple[Report, ...]:
         reports = self._listed("reports", direction)
-        fields = iter(self._listed("describe", direction))
-        usages = iter(self._listed("describe_usages", direction))
-        around = partial(self._around, direction)
+        if not reports:
+            return ()
+        fields = self._listed("describe", direction, room=sum(it.field_count for it in reports))
+        count = sum(field.usages.count for field in fields)
+        usages = iter(self._listed("describe_usages", direction, room=count))
+        around, left = partial(self._around, direction), iter(fields)
         return tuple(Report(report, direction, [
             Field(field, list(islice(usages, field.usages.count)), around)
-            for field in islice(fields, report.field_count)]) for report in reports)
+            for field in islice(left, report.field_count)]) for report in reports)
 
     def _around(self, direction: Direction, field: "_c.Field") -> Tuple[Collection, ...]:
         """The collections around a field; those around two fields are the same where the innermost
