@@ -20,7 +20,7 @@ impl From<CollectionId> for u32 {
 pub struct Collection {
     pub(crate) id: CollectionId,
     pub(crate) collection_type: CollectionType,
-    pub(crate) usages: Arc<[Usage]>,
+    pub(crate) usages: Arc<Vec<Usage>>,
 }
 
 impl Collection {

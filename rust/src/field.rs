@@ -3,6 +3,7 @@ use crate::array_field::ArrayField;
 use crate::collection::Collection;
 use crate::constant_field::ConstantField;
 use crate::error::ParserError;
+use crate::reading::with_room;
 use crate::types::ReportId;
 use crate::usage::Usage;
 use crate::value::FieldValue;
@@ -91,7 +92,11 @@ impl Field {
     ///   than 32.
     pub fn values(&self, bytes: &[u8]) -> Result<Vec<FieldValue>, ParserError> {
         match self {
-            Field::Variable(field) => Ok(vec![field.extract(bytes)?]),
+            Field::Variable(field) => {
+                let mut values = with_room(1)?;
+                values.push(field.extract(bytes)?);
+                Ok(values)
+            }
             Field::Array(field) => field.extract(bytes),
             Field::Constant(_) => Ok(Vec::new()),
         }

@@ -217,16 +217,15 @@ impl Reading<'_> {
         of: &c::Collection,
         numbers: &[u32],
     ) -> Result<Collection, ParserError> {
-        let usages: Arc<[Usage]> = match of.usage_count {
-            0 => Arc::new([]),
-            1 => Arc::new([Usage::from(of.usage)]),
-            _ => usages_of(numbers)?.into(),
+        let usages = match of.usage_count {
+            0 | 1 => usages_of(&[of.usage][..of.usage_count])?,
+            _ => usages_of(numbers)?,
         };
         let collection = Collection {
             id: CollectionId(of.number),
             collection_type: CollectionType::try_from(of.kind)
                 .expect("the library of this version has no other"),
-            usages,
+            usages: Arc::new(usages),
         };
         let place = of.number as usize;
         if self.known.len() <= place {
