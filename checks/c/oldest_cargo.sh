@@ -45,9 +45,9 @@ try() {
     rm -rf target
     CC=$1 LD_LIBRARY_PATH=$libraries cargo test --offline --locked > "$scratch/said" 2>&1 ||
         wrong "CC=$1: the tests fail"
-    [ "$(grep -c '^test result: ok' "$scratch/said")" -eq 4 ] || wrong "CC=$1: other tests than four kinds"
+    [ "$(grep -c '^test result: ok' "$scratch/said")" -eq 5 ] || wrong "CC=$1: other tests than five kinds"
     [ "$(grep -c '^test .* ok$' "$scratch/said")" -ge 15 ] || wrong "CC=$1: fewer tests"
-    asked=$((asked + 4))
+    asked=$((asked + 5))
 }
 for compiler in cc 'env gcc' 'ccache gcc'; do
     if command -v "${compiler%% *}" > /dev/null; then
