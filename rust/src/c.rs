@@ -25,10 +25,12 @@ pub use sys::{
     Change, Collection, Collections, Field, Flags, Group, Item, Measures, Options, Report, Run,
     Usages,
 };
-pub(crate) use wholes::{collection_usages_of, collections_of, usages_of};
 pub use wholes::{
     describe_collection_usages, describe_collections, describe_usages, find_usages, group_field,
     group_usage, groups, prepare, read, read_available, read_prepared, write, write_prepared,
+};
+pub(crate) use wholes::{
+    describe_collection_usages_with_room, describe_collections_with_room, describe_usages_with_room,
 };
 pub use writing::{blank, insert, insert_all, null_value, value_of};
 
@@ -176,18 +178,18 @@ pub fn describe(
     options: Options,
     direction: Direction,
 ) -> Result<Vec<Field>, Refusal> {
-    fields_of(descriptor, options, direction, FEW)
+    describe_with_room(descriptor, options, direction, FEW)
 }
 
-/// What `describe` answers, asked for once where there are so many.
-pub(crate) fn fields_of(
+/// What `describe` answers, asked for once where so much room is enough.
+pub(crate) fn describe_with_room(
     descriptor: &[u8],
     options: Options,
     direction: Direction,
-    count: usize,
+    room: usize,
 ) -> Result<Vec<Field>, Refusal> {
     let empty = Field::default();
-    listed_in(descriptor, options, count, empty, |bytes, length, list, room| unsafe {
+    listed_in(descriptor, options, room, empty, |bytes, length, list, room| unsafe {
         sys::hidreport_describe(bytes, length, options, direction.into(), list, room)
     })
 }

@@ -30,22 +30,22 @@ pub(crate) fn reports(
         return Ok(Vec::new());
     }
     let count = sum(reports.iter().map(|report| report.field_count));
-    let fields = c::fields_of(bytes, options, direction, count)?;
+    let fields = c::describe_with_room(bytes, options, direction, count)?;
     let usages = match fields.iter().any(|field| is_array(field) && !counts_up(&field.usages)) {
         true => {
             let count = sum(fields.iter().map(|field| field.usages.count));
-            c::usages_of(bytes, options, direction, count)?
+            c::describe_usages_with_room(bytes, options, direction, count)?
         }
         false => Vec::new(),
     };
     let around = match sum(fields.iter().map(|field| field.collections.count)) {
         0 => Vec::new(),
-        count => c::collections_of(bytes, options, direction, count)?,
+        count => c::describe_collections_with_room(bytes, options, direction, count)?,
     };
     let numbers = match around.iter().any(|collection| collection.usage_count > 1) {
         true => {
             let count = sum(around.iter().map(|collection| collection.usage_count));
-            c::collection_usages_of(bytes, options, direction, count)?
+            c::describe_collection_usages_with_room(bytes, options, direction, count)?
         }
         false => Vec::new(),
     };

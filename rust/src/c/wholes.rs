@@ -55,17 +55,17 @@ pub fn describe_usages(
     options: Options,
     direction: Direction,
 ) -> Result<Vec<u32>, Refusal> {
-    usages_of(descriptor, options, direction, FEW)
+    describe_usages_with_room(descriptor, options, direction, FEW)
 }
 
-/// What `describe_usages` answers, asked for once where there are so many.
-pub(crate) fn usages_of(
+/// What `describe_usages` answers, asked for once where so much room is enough.
+pub(crate) fn describe_usages_with_room(
     descriptor: &[u8],
     options: Options,
     direction: Direction,
-    count: usize,
+    room: usize,
 ) -> Result<Vec<u32>, Refusal> {
-    listed_in(descriptor, options, count, 0, |bytes, length, list, room| unsafe {
+    listed_in(descriptor, options, room, 0, |bytes, length, list, room| unsafe {
         sys::hidreport_describe_usages(bytes, length, options, direction.into(), list, room)
     })
 }
@@ -77,18 +77,18 @@ pub fn describe_collections(
     options: Options,
     direction: Direction,
 ) -> Result<Vec<Collection>, Refusal> {
-    collections_of(descriptor, options, direction, FEW)
+    describe_collections_with_room(descriptor, options, direction, FEW)
 }
 
-/// What `describe_collections` answers, asked for once where there are so many.
-pub(crate) fn collections_of(
+/// What `describe_collections` answers, asked for once where so much room is enough.
+pub(crate) fn describe_collections_with_room(
     descriptor: &[u8],
     options: Options,
     direction: Direction,
-    count: usize,
+    room: usize,
 ) -> Result<Vec<Collection>, Refusal> {
     let empty = Collection::default();
-    listed_in(descriptor, options, count, empty, |bytes, length, list, room| unsafe {
+    listed_in(descriptor, options, room, empty, |bytes, length, list, room| unsafe {
         sys::hidreport_describe_collections(bytes, length, options, direction.into(), list, room)
     })
 }
@@ -99,18 +99,18 @@ pub fn describe_collection_usages(
     options: Options,
     direction: Direction,
 ) -> Result<Vec<u32>, Refusal> {
-    collection_usages_of(descriptor, options, direction, FEW)
+    describe_collection_usages_with_room(descriptor, options, direction, FEW)
 }
 
-/// What `describe_collection_usages` answers, asked for once where there are so many.
-pub(crate) fn collection_usages_of(
+/// What `describe_collection_usages` answers, asked for once where so much room is enough.
+pub(crate) fn describe_collection_usages_with_room(
     descriptor: &[u8],
     options: Options,
     direction: Direction,
-    count: usize,
+    room: usize,
 ) -> Result<Vec<u32>, Refusal> {
     let way = direction.into();
-    listed_in(descriptor, options, count, 0, |bytes, length, list, room| unsafe {
+    listed_in(descriptor, options, room, 0, |bytes, length, list, room| unsafe {
         sys::hidreport_describe_collection_usages(bytes, length, options, way, list, room)
     })
 }
